@@ -1,0 +1,19 @@
+-- Laws, and steps of them; then worked rows (Rows..) and vectors (Vectors..), which hold by computation.
+pub mod lemmas
+pub mod laws
+mod RowsCommands
+mod RowsFiles
+mod RowsLarge
+mod RowsLines
+mod RowsLoads
+mod RowsMasks
+mod RowsProgram
+mod RowsSearches
+mod RowsSnapshots
+mod RowsTables
+mod VectorsDel
+mod VectorsFaults
+mod VectorsLarge
+mod VectorsPutTree
+mod VectorsSnapshots
+mod VectorsWide
