@@ -36,6 +36,7 @@ pub mod Command
 pub mod Named
 pub mod Csv
 pub mod SavedTable
+pub mod SavedTableEither
 pub mod State
 pub mod Refusals
 pub mod Engine
