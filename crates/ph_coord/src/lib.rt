@@ -1,0 +1,12 @@
+//! Values that the index is made of: widths, points, rows, their Z-order, and numbers by their spelling.
+#![tactic(auto)]
+
+mod number;
+mod order;
+mod point;
+mod width;
+
+pub use number::{Number, read_number};
+pub use order::z_before;
+pub use point::{Point, Row};
+pub use width::Width;

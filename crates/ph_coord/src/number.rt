@@ -1,0 +1,66 @@
+//! Numbers by their spelling.
+ghost use Rattle.std.specs.Prelude.{◌≡◌, ◌<◌, ◌^◌};
+ghost use Rattle.std.specs.List.{list_all};
+ghost use Rattle.std.specs.Char.{is_ascii_digit};
+ghost use Rattle.std.specs.Option.{SomeIff};
+ghost use Rattle.ph_coord.specs.Spelling.{number_of, signed_of, size_of};
+
+/// What a text spells.
+#[derive(Clone, Copy, Debug, PartialEq, Eq)]
+pub enum Number {
+    /// A whole number by its sign and its size, which is below `2^128`. 0 has no minus.
+    Whole { minus: bool, size: u128 },
+    /// A whole number whose size is `2^128` or more.
+    Wide,
+    /// No number.
+    Not,
+}
+
+/// Reads an optional `+` or `-` and one or more decimal digits; leading zeros are allowed.
+pub fn read_number(text: &[u8]) -> Number
+    ensures { result ≡ number_of text.now }
+{
+    match text {
+        [b'+', digits @ ..] => read_digits(false, digits),
+        [b'-', digits @ ..] => read_digits(true, digits),
+        _ => read_digits(false, text),
+    }
+}
+
+fn read_digits(minus: bool, digits: &[u8]) -> Number
+    ensures { result ≡ signed_of minus digits.now }
+{
+    if digits.is_empty() || !are_digits(digits) {
+        return Number::Not;
+    }
+    match size(digits) {
+        Some(size) => Number::Whole {
+            minus: minus && size != 0,
+            size,
+        },
+        None => Number::Wide,
+    }
+}
+
+fn are_digits(text: &[u8]) -> bool
+    ensures { result ≡ list_all is_ascii_digit text.now }
+{
+    text.iter().all(u8::is_ascii_digit)
+}
+
+// The number that digits spell, if it is below 2^128.
+fn size(digits: &[u8]) -> Option<u128>
+    ensures { SomeIff result (size_of digits.now < 2 ^ 128) (size_of digits.now) }
+{
+    let mut size = 0u128;
+    for digit in digits {
+        let Some(tenfold) = size.checked_mul(10) else {
+            return None;
+        };
+        let Some(sum) = tenfold.checked_add(u128::from(digit.saturating_sub(b'0'))) else {
+            return None;
+        };
+        size = sum;
+    }
+    Some(size)
+}
