@@ -1,11 +1,13 @@
 //! Values that the index is made of: widths, points, rows, their Z-order, and numbers by their spelling.
 #![tactic(auto)]
 
+mod dims;
 mod number;
 mod order;
 mod point;
 mod width;
 
+pub use dims::{Dim, Dims};
 pub use number::{Number, read_number};
 pub use order::z_before;
 pub use point::{Point, Row};

@@ -33,6 +33,7 @@ pub mod NodeCode
 pub mod NodeSize
 pub mod Reply
 pub mod Command
+pub mod Built
 pub mod Named
 pub mod Csv
 pub mod SavedTable
