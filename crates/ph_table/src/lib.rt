@@ -1,0 +1,8 @@
+//! The plain index: a table as a vector of rows in Z-order.
+#![tactic(auto)]
+
+mod place;
+mod table;
+
+pub use std::alloc::AllocError as NoMemory;
+pub use table::{Put, Table};

@@ -1,0 +1,84 @@
+//! The plain index.
+ghost use Rattle.std.specs.Prelude.{◌≡◌, ◌<◌, ◌≤◌, [], IfOk, OnOk, OnErr, IsSome, IsOk};
+ghost use Rattle.ph_specs.specs.Coordinate.{IsPoint};
+ghost use Rattle.ph_specs.specs.Table.{IsTable, find, put};
+ghost use Rattle.ph_table.specs.Rows.{wide, put_answer};
+
+use crate::place::place_of;
+use ph_coord::{Point, Row, Width};
+use std::alloc::{AllocError, Global};
+use std::marker::Model;
+
+/// What a put found at its point.
+#[derive(Clone, Copy, Debug, PartialEq, Eq)]
+pub enum Put {
+    /// Nothing: the row is new.
+    New,
+    /// The former value.
+    Old(u64),
+}
+
+/// Rows of one width in Z-order, no two at one point. It takes memory for its rows alone.
+#[derive(Drop)]
+pub struct Table<const D: usize> {
+    width: Width,
+    rows: Vec<Row<D>>,
+}
+
+impl<const D: usize> Model for Table<D> {
+    ghost use Rattle.ph_specs.specs.Table.{IsTable};
+    ghost use Rattle.ph_table.specs.Rows.{WideRows, wide};
+
+    ghost Value = { WideRows };
+
+    ghost view = { λ t. wide t.width t.rows.items };
+
+    ghost invariant = { λ t. IsTable t.width D t.rows.items };
+}
+
+impl<const D: usize> Table<D> {
+    /// The empty table of a width. It takes no memory.
+    pub fn new(alloc: Global, w: Width) -> Table<D>
+        ensures { result ≡ wide w [] }
+    {
+        Table {
+            width: w,
+            rows: Vec::new(alloc),
+        }
+    }
+
+    /// The rows, in Z-order.
+    pub fn rows(&self) -> &[Row<D>]
+        ensures rows { result.now ≡ self.now.rows }
+        ensures table { IsTable self.now.width D result.now }
+    {
+        &self.rows
+    }
+
+    /// Puts a value at a point, in place of the one that stands there.
+    ///
+    /// A new point takes memory for one row, and moves the rows behind it; without memory all stays.
+    /// The place is found in as many comparisons as the number of rows has binary digits.
+    pub fn put(&mut self, p: Point<D>, v: u64) -> Result<Put, AllocError>
+        requires dims { D ≤ 16 }
+        requires point { IsPoint self.old.width D p }
+        ensures ok { OnOk result (self.new ≡ wide self.old.width (put self.old.width self.old.rows p.entry v)) }
+        ensures answer { IfOk result (λ a. a ≡ put_answer (find self.old.rows p.entry)) }
+        ensures present { IsSome (find self.old.rows p.entry) → IsOk result }
+        ensures err { OnErr result (self.new ≡ self.old) }
+    {
+        let _bits = self.width.bits();
+        let row = Row { point: p, value: v };
+        match place_of(self.width, &self.rows, &p) {
+            Ok(i) => {
+                let old = self.rows[i].value;
+                self.rows[i] = row;
+                Ok(Put::Old(old))
+            }
+            Err(i) => {
+                self.rows.insert(i, row)?;
+                Ok(Put::New)
+            }
+        }
+    }
+}
