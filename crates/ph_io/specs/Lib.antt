@@ -1,0 +1,7 @@
+pub mod Amounts
+pub mod Causes
+pub mod Counted
+pub mod Counts
+pub mod Feed
+pub mod Pieces
+pub mod Store

@@ -1,0 +1,186 @@
+//! The trusted edge: a source over a reader of std, and a sink over a writer.
+ghost use Rattle.std.specs.Prelude.{◌≡◌, ◌<◌, None, length, IfOk, MatchResult};
+ghost use Rattle.std.specs.Io.{ReadsAtMost, WritesAtMost};
+ghost use Rattle.std.specs.Io.KnownBytes.{IsAtEnd, ReadConsumes, WriteAppends};
+ghost use Rattle.ph_io.specs.Amounts.{WriteAdds};
+ghost use Rattle.ph_io.specs.Causes.{HasCause};
+ghost use Rattle.ph_io.specs.Counts.{next_count};
+
+use crate::streams::{Failed, Sink, Source};
+use std::io::{Read, Write};
+use std::marker::Model;
+
+/// A source over a reader. It knows what is left where the reader does, and each error of the
+/// reader is a fault, also one that a later read might not meet.
+#[derive(Drop)]
+pub struct StdSource<R> {
+    reader: R,
+    faults: u64,
+}
+
+impl<R> Model for StdSource<R> {
+    ghost use Rattle.ph_io.specs.Counted.{Counted};
+
+    ghost Value = { Counted R };
+
+    ghost view = { λ s. record { stream = s.reader; faults = s.faults } };
+}
+
+impl<R: Read> StdSource<R> {
+    /// A source over this reader, with no fault so far. It takes no memory.
+    pub fn new(reader: R) -> StdSource<R>
+        ensures { result ≡ record { stream = reader; faults = 0 } }
+    {
+        StdSource { reader, faults: 0 }
+    }
+}
+
+impl<R: Read> Source for StdSource<R> {
+    ghost left = { λ s. R.remaining s.stream };
+
+    ghost faults = { λ s. s.faults };
+
+    fn read(&mut self, into: &mut [u8]) -> Result<usize, Failed>
+        requires { 0 < length into.old }
+        ensures bound { ReadsAtMost result into.new }
+        ensures bytes { ReadConsumes
+            (R.remaining self.old.stream) (R.remaining self.new.stream) result into.new }
+        ensures end { IfOk result (λ n. n ≡ 0 → IsAtEnd (R.remaining self.new.stream)) }
+        ensures cause { HasCause self.old.faults self.new.faults result }
+        ensures faults { MatchResult result
+            (λ _. self.new.faults ≡ self.old.faults)
+            (λ _. self.new.faults ≡ next_count self.old.faults) }
+    {
+        match self.reader.read(into) {
+            Ok(count) => Ok(count),
+            Err(_) => {
+                self.faults = self.faults.saturating_add(1);
+                Err(Failed)
+            }
+        }
+    }
+}
+
+/// A sink over a writer. It knows what was written where the writer does. Each error of the writer
+/// is a fault, and so is a write that takes nothing of a piece that has bytes. It never flushes.
+#[derive(Drop)]
+pub struct StdSink<W> {
+    writer: W,
+    faults: u64,
+}
+
+impl<W> Model for StdSink<W> {
+    ghost use Rattle.ph_io.specs.Counted.{Counted};
+
+    ghost Value = { Counted W };
+
+    ghost view = { λ s. record { stream = s.writer; faults = s.faults } };
+}
+
+impl<W: Write> StdSink<W> {
+    /// A sink over this writer, with no fault so far. It takes no memory.
+    pub fn new(writer: W) -> StdSink<W>
+        ensures { result ≡ record { stream = writer; faults = 0 } }
+    {
+        StdSink { writer, faults: 0 }
+    }
+}
+
+impl<W: Write> Sink for StdSink<W> {
+    ghost written = { λ s. W.contents s.stream };
+
+    ghost amount = { λ _. None };
+
+    ghost faults = { λ s. s.faults };
+
+    fn write(&mut self, piece: &[u8]) -> Result<usize, Failed>
+        ensures bound { WritesAtMost result piece.now }
+        ensures some { IfOk result (λ n. 0 < length piece.now → 0 < n) }
+        ensures bytes { WriteAppends
+            (W.contents self.old.stream) (W.contents self.new.stream) result piece.now }
+        ensures amount { WriteAdds None None result }
+        ensures cause { HasCause self.old.faults self.new.faults result }
+        ensures faults { MatchResult result
+            (λ _. self.new.faults ≡ self.old.faults)
+            (λ _. self.new.faults ≡ next_count self.old.faults) }
+    {
+        match self.writer.write(piece) {
+            Ok(count) if 0 < count || piece.is_empty() => Ok(count),
+            _ => {
+                self.faults = self.faults.saturating_add(1);
+                Err(Failed)
+            }
+        }
+    }
+}
+
+#[cfg(test)]
+mod tests {
+    use super::*;
+    use std::io::{Error, ErrorKind};
+
+    #[derive(Drop)]
+    struct Broken;
+
+    impl Read for Broken {
+        fn read(&mut self, _into: &mut [u8]) -> std::io::Result<usize> {
+            Err(Error::from(ErrorKind::BrokenPipe))
+        }
+    }
+
+    impl Write for Broken {
+        fn write(&mut self, piece: &[u8]) -> std::io::Result<usize> {
+            match piece.first() {
+                Some(b'!') => Err(Error::from(ErrorKind::BrokenPipe)),
+                _ => Ok(0),
+            }
+        }
+
+        fn flush(&mut self) -> std::io::Result<()> {
+            Ok(())
+        }
+    }
+
+    fn read_from<S: Source>(source: &mut S, into: &mut [u8; 4]) -> Result<usize, Failed> {
+        source.read(into)
+    }
+
+    fn write_to<S: Sink>(sink: &mut S, piece: &[u8]) -> Result<usize, Failed> {
+        sink.write(piece)
+    }
+
+    #[test]
+    fn reads_and_counts_faults(rt: HostRuntime) {
+        let mut into = [0u8; 4];
+        let mut source = StdSource::new(b"abcdef".as_slice());
+        for (answer, stands) in [(Ok(4), *b"abcd"), (Ok(2), *b"efcd"), (Ok(0), *b"efcd")] {
+            assert_eq!(rt; read_from(&mut source, &mut into), answer);
+            assert_eq!(rt; into, stands);
+        }
+        assert_eq!(rt; source.faults, 0);
+        let mut broken = StdSource::new(Broken);
+        for faults in 1..=2 {
+            assert_eq!(rt; read_from(&mut broken, &mut into), Err(Failed));
+            assert_eq!(rt; broken.faults, faults);
+        }
+    }
+
+    #[test]
+    fn writes_and_counts_faults(rt: HostRuntime) {
+        let mut sink = StdSink::new(Vec::new(rt.alloc()));
+        for piece in [b"abc".as_slice(), b"", b"de"] {
+            assert_eq!(rt; write_to(&mut sink, piece), Ok(piece.len()));
+        }
+        assert_eq!(rt; sink.writer.as_slice(), b"abcde".as_slice());
+        assert_eq!(rt; sink.faults, 0);
+        let mut broken = StdSink::new(Broken);
+        for (piece, answer, faults) in [
+            (b"".as_slice(), Ok(0), 0),
+            (b"a".as_slice(), Err(Failed), 1),
+            (b"!".as_slice(), Err(Failed), 2),
+        ] {
+            assert_eq!(rt; write_to(&mut broken, piece), answer);
+            assert_eq!(rt; broken.faults, faults);
+        }
+    }
+}
