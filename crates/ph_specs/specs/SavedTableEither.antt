@@ -20,5 +20,6 @@ abbrev pub read_2_unless : Option Fault → ℕ → ℕ → List ℕ → Result 
 read_2_unless (Some fault) dims width bytes = Err (fault_reply fault)
 read_2_unless None dims width bytes = Ok (rows_saved_2 dims width bytes)
 
+-- the table of which the bytes are the snapshot in either version, or the reply to their fault
 abbrev pub read_snapshot_2 : Kind → ℕ → ℕ → List ℕ → Result (List Row) Reply
 read_snapshot_2 kind dims width bytes = read_2_unless (load_fault_2 kind dims width bytes) dims width bytes
