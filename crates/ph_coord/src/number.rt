@@ -64,3 +64,30 @@ fn size(digits: &[u8]) -> Option<u128>
     }
     Some(size)
 }
+
+#[cfg(test)]
+mod tests {
+    use super::*;
+
+    #[test]
+    fn spellings(rt: HostRuntime) {
+        let whole = |minus, size| Number::Whole { minus, size };
+        let cases: [(&[u8], Number); 9] = [
+            (b"0", whole(false, 0)),
+            (b"-0", whole(false, 0)),
+            (b"+007", whole(false, 7)),
+            (b"-12", whole(true, 12)),
+            (
+                b"340282366920938463463374607431768211455",
+                whole(false, u128::MAX),
+            ),
+            (b"-340282366920938463463374607431768211456", Number::Wide),
+            (b"", Number::Not),
+            (b"+", Number::Not),
+            (b"1x", Number::Not),
+        ];
+        for (text, number) in cases {
+            assert_eq!(rt; read_number(text), number);
+        }
+    }
+}

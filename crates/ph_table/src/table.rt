@@ -82,3 +82,29 @@ impl<const D: usize> Table<D> {
         }
     }
 }
+
+#[cfg(test)]
+mod tests {
+    use super::*;
+    use std::test::Fail;
+
+    #[test]
+    fn unit_square_in_z_order(rt: HostRuntime) -> Result<(), Fail> {
+        let w = Width::new(32).ok_or("no width")?;
+        let mut table: Table<2> = Table::new(rt.alloc(), w);
+        for (coords, value) in [([1, 1], 4), ([1, 0], 3), ([0, 1], 2), ([0, 0], 1)] {
+            let p = Point::from_slice(w, &coords).ok_or("out of range")?;
+            assert_eq!(rt; table.put(p, value)?, Put::New);
+        }
+        let p = Point::from_slice(w, &[1, 0]).ok_or("out of range")?;
+        assert_eq!(rt; table.put(p, 5)?, Put::Old(3));
+        let expected = [([0, 0], 1), ([0, 1], 2), ([1, 0], 5), ([1, 1], 4)];
+        assert_eq!(rt; table.rows().len(), expected.len());
+        for (i, row) in table.rows().iter().enumerate() {
+            let (coords, value) = expected.get(i).ok_or("too many rows")?;
+            assert_eq!(rt; row.point.as_slice(), coords.as_slice());
+            assert_eq!(rt; row.value, *value);
+        }
+        Ok(())
+    }
+}

@@ -1,0 +1,11 @@
+pub mod Answering
+pub mod Machine
+pub mod Cutting
+pub mod Feeding
+pub mod Outcomes
+pub mod PutScript
+pub mod Readings
+pub mod Replies
+pub mod Statuses
+pub mod Words
+pub mod Writing

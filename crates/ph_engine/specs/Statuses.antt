@@ -1,0 +1,45 @@
+-- What a status says.
+use Rattle.std.specs.Prelude.{◌≤◌, ◌≡◌, ◌⊎◌, ◌<◌, ℕ, List, [], ◌∷◌, length, take, codes, Bool, if◌then◌else◌, Option, Some, None, Result, IsErrOf}
+use Rattle.std.specs.Io.KnownBytes.{Appends}
+use Rattle.ph_specs.specs.Program.{usage_line}
+use Rattle.ph_engine.specs.declared.status.Status.{Status}
+use Rattle.ph_engine.specs.declared.status.Status.TheVariants.{Clean, Refused, ReadFault, WriteFault, Memory}
+use Rattle.ph_engine.specs.declared.status.Stop.{Stop}
+use Rattle.ph_engine.specs.declared.status.Stop.TheVariants as stop
+use Rattle.ph_io.specs.Causes.{Rose}
+
+-- the script was read to its end
+abbrev pub IsRead : Status → Type 0
+IsRead status = (status ≡ Clean) ⊎ (status ≡ Refused)
+
+abbrev pub read_status : Bool → Status
+read_status refused = if refused then Refused else Clean
+
+-- the words ask for a run
+abbrev pub IsRun : List (List ℕ) → Type 0
+IsRun words = words ≡ codes "run" ∷ []
+
+abbrev pub stop_status : Stop → Status
+stop_status stop.WriteFault = WriteFault
+stop_status stop.Memory = Memory
+
+-- the count did not fall, and a write fault is answered only where it rose
+pub record StopHasCause {T : Type 0} (before now : ℕ) (result : Result T Stop) : Type 0 where
+  pub later : before ≤ now
+  pub write : IsErrOf result stop.WriteFault → Rose before now
+
+-- a fault is answered only where its count rose
+pub record HasCauses (reads now_reads writes now_writes : ℕ) (status : Status) : Type 0 where
+  pub read : status ≡ ReadFault → Rose reads now_reads
+  pub write : status ≡ WriteFault → Rose writes now_writes
+
+-- a source is known to have at most so many bytes
+abbrev pub HasAtMost : ℕ → Option (List ℕ) → Type 0
+HasAtMost most None = ⊥
+HasAtMost most (Some bytes) = length bytes ≤ most
+
+-- a front of the usage line was written
+pub record UsageCut (written now_written : Option (List ℕ)) : Type 0 where
+  pub count : ℕ
+  pub short : count < length usage_line
+  pub told : Appends written now_written (take count usage_line)

@@ -1,0 +1,73 @@
+//! The program as one call.
+ghost use Rattle.std.specs.Prelude.{◌≡◌, ◌≢◌, ◌<◌, ◌^◌, ◌⊎◌, ◌↔◌, IsTrue, map, string_bytes};
+ghost use Rattle.std.specs.Io.KnownBytes.{Appends};
+ghost use Rattle.ph_io.specs.Causes.{Rose};
+ghost use Rattle.ph_specs.specs.Program.{usage_line};
+ghost use Rattle.ph_engine.specs.PutScript.{put_machine};
+ghost use Rattle.ph_engine.specs.Outcomes.{Answered, Interrupted, Exceeded, CutShort, OutOfMemory};
+ghost use Rattle.ph_engine.specs.Statuses.{IsRead, IsRun, HasAtMost, UsageCut};
+
+use crate::engine::Engine;
+use crate::output::write_piece;
+use crate::run::run;
+use crate::status::{Limits, Status};
+use ph_io::{Failed, Sink, Source};
+use ph_steps::Steps;
+use std::alloc::Global;
+use std::sync::ledger::Ledger;
+
+const USAGE: &str = "usage: phq run | phq check FILE | phq soak N START\n";
+
+/// Does all that the program does, by the words behind its name.
+///
+/// With the one word `run` it reads a script from the source and gives the reply to each line to the sink, as a
+/// piece of its own. Any other words get the usage line. A run takes two buffers of about 4,096 bytes before its first
+/// read, and memory for new rows; it takes none for a line or a reply. The counters do not rise.
+pub fn top<S: Source, O: Sink, V: Ledger, C: Ledger>(
+    alloc: Global,
+    words: &[String],
+    src: &mut S,
+    out: &mut O,
+    eng: &mut Engine,
+    limits: &Limits,
+    _visits: &mut Steps<V>,
+    _changes: &mut Steps<C>,
+) -> Status
+    requires { limits.now.script_bytes < 2 ^ 63 }
+
+    // how a run ends
+    ensures read { IsRead result → Answered put_machine limits.now.script_bytes (S.left src.old) (S.left src.new) (O.written out.old) (O.written out.new) eng.old eng.new result }
+    ensures read_fault { result ≡ Status.ReadFault → Interrupted put_machine limits.now.script_bytes (S.left src.old) (S.left src.new) (O.written out.old) (O.written out.new) eng.old eng.new }
+    ensures too_long { result ≡ Status.TooLong → Exceeded put_machine limits.now.script_bytes (S.left src.old) (S.left src.new) (O.written out.old) (O.written out.new) eng.old eng.new }
+    ensures write_fault { IsRun (map string_bytes words.now) → result ≡ Status.WriteFault → CutShort put_machine limits.now.script_bytes (S.left src.old) (S.left src.new) (O.written out.old) (O.written out.new) eng.old eng.new }
+    ensures memory { result ≡ Status.Memory → OutOfMemory put_machine limits.now.script_bytes (S.left src.old) (S.left src.new) (O.written out.old) (O.written out.new) eng.old eng.new }
+
+    // causes
+    ensures read_cause { result ≡ Status.ReadFault → Rose (S.faults src.old) (S.faults src.new) }
+    ensures write_cause { result ≡ Status.WriteFault → Rose (O.faults out.old) (O.faults out.new) }
+    ensures usage { result ≡ Status.Usage → ¬ IsRun (map string_bytes words.now) }
+    ensures complete { IsRun (map string_bytes words.now) → ¬ Rose (S.faults src.old) (S.faults src.new) → ¬ Rose (O.faults out.old) (O.faults out.new) → HasAtMost limits.now.script_bytes (S.left src.old) → IsRead result ⊎ (result ≡ Status.Memory) }
+
+    // other words
+    ensures no_run { ¬ IsRun (map string_bytes words.now) → (result ≡ Status.Usage) ⊎ (result ≡ Status.WriteFault) }
+    ensures usage_line { result ≡ Status.Usage → Appends (O.written out.old) (O.written out.new) usage_line }
+    ensures usage_cut { ¬ IsRun (map string_bytes words.now) → result ≡ Status.WriteFault → UsageCut (O.written out.old) (O.written out.new) }
+    ensures untouched { ¬ IsRun (map string_bytes words.now) → (eng.new ≡ eng.old) × (src.new ≡ src.old) }
+{
+    if is_run(words) {
+        return run(alloc, src, out, eng, limits.script_bytes);
+    }
+    match write_piece(out, USAGE.as_bytes()) {
+        Ok(()) => Status::Usage,
+        Err(Failed) => Status::WriteFault,
+    }
+}
+
+fn is_run(words: &[String]) -> bool
+    ensures { IsTrue result ↔ IsRun (map string_bytes words.now) }
+{
+    match words {
+        [word] => word.as_str() == "run",
+        _ => false,
+    }
+}

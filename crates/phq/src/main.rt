@@ -1,0 +1,50 @@
+//! phq: answers a script of commands on points.
+#![tactic(auto)]
+
+ghost use Rattle.std.specs.Prelude.{◌≡◌, ◌<◌};
+
+use ph_engine::{Engine, Limits, top};
+use ph_io::{StdSink, StdSource};
+use ph_steps::Steps;
+use std::env;
+use std::marker::Brand;
+use std::process::ExitCode;
+use std::sync::ledger::{Blank, Ledger};
+
+const LIMITS: Limits = Limits {
+    script_bytes: 0x1_0000_0000,
+};
+
+// The status where the words of the command line can't be had. `top` never answers it.
+const NO_WORDS: u8 = 7;
+
+fn main(rt: HostRuntime) -> ExitCode {
+    serve::<Brand, Brand>(rt, Blank::new(1), Blank::new(1))
+}
+
+fn serve<V: Ledger, C: Ledger>(rt: HostRuntime, visits: Blank, changes: Blank) -> ExitCode
+    requires visits { (visits.name ≡ V.name) × (visits.parts ≡ V.parts) × (0 < visits.parts) }
+    requires changes { (changes.name ≡ C.name) × (changes.parts ≡ C.parts) × (0 < changes.parts) }
+{
+    let Ok(mut args) = env::args(&rt) else {
+        return ExitCode::from(NO_WORDS);
+    };
+    let _program = args.next();
+    let collected: Result<Vec<String>, _> = args.collect(rt.alloc());
+    let Ok(words) = collected else {
+        return ExitCode::from(NO_WORDS);
+    };
+    let mut visits: Steps<V> = Steps::new(visits);
+    let mut changes: Steps<C> = Steps::new(changes);
+    let status = top(
+        rt.alloc(),
+        words.as_slice(),
+        &mut StdSource::new(rt.stdin()),
+        &mut StdSink::new(rt.stdout()),
+        &mut Engine::new(rt.alloc()),
+        &LIMITS,
+        &mut visits,
+        &mut changes,
+    );
+    ExitCode::from(status as u8)
+}
