@@ -1,17 +1,17 @@
 -- How a script is fed: nothing, a part of a line, a line, and one piece after another.
-use Rattle.std.proofs.Common.{◌≡◌, ℕ, Bool, true, false, ◌||◌, List, [], ◌∷◌, ◌++◌, take, refl, ap, sym, ◌∙◌, append_assoc, append-nil, subst, arith}
+use Rattle.std.proofs.Common.{◌≡◌, ℕ, ◌<◌, Bool, true, false, ◌||◌, List, [], ◌∷◌, ◌++◌, length, take, refl, ap, sym, ◌∙◌, append_assoc, append-nil, subst, arith}
 use Rattle.std.specs.Prelude.{Ok, Err}
 use Rattle.std.specs.declared.option.Option.{Option}
 use Rattle.std.specs.Io.KnownBytes.{Appends}
 use Rattle.ph_specs.specs.Lines.{LF, lines}
 use Rattle.ph_specs.proofs.laws.Put.{and}
-use Rattle.ph_engine.specs.Machine.{Machine, answers, after, is_refusal, some_refused, KEPT, KEPT-is, HangsOnFront}
+use Rattle.ph_engine.specs.Machine.{Machine, answers, after, is_refusal, some_refused, KEPT, KEPT-is}
 use Rattle.ph_engine.specs.Cutting.{ended, is_unbroken}
 use Rattle.ph_engine.specs.Answering.{Said, SaidOr}
 use Rattle.ph_engine.specs.Feeding.{Fed, Cut, Starved, FedOr, Feeds, AtEnd, EndsOr}
 use Rattle.ph_engine.specs.Statuses.{read_status, stop_status}
 use Rattle.ph_engine.specs.declared.status.Stop.{Stop}
-use Rattle.ph_engine.specs.declared.status.Stop.TheVariants.{WriteFault, Memory}
+use Rattle.ph_engine.specs.declared.status.Stop.TheVariants.{WriteFault, NoMemory}
 use Rattle.ph_engine.proofs.Appending.{appends_none, appends_both}
 use Rattle.ph_engine.proofs.Cuts.{lines-unbroken, ended-append, all-append, take-front, take-none, take-empty}
 use Rattle.ph_engine.proofs.Machines.{answers-append, after-append, refused-append, or_false}
@@ -92,50 +92,42 @@ fed-starved m s unended piece next kept written middle now_written between now r
 -- a fed piece, and what a stop in the next one leaves
 pub fed-stopped : {S : Type 0} (m : Machine S) (s : S) (unended piece next kept last : List ℕ) (written middle now_written : Option (List ℕ)) (between now : S) (refused : Bool) (stop : Stop) → (h : Fed m s unended piece written middle between kept refused) → FedOr m between h.rest next middle now_written now last (Err stop) → FedOr m s unended (piece ++ next) written now_written now last (Err stop)
 fed-stopped m s unended piece next kept last written middle now_written between now refused WriteFault h k = fed-cut m s unended piece next kept written middle now_written between now refused h k
-fed-stopped m s unended piece next kept last written middle now_written between now refused Memory h k = fed-starved m s unended piece next kept written middle now_written between now refused h k
+fed-stopped m s unended piece next kept last written middle now_written between now refused NoMemory h k = fed-starved m s unended piece next kept written middle now_written between now refused h k
 
 -- ---- a line
 
--- the kept bytes of a line and a part behind it are those of the longer line
-kept-part : (unended part kept : List ℕ) → kept ≡ take KEPT unended → take KEPT (kept ++ part) ≡ take KEPT (unended ++ part)
-kept-part unended part kept e = ap (λ t. take KEPT (t ++ part)) e ∙ take-front KEPT unended part
-
-line-split : (unended part more : List ℕ) → unended ++ (part ++ LF ∷ []) ≡ ended ((unended ++ part) ∷ []) ++ []
-line-split unended part more = sym (append_assoc unended part (LF ∷ [])) ∙ sym (append-nil ((unended ++ part) ++ LF ∷ []))
+line-split : (unended part : List ℕ) → unended ++ (part ++ LF ∷ []) ≡ ended ((unended ++ part) ∷ []) ++ []
+line-split unended part = sym (append_assoc unended part (LF ∷ [])) ∙ sym (append-nil ((unended ++ part) ++ LF ∷ []))
 
 -- a part and a line feed end a line, which is answered
-pub line-said : {S : Type 0} (m : Machine S) → HangsOnFront m → (s : S) (unended part kept said : List ℕ) (written now_written : Option (List ℕ)) (now : S) (refused : Bool) → kept ≡ take KEPT unended → is_unbroken unended ≡ true → is_unbroken part ≡ true → said ≡ take KEPT (kept ++ part) → Said m s said written now_written now refused → Fed m s unended (part ++ LF ∷ []) written now_written now [] refused
-line-said m hangs s unended part kept said written now_written now refused k u v i h =
-    let e : m.answer s said ≡ m.answer s (unended ++ part) = ap (m.answer s) (i ∙ kept-part unended part kept k) ∙ hangs.answer s (unended ++ part) in
-    record {
-      done = (unended ++ part) ∷ [];
-      rest = [];
-      split = line-split unended part [];
-      unbroken_done = and _ _ (all-append _ unended part u v) refl;
-      unbroken_rest = refl;
-      told = rw append-nil (rw e at h.told);
-      state = h.state ∙ ap (m.next s) (i ∙ kept-part unended part kept k) ∙ hangs.next s (unended ++ part);
-      refusals = h.refusal ∙ ap is_refusal e ∙ sym (or_false (is_refusal (m.answer s (unended ++ part))));
-      front = sym (take-empty KEPT);
-    }
+pub line-said : {S : Type 0} (m : Machine S) (s : S) (unended part : List ℕ) (written now_written : Option (List ℕ)) (now : S) (refused : Bool) → is_unbroken unended ≡ true → is_unbroken part ≡ true → Said m s (unended ++ part) written now_written now refused → Fed m s unended (part ++ LF ∷ []) written now_written now [] refused
+line-said m s unended part written now_written now refused u v h = record {
+  done = (unended ++ part) ∷ [];
+  rest = [];
+  split = line-split unended part;
+  unbroken_done = and _ _ (all-append _ unended part u v) refl;
+  unbroken_rest = refl;
+  told = rw append-nil h.told;
+  state = h.state;
+  refusals = h.refusal ∙ sym (or_false (is_refusal (m.answer s (unended ++ part))));
+  front = sym (take-empty KEPT);
+}
 
 -- the answer to it fails
-pub line-stopped : {S : Type 0} (m : Machine S) → HangsOnFront m → (s : S) (unended part kept said last : List ℕ) (written now_written : Option (List ℕ)) (now : S) (stop : Stop) → kept ≡ take KEPT unended → is_unbroken unended ≡ true → is_unbroken part ≡ true → said ≡ take KEPT (kept ++ part) → SaidOr m s said written now_written now (Err stop) → FedOr m s unended (part ++ LF ∷ []) written now_written now last (Err stop)
-line-stopped m hangs s unended part kept said last written now_written now WriteFault k u v i h =
-    let e : m.answer s said ≡ m.answer s (unended ++ part) = ap (m.answer s) (i ∙ kept-part unended part kept k) ∙ hangs.answer s (unended ++ part) in
-    record {
-      done = [];
-      line = unended ++ part;
-      more = [];
-      count = h.count;
-      split = line-split unended part [];
-      unbroken_done = refl;
-      unbroken_line = all-append _ unended part u v;
-      short = rw (← e) h.short;
-      told = rw e at h.told;
-      state = h.state ∙ ap (m.next s) (i ∙ kept-part unended part kept k) ∙ hangs.next s (unended ++ part);
-    }
-line-stopped m hangs s unended part kept said last written now_written now Memory k u v i h = record {
+pub line-stopped : {S : Type 0} (m : Machine S) (s : S) (unended part last : List ℕ) (written now_written : Option (List ℕ)) (now : S) (stop : Stop) → is_unbroken unended ≡ true → is_unbroken part ≡ true → SaidOr m s (unended ++ part) written now_written now (Err stop) → FedOr m s unended (part ++ LF ∷ []) written now_written now last (Err stop)
+line-stopped m s unended part last written now_written now WriteFault u v h = record {
+  done = [];
+  line = unended ++ part;
+  more = [];
+  count = h.count;
+  split = line-split unended part;
+  unbroken_done = refl;
+  unbroken_line = all-append _ unended part u v;
+  short = h.short;
+  told = h.told;
+  state = h.state;
+}
+line-stopped m s unended part last written now_written now NoMemory u v h = record {
   done = [];
   more = unended ++ (part ++ LF ∷ []);
   split = refl;
@@ -146,8 +138,8 @@ line-stopped m hangs s unended part kept said last written now_written now Memor
 
 -- ---- the end
 
-kept-some : (unended kept : List ℕ) → kept ≡ take KEPT unended → (kept ≡ [] → ⊥) → unended ≡ [] → ⊥
-kept-some unended kept k some e = some (k ∙ ap (take KEPT) e ∙ take-empty KEPT)
+kept-some : (unended kept : List ℕ) → kept ≡ take KEPT unended → 0 < length kept → unended ≡ [] → ⊥
+kept-some unended kept k some e = let n : kept ≡ [] = k ∙ ap (take KEPT) e ∙ take-empty KEPT in omega (arith, some, ap length n)
 
 kept-none : (unended kept : List ℕ) → kept ≡ take KEPT unended → kept ≡ [] → unended ≡ []
 kept-none unended kept k e = take-none KEPT unended (omega (arith, KEPT-is)) (sym k ∙ e)
@@ -159,25 +151,19 @@ end-none m s unended kept refused written k e =
     record { told = rw n (appends_none written); state = rw n refl; refusals = rw n (ap read_status (sym (or_false refused))) }
 
 -- the unended line is answered
-pub end-said : {S : Type 0} (m : Machine S) → HangsOnFront m → (s : S) (unended kept said : List ℕ) (refused last : Bool) (written now_written : Option (List ℕ)) (now : S) → kept ≡ take KEPT unended → is_unbroken unended ≡ true → (kept ≡ [] → ⊥) → said ≡ kept → Said m s said written now_written now last → AtEnd m s unended refused written now_written now (read_status (refused || last))
-end-said m hangs s unended kept said refused last written now_written now k u some i h =
+pub end-said : {S : Type 0} (m : Machine S) (s : S) (unended kept : List ℕ) (refused last : Bool) (written now_written : Option (List ℕ)) (now : S) → kept ≡ take KEPT unended → is_unbroken unended ≡ true → 0 < length kept → Said m s unended written now_written now last → AtEnd m s unended refused written now_written now (read_status (refused || last))
+end-said m s unended kept refused last written now_written now k u some h =
     let l : lines unended ≡ unended ∷ [] = lines-unbroken unended u (kept-some unended kept k some) in
-    let e : m.answer s said ≡ m.answer s unended = ap (m.answer s) (i ∙ k) ∙ hangs.answer s unended in
     record {
-      told = rw (l, append-nil) (rw e at h.told);
-      state = rw l (h.state ∙ ap (m.next s) (i ∙ k) ∙ hangs.next s unended);
-      refusals = rw l (ap (λ t. read_status (refused || t)) (h.refusal ∙ ap is_refusal e ∙ sym (or_false (is_refusal (m.answer s unended)))));
+      told = rw (l, append-nil) h.told;
+      state = rw l h.state;
+      refusals = rw l (ap (λ t. read_status (refused || t)) (h.refusal ∙ sym (or_false (is_refusal (m.answer s unended)))));
     }
 
 -- the answer to it fails
-pub end-stopped : {S : Type 0} (m : Machine S) → HangsOnFront m → (s : S) (unended kept said : List ℕ) (refused : Bool) (written now_written : Option (List ℕ)) (now : S) (stop : Stop) → kept ≡ take KEPT unended → is_unbroken unended ≡ true → (kept ≡ [] → ⊥) → said ≡ kept → SaidOr m s said written now_written now (Err stop) → EndsOr m s unended refused written now_written now (stop_status stop)
-end-stopped m hangs s unended kept said refused written now_written now WriteFault k u some i h =
-    let e : m.answer s said ≡ m.answer s unended = ap (m.answer s) (i ∙ k) ∙ hangs.answer s unended in
-    record {
-      some = lines-unbroken unended u (kept-some unended kept k some);
-      said = record { count = h.count; short = rw (← e) h.short; told = rw e at h.told; state = h.state ∙ ap (m.next s) (i ∙ k) ∙ hangs.next s unended };
-    }
-end-stopped m hangs s unended kept said refused written now_written now Memory k u some i h = h
+pub end-stopped : {S : Type 0} (m : Machine S) (s : S) (unended kept : List ℕ) (refused : Bool) (written now_written : Option (List ℕ)) (now : S) (stop : Stop) → kept ≡ take KEPT unended → is_unbroken unended ≡ true → 0 < length kept → SaidOr m s unended written now_written now (Err stop) → EndsOr m s unended refused written now_written now (stop_status stop)
+end-stopped m s unended kept refused written now_written now WriteFault k u some h = record { some = lines-unbroken unended u (kept-some unended kept k some); said = h }
+end-stopped m s unended kept refused written now_written now NoMemory k u some h = h
 
 -- a status that the end of a script gives
 pub ends-read : {S : Type 0} (m : Machine S) (s : S) (unended : List ℕ) (refused : Bool) (written now_written : Option (List ℕ)) (now : S) (r : Bool) → AtEnd m s unended refused written now_written now (read_status r) → EndsOr m s unended refused written now_written now (read_status r)
@@ -212,7 +198,7 @@ starved-within m s unended piece more written now_written now h = record {
 
 pub stopped-within : {S : Type 0} (m : Machine S) (s : S) (unended piece more last : List ℕ) (written now_written : Option (List ℕ)) (now : S) (stop : Stop) → FedOr m s unended piece written now_written now last (Err stop) → FedOr m s unended (piece ++ more) written now_written now last (Err stop)
 stopped-within m s unended piece more last written now_written now WriteFault h = cut-within m s unended piece more written now_written now h
-stopped-within m s unended piece more last written now_written now Memory h = starved-within m s unended piece more written now_written now h
+stopped-within m s unended piece more last written now_written now NoMemory h = starved-within m s unended piece more written now_written now h
 
 -- ---- as code feeds: the two pieces as one, by an equation
 

@@ -1,11 +1,10 @@
 pub mod Appending
-pub mod Splits
 pub mod Cuts
 pub mod Machines
 pub mod Feeds
-pub mod PutMachine
-pub mod Places
-pub mod Words
-pub mod Fronts
 pub mod Scans
 pub mod Runs
+pub mod Words
+pub mod Far
+pub mod Answered
+pub mod Defined

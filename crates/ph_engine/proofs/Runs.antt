@@ -13,7 +13,7 @@ use Rattle.ph_engine.specs.declared.status.Status.{Status}
 use Rattle.ph_engine.specs.declared.status.Status.TheVariants as by
 use Rattle.ph_engine.specs.declared.status.Status.TheVariants.{Clean, Refused, Usage, ReadFault, TooLong}
 use Rattle.ph_engine.specs.declared.status.Stop.{Stop}
-use Rattle.ph_engine.specs.declared.status.Stop.TheVariants.{WriteFault, Memory}
+use Rattle.ph_engine.specs.declared.status.Stop.TheVariants.{WriteFault, NoMemory}
 use Rattle.ph_engine.proofs.Appending.{appends_none, appends_both, consumes_none, consumes_both, consumes_kept, take_within, length_more}
 use Rattle.ph_engine.proofs.Cuts.{lines-ended, whole-ended, whole-unbroken, all-append, take-empty}
 use Rattle.ph_engine.proofs.Machines.{answers-append, after-append, refused-append}
@@ -148,7 +148,7 @@ stop-or m most left now_left written now_written s now kept bytes WriteFault c w
   told = h.told;
   state = h.state;
 }
-stop-or m most left now_left written now_written s now kept bytes Memory c w h = record {
+stop-or m most left now_left written now_written s now kept bytes NoMemory c w h = record {
   bytes = bytes;
   consumed = c;
   within = w;

@@ -1,11 +1,12 @@
 -- What a search for a line feed tells of a piece.
-use Rattle.std.proofs.Common.{◌≡◌, ℕ, zero, suc, ◌+◌, ◌-◌, ◌<◌, ◌≤◌, Bool, true, false, not, List, [], ◌∷◌, ◌++◌, length, take, drop, get_or, refl, ap, sym, ◌∙◌, arith, length-drop}
-use Rattle.std.specs.Prelude.{◌==◌, Some, None}
-use Rattle.memchr.specs.Find.{IsFirstByte, is_byte}
+use Rattle.std.proofs.Common.{◌≡◌, ℕ, zero, suc, ◌+◌, ◌<◌, ◌≤◌, Bool, true, false, not, List, [], ◌∷◌, ◌++◌, length, take, drop, get_or, refl, ap, sym, ◌∙◌, arith, length-drop}
+use Rattle.std.specs.Prelude.{◌==◌, nat_lt}
+use Rattle.std.proofs.lemmas.List.Sums.{fails_before_first, passes_at_first}
+use Rattle.ph_script.specs.Shown.{is_feed, feed_at, before_feed, unended}
+use Rattle.ph_engine.specs.Machine.{KEPT, KEPT-is}
 use Rattle.ph_engine.proofs.Appending.{take_plus}
 use Rattle.std.proofs.lemmas.List.{take-append-drop}
 use Rattle.std.proofs.lemmas.Bool.Decides.{nat_tests}
-use Rattle.std.proofs.lemmas.Grind.{common_steps}
 use Rattle.ph_specs.specs.Lines.{LF}
 use Rattle.ph_specs.proofs.laws.Put.{and}
 use Rattle.ph_engine.specs.Cutting.{is_unbroken}
@@ -37,31 +38,37 @@ parted [] i l h = absurd (omega arith)
 parted (b ∷ bs) zero l h = let e : b ≡ LF = grind (arith, nat_tests) in ap (λ t. t ∷ []) (sym e)
 parted (b ∷ bs) (suc i) l h = ap (λ t. b ∷ t) (parted bs i (omega arith) h)
 
--- the rest of a piece from a place on, as code cuts it
-rest-is : (piece : List ℕ) (at : ℕ) → take (length piece - at) (drop at piece) ≡ drop at piece
-rest-is piece at = grind (arith, common_steps)
+-- ---- the first line feed of a piece from a place on
 
--- a line feed is found n bytes behind a place of the piece
-pub record Found (piece : List ℕ) (at n : ℕ) : Type 0 where
-  pub unbroken : is_unbroken (take n (drop at piece)) ≡ true
-  pub next : take at piece ++ (take n (drop at piece) ++ LF ∷ []) ≡ take (at + (n + 1)) piece
-  pub within : at + (n + 1) ≤ length piece
+fails : (bytes : List ℕ) (k : ℕ) → k < feed_at bytes → IsOther bytes k
+fails bytes k l e = let f : is_feed (get_or bytes k 0) ≡ false = fails_before_first is_feed bytes k 0 l in let clash : true ≡ false = sym e ∙ f in cc
 
-pub found : (piece : List ℕ) (at n : ℕ) → IsFirstByte (is_byte 10) (take (length piece - at) (drop at piece)) (Some n) → Found piece at n
-found piece at n h =
-    let e : take (length piece - at) (drop at piece) ≡ drop at piece = rest-is piece at in
-    let k : IsFirstByte (is_byte 10) (drop at piece) (Some n) = rw (← e) h in
-    let s : suc n ≡ n + 1 = omega arith in
-    record {
-      unbroken = front-unbroken (drop at piece) n (omega (arith, k.0.high)) (λ i l. k.0.before i (omega arith) l);
-      next = ap (λ t. take at piece ++ t) (parted (drop at piece) n k.0.high k.1) ∙ rw s (take_plus piece at (n + 1));
-      within = omega (arith, k.0.high, length-drop at piece);
-    }
+passes : (bytes : List ℕ) → feed_at bytes < length bytes → (get_or bytes (feed_at bytes) 0 == LF) ≡ true
+passes bytes l = passes_at_first is_feed bytes 0 l
 
--- no line feed is found from a place of the piece on
-pub none-found : (piece : List ℕ) (at : ℕ) → IsFirstByte (is_byte 10) (take (length piece - at) (drop at piece)) None → is_unbroken (take (length piece - at) (drop at piece)) ≡ true
-none-found piece at h = all-unbroken _ (λ i l. h i (omega arith) l)
+-- what is in front of it, and what it ends
+pub feed-unbroken : (bytes : List ℕ) → feed_at bytes < length bytes → is_unbroken (before_feed bytes) ≡ true
+feed-unbroken bytes l = front-unbroken bytes (feed_at bytes) (omega (arith, l)) (λ k m. fails bytes k m)
 
--- the whole piece, in two parts
-pub whole : (piece : List ℕ) (at : ℕ) → take at piece ++ take (length piece - at) (drop at piece) ≡ piece
-whole piece at = ap (λ t. take at piece ++ t) (rest-is piece at) ∙ take-append-drop at piece
+pub none-unbroken : (bytes : List ℕ) → feed_at bytes ≡ length bytes → is_unbroken bytes ≡ true
+none-unbroken bytes e = all-unbroken bytes (λ k l. fails bytes k (omega (arith, e, l)))
+
+pub feed-next : (piece : List ℕ) (at next : ℕ) → feed_at (drop at piece) < length (drop at piece) → next ≡ at + feed_at (drop at piece) + 1 → take at piece ++ (before_feed (drop at piece) ++ LF ∷ []) ≡ take next piece
+feed-next piece at next l e =
+    let n : next ≡ at + suc (feed_at (drop at piece)) = omega (arith, e) in
+    ap (λ t. take at piece ++ t) (parted (drop at piece) (feed_at (drop at piece)) l (passes (drop at piece) l)) ∙ rw n (take_plus piece at (suc (feed_at (drop at piece))))
+
+pub feed-within : (piece : List ℕ) (at next : ℕ) → at ≤ length piece → feed_at (drop at piece) < length (drop at piece) → next ≡ at + feed_at (drop at piece) + 1 → next ≤ length piece
+feed-within piece at next w l e = omega (arith, e, l, length-drop at piece)
+
+pub whole : (piece : List ℕ) (at : ℕ) → take at piece ++ drop at piece ≡ piece
+whole piece at = take-append-drop at piece
+
+-- what is kept behind a line feed, and where there is none
+pub unended-feed : (line bytes : List ℕ) → feed_at bytes < length bytes → unended line bytes ≡ []
+unended-feed line bytes l = let t : nat_lt (feed_at bytes) (length bytes) ≡ true = grind (arith, nat_tests) in rw t refl
+
+pub unended-none : (line bytes : List ℕ) → feed_at bytes ≡ length bytes → unended line bytes ≡ take KEPT (line ++ bytes)
+unended-none line bytes e =
+    let t : nat_lt (feed_at bytes) (length bytes) ≡ false = grind (arith, nat_tests) in
+    rw t (ap (λ n. take n (line ++ bytes)) (sym KEPT-is))

@@ -3,7 +3,7 @@ use Rattle.std.specs.Prelude.{◌≡◌, ◌<◌, ℕ, Bool, List, [], length, t
 use Rattle.std.specs.Io.KnownBytes.{Appends}
 use Rattle.ph_engine.specs.Machine.{Machine, is_refusal}
 use Rattle.ph_engine.specs.declared.status.Stop.{Stop}
-use Rattle.ph_engine.specs.declared.status.Stop.TheVariants.{WriteFault, Memory}
+use Rattle.ph_engine.specs.declared.status.Stop.TheVariants.{WriteFault, NoMemory}
 
 -- the line was answered
 pub record Said {S : Type 0} (m : Machine S) (s : S) (line : List ℕ) (written now_written : Option (List ℕ)) (now : S) (refused : Bool) : Type 0 where
@@ -26,4 +26,4 @@ pub record Unsaid {S : Type 0} (s : S) (written now_written : Option (List ℕ))
 abbrev pub SaidOr : {S : Type 0} → Machine S → S → List ℕ → Option (List ℕ) → Option (List ℕ) → S → Result Bool Stop → Type 0
 SaidOr m s line written now_written now (Ok refused) = Said m s line written now_written now refused
 SaidOr m s line written now_written now (Err WriteFault) = SaidFront m s line written now_written now
-SaidOr m s line written now_written now (Err Memory) = Unsaid s written now_written now
+SaidOr m s line written now_written now (Err NoMemory) = Unsaid s written now_written now

@@ -7,7 +7,7 @@ use Rattle.ph_engine.specs.Answering.{SaidFront, Unsaid}
 use Rattle.ph_engine.specs.Statuses.{read_status}
 use Rattle.ph_specs.specs.Lines.{lines}
 use Rattle.ph_engine.specs.declared.status.Stop.{Stop}
-use Rattle.ph_engine.specs.declared.status.Stop.TheVariants.{WriteFault, Memory}
+use Rattle.ph_engine.specs.declared.status.Stop.TheVariants.{WriteFault, NoMemory}
 use Rattle.ph_engine.specs.declared.status.Status.{Status}
 use Rattle.ph_engine.specs.declared.status.Status.TheVariants as by
 use Rattle.ph_engine.specs.declared.status.Status.TheVariants.{Clean, Refused, Usage, ReadFault, TooLong}
@@ -50,7 +50,7 @@ pub record Starved {S : Type 0} (m : Machine S) (s : S) (unended piece : List �
 abbrev pub FedOr : {S : Type 0} → Machine S → S → List ℕ → List ℕ → Option (List ℕ) → Option (List ℕ) → S → List ℕ → Result Bool Stop → Type 0
 FedOr m s unended piece written now_written now kept (Ok refused) = Fed m s unended piece written now_written now kept refused
 FedOr m s unended piece written now_written now kept (Err WriteFault) = Cut m s unended piece written now_written now
-FedOr m s unended piece written now_written now kept (Err Memory) = Starved m s unended piece written now_written now
+FedOr m s unended piece written now_written now kept (Err NoMemory) = Starved m s unended piece written now_written now
 
 -- the same for each unended line whose kept bytes these are
 abbrev pub Feeds : {S : Type 0} → Machine S → S → List ℕ → List ℕ → Option (List ℕ) → Option (List ℕ) → S → List ℕ → Result Bool Stop → Type 0

@@ -1,5 +1,5 @@
 -- A machine that answers lines, one after another.
-use Rattle.std.specs.Prelude.{◌≡◌, ℕ, Bool, false, ◌||◌, List, [], ◌∷◌, ◌++◌, take, nat_eq, codes, refl}
+use Rattle.std.specs.Prelude.{◌≡◌, ℕ, Bool, false, ◌||◌, List, [], ◌∷◌, ◌++◌, nat_eq, codes, refl}
 use Rattle.std.specs.List.{starts_with}
 
 -- the bytes of the answer to a line in a state, and the state behind it
@@ -32,8 +32,3 @@ KEPT = 4097
 pub KEPT-is : KEPT ≡ 4097
 unfolding KEPT
 KEPT-is = refl
-
--- what a line does hangs on its first bytes alone
-pub record HangsOnFront {S : Type 0} (m : Machine S) : Type 0 where
-  pub answer : (s : S) (line : List ℕ) → m.answer s (take KEPT line) ≡ m.answer s line
-  pub next : (s : S) (line : List ℕ) → m.next s (take KEPT line) ≡ m.next s line

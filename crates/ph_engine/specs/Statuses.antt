@@ -21,7 +21,7 @@ IsRun words = words ≡ codes "run" ∷ []
 
 abbrev pub stop_status : Stop → Status
 stop_status stop.WriteFault = WriteFault
-stop_status stop.Memory = Memory
+stop_status stop.NoMemory = Memory
 
 -- the count did not fall, and a write fault is answered only where it rose
 pub record StopHasCause {T : Type 0} (before now : ℕ) (result : Result T Stop) : Type 0 where

@@ -1,76 +1,130 @@
-//! The state of the program.
-ghost use Rattle.std.specs.Prelude.{◌≡◌, [], IfOk, OnOk, OnErr};
-ghost use Rattle.ph_specs.specs.Reply.{reply_text};
-ghost use Rattle.ph_engine.specs.Readings.{done_by, HasPoint};
-ghost use Rattle.ph_engine.specs.Replies.{reply_of};
+//! The state of the program, and what a command does to it.
+ghost use Rattle.std.specs.Prelude.{◌≡◌, ◌≤◌, IfOk, OnErr, length};
+ghost use Rattle.std.specs.Io.KnownBytes.{Appends};
+ghost use Rattle.ph_io.specs.Causes.{HasCause};
+ghost use Rattle.ph_specs.specs.declared.Kind.TheVariants.{Points};
+ghost use Rattle.ph_specs.specs.Command.Command.{Begin};
+ghost use Rattle.ph_specs.specs.State.{new_engine, current};
+ghost use Rattle.ph_script.specs.Meaning.{command_of, reply_of};
+ghost use Rattle.ph_script.specs.Fit.{HasDims};
+ghost use Rattle.ph_engine.specs.Doing.{Does, DoneOr};
+ghost use Rattle.ph_engine.specs.Saying.{Says};
+ghost use Rattle.ph_engine.specs.Statuses.{StopHasCause};
 
-use crate::script::{Reading, Reply};
-use ph_coord::{Row, Width};
-use ph_table::{Put, Table};
-use std::alloc::{AllocError, Global};
+use crate::output::{Said, say};
+use crate::status::{Answer, Stop};
+use crate::tables::AnyTable;
+use ph_coord::Width;
+use ph_io::Sink;
+use ph_script::{Command, Reply};
+use ph_steps::Steps;
+use ph_table::NoMemory;
+use std::alloc::Global;
 use std::marker::Model;
+use std::sync::ledger::Ledger;
 
-/// A table of points of two dimensions and 32 bits.
+/// A table of points of 32 bits, and how many rows it may have.
 #[derive(Drop)]
 pub struct Slot {
-    table: Table<2>,
+    max: u64,
+    table: AnyTable,
 }
 
-/// The state of the program: the rows of its one slot. It takes memory for the rows alone.
+/// The state of the program: one slot. It takes memory for the rows alone.
 #[derive(Drop)]
 pub struct Engine {
     a: Slot,
 }
 
 impl Model for Engine {
-    ghost use Rattle.std.specs.Prelude.{◌≡◌, List};
-    ghost use Rattle.ph_specs.specs.Table.{Row as TableRow};
+    ghost use Rattle.std.specs.Prelude.{◌≡◌};
+    ghost use Rattle.ph_specs.specs.State.{Engine as State};
+    ghost use Rattle.ph_engine.specs.Slots.{engine_of, any_slot, table_of};
 
-    ghost Value = { List TableRow };
+    ghost Value = { State };
 
-    ghost view = { λ e. e.a.table.rows };
+    ghost view = { λ e. engine_of (any_slot e.a.max e.a.table) };
 
-    ghost invariant = { λ e. e.a.table.width ≡ 32 };
+    ghost invariant = { λ e. (table_of e.a.table).width ≡ 32 };
 }
 
 impl Engine {
-    /// An engine with an empty table. It takes no memory.
+    /// An engine whose slot is an empty table of points of two dimensions, with any number of rows. It takes no memory.
     pub fn new(alloc: Global) -> Engine
-        ensures { result ≡ [] }
+        ensures { result ≡ new_engine }
     {
-        match Width::new(32) {
-            Some(w) => Engine {
+        match AnyTable::new(alloc, width(), 2) {
+            Some(table) => Engine {
                 a: Slot {
-                    table: Table::new(alloc, w),
+                    max: u64::MAX,
+                    table,
                 },
             },
             None => unreachable!(),
         }
     }
 
-    /// The rows, in Z-order.
-    pub fn rows(&self) -> &[Row<2>]
-        ensures { result.now ≡ self.now }
+    /// The number of dimensions of the points: 1 to 8.
+    pub fn dims(&self) -> u32
+        ensures value { result ≡ (current self.now).dims }
+        ensures some { 1 ≤ result }
+        ensures limit { result ≤ 8 }
     {
-        self.a.table.rows()
+        self.a.table.dims()
     }
 
-    // Does what a line says. Without memory all stays.
-    pub fn act(&mut self, reading: Reading) -> Result<Reply, AllocError>
-        requires { HasPoint reading }
-        ensures reply { IfOk result (λ reply. reply_of reply ≡ (done_by self.old reading).reply) }
-        ensures rows { OnOk result (self.new ≡ (done_by self.old reading).rows) }
+    /// Does a command, and gives its reply to the sink as one piece. Memory is taken for a new row alone.
+    ///
+    /// After a write fault the command is done, and a front of its reply is written. Without memory nothing is done or written.
+    pub fn exec<O: Sink, V: Ledger, C: Ledger>(
+        &mut self,
+        alloc: Global,
+        cmd: &Command,
+        out: &mut O,
+        _visits: &mut Steps<V>,
+        _changes: &mut Steps<C>,
+    ) -> Result<Answer, Stop>
+        requires { HasDims (current self.old).dims cmd.now }
+        ensures done { DoneOr self.old (command_of cmd.now) (O.written out.old) (O.written out.new) self.new result }
+        ensures cause { StopHasCause (O.faults out.old) (O.faults out.new) result }
+    {
+        match self.act(alloc, cmd) {
+            Ok(said) => say(out, &said),
+            Err(_) => Err(Stop::NoMemory),
+        }
+    }
+
+    fn act(&mut self, alloc: Global, cmd: &Command) -> Result<Said, NoMemory>
+        requires { HasDims (current self.old).dims cmd.now }
+        ensures ok { IfOk result (λ said. Says self.old (command_of cmd.now) self.new said) }
         ensures err { OnErr result (self.new ≡ self.old) }
     {
-        match reading {
-            Reading::Put(point, value) => match self.a.table.put(point, value)? {
-                Put::New => Ok(Reply::New),
-                Put::Old(old) => Ok(Reply::Old(old)),
-            },
-            Reading::Word => Ok(Reply::ErrorWord),
-            Reading::Count => Ok(Reply::ErrorCount),
-            Reading::Number => Ok(Reply::ErrorNumber),
-            Reading::Range => Ok(Reply::ErrorRange),
+        match cmd {
+            Command::Begin { k, max } => Ok(Said::new(&self.begin(alloc, *k, *max))),
+            _ => self.a.table.act(alloc, self.a.max, cmd),
         }
+    }
+
+    // Makes the slot a new one.
+    fn begin(&mut self, alloc: Global, k: u32, max: u64) -> Reply<1>
+        ensures { Does self.old (Begin Points k max) self.new (reply_of result) }
+    {
+        match AnyTable::new(alloc, width(), k) {
+            Some(table) => {
+                self.a = Slot { max, table };
+                Reply::Opened
+            }
+            None => Reply::ErrorDims,
+        }
+    }
+}
+
+// The width of all coordinates.
+fn width() -> Width
+    ensures { result ≡ 32 }
+{
+    match Width::new(32) {
+        Some(w) => w,
+        None => unreachable!(),
     }
 }

@@ -1,16 +1,17 @@
 //! The engine: a script in, replies out.
 #![tactic(auto)]
 
+mod commands;
 mod engine;
-mod line;
 mod output;
 mod program;
 mod run;
-mod script;
 mod status;
+mod tables;
 #[cfg(test)]
 mod tests;
 
 pub use engine::{Engine, Slot};
 pub use program::top;
-pub use status::{Limits, Status};
+pub use status::{Answer, Limits, Status, Stop};
+pub use tables::AnyTable;

@@ -3,7 +3,8 @@ ghost use Rattle.std.specs.Prelude.{◌≡◌, ◌≢◌, ◌<◌, ◌^◌, ◌�
 ghost use Rattle.std.specs.Io.KnownBytes.{Appends};
 ghost use Rattle.ph_io.specs.Causes.{Rose};
 ghost use Rattle.ph_specs.specs.Program.{usage_line};
-ghost use Rattle.ph_engine.specs.PutScript.{put_machine};
+ghost use Rattle.ph_engine.specs.BuiltMachine.{built_machine, alone};
+ghost use Rattle.ph_engine.specs.ByDefinition.{RunsAsDefined};
 ghost use Rattle.ph_engine.specs.Outcomes.{Answered, Interrupted, Exceeded, CutShort, OutOfMemory};
 ghost use Rattle.ph_engine.specs.Statuses.{IsRead, IsRun, HasAtMost, UsageCut};
 
@@ -22,7 +23,7 @@ const USAGE: &str = "usage: phq run | phq check FILE | phq soak N START\n";
 ///
 /// With the one word `run` it reads a script from the source and gives the reply to each line to the sink, as a
 /// piece of its own. Any other words get the usage line. A run takes two buffers of about 4,096 bytes before its first
-/// read, and memory for new rows; it takes none for a line or a reply. The counters do not rise.
+/// read, and memory for new rows; it takes none for a line or a reply. The counters do not rise yet.
 pub fn top<S: Source, O: Sink, V: Ledger, C: Ledger>(
     alloc: Global,
     words: &[String],
@@ -30,17 +31,20 @@ pub fn top<S: Source, O: Sink, V: Ledger, C: Ledger>(
     out: &mut O,
     eng: &mut Engine,
     limits: &Limits,
-    _visits: &mut Steps<V>,
-    _changes: &mut Steps<C>,
+    visits: &mut Steps<V>,
+    changes: &mut Steps<C>,
 ) -> Status
     requires { limits.now.script_bytes < 2 ^ 63 }
 
+    // a script that is read to its end, by the definition
+    ensures defined { IsRead result → RunsAsDefined (S.left src.old) (S.left src.new) (O.written out.old) (O.written out.new) eng.old eng.new }
+
     // how a run ends
-    ensures read { IsRead result → Answered put_machine limits.now.script_bytes (S.left src.old) (S.left src.new) (O.written out.old) (O.written out.new) eng.old eng.new result }
-    ensures read_fault { result ≡ Status.ReadFault → Interrupted put_machine limits.now.script_bytes (S.left src.old) (S.left src.new) (O.written out.old) (O.written out.new) eng.old eng.new }
-    ensures too_long { result ≡ Status.TooLong → Exceeded put_machine limits.now.script_bytes (S.left src.old) (S.left src.new) (O.written out.old) (O.written out.new) eng.old eng.new }
-    ensures write_fault { IsRun (map string_bytes words.now) → result ≡ Status.WriteFault → CutShort put_machine limits.now.script_bytes (S.left src.old) (S.left src.new) (O.written out.old) (O.written out.new) eng.old eng.new }
-    ensures memory { result ≡ Status.Memory → OutOfMemory put_machine limits.now.script_bytes (S.left src.old) (S.left src.new) (O.written out.old) (O.written out.new) eng.old eng.new }
+    ensures read { IsRead result → Answered built_machine limits.now.script_bytes (S.left src.old) (S.left src.new) (O.written out.old) (O.written out.new) (alone eng.old) (alone eng.new) result }
+    ensures read_fault { result ≡ Status.ReadFault → Interrupted built_machine limits.now.script_bytes (S.left src.old) (S.left src.new) (O.written out.old) (O.written out.new) (alone eng.old) (alone eng.new) }
+    ensures too_long { result ≡ Status.TooLong → Exceeded built_machine limits.now.script_bytes (S.left src.old) (S.left src.new) (O.written out.old) (O.written out.new) (alone eng.old) (alone eng.new) }
+    ensures write_fault { IsRun (map string_bytes words.now) → result ≡ Status.WriteFault → CutShort built_machine limits.now.script_bytes (S.left src.old) (S.left src.new) (O.written out.old) (O.written out.new) (alone eng.old) (alone eng.new) }
+    ensures memory { result ≡ Status.Memory → OutOfMemory built_machine limits.now.script_bytes (S.left src.old) (S.left src.new) (O.written out.old) (O.written out.new) (alone eng.old) (alone eng.new) }
 
     // causes
     ensures read_cause { result ≡ Status.ReadFault → Rose (S.faults src.old) (S.faults src.new) }
@@ -55,7 +59,7 @@ pub fn top<S: Source, O: Sink, V: Ledger, C: Ledger>(
     ensures untouched { ¬ IsRun (map string_bytes words.now) → (eng.new ≡ eng.old) × (src.new ≡ src.old) }
 {
     if is_run(words) {
-        return run(alloc, src, out, eng, limits.script_bytes);
+        return run(alloc, src, out, eng, limits.script_bytes, visits, changes);
     }
     match write_piece(out, USAGE.as_bytes()) {
         Ok(()) => Status::Usage,

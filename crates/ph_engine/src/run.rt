@@ -1,59 +1,79 @@
 //! A run over a source: its bytes are cut into lines, and each line is answered.
-ghost use Rattle.std.specs.Prelude.{◌≡◌, ◌≢◌, ◌≤◌, ◌<◌, ◌+◌, ◌^◌, [], ◌∷◌, ◌++◌, ◌||◌, IfOk, OnOk, OnErr, MatchResult, length, List, ℕ, true};
-ghost use Rattle.std.specs.Io.KnownBytes.{ReadConsumes, IsAtEnd};
+ghost use Rattle.std.specs.Prelude.{◌≡◌, ◌≤◌, ◌<◌, ◌+◌, ◌^◌, [], ◌||◌, ℕ, List, IfOk, IfErr, length};
+ghost use Rattle.std.specs.Io.KnownBytes.{Appends, ReadConsumes, IsAtEnd};
 ghost use Rattle.ph_io.specs.Causes.{HasCause, Rose};
-ghost use Rattle.ph_specs.specs.Lines.{LF};
-ghost use Rattle.ph_engine.specs.Cutting.{is_unbroken};
-ghost use Rattle.ph_engine.specs.Feeding.{Feeds, Ends};
-ghost use Rattle.ph_engine.specs.PutScript.{put_machine};
-ghost use Rattle.ph_engine.specs.Outcomes.{Outcome};
+ghost use Rattle.ph_specs.specs.Reply.{reply_text as text_of};
+ghost use Rattle.ph_script.specs.Meaning.{reply_of, bad_reply as reply_to};
+ghost use Rattle.ph_script.specs.Shown.{IsLine};
+ghost use Rattle.ph_engine.specs.Machine.{is_refusal};
+ghost use Rattle.ph_engine.specs.Writing.{WritesFront};
 ghost use Rattle.ph_engine.specs.Answering.{SaidOr};
+ghost use Rattle.ph_engine.specs.BuiltMachine.{built_machine, alone};
+ghost use Rattle.ph_engine.specs.Doing.{refuses};
+ghost use Rattle.ph_engine.specs.Feeding.{Feeds, Ends};
+ghost use Rattle.ph_engine.specs.Outcomes.{Outcome};
+ghost use Rattle.ph_engine.specs.Showing.{IsShort};
 ghost use Rattle.ph_engine.specs.Statuses.{StopHasCause, HasCauses, stop_status, read_status as status_of};
 
 use crate::engine::Engine;
-use crate::line::LineBuffer;
-use crate::output::{refuses, text, write_piece};
-use crate::script::read_line;
-use crate::status::{Status, Stop};
-use memchr::memchr;
+use crate::output::{Said, say};
+use crate::status::{Answer, Status, Stop};
 use ph_io::{Failed, Sink, Source};
+use ph_script::{Bad, Line, Lines, Reply, read_command};
+use ph_steps::Steps;
 use std::alloc::Global;
+use std::sync::ledger::Ledger;
 
 const PIECE_BYTES: usize = 4096;
 
 // Runs a script of at most `most` bytes. Both buffers are taken before the first read.
-pub fn run<S: Source, O: Sink>(
+pub fn run<S: Source, O: Sink, V: Ledger, C: Ledger>(
     alloc: Global,
     src: &mut S,
     out: &mut O,
     eng: &mut Engine,
     most: u64,
+    visits: &mut Steps<V>,
+    changes: &mut Steps<C>,
 ) -> Status
     requires { most < 2 ^ 63 }
-    ensures outcome { Outcome put_machine most (S.left src.old) (S.left src.new) (O.written out.old) (O.written out.new) eng.old eng.new result }
+    ensures outcome { Outcome built_machine most (S.left src.old) (S.left src.new) (O.written out.old) (O.written out.new) (alone eng.old) (alone eng.new) result }
     ensures causes { HasCauses (S.faults src.old) (S.faults src.new) (O.faults out.old) (O.faults out.new) result }
 {
-    let Ok(mut line) = LineBuffer::new(alloc) else {
+    let Ok(mut lines) = Lines::new(alloc) else {
         return Status::Memory;
     };
     let Ok(mut piece) = vec![in alloc; 0u8; PIECE_BYTES] else {
         return Status::Memory;
     };
-    run_pieces(src, out, eng, most, &mut line, piece.as_mut_slice())
+    run_pieces(
+        alloc,
+        src,
+        out,
+        eng,
+        most,
+        &mut lines,
+        piece.as_mut_slice(),
+        visits,
+        changes,
+    )
 }
 
-fn run_pieces<S: Source, O: Sink>(
+fn run_pieces<S: Source, O: Sink, V: Ledger, C: Ledger>(
+    alloc: Global,
     src: &mut S,
     out: &mut O,
     eng: &mut Engine,
     most: u64,
-    line: &mut LineBuffer,
+    lines: &mut Lines,
     piece: &mut [u8],
+    visits: &mut Steps<V>,
+    changes: &mut Steps<C>,
 ) -> Status
     requires most { most < 2 ^ 63 }
-    requires line { line.old ≡ [] }
+    requires lines { lines.old ≡ [] }
     requires room { 0 < length piece.old }
-    ensures outcome { Outcome put_machine most (S.left src.old) (S.left src.new) (O.written out.old) (O.written out.new) eng.old eng.new result }
+    ensures outcome { Outcome built_machine most (S.left src.old) (S.left src.new) (O.written out.old) (O.written out.new) (alone eng.old) (alone eng.new) result }
     ensures causes { HasCauses (S.faults src.old) (S.faults src.new) (O.faults out.old) (O.faults out.new) result }
 {
     let mut taken = 0u64;
@@ -63,10 +83,10 @@ fn run_pieces<S: Source, O: Sink>(
             return Status::ReadFault;
         };
         if count == 0 {
-            return finish(eng, out, line, refused);
+            return finish(alloc, out, eng, lines, refused, visits, changes);
         }
         let fresh = (most - taken).min(count as u64) as usize;
-        match feed(eng, out, line, &piece[..fresh]) {
+        match feed(alloc, out, eng, lines, &piece[..fresh], visits, changes) {
             Ok(some) => refused = either(refused, some),
             Err(stop) => return stopped(stop),
         }
@@ -94,76 +114,107 @@ fn fill<S: Source>(src: &mut S, piece: &mut [u8], most: u64) -> Result<usize, Fa
     src.read(&mut piece[..room])
 }
 
-// Answers the lines that a piece ends, and keeps what is behind them.
-fn feed<O: Sink>(
-    eng: &mut Engine,
+// Answers the lines that a piece ends, and tells whether one was refused.
+fn feed<O: Sink, V: Ledger, C: Ledger>(
+    alloc: Global,
     out: &mut O,
-    line: &mut LineBuffer,
+    eng: &mut Engine,
+    lines: &mut Lines,
     piece: &[u8],
+    visits: &mut Steps<V>,
+    changes: &mut Steps<C>,
 ) -> Result<bool, Stop>
-    ensures fed { Feeds put_machine eng.old line.old piece.now (O.written out.old) (O.written out.new) eng.new line.new result }
+    ensures fed { Feeds built_machine (alone eng.old) lines.old piece.now (O.written out.old) (O.written out.new) (alone eng.new) lines.new result }
     ensures cause { StopHasCause (O.faults out.old) (O.faults out.new) result }
 {
     let mut refused = false;
     let mut at = 0;
-    while let Some(count) = memchr(b'\n', &piece[at..]) {
-        match feed_line(eng, out, line, &piece[at..at + count]) {
+    'lines: while let Some(line) = lines.next_line(piece, &mut at) {
+        match answer(alloc, out, eng, line, visits, changes) {
             Ok(some) => refused = either(refused, some),
             Err(stop) => return Err(stop),
         }
-        at += count + 1;
     }
-    line.push(&piece[at..]);
     Ok(refused)
 }
 
-// Answers the line that a part without line feeds and then a line feed end.
-fn feed_line<O: Sink>(
-    eng: &mut Engine,
-    out: &mut O,
-    line: &mut LineBuffer,
-    part: &[u8],
-) -> Result<bool, Stop>
-    requires { is_unbroken part.now ≡ true }
-    ensures fed { Feeds put_machine eng.old line.old (part.now ++ LF ∷ []) (O.written out.old) (O.written out.new) eng.new line.new result }
-    ensures cause { StopHasCause (O.faults out.old) (O.faults out.new) result }
-{
-    line.push(part);
-    match answer(eng, out, line.as_slice()) {
-        Ok(refused) => {
-            line.clear();
-            Ok(refused)
-        }
-        Err(stop) => Err(stop),
-    }
-}
-
 // Answers the line that the end of the script ends, if there is one.
-fn finish<O: Sink>(eng: &mut Engine, out: &mut O, line: &LineBuffer, refused: bool) -> Status
-    ensures ends { Ends put_machine eng.old line.now refused (O.written out.old) (O.written out.new) eng.new result }
+fn finish<O: Sink, V: Ledger, C: Ledger>(
+    alloc: Global,
+    out: &mut O,
+    eng: &mut Engine,
+    lines: &mut Lines,
+    refused: bool,
+    visits: &mut Steps<V>,
+    changes: &mut Steps<C>,
+) -> Status
+    ensures ends { Ends built_machine (alone eng.old) lines.old refused (O.written out.old) (O.written out.new) (alone eng.new) result }
     ensures cause { result ≡ Status.WriteFault → Rose (O.faults out.old) (O.faults out.new) }
 {
-    if line.is_empty() {
+    let Some(line) = lines.last() else {
         return read_status(refused);
-    }
-    match answer(eng, out, line.as_slice()) {
+    };
+    match answer(alloc, out, eng, line, visits, changes) {
         Ok(last) => read_status(either(refused, last)),
         Err(stop) => stopped(stop),
     }
 }
 
 // Answers a line, and tells whether it was refused.
-fn answer<O: Sink>(eng: &mut Engine, out: &mut O, line: &[u8]) -> Result<bool, Stop>
-    ensures answered { SaidOr put_machine eng.old line.now (O.written out.old) (O.written out.new) eng.new result }
+fn answer<O: Sink, V: Ledger, C: Ledger>(
+    alloc: Global,
+    out: &mut O,
+    eng: &mut Engine,
+    line: Line<'_>,
+    visits: &mut Steps<V>,
+    changes: &mut Steps<C>,
+) -> Result<bool, Stop>
+    requires { IsShort line }
+    ensures answered { (bytes : List ℕ) → IsLine bytes line.entry → SaidOr built_machine (alone eng.old) bytes (O.written out.old) (O.written out.new) (alone eng.new) result }
     ensures cause { StopHasCause (O.faults out.old) (O.faults out.new) result }
 {
-    let reading = read_line(line);
-    let Ok(reply) = eng.act(reading) else {
-        return Err(Stop::Memory);
+    let Line::Text(text) = line else {
+        return refuse(out, &Reply::ErrorLong);
     };
-    match write_piece(out, text(reply).as_str().as_bytes()) {
-        Ok(()) => Ok(refuses(reply)),
-        Err(Failed) => Err(Stop::WriteFault),
+    match read_command(text, eng.dims()) {
+        Ok(None) => Ok(false),
+        Ok(Some(command)) => match eng.exec(alloc, &command, out, visits, changes) {
+            Ok(answer) => Ok(is_refused(answer)),
+            Err(stop) => Err(stop),
+        },
+        Err(bad) => refuse(out, &bad_reply(bad)),
+    }
+}
+
+fn bad_reply(bad: Bad) -> Reply<1>
+    ensures { reply_of result ≡ reply_to bad }
+{
+    match bad {
+        Bad::Word => Reply::ErrorWord,
+        Bad::Count => Reply::ErrorCount,
+        Bad::Number => Reply::ErrorNumber,
+        Bad::Name => Reply::ErrorName,
+    }
+}
+
+// Refuses a line.
+fn refuse<O: Sink>(out: &mut O, reply: &Reply<1>) -> Result<bool, Stop>
+    ensures told { IfOk result (λ refused. Appends (O.written out.old) (O.written out.new) (text_of (reply_of reply.now)) × (refused ≡ is_refusal (text_of (reply_of reply.now)))) }
+    ensures front { IfErr result (λ stop. (stop ≡ Stop.WriteFault) × WritesFront (O.written out.old) (O.written out.new) (text_of (reply_of reply.now))) }
+    ensures cause { StopHasCause (O.faults out.old) (O.faults out.new) result }
+{
+    match say(out, &Said::new(reply)) {
+        Ok(answer) => Ok(is_refused(answer)),
+        Err(stop) => Err(stop),
+    }
+}
+
+fn is_refused(answer: Answer) -> bool
+    ensures { result ≡ refuses answer }
+{
+    match answer {
+        Answer::Good => false,
+        Answer::Refused => true,
     }
 }
 
@@ -188,6 +239,6 @@ fn stopped(stop: Stop) -> Status
 {
     match stop {
         Stop::WriteFault => Status::WriteFault,
-        Stop::Memory => Status::Memory,
+        Stop::NoMemory => Status::Memory,
     }
 }

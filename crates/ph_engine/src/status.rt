@@ -1,4 +1,4 @@
-//! How a call of the program ends.
+//! How commands, and a call of the program, end.
 
 /// How a call of `top` ends. The number of a status is that with which the program ends.
 #[derive(Clone, Copy, Debug, PartialEq, Eq)]
@@ -26,9 +26,19 @@ pub struct Limits {
     pub script_bytes: u64,
 }
 
-/// Why a line ends the run.
+/// How a command is answered.
+#[derive(Clone, Copy, Debug, PartialEq, Eq)]
+pub enum Answer {
+    Good,
+    /// The reply begins with `error` or `bad`.
+    Refused,
+}
+
+/// Why a command has no whole answer.
 #[derive(Clone, Copy, Debug, PartialEq, Eq)]
 pub enum Stop {
+    /// A write failed: a front of the reply was written, and the command is done.
     WriteFault,
-    Memory,
+    /// Memory was missing: nothing was written or done.
+    NoMemory,
 }

@@ -91,31 +91,78 @@ fn empty_script(rt: HostRuntime) -> Result<(), Fail> {
 }
 
 #[test]
+fn put_then_get(rt: HostRuntime) -> Result<(), Fail> {
+    let script = "put 3 4 17\nget 3 4\nget 4 3\n";
+    let case = run(script, "new\nvalue 17\nnone\n", Status::Clean);
+    check(&rt, rt.alloc(), &case)?;
+    Ok(())
+}
+
+#[test]
 fn put_replaces(rt: HostRuntime) -> Result<(), Fail> {
-    let script = "put 3 4 17\nput 3 4 18\n";
-    let mut case = run(script, "new\nold 17\n", Status::Clean);
+    let script = "put 3 4 17\nput 3 4 18\nget 3 4\n";
+    let case = run(script, "new\nold 17\nvalue 18\n", Status::Clean);
     check(&rt, rt.alloc(), &case)?;
+    Ok(())
+}
+
+#[test]
+fn blank_lines_and_carriage_returns(rt: HostRuntime) -> Result<(), Fail> {
+    let script = "# start\r\n\r\n\tput  3 4\t17 \r\nget 3 4";
+    let mut case = run(script, "new\nvalue 17\n", Status::Clean);
     case.piece = 1;
-    check(&rt, rt.alloc(), &case)?;
-    case.script = "put 3 4 17\nput 3 4 18";
     check(&rt, rt.alloc(), &case)?;
     Ok(())
 }
 
 #[test]
 fn extreme_coordinates(rt: HostRuntime) -> Result<(), Fail> {
-    let script = "put -2147483648 2147483647 18446744073709551615\n";
-    check(&rt, rt.alloc(), &run(script, "new\n", Status::Clean))?;
+    let script = "put -2147483648 2147483647 18446744073709551615\n\
+        get -2147483648 +2147483647\n";
+    let output = "new\nvalue 18446744073709551615\n";
+    check(&rt, rt.alloc(), &run(script, output, Status::Clean))?;
+    Ok(())
+}
+
+// Each line has several faults, and the first in the order of the refusals is told.
+#[test]
+fn refused_words(rt: HostRuntime) -> Result<(), Fail> {
+    let script = "fly 1 x\nput 1 2\nput 1 x 2\nput 1 2 -1\nopen boxes x\nopen boxes 9\n\
+        open points 9 max 1\nopen points 0\nput 1 2147483648 2\nmove 1 1 2 2\nget 1\n\
+        open points 3 max 0\nput 1 1 9999999999 1\nput 1 1 1 1\nget 1 1\n";
+    let output = "error word\nerror count\nerror number\nerror number\nerror number\n\
+        error name\nerror dims\nerror dims\nerror range\nerror word\nerror count\n\
+        opened\nerror range\nerror full\nerror count\n";
+    check(&rt, rt.alloc(), &run(script, output, Status::Refused))?;
     Ok(())
 }
 
 #[test]
-fn refused_words(rt: HostRuntime) -> Result<(), Fail> {
-    let script =
-        "fly\nput 1 2\nput 1 x 2\nput 1 2 -1\nput 1 2147483648 2\n\nput  1 2 3\nput 1 2 3 \n";
-    let output = "error word\nerror count\nerror number\nerror number\nerror range\nerror word\n\
-        error count\nerror count\n";
+fn full_table(rt: HostRuntime) -> Result<(), Fail> {
+    let script = "open points 2 max 1\nput 0 0 1\nput 1 1 1\nput 0 0 2\ncount\n\
+        del 1 1\ndel 0 0\nput 1 1 1\nclear\nput 5 5 1\nput 6 6 1\n";
+    let output = "opened\nnew\nerror full\nold 1\ncount 1\nnone\ngone 2\nnew\ncleared\n\
+        new\nerror full\n";
     check(&rt, rt.alloc(), &run(script, output, Status::Refused))?;
+    Ok(())
+}
+
+#[test]
+fn each_number_of_dimensions(rt: HostRuntime) -> Result<(), Fail> {
+    let cases = [
+        ("open points 1\nput 1 7\nget 1\n", "opened\nnew\nvalue 7\n"),
+        (
+            "open points 3\nput 1 2 3 7\ndel 1 2 3\n",
+            "opened\nnew\ngone 7\n",
+        ),
+        (
+            "open points 8\nput 1 2 3 4 5 6 7 8 9\ncount\n",
+            "opened\nnew\ncount 1\n",
+        ),
+    ];
+    for (script, output) in cases {
+        check(&rt, rt.alloc(), &run(script, output, Status::Clean))?;
+    }
     Ok(())
 }
 
@@ -135,20 +182,45 @@ fn usage_line(rt: HostRuntime) -> Result<(), Fail> {
 }
 
 #[test]
-fn early_ends(rt: HostRuntime) -> Result<(), Fail> {
-    let script = "put 1 1 1\nput 1 1 2\n";
-    let mut too_long = run(script, "new\n", Status::TooLong);
-    too_long.script_bytes = 19;
-    check(&rt, rt.alloc(), &too_long)?;
-    let mut just_fits = run(script, "new\nold 1\n", Status::Clean);
-    just_fits.script_bytes = 20;
-    check(&rt, rt.alloc(), &just_fits)?;
-    let mut read_fault = run(script, "new\n", Status::ReadFault);
-    read_fault.piece = 12;
+fn script_too_long(rt: HostRuntime) -> Result<(), Fail> {
+    let mut case = run("count\ncount\n", "count 0\n", Status::TooLong);
+    case.script_bytes = 8;
+    check(&rt, rt.alloc(), &case)?;
+    case.script_bytes = 12;
+    case.output = "count 0\ncount 0\n";
+    case.status = Status::Clean;
+    check(&rt, rt.alloc(), &case)?;
+    Ok(())
+}
+
+#[test]
+fn read_and_write_faults(rt: HostRuntime) -> Result<(), Fail> {
+    let mut read_fault = run("count\ncount\n", "count 0\n", Status::ReadFault);
+    read_fault.piece = 6;
     read_fault.failing_read = 2;
     check(&rt, rt.alloc(), &read_fault)?;
-    let mut write_fault = run(script, "new\n", Status::WriteFault);
-    write_fault.failing_write = 2;
+    let script = "put 3 4 17\nput 3 4 18\nget 3 4\n";
+    let mut write_fault = run(script, "new\nold 17\n", Status::WriteFault);
+    write_fault.failing_write = 3;
     check(&rt, rt.alloc(), &write_fault)?;
+    Ok(())
+}
+
+#[test]
+fn longest_line(rt: HostRuntime) -> Result<(), Fail> {
+    let mut line = String::new(rt.alloc());
+    for _ in 0..4096 {
+        line.push('#')?;
+    }
+    let mut case = run("", "", Status::Clean);
+    case.script_bytes = 5000;
+    case.script = line.as_str();
+    check(&rt, rt.alloc(), &case)?;
+    let mut longer = line.clone()?;
+    longer.push('#')?;
+    case.script = longer.as_str();
+    case.output = "error long\n";
+    case.status = Status::Refused;
+    check(&rt, rt.alloc(), &case)?;
     Ok(())
 }

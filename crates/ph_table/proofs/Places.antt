@@ -1,11 +1,11 @@
 -- What the rows before and behind a point tell of its look-up and of a put there.
-use Rattle.std.proofs.Common.{◌≡◌, ℕ, zero, suc, ◌<◌, ◌≤◌, true, false, inl, inr, List, [], ◌∷◌, length, get_or, refl, ap, sym, ◌∙◌, arith}
+use Rattle.std.proofs.Common.{◌≡◌, ℕ, zero, suc, ◌<◌, ◌≤◌, Bool, true, false, inl, inr, List, [], ◌∷◌, length, get_or, refl, ap, sym, ◌∙◌, arith, cond}
 use Rattle.std.specs.Prelude.{ℤ, None, Some, Ok, Err, slice_get, option_map}
 use Rattle.std.specs.List.{list_all}
 use Rattle.std.proofs.lemmas.Bool.{and_parts}
 use Rattle.ph_specs.specs.Coordinate.{same_point, is_point}
 use Rattle.ph_specs.specs.ZOrder.{before}
-use Rattle.ph_specs.specs.Table.{Row, find, is_rising}
+use Rattle.ph_specs.specs.Table.{Row, find, del, is_rising}
 use Rattle.ph_specs.proofs.laws.Order.{same_from_order}
 use Rattle.ph_specs.proofs.laws.Put.{either, test_from_same}
 use Rattle.ph_specs.proofs.lemmas.PutRows.{before-differs, before-not}
@@ -24,18 +24,27 @@ tail w r rows p i h = record {
 -- a row stands at the point
 pub place-there : (w : ℕ) (rows : List Row) (p : List ℤ) (i : ℕ) (r : Row) → IsCut w rows p i → i < length rows → r ≡ get_or rows i r → same_point r.point p ≡ true → IsPlace w rows p (Ok i)
 place-there w [] p i r h l e s = absurd (omega arith)
-place-there w (q ∷ rows) p zero r h l e s = let t : same_point q.point p ≡ true = rw (← e) s in (omega arith, rw t refl, λ v. rw t refl)
+place-there w (q ∷ rows) p zero r h l e s = let t : same_point q.point p ≡ true = rw (← e) s in (omega arith, rw t refl, λ v. rw t refl, rw t refl)
 place-there w (q ∷ rows) p (suc i) r h l e s =
     let b : before w q.point p ≡ true = h.earlier 0 q (omega arith) in
     let n : same_point q.point p ≡ false = not_same q.point p (before-differs w q.point p b) in
     let m : before w p q.point ≡ false = before-not w q.point p b in
     let rest : IsPlace w rows p (Ok i) = place-there w rows p i r (tail w q rows p i h) (omega arith) e s in
-    (omega arith, rw n rest.1, λ v. rw (n, m) (ap (λ t. q ∷ t) (rest.2 v)))
+    (omega arith, rw n rest.1, λ v. rw (n, m) (ap (λ t. q ∷ t) (rest.2 v)), rw n (ap (λ t. q ∷ t) rest.3))
 
 -- nothing is found where no row is at the point
 find-none : (rows : List Row) (p : List ℤ) → ((k : ℕ) (d : Row) → k < length rows → same_point (get_or rows k d).point p ≡ false) → find rows p ≡ None
 find-none [] p h = refl
 find-none (r ∷ rows) p h = rw (h 0 r (omega arith)) (find-none rows p (λ k d l. h (suc k) d (omega arith)))
+
+-- nothing goes where nothing is found
+del-none : (rows : List Row) (p : List ℤ) → find rows p ≡ None → del rows p ≡ rows
+del-none [] p h = refl
+del-none (r ∷ rows) p h = from (same_point r.point p) refl h (del-none rows p)
+  where
+    from : (t : Bool) → same_point r.point p ≡ t → cond t (Some r.value) (find rows p) ≡ None → (find rows p ≡ None → del rows p ≡ rows) → del (r ∷ rows) p ≡ r ∷ rows
+    from true e k rest = cc
+    from false e k rest = rw e (ap (λ t. r ∷ t) (rest k))
 
 -- no row is at the point, and none comes before it
 front : (w : ℕ) (rows : List Row) (p : List ℤ) → IsCut w rows p 0 → is_rising w rows ≡ true → (0 < length rows → (d : Row) → same_point (get_or rows 0 d).point p ≡ false) → find rows p ≡ None
@@ -52,7 +61,7 @@ front w (r ∷ rows) p h i s =
 
 -- a new row goes in there
 pub place-new : (w dims : ℕ) (rows : List Row) (p : List ℤ) (i : ℕ) → 1 ≤ w → is_point w dims p ≡ true → list_all (λ r. is_point w dims r.point) rows ≡ true → is_rising w rows ≡ true → IsCut w rows p i → (i < length rows → (d : Row) → same_point (get_or rows i d).point p ≡ false) → IsPlace w rows p (Err i)
-place-new w dims [] p i o q a u h s = let e : i ≡ 0 = omega (arith, h.within) in (omega (arith, h.within), refl, λ v. rw e refl)
+place-new w dims [] p i o q a u h s = let e : i ≡ 0 = omega (arith, h.within) in (omega (arith, h.within), refl, λ v. rw e refl, refl)
 place-new w dims (r ∷ rows) p zero o q a u h s =
     let n : same_point r.point p ≡ false = s (omega arith) r in
     let later : before w r.point p ≡ false = h.later 0 r (omega arith) (omega arith) in
@@ -62,13 +71,13 @@ place-new w dims (r ∷ rows) p zero o q a u h s =
       | inr neither ↦
           let clash : true ≡ false = sym (test_from_same r.point p (same_from_order w dims r.point p o (and_parts _ _ a).0 q later neither)) ∙ n in cc
     ] in
-    (omega arith, front w (r ∷ rows) p h u s, λ v. rw (n, first) refl)
+    (omega arith, front w (r ∷ rows) p h u s, λ v. rw (n, first) refl, del-none (r ∷ rows) p (front w (r ∷ rows) p h u s))
 place-new w dims (r ∷ rows) p (suc i) o q a u h s =
     let b : before w r.point p ≡ true = h.earlier 0 r (omega arith) in
     let n : same_point r.point p ≡ false = not_same r.point p (before-differs w r.point p b) in
     let m : before w p r.point ≡ false = before-not w r.point p b in
     let rest : IsPlace w rows p (Err i) = place-new w dims rows p i o q (and_parts _ _ a).1 (and_parts _ _ u).1 (tail w r rows p i h) (λ l d. s (omega arith) d) in
-    (omega arith, rw n rest.1, λ v. rw (n, m) (ap (λ t. r ∷ t) (rest.2 v)))
+    (omega arith, rw n rest.1, λ v. rw (n, m) (ap (λ t. r ∷ t) (rest.2 v)), rw n (ap (λ t. r ∷ t) rest.3))
 
 -- a row that is at another point, by any default
 pub other-at : (rows : List Row) (p : List ℤ) (i : ℕ) (r d : Row) → i < length rows → r ≡ get_or rows i r → same_point r.point p ≡ false → same_point (get_or rows i d).point p ≡ false

@@ -1,7 +1,7 @@
 //! The plain index.
 ghost use Rattle.std.specs.Prelude.{◌≡◌, ◌<◌, ◌≤◌, [], IfOk, OnOk, OnErr, IsSome, IsOk};
 ghost use Rattle.ph_specs.specs.Coordinate.{IsPoint};
-ghost use Rattle.ph_specs.specs.Table.{IsTable, find, put};
+ghost use Rattle.ph_specs.specs.Table.{IsTable, find, put, del};
 ghost use Rattle.ph_table.specs.Rows.{wide, put_answer};
 
 use crate::place::place_of;
@@ -53,6 +53,41 @@ impl<const D: usize> Table<D> {
         ensures table { IsTable self.now.width D result.now }
     {
         &self.rows
+    }
+
+    /// The width of the points.
+    pub fn width(&self) -> Width
+        ensures { result ≡ self.now.width }
+    {
+        self.width
+    }
+
+    /// The value at a point, found in as many comparisons as the number of rows has binary digits.
+    pub fn get(&self, p: &Point<D>) -> Option<u64>
+        requires dims { D ≤ 16 }
+        requires point { IsPoint self.now.width D p.now }
+        ensures { result ≡ find self.now.rows p.now }
+    {
+        match place_of(self.width, &self.rows, p) {
+            Ok(i) => Some(self.rows[i].value),
+            Err(_) => None,
+        }
+    }
+
+    /// Takes the row at a point away, and gives its value. It takes no memory, and moves the rows behind.
+    pub fn del(&mut self, p: &Point<D>) -> Option<u64>
+        requires dims { D ≤ 16 }
+        requires point { IsPoint self.old.width D p.now }
+        ensures rows { self.new ≡ wide self.old.width (del self.old.rows p.now) }
+        ensures value { result ≡ find self.old.rows p.now }
+    {
+        match place_of(self.width, &self.rows, p) {
+            Ok(i) => {
+                let row = self.rows.remove(i);
+                Some(row.value)
+            }
+            Err(_) => None,
+        }
     }
 
     /// Puts a value at a point, in place of the one that stands there.

@@ -1,40 +1,44 @@
-use Rattle.std.proofs.Common.{◌≡◌, ◌+◌, ◌-◌, ◌∷◌, [], ◌++◌, length, take, drop, ap, ◌∙◌, arith}
-use Rattle.std.proofs.lemmas.List.{take-append-drop}
+use Rattle.std.proofs.Common.{◌≡◌, ◌∷◌, [], ◌++◌, take, drop, ◌∙◌, ap, arith}
 use Rattle.ph_specs.specs.Lines.{LF}
-use Rattle.ph_engine.specs.PutScript.{put_machine}
-use Rattle.ph_engine.proofs.Feeds.{then-fed, then-stopped, then-part}
-use Rattle.ph_engine.proofs.Scans.{found, none-found, whole}
+use Rattle.ph_script.specs.Shown.{before_feed}
+use Rattle.ph_engine.specs.BuiltMachine.{built_machine, alone}
+use Rattle.ph_engine.proofs.Feeds.{line-said, line-stopped, then-fed, then-stopped, then-part}
+use Rattle.ph_engine.proofs.Scans.{feed-unbroken, none-unbroken, feed-next, feed-within, whole, unended-feed, unended-none}
+use Rattle.ph_engine.proofs.Answered.{shown-behind}
 use Rattle.ph_engine.proofs.run.feed.Goals as goal
 
-pub feed_line-requires : goal.feed_line-requires
-feed_line-requires g c =
-    let f = found c.args.piece.now c.loop-count.at c.in-Some.count c.in-Some.ensures in
-    let n : c.loop-count.at + c.in-Some.count - c.loop-count.at ≡ c.in-Some.count = omega arith in
-    rw n f.unbroken
+pub lines-preserved : goal.lines-preserved
+lines-preserved g c =
+    let given = c.in-Some.ensures.given in
+    let place = c.in-Some.ensures.place in
+    let empty : c.next_line.follows.lender-at-none ≡ [] = c.next_line.follows.holds-at-none ∙ unended-feed c.lines.lines (drop c.lines.at c.args.piece.now) given.0 in
+    record {
+      within = feed-within c.args.piece.now c.lines.at c.next_line.new.at c.lines.invariant.within given.0 place;
+      later = omega (arith, c.lines.invariant.later, c.in-Ok.ensures.cause.later);
+      fed = λ unended k u.
+          let before = c.lines.invariant.fed unended k u in
+          then-fed built_machine (alone c.args.eng.now) unended (take c.lines.at c.args.piece.now) (before_feed (drop c.lines.at c.args.piece.now) ++ LF ∷ []) (take c.next_line.new.at c.args.piece.now)
+          c.lines.lines c.next_line.follows.lender-at-none _ _ _ (alone c.lines.eng) (alone c.answer.new.eng) c.lines.refused c.in-Ok.some c.either-refused.result before
+          (λ now kept free. rw empty (line-said built_machine (alone c.lines.eng) now (before_feed (drop c.lines.at c.args.piece.now)) _ _ (alone c.answer.new.eng) c.in-Ok.some free (feed-unbroken (drop c.lines.at c.args.piece.now) given.0)
+          (c.in-Ok.ensures.answered (now ++ before_feed (drop c.lines.at c.args.piece.now)) (shown-behind now (before_feed (drop c.lines.at c.args.piece.now)) c.lines.lines c.in-Some.line kept given.1))))
+          (feed-next c.args.piece.now c.lines.at c.next_line.new.at given.0 place) c.either-refused.ensures;
+    }
 
 pub returns-in-Err-clause-fed : goal.returns-in-Err-clause-fed
 returns-in-Err-clause-fed g c unended k u =
-    let f = found c.args.piece.now c.loop-count.at c.in-Some.count c.in-Some.ensures in
-    let n : c.loop-count.at + c.in-Some.count - c.loop-count.at ≡ c.in-Some.count = omega arith in
-    then-stopped put_machine c.args.eng.now unended (take c.loop-count.at c.args.piece.now) (take (c.loop-count.at + c.in-Some.count - c.loop-count.at) (drop c.loop-count.at c.args.piece.now) ++ LF ∷ []) (drop (c.loop-count.at + (c.in-Some.count + 1)) c.args.piece.now) c.args.piece.now
-    c.loop-count.line c.feed_line.new.line _ _ _ _ _ _ c.in-Err.stop (c.loop-count.invariant.fed unended k u) c.in-Err.ensures.fed
-    (rw n (ap (λ t. t ++ drop (c.loop-count.at + (c.in-Some.count + 1)) c.args.piece.now) f.next ∙ take-append-drop (c.loop-count.at + (c.in-Some.count + 1)) c.args.piece.now))
-
-pub loop-count-preserved : goal.loop-count-preserved
-loop-count-preserved g c =
-    let f = found c.args.piece.now c.loop-count.at c.in-Some.count c.in-Some.ensures in
-    let n : c.loop-count.at + c.in-Some.count - c.loop-count.at ≡ c.in-Some.count = omega arith in
-    record {
-      within = f.within;
-      later = omega (arith, c.loop-count.invariant.later, c.in-Ok.ensures.cause.later);
-      fed = λ unended k u.
-          then-fed put_machine c.args.eng.now unended (take c.loop-count.at c.args.piece.now) (take (c.loop-count.at + c.in-Some.count - c.loop-count.at) (drop c.loop-count.at c.args.piece.now) ++ LF ∷ []) (take (c.loop-count.at + (c.in-Some.count + 1)) c.args.piece.now)
-          c.loop-count.line c.feed_line.new.line _ _ _ _ _ c.loop-count.refused c.in-Ok.some c.either-refused.result (c.loop-count.invariant.fed unended k u) c.in-Ok.ensures.fed
-          (rw n f.next) c.either-refused.ensures;
-    }
+    let given = c.in-Some.ensures.given in
+    let place = c.in-Some.ensures.place in
+    let before = c.lines.invariant.fed unended k u in
+    then-stopped built_machine (alone c.args.eng.now) unended (take c.lines.at c.args.piece.now) (before_feed (drop c.lines.at c.args.piece.now) ++ LF ∷ []) (drop c.next_line.new.at c.args.piece.now) c.args.piece.now
+    c.lines.lines c.next_line.follows.lender-at-none _ _ _ (alone c.lines.eng) (alone c.answer.new.eng) c.lines.refused c.in-Err.stop before
+    (λ now kept free. line-stopped built_machine (alone c.lines.eng) now (before_feed (drop c.lines.at c.args.piece.now)) c.next_line.follows.lender-at-none _ _ (alone c.answer.new.eng) c.in-Err.stop free (feed-unbroken (drop c.lines.at c.args.piece.now) given.0)
+    (c.in-Err.ensures.answered (now ++ before_feed (drop c.lines.at c.args.piece.now)) (shown-behind now (before_feed (drop c.lines.at c.args.piece.now)) c.lines.lines c.in-Some.line kept given.1)))
+    (ap (λ t. t ++ drop c.next_line.new.at c.args.piece.now) (feed-next c.args.piece.now c.lines.at c.next_line.new.at given.0 place) ∙ whole c.args.piece.now c.next_line.new.at)
 
 pub returns-clause-fed : goal.returns-clause-fed
 returns-clause-fed g c unended k u =
-    then-part put_machine c.args.eng.now unended (take c.loop-count.at c.args.piece.now) (take (length c.args.piece.now - c.loop-count.at) (drop c.loop-count.at c.args.piece.now)) c.args.piece.now
-    c.loop-count.line c.push.new.self _ _ _ c.loop-count.refused (c.loop-count.invariant.fed unended k u)
-    (none-found c.args.piece.now c.loop-count.at c.in_default.ensures) c.push.ensures (whole c.args.piece.now c.loop-count.at)
+    let given = c.in_default.ensures.given in
+    let rests = c.next_line.follows.holds-at-none ∙ unended-none c.lines.lines (drop c.lines.at c.args.piece.now) given in
+    then-part built_machine (alone c.args.eng.now) unended (take c.lines.at c.args.piece.now) (drop c.lines.at c.args.piece.now) c.args.piece.now
+    c.lines.lines c.next_line.follows.lender-at-none _ _ (alone c.lines.eng) c.lines.refused (c.lines.invariant.fed unended k u)
+    (none-unbroken (drop c.lines.at c.args.piece.now) given) rests (whole c.args.piece.now c.lines.at)

@@ -1,25 +1,25 @@
 use Rattle.std.proofs.Common.{◌≡◌, take, refl, ap, arith}
-use Rattle.ph_engine.specs.PutScript.{put_machine}
-use Rattle.ph_engine.proofs.Runs.{interrupted, at-end, stopped, exceeded, reached-more}
+use Rattle.ph_engine.specs.BuiltMachine.{built_machine, alone}
+use Rattle.ph_engine.proofs.Runs.{interrupted, at-end, stopped, exceeded, reached-more, reached-none}
 use Rattle.ph_engine.proofs.run.run_pieces.Goals as goal
 
 pub returns-in_default-clause-outcome : goal.returns-in_default-clause-outcome
 returns-in_default-clause-outcome g c =
-    interrupted put_machine c.args.most _ _ _ _ _ c.args.eng.now c.pieces.eng c.pieces.line c.pieces.refused c.pieces.taken c.pieces.invariant.reached c.pieces.invariant.within c.in_default.ensures.bytes
+    interrupted built_machine c.args.most _ _ _ _ _ (alone c.args.eng.now) (alone c.pieces.eng) c.pieces.lines c.pieces.refused c.pieces.taken c.pieces.invariant.reached c.pieces.invariant.within c.in_default.ensures.bytes
 
 pub returns-then-count-eq0-clause-outcome : goal.returns-then-count-eq0-clause-outcome
 returns-then-count-eq0-clause-outcome g c =
-    at-end put_machine c.args.most _ _ _ _ _ _ c.args.eng.now c.pieces.eng c.finish.new.eng c.pieces.line (take c.in-Ok.count c.fill.new.piece) c.pieces.refused c.pieces.taken c.finish.result
+    at-end built_machine c.args.most _ _ _ _ _ _ (alone c.args.eng.now) (alone c.pieces.eng) (alone c.finish.new.eng) c.pieces.lines (take c.in-Ok.count c.fill.new.piece) c.pieces.refused c.pieces.taken c.finish.result
     c.pieces.invariant.reached c.pieces.invariant.within c.in-Ok.ensures.bytes.0 (ap (λ n. take n c.fill.new.piece) c.if-count-eq0.true) (c.in-Ok.ensures.end c.if-count-eq0.true) c.finish.ensures.ends
 
 pub returns-in-Err-clause-outcome : goal.returns-in-Err-clause-outcome
 returns-in-Err-clause-outcome g c = rw c.stopped.ensures
-    (stopped put_machine c.args.most _ _ _ _ _ _ c.args.eng.now c.pieces.eng c.feed.new.eng c.pieces.line c.feed.new.line c.fill.new.piece _ c.pieces.refused c.pieces.taken c.in-Ok.count c.min-fresh.result c.in-Err.stop
+    (stopped built_machine c.args.most _ _ _ _ _ _ (alone c.args.eng.now) (alone c.pieces.eng) (alone c.feed.new.eng) c.pieces.lines c.feed.new.lines c.fill.new.piece _ c.pieces.refused c.pieces.taken c.in-Ok.count c.min-fresh.result c.in-Err.stop
     c.pieces.invariant.reached c.in-Ok.ensures.bytes.0 (omega (arith, c.in-Ok.ensures.room)) (omega (arith, c.min-fresh.ensures)) refl (omega (arith, c.in-Ok.ensures.most, c.pieces.invariant.within)) c.in-Err.ensures.fed)
 
 pub returns-then-fresh-count-clause-outcome : goal.returns-then-fresh-count-clause-outcome
 returns-then-fresh-count-clause-outcome g c =
-    exceeded put_machine c.args.most _ _ _ _ _ _ c.args.eng.now c.pieces.eng c.feed.new.eng c.pieces.line c.feed.new.line c.fill.new.piece _ c.pieces.refused c.in-Ok-feed.some c.pieces.taken c.in-Ok.count c.min-fresh.result
+    exceeded built_machine c.args.most _ _ _ _ _ _ (alone c.args.eng.now) (alone c.pieces.eng) (alone c.feed.new.eng) c.pieces.lines c.feed.new.lines c.fill.new.piece _ c.pieces.refused c.in-Ok-feed.some c.pieces.taken c.in-Ok.count c.min-fresh.result
     c.pieces.invariant.reached c.in-Ok.ensures.bytes.0 (omega (arith, c.in-Ok.ensures.room)) (omega (arith, c.min-fresh.ensures)) refl (omega (arith, c.in-Ok.ensures.most, c.min-fresh.ensures)) (omega (arith, c.in-Ok.ensures.most, c.min-fresh.ensures)) c.in-Ok-feed.ensures.fed
 
 pub pieces-preserved : goal.pieces-preserved
@@ -28,6 +28,9 @@ pieces-preserved g c = let whole : c.min-fresh.result ≡ c.in-Ok.count = omega 
   reads = omega (arith, c.pieces.invariant.reads, c.in-Ok.ensures.cause.later);
   writes = omega (arith, c.pieces.invariant.writes, c.in-Ok-feed.ensures.cause.later);
   reached =
-      reached-more put_machine _ _ _ _ _ _ c.args.eng.now c.pieces.eng c.feed.new.eng c.pieces.line c.feed.new.line c.fill.new.piece _ c.pieces.refused c.in-Ok-feed.some c.either-refused.result c.pieces.taken c.in-Ok.count
+      reached-more built_machine _ _ _ _ _ _ (alone c.args.eng.now) (alone c.pieces.eng) (alone c.feed.new.eng) c.pieces.lines c.feed.new.lines c.fill.new.piece _ c.pieces.refused c.in-Ok-feed.some c.either-refused.result c.pieces.taken c.in-Ok.count
       c.pieces.invariant.reached c.in-Ok.ensures.bytes.0 (omega (arith, c.in-Ok.ensures.room)) (ap (λ n. take n c.fill.new.piece) whole) c.in-Ok-feed.ensures.fed c.either-refused.ensures;
 }
+
+pub pieces-init : goal.pieces-init
+pieces-init g c = record { within = omega arith; reads = omega arith; writes = omega arith; reached = reached-none built_machine _ _ (alone c.args.eng.now) c.args.lines.now c.requires.lines }

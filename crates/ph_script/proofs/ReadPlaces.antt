@@ -1,0 +1,133 @@
+-- What is read in the places of each form.
+use Rattle.std.proofs.Common.{◌≡◌, ℕ, zero, suc, ◌^◌, ◌<◌, ◌≤◌, List, [], ◌∷◌, ◌++◌, length, map, true, false, refl, sym, ap, ◌∙◌, subst, append_assoc, lit≤}
+use Rattle.std.specs.Prelude.{ℤ, pos, codes}
+use Rattle.std.specs.List.{cons_option}
+use Rattle.std.specs.Cmp.Lexicographic.{pointwise}
+use Rattle.std.proofs.lemmas.List.{append-nil}
+use Rattle.std.proofs.lemmas.Bool.{and_parts}
+use Rattle.ph_specs.specs.Lines.{number}
+use Rattle.ph_specs.specs.Command.{Command, Place, form, number_fits, name_fits, numbers, texts, coordinates, count, value, fixed, read_form, Reading}
+use Rattle.ph_specs.specs.Command.Place.{Coordinate, Below, OneOf}
+use Rattle.ph_script.specs.declared.coords.Coord.{Coord}
+use Rattle.ph_script.specs.declared.forms.Verb.{Verb}
+use Rattle.ph_script.specs.declared.forms.Verb.TheVariants.{Open, OpenMax, Put, Get, Del, Count, Clear}
+use Rattle.ph_script.specs.Meaning.{numbers_of}
+use Rattle.ph_script.specs.Forms.{places_by, command_by}
+use Rattle.ph_script.specs.Numbers.{coords_at, counts_at}
+use Rattle.ph_script.specs.Fit.{IsFit}
+use Rattle.ph_script.proofs.KeptNumbers.{keeps-coord, keeps-count}
+
+-- words in places, read up to some of the places behind
+record Led (places : List Place) (ws : List (List ℕ)) (behind : List Place) (cs : List Coord) (ns : List ℕ) (zs : List ℤ) : Type 0 where
+  left : List (List ℕ)
+  fits : pointwise number_fits behind left ≡ true
+  coords : coords_at places ws ≡ cs ++ coords_at behind left
+  counts : counts_at places ws ≡ ns ++ counts_at behind left
+  same : numbers places ws ≡ zs ++ numbers behind left
+
+led-coordinate : (behind : List Place) (ws : List (List ℕ)) → pointwise number_fits (Coordinate ∷ behind) ws ≡ true → (c : Coord) × Led (Coordinate ∷ behind) ws behind (c ∷ []) [] (numbers_of (c ∷ []))
+led-coordinate behind [] h = absurd (let k : false ≡ true = h in cc)
+led-coordinate behind (w ∷ ws) h =
+    let p = and_parts _ _ h in
+    let k = keeps-coord (number w) p.0 in
+    (k.kept, record { left = ws; fits = p.1; coords = rw k.code refl; counts = refl; same = rw k.same refl })
+
+record LedCount (limit : ℕ) (behind : List Place) (ws : List (List ℕ)) : Type 0 where
+  kept : ℕ
+  below : kept < limit
+  led : Led (Below limit ∷ behind) ws behind [] (kept ∷ []) (pos kept ∷ [])
+
+led-count : (limit : ℕ) (behind : List Place) (ws : List (List ℕ)) → limit ≤ 2 ^ 128 → pointwise number_fits (Below limit ∷ behind) ws ≡ true → LedCount limit behind ws
+led-count limit behind [] l h = absurd (let k : false ≡ true = h in cc)
+led-count limit behind (w ∷ ws) l h =
+    let p = and_parts _ _ h in
+    let k = keeps-count limit (number w) l p.0 in
+    record { kept = k.kept; below = k.below; led = record { left = ws; fits = p.1; coords = refl; counts = rw k.code refl; same = ap (λ z. cons_option z (numbers behind ws)) k.same } }
+
+led-fixed : (words : List (List ℕ)) (behind : List Place) (ws : List (List ℕ)) → pointwise number_fits (OneOf words ∷ behind) ws ≡ true → Led (OneOf words ∷ behind) ws behind [] [] []
+led-fixed words behind [] h = absurd (let k : false ≡ true = h in cc)
+led-fixed words behind (w ∷ ws) h = record { left = ws; fits = h; coords = refl; counts = refl; same = refl }
+
+-- one after another
+led-on : {places middle behind : List Place} {ws : List (List ℕ)} {cs ds : List Coord} {ns ms : List ℕ} {zs ys : List ℤ} → (a : Led places ws middle cs ns zs) → Led middle a.left behind ds ms ys → Led places ws behind (cs ++ ds) (ns ++ ms) (zs ++ ys)
+led-on {behind} {cs} {ds} {ns} {ms} {zs} {ys} a b =
+    record {
+      left = b.left;
+      fits = b.fits;
+      coords = a.coords ∙ rw (b.coords, append_assoc cs ds (coords_at behind b.left)) refl;
+      counts = a.counts ∙ rw (b.counts, append_assoc ns ms (counts_at behind b.left)) refl;
+      same = a.same ∙ rw (b.same, append_assoc zs ys (numbers behind b.left)) refl;
+    }
+
+record LedPoint (dims : ℕ) (behind : List Place) (ws : List (List ℕ)) : Type 0 where
+  at : List Coord
+  size : length at ≡ dims
+  led : Led (coordinates dims ++ behind) ws behind at [] (numbers_of at)
+
+led-point : (dims : ℕ) (behind : List Place) (ws : List (List ℕ)) → pointwise number_fits (coordinates dims ++ behind) ws ≡ true → LedPoint dims behind ws
+led-point zero behind ws h = record { at = []; size = refl; led = record { left = ws; fits = h; coords = refl; counts = refl; same = refl } }
+led-point (suc dims) behind ws h =
+    let c = led-coordinate (coordinates dims ++ behind) ws h in
+    let p = led-point dims behind c.1.left c.1.fits in
+    record { at = c.0 ∷ p.at; size = ap suc p.size; led = led-on c.1 p.led }
+
+-- the numbers in the places of each form are what it asks
+pub record Reads (verb : Verb) (dims : ℕ) (ws : List (List ℕ)) : Type 0 where
+  pub fit : IsFit verb dims (coords_at (places_by verb dims) ws) (counts_at (places_by verb dims) ws)
+  pub same : numbers (places_by verb dims) ws ≡ numbers_of (coords_at (places_by verb dims) ws) ++ map pos (counts_at (places_by verb dims) ws)
+
+closing : (verb : Verb) (dims : ℕ) (ws : List (List ℕ)) {cs : List Coord} {ns : List ℕ} {zs : List ℤ} → Led (places_by verb dims) ws [] cs ns zs → IsFit verb dims cs ns → zs ≡ numbers_of cs ++ map pos ns → Reads verb dims ws
+closing verb dims ws {cs} {ns} {zs} l f e =
+    let a : coords_at (places_by verb dims) ws ≡ cs = l.coords ∙ append-nil cs in
+    let b : counts_at (places_by verb dims) ws ≡ ns = l.counts ∙ append-nil ns in
+    let n : numbers (places_by verb dims) ws ≡ zs = l.same ∙ append-nil zs in
+    record { fit = rw (a, b) f; same = rw (a, b) (n ∙ e) }
+
+led-get : (dims : ℕ) (ws : List (List ℕ)) → pointwise number_fits (coordinates dims) ws ≡ true → (at : List Coord) × Led (coordinates dims) ws [] at [] (numbers_of at) × (length at ≡ dims)
+led-get dims ws h =
+    let e = append-nil (coordinates dims) in
+    let p = led-point dims [] ws (subst (λ ps. pointwise number_fits ps ws ≡ true) (sym e) h) in
+    (p.at, subst (λ ps. Led ps ws [] p.at [] (numbers_of p.at)) e p.led, p.size)
+
+led-none : (ws : List (List ℕ)) → pointwise number_fits [] ws ≡ true → Led [] ws [] [] [] []
+led-none ws h = record { left = ws; fits = h; coords = refl; counts = refl; same = refl }
+
+pub reads : (verb : Verb) (dims : ℕ) (ws : List (List ℕ)) → pointwise number_fits (places_by verb dims) ws ≡ true → Reads verb dims ws
+reads Open dims ws h =
+    let a = led-fixed (codes "points" ∷ []) (count ∷ []) ws h in
+    let b = led-count (2 ^ 32) [] a.left (lit≤ tt) a.fits in
+    closing Open dims ws (led-on a b.led) (refl, refl, b.below) refl
+reads OpenMax dims ws h =
+    let a = led-fixed (codes "points" ∷ []) (count ∷ fixed (codes "max") ∷ value ∷ []) ws h in
+    let b = led-count (2 ^ 32) (fixed (codes "max") ∷ value ∷ []) a.left (lit≤ tt) a.fits in
+    let c = led-fixed (codes "max" ∷ []) (value ∷ []) b.led.left b.led.fits in
+    let d = led-count (2 ^ 64) [] c.left (lit≤ tt) c.fits in
+    closing OpenMax dims ws (led-on a (led-on b.led (led-on c d.led))) (refl, refl, b.below, d.below) refl
+reads Put dims ws h =
+    let p = led-point dims (value ∷ []) ws h in
+    let b = led-count (2 ^ 64) [] p.led.left (lit≤ tt) p.led.fits in
+    let e = append-nil p.at in
+    closing Put dims ws (led-on p.led b.led) (rw e p.size, refl, b.below) (rw e refl)
+reads Get dims ws h =
+    let p = led-get dims ws h in
+    closing Get dims ws p.1 (p.2, refl) (sym (append-nil (numbers_of p.0)))
+reads Del dims ws h =
+    let p = led-get dims ws h in
+    closing Del dims ws p.1 (p.2, refl) (sym (append-nil (numbers_of p.0)))
+reads Count dims ws h = closing Count dims ws (led-none ws h) tt refl
+reads Clear dims ws h = closing Clear dims ws (led-none ws h) tt refl
+
+-- the same of places and numbers that are these
+pub fit-of : (verb : Verb) (dims : ℕ) (places : List Place) (ws : List (List ℕ)) (cs : List Coord) (ns : List ℕ) → places ≡ places_by verb dims → pointwise number_fits places ws ≡ true → cs ≡ coords_at places ws → ns ≡ counts_at places ws → IsFit verb dims cs ns
+fit-of verb dims places ws cs ns e h a b = rw (a, b, e) (reads verb dims ws (rw e at h)).fit
+
+pub same-of : (verb : Verb) (dims : ℕ) (places : List Place) (ws : List (List ℕ)) (cs : List Coord) (ns : List ℕ) → places ≡ places_by verb dims → pointwise number_fits places ws ≡ true → cs ≡ coords_at places ws → ns ≡ counts_at places ws → numbers places ws ≡ numbers_of cs ++ map pos ns
+same-of verb dims places ws cs ns e h a b = rw (a, b, e) (reads verb dims ws (rw e at h)).same
+
+-- the command of a form, where all its numbers and names fit
+pub does : (word : List ℕ) (verb : Verb) (dims : ℕ) (places tried named : List Place) (ws : List (List ℕ)) (cs : List Coord) (ns : List ℕ) (made : Command) → places ≡ places_by verb dims → tried ≡ places → named ≡ places → pointwise number_fits tried ws ≡ true → pointwise name_fits named ws ≡ true → cs ≡ coords_at tried ws → ns ≡ counts_at tried ws → ((t : List (List ℕ)) → made ≡ command_by verb dims (numbers_of cs ++ map pos ns) t) → read_form (form word places (command_by verb dims)) ws ≡ Reading.Do made
+does word verb dims places tried named ws cs ns made row e d h k a b makes =
+    let fits : pointwise number_fits places ws ≡ true = rw e at h in
+    let names : pointwise name_fits places ws ≡ true = rw d at k in
+    let same = same-of verb dims places ws cs ns row fits (rw e at a) (rw e at b) in
+    rw (fits, names) (ap Reading.Do (ap (λ n. command_by verb dims n (texts places ws)) same ∙ sym (makes (texts places ws))))

@@ -1,0 +1,33 @@
+-- What a form asks of the numbers in its places, and how many coordinates a command has.
+use Rattle.std.specs.Prelude.{◌≡◌, ◌<◌, ◌^◌, ℕ, List, [], length, slice_index}
+use Rattle.std.specs.Prelude.{Option, Some, None, Result, Ok, Err}
+use Rattle.ph_script.specs.declared.coords.Coord.{Coord}
+use Rattle.ph_script.specs.declared.command.Bad.{Bad}
+use Rattle.ph_script.specs.declared.command.Command.{Command}
+use Rattle.ph_script.specs.declared.command.Command.TheVariants as by
+use Rattle.ph_script.specs.declared.forms.Verb.{Verb}
+use Rattle.ph_script.specs.declared.forms.Verb.TheVariants.{Open, OpenMax, Put, Get, Del, Count, Clear}
+
+abbrev pub IsFit : Verb → ℕ → List Coord → List ℕ → Type 0
+IsFit Open dims coords counts = (coords ≡ []) × (length counts ≡ 1) × (slice_index counts 0 < 2 ^ 32)
+IsFit OpenMax dims coords counts = (coords ≡ []) × (length counts ≡ 2) × (slice_index counts 0 < 2 ^ 32) × (slice_index counts 1 < 2 ^ 64)
+IsFit Put dims coords counts = (length coords ≡ dims) × (length counts ≡ 1) × (slice_index counts 0 < 2 ^ 64)
+IsFit Get dims coords counts = (length coords ≡ dims) × (counts ≡ [])
+IsFit Del dims coords counts = (length coords ≡ dims) × (counts ≡ [])
+IsFit Count dims coords counts = Unit {0}
+IsFit Clear dims coords counts = Unit {0}
+
+-- each point of the command has so many coordinates
+abbrev pub HasDims : ℕ → Command → Type 0
+HasDims dims (by.Begin k max) = Unit {0}
+HasDims dims (by.Put at value) = length at ≡ dims
+HasDims dims (by.Get at) = length at ≡ dims
+HasDims dims (by.Del at) = length at ≡ dims
+HasDims dims by.Count = Unit {0}
+HasDims dims by.Clear = Unit {0}
+
+-- the same of the command that was read, if there is one
+abbrev pub ReadsDims : ℕ → Result (Option Command) Bad → Type 0
+ReadsDims dims (Ok (Some c)) = HasDims dims c
+ReadsDims dims (Ok None) = Unit {0}
+ReadsDims dims (Err b) = Unit {0}

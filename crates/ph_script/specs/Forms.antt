@@ -1,0 +1,67 @@
+-- The forms of the code's table in the definitions, and the search among forms.
+use Rattle.std.specs.Prelude.{◌≡◌, ℕ, ◌+◌, ◌-◌, ◌^◌, ◌==◌, Bool, true, if◌then◌else◌, List, [], ◌∷◌, ◌++◌, length, take, codes, bytes_eq, ℤ}
+use Rattle.ph_specs.specs.Command.{Command as Asked, Place as Asks, Form as Spelling, form, count, value, fixed, coordinates, number_at}
+use Rattle.ph_specs.specs.Command.Command.{Begin as AskBegin, Put as AskPut, Get as AskGet, Del as AskDel, Count as AskCount, Clear as AskClear}
+use Rattle.ph_specs.specs.Command.Place.{Coordinate as AsksCoordinate, Below}
+use Rattle.ph_specs.specs.declared.Kind.TheVariants.{Points}
+use Rattle.ph_script.specs.declared.command.Bad.{Bad}
+use Rattle.ph_script.specs.declared.command.Bad.TheVariants.{Word, Count as BadCount}
+use Rattle.ph_script.specs.declared.forms.Verb.{Verb}
+use Rattle.ph_script.specs.declared.forms.Verb.TheVariants.{Open, OpenMax, Put, Get, Del, Count, Clear}
+use Rattle.ph_script.specs.declared.forms.Places.{Places}
+use Rattle.ph_script.specs.declared.forms.Places.TheVariants.{Coordinates, UpTo as AllUpTo, Fixed as AllFixed}
+use Rattle.ph_script.specs.declared.forms.Place.{Place}
+use Rattle.ph_script.specs.declared.forms.Place.TheVariants.{Coordinate, UpTo, Fixed}
+use Rattle.ph_script.specs.declared.forms.Form.{Form}
+
+abbrev pub place_of : Place → Asks
+place_of Coordinate = AsksCoordinate
+place_of (UpTo most) = Below (most + 1)
+place_of (Fixed word) = fixed word.now
+
+abbrev pub group_of : ℕ → Places → List Asks
+group_of dims Coordinates = coordinates dims
+group_of dims (AllUpTo most) = Below (most + 1) ∷ []
+group_of dims (AllFixed word) = fixed word.now ∷ []
+
+-- the places that groups of them stand for
+abbrev pub places_of : ℕ → List Places → List Asks
+places_of dims [] = []
+places_of dims (group ∷ []) = group_of dims group
+places_of dims (group ∷ next ∷ more) = group_of dims group ++ places_of dims (next ∷ more)
+
+-- the places of a command, and what it makes of the numbers there
+abbrev pub places_by : Verb → ℕ → List Asks
+places_by Open dims = fixed (codes "points") ∷ count ∷ []
+places_by OpenMax dims = fixed (codes "points") ∷ count ∷ fixed (codes "max") ∷ value ∷ []
+places_by Put dims = coordinates dims ++ value ∷ []
+places_by Get dims = coordinates dims
+places_by Del dims = coordinates dims
+places_by Count dims = []
+places_by Clear dims = []
+
+abbrev pub command_by : Verb → ℕ → List ℤ → List (List ℕ) → Asked
+command_by Open dims = λ n t. AskBegin Points (number_at n 0) (2 ^ 64 - 1)
+command_by OpenMax dims = λ n t. AskBegin Points (number_at n 0) (number_at n 1)
+command_by Put dims = λ n t. AskPut (take dims n) (number_at n dims)
+command_by Get dims = λ n t. AskGet n
+command_by Del dims = λ n t. AskDel n
+command_by Count dims = λ n t. AskCount
+command_by Clear dims = λ n t. AskClear
+
+abbrev pub form_of : ℕ → Form → Spelling
+form_of dims f = form f.word.now (places_of dims f.places.now) (command_by f.verb dims)
+
+-- a form has the places of its command
+abbrev pub IsRow : Form → Type 0
+IsRow f = (dims : ℕ) → places_of dims f.places.now ≡ places_by f.verb dims
+
+-- what a search among forms finds: no form of the word, none of it with so many places, or one
+pub data Picked : Type 0 where
+  Wrong : Bad → Picked
+  The : Spelling → Picked
+
+abbrev pub picked : Bool → List ℕ → ℕ → List Spelling → Picked
+picked known word size [] = if known then Wrong BadCount else Wrong Word
+picked known word size (f ∷ fs) =
+    if bytes_eq f.word word then (if length f.places == size then The f else picked true word size fs) else picked known word size fs

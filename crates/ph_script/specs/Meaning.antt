@@ -1,0 +1,60 @@
+-- What the commands and replies of the code are in the definitions.
+use Rattle.std.specs.Prelude.{ℕ, ◌^◌, List, map, ℤ, pos, Option, Some, None, Result, Ok, Err}
+use Rattle.ph_specs.specs.Command.{Command as Asked, Reading}
+use Rattle.ph_specs.specs.Command.Command.{Begin as AskBegin, Put as AskPut, Get as AskGet, Del as AskDel, Count as AskCount, Clear as AskClear}
+use Rattle.ph_specs.specs.Reply.{Reply as Answer}
+use Rattle.ph_specs.specs.declared.Kind.TheVariants.{Points}
+use Rattle.ph_script.specs.declared.coords.Coord.{Coord}
+use Rattle.ph_script.specs.declared.coords.Coord.TheVariants.{Whole, Far}
+use Rattle.ph_script.specs.declared.command.Command.{Command}
+use Rattle.ph_script.specs.declared.command.Command.TheVariants.{Begin, Put, Get, Del, Count, Clear}
+use Rattle.ph_script.specs.declared.command.Bad.{Bad}
+use Rattle.ph_script.specs.declared.command.Bad.TheVariants.{Word, Count as BadCount, Number, Name}
+use Rattle.ph_script.specs.declared.reply.Reply.{Reply}
+use Rattle.ph_script.specs.declared.reply.Reply.TheVariants.{Opened, New, Old, Value, Absent, Gone, Rows, Cleared, ErrorLong, ErrorWord, ErrorCount, ErrorNumber, ErrorName, ErrorDims, ErrorRange, ErrorFull}
+
+-- a coordinate; one that is far stands for each number outside of 64 bits
+abbrev pub number_of_coord : Coord → ℤ
+number_of_coord (Whole n) = n
+number_of_coord Far = pos (2 ^ 63)
+
+abbrev pub numbers_of : List Coord → List ℤ
+numbers_of cs = map number_of_coord cs
+
+abbrev pub command_of : Command → Asked
+command_of (Begin k max) = AskBegin Points k max
+command_of (Put at value) = AskPut (numbers_of at) value
+command_of (Get at) = AskGet (numbers_of at)
+command_of (Del at) = AskDel (numbers_of at)
+command_of Count = AskCount
+command_of Clear = AskClear
+
+abbrev pub bad_reply : Bad → Answer
+bad_reply Word = Answer.ErrorWord
+bad_reply BadCount = Answer.ErrorCount
+bad_reply Number = Answer.ErrorNumber
+bad_reply Name = Answer.ErrorName
+
+-- what a line was read as
+abbrev pub reading_of : Result (Option Command) Bad → Reading
+reading_of (Ok None) = Reading.Nothing
+reading_of (Ok (Some c)) = Reading.Do (command_of c)
+reading_of (Err b) = Reading.Refused (bad_reply b)
+
+abbrev pub reply_of : {D : ℕ} → Reply D → Answer
+reply_of Opened = Answer.Opened
+reply_of New = Answer.New
+reply_of (Old v) = Answer.Old v
+reply_of (Value v) = Answer.Value v
+reply_of Absent = Answer.Absent
+reply_of (Gone v) = Answer.Gone v
+reply_of (Rows n) = Answer.Rows n
+reply_of Cleared = Answer.Cleared
+reply_of ErrorLong = Answer.ErrorLong
+reply_of ErrorWord = Answer.ErrorWord
+reply_of ErrorCount = Answer.ErrorCount
+reply_of ErrorNumber = Answer.ErrorNumber
+reply_of ErrorName = Answer.ErrorName
+reply_of ErrorDims = Answer.ErrorDims
+reply_of ErrorRange = Answer.ErrorRange
+reply_of ErrorFull = Answer.ErrorFull

@@ -1,0 +1,52 @@
+-- The numbers that the words of a command spell, as the code keeps them.
+use Rattle.std.specs.Prelude.{ℕ, ◌^◌, nat_lt, nat_le, true, false, if◌then◌else◌, List, [], ◌∷◌, ◌++◌, pos, neg_ℤ, Option, Some, None}
+use Rattle.std.specs.Option.{option_to_list}
+use Rattle.ph_coord.specs.declared.number.Number.{Number}
+use Rattle.ph_coord.specs.declared.number.Number.TheVariants.{Whole, Wide, Not}
+use Rattle.ph_coord.specs.Spelling.{number_of}
+use Rattle.ph_specs.specs.Command.{Place}
+use Rattle.ph_specs.specs.Command.Place.{Coordinate, Below}
+use Rattle.ph_script.specs.declared.coords.Coord.{Coord}
+use Rattle.ph_script.specs.declared.coords.Coord.TheVariants.{Whole as WholeCoord, Far}
+
+-- the coordinate that a number is
+abbrev pub coord_of : Number → Option Coord
+coord_of (Whole false n) = Some (if nat_lt n (2 ^ 63) then WholeCoord (pos n) else Far)
+coord_of (Whole true n) = Some (if nat_le n (2 ^ 63) then WholeCoord (neg_ℤ (pos n)) else Far)
+coord_of Wide = Some Far
+coord_of Not = None
+
+-- the number from 0 to below a limit
+abbrev pub count_of : ℕ → Number → Option ℕ
+count_of limit (Whole false n) = if nat_lt n limit then Some n else None
+count_of limit (Whole true n) = None
+count_of limit Wide = None
+count_of limit Not = None
+
+-- what a word in a place adds to the coordinates, and to the other numbers
+abbrev pub coords_in : Place → List ℕ → List Coord
+coords_in Coordinate word = option_to_list (coord_of (number_of word))
+coords_in _ word = []
+
+abbrev pub counts_in : Place → List ℕ → List ℕ
+counts_in (Below limit) word = option_to_list (count_of limit (number_of word))
+counts_in _ word = []
+
+abbrev pub coords_at : List Place → List (List ℕ) → List Coord
+coords_at [] ws = []
+coords_at (place ∷ places) [] = []
+coords_at (place ∷ places) (word ∷ ws) = coords_in place word ++ coords_at places ws
+
+abbrev pub counts_at : List Place → List (List ℕ) → List ℕ
+counts_at [] ws = []
+counts_at (place ∷ places) [] = []
+counts_at (place ∷ places) (word ∷ ws) = counts_in place word ++ counts_at places ws
+
+-- how much a place may add to them
+abbrev pub coords_room : Place → ℕ
+coords_room Coordinate = 1
+coords_room _ = 0
+
+abbrev pub counts_room : Place → ℕ
+counts_room (Below limit) = 1
+counts_room _ = 0

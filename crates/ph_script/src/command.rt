@@ -1,0 +1,27 @@
+//! Commands, and what is wrong with a line that is none.
+use crate::coords::Coords;
+
+/// What a line asks for.
+#[derive(Debug, Drop, PartialEq, Eq)]
+pub enum Command {
+    /// A new table for points of k dimensions, with at most so many rows.
+    Begin { k: u32, max: u64 },
+    Put { at: Coords, value: u64 },
+    Get { at: Coords },
+    Del { at: Coords },
+    Count,
+    Clear,
+}
+
+/// The first fault of a line, in the order in which they are looked for.
+#[derive(Clone, Copy, Debug, PartialEq, Eq)]
+pub enum Bad {
+    /// The first word is no command.
+    Word,
+    /// No form of the command has so many words.
+    Count,
+    /// A word is not such a number as its place asks for.
+    Number,
+    /// A word is not the name or the fixed word that its place asks for.
+    Name,
+}

@@ -1,0 +1,185 @@
+//! The forms of the commands, and the search for the form of a line.
+ghost use Rattle.std.specs.Prelude.{◌≡◌, ◌≤◌, ◌+◌, ◌++◌, ℕ, false, length, map, replicate, MatchResult};
+ghost use Rattle.std.specs.List.{AllByRecursion};
+ghost use Rattle.arrayvec.specs.ArrayVec.{array_vec_len};
+ghost use Rattle.ph_specs.specs.Built.{built_forms};
+ghost use Rattle.ph_script.specs.Forms.{place_of, group_of, places_of, form_of, IsRow, picked};
+ghost use Rattle.ph_script.specs.Forms.Picked.{The, Wrong};
+
+use crate::command::Bad;
+use arrayvec::ArrayVec;
+
+/// The most places that a form has, at 16 dimensions.
+pub(crate) const MOST_PLACES: usize = 17;
+
+/// A command, by its form.
+#[derive(Clone, Copy)]
+pub(crate) enum Verb {
+    Open,
+    OpenMax,
+    Put,
+    Get,
+    Del,
+    Count,
+    Clear,
+}
+
+/// What a form has behind its word, in one place or in several.
+#[derive(Clone, Copy)]
+pub(crate) enum Places {
+    /// A coordinate for each dimension.
+    Coordinates,
+    /// A number from 0 to this one.
+    UpTo(u128),
+    /// This word.
+    Fixed(&'static [u8]),
+}
+
+/// What one word is read as.
+#[derive(Clone, Copy, Default)]
+pub(crate) enum Place {
+    #[default]
+    Coordinate,
+    /// A number from 0 to this one.
+    UpTo(u128),
+    /// This word.
+    Fixed(&'static [u8]),
+}
+
+/// A command's word, what stands behind it, and the command that this makes.
+#[derive(Clone, Copy)]
+pub(crate) struct Form {
+    pub word: &'static [u8],
+    pub places: &'static [Places],
+    pub verb: Verb,
+}
+
+const COUNT: u128 = u32::MAX as u128;
+
+const VALUE: u128 = u64::MAX as u128;
+
+// The forms that are answered so far, in the order of the definitions. One more is a row here, a `Verb` and its command.
+static FORMS: [Form; 7] = [
+    Form {
+        word: b"open",
+        places: &[Places::Fixed(b"points"), Places::UpTo(COUNT)],
+        verb: Verb::Open,
+    },
+    Form {
+        word: b"open",
+        places: &[
+            Places::Fixed(b"points"),
+            Places::UpTo(COUNT),
+            Places::Fixed(b"max"),
+            Places::UpTo(VALUE),
+        ],
+        verb: Verb::OpenMax,
+    },
+    Form {
+        word: b"put",
+        places: &[Places::Coordinates, Places::UpTo(VALUE)],
+        verb: Verb::Put,
+    },
+    Form {
+        word: b"get",
+        places: &[Places::Coordinates],
+        verb: Verb::Get,
+    },
+    Form {
+        word: b"del",
+        places: &[Places::Coordinates],
+        verb: Verb::Del,
+    },
+    Form {
+        word: b"count",
+        places: &[],
+        verb: Verb::Count,
+    },
+    Form {
+        word: b"clear",
+        places: &[],
+        verb: Verb::Clear,
+    },
+];
+
+fn forms() -> &'static [Form]
+    ensures built { (dims : ℕ) → map (form_of dims) result.now ≡ built_forms dims }
+    ensures rows { AllByRecursion IsRow result.now }
+{
+    &FORMS
+}
+
+impl Places {
+    // How many places there are.
+    fn count(self, dims: usize) -> usize
+        ensures { result ≡ length (group_of dims self) }
+    {
+        match self {
+            Places::Coordinates => dims,
+            Places::UpTo(_) | Places::Fixed(_) => 1,
+        }
+    }
+
+    // What each of them is.
+    fn each(self) -> Place
+        ensures { (dims : ℕ) → replicate (length (group_of dims self)) (place_of result) ≡ group_of dims self }
+    {
+        match self {
+            Places::Coordinates => Place::Coordinate,
+            Places::UpTo(most) => Place::UpTo(most),
+            Places::Fixed(word) => Place::Fixed(word),
+        }
+    }
+}
+
+// How many places a form has.
+fn size(places: &[Places], dims: usize) -> usize
+    requires { length (places_of dims places.now) ≤ MOST_PLACES }
+    ensures { result ≡ length (places_of dims places.now) }
+{
+    let mut size = 0;
+    for group in places {
+        size += group.count(dims);
+    }
+    size
+}
+
+/// The form of a command's word that has so many places.
+pub(crate) fn find_form(word: &[u8], count: usize, dims: usize) -> Result<&'static Form, Bad>
+    requires { dims ≤ 16 }
+    ensures found { MatchResult result
+        (λ f. (picked false word.now count (built_forms dims) ≡ The (form_of dims f.now)) × (length (places_of dims f.now.places.now) ≡ count) × IsRow f.now)
+        (λ b. picked false word.now count (built_forms dims) ≡ Wrong b) }
+{
+    let mut known = false;
+    for form in forms() {
+        if form.word == word {
+            if size(form.places, dims) == count {
+                return Ok(form);
+            }
+            known = true;
+        }
+    }
+    Err(if known { Bad::Count } else { Bad::Word })
+}
+
+/// The places of a form, one by one.
+pub(crate) fn spread(places: &[Places], dims: usize) -> ArrayVec<Place, MOST_PLACES>
+    requires { length (places_of dims places.now) ≤ MOST_PLACES }
+    ensures { map place_of result.items ≡ places_of dims places.now }
+{
+    let mut list = ArrayVec::new();
+    for group in places {
+        push_times(&mut list, group.each(), group.count(dims));
+    }
+    list
+}
+
+fn push_times(list: &mut ArrayVec<Place, MOST_PLACES>, place: Place, times: usize)
+    requires { array_vec_len list.old + times ≤ MOST_PLACES }
+    ensures { list.new.items ≡ list.old.items ++ replicate times place }
+{
+    for _i in 0..times {
+        list.push(place);
+    }
+}
