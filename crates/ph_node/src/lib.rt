@@ -1,0 +1,23 @@
+//! Nodes of a PH-tree: a level, and entries in the order of their hypercube addresses. An entry is a
+//! point with a value, or a child that has the points with this address.
+//!
+//! The number of dimensions is a type, [`Dims`], since a type that leads back to itself takes no const
+//! parameter; [`Node`], [`NodeRef`], [`Entry`], [`What`] and [`Slot`] are the names at a number.
+//! A node is read through [`NodeOf::visit`] alone, and each edit is counted.
+#![tactic(auto)]
+
+mod adds;
+mod digits;
+mod edits;
+mod plain;
+mod reads;
+mod searches;
+mod splits;
+#[cfg(test)]
+mod tests;
+
+pub use digits::{body_above, body_address, body_below};
+pub use ph_coord::{Dim, Dims};
+pub use plain::{Node, NodeOf, Slot, SlotOf};
+pub use reads::{Entry, EntryOf, NodeRef, NodeRefOf, What, WhatOf};
+pub use std::alloc::AllocError as NoMemory;

@@ -1,0 +1,96 @@
+//! A node through its edits, with entries that are known from outside.
+
+ghost use Rattle.std.specs.Prelude.{◌≡◌, ◌<◌};
+
+use crate::{NoMemory, Node, NodeOf, NodeRef, What};
+use ph_steps::Steps;
+use std::alloc::Global;
+use std::marker::Brand;
+use std::process::Abort;
+use std::sync::ledger::{Blank, Ledger};
+use std::test::Fail;
+
+const OLD: [u64; 16] = [9, 3, 0, 0, 0, 0, 0, 0, 0, 0, 0, 0, 0, 0, 0, 0];
+
+const BESIDE: [u64; 16] = [4, 30, 0, 0, 0, 0, 0, 0, 0, 0, 0, 0, 0, 0, 0, 0];
+
+const NEAR: [u64; 16] = [1, 3, 0, 0, 0, 0, 0, 0, 0, 0, 0, 0, 0, 0, 0, 0];
+
+const FAR: [u64; 16] = [17, 3, 0, 0, 0, 0, 0, 0, 0, 0, 0, 0, 0, 0, 0, 0];
+
+// An address, two fields, and a value or none for a child.
+type Seen = (u32, u64, u64, Option<u64>);
+
+fn is_entry(node: NodeRef<'_, 2>, i: usize, want: &Seen) -> bool {
+    if i >= node.len() {
+        return false;
+    }
+    let entry = node.entry(i);
+    let value = match entry.what {
+        What::Value(v) => Some(v),
+        What::Child(_) => None,
+    };
+    (entry.addr, entry.body[0], entry.body[1], value) == *want
+}
+
+fn child_at<'t>(node: NodeRef<'t, 2>, i: usize) -> Option<&'t Node<2>> {
+    if i >= node.len() {
+        return None;
+    }
+    match node.entry(i).what {
+        What::Value(_) => None,
+        What::Child(child) => Some(child),
+    }
+}
+
+fn outcome<V: Ledger, C: Ledger>(
+    rt: &impl Abort,
+    alloc: Global,
+    visits: Blank,
+    changes: Blank,
+) -> Result<(), NoMemory>
+    requires visits { (visits.name ≡ V.name) × (visits.parts ≡ V.parts) × (0 < visits.parts) }
+    requires changes { (changes.name ≡ C.name) × (changes.parts ≡ C.parts) × (0 < changes.parts) }
+{
+    let mut visits: Steps<V> = Steps::new(visits);
+    let mut changes: Steps<C> = Steps::new(changes);
+    let mut node: Node<2> = NodeOf::single(alloc, 5, 2, OLD, 70, &mut changes)?;
+    node.add(1, BESIDE, 71, &mut changes)?;
+    node.set_value(0, 72, &mut changes);
+    node.split(1, 3, NEAR, 73, &mut changes)?;
+    node.split(1, 4, FAR, 74, &mut changes)?;
+    let root = node.visit(&mut visits);
+    assert_eq!(rt; (root.level(), root.len()), (5, 2));
+    assert!(rt; is_entry(root, 0, &(1, 4, 30, Some(72))));
+    assert!(rt; is_entry(root, 1, &(2, 0, 0, None)));
+    for (addr, found, next) in [
+        (0, None, Some(0)),
+        (1, Some(0), Some(0)),
+        (2, Some(1), Some(1)),
+        (3, None, None),
+    ] {
+        assert_eq!(rt; root.find(addr), found, "at {addr}");
+        assert_eq!(rt; root.next_at_or_after(addr), next, "at {addr}");
+    }
+    let Some(upper) = child_at(root, 1) else {
+        panic!(rt; "no child");
+    };
+    let upper = upper.visit(&mut visits);
+    assert_eq!(rt; (upper.level(), upper.len()), (4, 2));
+    assert!(rt; is_entry(upper, 0, &(0, 0, 0, None)));
+    assert!(rt; is_entry(upper, 1, &(2, 1, 3, Some(74))));
+    let Some(lower) = child_at(upper, 0) else {
+        panic!(rt; "no child");
+    };
+    let lower = lower.visit(&mut visits);
+    assert_eq!(rt; (lower.level(), lower.len()), (3, 2));
+    assert!(rt; is_entry(lower, 0, &(0, 1, 3, Some(73))));
+    assert!(rt; is_entry(lower, 1, &(2, 1, 3, Some(70))));
+    Ok(())
+}
+
+#[test]
+fn splits_and_edits(rt: HostRuntime) -> Result<(), Fail> {
+    outcome::<Brand, Brand>(&rt, rt.alloc(), Blank::new(1), Blank::new(1))?;
+    Ok(())
+}

@@ -1,0 +1,7 @@
+-- Lemmas on trees.
+mod Offsets
+mod Steps
+mod Tops
+mod Trees
+mod Walks
+mod Ways

@@ -1,0 +1,197 @@
+-- What one node says of a point, and what an edit makes of it, by the laws of the definitions.
+use Rattle.std.proofs.Common.{◌≡◌, ◌≢◌, ℕ, zero, suc, ◌+◌, ◌*◌, ◌/◌, ◌^◌, ◌<◌, ◌≤◌, List, [], ◌∷◌, length, map, Bool, true, false, refl, arith, ap, sym, ◌∙◌, subst, inl, inr}
+use Rattle.std.specs.Prelude.{ℤ, Some, None, slice_get, position, unwrap_or}
+use Rattle.std.specs.List.{AllByRecursion as Each}
+use Rattle.std.proofs.lemmas.Bool.{cases_lt}
+use Rattle.std.proofs.Math.Pow.{pow_mono}
+use Rattle.ph_specs.specs.ZOrder.{address}
+use Rattle.ph_specs.specs.Node.{Entries, end, point, child, Entry, What, value, node, PlainNode, entries, listed, node_of}
+use Rattle.ph_specs.specs.Shape.{digits_below, digits_between}
+use Rattle.ph_specs.specs.Lawful.{IsBody, HasZerosFrom, IsLawfulFrom}
+use Rattle.ph_specs.specs.PutTree.{same_digits, digits_from, split_place, body_address, body_below, put_node}
+use Rattle.ph_specs.specs.EntryEdits.{has_address, point_entry, inserted, holding, with_what, with_child, what_at, split_at}
+use Rattle.ph_specs.proofs.lemmas.PointDigits.{same_digits-true, same_digits-false}
+use Rattle.ph_specs.proofs.lemmas.Places.{quotient}
+use Rattle.ph_specs.proofs.lemmas.Joined.{same_from}
+use Rattle.ph_specs.proofs.laws.EntryLists.{node_of-entries}
+use Rattle.ph_specs.proofs.laws.EntryEdits as laws
+use Rattle.ph_specs.proofs.laws.DelEntries.{IsLawfulChild, lawful-child}
+use Rattle.ph_specs.proofs.laws.SplitPlace.{split_place-is, split_place-whole, address-of-body, below-of-body}
+use Rattle.ph_node.specs.Split.{IsBelow, body_at, body_above, entry_below, split_node}
+use Rattle.ph_node.proofs.Bodies.{none_from}
+use Rattle.ph_tree.specs.Differences.{IsTopDifference}
+use Rattle.ph_tree.specs.Step.{IsAt, IsApart, IsApartAt}
+
+abbrev no_entry : Entry
+no_entry = point_entry 0 [] 0
+
+-- ---- reading
+
+pub at_entry : (w : ℕ) (p : List ℤ) (t : PlainNode) (level a i : ℕ) (x : Entry) → level ≡ t.level → a ≡ address w p level → Some i ≡ position (has_address a) (entries t) → slice_get (entries t) i ≡ Some x → IsAt w p t i x
+at_entry w p t level a i x l d f g = (g, laws.address-found a i (entries t) x (sym f) g ∙ d ∙ ap (address w p) l)
+
+pub same_below : (w level l : ℕ) (p : List ℤ) (xs : List ℕ) (r : Bool) → level ≡ l → r ≡ same_digits xs (digits_below w level p) → r ≡ true → xs ≡ digits_below w l p
+same_below w level l p xs r e f t = same_digits-true xs (digits_below w level p) (sym f ∙ t) ∙ ap (λ k. digits_below w k p) e
+
+pub other_below : (w level l : ℕ) (p : List ℤ) (xs : List ℕ) (r : Bool) → level ≡ l → r ≡ same_digits xs (digits_below w level p) → r ≡ false → xs ≡ digits_below w l p → ⊥
+other_below w level l p xs r e f t s = same_digits-false xs (digits_below w level p) (sym f ∙ t) (s ∙ sym (ap (λ k. digits_below w k p) e))
+
+pub same_between : (w level l low b : ℕ) (p : List ℤ) (xs : List ℕ) (r : Bool) → level ≡ l → low ≡ b → r ≡ same_digits xs (digits_between w level low p) → r ≡ true → xs ≡ digits_between w l b p
+same_between w level l low b p xs r e d f t =
+    same_digits-true xs (digits_between w level low p) (sym f ∙ t) ∙ ap (λ k. digits_between w k low p) e ∙ ap (λ k. digits_between w l k p) d
+
+pub other_between : (w level l low b : ℕ) (p : List ℤ) (xs : List ℕ) (r : Bool) → level ≡ l → low ≡ b → r ≡ same_digits xs (digits_between w level low p) → r ≡ false → xs ≡ digits_between w l b p → ⊥
+other_between w level l low b p xs r e d f t s =
+    same_digits-false xs (digits_between w level low p) (sym f ∙ t) (s ∙ sym (ap (λ k. digits_between w k low p) e ∙ ap (λ k. digits_between w l k p) d))
+
+-- ---- an entry of a lawful node
+
+pub what_got : (xs : List Entry) (i : ℕ) (e : Entry) → slice_get xs i ≡ Some e → what_at xs i ≡ e.what
+what_got [] i e h = cc
+what_got (x ∷ xs) zero e h = ap (λ o. (unwrap_or o no_entry).what) h
+what_got (x ∷ xs) (suc i) e h = what_got xs i e h
+
+pub body_got : (xs : List Entry) (i : ℕ) (e : Entry) → slice_get xs i ≡ Some e → body_at xs i ≡ e.body
+body_got [] i e h = cc
+body_got (x ∷ xs) zero e h = ap (λ o. (unwrap_or o no_entry).body) h
+body_got (x ∷ xs) (suc i) e h = body_got xs i e h
+
+pub within : (xs : List Entry) (i : ℕ) (e : Entry) → slice_get xs i ≡ Some e → i < length xs
+within [] i e h = cc
+within (x ∷ xs) zero e h = omega arith
+within (x ∷ xs) (suc i) e h = omega (arith, within xs i e h)
+
+same_what : (xs : List Entry) (i : ℕ) (e : Entry) → slice_get xs i ≡ Some e → with_what xs i e.what ≡ xs
+same_what [] i e h = cc
+same_what (x ∷ xs) zero e h = let q : x ≡ e = ap (λ o. unwrap_or o no_entry) h in ap (λ u. holding x u.what ∷ xs) (sym q)
+same_what (x ∷ xs) (suc i) e h = ap {B = List Entry} (λ u. x ∷ u) (same_what xs i e h)
+
+-- a child that is put back
+pub put_back : (t : PlainNode) (i : ℕ) (x : Entry) (m : PlainNode) → slice_get (entries t) i ≡ Some x → x.what ≡ node m → with_child t i m ≡ t
+put_back t i x m g q =
+    ap (λ z. node_of t.level (with_what (entries t) i z)) (sym q) ∙ ap (node_of t.level) (same_what (entries t) i x g) ∙ node_of-entries t
+
+node_in : PlainNode → What → PlainNode
+node_in n (value v) = n
+node_in n (node m) = m
+
+pub same_node : (m n : PlainNode) (w : What) → w ≡ node m → w ≡ node n → m ≡ n
+unfolding node_in
+same_node m n w h k = ap (node_in m) (sym h ∙ k)
+
+pub lawful-body : (dims b least : ℕ) (e : Entries) (i : ℕ) (x : Entry) → IsLawfulFrom dims b least e → slice_get (listed e) i ≡ Some x → IsBody dims b x.body
+lawful-body dims b least end i x h g = cc
+lawful-body dims b least (point a body v rest) zero x h g = subst (λ o. IsBody dims b (unwrap_or o no_entry).body) g h.2
+lawful-body dims b least (point a body v rest) (suc i) x h g = lawful-body dims b (a + 1) rest i x h.3 g
+lawful-body dims b least (child a body c chain rest) zero x h g = subst (λ o. IsBody dims b (unwrap_or o no_entry).body) g h.2
+lawful-body dims b least (child a body c chain rest) (suc i) x h g = lawful-body dims b (a + 1) rest i x h.7 g
+
+-- ---- a point joins
+
+pub put_absent : (w : ℕ) (p : List ℤ) (t : PlainNode) (level a : ℕ) (body : List ℕ) (v : ℕ) → level ≡ t.level → a ≡ address w p level → body ≡ digits_below w level p → position (has_address (address w p level)) (entries t) ≡ None → node_of t.level (inserted (point_entry a body v) (entries t)) ≡ put_node w t p v
+put_absent w p t level a body v l d b n =
+    ap (λ u. node_of t.level (inserted (point_entry u body v) (entries t))) (d ∙ ap (address w p) l)
+    ∙ ap (λ u. node_of t.level (inserted (point_entry (address w p t.level) u v) (entries t))) (b ∙ ap (λ k. digits_below w k p) l)
+    ∙ sym (laws.put_node-absent w t p v (subst (λ k. position (has_address (address w p k)) (entries t) ≡ None) l n))
+
+-- ---- an entry is split
+
+above-zeros : (l : ℕ) (xs : List ℕ) → HasZerosFrom l xs → xs ≡ body_above l xs
+above-zeros l [] h = refl
+above-zeros l (x ∷ xs) h =
+    ap (λ n. n ∷ xs) (quotient x (2 ^ (l + 1)) h.0) ∙ ap {B = List ℕ} (λ u. x / 2 ^ (l + 1) * 2 ^ (l + 1) ∷ u) (above-zeros l xs h.1)
+
+above-digits : (l : ℕ) (xs : List ℕ) → body_above l xs ≡ map (λ n. n * 2 ^ (l + 1)) (digits_from (l + 1) xs)
+above-digits l [] = refl
+above-digits l (x ∷ xs) = ap {B = List ℕ} (λ u. x / 2 ^ (l + 1) * 2 ^ (l + 1) ∷ u) (above-digits l xs)
+
+above-same : (l : ℕ) (xs ys : List ℕ) → digits_from (l + 1) xs ≡ digits_from (l + 1) ys → body_above l xs ≡ body_above l ys
+above-same l xs ys e = above-digits l xs ∙ ap (λ u. map (λ n. n * 2 ^ (l + 1)) u) e ∙ sym (above-digits l ys)
+
+module _ (w dims : ℕ) (p : List ℤ) (t : PlainNode) (i : ℕ) (x : Entry) (at : IsAt w p t i x) (ok : IsLawfulFrom dims t.level 0 t.chain) (new_body : IsBody dims t.level (digits_below w t.level p)) where
+  abbrev new : List ℕ
+  new = digits_below w t.level p
+
+  old_body : IsBody dims t.level x.body
+  old_body = lawful-body dims t.level 0 t.chain i x ok at.0
+
+  pub same_length : length x.body ≡ length (digits_below w t.level p)
+  same_length = omega (arith, old_body.0, new_body.0)
+
+  differs_by : (held : What) → x.what ≡ held → IsApart w p t.level x.body held → x.body ≢ digits_below w t.level p
+  differs_by (value u) q a e = a e
+  differs_by (node m) q a e =
+      let c : IsLawfulChild dims t.level x m = lawful-child dims t.level 0 t.chain i x m ok at.0 q in
+      a (above-zeros m.level x.body c.zeros ∙ ap (body_above m.level) e)
+
+  pub differs : IsApart w p t.level x.body x.what → x.body ≢ digits_below w t.level p
+  differs a = differs_by x.what refl a
+
+  module _ (place : ℕ) (top : IsTopDifference x.body (digits_below w t.level p) place) where
+    pub lower : place < t.level
+    lower =
+        elim (cases_lt place t.level) [
+          | inl l ↦ l
+          | inr g ↦ absurd (top.differ (same_from t.level place x.body new g (none_from dims t.level x.body new old_body new_body)))
+        ]
+
+    pub split_here : split_place t.level x.body (digits_below w t.level p) ≡ place
+    split_here = split_place-is t.level place x.body new lower top.agree top.differ
+
+    above_by : (held : What) → x.what ≡ held → IsApart w p t.level x.body held → IsBelow place held
+    above_by (value u) q a = tt
+    above_by (node m) q a =
+        let c : IsLawfulChild dims t.level x m = lawful-child dims t.level 0 t.chain i x m ok at.0 q in
+        elim (cases_lt m.level place) [
+          | inl l ↦ l
+          | inr g ↦ absurd (a (above-zeros m.level x.body c.zeros ∙ above-same m.level x.body new (same_from (place + 1) (m.level + 1) x.body new (omega (arith, g)) top.agree)))
+        ]
+
+    pub above : IsApart w p t.level x.body x.what → IsBelow place (what_at (entries t) i)
+    above a = subst (IsBelow place) (sym (what_got (entries t) i x at.0)) (above_by x.what refl a)
+
+    put_by : (held : What) → x.what ≡ held → IsApart w p t.level x.body held → (v : ℕ) → put_node w t p v ≡ node_of t.level (split_at (entries t) i place (digits_between w t.level place p) (body_address place x.body) (body_below place x.body) (point_entry (address w p place) (digits_below w place p) v))
+    put_by (value u) q a v = laws.put_node-split_point w dims t i x u place p v ok at.0 at.1 q a split_here
+    put_by (node m) q a v =
+        let c : IsLawfulChild dims t.level x m = lawful-child dims t.level 0 t.chain i x m ok at.0 q in
+        laws.put_node-split_child w dims t i x m place p v ok at.0 at.1 q a
+        (split_place-whole w t.level m.level x.body p c.lower c.zeros (none_from dims t.level x.body new old_body new_body) a ∙ split_here)
+
+    pub put_split : IsApart w p t.level x.body x.what → (v : ℕ) → split_node t i place (digits_below w t.level p) v ≡ put_node w t p v
+    put_split a v =
+        ap (λ o. node_of t.level (split_at (entries t) i place (digits_between w t.level place p) (body_address place o) (body_below place o) (entry_below place new (value v)))) (body_got (entries t) i x at.0)
+        ∙ ap (λ n. node_of t.level (split_at (entries t) i place (digits_between w t.level place p) (body_address place x.body) (body_below place x.body) (record { addr = n; body = body_below place new; what = value v }))) (address-of-body w t.level place p lower)
+        ∙ ap (λ (u : List ℕ). node_of t.level (split_at (entries t) i place (digits_between w t.level place p) (body_address place x.body) (body_below place x.body) (record { addr = address w p place; body = u; what = value v }))) (below-of-body w t.level place p (omega (arith, lower)))
+        ∙ sym (put_by x.what refl a v)
+
+-- all that a split asks, and what it makes
+pub record Splits (w dims : ℕ) (p : List ℤ) (t : PlainNode) (i place : ℕ) (body : List ℕ) : Type 0 where
+  pub inside : i < length (entries t)
+  pub under : place < t.level
+  pub apart : body_at (entries t) i ≢ body
+  pub at_place : split_place t.level (body_at (entries t) i) body ≡ place
+  pub over : IsBelow place (what_at (entries t) i)
+  pub put : (v : ℕ) → split_node t i place body v ≡ put_node w t p v
+
+pub splits : (w dims : ℕ) (p : List ℤ) (t : PlainNode) (i place : ℕ) (old body : List ℕ) → IsLawfulFrom dims t.level 0 t.chain → IsApartAt w p t i old → IsBody dims t.level body → body ≡ digits_below w t.level p → IsTopDifference old body place → Splits w dims p t i place body
+splits w dims p t i place old body ok (x, at, b, a) k e top =
+    let here : body_at (entries t) i ≡ x.body = body_got (entries t) i x at.0 in
+    let n : IsBody dims t.level (digits_below w t.level p) = subst (IsBody dims t.level) e k in
+    let d : IsTopDifference x.body (digits_below w t.level p) place = subst (λ u. IsTopDifference x.body u place) e (subst (λ u. IsTopDifference u body place) (sym b) top) in
+    record {
+      inside = within (entries t) i x at.0;
+      under = lower w dims p t i x at ok n place d;
+      apart = λ s. differs w dims p t i x at ok n a (sym here ∙ s ∙ e);
+      at_place = ap (λ u. split_place t.level u body) here ∙ ap (split_place t.level x.body) e ∙ split_here w dims p t i x at ok n place d;
+      over = above w dims p t i x at ok n place d a;
+      put = λ v. ap (λ u. split_node t i place u v) e ∙ put_split w dims p t i x at ok n place d a v;
+    }
+
+-- the words of two bodies differ, and are words
+pub words_differ : (w dims : ℕ) (p : List ℤ) (t : PlainNode) (i : ℕ) (old body : List ℕ) → IsLawfulFrom dims t.level 0 t.chain → IsApartAt w p t i old → IsBody dims t.level body → body ≡ digits_below w t.level p → old ≢ body
+words_differ w dims p t i old body ok (x, at, b, a) k e s =
+    differs w dims p t i x at ok (subst (IsBody dims t.level) e k) a (b ∙ s ∙ e)
+
+pub are_words : (level : ℕ) (xs : List ℕ) → level ≤ 64 → Each (λ x. x < 2 ^ level) xs → Each (λ x. x < 2 ^ 64) xs
+are_words level [] l h = tt
+are_words level (x ∷ xs) l h = let g : 2 ^ level ≤ 2 ^ 64 = pow_mono {i = level} {j = 64} l in (omega (arith, h.0, g), are_words level xs l h.1)

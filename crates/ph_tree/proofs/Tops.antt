@@ -1,0 +1,104 @@
+-- The word of differences has a 1 exactly where the digits of some pair differ.
+use Rattle.std.proofs.Common.{◌≡◌, ◌≢◌, ℕ, suc, ◌+◌, ◌-◌, ◌*◌, ◌/◌, ◌%◌, ◌<◌, ◌≤◌, ◌^◌, max, List, [], ◌∷◌, length, map, sym, ◌∙◌, ap, refl, arith, get_or, drop, subst}
+use Rattle.std.specs.List.{AllByRecursion as Each}
+use Rattle.std.specs.Int.{bit_at}
+use Rattle.std.specs.Int.Bits.{bit_or, bit_xor}
+use Rattle.std.specs.Int.Count.{count_leading_zeros}
+use Rattle.std.proofs.lemmas.Nat.{or_lt, xor_lt, shr-shr, leading_top}
+use Rattle.std.proofs.lemmas.Nat.Bits.{bit_at-lt, bit_at_or, bit_at_xor, bit_at-zero, bit_at_above, same_from_bits}
+use Rattle.std.proofs.Math.Nat.{div-eq_of_lt-le}
+use Rattle.ph_specs.specs.PutTree.{digits_from}
+use Rattle.ph_tree.specs.Differences.{differences, IsTopDifference}
+
+joined-is : (a b c k : ℕ) → bit_at (bit_or a (bit_xor b c)) k ≡ max (bit_at a k) ((bit_at b k + bit_at c k) % 2)
+joined-is a b c k = bit_at_or a (bit_xor b c) k ∙ ap (max (bit_at a k)) (bit_at_xor b c k)
+
+even : (a b c : ℕ) → b < 2 → c < 2 → max a ((b + c) % 2) ≡ 0 → (a ≡ 0) × (b ≡ c)
+even a b c h k e = (omega arith, omega arith)
+
+doubled : (a b c : ℕ) → b < 2 → b ≡ c → max a ((b + c) % 2) ≡ a
+doubled a b c h e = omega arith
+
+joined-none : (a b c k : ℕ) → bit_at (bit_or a (bit_xor b c)) k ≡ 0 → (bit_at a k ≡ 0) × (bit_at b k ≡ bit_at c k)
+joined-none a b c k e =
+    even (bit_at a k) (bit_at b k) (bit_at c k) (bit_at-lt b k) (bit_at-lt c k) (sym (joined-is a b c k) ∙ e)
+
+joined-same : (a b c k : ℕ) → bit_at b k ≡ bit_at c k → bit_at (bit_or a (bit_xor b c)) k ≡ bit_at a k
+joined-same a b c k e =
+    joined-is a b c k ∙ doubled (bit_at a k) (bit_at b k) (bit_at c k) (bit_at-lt b k) e
+
+-- where the word has a 0, all digits are the same
+same-at : (m k : ℕ) (xs ys : List ℕ) → length xs ≡ length ys → bit_at (differences m xs ys) k ≡ 0 → (bit_at m k ≡ 0) × (map (λ x. bit_at x k) xs ≡ map (λ x. bit_at x k) ys)
+same-at m k [] [] long e = (e, refl)
+same-at m k [] (y ∷ ys) long e = absurd (omega (arith, long))
+same-at m k (x ∷ xs) [] long e = absurd (omega (arith, long))
+same-at m k (x ∷ xs) (y ∷ ys) long e =
+    let more : (bit_at (bit_or m (bit_xor x y)) k ≡ 0) × (map (λ x. bit_at x k) xs ≡ map (λ x. bit_at x k) ys) = same-at (bit_or m (bit_xor x y)) k xs ys (omega (arith, long)) e in
+    let here : (bit_at m k ≡ 0) × (bit_at x k ≡ bit_at y k) = joined-none m x y k more.0 in
+    (here.0, ap (λ n. n ∷ map (λ x. bit_at x k) xs) here.1 ∙ ap {B = List ℕ} (λ u. bit_at y k ∷ u) more.1)
+
+-- where all digits are the same, the word has the digit that it began with
+kept-at : (m k : ℕ) (xs ys : List ℕ) → map (λ x. bit_at x k) xs ≡ map (λ x. bit_at x k) ys → bit_at (differences m xs ys) k ≡ bit_at m k
+kept-at m k [] ys e = refl
+kept-at m k (x ∷ xs) [] e = refl
+kept-at m k (x ∷ xs) (y ∷ ys) e =
+    kept-at (bit_or m (bit_xor x y)) k xs ys (ap (drop 1) e) ∙ joined-same m x y k (ap (λ u. get_or u 0 0) e)
+
+differences-small : (m : ℕ) (xs ys : List ℕ) → m < 2 ^ 64 → Each (λ x. x < 2 ^ 64) xs → Each (λ y. y < 2 ^ 64) ys → differences m xs ys < 2 ^ 64
+differences-small m [] ys l h k = l
+differences-small m (x ∷ xs) [] l h k = l
+differences-small m (x ∷ xs) (y ∷ ys) l h k =
+    differences-small (bit_or m (bit_xor x y)) xs ys (or_lt 64 m (bit_xor x y) l (xor_lt 64 x y h.0 k.0)) h.1 k.1
+
+-- the digits from a place on, by the digits at each place
+from_bits : (t : ℕ) (xs ys : List ℕ) → length xs ≡ length ys → ((k : ℕ) → t ≤ k → map (λ x. bit_at x k) xs ≡ map (λ x. bit_at x k) ys) → digits_from t xs ≡ digits_from t ys
+from_bits t [] [] long e = refl
+from_bits t [] (y ∷ ys) long e = absurd (omega (arith, long))
+from_bits t (x ∷ xs) [] long e = absurd (omega (arith, long))
+from_bits t (x ∷ xs) (y ∷ ys) long e =
+    let here : x / 2 ^ t ≡ y / 2 ^ t = same_from_bits (x / 2 ^ t) (y / 2 ^ t) (λ i. ap (λ n. n % 2) (shr-shr x t i) ∙ ap (λ u. get_or u 0 0) (e (t + i) (omega arith)) ∙ sym (ap (λ n. n % 2) (shr-shr y t i))) in
+    ap (λ n. n ∷ digits_from t xs) here ∙ ap {B = List ℕ} (λ u. y / 2 ^ t ∷ u) (from_bits t xs ys (omega (arith, long)) (λ k l. ap (drop 1) (e k l)))
+
+bits_from : (t : ℕ) (xs ys : List ℕ) → digits_from t xs ≡ digits_from t ys → map (λ x. bit_at x t) xs ≡ map (λ x. bit_at x t) ys
+bits_from t [] [] e = refl
+bits_from t [] (y ∷ ys) e = cc
+bits_from t (x ∷ xs) [] e = cc
+bits_from t (x ∷ xs) (y ∷ ys) e =
+    ap (λ n. n % 2 ∷ map (λ x. bit_at x t) xs) (ap (λ u. get_or u 0 0) e) ∙ ap {B = List ℕ} (λ u. bit_at y t ∷ u) (bits_from t xs ys (ap (drop 1) e))
+
+from-zero : (xs : List ℕ) → digits_from 0 xs ≡ xs
+from-zero [] = refl
+from-zero (x ∷ xs) =
+    let e : x / 1 ≡ x = omega arith in ap (λ t. t ∷ digits_from 0 xs) e ∙ ap {B = List ℕ} (λ t. x ∷ t) (from-zero xs)
+
+-- the word is 0 only where nothing differs
+pub some_difference : (xs ys : List ℕ) → length xs ≡ length ys → xs ≢ ys → differences 0 xs ys ≢ 0
+some_difference xs ys long n e =
+    n (sym (from-zero xs) ∙ from_bits 0 xs ys long (λ k l. (same-at 0 k xs ys long (ap (λ m. bit_at m k) e ∙ bit_at-zero k)).1) ∙ from-zero ys)
+
+-- the digit at the top of a number is 1
+top-digit : (m j : ℕ) → 2 ^ j ≤ m → m < 2 ^ suc j → bit_at m j ≡ 1
+top-digit m j h k =
+    let e : 2 ^ suc j ≡ 2 * 2 ^ j = omega arith in
+    ap (λ x. x % 2) (div-eq_of_lt-le {k = 1} (2 ^ j) {m = m} (omega (arith, h)) (omega (arith, k, e)))
+
+-- the word has a digit
+pub few_zeros : (xs ys : List ℕ) (m : ℕ) → length xs ≡ length ys → Each (λ x. x < 2 ^ 64) xs → Each (λ y. y < 2 ^ 64) ys → xs ≢ ys → m ≡ differences 0 xs ys → count_leading_zeros 64 m ≤ 63
+few_zeros xs ys m long h k n e =
+    let small : m < 2 ^ 64 = omega (arith, e, differences-small 0 xs ys (omega arith) h k) in
+    let some : m ≢ 0 = λ z. some_difference xs ys long n (sym e ∙ z) in
+    let t = leading_top 64 m (omega (arith, some)) small in
+    omega (arith, t.1)
+
+-- the place of the word's top digit
+pub top-place : (xs ys : List ℕ) (m : ℕ) → length xs ≡ length ys → Each (λ x. x < 2 ^ 64) xs → Each (λ y. y < 2 ^ 64) ys → xs ≢ ys → m ≡ differences 0 xs ys → IsTopDifference xs ys (63 - count_leading_zeros 64 m)
+top-place xs ys m long h k n e =
+    let small : m < 2 ^ 64 = omega (arith, e, differences-small 0 xs ys (omega arith) h k) in
+    let some : m ≢ 0 = λ z. some_difference xs ys long n (sym e ∙ z) in
+    let t = leading_top 64 m (omega (arith, some)) small in
+    let at : t.0 ≡ 63 - count_leading_zeros 64 m = omega (arith, t.1) in
+    subst (IsTopDifference xs ys) at (record {
+      within = omega (arith, t.1);
+      agree = from_bits (t.0 + 1) xs ys long (λ i g. (same-at 0 i xs ys long (sym (ap (λ x. bit_at x i) e) ∙ bit_at_above m (suc t.0) i t.3 (omega (arith, g)))).1);
+      differ = λ a. let no : ⊥ = omega (arith, top-digit m t.0 t.2 t.3, ap (λ x. bit_at x t.0) e, kept-at 0 t.0 xs ys (bits_from t.0 xs ys a), bit_at-zero t.0) in no;
+    })

@@ -1,0 +1,17 @@
+//! The PH-tree (T. Zäschke, C. Zimmerli, M. C. Norrie, "The PH-Tree: A Space-Efficient Storage Structure and
+//! Multi-Dimensional Index", SIGMOD 2014): a table whose rows stand in a tree of hypercube nodes.
+#![tactic(auto)]
+
+mod differences;
+mod error;
+mod find;
+mod key;
+mod puts;
+mod step;
+#[cfg(test)]
+mod tests;
+mod tree;
+
+pub use error::PutError;
+pub use ph_table::Put;
+pub use tree::PhTree;

@@ -1,0 +1,348 @@
+//! Trees whose nodes are known from outside.
+
+ghost use Rattle.std.specs.Prelude.{◌≡◌, ◌<◌, ◌≤◌};
+ghost use Rattle.ph_specs.specs.Coordinate.{IsPoint};
+
+use crate::{PhTree, Put, PutError};
+use ph_coord::{Point, Width};
+use ph_node::{NodeRef, What};
+use ph_steps::Steps;
+use std::alloc::Global;
+use std::marker::Brand;
+use std::process::Abort;
+use std::sync::ledger::{Blank, Ledger};
+
+#[derive(Clone, Copy)]
+enum Case {
+    UnitSquare,
+    EachSplit,
+    DeepestPath,
+    CrowdedCube,
+    Dimensions,
+    FullTable,
+}
+
+fn empty<const D: usize>(rt: &impl Abort, alloc: Global, max: u64) -> PhTree<D>
+    requires some { 1 ≤ D }
+    requires few { D ≤ 16 }
+{
+    let Some(width) = Width::new(32) else {
+        panic!(rt; "no width");
+    };
+    PhTree::new(alloc, width, max)
+}
+
+fn point<const D: usize>(rt: &impl Abort, tree: &PhTree<D>, coords: &[i64]) -> Point<D>
+    ensures { IsPoint tree.now.width D result }
+{
+    let Some(p) = Point::from_slice(tree.width(), coords) else {
+        panic!(rt; "no point");
+    };
+    p
+}
+
+// A put that is to find this.
+fn put<const D: usize, V: Ledger, C: Ledger>(
+    rt: &impl Abort,
+    tree: &mut PhTree<D>,
+    coords: &[i64],
+    v: u64,
+    visits: &mut Steps<V>,
+    changes: &mut Steps<C>,
+    found: Result<Put, PutError>,
+)
+    requires { D ≤ 16 }
+{
+    let p = point(rt, tree, coords);
+    let answer = tree.put(p, v, visits, changes);
+    assert!(rt; answer == found, "put {v}");
+}
+
+// The child of entry i, visited.
+fn child<'t, const D: usize, V: Ledger>(
+    rt: &impl Abort,
+    node: NodeRef<'t, D>,
+    i: usize,
+    visits: &mut Steps<V>,
+) -> NodeRef<'t, D> {
+    assert!(rt; i < node.len());
+    match node.entry(i).what {
+        What::Child(child) => child.visit(visits),
+        What::Value(_) => panic!(rt; "no child"),
+    }
+}
+
+// Whether entry i is a point with this value, whose address is i.
+fn is_point<const D: usize>(node: NodeRef<'_, D>, i: usize, v: u64) -> bool {
+    if i >= node.len() {
+        return false;
+    }
+    let entry = node.entry(i);
+    match entry.what {
+        What::Value(u) => u == v && entry.addr as usize == i,
+        What::Child(_) => false,
+    }
+}
+
+fn root<'t, const D: usize, V: Ledger>(
+    rt: &impl Abort,
+    tree: &'t PhTree<D>,
+    visits: &mut Steps<V>,
+) -> NodeRef<'t, D> {
+    let Some(root) = tree.root() else {
+        panic!(rt; "no root");
+    };
+    root.visit(visits)
+}
+
+// Puts corner 0 to 3 of the unit square, with its number as the value.
+fn put_corner<V: Ledger, C: Ledger>(
+    rt: &impl Abort,
+    tree: &mut PhTree<2>,
+    corner: u64,
+    visits: &mut Steps<V>,
+    changes: &mut Steps<C>,
+) {
+    let coords = [(corner >> 1 & 1) as i64, (corner & 1) as i64];
+    put(rt, tree, &coords, corner, visits, changes, Ok(Put::New));
+}
+
+fn unit_square<V: Ledger, C: Ledger>(
+    rt: &impl Abort,
+    alloc: Global,
+    visits: &mut Steps<V>,
+    changes: &mut Steps<C>,
+) {
+    for order in 0..64u64 {
+        let (a, b, c) = (order >> 4, order >> 2 & 3, order & 3);
+        if a == b || b == c || a == c {
+            continue;
+        }
+        let mut tree: PhTree<2> = empty(rt, alloc, 4);
+        for corner in [a, b, c, 6u64.saturating_sub(a + b + c)] {
+            put_corner(rt, &mut tree, corner, visits, changes);
+        }
+        let top = root(rt, &tree, visits);
+        assert_eq!(rt; (top.level(), top.len()), (31, 1), "order {order}");
+        let square = child(rt, top, 0, visits);
+        assert_eq!(rt; (square.level(), square.len()), (0, 4), "order {order}");
+        for i in 0..4 {
+            assert!(rt; is_point(square, i, i as u64), "order {order}");
+        }
+    }
+}
+
+fn each_split<V: Ledger, C: Ledger>(
+    rt: &impl Abort,
+    alloc: Global,
+    visits: &mut Steps<V>,
+    changes: &mut Steps<C>,
+) {
+    for place in 0..31u32 {
+        let mut tree: PhTree<2> = empty(rt, alloc, 2);
+        put(rt, &mut tree, &[0, 0], 0, visits, changes, Ok(Put::New));
+        put(
+            rt,
+            &mut tree,
+            &[0, (1u64 << place) as i64],
+            1,
+            visits,
+            changes,
+            Ok(Put::New),
+        );
+        let top = root(rt, &tree, visits);
+        let split = child(rt, top, 0, visits);
+        assert_eq!(rt; (split.level(), split.len()), (place, 2));
+        assert!(rt;
+            is_point(split, 0, 0) && is_point(split, 1, 1),
+            "place {place}"
+        );
+    }
+}
+
+// Each power of two in one dimension: each place has a node.
+fn deepest_path<V: Ledger, C: Ledger>(
+    rt: &impl Abort,
+    alloc: Global,
+    visits: &mut Steps<V>,
+    changes: &mut Steps<C>,
+) {
+    let mut tree: PhTree<1> = empty(rt, alloc, 32);
+    put(rt, &mut tree, &[0], 0, visits, changes, Ok(Put::New));
+    for place in 0..31u32 {
+        let power = 1u64 << place;
+        put(
+            rt,
+            &mut tree,
+            &[power as i64],
+            power,
+            visits,
+            changes,
+            Ok(Put::New),
+        );
+    }
+    let mut node = root(rt, &tree, visits);
+    for place in (0..31u32).rev() {
+        node = child(rt, node, 0, visits);
+        assert_eq!(rt; (node.level(), node.len()), (place, 2));
+        assert!(rt; is_point(node, 1, 1u64 << place), "place {place}");
+    }
+    assert!(rt; is_point(node, 0, 0));
+    assert_eq!(rt; tree.len(), 32);
+}
+
+// The corners of the unit cube of eight dimensions, in a mixed order: one node has them all.
+fn crowded_cube<V: Ledger, C: Ledger>(
+    rt: &impl Abort,
+    alloc: Global,
+    visits: &mut Steps<V>,
+    changes: &mut Steps<C>,
+) {
+    let mut tree: PhTree<8> = empty(rt, alloc, 256);
+    for k in 0..256u64 {
+        let corner = k * 37 % 256;
+        let mut coords = [0; 8];
+        for (i, coord) in coords.iter_mut().enumerate() {
+            *coord = (corner >> (7 - i) & 1) as i64;
+        }
+        put(
+            rt,
+            &mut tree,
+            &coords,
+            corner,
+            visits,
+            changes,
+            Ok(Put::New),
+        );
+    }
+    let cube = child(rt, root(rt, &tree, visits), 0, visits);
+    assert_eq!(rt; (cube.level(), cube.len()), (0, 256));
+    for i in 0..256 {
+        assert!(rt; is_point(cube, i, i as u64), "corner {i}");
+    }
+}
+
+// Values at the points with one coordinate of -1, replaced and looked up.
+fn dimensions<const D: usize, V: Ledger, C: Ledger>(
+    rt: &impl Abort,
+    alloc: Global,
+    visits: &mut Steps<V>,
+    changes: &mut Steps<C>,
+)
+    requires some { 1 ≤ D }
+    requires few { D ≤ 16 }
+{
+    let mut tree: PhTree<D> = empty(rt, alloc, 16);
+    for pass in 0..2u64 {
+        for i in 0..D {
+            let mut coords = [0; D];
+            coords[i] = -1;
+            let v = pass * 100 + i as u64;
+            let found = if pass == 0 {
+                Put::New
+            } else {
+                Put::Old(i as u64)
+            };
+            put(rt, &mut tree, &coords, v, visits, changes, Ok(found));
+            let p = point(rt, &tree, &coords);
+            assert_eq!(rt; tree.get(&p, visits), Some(v));
+        }
+    }
+    let p = point(rt, &tree, &[0; D]);
+    assert_eq!(rt; tree.get(&p, visits), None);
+    tree.clear();
+    assert_eq!(rt; (tree.len(), tree.max()), (0, 16));
+}
+
+fn full_table<V: Ledger, C: Ledger>(
+    rt: &impl Abort,
+    alloc: Global,
+    visits: &mut Steps<V>,
+    changes: &mut Steps<C>,
+) {
+    let mut tree: PhTree<2> = empty(rt, alloc, 1);
+    put(rt, &mut tree, &[0, 0], 1, visits, changes, Ok(Put::New));
+    put(
+        rt,
+        &mut tree,
+        &[1, 1],
+        2,
+        visits,
+        changes,
+        Err(PutError::Full),
+    );
+    put(rt, &mut tree, &[0, 0], 3, visits, changes, Ok(Put::Old(1)));
+    assert_eq!(rt; tree.len(), 1);
+    let mut none: PhTree<2> = empty(rt, alloc, 0);
+    put(
+        rt,
+        &mut none,
+        &[0, 0],
+        1,
+        visits,
+        changes,
+        Err(PutError::Full),
+    );
+}
+
+fn outcome<V: Ledger, C: Ledger>(
+    rt: &impl Abort,
+    alloc: Global,
+    case: Case,
+    visits: Blank,
+    changes: Blank,
+)
+    requires visits { (visits.name ≡ V.name) × (visits.parts ≡ V.parts) × (0 < visits.parts) }
+    requires changes { (changes.name ≡ C.name) × (changes.parts ≡ C.parts) × (0 < changes.parts) }
+{
+    let mut visits: Steps<V> = Steps::new(visits);
+    let mut changes: Steps<C> = Steps::new(changes);
+    match case {
+        Case::UnitSquare => unit_square(rt, alloc, &mut visits, &mut changes),
+        Case::EachSplit => each_split(rt, alloc, &mut visits, &mut changes),
+        Case::DeepestPath => deepest_path(rt, alloc, &mut visits, &mut changes),
+        Case::CrowdedCube => crowded_cube(rt, alloc, &mut visits, &mut changes),
+        Case::Dimensions => {
+            dimensions::<1, V, C>(rt, alloc, &mut visits, &mut changes);
+            dimensions::<2, V, C>(rt, alloc, &mut visits, &mut changes);
+            dimensions::<3, V, C>(rt, alloc, &mut visits, &mut changes);
+            dimensions::<8, V, C>(rt, alloc, &mut visits, &mut changes);
+            dimensions::<16, V, C>(rt, alloc, &mut visits, &mut changes);
+        }
+        Case::FullTable => full_table(rt, alloc, &mut visits, &mut changes),
+    }
+}
+
+fn check(rt: &impl Abort, alloc: Global, case: Case) {
+    outcome::<Brand, Brand>(rt, alloc, case, Blank::new(1), Blank::new(1));
+}
+
+#[test]
+fn unit_square_in_any_order(rt: HostRuntime) {
+    check(&rt, rt.alloc(), Case::UnitSquare);
+}
+
+#[test]
+fn split_at_each_place(rt: HostRuntime) {
+    check(&rt, rt.alloc(), Case::EachSplit);
+}
+
+#[test]
+fn the_deepest_path(rt: HostRuntime) {
+    check(&rt, rt.alloc(), Case::DeepestPath);
+}
+
+#[test]
+fn the_crowded_cube(rt: HostRuntime) {
+    check(&rt, rt.alloc(), Case::CrowdedCube);
+}
+
+#[test]
+fn one_to_sixteen_dimensions(rt: HostRuntime) {
+    check(&rt, rt.alloc(), Case::Dimensions);
+}
+
+#[test]
+fn the_full_table(rt: HostRuntime) {
+    check(&rt, rt.alloc(), Case::FullTable);
+}

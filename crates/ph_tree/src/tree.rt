@@ -1,0 +1,154 @@
+//! The tree: a table in nodes.
+
+ghost use Rattle.std.specs.Prelude.{◌≡◌, ◌+◌, ◌*◌, ◌<◌, ◌≤◌, ◌↔◌, [], length, None, IfOk, OnOk, OnErr, IsErrOf, IsSome, IsOk};
+ghost use Rattle.std.specs.Option.{option_copied};
+ghost use Rattle.ph_specs.specs.Coordinate.{IsPoint};
+ghost use Rattle.ph_specs.specs.Table.{IsTable, find};
+ghost use Rattle.ph_specs.specs.Shape.{shape};
+ghost use Rattle.ph_specs.specs.WorkSets.{path};
+ghost use Rattle.ph_table.specs.Rows.{put_answer};
+ghost use Rattle.ph_tree.specs.Tree.{with_row};
+
+use crate::error::PutError;
+use crate::find::find_in;
+use crate::key::KeyOf;
+use crate::puts::put_in;
+use ph_coord::{Point, Width};
+use ph_node::Node;
+use ph_steps::Steps;
+use ph_table::Put;
+use std::alloc::Global;
+use std::marker::Model;
+use std::sync::ledger::Ledger;
+
+/// A table of at most `max` rows, at points of D dimensions and of one width.
+///
+/// Whatever the order of the puts, the same table is the same tree. It takes memory for its nodes alone.
+#[derive(Drop)]
+pub struct PhTree<const D: usize> {
+    alloc: Global,
+    root: Option<Node<D>>,
+    width: Width,
+    max: u64,
+    len: u64,
+}
+
+impl<const D: usize> Model for PhTree<D> {
+    ghost use Rattle.ph_tree.specs.Tree.{TreeTable, tree_table, IsTree};
+
+    ghost Value = { TreeTable };
+
+    ghost view = { λ t. tree_table D t.width t.root t.max };
+
+    ghost invariant = { λ t. IsTree D t.width t.root t.max t.len };
+}
+
+impl<const D: usize> PhTree<D> {
+    ghost use Rattle.ph_tree.specs.Tree.{TreeTable};
+
+    /// The empty tree of a width, for at most `max` rows. Takes no memory.
+    pub fn new(alloc: Global, w: Width, max: u64) -> PhTree<D>
+        requires some { 1 ≤ D }
+        requires few { D ≤ 16 }
+        ensures table { result.table ≡ [] }
+        ensures width { result.width ≡ w }
+        ensures max { result.max ≡ max }
+    {
+        // A use that makes the range of the width known.
+        let _bits = w.bits();
+        PhTree {
+            alloc,
+            root: None,
+            width: w,
+            max,
+            len: 0,
+        }
+    }
+
+    /// The number of rows.
+    pub fn len(&self) -> u64
+        ensures value { result ≡ length self.now.table }
+        ensures limit { result ≤ self.now.max }
+    {
+        self.len
+    }
+
+    /// How many rows it may have.
+    pub fn max(&self) -> u64
+        ensures { result ≡ self.now.max }
+    {
+        self.max
+    }
+
+    /// The width of the coordinates.
+    pub fn width(&self) -> Width
+        ensures { result ≡ self.now.width }
+    {
+        self.width
+    }
+
+    /// The root of the tree, with the highest place as its level.
+    pub fn root(&self) -> Option<&Node<D>>
+        ensures shape { option_copied result ≡ shape self.now.width self.now.table }
+        ensures empty { (result ≡ None) ↔ (self.now.table ≡ []) }
+        ensures table { IsTable self.now.width D self.now.table }
+    {
+        self.root.as_ref()
+    }
+
+    /// Lets all rows go.
+    pub fn clear(&mut self)
+        ensures { self.new ≡ record self.old { table = [] } }
+    {
+        self.root = None;
+        self.len = 0;
+    }
+
+    /// The value at a point. Visits the nodes on the way to it, and no other.
+    pub fn get<V: Ledger>(&self, p: &Point<D>, visits: &mut Steps<V>) -> Option<u64>
+        requires { IsPoint self.now.width D p.now }
+        ensures found { result ≡ find self.now.table p.now }
+        ensures visits { visits.new ≡ visits.old + length (path self.now.width D self.now.table p.now) }
+        ensures limit { visits.new ≤ visits.old + self.now.width }
+    {
+        let key = KeyOf::new(self.width, p.as_slice());
+        match &self.root {
+            Some(root) => find_in(root.visit(visits), &key, visits),
+            None => None,
+        }
+    }
+
+    /// Puts a value at a point, in place of the one that stands there.
+    ///
+    /// A new point takes memory for the node that gets it, and for one node more where an entry is split. The
+    /// work is that of the nodes on the way to the point, each of which is visited at most twice.
+    pub fn put<V: Ledger, C: Ledger>(
+        &mut self,
+        p: Point<D>,
+        v: u64,
+        visits: &mut Steps<V>,
+        changes: &mut Steps<C>,
+    ) -> Result<Put, PutError>
+        requires { IsPoint self.old.width D p }
+        ensures put { OnOk result (self.new ≡ with_row self.old p.entry v) }
+        ensures answer { IfOk result (λ a. a ≡ put_answer (find self.old.table p.entry)) }
+        ensures err { OnErr result (self.new ≡ self.old) }
+        ensures full { IsErrOf result PutError.Full ↔ ((find self.old.table p.entry ≡ None) × (length self.old.table ≡ self.old.max)) }
+        ensures present { IsSome (find self.old.table p.entry) → IsOk result }
+        ensures visits { visits.new ≤ visits.old + 2 * length (path self.old.width D self.old.table p.entry) }
+        ensures limit { visits.new ≤ visits.old + 2 * self.old.width }
+        ensures changes { changes.new ≤ changes.old + 2 }
+        ensures spared { OnErr result (changes.new ≡ changes.old) }
+    {
+        let key = KeyOf::new(self.width, p.as_slice());
+        let room = self.len < self.max;
+        match put_in(&mut self.root, self.alloc, &key, v, room, visits, changes) {
+            Ok(Put::New) => {
+                self.len += 1;
+                Ok(Put::New)
+            }
+            Ok(Put::Old(old)) => Ok(Put::Old(old)),
+            Err(error) => Err(error),
+        }
+    }
+}
