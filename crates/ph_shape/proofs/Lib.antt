@@ -9,3 +9,4 @@ pub mod Chains
 pub mod Steps
 pub mod Made
 pub mod Walk
+mod Drawn
