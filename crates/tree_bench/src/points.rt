@@ -1,0 +1,113 @@
+//! The points that are put.
+
+ghost use Rattle.std.specs.Prelude.{◌≡◌, ◌<◌, ◌^◌, IsTrue};
+ghost use Rattle.ph_specs.specs.Coordinate.{fits, IsPoint};
+
+use crate::splitmix::SplitMix;
+use ph_coord::{Point, Width};
+
+const SEED: u64 = 2014;
+
+const CENTRES: u64 = 1000;
+
+const COORDINATES: u64 = 1 << 32;
+// How many coordinates lie at less than 2^16 from that of a centre.
+const SIDE: u64 = (1 << 17) - 1;
+
+/// How points lie in space.
+#[derive(Clone, Copy)]
+pub enum Kind {
+    /// All over it.
+    Uniform,
+    /// Each at less than 2^16, in each dimension, from one of 1,000 centres, which lie all over it.
+    Clustered,
+}
+
+/// The width of the coordinates.
+pub fn width() -> Width
+    ensures { result ≡ 32 }
+{
+    match Width::new(32) {
+        Some(w) => w,
+        None => unreachable!(),
+    }
+}
+
+/// An endless sequence of points, the same one each time that it is begun.
+#[derive(Clone, Copy)]
+pub struct Points {
+    kind: Kind,
+    numbers: SplitMix,
+}
+
+impl Points {
+    /// The sequence of a kind, at its first point.
+    pub fn new(kind: Kind) -> Points {
+        Points {
+            kind,
+            numbers: SplitMix::new(SEED),
+        }
+    }
+
+    /// The next point of the sequence.
+    pub fn next_point(&mut self) -> Point<3>
+        ensures { IsPoint 32 3 result }
+    {
+        match self.kind {
+            Kind::Uniform => anywhere(&mut self.numbers),
+            Kind::Clustered => {
+                let centre = self.numbers.next_number() % CENTRES;
+                near(centre, &mut self.numbers)
+            }
+        }
+    }
+}
+
+fn anywhere(numbers: &mut SplitMix) -> Point<3>
+    ensures { IsPoint 32 3 result }
+{
+    point(
+        numbers.next_number() % COORDINATES,
+        numbers.next_number() % COORDINATES,
+        numbers.next_number() % COORDINATES,
+    )
+}
+
+// A point near a centre, whose number also seeds the numbers that say where it is.
+fn near(centre: u64, numbers: &mut SplitMix) -> Point<3>
+    ensures { IsPoint 32 3 result }
+{
+    let mut corner = SplitMix::new(centre);
+    point(
+        from_corner(&mut corner, numbers),
+        from_corner(&mut corner, numbers),
+        from_corner(&mut corner, numbers),
+    )
+}
+
+// Where a point near a centre is in one dimension. All such places lie in the space.
+fn from_corner(corner: &mut SplitMix, numbers: &mut SplitMix) -> u64
+    ensures { result < 2 ^ 32 }
+{
+    corner.next_number() % (COORDINATES - SIDE + 1) + numbers.next_number() % SIDE
+}
+
+// The point whose coordinates lie so far above the least one.
+fn point(x: u64, y: u64, z: u64) -> Point<3>
+    requires x { x < 2 ^ 32 }
+    requires y { y < 2 ^ 32 }
+    requires z { z < 2 ^ 32 }
+    ensures { IsPoint 32 3 result }
+{
+    match Point::from_slice(width(), &[coordinate(x), coordinate(y), coordinate(z)]) {
+        Some(p) => p,
+        None => unreachable!(),
+    }
+}
+
+fn coordinate(offset: u64) -> i64
+    requires { offset < 2 ^ 32 }
+    ensures { IsTrue (fits 32 result) }
+{
+    offset as i64 - (1 << 31)
+}

@@ -1,0 +1,30 @@
+//! What the words of the command line ask for.
+
+use crate::points::Kind;
+
+/// How many points of a kind are put in the tree, and how often all of them are looked up afterwards.
+#[derive(Clone, Copy)]
+pub struct Request {
+    pub kind: Kind,
+    pub count: u64,
+    pub gets: u64,
+}
+
+/// Reads the words `KIND COUNT GETS`.
+pub fn read_request(words: &[String]) -> Option<Request> {
+    let [kind, count, gets] = words else {
+        return None;
+    };
+    let kind = match kind.as_str() {
+        "uniform" => Kind::Uniform,
+        "clustered" => Kind::Clustered,
+        _ => return None,
+    };
+    let Ok(count) = count.parse::<u64>() else {
+        return None;
+    };
+    let Ok(gets) = gets.parse::<u64>() else {
+        return None;
+    };
+    Some(Request { kind, count, gets })
+}
