@@ -5,7 +5,7 @@ use Rattle.ph_specs.specs.Command.{Command}
 use Rattle.ph_specs.specs.Reply.{Reply, reply_text}
 use Rattle.ph_specs.specs.State.{Engine, Files, outcome}
 use Rattle.ph_specs.specs.Engine.{act}
-use Rattle.ph_table.specs.Rows.{WideRows}
+use Rattle.ph_tree.specs.Tree.{TreeTable}
 use Rattle.ph_engine.specs.Machine.{is_refusal}
 use Rattle.ph_engine.specs.Slots.{point_slot, engine_of}
 use Rattle.ph_engine.specs.declared.status.Answer.{Answer}
@@ -17,9 +17,9 @@ use Rattle.ph_engine.specs.declared.status.Stop.TheVariants.{WriteFault, NoMemor
 abbrev pub Does : Engine → Command → Engine → Reply → Type 0
 Does e command now reply = (most : ℕ) (files : Files) (fault : Bool) → act most e files fault command ≡ outcome now files (reply ∷ [])
 
--- the same of a table of so many dimensions, with at most so many rows
-abbrev pub DoesOn : ℕ → ℕ → WideRows → Command → WideRows → Reply → Type 0
-DoesOn dims max t command now reply = Does (engine_of (point_slot dims max t)) command (engine_of (point_slot dims max now)) reply
+-- the same of a tree of so many dimensions
+abbrev pub DoesOn : ℕ → TreeTable → Command → TreeTable → Reply → Type 0
+DoesOn dims t command now reply = Does (engine_of (point_slot dims t)) command (engine_of (point_slot dims now)) reply
 
 abbrev pub refuses : Answer → Bool
 refuses Good = false

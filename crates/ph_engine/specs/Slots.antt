@@ -3,11 +3,11 @@ use Rattle.std.specs.Prelude.{ℕ, ◌-◌, ◌^◌, []}
 use Rattle.ph_specs.specs.declared.Kind.TheVariants.{Points}
 use Rattle.ph_specs.specs.declared.Which.TheVariants.{A}
 use Rattle.ph_specs.specs.State.{Slot, Engine, empty_slot}
-use Rattle.ph_table.specs.Rows.{WideRows}
-use Rattle.ph_engine.specs.declared.tables.AnyTable.{AnyTable}
-use Rattle.ph_engine.specs.declared.tables.AnyTable.TheVariants.{D1, D2, D3, D4, D5, D6, D7, D8}
+use Rattle.ph_tree.specs.Tree.{TreeTable}
+use Rattle.ph_engine.specs.declared.trees.AnyTree.{AnyTree}
+use Rattle.ph_engine.specs.declared.trees.AnyTree.TheVariants.{D1, D2, D3, D4, D5, D6, D7, D8}
 
-abbrev pub dims_of : AnyTable → ℕ
+abbrev pub dims_of : AnyTree → ℕ
 dims_of (D1 t) = 1
 dims_of (D2 t) = 2
 dims_of (D3 t) = 3
@@ -17,7 +17,7 @@ dims_of (D6 t) = 6
 dims_of (D7 t) = 7
 dims_of (D8 t) = 8
 
-abbrev pub table_of : AnyTable → WideRows
+abbrev pub table_of : AnyTree → TreeTable
 table_of (D1 t) = t
 table_of (D2 t) = t
 table_of (D3 t) = t
@@ -28,11 +28,15 @@ table_of (D7 t) = t
 table_of (D8 t) = t
 
 -- a slot of points without cursors
-abbrev pub point_slot : ℕ → ℕ → WideRows → Slot
-point_slot dims max t = record { kind = Points; dims = dims; width = t.width; max = max; table = t.rows; cursors = [] }
+abbrev pub point_slot : ℕ → TreeTable → Slot
+point_slot dims t = record { kind = Points; dims = dims; width = t.width; max = t.max; table = t.table; cursors = [] }
 
-abbrev pub any_slot : ℕ → AnyTable → Slot
-any_slot max t = point_slot (dims_of t) max (table_of t)
+abbrev pub any_slot : AnyTree → Slot
+any_slot t = point_slot (dims_of t) (table_of t)
+
+-- the table of a new tree
+abbrev pub empty_table : ℕ → ℕ → TreeTable
+empty_table width max = record { table = []; width = width; max = max }
 
 -- an engine whose current slot is this one, and whose other slot is new
 abbrev pub engine_of : Slot → Engine

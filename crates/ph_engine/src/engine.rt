@@ -13,21 +13,20 @@ ghost use Rattle.ph_engine.specs.Statuses.{StopHasCause};
 
 use crate::output::{Said, say};
 use crate::status::{Answer, Stop};
-use crate::tables::AnyTable;
+use crate::trees::AnyTree;
 use ph_coord::Width;
 use ph_io::Sink;
 use ph_script::{Command, Reply};
 use ph_steps::Steps;
-use ph_table::NoMemory;
+use ph_tree::NoMemory;
 use std::alloc::Global;
 use std::marker::Model;
 use std::sync::ledger::Ledger;
 
-/// A table of points of 32 bits, and how many rows it may have.
+/// A table of points of 32 bits, as a tree.
 #[derive(Drop)]
 pub struct Slot {
-    max: u64,
-    table: AnyTable,
+    tree: AnyTree,
 }
 
 /// The state of the program: one slot. It takes memory for the rows alone.
@@ -43,9 +42,9 @@ impl Model for Engine {
 
     ghost Value = { State };
 
-    ghost view = { λ e. engine_of (any_slot e.a.max e.a.table) };
+    ghost view = { λ e. engine_of (any_slot e.a.tree) };
 
-    ghost invariant = { λ e. (table_of e.a.table).width ≡ 32 };
+    ghost invariant = { λ e. (table_of e.a.tree).width ≡ 32 };
 }
 
 impl Engine {
@@ -53,13 +52,8 @@ impl Engine {
     pub fn new(alloc: Global) -> Engine
         ensures { result ≡ new_engine }
     {
-        match AnyTable::new(alloc, width(), 2) {
-            Some(table) => Engine {
-                a: Slot {
-                    max: u64::MAX,
-                    table,
-                },
-            },
+        match AnyTree::new(alloc, width(), 2, u64::MAX) {
+            Some(tree) => Engine { a: Slot { tree } },
             None => unreachable!(),
         }
     }
@@ -70,7 +64,7 @@ impl Engine {
         ensures some { 1 ≤ result }
         ensures limit { result ≤ 8 }
     {
-        self.a.table.dims()
+        self.a.tree.dims()
     }
 
     /// Does a command, and gives its reply to the sink as one piece. Memory is taken for a new row alone.
@@ -81,27 +75,33 @@ impl Engine {
         alloc: Global,
         cmd: &Command,
         out: &mut O,
-        _visits: &mut Steps<V>,
-        _changes: &mut Steps<C>,
+        visits: &mut Steps<V>,
+        changes: &mut Steps<C>,
     ) -> Result<Answer, Stop>
         requires { HasDims (current self.old).dims cmd.now }
         ensures done { DoneOr self.old (command_of cmd.now) (O.written out.old) (O.written out.new) self.new result }
         ensures cause { StopHasCause (O.faults out.old) (O.faults out.new) result }
     {
-        match self.act(alloc, cmd) {
+        match self.act(alloc, cmd, visits, changes) {
             Ok(said) => say(out, &said),
             Err(_) => Err(Stop::NoMemory),
         }
     }
 
-    fn act(&mut self, alloc: Global, cmd: &Command) -> Result<Said, NoMemory>
+    fn act<V: Ledger, C: Ledger>(
+        &mut self,
+        alloc: Global,
+        cmd: &Command,
+        visits: &mut Steps<V>,
+        changes: &mut Steps<C>,
+    ) -> Result<Said, NoMemory>
         requires { HasDims (current self.old).dims cmd.now }
         ensures ok { IfOk result (λ said. Says self.old (command_of cmd.now) self.new said) }
         ensures err { OnErr result (self.new ≡ self.old) }
     {
         match cmd {
             Command::Begin { k, max } => Ok(Said::new(&self.begin(alloc, *k, *max))),
-            _ => self.a.table.act(alloc, self.a.max, cmd),
+            _ => self.a.tree.act(cmd, visits, changes),
         }
     }
 
@@ -109,9 +109,9 @@ impl Engine {
     fn begin(&mut self, alloc: Global, k: u32, max: u64) -> Reply<1>
         ensures { Does self.old (Begin Points k max) self.new (reply_of result) }
     {
-        match AnyTable::new(alloc, width(), k) {
-            Some(table) => {
-                self.a = Slot { max, table };
+        match AnyTree::new(alloc, width(), k, max) {
+            Some(tree) => {
+                self.a = Slot { tree };
                 Reply::Opened
             }
             None => Reply::ErrorDims,

@@ -7,11 +7,11 @@ mod output;
 mod program;
 mod run;
 mod status;
-mod tables;
 #[cfg(test)]
 mod tests;
+mod trees;
 
 pub use engine::{Engine, Slot};
 pub use program::top;
 pub use status::{Answer, Limits, Status, Stop};
-pub use tables::AnyTable;
+pub use trees::AnyTree;

@@ -1,10 +1,10 @@
 -- What is known of a node's fields from what it is seen as.
 use Rattle.std.proofs.Common.{◌≡◌, ℕ, zero, suc, ◌<◌, List, [], ◌∷◌, map, take, length, Bool, nat_lt, true, false, cond, refl, arith, ap, sym, ◌∙◌, get_or, subst, slice_set}
 use Rattle.std.specs.Prelude.{None, Some, slice_get, position, nat_le}
-use Rattle.std.specs.List.{position_or_len, insert}
+use Rattle.std.specs.List.{position_or_len, insert, remove}
 use Rattle.std.proofs.lemmas.List.{length-map}
 use Rattle.ph_specs.specs.Node.{Entry, What, PlainNode, entries, node_of}
-use Rattle.ph_specs.specs.EntryEdits.{has_address, inserted, with_what, holding, what_at, parted, split_at}
+use Rattle.ph_specs.specs.EntryEdits.{has_address, inserted, with_what, holding, what_at, parted, split_at, without, other_what, merged}
 use Rattle.ph_specs.proofs.laws.EntryLists.{listed-chained}
 use Rattle.ph_specs.proofs.laws.EntryEdits.{IsAbsent, absent-by}
 use Rattle.ph_node.specs.Items.{item_of, what_in}
@@ -45,6 +45,21 @@ split-map d (z ∷ es) zero x y place shared a body new l e q =
     ap {B = List Entry} (λ t. t ∷ map (item_of d) es) (q ∙ ap {B = Entry} (λ t. parted (item_of d t) place shared a body new) e)
 split-map d (z ∷ es) (suc i) x y place shared a body new l e q =
     ap {B = List Entry} (λ t. item_of d z ∷ t) (split-map d es i x y place shared a body new (omega (arith, l)) e q)
+
+without-map : {P : Type 0} (d : ℕ) (es : List (ItemOf P)) (i : ℕ) → i < length es → map (item_of d) (remove es i) ≡ without (map (item_of d) es) i
+without-map d [] i l = absurd (omega (arith, l))
+without-map d (z ∷ es) zero l = refl
+without-map d (z ∷ es) (suc i) l = ap {B = List Entry} (λ t. item_of d z ∷ t) (without-map d es i (omega (arith, l)))
+
+merged-map : {P : Type 0} (d : ℕ) (es : List (ItemOf P)) (i : ℕ) (x y : ItemOf P) (j : ℕ) → i < length es → x ≡ get_or es i x →
+    y.addr ≡ x.addr → what_in y.held ≡ other_what (what_in x.held) j → map (item_of d) (slice_set es i y) ≡ merged (map (item_of d) es) i j (take d y.body)
+merged-map d [] i x y j l e a q = absurd (omega (arith, l))
+merged-map d (z ∷ es) zero x y j l e a q =
+    ap {B = List Entry} (λ t. record { addr = t; body = take d y.body; what = what_in y.held } ∷ map (item_of d) es) a
+    ∙ ap {B = List Entry} (λ t. record { addr = x.addr; body = take d y.body; what = t } ∷ map (item_of d) es) q
+    ∙ ap {B = List Entry} (λ t. record { addr = t.addr; body = take d y.body; what = other_what (what_in t.held) j } ∷ map (item_of d) es) e
+merged-map d (z ∷ es) (suc i) x y j l e a q =
+    ap {B = List Entry} (λ t. item_of d z ∷ t) (merged-map d es i x y j (omega (arith, l)) e a q)
 
 -- two entries in order
 pub pair-map : {P : Type 0} (d : ℕ) (old new : ItemOf P) → map (item_of d) (cond (nat_lt new.addr old.addr) (new ∷ old ∷ []) (old ∷ new ∷ [])) ≡ inserted (item_of d new) (item_of d old ∷ [])
@@ -117,3 +132,23 @@ module _ {P : Type 0} (d level : ℕ) (es : List (ItemOf P)) (t : PlainNode) (is
 
   pub item-kept : (i : ℕ) (x : ItemOf P) → i < length (entries t) → x ≡ get_or es i x → IsKept d level (map (item_of d) es) → IsKeptAt d t.level (item_of d x)
   item-kept i x l e k = kept-at d t.level 0 (entries t) i (item_of d x) (kept_is k).rise (get_is i x l e)
+
+  -- the entries without one
+  pub without_items : (i : ℕ) → i < length (entries t) → map (item_of d) (remove es i) ≡ without (map (item_of d) es) i
+  without_items i l = without-map d es i (omega (arith, length_is, l))
+
+  pub without_is : (i : ℕ) → i < length (entries t) → node_of level (map (item_of d) (remove es i)) ≡ node_of t.level (without (entries t) i)
+  without_is i l =
+      ap (λ u. node_of level u) (without_items i l ∙ ap (λ u. without u i) (sym entries_are))
+      ∙ ap (λ b. node_of b (without (entries t) i)) (sym level_is)
+
+  -- the entries with a child that has been merged
+  pub merged_items : (i : ℕ) (x y : ItemOf P) (j : ℕ) → i < length (entries t) → x ≡ get_or es i x → y.addr ≡ x.addr → what_in y.held ≡ other_what (what_in x.held) j →
+      map (item_of d) (slice_set es i y) ≡ merged (map (item_of d) es) i j (take d y.body)
+  merged_items i x y j l e a q = merged-map d es i x y j (omega (arith, length_is, l)) e a q
+
+  pub merged_is : (i : ℕ) (x y : ItemOf P) (j : ℕ) → i < length (entries t) → x ≡ get_or es i x → y.addr ≡ x.addr → what_in y.held ≡ other_what (what_in x.held) j →
+      node_of level (map (item_of d) (slice_set es i y)) ≡ node_of t.level (merged (entries t) i j (take d y.body))
+  merged_is i x y j l e a q =
+      ap (λ u. node_of level u) (merged_items i x y j l e a q ∙ ap (λ u. merged u i j (take d y.body)) (sym entries_are))
+      ∙ ap (λ b. node_of b (merged (entries t) i j (take d y.body))) (sym level_is)

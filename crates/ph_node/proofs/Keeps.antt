@@ -4,7 +4,7 @@ use Rattle.std.specs.Prelude.{Some, slice_get, unwrap_or, nat_lt}
 use Rattle.std.proofs.lemmas.Bool.{eqb-false}
 use Rattle.ph_specs.specs.Node.{Entry, What}
 use Rattle.ph_specs.specs.Lawful.{IsBody}
-use Rattle.ph_specs.specs.EntryEdits.{point_entry, inserted, with_what, split_at}
+use Rattle.ph_specs.specs.EntryEdits.{point_entry, inserted, with_what, split_at, without, merged}
 use Rattle.ph_specs.proofs.laws.Put.{either}
 use Rattle.ph_specs.proofs.laws.EntryEdits.{IsAbsent}
 use Rattle.ph_node.specs.Kept.{AreKept, IsKept}
@@ -44,6 +44,16 @@ kept-split dims level least (x ∷ xs) zero place shared a body new b k = (k.0, 
 kept-split dims level least (x ∷ xs) (suc i) place shared a body new b k =
     (k.0, k.1, k.2, kept-split dims level (x.addr + 1) xs i place shared a body new b k.3)
 
+pub kept-without : (dims level least : ℕ) (es : List Entry) (i : ℕ) → AreKept dims level least es → AreKept dims level least (without es i)
+kept-without dims level least [] i k = k
+kept-without dims level least (x ∷ xs) zero k = kept-lower dims level (x.addr + 1) least xs (omega (arith, k.0)) k.3
+kept-without dims level least (x ∷ xs) (suc i) k = (k.0, k.1, k.2, kept-without dims level (x.addr + 1) xs i k.3)
+
+pub kept-merged : (dims level least : ℕ) (es : List Entry) (i j : ℕ) (body : List ℕ) → IsBody dims level body → AreKept dims level least es → AreKept dims level least (merged es i j body)
+kept-merged dims level least [] i j body b k = k
+kept-merged dims level least (x ∷ xs) zero j body b k = (k.0, k.1, b, k.3)
+kept-merged dims level least (x ∷ xs) (suc i) j body b k = (k.0, k.1, k.2, kept-merged dims level (x.addr + 1) xs i j body b k.3)
+
 pub kept-inserted : (dims level least : ℕ) (es : List Entry) (e : Entry) → least ≤ e.addr → e.addr < 2 ^ dims → IsBody dims level e.body → IsAbsent e.addr es → AreKept dims level least es → AreKept dims level least (inserted e es)
 kept-inserted dims level least [] e l a b n k = (l, a, b, tt)
 kept-inserted dims level least (x ∷ xs) e l a b n k =
@@ -73,3 +83,11 @@ still-inserted dims level es e a b n k =
 pub still-split : (dims level : ℕ) (es : List Entry) (i place : ℕ) (shared : List ℕ) (a : ℕ) (body : List ℕ) (new : Entry) → IsBody dims level shared → IsKept dims level es → IsKept dims level (split_at es i place shared a body new)
 still-split dims level es i place shared a body new b k =
     record { some = k.some; few = k.few; low = k.low; rise = kept-split dims level 0 es i place shared a body new b k.rise }
+
+pub still-without : (dims level : ℕ) (es : List Entry) (i : ℕ) → IsKept dims level es → IsKept dims level (without es i)
+still-without dims level es i k =
+    record { some = k.some; few = k.few; low = k.low; rise = kept-without dims level 0 es i k.rise }
+
+pub still-merged : (dims level : ℕ) (es : List Entry) (i j : ℕ) (body : List ℕ) → IsBody dims level body → IsKept dims level es → IsKept dims level (merged es i j body)
+still-merged dims level es i j body b k =
+    record { some = k.some; few = k.few; low = k.low; rise = kept-merged dims level 0 es i j body b k.rise }

@@ -5,3 +5,4 @@ pub mod Falls
 pub mod Shown
 pub mod Slots
 pub mod Split
+pub mod Merge

@@ -1,6 +1,7 @@
 //! The binary digits of a body's fields, by shifts and masks on whole words.
 
-ghost use Rattle.std.specs.Prelude.{◌≡◌, ◌+◌, ◌*◌, ◌/◌, ◌%◌, ◌<◌, ◌≤◌, ◌^◌, length};
+ghost use Rattle.std.specs.Prelude.{◌≡◌, ◌+◌, ◌*◌, ◌/◌, ◌%◌, ◌<◌, ◌≤◌, ◌^◌, length, take};
+ghost use Rattle.ph_specs.specs.Lawful.{IsBody, put_together};
 ghost use Rattle.ph_specs.specs.PutTree.{body_address, body_below};
 ghost use Rattle.ph_node.specs.Split.{body_above};
 
@@ -38,6 +39,37 @@ pub fn body_above(place: u32, mut body: [u64; 16]) -> [u64; 16]
         *field = digits_above(place, *field);
     }
     body
+}
+
+// The fields above a level, then the digits of an address at the level, and the fields below it.
+pub(crate) fn body_joined(
+    dims: usize,
+    level: u32,
+    addr: u32,
+    above: &[u64; 16],
+    below: &[u64; 16],
+) -> [u64; 16]
+    requires few { dims ≤ 16 }
+    requires low { level ≤ 61 }
+    requires above { IsBody dims 61 (take dims above.now) }
+    requires below { IsBody dims level (take dims below.now) }
+    ensures { take dims result ≡ put_together level addr (take dims above.now) (take dims below.now) }
+{
+    let mut body = [0; 16];
+    for i in 0..dims {
+        body[i] = above[i] + address_digit(addr, dims - 1 - i, level) + below[i];
+    }
+    body
+}
+
+// The digit of an address at a place, as a digit at a level.
+fn address_digit(addr: u32, place: usize, level: u32) -> u64
+    requires place { place < 16 }
+    requires level { level ≤ 61 }
+    ensures value { result ≡ addr / 2 ^ place % 2 * 2 ^ level }
+    ensures limit { result ≤ 2 ^ 61 }
+{
+    u64::from(addr >> place & 1) << level
 }
 
 fn digit(place: u32, field: u64) -> u32

@@ -8,9 +8,11 @@
 
 mod adds;
 mod digits;
+mod dissolves;
 mod edits;
 mod plain;
 mod reads;
+mod removals;
 mod searches;
 mod splits;
 #[cfg(test)]

@@ -89,8 +89,41 @@ fn outcome<V: Ledger, C: Ledger>(
     Ok(())
 }
 
+fn removals<V: Ledger, C: Ledger>(
+    rt: &impl Abort,
+    alloc: Global,
+    visits: Blank,
+    changes: Blank,
+) -> Result<(), NoMemory>
+    requires visits { (visits.name ≡ V.name) × (visits.parts ≡ V.parts) × (0 < visits.parts) }
+    requires changes { (changes.name ≡ C.name) × (changes.parts ≡ C.parts) × (0 < changes.parts) }
+{
+    let mut visits: Steps<V> = Steps::new(visits);
+    let mut changes: Steps<C> = Steps::new(changes);
+    let mut node: Node<2> = NodeOf::single(alloc, 5, 2, OLD, 70, &mut changes)?;
+    node.add(1, BESIDE, 71, &mut changes)?;
+    node.split(1, 3, NEAR, 73, &mut changes)?;
+    node.merge(1, 0, &mut changes);
+    let root = node.visit(&mut visits);
+    assert_eq!(rt; (root.level(), root.len()), (5, 2));
+    assert!(rt; is_entry(root, 0, &(1, 4, 30, Some(71))));
+    assert!(rt; is_entry(root, 1, &(2, 9, 3, Some(70))));
+    node.drop_entry(0, &mut changes);
+    let root = node.visit(&mut visits);
+    assert_eq!(rt; (root.level(), root.len()), (5, 1));
+    assert!(rt; is_entry(root, 0, &(2, 9, 3, Some(70))));
+    node.dissolve(&mut changes);
+    Ok(())
+}
+
 #[test]
 fn splits_and_edits(rt: HostRuntime) -> Result<(), Fail> {
     outcome::<Brand, Brand>(&rt, rt.alloc(), Blank::new(1), Blank::new(1))?;
+    Ok(())
+}
+
+#[test]
+fn merges_and_drops(rt: HostRuntime) -> Result<(), Fail> {
+    removals::<Brand, Brand>(&rt, rt.alloc(), Blank::new(1), Blank::new(1))?;
     Ok(())
 }

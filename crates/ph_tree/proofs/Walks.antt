@@ -21,10 +21,10 @@ use Rattle.ph_tree.specs.Opened.{opened_below}
 use Rattle.ph_tree.specs.Step.{IsApart, IsApartAt, IsStep, opened_for}
 use Rattle.ph_tree.proofs.Steps.{what_got, within, put_back, same_node}
 
-abbrev no_entry : Entry
+abbrev pub no_entry : Entry
 no_entry = point_entry 0 [] 0
 
-not_same : (xs ys : List ℕ) → (xs ≡ ys → ⊥) → same_digits xs ys ≡ false
+pub not_same : (xs ys : List ℕ) → (xs ≡ ys → ⊥) → same_digits xs ys ≡ false
 not_same xs ys n = elim (either (same_digits xs ys)) [ inl same ↦ absurd (n (same_digits-true xs ys same)) | inr other ↦ other ]
 
 -- ---- the nodes that are opened
@@ -46,6 +46,14 @@ opened-absent w b end p h = refl
 opened-absent w b (point a body v rest) p h = opened-absent w b rest p h.1
 opened-absent w b (child a body c chain rest) p h = rw (h.0, opened-absent w b rest p h.1) refl
 
+-- an entry's address is at least the least
+pub least-address : (dims b least : ℕ) (e : Entries) (i : ℕ) (x : Entry) → IsLawfulFrom dims b least e → slice_get (listed e) i ≡ Some x → least ≤ x.addr
+least-address dims b least end i x k h = cc
+least-address dims b least (point a body u rest) zero x k h = let q : a ≡ x.addr = ap (λ o. (unwrap_or o no_entry).addr) h in omega (arith, q, k.0)
+least-address dims b least (point a body u rest) (suc i) x k h = omega (arith, k.0, least-address dims b (a + 1) rest i x k.3 h)
+least-address dims b least (child a body c chain rest) zero x k h = let q : a ≡ x.addr = ap (λ o. (unwrap_or o no_entry).addr) h in omega (arith, q, k.0)
+least-address dims b least (child a body c chain rest) (suc i) x k h = omega (arith, k.0, least-address dims b (a + 1) rest i x k.7 h)
+
 opened-at : (w dims b least : ℕ) (e : Entries) (i : ℕ) (x : Entry) (p : List ℤ) → IsLawfulFrom dims b least e → slice_get (listed e) i ≡ Some x → x.addr ≡ address w p b → opened_below w b e p ≡ opened_by w p b x.body x.what
 opened-at w dims b least end i x p h g a = cc
 opened-at w dims b least (point n body u rest) zero x p h g a =
@@ -61,13 +69,6 @@ opened-at w dims b least (child n body c chain rest) (suc i) x p h g a =
     let l : n + 1 ≤ x.addr = least-address dims b (n + 1) rest i x h.7 g in
     let d : n ≢ address w p b = λ e. omega (arith, l, a, e) in
     rw (ne_eqb n (address w p b) d, zero-add) (opened-at w dims b (n + 1) rest i x p h.7 g a)
-  where
-    least-address : (dims b least : ℕ) (e : Entries) (i : ℕ) (x : Entry) → IsLawfulFrom dims b least e → slice_get (listed e) i ≡ Some x → least ≤ x.addr
-    least-address dims b least end i x k h = cc
-    least-address dims b least (point a body u rest) zero x k h = let q : a ≡ x.addr = ap (λ o. (unwrap_or o no_entry).addr) h in omega (arith, q, k.0)
-    least-address dims b least (point a body u rest) (suc i) x k h = omega (arith, k.0, least-address dims b (a + 1) rest i x k.3 h)
-    least-address dims b least (child a body c chain rest) zero x k h = let q : a ≡ x.addr = ap (λ o. (unwrap_or o no_entry).addr) h in omega (arith, q, k.0)
-    least-address dims b least (child a body c chain rest) (suc i) x k h = omega (arith, k.0, least-address dims b (a + 1) rest i x k.7 h)
 
 -- ---- steps
 

@@ -4,3 +4,4 @@ pub mod Differences
 pub mod Step
 pub mod Opened
 pub mod Tree
+pub mod Moves

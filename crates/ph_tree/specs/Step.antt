@@ -1,8 +1,9 @@
 -- What one node says of a point.
-use Rattle.std.specs.Prelude.{◌≡◌, ℕ, List, take, ℤ, position, slice_get, None, Some}
+use Rattle.std.specs.Prelude.{◌≡◌, ◌≤◌, ℕ, List, length, take, ℤ, position, slice_get, Option, None, Some}
 use Rattle.ph_specs.specs.ZOrder.{address}
 use Rattle.ph_specs.specs.Node.{Entry, What, value, node, PlainNode, entries}
 use Rattle.ph_specs.specs.Shape.{digits_below, digits_between}
+use Rattle.ph_specs.specs.DelTree.{del_node}
 use Rattle.ph_specs.specs.EntryEdits.{has_address}
 use Rattle.ph_node.specs.Shown.{shown}
 use Rattle.ph_tree.specs.declared.step.StepOf.{StepOf}
@@ -37,3 +38,13 @@ IsStep dims width p n (Below i m) opened =
     (x : Entry) × IsAt width p n i x × (x.what ≡ node (shown m)) × (x.body ≡ digits_between width n.level (shown m).level p) × (opened ≡ 1)
 IsStep dims width p n (Other i body) opened =
     (x : Entry) × IsAt width p n i x × (x.body ≡ take dims body) × IsApart width p n.level x.body x.what × (opened ≡ opened_for x.what)
+
+-- entry i is the point, with this value
+abbrev pub IsOwn : ℕ → List ℤ → PlainNode → ℕ → ℕ → Type 0
+IsOwn width p n i v =
+    (x : Entry) × IsAt width p n i x × (x.what ≡ value v) × (x.body ≡ digits_below width n.level p)
+
+-- what is found in a node of so many entries: which one is the point, and its value. Where nothing is found, so many entries are left without the point
+abbrev pub IsAmong : ℕ → List ℤ → PlainNode → ℕ → Option (ℕ × ℕ) → Type 0
+IsAmong width p n many None = many ≤ length (entries n) → many ≤ length (entries (del_node width n p))
+IsAmong width p n many (Some found) = (length (entries n) ≡ many) × IsOwn width p n found.0 found.1

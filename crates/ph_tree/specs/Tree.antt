@@ -1,6 +1,6 @@
 -- What a tree is seen as.
 use Rattle.std.specs.Prelude.{◌≡◌, ℕ, ◌≤◌, List, length, ℤ, Option}
-use Rattle.ph_specs.specs.Table.{Row, put}
+use Rattle.ph_specs.specs.Table.{Row, put, del}
 use Rattle.ph_specs.specs.Node.{PlainNode}
 use Rattle.ph_specs.specs.Lawful.{IsLawful, rows}
 
@@ -16,6 +16,10 @@ tree_table dims width root max = record { table = rows width dims root; width = 
 -- the same with a value at a point
 abbrev pub with_row : TreeTable → List ℤ → ℕ → TreeTable
 with_row t p v = record t { table = put t.width t.table p v }
+
+-- the same without the row at a point
+abbrev pub without_row : TreeTable → List ℤ → TreeTable
+without_row t p = record t { table = del t.table p }
 
 -- what a tree keeps
 pub record IsTree (dims width : ℕ) (root : Option PlainNode) (max len : ℕ) : Type 0 where

@@ -6,12 +6,16 @@ mod differences;
 mod error;
 mod find;
 mod key;
+mod moves;
 mod puts;
+mod removals;
 mod step;
 #[cfg(test)]
 mod tests;
 mod tree;
 
 pub use error::PutError;
+pub use moves::Moved;
+pub use ph_node::NoMemory;
 pub use ph_table::Put;
 pub use tree::PhTree;

@@ -3,9 +3,9 @@
 ghost use Rattle.std.specs.Prelude.{◌≡◌, ◌<◌, ◌≤◌};
 ghost use Rattle.ph_specs.specs.Coordinate.{IsPoint};
 
-use crate::{PhTree, Put, PutError};
+use crate::{Moved, PhTree, Put, PutError};
 use ph_coord::{Point, Width};
-use ph_node::{NodeRef, What};
+use ph_node::{Entry, NodeRef, What};
 use ph_steps::Steps;
 use std::alloc::Global;
 use std::marker::Brand;
@@ -15,11 +15,14 @@ use std::sync::ledger::{Blank, Ledger};
 #[derive(Clone, Copy)]
 enum Case {
     UnitSquare,
+    UnitSquareGone,
     EachSplit,
     DeepestPath,
+    DeepestPathGone,
     CrowdedCube,
     Dimensions,
     FullTable,
+    Moves,
 }
 
 fn empty<const D: usize>(rt: &impl Abort, alloc: Global, max: u64) -> PhTree<D>
@@ -56,6 +59,24 @@ fn put<const D: usize, V: Ledger, C: Ledger>(
     let p = point(rt, tree, coords);
     let answer = tree.put(p, v, visits, changes);
     assert!(rt; answer == found, "put {v}");
+}
+
+// A removal that is to find this.
+fn del<const D: usize, V: Ledger, C: Ledger>(
+    rt: &impl Abort,
+    tree: &mut PhTree<D>,
+    coords: &[i64],
+    visits: &mut Steps<V>,
+    changes: &mut Steps<C>,
+    found: Option<u64>,
+)
+    requires { D ≤ 16 }
+{
+    let p = point(rt, tree, coords);
+    let Ok(answer) = tree.del(&p, visits, changes) else {
+        panic!(rt; "no memory");
+    };
+    assert_eq!(rt; answer, found);
 }
 
 // The child of entry i, visited.
@@ -103,8 +124,45 @@ fn put_corner<V: Ledger, C: Ledger>(
     visits: &mut Steps<V>,
     changes: &mut Steps<C>,
 ) {
-    let coords = [(corner >> 1 & 1) as i64, (corner & 1) as i64];
-    put(rt, tree, &coords, corner, visits, changes, Ok(Put::New));
+    put(
+        rt,
+        tree,
+        &corner_point(corner),
+        corner,
+        visits,
+        changes,
+        Ok(Put::New),
+    );
+}
+
+fn corner_point(corner: u64) -> [i64; 2] {
+    [(corner >> 1 & 1) as i64, (corner & 1) as i64]
+}
+
+// Whether two nodes have the same level, and entries with the same addresses, fields and values.
+fn same_nodes<const D: usize>(a: NodeRef<'_, D>, b: NodeRef<'_, D>) -> bool
+    requires { D ≤ 16 }
+{
+    if a.level() != b.level() || a.len() != b.len() {
+        return false;
+    }
+    for i in 0..a.len() {
+        if i >= b.len() || !same_entries(&a.entry(i), &b.entry(i)) {
+            return false;
+        }
+    }
+    true
+}
+
+fn same_entries<const D: usize>(x: &Entry<'_, D>, y: &Entry<'_, D>) -> bool
+    requires { D ≤ 16 }
+{
+    let same = x.addr == y.addr && x.body[..D] == y.body[..D];
+    match (x.what, y.what) {
+        (What::Value(u), What::Value(v)) => same && u == v,
+        (What::Child(_), What::Child(_)) => same,
+        _ => false,
+    }
 }
 
 fn unit_square<V: Ledger, C: Ledger>(
@@ -129,6 +187,51 @@ fn unit_square<V: Ledger, C: Ledger>(
         for i in 0..4 {
             assert!(rt; is_point(square, i, i as u64), "order {order}");
         }
+    }
+}
+
+// Takes the corners out in each order, and compares what is left with a tree that is built of it.
+fn unit_square_gone<V: Ledger, C: Ledger>(
+    rt: &impl Abort,
+    alloc: Global,
+    visits: &mut Steps<V>,
+    changes: &mut Steps<C>,
+) {
+    for order in 0..64u64 {
+        let (a, b, c) = (order >> 4, order >> 2 & 3, order & 3);
+        if a == b || b == c || a == c {
+            continue;
+        }
+        let corners = [a, b, c, 6u64.saturating_sub(a + b + c)];
+        let mut tree: PhTree<2> = empty(rt, alloc, 4);
+        for corner in corners {
+            put_corner(rt, &mut tree, corner, visits, changes);
+        }
+        for gone in 0..4 {
+            let coords = corner_point(corners[gone]);
+            del(rt, &mut tree, &coords, visits, changes, Some(corners[gone]));
+            del(rt, &mut tree, &coords, visits, changes, None);
+            let mut left: PhTree<2> = empty(rt, alloc, 4);
+            for corner in &corners[gone + 1..] {
+                put_corner(rt, &mut left, *corner, visits, changes);
+            }
+            same_squares(rt, &tree, &left, visits);
+        }
+    }
+}
+
+// Two trees whose points are corners of the unit square are to be the same.
+fn same_squares<V: Ledger>(rt: &impl Abort, a: &PhTree<2>, b: &PhTree<2>, visits: &mut Steps<V>) {
+    assert_eq!(rt; a.len(), b.len());
+    assert_eq!(rt; a.root().is_some(), b.root().is_some());
+    if a.root().is_none() {
+        return;
+    }
+    let (top, other) = (root(rt, a, visits), root(rt, b, visits));
+    assert!(rt; same_nodes(top, other));
+    if a.len() > 1 {
+        let square = child(rt, top, 0, visits);
+        assert!(rt; same_nodes(square, child(rt, other, 0, visits)));
     }
 }
 
@@ -189,6 +292,42 @@ fn deepest_path<V: Ledger, C: Ledger>(
     }
     assert!(rt; is_point(node, 0, 0));
     assert_eq!(rt; tree.len(), 32);
+}
+
+// Takes the powers of two out from the root's child down, and then zero.
+fn deepest_path_gone<V: Ledger, C: Ledger>(
+    rt: &impl Abort,
+    alloc: Global,
+    visits: &mut Steps<V>,
+    changes: &mut Steps<C>,
+) {
+    let mut tree: PhTree<1> = empty(rt, alloc, 32);
+    put(rt, &mut tree, &[0], 7, visits, changes, Ok(Put::New));
+    for place in 0..31u32 {
+        let power = [(1u64 << place) as i64];
+        put(rt, &mut tree, &power, 9, visits, changes, Ok(Put::New));
+    }
+    for place in (1..31u32).rev() {
+        let power = [(1u64 << place) as i64];
+        del(rt, &mut tree, &power, visits, changes, Some(9));
+        let top = child(rt, root(rt, &tree, visits), 0, visits);
+        assert_eq!(rt; (top.level(), top.len()), (place - 1, 2));
+    }
+    del(rt, &mut tree, &[1], visits, changes, Some(9));
+    assert!(rt; is_value(root(rt, &tree, visits), 7));
+    del(rt, &mut tree, &[0], visits, changes, Some(7));
+    assert!(rt; tree.root().is_none());
+}
+
+// Whether a point with this value is the only entry.
+fn is_value<const D: usize>(node: NodeRef<'_, D>, v: u64) -> bool {
+    if node.len() != 1 {
+        return false;
+    }
+    match node.entry(0).what {
+        What::Value(u) => u == v,
+        What::Child(_) => false,
+    }
 }
 
 // The corners of the unit cube of eight dimensions, in a mixed order: one node has them all.
@@ -285,6 +424,36 @@ fn full_table<V: Ledger, C: Ledger>(
     );
 }
 
+// Moves in a full tree, and the tree that is left.
+fn moves<V: Ledger, C: Ledger>(
+    rt: &impl Abort,
+    alloc: Global,
+    visits: &mut Steps<V>,
+    changes: &mut Steps<C>,
+) {
+    let mut tree: PhTree<2> = empty(rt, alloc, 2);
+    put(rt, &mut tree, &[0, 0], 5, visits, changes, Ok(Put::New));
+    put(rt, &mut tree, &[0, 1], 6, visits, changes, Ok(Put::New));
+    for (from, to, found) in [
+        ([1, 1], [0, 0], Moved::Absent),
+        ([1, 1], [1, 1], Moved::Absent),
+        ([0, 0], [0, 1], Moved::Taken),
+        ([0, 0], [0, 0], Moved::Done),
+        ([0, 0], [1, 1], Moved::Done),
+        ([0, 0], [1, 1], Moved::Absent),
+    ] {
+        let (p, q) = (point(rt, &tree, &from), point(rt, &tree, &to));
+        let Ok(answer) = tree.relocate(&p, &q, visits, changes) else {
+            panic!(rt; "no memory");
+        };
+        assert_eq!(rt; answer, found);
+    }
+    let mut moved: PhTree<2> = empty(rt, alloc, 2);
+    put(rt, &mut moved, &[1, 1], 5, visits, changes, Ok(Put::New));
+    put(rt, &mut moved, &[0, 1], 6, visits, changes, Ok(Put::New));
+    same_squares(rt, &tree, &moved, visits);
+}
+
 fn outcome<V: Ledger, C: Ledger>(
     rt: &impl Abort,
     alloc: Global,
@@ -299,8 +468,10 @@ fn outcome<V: Ledger, C: Ledger>(
     let mut changes: Steps<C> = Steps::new(changes);
     match case {
         Case::UnitSquare => unit_square(rt, alloc, &mut visits, &mut changes),
+        Case::UnitSquareGone => unit_square_gone(rt, alloc, &mut visits, &mut changes),
         Case::EachSplit => each_split(rt, alloc, &mut visits, &mut changes),
         Case::DeepestPath => deepest_path(rt, alloc, &mut visits, &mut changes),
+        Case::DeepestPathGone => deepest_path_gone(rt, alloc, &mut visits, &mut changes),
         Case::CrowdedCube => crowded_cube(rt, alloc, &mut visits, &mut changes),
         Case::Dimensions => {
             dimensions::<1, V, C>(rt, alloc, &mut visits, &mut changes);
@@ -310,6 +481,7 @@ fn outcome<V: Ledger, C: Ledger>(
             dimensions::<16, V, C>(rt, alloc, &mut visits, &mut changes);
         }
         Case::FullTable => full_table(rt, alloc, &mut visits, &mut changes),
+        Case::Moves => moves(rt, alloc, &mut visits, &mut changes),
     }
 }
 
@@ -323,6 +495,11 @@ fn unit_square_in_any_order(rt: HostRuntime) {
 }
 
 #[test]
+fn unit_square_gone_in_any_order(rt: HostRuntime) {
+    check(&rt, rt.alloc(), Case::UnitSquareGone);
+}
+
+#[test]
 fn split_at_each_place(rt: HostRuntime) {
     check(&rt, rt.alloc(), Case::EachSplit);
 }
@@ -330,6 +507,11 @@ fn split_at_each_place(rt: HostRuntime) {
 #[test]
 fn the_deepest_path(rt: HostRuntime) {
     check(&rt, rt.alloc(), Case::DeepestPath);
+}
+
+#[test]
+fn the_deepest_path_gone(rt: HostRuntime) {
+    check(&rt, rt.alloc(), Case::DeepestPathGone);
 }
 
 #[test]
@@ -345,4 +527,9 @@ fn one_to_sixteen_dimensions(rt: HostRuntime) {
 #[test]
 fn the_full_table(rt: HostRuntime) {
     check(&rt, rt.alloc(), Case::FullTable);
+}
+
+#[test]
+fn moves_in_a_full_tree(rt: HostRuntime) {
+    check(&rt, rt.alloc(), Case::Moves);
 }

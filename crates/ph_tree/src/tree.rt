@@ -7,14 +7,17 @@ ghost use Rattle.ph_specs.specs.Table.{IsTable, find};
 ghost use Rattle.ph_specs.specs.Shape.{shape};
 ghost use Rattle.ph_specs.specs.WorkSets.{path};
 ghost use Rattle.ph_table.specs.Rows.{put_answer};
-ghost use Rattle.ph_tree.specs.Tree.{with_row};
+ghost use Rattle.ph_tree.specs.Tree.{with_row, without_row};
+ghost use Rattle.ph_tree.specs.Moves.{move_answer, with_moved};
 
 use crate::error::PutError;
 use crate::find::find_in;
 use crate::key::KeyOf;
+use crate::moves::{Moved, move_in};
 use crate::puts::put_in;
+use crate::removals::del_in;
 use ph_coord::{Point, Width};
-use ph_node::Node;
+use ph_node::{NoMemory, Node};
 use ph_steps::Steps;
 use ph_table::Put;
 use std::alloc::Global;
@@ -150,5 +153,83 @@ impl<const D: usize> PhTree<D> {
             Ok(Put::Old(old)) => Ok(Put::Old(old)),
             Err(error) => Err(error),
         }
+    }
+
+    /// Takes the row at a point out, and tells its value, or `None` where no row is there.
+    ///
+    /// Takes no memory. A node that would keep one entry goes, and that entry takes its place; only the root may
+    /// have one. The work is that of the nodes on the way to the point, each of which is visited at most twice.
+    pub fn del<V: Ledger, C: Ledger>(
+        &mut self,
+        p: &Point<D>,
+        visits: &mut Steps<V>,
+        changes: &mut Steps<C>,
+    ) -> Result<Option<u64>, NoMemory>
+        requires { IsPoint self.old.width D p.now }
+        ensures ok { IsOk result }
+        ensures del { OnOk result (self.new ≡ without_row self.old p.now) }
+        ensures answer { IfOk result (λ a. a ≡ find self.old.table p.now) }
+        ensures err { OnErr result (self.new ≡ self.old) }
+        ensures visits { visits.new ≤ visits.old + 2 * length (path self.old.width D self.old.table p.now) }
+        ensures limit { visits.new ≤ visits.old + 2 * self.old.width }
+        ensures changes { changes.new ≤ changes.old + 2 }
+        ensures spared { find self.old.table p.now ≡ None → changes.new ≡ changes.old }
+    {
+        let key = KeyOf::new(self.width, p.as_slice());
+        match del_in(&mut self.root, &key, visits, changes) {
+            Some(value) => {
+                self.len -= 1;
+                Ok(Some(value))
+            }
+            None => Ok(None),
+        }
+    }
+
+    /// Moves the value at one point to another, where no row is at the other. Where both are the same point, the
+    /// move is done at once.
+    ///
+    /// Takes memory as a put does, before the first change. The tree may have as many rows as it may have, since a
+    /// move leaves their number. The work is that of four ways through the tree, two of which are visited twice.
+    pub fn relocate<V: Ledger, C: Ledger>(
+        &mut self,
+        from: &Point<D>,
+        to: &Point<D>,
+        visits: &mut Steps<V>,
+        changes: &mut Steps<C>,
+    ) -> Result<Moved, NoMemory>
+        requires from { IsPoint self.old.width D from.now }
+        requires to { IsPoint self.old.width D to.now }
+        ensures moved { OnOk result (self.new ≡ with_moved self.old from.now to.now) }
+        ensures answer { IfOk result (λ a. a ≡ move_answer self.old.table from.now to.now) }
+        ensures err { OnErr result (self.new ≡ self.old) }
+        ensures absent { find self.old.table from.now ≡ None → IsOk result }
+        ensures taken { IsSome (find self.old.table to.now) → IsOk result }
+        ensures limit { visits.new ≤ visits.old + 6 * self.old.width }
+        ensures changes { changes.new ≤ changes.old + 4 }
+        ensures spared { OnErr result (changes.new ≡ changes.old) }
+        ensures idle { find self.old.table from.now ≡ None → changes.new ≡ changes.old }
+        ensures held { IsSome (find self.old.table to.now) → changes.new ≡ changes.old }
+    {
+        let Some(value) = self.get(from, visits) else {
+            return Ok(Moved::Absent);
+        };
+        if from == to {
+            return Ok(Moved::Done);
+        }
+        if self.get(to, visits).is_some() {
+            return Ok(Moved::Taken);
+        }
+        let old = KeyOf::new(self.width, from.as_slice());
+        let new = KeyOf::new(self.width, to.as_slice());
+        move_in(
+            &mut self.root,
+            self.alloc,
+            &old,
+            &new,
+            value,
+            visits,
+            changes,
+        )?;
+        Ok(Moved::Done)
     }
 }

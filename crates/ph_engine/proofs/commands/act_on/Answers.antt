@@ -7,7 +7,7 @@ pub returns-in-Get-clause-ok : goal.returns-in-Get-clause-ok
 returns-in-Get-clause-ok g c = rw c.in-Get.is c.get_row.ensures
 
 pub returns-in-Del-clause-ok : goal.returns-in-Del-clause-ok
-returns-in-Del-clause-ok g c = rw c.in-Del.is c.del_row.ensures.does
+returns-in-Del-clause-ok g c = rw c.in-Del.is c.del_row.ensures.ok
 
 pub returns-in-Count-clause-ok : goal.returns-in-Count-clause-ok
 returns-in-Count-clause-ok g c = rw c.in-Count.is c.count_rows.ensures

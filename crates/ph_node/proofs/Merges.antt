@@ -1,0 +1,48 @@
+-- The entry that takes the place of a child of two.
+use Rattle.std.proofs.Common.{◌≡◌, ℕ, zero, suc, ◌-◌, ◌<◌, ◌≤◌, ◌^◌, List, [], ◌∷◌, length, take, arith, ap, sym, ◌∙◌, subst}
+use Rattle.std.specs.Prelude.{Some, slice_get, unwrap_or}
+use Rattle.std.specs.List.{AllByRecursion as Each}
+use Rattle.std.proofs.Math.Pow.{pow_mono}
+use Rattle.ph_specs.specs.Node.{Entry, What, value, node, entries}
+use Rattle.ph_specs.specs.Lawful.{IsBody, put_together}
+use Rattle.ph_specs.specs.EntryEdits.{what_at, other_what, point_entry}
+use Rattle.ph_node.specs.Split.{body_at}
+use Rattle.ph_node.specs.Merge.{IsPair, level_held, entries_held, addr_at, body_beside}
+use Rattle.ph_node.proofs.Joins.{body-joined}
+
+abbrev no_entry : Entry
+no_entry = point_entry 0 [] 0
+
+pub got : (xs : List Entry) (i : ℕ) (e : Entry) → slice_get xs i ≡ Some e → (addr_at xs i ≡ e.addr) × (body_at xs i ≡ e.body) × (what_at xs i ≡ e.what)
+got [] i e h = cc
+got (x ∷ xs) zero e h =
+    (ap (λ o. (unwrap_or o no_entry).addr) h, ap (λ o. (unwrap_or o no_entry).body) h, ap (λ o. (unwrap_or o no_entry).what) h)
+got (x ∷ xs) (suc i) e h = got xs i e h
+
+-- fields below a level are below a higher one
+pub body-wider : (dims b k : ℕ) (xs : List ℕ) → b ≤ k → IsBody dims b xs → IsBody dims k xs
+body-wider dims b k xs l h = (h.0, wider xs h.1)
+  where
+    wider : (xs : List ℕ) → Each (λ x. x < 2 ^ b) xs → Each (λ x. x < 2 ^ k) xs
+    wider [] h = tt
+    wider (x ∷ xs) h = let g : 2 ^ b ≤ 2 ^ k = pow_mono {i = b} {j = k} l in (omega (arith, h.0, g), wider xs h.1)
+
+pub other-is : (w : What) (j : ℕ) (y : Entry) → length (entries_held w) ≡ 2 → slice_get (entries_held w) (1 - j) ≡ Some y → y.what ≡ other_what w j
+other-is (value v) j y l h = absurd (omega (arith, l))
+other-is (node m) j y l h = sym (got (entries m) (1 - j) y h).2
+
+pub beside-is : (n d l j : ℕ) (xs ys zs body : List ℕ) (y : Entry) (w v : What) → n ≡ d → take n zs ≡ put_together l y.addr (take n xs) (take n ys) → l ≡ level_held w → y.body ≡ take d ys → slice_get (entries_held w) (1 - j) ≡ Some y → body ≡ take d xs → v ≡ w → take d zs ≡ body_beside body v j
+beside-is n d l j xs ys zs body y w v e made low same h front held =
+    let g : (addr_at (entries_held w) (1 - j) ≡ y.addr) × (body_at (entries_held w) (1 - j) ≡ y.body) × (what_at (entries_held w) (1 - j) ≡ y.what) = got (entries_held w) (1 - j) y h in
+    ap (λ k. take k zs) (sym e) ∙ made
+    ∙ ap (λ k. put_together l y.addr (take k xs) (take k ys)) e
+    ∙ ap (λ k. put_together k y.addr (take d xs) (take d ys)) low
+    ∙ ap (λ k. put_together (level_held w) k (take d xs) (take d ys)) (sym g.0)
+    ∙ ap (λ u. put_together (level_held w) (addr_at (entries_held w) (1 - j)) (take d xs) u) (sym (g.1 ∙ same))
+    ∙ ap (λ u. body_beside u w j) (sym front)
+    ∙ ap (λ u. body_beside body u j) (sym held)
+
+pub beside-body : (d b j : ℕ) (body : List ℕ) (w : What) (y : Entry) → IsPair b body w → IsBody d b body → slice_get (entries_held w) (1 - j) ≡ Some y → IsBody d (level_held w) y.body → IsBody d b (body_beside body w j)
+beside-body d b j body w y p h g k =
+    body-joined d b (level_held w) (addr_at (entries_held w) (1 - j)) body (body_at (entries_held w) (1 - j)) p.lower p.zeros h
+    (subst (IsBody d (level_held w)) (sym (got (entries_held w) (1 - j) y g).1) k)

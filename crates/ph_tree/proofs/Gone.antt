@@ -1,0 +1,214 @@
+-- A removal by the step that it takes at a node.
+use Rattle.std.proofs.Common.{length, ◌≡◌, ◌≢◌, ℕ, zero, suc, ◌+◌, ◌-◌, ◌<◌, ◌≤◌, List, [], ◌∷◌, true, not, cond, refl, arith, ap, sym, ◌∙◌, subst, ne_eqb, eq-eqb, lt-ltb}
+use Rattle.std.specs.Prelude.{ℤ, Some, None, Option, slice_get, position, unwrap_or}
+use Rattle.std.specs.List.{position_or_len}
+use Rattle.ph_specs.specs.ZOrder.{address}
+use Rattle.ph_specs.specs.Node.{Entries, end, point, child, Entry, What, value, node, PlainNode, entries, listed, node_of}
+use Rattle.ph_specs.specs.Shape.{digits_below, digits_between}
+use Rattle.ph_specs.specs.Lawful.{IsLawful, IsLawfulFrom, count, put_together}
+use Rattle.ph_specs.specs.PutTree.{same_digits, find_node, find_tree}
+use Rattle.ph_specs.specs.DelTree.{del_node, del_tree}
+use Rattle.ph_specs.specs.EntryEdits.{has_address, with_child, what_at, without, merged}
+use Rattle.ph_specs.proofs.lemmas.PointDigits.{same_digits-refl}
+use Rattle.ph_specs.proofs.laws.EntryLists.{listed-chained}
+use Rattle.ph_specs.proofs.laws.EntryEdits as laws
+use Rattle.ph_specs.proofs.laws.DelEntries.{IsEntryAt, IsLawfulChild, lawful-child, del_node-none, del_node-point, del_node-other_point, del_node-other_child, del_node-child, del_node-pair, length-del_node, length-del_node-child, del_tree-none, del_tree-some}
+use Rattle.ph_node.specs.Shown.{shown}
+use Rattle.ph_node.specs.Split.{IsValue, body_at}
+use Rattle.ph_node.specs.Merge.{IsPair, entries_held, addr_at, body_beside, merge_node}
+use Rattle.ph_node.proofs.Merges.{got}
+use Rattle.ph_node.specs.declared.reads.NodeRefOf.{NodeRefOf}
+use Rattle.ph_tree.specs.declared.step.StepOf.TheVariants.{Absent, Same, Below, Other}
+use Rattle.ph_tree.specs.Step.{IsAt, IsApart, IsStep, IsOwn, IsAmong}
+use Rattle.ph_tree.proofs.Steps.{what_got, body_got, within}
+use Rattle.ph_tree.proofs.Walks.{no_entry, not_same, least-address, below_found}
+
+-- ---- the place of an entry
+
+place-at : (dims b least : ℕ) (e : Entries) (i : ℕ) (x : Entry) → IsLawfulFrom dims b least e → slice_get (listed e) i ≡ Some x → position_or_len (has_address x.addr) (listed e) ≡ i
+place-at dims b least end i x h g = cc
+place-at dims b least (point a body v rest) zero x h g =
+    let d : a ≡ x.addr = ap (λ o. (unwrap_or o no_entry).addr) g in
+    ap (λ t. cond (not t) (1 + position_or_len (has_address x.addr) (listed rest)) 0) (eq-eqb a x.addr d)
+place-at dims b least (point a body v rest) (suc i) x h g =
+    let l : a + 1 ≤ x.addr = least-address dims b (a + 1) rest i x h.3 g in
+    let ih : position_or_len (has_address x.addr) (listed rest) ≡ i = place-at dims b (a + 1) rest i x h.3 g in
+    ap (λ t. cond (not t) (1 + position_or_len (has_address x.addr) (listed rest)) 0) (ne_eqb a x.addr (λ e. omega (arith, l, e))) ∙ omega (arith, ih)
+place-at dims b least (child a body c chain rest) zero x h g =
+    let d : a ≡ x.addr = ap (λ o. (unwrap_or o no_entry).addr) g in
+    ap (λ t. cond (not t) (1 + position_or_len (has_address x.addr) (listed rest)) 0) (eq-eqb a x.addr d)
+place-at dims b least (child a body c chain rest) (suc i) x h g =
+    let l : a + 1 ≤ x.addr = least-address dims b (a + 1) rest i x h.7 g in
+    let ih : position_or_len (has_address x.addr) (listed rest) ≡ i = place-at dims b (a + 1) rest i x h.7 g in
+    ap (λ t. cond (not t) (1 + position_or_len (has_address x.addr) (listed rest)) 0) (ne_eqb a x.addr (λ e. omega (arith, l, e))) ∙ omega (arith, ih)
+
+pub entry_at : (w dims : ℕ) (p : List ℤ) (t : PlainNode) (i : ℕ) (x : Entry) → IsLawfulFrom dims t.level 0 t.chain → IsAt w p t i x → IsEntryAt w t p i x
+entry_at w dims p t i x ok at =
+    let q : position_or_len (has_address (address w p t.level)) (entries t) ≡ i = subst (λ a. position_or_len (has_address a) (entries t) ≡ i) at.1 (place-at dims t.level 0 t.chain i x ok at.0) in
+    record {
+      first = rw (q, lt-ltb i (length (entries t)) (within (entries t) i x at.0)) refl;
+      is = at.0;
+    }
+
+-- an address that is nowhere
+pub nowhere_is : (w : ℕ) (p : List ℤ) (t : PlainNode) (level a : ℕ) → level ≡ t.level → a ≡ address w p level → None ≡ position (has_address a) (entries t) → position (has_address (address w p t.level)) (entries t) ≡ None
+nowhere_is w p t level a l d n =
+    ap (λ u. position (has_address u) (entries t)) (sym (d ∙ ap (address w p) l)) ∙ sym n
+
+-- ---- an entry less
+
+length-without : (es : List Entry) (i : ℕ) → i < length es → length (without es i) + 1 ≡ length es
+length-without [] i l = absurd (omega (arith, l))
+length-without (x ∷ es) zero l = omega arith
+length-without (x ∷ es) (suc i) l = omega (arith, length-without es i (omega (arith, l)))
+
+length-node : (b : ℕ) (es : List Entry) → length (entries (node_of b es)) ≡ length es
+length-node b es = ap (λ u. length u) (listed-chained es)
+
+empty : (es : List Entry) → length es ≡ 0 → es ≡ []
+empty [] e = refl
+empty (x ∷ es) e = absurd (omega (arith, e))
+
+-- ---- what is found among the entries
+
+module _ (w dims : ℕ) (p : List ℤ) (t : PlainNode) (ok : IsLawfulFrom dims t.level 0 t.chain) where
+  module _ (i v : ℕ) (s : IsOwn w p t i v) where
+    pub own_found : find_node w t p ≡ Some v
+    own_found =
+        laws.find_node-value w dims t i s.0 v p ok s.1.0 s.1.1 s.2 ∙ ap (λ z. cond z (Some v) None) (same_digits-refl s.0.body (digits_below w t.level p) s.3)
+
+    pub own_del : node_of t.level (without (entries t) i) ≡ del_node w t p
+    own_del =
+        sym (del_node-point w t p i s.0 v (entry_at w dims p t i s.0 ok s.1) s.2 (same_digits-refl s.0.body (digits_below w t.level p) s.3))
+
+    own_inside : i < length (entries t)
+    own_inside = within (entries t) i s.0 s.1.0
+
+    own_length : length (entries (del_node w t p)) + 1 ≡ length (entries t)
+    own_length =
+        let e : length (entries (del_node w t p)) ≡ length (without (entries t) i) = ap (λ u. length (entries u)) (sym own_del) ∙ length-node t.level (without (entries t) i) in
+        omega (arith, e, length-without (entries t) i own_inside)
+
+    -- where entries are left, there are two
+    pub own_many : 1 ≤ length (entries (del_node w t p)) → 2 ≤ length (entries t)
+    own_many l = omega (arith, l, own_length)
+
+    -- the only entry leaves nothing
+    pub own_last : length (entries t) ≡ 1 → del_tree w dims (Some t) p ≡ None
+    own_last l = del_tree-none w dims t p (empty (entries (del_node w t p)) (omega (arith, l, own_length)))
+
+  other_del_by : (i : ℕ) (x : Entry) (held : What) → IsAt w p t i x → x.what ≡ held → IsApart w p t.level x.body held → del_node w t p ≡ t
+  other_del_by i x (value u) at q a =
+      del_node-other_point w t p i x u (entry_at w dims p t i x ok at) q (not_same x.body (digits_below w t.level p) a)
+  other_del_by i x (node m) at q a =
+      del_node-other_child w t p i x m (entry_at w dims p t i x ok at) q (not_same x.body (digits_between w t.level m.level p) a)
+
+  -- a node of so many entries in which none is the point keeps so many
+  pub none_among : (many : ℕ) → position (has_address (address w p t.level)) (entries t) ≡ None → many ≤ length (entries t) → many ≤ length (entries (del_node w t p))
+  none_among many n l =
+      let e : length (entries (del_node w t p)) ≡ length (entries t) = ap (λ u. length (entries u)) (del_node-none w t p n) in omega (arith, l, e)
+
+  pub other_among : (i many : ℕ) (x : Entry) (u : ℕ) → IsAt w p t i x → x.what ≡ value u → (x.body ≡ digits_below w t.level p → ⊥) → many ≤ length (entries t) → many ≤ length (entries (del_node w t p))
+  other_among i many x u at q a l =
+      let e : length (entries (del_node w t p)) ≡ length (entries t) = ap (λ u. length (entries u)) (other_del_by i x (value u) at q a) in omega (arith, l, e)
+
+  pub child_among : (i many : ℕ) (x : Entry) (m : PlainNode) → IsAt w p t i x → x.what ≡ node m → many ≤ length (entries t) → many ≤ length (entries (del_node w t p))
+  child_among i many x m at q l =
+      omega (arith, l, length-del_node-child w t p i x m (entry_at w dims p t i x ok at) q)
+
+  -- one of another number of entries
+  pub other_number : (n many : ℕ) → n ≡ length (entries t) → n ≢ many → many ≤ length (entries t) → many ≤ length (entries (del_node w t p))
+  other_number n many e d l = omega (arith, e, d, l, length-del_node w t p)
+
+-- ---- steps
+
+pair-other : (es : List Entry) (j : ℕ) → length es ≡ 2 → j < 2 → (z : Entry) × (slice_get es (1 - j) ≡ Some z)
+pair-other [] j l m = absurd (omega (arith, l))
+pair-other (a ∷ []) j l m = absurd (omega (arith, l))
+pair-other (a ∷ b ∷ []) zero l m = (b, refl)
+pair-other (a ∷ b ∷ []) (suc zero) l m = (a, refl)
+pair-other (a ∷ b ∷ []) (suc (suc j)) l m = absurd (omega (arith, m))
+pair-other (a ∷ b ∷ c ∷ es) j l m = absurd (omega (arith, l))
+
+-- all that a merge asks, and what it makes
+pub record Merges (w : ℕ) (p : List ℤ) (t : PlainNode) (i j v : ℕ) : Type 0 where
+  pub inside : i < length (entries t)
+  pub pair : IsPair t.level (body_at (entries t) i) (what_at (entries t) i)
+  pub one : j < 2
+  pub point : IsValue (what_at (entries_held (what_at (entries t) i)) j)
+  pub del : merge_node t i j ≡ del_node w t p
+  pub found : find_node w t p ≡ Some v
+
+module _ (w dims : ℕ) (p : List ℤ) (t : PlainNode) (ok : IsLawfulFrom dims t.level 0 t.chain) (o : ℕ) where
+  pub absent_del : IsStep dims w p t Absent o → t ≡ del_node w t p
+  absent_del s = sym (del_node-none w t p s.0)
+
+  pub other_del : (i : ℕ) (body : List ℕ) → IsStep dims w p t (Other i body) o → t ≡ del_node w t p
+  other_del i body s = sym (other_del_by w dims p t ok i s.0 s.0.what s.1 refl s.3)
+
+  pub same_own : (i v : ℕ) → IsStep dims w p t (Same i v) o → IsOwn w p t i v
+  same_own i v s = (s.0, s.1, s.2, s.3)
+
+  module _ (i : ℕ) (m : NodeRefOf PlainNode) (s : IsStep dims w p t (Below i m) o) where
+    below_same : same_digits s.0.body (digits_between w t.level (shown m).level p) ≡ true
+    below_same = same_digits-refl s.0.body (digits_between w t.level (shown m).level p) s.3
+
+    below_lawful : IsLawfulChild dims t.level s.0 (shown m)
+    below_lawful = lawful-child dims t.level 0 t.chain i s.0 (shown m) ok s.1.0 s.2
+
+    -- a child keeps two entries where it has more, or where none is the point
+    pub below_left : IsAmong w p (shown m) 2 None → 2 ≤ length (entries (del_node w (shown m) p))
+    below_left h = h below_lawful.many
+
+    pub below_del : 2 ≤ length (entries (del_node w (shown m) p)) → with_child t i (del_node w (shown m) p) ≡ del_node w t p
+    below_del l = sym (del_node-child w t p i s.0 (shown m) (entry_at w dims p t i s.0 ok s.1) s.2 below_same l)
+
+    pub merges : (j v : ℕ) → length (entries (shown m)) ≡ 2 → IsOwn w p (shown m) j v → Merges w p t i j v
+    merges j v two y =
+        let one : j < 2 = omega (arith, two, within (entries (shown m)) j y.0 y.1.0) in
+        let z : (z : Entry) × (slice_get (entries (shown m)) (1 - j) ≡ Some z) = pair-other (entries (shown m)) j two one in
+        let held : what_at (entries t) i ≡ node (shown m) = what_got (entries t) i s.0 s.1.0 ∙ s.2 in
+        let front : body_at (entries t) i ≡ s.0.body = body_got (entries t) i s.0 s.1.0 in
+        let at : (addr_at (entries (shown m)) (1 - j) ≡ z.0.addr) × (body_at (entries (shown m)) (1 - j) ≡ z.0.body) × (what_at (entries (shown m)) (1 - j) ≡ z.0.what) = got (entries (shown m)) (1 - j) z.0 z.1 in
+        record {
+          inside = within (entries t) i s.0 s.1.0;
+          pair = subst (λ u. IsPair t.level u (what_at (entries t) i)) (sym front) (subst (IsPair t.level s.0.body) (sym held) (record { two = two; lower = below_lawful.lower; zeros = below_lawful.zeros }));
+          one = one;
+          point = subst (λ u. IsValue (what_at (entries_held u) j)) (sym held) (subst IsValue (sym (what_got (entries (shown m)) j y.0 y.1.0 ∙ y.2)) tt);
+          del =
+              ap (λ u. node_of t.level (merged (entries t) i j (body_beside u (what_at (entries t) i) j))) front
+              ∙ ap (λ u. node_of t.level (merged (entries t) i j (body_beside s.0.body u j))) held
+              ∙ ap (λ n. node_of t.level (merged (entries t) i j (put_together (shown m).level n s.0.body (body_at (entries (shown m)) (1 - j))))) at.0
+              ∙ ap (λ u. node_of t.level (merged (entries t) i j (put_together (shown m).level z.0.addr s.0.body u))) at.1
+              ∙ sym (del_node-pair w t p i s.0 (shown m) j y.0 v z.0 (entry_at w dims p t i s.0 ok s.1) s.2 below_same (entry_at w dims p (shown m) j y.0 below_lawful.lawful y.1) y.2 (same_digits-refl y.0.body (digits_below w (shown m).level p) y.3) two z.1);
+          found = below_found w dims p t ok o i m s ∙ own_found w dims p (shown m) below_lawful.lawful j v y;
+        }
+
+-- ---- a root
+
+length-count : (e : Entries) → length (listed e) ≡ count e
+length-count end = refl
+length-count (point a body v rest) = ap suc (length-count rest)
+length-count (child a body c chain rest) = ap suc (length-count rest)
+
+module _ (w dims : ℕ) (p : List ℤ) (n s : PlainNode) (is : s ≡ n) (t : Option PlainNode) (root : Some n ≡ t) (ok : IsLawful w dims t) where
+  ok_root : IsLawful w dims (Some n)
+  ok_root = subst (IsLawful w dims) (sym root) ok
+
+  -- one with more entries, or where none is the point, keeps one
+  pub root_left : IsAmong w p s 1 None → 1 ≤ length (entries (del_node w n p))
+  root_left h =
+      subst (λ u. 1 ≤ length (entries u) → 1 ≤ length (entries (del_node w u p))) is h (omega (arith, ok_root.1, length-count n.chain))
+
+  pub root_kept : IsAmong w p s 1 None → (u : PlainNode) → u ≡ del_node w n p → Some u ≡ del_tree w dims t p
+  root_kept h u e =
+      ap (λ (m : PlainNode). Some m) e ∙ sym (del_tree-some w dims n p (root_left h)) ∙ ap (λ o. del_tree w dims o p) root
+
+  module _ (i v : ℕ) (h : (length (entries s) ≡ 1) × IsOwn w p s i v) where
+    pub last_found : Some v ≡ find_tree w dims t p
+    last_found =
+        sym (own_found w dims p n ok_root.2 i v (subst (λ u. IsOwn w p u i v) is h.1)) ∙ ap (λ o. find_tree w dims o p) root
+
+    pub last_gone : None ≡ del_tree w dims t p
+    last_gone =
+        sym (own_last w dims p n ok_root.2 i v (subst (λ u. IsOwn w p u i v) is h.1) (subst (λ u. length (entries u) ≡ 1) is h.0)) ∙ ap (λ o. del_tree w dims o p) root

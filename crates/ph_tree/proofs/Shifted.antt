@@ -1,0 +1,147 @@
+-- A tree with a row moved: it is put at its new point before it goes from the old one.
+use Rattle.std.proofs.Common.{◌≡◌, ℕ, ◌≤◌, List, [], ◌∷◌, length, Bool, true, false, cond, refl, arith, ap, sym, ◌∙◌, subst, inl, inr}
+use Rattle.std.specs.Prelude.{ℤ, Option, Some, None, is_some}
+use Rattle.std.specs.List.{list_all}
+use Rattle.std.proofs.lemmas.Bool.{and_parts}
+use Rattle.ph_specs.specs.Coordinate.{same_point, is_point}
+use Rattle.ph_specs.specs.Table.{Row, row, find, put, del, move, is_rising, is_value}
+use Rattle.ph_specs.specs.ZOrder.{before}
+use Rattle.ph_specs.specs.Node.{PlainNode}
+use Rattle.ph_specs.specs.Lawful.{IsLawful, rows}
+use Rattle.ph_specs.specs.PutTree.{put_tree}
+use Rattle.ph_specs.specs.DelTree.{del_tree}
+use Rattle.ph_specs.proofs.laws.Put.{either, and, same_from_test, test_from_same, find-put}
+use Rattle.ph_specs.proofs.laws.Order.{before_trans, before_irrefl}
+use Rattle.ph_specs.proofs.laws.FindTree.{not_same}
+use Rattle.ph_specs.proofs.laws.PutTree.{lawful-put_tree, rows-put_tree}
+use Rattle.ph_specs.proofs.laws.Del.{found-value}
+use Rattle.ph_specs.proofs.laws.DelTree.{lawful-del_tree, rows-del_tree, move-steps, move-taken}
+use Rattle.ph_specs.proofs.laws.LawfulRows.{rows-table}
+use Rattle.ph_specs.proofs.laws.Paths.{path-few}
+use Rattle.ph_tree.specs.Opened.{opened_in}
+use Rattle.ph_tree.specs.Tree.{TreeTable, tree_table, IsTree}
+use Rattle.ph_tree.specs.Moves.{with_moved}
+use Rattle.ph_tree.proofs.Trees.{width_is, rows_are, length-put}
+use Rattle.ph_tree.proofs.Fewer.{length-del}
+use Rattle.ph_tree.proofs.Ways.{path-opened}
+
+-- ---- rows
+
+put-front : (w : ℕ) (rs : List Row) (p : List ℤ) (v : ℕ) → list_all (λ s. before w p s.point) rs ≡ true → put w rs p v ≡ row p v ∷ rs
+put-front w [] p v h = refl
+put-front w (s ∷ rs) p v h =
+    let b : before w p s.point ≡ true = (and_parts _ _ h).0 in
+    elim (either (same_point s.point p)) [
+      | inl same ↦
+          let e : s.point ≡ p = same_from_test s.point p same in
+          absurd (let no : true ≡ false = sym b ∙ ap (before w p) e ∙ before_irrefl w p in cc)
+      | inr other ↦ rw (other, b) refl
+    ]
+
+all-before : (w : ℕ) (p q : List ℤ) (rs : List Row) → before w p q ≡ true → list_all (λ s. before w q s.point) rs ≡ true → list_all (λ s. before w p s.point) rs ≡ true
+all-before w p q [] h k = refl
+all-before w p q (s ∷ rs) h k =
+    and _ _ (before_trans w p q s.point h (and_parts _ _ k).0) (all-before w p q rs h (and_parts _ _ k).1)
+
+apart : true ≡ false → ⊥
+apart e = cc
+
+-- a row that goes, and another that joins before it goes
+del-put : (w : ℕ) (rs : List Row) (p q : List ℤ) (v : ℕ) → is_rising w rs ≡ true → same_point p q ≡ false → del (put w rs p v) q ≡ put w (del rs q) p v
+del-put w [] p q v h n = rw n refl
+del-put w (r ∷ rs) p q v h n =
+    elim (either (same_point r.point q)) [
+      | inl gone ↦
+          let at : r.point ≡ q = same_from_test r.point q gone in
+          let other : same_point r.point p ≡ false = not_same r.point p (λ e. apart (sym (test_from_same p q (sym e ∙ at)) ∙ n)) in
+          elim (either (before w p r.point)) [
+            | inl first ↦ rw (other, first, n, gone) (sym (put-front w rs p v (all-before w p r.point rs first (and_parts _ _ h).0)))
+            | inr late ↦ rw (other, late, gone) refl
+          ]
+      | inr stays ↦
+          elim (either (same_point r.point p)) [
+            | inl same ↦ rw (stays, same, n) refl
+            | inr other ↦
+                elim (either (before w p r.point)) [
+                  | inl first ↦ rw (other, first, n, stays, other, first) refl
+                  | inr late ↦
+                      rw (other, late, stays, other, late) (ap {B = List Row} (λ t. r ∷ t) (del-put w rs p q v (and_parts _ _ h).1 n))
+                ]
+          ]
+    ]
+
+-- ---- trees
+
+pub opened_few : (w dims : ℕ) (t : Option PlainNode) (p : List ℤ) → 1 ≤ w → is_point w dims p ≡ true → IsLawful w dims t → opened_in w t p ≤ w
+opened_few w dims t p l h k =
+    omega (arith, path-opened w dims t p l h k, path-few w dims (rows w dims t) p l (rows-table w dims t l k))
+
+module _ (dims w max len : ℕ) (t : Option PlainNode) (s : TreeTable) (is : tree_table dims w t max ≡ s) (k : IsTree dims w t max len) where
+  pub point_at : (p : List ℤ) → is_point s.width dims p ≡ true → is_point w dims p ≡ true
+  point_at p h = subst (λ n. is_point n dims p ≡ true) (sym (width_is dims w max len t s is k)) h
+
+  -- a value that is found is one
+  pub value_found : (from : List ℤ) (v : ℕ) → find s.table from ≡ Some v → is_value v ≡ true
+  value_found from v f =
+      found-value (rows w dims t) from v (and_parts _ _ (and_parts _ _ (rows-table w dims t k.wide k.lawful)).1).1 (ap (λ r. find r from) (rows_are dims w max len t s is k) ∙ f)
+
+  module _ (to : List ℤ) (v : ℕ) (at_to : is_point s.width dims to ≡ true) (small : is_value v ≡ true) where
+    pub lawful_between : IsLawful w dims (put_tree w dims t to v)
+    lawful_between = lawful-put_tree w dims t to v k.wide (point_at to at_to) small k.lawful
+
+    module _ (from : List ℤ) (u : Option PlainNode) (at_from : is_point s.width dims from ≡ true) (other : same_point from to ≡ false) (found : find s.table from ≡ Some v) (free : find s.table to ≡ None) (made : u ≡ del_tree w dims (put_tree w dims t to v) from) where
+      abbrev before_rows : List Row
+      before_rows = rows w dims t
+
+      other_way : same_point to from ≡ false
+      other_way = not_same to from (λ e. apart (sym (test_from_same from to (sym e)) ∙ other))
+
+      found_here : find (rows w dims t) from ≡ Some v
+      found_here = ap (λ r. find r from) (rows_are dims w max len t s is k) ∙ found
+
+      free_here : find (rows w dims t) to ≡ None
+      free_here = ap (λ r. find r to) (rows_are dims w max len t s is k) ∙ free
+
+      rows_moved : rows w dims u ≡ del (put w (rows w dims t) to v) from
+      rows_moved =
+          ap (rows w dims) made ∙ rows-del_tree w dims (put_tree w dims t to v) from k.wide (point_at from at_from) lawful_between
+          ∙ ap (λ r. del r from) (rows-put_tree w dims t to v k.wide (point_at to at_to) k.lawful)
+
+      found_between : find (put w (rows w dims t) to v) from ≡ Some v
+      found_between =
+          find-put w before_rows to from v ∙ ap (λ b. cond b (Some v) (find before_rows from)) other_way ∙ found_here
+
+      same_number : length (rows w dims u) ≡ length (rows w dims t)
+      same_number =
+          let e : length (rows w dims u) ≡ length (del (put w (rows w dims t) to v) from) = ap (λ (r : List Row). length r) rows_moved in
+          omega (arith, e, length-del (put w before_rows to v) from v found_between, length-put w before_rows to v free_here)
+
+      pub moved_tree : IsTree dims w u max len
+      moved_tree = record {
+        some = k.some;
+        few = k.few;
+        wide = k.wide;
+        lawful = subst (IsLawful w dims) (sym made) (lawful-del_tree w dims (put_tree w dims t to v) from lawful_between);
+        counted = omega (arith, same_number, k.counted);
+        limit = k.limit;
+      }
+
+      moved_rows : rows w dims u ≡ move w (rows w dims t) from to
+      moved_rows =
+          rows_moved
+          ∙ del-put w before_rows to from v (and_parts _ _ (rows-table w dims t k.wide k.lawful)).0 other_way
+          ∙ sym (move-steps w dims before_rows from to v k.wide (point_at from at_from) (rows-table w dims t k.wide k.lawful) free_here found_here).moved
+
+      pub moved_table : tree_table dims w u max ≡ with_moved s from to
+      moved_table =
+          ap {B = TreeTable} (λ (r : List Row). record { table = r; width = w; max = max }) moved_rows ∙ ap (λ z. with_moved z from to) is
+
+-- a point that is moved to where it is
+pub stays_there : (s : TreeTable) (from to : List ℤ) (v : ℕ) → Some v ≡ find s.table from → same_point from to ≡ true → s ≡ with_moved s from to
+stays_there s from to v f e =
+    let same : find s.table to ≡ Some v = sym (f ∙ ap (find s.table) (same_from_test from to e)) in
+    ap {B = TreeTable} (λ (r : List Row). record s { table = r }) (sym (move-taken s.width s.table from to (ap (λ o. is_some o) same)))
+
+pub none_of : (o : Option ℕ) (b : Bool) → b ≡ is_some o → b ≡ false → o ≡ None
+none_of None b e f = refl
+none_of (Some x) b e f = absurd (apart (sym e ∙ f))

@@ -1,0 +1,20 @@
+use Rattle.std.proofs.Common.{◌∙◌}
+use Rattle.ph_tree.proofs.Gone.{root_left, root_kept, last_found, last_gone}
+use Rattle.ph_tree.proofs.removals.del_in.Goals as goal
+
+pub del_at-found-requires-clause-left : goal.del_at-found-requires-clause-left
+del_at-found-requires-clause-left g c =
+    root_left c.args.key.now.width g.P.Dims.D c.args.key.now.point c.in-Some.node _ c.visit.ensures.shows _ c.in-Some.ensures.value c.requires.lawful c.in-None.ensures
+
+pub returns-in-Some-point_among-clause-answer : goal.returns-in-Some-point_among-clause-answer
+returns-in-Some-point_among-clause-answer g c =
+    last_found c.args.key.now.width g.P.Dims.D c.args.key.now.point c.in-Some.node _ c.visit.ensures.shows _ c.in-Some.ensures.value c.requires.lawful c.in-Some-point_among.field-0-0 c.in-Some-point_among.value c.in-Some-point_among.ensures
+
+pub returns-in-Some-point_among-clause-del : goal.returns-in-Some-point_among-clause-del
+returns-in-Some-point_among-clause-del g c =
+    c.take.ensures.after
+    ∙ last_gone c.args.key.now.width g.P.Dims.D c.args.key.now.point c.in-Some.node _ c.visit.ensures.shows _ c.in-Some.ensures.value c.requires.lawful c.in-Some-point_among.field-0-0 c.in-Some-point_among.value c.in-Some-point_among.ensures
+
+pub returns-in-None-clause-del : goal.returns-in-None-clause-del
+returns-in-None-clause-del g c =
+    root_kept c.args.key.now.width g.P.Dims.D c.args.key.now.point c.in-Some.node _ c.visit.ensures.shows _ c.in-Some.ensures.value c.requires.lawful c.in-None.ensures _ c.del_at-found.ensures.del

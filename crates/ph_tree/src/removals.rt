@@ -1,0 +1,116 @@
+//! Taking a point out, below a node and out of a tree.
+
+ghost use Rattle.std.specs.Prelude.{◌≡◌, ◌+◌, ◌*◌, ◌<◌, ◌≤◌, None, length};
+ghost use Rattle.ph_specs.specs.Node.{entries};
+ghost use Rattle.ph_specs.specs.Lawful.{IsLawful, IsLawfulFrom};
+ghost use Rattle.ph_specs.specs.PutTree.{find_node, find_tree};
+ghost use Rattle.ph_specs.specs.DelTree.{del_node, del_tree};
+ghost use Rattle.ph_node.specs.Shown.{shown};
+ghost use Rattle.ph_tree.specs.Opened.{opened_below, opened_in};
+ghost use Rattle.ph_tree.specs.Step.{IsAmong};
+
+use crate::key::KeyOf;
+use crate::step::{StepOf, step};
+use ph_coord::Dims;
+use ph_node::{NodeOf, NodeRefOf, WhatOf};
+use ph_steps::Steps;
+use std::sync::ledger::Ledger;
+
+// Takes a point out of a tree. The root goes with the last row.
+pub(crate) fn del_in<P: Dims, V: Ledger, C: Ledger>(
+    root: &mut Option<NodeOf<P>>,
+    key: &KeyOf<P>,
+    visits: &mut Steps<V>,
+    changes: &mut Steps<C>,
+) -> Option<u64>
+    requires lawful { IsLawful key.now.width P.D root.old }
+    ensures answer { result ≡ find_tree key.now.width P.D root.old key.now.point }
+    ensures del { root.new ≡ del_tree key.now.width P.D root.old key.now.point }
+    ensures visits { visits.new ≤ visits.old + 2 * opened_in key.now.width root.old key.now.point }
+    ensures changes { changes.new ≤ changes.old + 2 }
+    ensures spared { result ≡ None → changes.new ≡ changes.old }
+{
+    // A use that makes the range of the width known.
+    let _width = key.width();
+    let Some(mut node) = root.take() else {
+        return None;
+    };
+    match point_among(node.visit(visits), 1, key) {
+        Some((_, value)) => {
+            node.dissolve(changes);
+            Some(value)
+        }
+        None => {
+            let found = del_at(&mut node, key, visits, changes);
+            *root = Some(node);
+            found
+        }
+    }
+}
+
+// Takes a point out of a node or from below it, where the node keeps an entry.
+pub(crate) fn del_at<P: Dims, V: Ledger, C: Ledger>(
+    cur: &mut NodeOf<P>,
+    key: &KeyOf<P>,
+    visits: &mut Steps<V>,
+    changes: &mut Steps<C>,
+) -> Option<u64>
+    requires lawful { IsLawfulFrom P.D cur.old.level 0 cur.old.chain }
+    requires level { cur.old.level < key.now.width }
+    requires left { 1 ≤ length (entries (del_node key.now.width cur.old key.now.point)) }
+    ensures answer { result ≡ find_node key.now.width cur.old key.now.point }
+    ensures del { cur.new ≡ del_node key.now.width cur.old key.now.point }
+    ensures visits { visits.new ≤ visits.old + 2 * opened_below key.now.width cur.old.level cur.old.chain key.now.point + 1 }
+    ensures changes { changes.new ≤ changes.old + 2 }
+    ensures spared { result ≡ None → changes.new ≡ changes.old }
+{
+    let node = cur.visit(visits);
+    match step(node, key, visits) {
+        StepOf::Absent => None,
+        StepOf::Same(i, value) => {
+            cur.drop_entry(i, changes);
+            Some(value)
+        }
+        StepOf::Below(i, below) => match point_among(below, 2, key) {
+            Some((j, value)) => {
+                cur.merge(i, j, changes);
+                Some(value)
+            }
+            None => {
+                let slot = cur.child_mut(i);
+                del_at(slot.node_mut(), key, visits, changes)
+            }
+        },
+        StepOf::Other(..) => None,
+    }
+}
+
+// The entry that is a point and its value, in a visited node of so many entries.
+fn point_among<P: Dims>(
+    node: NodeRefOf<'_, NodeOf<P>>,
+    entries: usize,
+    key: &KeyOf<P>,
+) -> Option<(usize, u64)>
+    requires lawful { IsLawfulFrom P.D (shown node).level 0 (shown node).chain }
+    requires level { (shown node).level < key.now.width }
+    ensures { IsAmong key.now.width key.now.point (shown node.entry) entries result }
+{
+    if node.len() != entries {
+        return None;
+    }
+    let level = node.level();
+    let Some(i) = node.find(key.address(level)) else {
+        return None;
+    };
+    let entry = node.entry(i);
+    match entry.what {
+        WhatOf::Value(value) => {
+            if key.is_below(level, &entry.body) {
+                Some((i, value))
+            } else {
+                None
+            }
+        }
+        WhatOf::Child(_) => None,
+    }
+}
