@@ -1,6 +1,5 @@
 //! The state of the program, and what a command does to it.
-ghost use Rattle.std.specs.Prelude.{◌≡◌, ◌≤◌, IfOk, OnErr, length};
-ghost use Rattle.std.specs.Io.KnownBytes.{Appends};
+ghost use Rattle.std.specs.Prelude.{◌≡◌, ◌≤◌, IfOk, OnErr};
 ghost use Rattle.ph_io.specs.Causes.{HasCause};
 ghost use Rattle.ph_specs.specs.declared.Kind.TheVariants.{Points};
 ghost use Rattle.ph_specs.specs.Command.Command.{Begin};
@@ -29,7 +28,7 @@ pub struct Slot {
     tree: AnyTree,
 }
 
-/// The state of the program: one slot. It takes memory for the rows alone.
+/// The state of the program: one slot. It takes memory for the nodes of its tree alone.
 #[derive(Drop)]
 pub struct Engine {
     a: Slot,

@@ -1,5 +1,5 @@
 //! Replies as text, and the sink that takes them.
-ghost use Rattle.std.specs.Prelude.{◌≡◌, ◌≤◌, ◌<◌, IfOk, IfErr, OnOk, OnErr, length, take};
+ghost use Rattle.std.specs.Prelude.{◌≡◌, IfOk, IfErr, OnOk, OnErr};
 ghost use Rattle.std.specs.Io.KnownBytes.{Appends};
 ghost use Rattle.ph_io.specs.Causes.{HasCause};
 ghost use Rattle.ph_specs.specs.Reply.{reply_text as text_of};

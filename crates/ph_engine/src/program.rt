@@ -1,5 +1,5 @@
 //! The program as one call.
-ghost use Rattle.std.specs.Prelude.{◌≡◌, ◌≢◌, ◌<◌, ◌^◌, ◌⊎◌, ◌↔◌, IsTrue, map, string_bytes};
+ghost use Rattle.std.specs.Prelude.{◌≡◌, ◌<◌, ◌^◌, ◌⊎◌, ◌↔◌, IsTrue, map, string_bytes};
 ghost use Rattle.std.specs.Io.KnownBytes.{Appends};
 ghost use Rattle.ph_io.specs.Causes.{Rose};
 ghost use Rattle.ph_specs.specs.Program.{usage_line};
@@ -23,7 +23,8 @@ const USAGE: &str = "usage: phq run | phq check FILE | phq soak N START\n";
 ///
 /// With the one word `run` it reads a script from the source and gives the reply to each line to the sink, as a
 /// piece of its own. Any other words get the usage line. A run takes two buffers of about 4,096 bytes before its first
-/// read, and memory for new rows; it takes none for a line or a reply. The counters do not rise yet.
+/// read, and memory for new rows; it takes none for a line or a reply. The counters rise by the visits and the changes of
+/// the tree's nodes.
 pub fn top<S: Source, O: Sink, V: Ledger, C: Ledger>(
     alloc: Global,
     words: &[String],

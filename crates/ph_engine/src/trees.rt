@@ -1,5 +1,5 @@
 //! A tree of any number of dimensions that a slot can have.
-ghost use Rattle.std.specs.Prelude.{◌≡◌, ◌≤◌, [], MatchOption, IfSome, IfOk, OnErr, ◌⊎◌, ◌<◌};
+ghost use Rattle.std.specs.Prelude.{◌≡◌, ◌≤◌, ◌<◌, ◌⊎◌, MatchOption, IfSome, IfOk, OnErr};
 ghost use Rattle.ph_script.specs.Meaning.{command_of};
 ghost use Rattle.ph_script.specs.Fit.{HasDims};
 ghost use Rattle.ph_engine.specs.Commands.{IsOnTree};
