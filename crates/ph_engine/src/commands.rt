@@ -13,7 +13,7 @@ use arrayvec::ArrayVec;
 use ph_coord::{Point, Width};
 use ph_script::{Command, Coord, Coords, Reply};
 use ph_steps::Steps;
-use ph_tree::{NoMemory, PhTree, Put, PutError};
+use ph_tree::{Moved, NoMemory, PhTree, Put, PutError};
 use std::sync::ledger::Ledger;
 
 // The point at these coordinates, if they are in the width.
@@ -99,6 +99,31 @@ fn del_row<const D: usize, V: Ledger, C: Ledger>(
     }
 }
 
+fn move_row<const D: usize, V: Ledger, C: Ledger>(
+    tree: &mut PhTree<D>,
+    from: &Coords,
+    to: &Coords,
+    visits: &mut Steps<V>,
+    changes: &mut Steps<C>,
+) -> Result<Reply<D>, NoMemory>
+    requires from { length from.now ≡ D }
+    requires to { length to.now ≡ D }
+    requires limit { D ≤ 16 }
+    ensures ok { IfOk result (λ r. DoesOn D tree.old (Asked.Relocate (numbers_of from.now) (numbers_of to.now)) tree.new (reply_of r)) }
+    ensures err { OnErr result (tree.new ≡ tree.old) }
+    ensures width { tree.new.width ≡ tree.old.width }
+{
+    let (Some(p), Some(q)) = (locate(tree.width(), from), locate(tree.width(), to)) else {
+        return Ok(Reply::ErrorRange);
+    };
+    match tree.relocate(&p, &q, visits, changes) {
+        Ok(Moved::Done) => Ok(Reply::Moved),
+        Ok(Moved::Taken) => Ok(Reply::Taken),
+        Ok(Moved::Absent) => Ok(Reply::Absent),
+        Err(error) => Err(error),
+    }
+}
+
 fn count_rows<const D: usize>(tree: &PhTree<D>) -> Reply<D>
     requires { D ≤ 16 }
     ensures { DoesOn D tree.now Asked.Count tree.now (reply_of result) }
@@ -134,6 +159,7 @@ pub fn act_on<const D: usize, V: Ledger, C: Ledger>(
         Command::Put { at, value } => put_row(tree, at, *value, visits, changes),
         Command::Get { at } => Ok(get_row(tree, at, visits)),
         Command::Del { at } => del_row(tree, at, visits, changes),
+        Command::Relocate { from, to } => move_row(tree, from, to, visits, changes),
         Command::Count => Ok(count_rows(tree)),
         Command::Clear => Ok(clear(tree)),
     }

@@ -66,7 +66,7 @@ impl Engine {
         self.a.tree.dims()
     }
 
-    /// Does a command, and gives its reply to the sink as one piece. Memory is taken for a new row alone.
+    /// Does a command, and gives its reply to the sink as one piece. Memory is taken for a row that is new or moves, and for no other.
     ///
     /// After a write fault the command is done, and a front of its reply is written. Without memory nothing is done or written.
     pub fn exec<O: Sink, V: Ledger, C: Ledger>(

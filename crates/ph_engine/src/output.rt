@@ -42,6 +42,8 @@ fn answer_of<const D: usize>(reply: &Reply<D>) -> Answer
         | Reply::Value(_)
         | Reply::Absent
         | Reply::Gone(_)
+        | Reply::Moved
+        | Reply::Taken
         | Reply::Rows(_)
         | Reply::Cleared => Answer::Good,
         Reply::ErrorLong

@@ -128,10 +128,12 @@ fn extreme_coordinates(rt: HostRuntime) -> Result<(), Fail> {
 #[test]
 fn refused_words(rt: HostRuntime) -> Result<(), Fail> {
     let script = "fly 1 x\nput 1 2\nput 1 x 2\nput 1 2 -1\nopen boxes x\nopen boxes 9\n\
-        open points 9 max 1\nopen points 0\nput 1 2147483648 2\nmove 1 1 2 2\nget 1\n\
+        open points 9 max 1\nopen points 0\nput 1 2147483648 2\nmove 1 1 2\n\
+        move 1 1 2 x\nmove 1 1 2 -2147483649\nget 1\n\
         open points 3 max 0\nput 1 1 9999999999 1\nput 1 1 1 1\nget 1 1\n";
     let output = "error word\nerror count\nerror number\nerror number\nerror number\n\
-        error name\nerror dims\nerror dims\nerror range\nerror word\nerror count\n\
+        error name\nerror dims\nerror dims\nerror range\nerror count\n\
+        error number\nerror range\nerror count\n\
         opened\nerror range\nerror full\nerror count\n";
     check(&rt, rt.alloc(), &run(script, output, Status::Refused))?;
     Ok(())
@@ -139,11 +141,20 @@ fn refused_words(rt: HostRuntime) -> Result<(), Fail> {
 
 #[test]
 fn full_table(rt: HostRuntime) -> Result<(), Fail> {
-    let script = "open points 2 max 1\nput 0 0 1\nput 1 1 1\nput 0 0 2\ncount\n\
-        del 1 1\ndel 0 0\nput 1 1 1\nclear\nput 5 5 1\nput 6 6 1\n";
-    let output = "opened\nnew\nerror full\nold 1\ncount 1\nnone\ngone 2\nnew\ncleared\n\
+    let script = "open points 2 max 1\nput 0 0 1\nput 1 1 1\nput 0 0 2\n\
+        move 0 0 1 1\ncount\ndel 0 0\ndel 1 1\nput 1 1 1\nclear\nput 5 5 1\nput 6 6 1\n";
+    let output = "opened\nnew\nerror full\nold 1\nmoved\ncount 1\nnone\ngone 2\nnew\ncleared\n\
         new\nerror full\n";
     check(&rt, rt.alloc(), &run(script, output, Status::Refused))?;
+    Ok(())
+}
+
+#[test]
+fn moves(rt: HostRuntime) -> Result<(), Fail> {
+    let script = "put 0 0 1\nput 1 1 2\nmove 5 5 6 6\nmove 0 0 1 1\nmove 0 0 0 0\nmove 5 5 5 5\n\
+        move 0 0 -7 7\nget 0 0\nget -7 7\n";
+    let output = "new\nnew\nnone\ntaken\nmoved\nnone\nmoved\nnone\nvalue 1\n";
+    check(&rt, rt.alloc(), &run(script, output, Status::Clean))?;
     Ok(())
 }
 

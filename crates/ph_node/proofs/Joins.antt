@@ -7,7 +7,7 @@ use Rattle.std.proofs.Math.Seq.{take-suc-set}
 use Rattle.std.proofs.lemmas.Nat.{pow_pos}
 use Rattle.std.proofs.lemmas.List.{get_or-take, take_more}
 use Rattle.ph_specs.specs.Lawful.{IsBody, HasZerosFrom, put_together}
-use Rattle.ph_specs.proofs.lemmas.Joined.{length-put_together}
+use Rattle.ph_specs.proofs.lemmas.Joined.{length-put_together, get-put_together}
 use Rattle.ph_specs.proofs.laws.LawfulRows.{put_together-small}
 
 digit-small : (d level : ℕ) → d < 2 → level ≤ 61 → d * 2 ^ level ≤ 2 ^ 61
@@ -27,16 +27,6 @@ below-at k n i [] h l = pow_pos k
 below-at k zero i (x ∷ xs) h l = absurd (omega (arith, l))
 below-at k (suc n) zero (x ∷ xs) h l = h.0
 below-at k (suc n) (suc i) (x ∷ xs) h l = below-at k n i xs h.1 (omega (arith, l))
-
-get-put_together : (level a i : ℕ) (xs ys : List ℕ) → length xs ≡ length ys → i < length xs → get_or (put_together level a xs ys) i 0 ≡ get_or xs i 0 + a / 2 ^ (length xs - 1 - i) % 2 * 2 ^ level + get_or ys i 0
-get-put_together level a i [] ys e l = absurd (omega (arith, l))
-get-put_together level a i (x ∷ xs) [] e l = absurd (omega (arith, e))
-get-put_together level a zero (x ∷ xs) (y ∷ ys) e l =
-    let k : length (x ∷ xs) - 1 - 0 ≡ length xs = omega arith in
-    ap (λ n. x + a / 2 ^ n % 2 * 2 ^ level + y) (sym k)
-get-put_together level a (suc i) (x ∷ xs) (y ∷ ys) e l =
-    let k : length (x ∷ xs) - 1 - suc i ≡ length xs - 1 - i = omega arith in
-    get-put_together level a i xs ys (omega (arith, e)) (omega (arith, l)) ∙ ap (λ n. get_or xs i 0 + a / 2 ^ n % 2 * 2 ^ level + get_or ys i 0) (sym k)
 
 module _ (dims level a : ℕ) (xs ys : List ℕ) (long : length (take dims xs) ≡ dims) (same : length (take dims ys) ≡ dims) where
   abbrev whole : List ℕ

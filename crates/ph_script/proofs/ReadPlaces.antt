@@ -1,17 +1,17 @@
 -- What is read in the places of each form.
-use Rattle.std.proofs.Common.{◌≡◌, ℕ, zero, suc, ◌^◌, ◌<◌, ◌≤◌, List, [], ◌∷◌, ◌++◌, length, map, true, false, refl, sym, ap, ◌∙◌, subst, append_assoc, lit≤}
+use Rattle.std.proofs.Common.{◌≡◌, ℕ, zero, suc, ◌^◌, ◌<◌, ◌≤◌, List, [], ◌∷◌, ◌++◌, length, map, true, false, refl, sym, ap, ◌∙◌, subst, append_assoc, length-append, lit≤}
 use Rattle.std.specs.Prelude.{ℤ, pos, codes}
 use Rattle.std.specs.List.{cons_option}
 use Rattle.std.specs.Cmp.Lexicographic.{pointwise}
-use Rattle.std.proofs.lemmas.List.{append-nil}
+use Rattle.std.proofs.lemmas.List.{append-nil, map-append}
 use Rattle.std.proofs.lemmas.Bool.{and_parts}
 use Rattle.ph_specs.specs.Lines.{number}
 use Rattle.ph_specs.specs.Command.{Command, Place, form, number_fits, name_fits, numbers, texts, coordinates, count, value, fixed, read_form, Reading}
 use Rattle.ph_specs.specs.Command.Place.{Coordinate, Below, OneOf}
 use Rattle.ph_script.specs.declared.coords.Coord.{Coord}
 use Rattle.ph_script.specs.declared.forms.Verb.{Verb}
-use Rattle.ph_script.specs.declared.forms.Verb.TheVariants.{Open, OpenMax, Put, Get, Del, Count, Clear}
-use Rattle.ph_script.specs.Meaning.{numbers_of}
+use Rattle.ph_script.specs.declared.forms.Verb.TheVariants.{Open, OpenMax, Put, Get, Del, Relocate, Count, Clear}
+use Rattle.ph_script.specs.Meaning.{number_of_coord, numbers_of}
 use Rattle.ph_script.specs.Forms.{places_by, command_by}
 use Rattle.ph_script.specs.Numbers.{coords_at, counts_at}
 use Rattle.ph_script.specs.Fit.{IsFit}
@@ -114,6 +114,10 @@ reads Get dims ws h =
 reads Del dims ws h =
     let p = led-get dims ws h in
     closing Del dims ws p.1 (p.2, refl) (sym (append-nil (numbers_of p.0)))
+reads Relocate dims ws h =
+    let p = led-point dims (coordinates dims) ws h in
+    let q = led-get dims p.led.left p.led.fits in
+    closing Relocate dims ws (led-on p.led q.1) (length-append p.at q.0 ∙ rw (p.size, q.2) refl, refl) (rw (map-append number_of_coord p.at q.0, append-nil (numbers_of p.at ++ numbers_of q.0)) refl)
 reads Count dims ws h = closing Count dims ws (led-none ws h) tt refl
 reads Clear dims ws h = closing Clear dims ws (led-none ws h) tt refl
 

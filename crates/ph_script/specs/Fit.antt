@@ -1,12 +1,12 @@
 -- What a form asks of the numbers in its places, and how many coordinates a command has.
-use Rattle.std.specs.Prelude.{◌≡◌, ◌<◌, ◌^◌, ℕ, List, [], length, slice_index}
+use Rattle.std.specs.Prelude.{◌≡◌, ◌<◌, ◌+◌, ◌^◌, ℕ, List, [], length, slice_index}
 use Rattle.std.specs.Prelude.{Option, Some, None, Result, Ok, Err}
 use Rattle.ph_script.specs.declared.coords.Coord.{Coord}
 use Rattle.ph_script.specs.declared.command.Bad.{Bad}
 use Rattle.ph_script.specs.declared.command.Command.{Command}
 use Rattle.ph_script.specs.declared.command.Command.TheVariants as by
 use Rattle.ph_script.specs.declared.forms.Verb.{Verb}
-use Rattle.ph_script.specs.declared.forms.Verb.TheVariants.{Open, OpenMax, Put, Get, Del, Count, Clear}
+use Rattle.ph_script.specs.declared.forms.Verb.TheVariants.{Open, OpenMax, Put, Get, Del, Relocate, Count, Clear}
 
 abbrev pub IsFit : Verb → ℕ → List Coord → List ℕ → Type 0
 IsFit Open dims coords counts = (coords ≡ []) × (length counts ≡ 1) × (slice_index counts 0 < 2 ^ 32)
@@ -14,6 +14,7 @@ IsFit OpenMax dims coords counts = (coords ≡ []) × (length counts ≡ 2) × (
 IsFit Put dims coords counts = (length coords ≡ dims) × (length counts ≡ 1) × (slice_index counts 0 < 2 ^ 64)
 IsFit Get dims coords counts = (length coords ≡ dims) × (counts ≡ [])
 IsFit Del dims coords counts = (length coords ≡ dims) × (counts ≡ [])
+IsFit Relocate dims coords counts = (length coords ≡ dims + dims) × (counts ≡ [])
 IsFit Count dims coords counts = Unit {0}
 IsFit Clear dims coords counts = Unit {0}
 
@@ -23,6 +24,7 @@ HasDims dims (by.Begin k max) = Unit {0}
 HasDims dims (by.Put at value) = length at ≡ dims
 HasDims dims (by.Get at) = length at ≡ dims
 HasDims dims (by.Del at) = length at ≡ dims
+HasDims dims (by.Relocate from to) = (length from ≡ dims) × (length to ≡ dims)
 HasDims dims by.Count = Unit {0}
 HasDims dims by.Clear = Unit {0}
 

@@ -1,13 +1,13 @@
 -- The forms of the code's table in the definitions, and the search among forms.
-use Rattle.std.specs.Prelude.{◌≡◌, ℕ, ◌+◌, ◌-◌, ◌^◌, ◌==◌, Bool, true, if◌then◌else◌, List, [], ◌∷◌, ◌++◌, length, take, codes, bytes_eq, ℤ}
+use Rattle.std.specs.Prelude.{◌≡◌, ℕ, ◌+◌, ◌-◌, ◌^◌, ◌==◌, Bool, true, if◌then◌else◌, List, [], ◌∷◌, ◌++◌, length, take, drop, codes, bytes_eq, ℤ}
 use Rattle.ph_specs.specs.Command.{Command as Asked, Place as Asks, Form as Spelling, form, count, value, fixed, coordinates, number_at}
-use Rattle.ph_specs.specs.Command.Command.{Begin as AskBegin, Put as AskPut, Get as AskGet, Del as AskDel, Count as AskCount, Clear as AskClear}
+use Rattle.ph_specs.specs.Command.Command.{Begin as AskBegin, Put as AskPut, Get as AskGet, Del as AskDel, Relocate as AskRelocate, Count as AskCount, Clear as AskClear}
 use Rattle.ph_specs.specs.Command.Place.{Coordinate as AsksCoordinate, Below}
 use Rattle.ph_specs.specs.declared.Kind.TheVariants.{Points}
 use Rattle.ph_script.specs.declared.command.Bad.{Bad}
 use Rattle.ph_script.specs.declared.command.Bad.TheVariants.{Word, Count as BadCount}
 use Rattle.ph_script.specs.declared.forms.Verb.{Verb}
-use Rattle.ph_script.specs.declared.forms.Verb.TheVariants.{Open, OpenMax, Put, Get, Del, Count, Clear}
+use Rattle.ph_script.specs.declared.forms.Verb.TheVariants.{Open, OpenMax, Put, Get, Del, Relocate, Count, Clear}
 use Rattle.ph_script.specs.declared.forms.Places.{Places}
 use Rattle.ph_script.specs.declared.forms.Places.TheVariants.{Coordinates, UpTo as AllUpTo, Fixed as AllFixed}
 use Rattle.ph_script.specs.declared.forms.Place.{Place}
@@ -37,6 +37,7 @@ places_by OpenMax dims = fixed (codes "points") ∷ count ∷ fixed (codes "max"
 places_by Put dims = coordinates dims ++ value ∷ []
 places_by Get dims = coordinates dims
 places_by Del dims = coordinates dims
+places_by Relocate dims = coordinates dims ++ coordinates dims
 places_by Count dims = []
 places_by Clear dims = []
 
@@ -46,6 +47,7 @@ command_by OpenMax dims = λ n t. AskBegin Points (number_at n 0) (number_at n 1
 command_by Put dims = λ n t. AskPut (take dims n) (number_at n dims)
 command_by Get dims = λ n t. AskGet n
 command_by Del dims = λ n t. AskDel n
+command_by Relocate dims = λ n t. AskRelocate (take dims n) (drop dims n)
 command_by Count dims = λ n t. AskCount
 command_by Clear dims = λ n t. AskClear
 

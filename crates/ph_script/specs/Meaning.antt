@@ -1,17 +1,17 @@
 -- What the commands and replies of the code are in the definitions.
 use Rattle.std.specs.Prelude.{ℕ, ◌^◌, List, map, ℤ, pos, Option, Some, None, Result, Ok, Err}
 use Rattle.ph_specs.specs.Command.{Command as Asked, Reading}
-use Rattle.ph_specs.specs.Command.Command.{Begin as AskBegin, Put as AskPut, Get as AskGet, Del as AskDel, Count as AskCount, Clear as AskClear}
+use Rattle.ph_specs.specs.Command.Command.{Begin as AskBegin, Put as AskPut, Get as AskGet, Del as AskDel, Relocate as AskRelocate, Count as AskCount, Clear as AskClear}
 use Rattle.ph_specs.specs.Reply.{Reply as Answer}
 use Rattle.ph_specs.specs.declared.Kind.TheVariants.{Points}
 use Rattle.ph_script.specs.declared.coords.Coord.{Coord}
 use Rattle.ph_script.specs.declared.coords.Coord.TheVariants.{Whole, Far}
 use Rattle.ph_script.specs.declared.command.Command.{Command}
-use Rattle.ph_script.specs.declared.command.Command.TheVariants.{Begin, Put, Get, Del, Count, Clear}
+use Rattle.ph_script.specs.declared.command.Command.TheVariants.{Begin, Put, Get, Del, Relocate, Count, Clear}
 use Rattle.ph_script.specs.declared.command.Bad.{Bad}
 use Rattle.ph_script.specs.declared.command.Bad.TheVariants.{Word, Count as BadCount, Number, Name}
 use Rattle.ph_script.specs.declared.reply.Reply.{Reply}
-use Rattle.ph_script.specs.declared.reply.Reply.TheVariants.{Opened, New, Old, Value, Absent, Gone, Rows, Cleared, ErrorLong, ErrorWord, ErrorCount, ErrorNumber, ErrorName, ErrorDims, ErrorRange, ErrorFull}
+use Rattle.ph_script.specs.declared.reply.Reply.TheVariants.{Opened, New, Old, Value, Absent, Gone, Moved, Taken, Rows, Cleared, ErrorLong, ErrorWord, ErrorCount, ErrorNumber, ErrorName, ErrorDims, ErrorRange, ErrorFull}
 
 -- a coordinate; one that is far stands for each number outside of 64 bits
 abbrev pub number_of_coord : Coord → ℤ
@@ -26,6 +26,7 @@ command_of (Begin k max) = AskBegin Points k max
 command_of (Put at value) = AskPut (numbers_of at) value
 command_of (Get at) = AskGet (numbers_of at)
 command_of (Del at) = AskDel (numbers_of at)
+command_of (Relocate from to) = AskRelocate (numbers_of from) (numbers_of to)
 command_of Count = AskCount
 command_of Clear = AskClear
 
@@ -48,6 +49,8 @@ reply_of (Old v) = Answer.Old v
 reply_of (Value v) = Answer.Value v
 reply_of Absent = Answer.Absent
 reply_of (Gone v) = Answer.Gone v
+reply_of Moved = Answer.Moved
+reply_of Taken = Answer.Taken
 reply_of (Rows n) = Answer.Rows n
 reply_of Cleared = Answer.Cleared
 reply_of ErrorLong = Answer.ErrorLong

@@ -9,6 +9,7 @@ pub enum Command {
     Put { at: Coords, value: u64 },
     Get { at: Coords },
     Del { at: Coords },
+    Relocate { from: Coords, to: Coords },
     Count,
     Clear,
 }

@@ -35,10 +35,14 @@ impl Model for Coords {
 }
 
 impl Coords {
-    pub(crate) fn new(list: ArrayVec<Coord, 16>) -> Coords
-        ensures { result ≡ list.items }
+    pub(crate) fn new(c: &[Coord]) -> Coords
+        requires { length c.now ≤ 16 }
+        ensures { result ≡ c.now }
     {
-        Coords { list }
+        match Coords::from_slice(c) {
+            Some(coords) => coords,
+            None => unreachable!(),
+        }
     }
 
     /// Coordinates in this order, if there are at most 16.

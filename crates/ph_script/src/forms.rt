@@ -10,7 +10,7 @@ use crate::command::Bad;
 use arrayvec::ArrayVec;
 
 /// The most places that a form has, at 16 dimensions.
-pub(crate) const MOST_PLACES: usize = 17;
+pub(crate) const MOST_PLACES: usize = 32;
 
 /// A command, by its form.
 #[derive(Clone, Copy)]
@@ -20,6 +20,7 @@ pub(crate) enum Verb {
     Put,
     Get,
     Del,
+    Relocate,
     Count,
     Clear,
 }
@@ -59,7 +60,7 @@ const COUNT: u128 = u32::MAX as u128;
 const VALUE: u128 = u64::MAX as u128;
 
 // The forms that are answered so far, in the order of the definitions. One more is a row here, a `Verb` and its command.
-static FORMS: [Form; 7] = [
+static FORMS: [Form; 8] = [
     Form {
         word: b"open",
         places: &[Places::Fixed(b"points"), Places::UpTo(COUNT)],
@@ -89,6 +90,11 @@ static FORMS: [Form; 7] = [
         word: b"del",
         places: &[Places::Coordinates],
         verb: Verb::Del,
+    },
+    Form {
+        word: b"move",
+        places: &[Places::Coordinates, Places::Coordinates],
+        verb: Verb::Relocate,
     },
     Form {
         word: b"count",

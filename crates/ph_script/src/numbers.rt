@@ -15,10 +15,13 @@ use crate::words::next_word;
 use arrayvec::ArrayVec;
 use ph_coord::{Number, read_number};
 
+/// The most coordinates that a command has, at 16 dimensions.
+pub(crate) const MOST_COORDINATES: usize = 32;
+
 /// The numbers of a command: its coordinates, and the others, each in their order.
 #[derive(Drop)]
 pub(crate) struct Numbers {
-    pub coords: ArrayVec<Coord, 16>,
+    pub coords: ArrayVec<Coord, MOST_COORDINATES>,
     pub counts: ArrayVec<u128, 2>,
 }
 
@@ -67,7 +70,7 @@ fn count(number: Number, most: u128) -> Option<u128>
 
 // Whether a word is a number as its place asks, which is then among the numbers; no other place asks for one.
 fn take_number(place: Place, word: &[u8], numbers: &mut Numbers) -> bool
-    requires coords { array_vec_len numbers.old.coords + coords_room (place_of place) ≤ 16 }
+    requires coords { array_vec_len numbers.old.coords + coords_room (place_of place) ≤ MOST_COORDINATES }
     requires counts { array_vec_len numbers.old.counts + counts_room (place_of place) ≤ 2 }
     ensures fits { result ≡ number_fits (place_of place) word.now }
     ensures coords { IsTrue result → numbers.new.coords.items ≡ numbers.old.coords.items ++ coords_in (place_of place) word.now }
@@ -95,7 +98,7 @@ fn take_number(place: Place, word: &[u8], numbers: &mut Numbers) -> bool
 /// The numbers among the words of a text, as many words as places, if each is as its place asks.
 pub(crate) fn read_numbers(places: &[Place], text: &[u8]) -> Option<Numbers>
     requires size { length (words text.now) ≡ length places.now }
-    requires coords { sum_by coords_room (map place_of places.now) ≤ 16 }
+    requires coords { sum_by coords_room (map place_of places.now) ≤ MOST_COORDINATES }
     requires counts { sum_by counts_room (map place_of places.now) ≤ 2 }
     ensures { MatchOption result
         (pointwise number_fits (map place_of places.now) (words text.now) ≡ false)

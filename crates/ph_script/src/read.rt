@@ -68,7 +68,8 @@ fn read_form(form: &Form, dims: usize, text: &[u8]) -> Result<Command, Bad>
 
 // The command of a form and of the numbers in its places.
 fn command(verb: Verb, dims: usize, numbers: Numbers) -> Command
-    requires { IsFit verb dims numbers.coords.items numbers.counts.items }
+    requires limit { dims ≤ 16 }
+    requires fit { IsFit verb dims numbers.coords.items numbers.counts.items }
     ensures meaning { (texts : List (List ℕ)) → command_of result ≡ command_by verb dims (numbers_of numbers.coords.items ++ map pos numbers.counts.items) texts }
     ensures dims { HasDims dims result }
 {
@@ -83,15 +84,22 @@ fn command(verb: Verb, dims: usize, numbers: Numbers) -> Command
             max: counts[1] as u64,
         },
         Verb::Put => Command::Put {
-            at: Coords::new(coords),
+            at: Coords::new(&coords),
             value: counts[0] as u64,
         },
         Verb::Get => Command::Get {
-            at: Coords::new(coords),
+            at: Coords::new(&coords),
         },
         Verb::Del => Command::Del {
-            at: Coords::new(coords),
+            at: Coords::new(&coords),
         },
+        Verb::Relocate => {
+            let (from, to) = coords.split_at(dims);
+            Command::Relocate {
+                from: Coords::new(from),
+                to: Coords::new(to),
+            }
+        }
         Verb::Count => Command::Count,
         Verb::Clear => Command::Clear,
     }

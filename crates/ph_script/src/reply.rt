@@ -18,6 +18,9 @@ pub enum Reply<const D: usize> {
     Absent,
     /// The value that was deleted.
     Gone(u64),
+    Moved,
+    /// A row is at the point that another was to be moved to.
+    Taken,
     /// The number of rows; its line begins with `count`.
     Rows(u64),
     Cleared,
@@ -45,6 +48,8 @@ pub fn reply_text<const D: usize>(r: &Reply<D>) -> Text
         Reply::Value(value) => numbered("value ", value),
         Reply::Absent => plain("none\n"),
         Reply::Gone(value) => numbered("gone ", value),
+        Reply::Moved => plain("moved\n"),
+        Reply::Taken => plain("taken\n"),
         Reply::Rows(count) => numbered("count ", count),
         Reply::Cleared => plain("cleared\n"),
         Reply::ErrorLong => plain("error long\n"),

@@ -10,6 +10,13 @@ fn read_commands(rt: HostRuntime) -> Result<(), Fail> {
     assert_eq!(rt; read_command(b"get +007", 1), Ok(Some(Command::Get { at })));
     let at = Coords::from_slice(&[Coord::Whole(7)]).ok_or("too many")?;
     assert_eq!(rt; read_command(b"del 7", 1), Ok(Some(Command::Del { at })));
+    let from = Coords::from_slice(&[Coord::Whole(1), Coord::Whole(2)]).ok_or("too many")?;
+    let to = Coords::from_slice(&[Coord::Whole(-1), Coord::Far]).ok_or("too many")?;
+    let relocate = Command::Relocate { from, to };
+    assert_eq!(rt;
+        read_command(b"move 1 2 -1 9223372036854775808", 2),
+        Ok(Some(relocate))
+    );
     let open = Command::Begin {
         k: 9,
         max: 18446744073709551615,
@@ -48,6 +55,7 @@ fn refused_words(rt: HostRuntime) -> Result<(), Fail> {
         (b"put 1 2 3 4", Bad::Count),
         (b"put x y", Bad::Count),
         (b"get", Bad::Count),
+        (b"move 1 1 2", Bad::Count),
         (b"count 1", Bad::Count),
         (b"open lines x max", Bad::Count),
         (b"put 1 x 2", Bad::Number),
@@ -55,6 +63,7 @@ fn refused_words(rt: HostRuntime) -> Result<(), Fail> {
         (b"put 1 2 18446744073709551616", Bad::Number),
         (b"put 1 +-2 3", Bad::Number),
         (b"get 1 -", Bad::Number),
+        (b"move 1 1 2 x", Bad::Number),
         (b"open lines 4294967296", Bad::Number),
         (b"open lines 2 least -1", Bad::Number),
         (b"open lines 2", Bad::Name),
@@ -106,6 +115,16 @@ fn sixteen_coordinates(rt: HostRuntime) -> Result<(), Fail> {
         read_command(b"put 1 1 1 1 1 1 1 1 1 1 1 1 1 1 1 1 2", 16),
         Ok(Some(put))
     );
+    let from = Coords::from_slice(&[Coord::Whole(1); 16]).ok_or("too many")?;
+    let to = Coords::from_slice(&[Coord::Whole(2); 16]).ok_or("too many")?;
+    let relocate = Command::Relocate { from, to };
+    assert_eq!(rt;
+        read_command(
+            b"move 1 1 1 1 1 1 1 1 1 1 1 1 1 1 1 1 2 2 2 2 2 2 2 2 2 2 2 2 2 2 2 2",
+            16
+        ),
+        Ok(Some(relocate))
+    );
     Ok(())
 }
 
@@ -121,6 +140,8 @@ fn texts_of_replies(rt: HostRuntime) -> Result<(), Fail> {
         ),
         (Reply::Absent, "none\n"),
         (Reply::Gone(17), "gone 17\n"),
+        (Reply::Moved, "moved\n"),
+        (Reply::Taken, "taken\n"),
         (Reply::Rows(100), "count 100\n"),
         (Reply::Cleared, "cleared\n"),
         (Reply::ErrorLong, "error long\n"),

@@ -1,21 +1,12 @@
 -- The entries of a node of code, and what it is seen as.
-use Rattle.std.proofs.Common.{◌≡◌, ℕ, zero, suc, ◌<◌, List, [], ◌∷◌, map, length, refl, arith, ap, sym, ◌∙◌, get_or, subst}
+use Rattle.std.proofs.Common.{◌≡◌, ℕ, zero, suc, ◌<◌, List, [], ◌∷◌, map, length, arith, ap, sym, ◌∙◌, get_or, subst}
 use Rattle.std.specs.Prelude.{Option, Some, slice_get}
 use Rattle.std.proofs.lemmas.List.{length-map}
-use Rattle.ph_specs.specs.Node.{Entries, Entry, What, value, node, PlainNode, listed, entries, in_front, chained, node_of}
+use Rattle.ph_specs.specs.Node.{Entry, PlainNode, entries, node_of}
+use Rattle.ph_specs.proofs.laws.EntryLists.{listed-chained}
 use Rattle.ph_shape.specs.Bodies.{IsFilled}
 use Rattle.ph_shape.specs.View.{entry_of, AreFilled}
 use Rattle.ph_shape.specs.declared.plain.EntryOf.{EntryOf}
-
-listed-front : (a : ℕ) (body : List ℕ) (w : What) (rest : Entries) → listed (in_front a body w rest) ≡ record { addr = a; body = body; what = w } ∷ listed rest
-listed-front a body (value v) rest = refl
-listed-front a body (node n) rest = refl
-
--- a list of entries is what its chain lists
-listed-chained : (es : List Entry) → listed (chained es) ≡ es
-listed-chained [] = refl
-listed-chained (e ∷ es) =
-    listed-front e.addr e.body e.what (chained es) ∙ ap {B = List Entry} (λ t. e ∷ t) (listed-chained es)
 
 get-map : {P : Type 0} (d : ℕ) (es : List (EntryOf P)) (i : ℕ) (x : EntryOf P) → i < length es → x ≡ get_or es i x → slice_get (map (entry_of d) es) i ≡ Some (entry_of d x)
 get-map d [] i x l e = absurd (let no : ⊥ = omega (arith, l) in no)

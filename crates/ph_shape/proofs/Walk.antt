@@ -10,6 +10,7 @@ use Rattle.ph_specs.specs.Node.{Entries, end, point, child, Entry, What, value, 
 use Rattle.ph_specs.specs.Shape.{shape}
 use Rattle.ph_specs.specs.Lawful.{IsBody, HasZerosFrom, IsLawfulFrom, IsLawful, put_together, rows_behind, rows}
 use Rattle.ph_specs.proofs.lemmas.Joined.{length-put_together, zeros-put_together}
+use Rattle.ph_specs.proofs.laws.EntryLists.{chained-listed}
 use Rattle.ph_specs.proofs.laws.LawfulRows.{put_together-small}
 use Rattle.ph_specs.proofs.laws.Unique.{shape-rows, zeros_known}
 use Rattle.ph_shape.specs.Bodies.{AreBelow}
@@ -21,11 +22,6 @@ entries-lawful dims level least end h = tt
 entries-lawful dims level least (point a body v rest) h = ((h.2, tt), entries-lawful dims level (a + 1) rest h.3)
 entries-lawful dims level least (child a body below chain rest) h =
     ((h.2, (h.3, h.4, h.6)), entries-lawful dims level (a + 1) rest h.7)
-
-pub chained-listed : (e : Entries) → chained (listed e) ≡ e
-chained-listed end = refl
-chained-listed (point a body v rest) = ap {B = Entries} (λ t. point a body v t) (chained-listed rest)
-chained-listed (child a body level chain rest) = ap {B = Entries} (λ t. child a body level chain t) (chained-listed rest)
 
 -- ---- rows, entry by entry
 

@@ -1,7 +1,7 @@
 -- The forms that the program answers so far. Any other first word is no command.
-use Rattle.std.specs.Prelude.{ℕ, ◌-◌, ◌^◌, List, [], ◌∷◌, ◌++◌, take, codes}
+use Rattle.std.specs.Prelude.{ℕ, ◌-◌, ◌^◌, List, [], ◌∷◌, ◌++◌, take, drop, codes}
 use Rattle.ph_specs.specs.declared.Kind.TheVariants.{Points}
-use Rattle.ph_specs.specs.Command.Command.{Begin, Put, Get, Del, Count, Clear}
+use Rattle.ph_specs.specs.Command.Command.{Begin, Put, Get, Del, Relocate, Count, Clear}
 use Rattle.ph_specs.specs.Command.{Form, form, Reading, count, value, fixed, coordinates, number_at, read_words_by, reading_by}
 
 abbrev pub built_forms : ℕ → List Form
@@ -11,6 +11,7 @@ built_forms dims =
     ∷ form (codes "put") (coordinates dims ++ value ∷ []) (λ n t. Put (take dims n) (number_at n dims))
     ∷ form (codes "get") (coordinates dims) (λ n t. Get n)
     ∷ form (codes "del") (coordinates dims) (λ n t. Del n)
+    ∷ form (codes "move") (coordinates dims ++ coordinates dims) (λ n t. Relocate (take dims n) (drop dims n))
     ∷ form (codes "count") [] (λ n t. Count)
     ∷ form (codes "clear") [] (λ n t. Clear)
     ∷ []

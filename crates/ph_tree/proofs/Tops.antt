@@ -8,24 +8,8 @@ use Rattle.std.proofs.lemmas.Nat.{or_lt, xor_lt, shr-shr, leading_top}
 use Rattle.std.proofs.lemmas.Nat.Bits.{bit_at-lt, bit_at_or, bit_at_xor, bit_at-zero, bit_at_above, same_from_bits}
 use Rattle.std.proofs.Math.Nat.{div-eq_of_lt-le}
 use Rattle.ph_specs.specs.PutTree.{digits_from}
+use Rattle.ph_specs.proofs.lemmas.JoinedBits.{joined-none, joined-same}
 use Rattle.ph_tree.specs.Differences.{differences, IsTopDifference}
-
-joined-is : (a b c k : ℕ) → bit_at (bit_or a (bit_xor b c)) k ≡ max (bit_at a k) ((bit_at b k + bit_at c k) % 2)
-joined-is a b c k = bit_at_or a (bit_xor b c) k ∙ ap (max (bit_at a k)) (bit_at_xor b c k)
-
-even : (a b c : ℕ) → b < 2 → c < 2 → max a ((b + c) % 2) ≡ 0 → (a ≡ 0) × (b ≡ c)
-even a b c h k e = (omega arith, omega arith)
-
-doubled : (a b c : ℕ) → b < 2 → b ≡ c → max a ((b + c) % 2) ≡ a
-doubled a b c h e = omega arith
-
-joined-none : (a b c k : ℕ) → bit_at (bit_or a (bit_xor b c)) k ≡ 0 → (bit_at a k ≡ 0) × (bit_at b k ≡ bit_at c k)
-joined-none a b c k e =
-    even (bit_at a k) (bit_at b k) (bit_at c k) (bit_at-lt b k) (bit_at-lt c k) (sym (joined-is a b c k) ∙ e)
-
-joined-same : (a b c k : ℕ) → bit_at b k ≡ bit_at c k → bit_at (bit_or a (bit_xor b c)) k ≡ bit_at a k
-joined-same a b c k e =
-    joined-is a b c k ∙ doubled (bit_at a k) (bit_at b k) (bit_at c k) (bit_at-lt b k) e
 
 -- where the word has a 0, all digits are the same
 same-at : (m k : ℕ) (xs ys : List ℕ) → length xs ≡ length ys → bit_at (differences m xs ys) k ≡ 0 → (bit_at m k ≡ 0) × (map (λ x. bit_at x k) xs ≡ map (λ x. bit_at x k) ys)

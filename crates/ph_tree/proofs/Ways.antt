@@ -19,79 +19,13 @@ use Rattle.ph_specs.proofs.lemmas.Joined.{offsets, from_place, number_at, offset
 use Rattle.ph_specs.proofs.lemmas.PointDigits.{IsWhole, point-whole, none-known, zeros-cleared, above-point, address-is, known-between, same_digits-true, same_digits-false}
 use Rattle.ph_specs.proofs.lemmas.RowsBehind.{address-put_together}
 use Rattle.ph_specs.proofs.lemmas.Shaped.{between-between, body-between}
-use Rattle.ph_specs.proofs.lemmas.Splits.{zeros-same}
-use Rattle.ph_specs.proofs.laws.Paths.{in-same}
+use Rattle.ph_specs.proofs.lemmas.Splits.{zeros-same, from-cleared}
+use Rattle.ph_specs.proofs.laws.Paths.{holds, many, many-append, many-held, many-other, placed_child, held, holding, none-below}
 use Rattle.ph_specs.proofs.laws.Put.{either}
 use Rattle.ph_specs.proofs.laws.Unique.{shape-rows}
 use Rattle.ph_tree.specs.Opened.{opened_below, opened_in}
 
-abbrev holds : ℕ → List ℤ → Placed → Bool
-holds w p x = is_in w x.region p
-
--- how many nodes of a list have a region that holds the point
-abbrev many : ℕ → List ℤ → List Placed → ℕ
-many w p xs = length (filter (holds w p) xs)
-
-many-append : (w : ℕ) (p : List ℤ) (xs ys : List Placed) → many w p (xs ++ ys) ≡ many w p xs + many w p ys
-many-append w p [] ys = omega arith
-many-append w p (x ∷ xs) ys = by_test (holds w p x) (many-append w p xs ys)
-  where
-    by_test : (t : Bool) → many w p (xs ++ ys) ≡ many w p xs + many w p ys → length (cond t (x ∷ filter (holds w p) (xs ++ ys)) (filter (holds w p) (xs ++ ys))) ≡ length (cond t (x ∷ filter (holds w p) xs) (filter (holds w p) xs)) + many w p ys
-    by_test true ih = omega (arith, ih)
-    by_test false ih = ih
-
-many-held : (w : ℕ) (p : List ℤ) (x : Placed) (xs : List Placed) → holds w p x ≡ true → many w p (x ∷ xs) ≡ 1 + many w p xs
-many-held w p x xs e = ap (λ t. length (cond t (x ∷ filter (holds w p) xs) (filter (holds w p) xs))) e ∙ omega arith
-
-many-other : (w : ℕ) (p : List ℤ) (x : Placed) (xs : List Placed) → (holds w p x ≡ true → ⊥) → many w p (x ∷ xs) ≡ many w p xs
-many-other w p x xs n =
-    elim (either (holds w p x)) [
-      | inl e ↦ absurd (n e)
-      | inr e ↦ ap (λ t. length (cond t (x ∷ filter (holds w p) xs) (filter (holds w p) xs))) e
-    ]
-
--- the child of an entry, at its place
-abbrev placed_child : ℕ → ℕ → ℕ → List ℕ → Entries → Placed
-placed_child w b c known chain =
-    record { node = record { level = c; chain = chain }; region = record { corner = map (coordinate w) known; level = b - 1 } }
-
--- where its region holds the point, the point has the digits that are known from the level of the parent on
-held : (w b c : ℕ) (known : List ℕ) (chain : Entries) (p : List ℤ) → 1 ≤ b → holds w p (placed_child w b c known chain) ≡ true → from_place b (offsets w p) ≡ from_place b known
-held w b c known chain p l h =
-    let n : b - 1 + 1 ≡ b = omega (arith, l) in
-    sym (subst (λ k. from_place k (offsets w (map (coordinate w) known)) ≡ from_place k (offsets w p)) n (in-same w (b - 1) (map (coordinate w) known) p h)) ∙ ap (from_place b) (offsets-coordinate w known)
-
-same-in : (w l : ℕ) (cs p : List ℤ) → from_place (l + 1) (offsets w cs) ≡ from_place (l + 1) (offsets w p) → pointwise (λ c d. prefix w l c == prefix w l d) cs p ≡ true
-same-in w l [] [] h = refl
-same-in w l [] (d ∷ p) h = cc
-same-in w l (c ∷ cs) [] h = cc
-same-in w l (c ∷ cs) (d ∷ p) h =
-    ap (λ t. t && pointwise (λ c d. prefix w l c == prefix w l d) cs p) (eq-eqb (prefix w l c) (prefix w l d) (ap (λ r. get_or r 0 0) h)) ∙ same-in w l cs p (ap (drop 1) h)
-
--- and the other way round
-holding : (w b c : ℕ) (known : List ℕ) (chain : Entries) (p : List ℤ) → 1 ≤ b → from_place b (offsets w p) ≡ from_place b known → holds w p (placed_child w b c known chain) ≡ true
-holding w b c known chain p l h =
-    let n : b ≡ b - 1 + 1 = omega (arith, l) in
-    same-in w (b - 1) (map (coordinate w) known) p (subst (λ k. from_place k (offsets w (map (coordinate w) known)) ≡ from_place k (offsets w p)) n (ap (from_place b) (offsets-coordinate w known) ∙ sym h))
-
--- no node below holds a point that has other digits
-none-below : (w dims b c least : ℕ) (known : List ℕ) (e : Entries) (p : List ℤ) → c < b → IsAbove dims c known → IsLawfulFrom dims c least e → (from_place b (offsets w p) ≡ from_place b known → ⊥) → many w p (placed_below w c known e) ≡ 0
-none-below w dims b c least known end p l h k n = refl
-none-below w dims b c least known (point a body v rest) p l h k n = none-below w dims b c (a + 1) known rest p l h k.3 n
-none-below w dims b c least known (child a body d chain rest) p l h k n =
-    let deep : List ℕ = put_together c a known body in
-    let s : from_place b (put_together c a known body) ≡ from_place b known = same_from (c + 1) b (put_together c a known body) known (omega (arith, l)) (from_place-put_together c a known body (h.long ∙ sym k.2.0) h.zeros k.2.1) in
-    let m : many w p (placed_child w c d (put_together c a known body) chain ∷ (placed_below w d (put_together c a known body) chain ++ placed_below w c known rest)) ≡ many w p (placed_below w d (put_together c a known body) chain ++ placed_below w c known rest) =
-    many-other w p (placed_child w c d deep chain) (placed_below w d deep chain ++ placed_below w c known rest) (λ t. n (same_from c b (offsets w p) deep (omega (arith, l)) (held w c d deep chain p (omega (arith, k.3)) t) ∙ s))
-    in
-    omega (arith, m, many-append w p (placed_below w d deep chain) (placed_below w c known rest), none-below w dims b d 0 deep chain p (omega (arith, l, k.3)) (above-child dims c d a known body k.3 h k.2 k.4) k.6 (λ t. n (t ∙ s)), none-below w dims b c (a + 1) known rest p l h k.7 n)
-
 -- ---- a child at the point's address, and one elsewhere
-
-from-cleared : (k : ℕ) (xs : List ℕ) → from_place k (cleared k xs) ≡ from_place k xs
-from-cleared k [] = refl
-from-cleared k (x ∷ xs) =
-    ap (λ n. n ∷ from_place k (cleared k xs)) (mul-div_cancel (x / 2 ^ k) (pow_pos k)) ∙ ap {B = List ℕ} (λ u. x / 2 ^ k ∷ u) (from-cleared k xs)
 
 module _ (w dims b c a : ℕ) (body : List ℕ) (p : List ℤ) (whole : IsWhole w dims p) (above : IsAbove dims b (cleared (b + 1) (offsets w p))) (low : c < b) (small : a < 2 ^ dims) (is_body : IsBody dims b body) (zeros : HasZerosFrom c body) where
   abbrev over : List ℕ

@@ -9,6 +9,9 @@ returns-in-Get-clause-ok g c = rw c.in-Get.is c.get_row.ensures
 pub returns-in-Del-clause-ok : goal.returns-in-Del-clause-ok
 returns-in-Del-clause-ok g c = rw c.in-Del.is c.del_row.ensures.ok
 
+pub returns-in-Relocate-clause-ok : goal.returns-in-Relocate-clause-ok
+returns-in-Relocate-clause-ok g c = rw c.in-Relocate.is c.move_row.ensures.ok
+
 pub returns-in-Count-clause-ok : goal.returns-in-Count-clause-ok
 returns-in-Count-clause-ok g c = rw c.in-Count.is c.count_rows.ensures
 

@@ -13,6 +13,6 @@ loop-place-preserved c =
       fits = fits-next next (sym n.fits) _ c.loop-place.invariant.fits;
       coords = coords-next next _ _ _ (n.coords refl) c.loop-place.invariant.coords;
       counts = counts-next next _ _ _ (n.counts refl) c.loop-place.invariant.counts;
-      coords_fit = coords_room-next next _ _ 16 (n.coords refl) c.loop-place.invariant.coords_fit;
+      coords_fit = coords_room-next next _ _ 32 (n.coords refl) c.loop-place.invariant.coords_fit;
       counts_fit = counts_room-next next _ _ 2 (n.counts refl) c.loop-place.invariant.counts_fit;
     }

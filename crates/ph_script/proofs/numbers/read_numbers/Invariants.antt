@@ -14,6 +14,6 @@ invariant-loop-place l = record {
   fits : pointwise number_fits (map place_of (drop l.place-index l.places)) (words l.rest) ≡ pointwise number_fits (map place_of l.places) (words l.text);
   coords : l.numbers.coords.items ++ coords_at (map place_of (drop l.place-index l.places)) (words l.rest) ≡ coords_at (map place_of l.places) (words l.text);
   counts : l.numbers.counts.items ++ counts_at (map place_of (drop l.place-index l.places)) (words l.rest) ≡ counts_at (map place_of l.places) (words l.text);
-  coords_fit : array_vec_len l.numbers.coords + sum_by coords_room (map place_of (drop l.place-index l.places)) ≤ 16;
+  coords_fit : array_vec_len l.numbers.coords + sum_by coords_room (map place_of (drop l.place-index l.places)) ≤ 32;
   counts_fit : array_vec_len l.numbers.counts + sum_by counts_room (map place_of (drop l.place-index l.places)) ≤ 2;
 }

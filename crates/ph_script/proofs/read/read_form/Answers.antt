@@ -4,8 +4,8 @@ use Rattle.ph_script.specs.Forms.{place_of}
 use Rattle.ph_script.proofs.ReadPlaces.{fit-of, does}
 use Rattle.ph_script.proofs.read.read_form.Goals as goal
 
-pub command-requires : goal.command-requires
-command-requires c =
+pub command-requires-clause-fit : goal.command-requires-clause-fit
+command-requires-clause-fit c =
     let n = c.in-Some.ensures in
     let e = ap (map place_of) c.as_slice-places.ensures.value ∙ c.spread-list.ensures ∙ c.requires.row c.args.dims in
     fit-of c.args.form.now.verb c.args.dims _ (words c.args.text.now) _ _ e n.0 n.1 n.2

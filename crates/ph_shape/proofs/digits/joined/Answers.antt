@@ -3,7 +3,8 @@ use Rattle.std.proofs.Math.Pow.{pow_mono}
 use Rattle.std.proofs.lemmas.List.{get_or-take}
 use Rattle.ph_specs.specs.Lawful.{put_together}
 use Rattle.ph_specs.proofs.lemmas.Joined.{length-put_together}
-use Rattle.ph_shape.proofs.Filled.{filled-next, filled-whole, get-put_together}
+use Rattle.ph_specs.proofs.lemmas.Joined.{get-put_together}
+use Rattle.ph_shape.proofs.Filled.{filled-next, filled-whole}
 use Rattle.ph_shape.proofs.Shifts.{below-at}
 use Rattle.ph_shape.proofs.digits.joined.Goals as goal
 
