@@ -1,6 +1,6 @@
 -- What the answer to one line is, by what the line was read as.
 use Rattle.std.proofs.Common.{◌≡◌, ◌<◌, ℕ, Bool, false, List, [], ◌∷◌, ◌++◌, length, take, refl, ap, sym, ◌∙◌, append-nil, subst}
-use Rattle.std.specs.Prelude.{Ok, Err, Result, IfOk, IfErr}
+use Rattle.std.specs.Prelude.{Ok, Err, Result, IfOk, IfErr, OnOk, OnErr}
 use denote.Ref.{Bor}
 use Rattle.ph_specs.specs.Lines.{words}
 use Rattle.std.specs.declared.option.Option.{Option}
@@ -18,7 +18,7 @@ use Rattle.ph_script.proofs.Pieces.{line-reading, line-from_kept, text-limit}
 use Rattle.ph_engine.specs.Machine.{is_refusal, KEPT, KEPT-is}
 use Rattle.ph_engine.specs.Answering.{Said, SaidFront, SaidOr}
 use Rattle.ph_engine.specs.BuiltMachine.{built_step, built_machine, alone}
-use Rattle.ph_engine.specs.Doing.{Done, DoneOr, refuses}
+use Rattle.ph_engine.specs.Doing.{Does, Done, DoneOr, refuses}
 use Rattle.ph_engine.specs.Writing.{WritesFront}
 use Rattle.ph_engine.specs.Showing.{IsShort}
 use Rattle.ph_engine.specs.declared.status.Answer.{Answer}
@@ -54,6 +54,12 @@ pub said-nothing : (e : Engine) (bytes : List ℕ) (written : Option (List ℕ))
 said-nothing e bytes written h =
     let s : built_step (alone e) bytes ≡ outcome e [] [] = step-is e bytes Nothing h in
     record { told = rw s (appends_none written); state = rw s refl; refusal = rw s refl }
+
+-- a command that was done, and whose reply was given to a sink
+pub done-or : (e now : Engine) (command : Command) (reply : Reply) (written now_written : Option (List ℕ)) (result : Result Answer Stop) → Does e command now reply → IfOk result (λ answer. refuses answer ≡ is_refusal (reply_text reply)) → OnOk result (Appends written now_written (reply_text reply)) → IfErr result (λ stop. stop ≡ WriteFault) → OnErr result (WritesFront written now_written (reply_text reply)) → DoneOr e command written now_written now result
+done-or e now command reply written now_written (Ok answer) d a t s f = record { reply = reply; does = d; told = t; refusal = a }
+done-or e now command reply written now_written (Err WriteFault) d a t s f = record { reply = reply; does = d; count = f.count; short = f.short; told = f.told }
+done-or e now command reply written now_written (Err NoMemory) d a t s f = absurd (let clash : NoMemory ≡ WriteFault = s in cc)
 
 -- a command
 pub said-done : (e now : Engine) (bytes : List ℕ) (command : Command) (written now_written : Option (List ℕ)) (answer : Answer) (refused : Bool) → built_reading (current e).dims bytes ≡ Do command → Done e command written now_written now answer → refused ≡ refuses answer → Said built_machine (alone e) bytes written now_written (alone now) refused

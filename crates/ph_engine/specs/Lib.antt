@@ -10,5 +10,4 @@ pub mod Commands
 pub mod Doing
 pub mod BuiltMachine
 pub mod ByDefinition
-pub mod Saying
 pub mod Showing

@@ -1,5 +1,5 @@
 //! The state of the program, and what a command does to it.
-ghost use Rattle.std.specs.Prelude.{◌≡◌, ◌≤◌, IfOk, OnErr};
+ghost use Rattle.std.specs.Prelude.{◌≡◌, ◌≤◌};
 ghost use Rattle.ph_io.specs.Causes.{HasCause};
 ghost use Rattle.ph_specs.specs.declared.Kind.TheVariants.{Points};
 ghost use Rattle.ph_specs.specs.Command.Command.{Begin};
@@ -7,17 +7,15 @@ ghost use Rattle.ph_specs.specs.State.{new_engine, current};
 ghost use Rattle.ph_script.specs.Meaning.{command_of, reply_of};
 ghost use Rattle.ph_script.specs.Fit.{HasDims};
 ghost use Rattle.ph_engine.specs.Doing.{Does, DoneOr};
-ghost use Rattle.ph_engine.specs.Saying.{Says};
 ghost use Rattle.ph_engine.specs.Statuses.{StopHasCause};
 
-use crate::output::{Said, say};
+use crate::output::say;
 use crate::status::{Answer, Stop};
 use crate::trees::AnyTree;
 use ph_coord::Width;
 use ph_io::Sink;
 use ph_script::{Command, Reply};
 use ph_steps::Steps;
-use ph_tree::NoMemory;
 use std::alloc::Global;
 use std::marker::Model;
 use std::sync::ledger::Ledger;
@@ -81,26 +79,9 @@ impl Engine {
         ensures done { DoneOr self.old (command_of cmd.now) (O.written out.old) (O.written out.new) self.new result }
         ensures cause { StopHasCause (O.faults out.old) (O.faults out.new) result }
     {
-        match self.act(alloc, cmd, visits, changes) {
-            Ok(said) => say(out, &said),
-            Err(_) => Err(Stop::NoMemory),
-        }
-    }
-
-    fn act<V: Ledger, C: Ledger>(
-        &mut self,
-        alloc: Global,
-        cmd: &Command,
-        visits: &mut Steps<V>,
-        changes: &mut Steps<C>,
-    ) -> Result<Said, NoMemory>
-        requires { HasDims (current self.old).dims cmd.now }
-        ensures ok { IfOk result (λ said. Says self.old (command_of cmd.now) self.new said) }
-        ensures err { OnErr result (self.new ≡ self.old) }
-    {
         match cmd {
-            Command::Begin { k, max } => Ok(Said::new(&self.begin(alloc, *k, *max))),
-            _ => self.a.tree.act(cmd, visits, changes),
+            Command::Begin { k, max } => say(out, &self.begin(alloc, *k, *max)),
+            _ => self.a.tree.exec(cmd, out, visits, changes),
         }
     }
 

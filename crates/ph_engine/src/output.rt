@@ -1,4 +1,4 @@
-//! Replies as text, and the sink that takes them.
+//! Replies, and the sink that takes their texts.
 ghost use Rattle.std.specs.Prelude.{◌≡◌, IfOk, IfErr, OnOk, OnErr};
 ghost use Rattle.std.specs.Io.KnownBytes.{Appends};
 ghost use Rattle.ph_io.specs.Causes.{HasCause};
@@ -11,26 +11,7 @@ ghost use Rattle.ph_engine.specs.Writing.{WritesFront};
 
 use crate::status::{Answer, Stop};
 use ph_io::{Failed, Sink};
-use ph_script::{Reply, Text, reply_text};
-
-// A reply's text, and whether it is a refusal.
-#[derive(Drop)]
-pub struct Said {
-    pub text: Text,
-    pub answer: Answer,
-}
-
-impl Said {
-    pub fn new<const D: usize>(reply: &Reply<D>) -> Said
-        ensures text { result.text.bytes ≡ text_of (reply_of reply.now) }
-        ensures answer { refuses result.answer ≡ is_refusal (text_of (reply_of reply.now)) }
-    {
-        Said {
-            text: reply_text(reply),
-            answer: answer_of(reply),
-        }
-    }
-}
+use ph_script::{Reply, reply_text};
 
 fn answer_of<const D: usize>(reply: &Reply<D>) -> Answer
     ensures { refuses result ≡ is_refusal (text_of (reply_of reply.now)) }
@@ -58,15 +39,16 @@ fn answer_of<const D: usize>(reply: &Reply<D>) -> Answer
 }
 
 // Gives a reply to the sink, as one piece.
-pub fn say<O: Sink>(out: &mut O, said: &Said) -> Result<Answer, Stop>
-    ensures answer { IfOk result (λ answer. answer ≡ said.now.answer) }
-    ensures told { OnOk result (Appends (O.written out.old) (O.written out.new) said.now.text.bytes) }
+pub fn say<const D: usize, O: Sink>(out: &mut O, reply: &Reply<D>) -> Result<Answer, Stop>
+    ensures answer { IfOk result (λ answer. refuses answer ≡ is_refusal (text_of (reply_of reply.now))) }
+    ensures told { OnOk result (Appends (O.written out.old) (O.written out.new) (text_of (reply_of reply.now))) }
     ensures err { IfErr result (λ stop. stop ≡ Stop.WriteFault) }
-    ensures front { OnErr result (WritesFront (O.written out.old) (O.written out.new) said.now.text.bytes) }
+    ensures front { OnErr result (WritesFront (O.written out.old) (O.written out.new) (text_of (reply_of reply.now))) }
     ensures cause { StopHasCause (O.faults out.old) (O.faults out.new) result }
 {
-    match write_piece(out, said.text.as_str().as_bytes()) {
-        Ok(()) => Ok(said.answer),
+    let text = reply_text(reply);
+    match write_piece(out, text.as_str().as_bytes()) {
+        Ok(()) => Ok(answer_of(reply)),
         Err(Failed) => Err(Stop::WriteFault),
     }
 }

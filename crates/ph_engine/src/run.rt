@@ -16,7 +16,7 @@ ghost use Rattle.ph_engine.specs.Showing.{IsShort};
 ghost use Rattle.ph_engine.specs.Statuses.{StopHasCause, HasCauses, stop_status, read_status as status_of};
 
 use crate::engine::Engine;
-use crate::output::{Said, say};
+use crate::output::say;
 use crate::status::{Answer, Status, Stop};
 use ph_io::{Failed, Sink, Source};
 use ph_script::{Bad, Line, Lines, Reply, read_command};
@@ -203,7 +203,7 @@ fn refuse<O: Sink>(out: &mut O, reply: &Reply<1>) -> Result<bool, Stop>
     ensures front { IfErr result (λ stop. (stop ≡ Stop.WriteFault) × WritesFront (O.written out.old) (O.written out.new) (text_of (reply_of reply.now))) }
     ensures cause { StopHasCause (O.faults out.old) (O.faults out.new) result }
 {
-    match say(out, &Said::new(reply)) {
+    match say(out, reply) {
         Ok(answer) => Ok(is_refused(answer)),
         Err(stop) => Err(stop),
     }

@@ -1,14 +1,17 @@
 //! A tree of any number of dimensions that a slot can have.
-ghost use Rattle.std.specs.Prelude.{◌≡◌, ◌≤◌, ◌<◌, ◌⊎◌, MatchOption, IfSome, IfOk, OnErr};
+ghost use Rattle.std.specs.Prelude.{◌≡◌, ◌≤◌, ◌<◌, ◌⊎◌, MatchOption, IfSome};
 ghost use Rattle.ph_script.specs.Meaning.{command_of};
 ghost use Rattle.ph_script.specs.Fit.{HasDims};
 ghost use Rattle.ph_engine.specs.Commands.{IsOnTree};
-ghost use Rattle.ph_engine.specs.Saying.{Says, SaysOn};
-ghost use Rattle.ph_engine.specs.Slots.{dims_of, table_of, engine_of, point_slot, empty_table};
+ghost use Rattle.ph_engine.specs.Doing.{DoneOr};
+ghost use Rattle.ph_engine.specs.Statuses.{StopHasCause};
+ghost use Rattle.ph_engine.specs.Slots.{dims_of, table_of, engine_of, any_slot, point_slot, empty_table};
 
 use crate::commands::act_on;
-use crate::output::Said;
+use crate::output::say;
+use crate::status::{Answer, Stop};
 use ph_coord::Width;
+use ph_io::Sink;
 use ph_script::Command;
 use ph_steps::Steps;
 use ph_tree::{NoMemory, PhTree};
@@ -80,38 +83,40 @@ impl AnyTree {
         }
     }
 
-    // Does a command that is no `open`. Without memory all stays.
-    pub fn act<V: Ledger, C: Ledger>(
+    // Does a command that is no `open`, and says its reply.
+    pub fn exec<O: Sink, V: Ledger, C: Ledger>(
         &mut self,
         cmd: &Command,
+        out: &mut O,
         visits: &mut Steps<V>,
         changes: &mut Steps<C>,
-    ) -> Result<Said, NoMemory>
+    ) -> Result<Answer, Stop>
         requires dims { HasDims (dims_of self.old) cmd.now }
         requires on_tree { IsOnTree cmd.now }
-        ensures ok { IfOk result (λ said. SaysOn self.old (command_of cmd.now) self.new said) }
-        ensures err { OnErr result (self.new ≡ self.old) }
+        ensures done { DoneOr (engine_of (any_slot self.old)) (command_of cmd.now) (O.written out.old) (O.written out.new) (engine_of (any_slot self.new)) result }
+        ensures cause { StopHasCause (O.faults out.old) (O.faults out.new) result }
         ensures width { (table_of self.new).width ≡ (table_of self.old).width }
     {
-        with_tree!(self, tree => said_on(tree, cmd, visits, changes))
+        with_tree!(self, tree => exec_on(tree, cmd, out, visits, changes))
     }
 }
 
-fn said_on<const D: usize, V: Ledger, C: Ledger>(
+fn exec_on<const D: usize, O: Sink, V: Ledger, C: Ledger>(
     tree: &mut PhTree<D>,
     cmd: &Command,
+    out: &mut O,
     visits: &mut Steps<V>,
     changes: &mut Steps<C>,
-) -> Result<Said, NoMemory>
+) -> Result<Answer, Stop>
     requires dims { HasDims D cmd.now }
     requires limit { D ≤ 16 }
     requires on_tree { IsOnTree cmd.now }
-    ensures ok { IfOk result (λ said. Says (engine_of (point_slot D tree.old)) (command_of cmd.now) (engine_of (point_slot D tree.new)) said) }
-    ensures err { OnErr result (tree.new ≡ tree.old) }
+    ensures done { DoneOr (engine_of (point_slot D tree.old)) (command_of cmd.now) (O.written out.old) (O.written out.new) (engine_of (point_slot D tree.new)) result }
+    ensures cause { StopHasCause (O.faults out.old) (O.faults out.new) result }
     ensures width { tree.new.width ≡ tree.old.width }
 {
     match act_on(tree, cmd, visits, changes) {
-        Ok(reply) => Ok(Said::new(&reply)),
-        Err(error) => Err(error),
+        Ok(reply) => say(out, &reply),
+        Err(NoMemory) => Err(Stop::NoMemory),
     }
 }
