@@ -5,7 +5,6 @@ ghost use Rattle.std.specs.Prelude.{◌≡◌, ◌<◌};
 
 mod points;
 mod request;
-mod splitmix;
 mod work;
 
 use ph_steps::Steps;

@@ -3,8 +3,9 @@
 ghost use Rattle.std.specs.Prelude.{◌≡◌, ◌<◌, ◌^◌, IsTrue};
 ghost use Rattle.ph_specs.specs.Coordinate.{fits, IsPoint};
 
-use crate::splitmix::SplitMix;
 use ph_coord::{Point, Width};
+use rand_core::{Rng, SeedableRng};
+use rand_xoshiro::SplitMix64;
 
 const SEED: u64 = 2014;
 
@@ -34,10 +35,10 @@ pub fn width() -> Width
 }
 
 /// An endless sequence of points, the same one each time that it is begun.
-#[derive(Clone, Copy)]
+#[derive(Drop)]
 pub struct Points {
     kind: Kind,
-    numbers: SplitMix,
+    numbers: SplitMix64,
 }
 
 impl Points {
@@ -45,7 +46,7 @@ impl Points {
     pub fn new(kind: Kind) -> Points {
         Points {
             kind,
-            numbers: SplitMix::new(SEED),
+            numbers: SplitMix64::seed_from_u64(SEED),
         }
     }
 
@@ -56,28 +57,28 @@ impl Points {
         match self.kind {
             Kind::Uniform => anywhere(&mut self.numbers),
             Kind::Clustered => {
-                let centre = self.numbers.next_number() % CENTRES;
+                let centre = self.numbers.next_u64() % CENTRES;
                 near(centre, &mut self.numbers)
             }
         }
     }
 }
 
-fn anywhere(numbers: &mut SplitMix) -> Point<3>
+fn anywhere(numbers: &mut SplitMix64) -> Point<3>
     ensures { IsPoint 32 3 result }
 {
     point(
-        numbers.next_number() % COORDINATES,
-        numbers.next_number() % COORDINATES,
-        numbers.next_number() % COORDINATES,
+        numbers.next_u64() % COORDINATES,
+        numbers.next_u64() % COORDINATES,
+        numbers.next_u64() % COORDINATES,
     )
 }
 
 // A point near a centre, whose number also seeds the numbers that say where it is.
-fn near(centre: u64, numbers: &mut SplitMix) -> Point<3>
+fn near(centre: u64, numbers: &mut SplitMix64) -> Point<3>
     ensures { IsPoint 32 3 result }
 {
-    let mut corner = SplitMix::new(centre);
+    let mut corner = SplitMix64::seed_from_u64(centre);
     point(
         from_corner(&mut corner, numbers),
         from_corner(&mut corner, numbers),
@@ -86,10 +87,10 @@ fn near(centre: u64, numbers: &mut SplitMix) -> Point<3>
 }
 
 // Where a point near a centre is in one dimension. All such places lie in the space.
-fn from_corner(corner: &mut SplitMix, numbers: &mut SplitMix) -> u64
+fn from_corner(corner: &mut SplitMix64, numbers: &mut SplitMix64) -> u64
     ensures { result < 2 ^ 32 }
 {
-    corner.next_number() % (COORDINATES - SIDE + 1) + numbers.next_number() % SIDE
+    corner.next_u64() % (COORDINATES - SIDE + 1) + numbers.next_u64() % SIDE
 }
 
 // The point whose coordinates lie so far above the least one.
