@@ -1,12 +1,12 @@
 -- A removal by the step that it takes at a node.
-use Rattle.std.proofs.Common.{length, ◌≡◌, ◌≢◌, ℕ, zero, suc, ◌+◌, ◌-◌, ◌<◌, ◌≤◌, List, [], ◌∷◌, true, not, cond, refl, arith, ap, sym, ◌∙◌, subst, ne_eqb, eq-eqb, lt-ltb}
+use Rattle.std.proofs.Common.{length, ◌≡◌, ◌≢◌, ℕ, zero, suc, ◌+◌, ◌-◌, ◌<◌, ◌≤◌, List, [], ◌∷◌, not, cond, refl, arith, ap, sym, ◌∙◌, subst, ne_eqb, eq-eqb, lt-ltb}
 use Rattle.std.specs.Prelude.{ℤ, Some, None, Option, slice_get, position, unwrap_or}
 use Rattle.std.specs.List.{position_or_len}
 use Rattle.ph_specs.specs.ZOrder.{address}
 use Rattle.ph_specs.specs.Node.{Entries, end, point, child, Entry, What, value, node, PlainNode, entries, listed, node_of}
 use Rattle.ph_specs.specs.Shape.{digits_below, digits_between}
 use Rattle.ph_specs.specs.Lawful.{IsLawful, IsLawfulFrom, count, put_together}
-use Rattle.ph_specs.specs.PutTree.{same_digits, find_node, find_tree}
+use Rattle.ph_specs.specs.PutTree.{find_node, find_tree}
 use Rattle.ph_specs.specs.DelTree.{del_node, del_tree}
 use Rattle.ph_specs.specs.EntryEdits.{has_address, with_child, what_at, without, merged}
 use Rattle.ph_specs.proofs.lemmas.PointDigits.{same_digits-refl}
@@ -18,10 +18,11 @@ use Rattle.ph_node.specs.Split.{IsValue, body_at}
 use Rattle.ph_node.specs.Merge.{IsPair, entries_held, addr_at, body_beside, merge_node}
 use Rattle.ph_node.proofs.Merges.{got}
 use Rattle.ph_node.specs.declared.reads.NodeRefOf.{NodeRefOf}
+use Rattle.ph_tree.specs.declared.step.StepOf.{StepOf}
 use Rattle.ph_tree.specs.declared.step.StepOf.TheVariants.{Absent, Same, Below, Other}
 use Rattle.ph_tree.specs.Step.{IsAt, IsApart, IsStep, IsOwn, IsAmong}
 use Rattle.ph_tree.proofs.Steps.{what_got, body_got, within}
-use Rattle.ph_tree.proofs.Walks.{no_entry, not_same, least-address, below_found}
+use Rattle.ph_tree.proofs.Walks.{no_entry, not_same, least-address, IsStepAt, step_as, below_digits, way_below}
 
 -- ---- the place of an entry
 
@@ -139,49 +140,58 @@ pub record Merges (w : ℕ) (p : List ℤ) (t : PlainNode) (i j v : ℕ) : Type 
   pub del : merge_node t i j ≡ del_node w t p
   pub found : find_node w t p ≡ Some v
 
-module _ (w dims : ℕ) (p : List ℤ) (t : PlainNode) (ok : IsLawfulFrom dims t.level 0 t.chain) (o : ℕ) where
-  pub absent_del : IsStep dims w p t Absent o → t ≡ del_node w t p
-  absent_del s = sym (del_node-none w t p s.0)
+module _ {dims w o : ℕ} {p : List ℤ} {t : PlainNode} {found : StepOf PlainNode} (k : IsStepAt dims w p t found o) where
+  pub absent_del : found ≡ Absent → t ≡ del_node w t p
+  absent_del is = sym (del_node-none w t p (step_as k is).0)
 
-  pub other_del : (i : ℕ) (body : List ℕ) → IsStep dims w p t (Other i body) o → t ≡ del_node w t p
-  other_del i body s = sym (other_del_by w dims p t ok i s.0 s.0.what s.1 refl s.3)
+  pub other_del : {i : ℕ} {body : List ℕ} → found ≡ Other i body → t ≡ del_node w t p
+  other_del {i = i} is =
+      let s = step_as k is in sym (other_del_by w dims p t k.lawful i s.0 s.0.what s.1 refl s.3)
 
-  pub same_own : (i v : ℕ) → IsStep dims w p t (Same i v) o → IsOwn w p t i v
-  same_own i v s = (s.0, s.1, s.2, s.3)
+  module _ {i v : ℕ} (is : found ≡ Same i v) where
+    same_own : IsOwn w p t i v
+    same_own = let s = step_as k is in (s.0, s.1, s.2, s.3)
 
-  module _ (i : ℕ) (m : NodeRefOf PlainNode) (s : IsStep dims w p t (Below i m) o) where
-    below_same : same_digits s.0.body (digits_between w t.level (shown m).level p) ≡ true
-    below_same = same_digits-refl s.0.body (digits_between w t.level (shown m).level p) s.3
+    pub same_del : node_of t.level (without (entries t) i) ≡ del_node w t p
+    same_del = own_del w dims p t k.lawful i v same_own
 
-    below_lawful : IsLawfulChild dims t.level s.0 (shown m)
-    below_lawful = lawful-child dims t.level 0 t.chain i s.0 (shown m) ok s.1.0 s.2
+    pub same_many : 1 ≤ length (entries (del_node w t p)) → 2 ≤ length (entries t)
+    same_many = own_many w dims p t k.lawful i v same_own
+
+  module _ {i : ℕ} {m : NodeRefOf PlainNode} (is : found ≡ Below i m) where
+    abbrev nearer : IsStep dims w p t (Below i m) o
+    nearer = step_as k is
+
+    below_lawful : IsLawfulChild dims t.level nearer.0 (shown m)
+    below_lawful = lawful-child dims t.level 0 t.chain i nearer.0 (shown m) k.lawful nearer.1.0 nearer.2
 
     -- a child keeps two entries where it has more, or where none is the point
-    pub below_left : IsAmong w p (shown m) 2 None → 2 ≤ length (entries (del_node w (shown m) p))
-    below_left h = h below_lawful.many
+    pub below_left : {n : PlainNode} → shown m ≡ n → IsAmong w p (shown m) 2 None → 2 ≤ length (entries (del_node w n p))
+    below_left e h = subst (λ u. 2 ≤ length (entries (del_node w u p))) e (h below_lawful.many)
 
-    pub below_del : 2 ≤ length (entries (del_node w (shown m) p)) → with_child t i (del_node w (shown m) p) ≡ del_node w t p
-    below_del l = sym (del_node-child w t p i s.0 (shown m) (entry_at w dims p t i s.0 ok s.1) s.2 below_same l)
+    pub below_del : {n : PlainNode} → shown m ≡ n → IsAmong w p (shown m) 2 None → with_child t i (del_node w n p) ≡ del_node w t p
+    below_del e h =
+        subst (λ u. with_child t i (del_node w u p) ≡ del_node w t p) e (sym (del_node-child w t p i nearer.0 (shown m) (entry_at w dims p t i nearer.0 k.lawful nearer.1) nearer.2 (below_digits k is) (h below_lawful.many)))
 
-    pub merges : (j v : ℕ) → length (entries (shown m)) ≡ 2 → IsOwn w p (shown m) j v → Merges w p t i j v
-    merges j v two y =
+    pub merges : {j v : ℕ} → (length (entries (shown m)) ≡ 2) × IsOwn w p (shown m) j v → Merges w p t i j v
+    merges {j = j} {v = v} (two, y) =
         let one : j < 2 = omega (arith, two, within (entries (shown m)) j y.0 y.1.0) in
         let z : (z : Entry) × (slice_get (entries (shown m)) (1 - j) ≡ Some z) = pair-other (entries (shown m)) j two one in
-        let held : what_at (entries t) i ≡ node (shown m) = what_got (entries t) i s.0 s.1.0 ∙ s.2 in
-        let front : body_at (entries t) i ≡ s.0.body = body_got (entries t) i s.0 s.1.0 in
+        let held : what_at (entries t) i ≡ node (shown m) = what_got (entries t) i nearer.0 nearer.1.0 ∙ nearer.2 in
+        let front : body_at (entries t) i ≡ nearer.0.body = body_got (entries t) i nearer.0 nearer.1.0 in
         let at : (addr_at (entries (shown m)) (1 - j) ≡ z.0.addr) × (body_at (entries (shown m)) (1 - j) ≡ z.0.body) × (what_at (entries (shown m)) (1 - j) ≡ z.0.what) = got (entries (shown m)) (1 - j) z.0 z.1 in
         record {
-          inside = within (entries t) i s.0 s.1.0;
-          pair = subst (λ u. IsPair t.level u (what_at (entries t) i)) (sym front) (subst (IsPair t.level s.0.body) (sym held) (record { two = two; lower = below_lawful.lower; zeros = below_lawful.zeros }));
+          inside = within (entries t) i nearer.0 nearer.1.0;
+          pair = subst (λ u. IsPair t.level u (what_at (entries t) i)) (sym front) (subst (IsPair t.level nearer.0.body) (sym held) (record { two = two; lower = below_lawful.lower; zeros = below_lawful.zeros }));
           one = one;
           point = subst (λ u. IsValue (what_at (entries_held u) j)) (sym held) (subst IsValue (sym (what_got (entries (shown m)) j y.0 y.1.0 ∙ y.2)) tt);
           del =
               ap (λ u. node_of t.level (merged (entries t) i j (body_beside u (what_at (entries t) i) j))) front
-              ∙ ap (λ u. node_of t.level (merged (entries t) i j (body_beside s.0.body u j))) held
-              ∙ ap (λ n. node_of t.level (merged (entries t) i j (put_together (shown m).level n s.0.body (body_at (entries (shown m)) (1 - j))))) at.0
-              ∙ ap (λ u. node_of t.level (merged (entries t) i j (put_together (shown m).level z.0.addr s.0.body u))) at.1
-              ∙ sym (del_node-pair w t p i s.0 (shown m) j y.0 v z.0 (entry_at w dims p t i s.0 ok s.1) s.2 below_same (entry_at w dims p (shown m) j y.0 below_lawful.lawful y.1) y.2 (same_digits-refl y.0.body (digits_below w (shown m).level p) y.3) two z.1);
-          found = below_found w dims p t ok o i m s ∙ own_found w dims p (shown m) below_lawful.lawful j v y;
+              ∙ ap (λ u. node_of t.level (merged (entries t) i j (body_beside nearer.0.body u j))) held
+              ∙ ap (λ n. node_of t.level (merged (entries t) i j (put_together (shown m).level n nearer.0.body (body_at (entries (shown m)) (1 - j))))) at.0
+              ∙ ap (λ u. node_of t.level (merged (entries t) i j (put_together (shown m).level z.0.addr nearer.0.body u))) at.1
+              ∙ sym (del_node-pair w t p i nearer.0 (shown m) j y.0 v z.0 (entry_at w dims p t i nearer.0 k.lawful nearer.1) nearer.2 (below_digits k is) (entry_at w dims p (shown m) j y.0 below_lawful.lawful y.1) y.2 (same_digits-refl y.0.body (digits_below w (shown m).level p) y.3) two z.1);
+          found = (way_below k is refl).found ∙ own_found w dims p (shown m) below_lawful.lawful j v y;
         }
 
 -- ---- a root

@@ -3,8 +3,8 @@ use Rattle.std.proofs.Common.{◌≡◌, ℕ, ◌≤◌, List, [], ◌∷◌, le
 use Rattle.std.specs.Prelude.{ℤ, Option, Some, None, is_some}
 use Rattle.std.specs.List.{list_all}
 use Rattle.std.proofs.lemmas.Bool.{and_parts}
-use Rattle.ph_specs.specs.Coordinate.{same_point, is_point}
-use Rattle.ph_specs.specs.Table.{Row, row, find, put, del, move, is_rising, is_value}
+use Rattle.ph_specs.specs.Coordinate.{same_point}
+use Rattle.ph_specs.specs.Table.{Row, row, find, put, del, move, is_rising, is_value, IsTable}
 use Rattle.ph_specs.specs.ZOrder.{before}
 use Rattle.ph_specs.specs.Node.{PlainNode}
 use Rattle.ph_specs.specs.Lawful.{IsLawful, rows}
@@ -19,9 +19,10 @@ use Rattle.ph_specs.proofs.laws.DelTree.{lawful-del_tree, rows-del_tree, move-st
 use Rattle.ph_specs.proofs.laws.LawfulRows.{rows-table}
 use Rattle.ph_specs.proofs.laws.Paths.{path-few}
 use Rattle.ph_tree.specs.Opened.{opened_in}
+use Rattle.ph_tree.specs.Key.{Key}
 use Rattle.ph_tree.specs.Tree.{TreeTable, tree_table, IsTree}
 use Rattle.ph_tree.specs.Moves.{with_moved}
-use Rattle.ph_tree.proofs.Trees.{width_is, rows_are, length-put}
+use Rattle.ph_tree.proofs.Trees.{tree_of, IsKeyed, at_width, length-put}
 use Rattle.ph_tree.proofs.Fewer.{length-del}
 use Rattle.ph_tree.proofs.Ways.{path-opened}
 
@@ -72,69 +73,75 @@ del-put w (r ∷ rs) p q v h n =
 
 -- ---- trees
 
-pub opened_few : (w dims : ℕ) (t : Option PlainNode) (p : List ℤ) → 1 ≤ w → is_point w dims p ≡ true → IsLawful w dims t → opened_in w t p ≤ w
-opened_few w dims t p l h k =
-    omega (arith, path-opened w dims t p l h k, path-few w dims (rows w dims t) p l (rows-table w dims t l k))
+-- a tree whose row at one point is moved to another
+pub record IsMove (dims w max len : ℕ) (s : TreeTable) (from to : List ℤ) (u : Option PlainNode) : Type 0 where
+  pub tree : IsTree dims w u max len
+  pub table : tree_table dims w u max ≡ with_moved s from to
 
-module _ (dims w max len : ℕ) (t : Option PlainNode) (s : TreeTable) (is : tree_table dims w t max ≡ s) (k : IsTree dims w t max len) where
-  pub point_at : (p : List ℤ) → is_point s.width dims p ≡ true → is_point w dims p ≡ true
-  point_at p h = subst (λ n. is_point n dims p ≡ true) (sym (width_is dims w max len t s is k)) h
+module _ {dims w max len : ℕ} {t : Option PlainNode} {s : TreeTable} {from to : List ℤ} {old new : Key} (f : IsKeyed dims w max len t s from old) (k : IsKeyed dims w max len t s to new) {v : ℕ} (found : find s.table from ≡ Some v) where
+  abbrev before_rows : List Row
+  before_rows = rows w dims t
+
+  is_table : IsTable w dims (rows w dims t)
+  is_table = rows-table w dims t k.tree.wide k.tree.lawful
+
+  found_here : find (rows w dims t) from ≡ Some v
+  found_here = ap (λ u. find u.table from) k.seen ∙ found
 
   -- a value that is found is one
-  pub value_found : (from : List ℤ) (v : ℕ) → find s.table from ≡ Some v → is_value v ≡ true
-  value_found from v f =
-      found-value (rows w dims t) from v (and_parts _ _ (and_parts _ _ (rows-table w dims t k.wide k.lawful)).1).1 (ap (λ r. find r from) (rows_are dims w max len t s is k) ∙ f)
+  small : is_value v ≡ true
+  small = found-value (rows w dims t) from v (and_parts _ _ (and_parts _ _ is_table).1).1 found_here
 
-  module _ (to : List ℤ) (v : ℕ) (at_to : is_point s.width dims to ≡ true) (small : is_value v ≡ true) where
-    pub lawful_between : IsLawful w dims (put_tree w dims t to v)
-    lawful_between = lawful-put_tree w dims t to v k.wide (point_at to at_to) small k.lawful
+  lawful_between : IsLawful w dims (put_tree w dims t to v)
+  lawful_between = lawful-put_tree w dims t to v k.tree.wide (at_width k) small k.tree.lawful
 
-    module _ (from : List ℤ) (u : Option PlainNode) (at_from : is_point s.width dims from ≡ true) (other : same_point from to ≡ false) (found : find s.table from ≡ Some v) (free : find s.table to ≡ None) (made : u ≡ del_tree w dims (put_tree w dims t to v) from) where
-      abbrev before_rows : List Row
-      before_rows = rows w dims t
+  -- the way to the old point, once the value is at the new one
+  pub opened_between : opened_in old.width (put_tree new.width dims t new.point v) old.point ≤ s.width
+  opened_between =
+      let e : opened_in old.width (put_tree new.width dims t new.point v) old.point ≡ opened_in w (put_tree w dims t to v) from = λ i. opened_in (f.width i) (put_tree (k.width i) dims t (k.point i) v) (f.point i) in
+      omega (
+        arith,
+        e,
+        path-opened w dims (put_tree w dims t to v) from f.tree.wide (at_width f) lawful_between,
+        path-few w dims (rows w dims (put_tree w dims t to v)) from f.tree.wide (rows-table w dims (put_tree w dims t to v) f.tree.wide lawful_between),
+        ap (λ u. u.width) f.seen,
+      )
 
-      other_way : same_point to from ≡ false
-      other_way = not_same to from (λ e. apart (sym (test_from_same from to (sym e)) ∙ other))
+  module _ (other : same_point from to ≡ false) (free : find s.table to ≡ None) {u : Option PlainNode} (made : u ≡ del_tree old.width dims (put_tree new.width dims t new.point v) old.point) where
+    made_at : u ≡ del_tree w dims (put_tree w dims t to v) from
+    made_at = made ∙ (λ i. del_tree (f.width i) dims (put_tree (k.width i) dims t (k.point i) v) (f.point i))
 
-      found_here : find (rows w dims t) from ≡ Some v
-      found_here = ap (λ r. find r from) (rows_are dims w max len t s is k) ∙ found
+    other_way : same_point to from ≡ false
+    other_way = not_same to from (λ e. apart (sym (test_from_same from to (sym e)) ∙ other))
 
-      free_here : find (rows w dims t) to ≡ None
-      free_here = ap (λ r. find r to) (rows_are dims w max len t s is k) ∙ free
+    free_here : find (rows w dims t) to ≡ None
+    free_here = ap (λ u. find u.table to) k.seen ∙ free
 
-      rows_moved : rows w dims u ≡ del (put w (rows w dims t) to v) from
-      rows_moved =
-          ap (rows w dims) made ∙ rows-del_tree w dims (put_tree w dims t to v) from k.wide (point_at from at_from) lawful_between
-          ∙ ap (λ r. del r from) (rows-put_tree w dims t to v k.wide (point_at to at_to) k.lawful)
+    rows_moved : rows w dims u ≡ del (put w (rows w dims t) to v) from
+    rows_moved =
+        ap (rows w dims) made_at ∙ rows-del_tree w dims (put_tree w dims t to v) from f.tree.wide (at_width f) lawful_between
+        ∙ ap (λ r. del r from) (rows-put_tree w dims t to v k.tree.wide (at_width k) k.tree.lawful)
 
-      found_between : find (put w (rows w dims t) to v) from ≡ Some v
-      found_between =
-          find-put w before_rows to from v ∙ ap (λ b. cond b (Some v) (find before_rows from)) other_way ∙ found_here
+    found_between : find (put w (rows w dims t) to v) from ≡ Some v
+    found_between =
+        find-put w before_rows to from v ∙ ap (λ b. cond b (Some v) (find before_rows from)) other_way ∙ found_here
 
-      same_number : length (rows w dims u) ≡ length (rows w dims t)
-      same_number =
-          let e : length (rows w dims u) ≡ length (del (put w (rows w dims t) to v) from) = ap (λ (r : List Row). length r) rows_moved in
-          omega (arith, e, length-del (put w before_rows to v) from v found_between, length-put w before_rows to v free_here)
+    same_number : length (rows w dims u) ≡ length (rows w dims t)
+    same_number =
+        let e : length (rows w dims u) ≡ length (del (put w (rows w dims t) to v) from) = ap (λ (r : List Row). length r) rows_moved in
+        omega (arith, e, length-del (put w before_rows to v) from v found_between, length-put w before_rows to v free_here)
 
-      pub moved_tree : IsTree dims w u max len
-      moved_tree = record {
-        some = k.some;
-        few = k.few;
-        wide = k.wide;
-        lawful = subst (IsLawful w dims) (sym made) (lawful-del_tree w dims (put_tree w dims t to v) from lawful_between);
-        counted = omega (arith, same_number, k.counted);
-        limit = k.limit;
-      }
+    moved_rows : rows w dims u ≡ move w (rows w dims t) from to
+    moved_rows =
+        rows_moved
+        ∙ del-put w before_rows to from v (and_parts _ _ is_table).0 other_way
+        ∙ sym (move-steps w dims before_rows from to v k.tree.wide (at_width f) is_table free_here found_here).moved
 
-      moved_rows : rows w dims u ≡ move w (rows w dims t) from to
-      moved_rows =
-          rows_moved
-          ∙ del-put w before_rows to from v (and_parts _ _ (rows-table w dims t k.wide k.lawful)).0 other_way
-          ∙ sym (move-steps w dims before_rows from to v k.wide (point_at from at_from) (rows-table w dims t k.wide k.lawful) free_here found_here).moved
-
-      pub moved_table : tree_table dims w u max ≡ with_moved s from to
-      moved_table =
-          ap {B = TreeTable} (λ (r : List Row). record { table = r; width = w; max = max }) moved_rows ∙ ap (λ z. with_moved z from to) is
+    pub moved : IsMove dims w max len s from to u
+    moved = record {
+      tree = tree_of k.tree (subst (IsLawful w dims) (sym made_at) (lawful-del_tree w dims (put_tree w dims t to v) from lawful_between)) (omega (arith, same_number, k.tree.counted)) k.tree.limit;
+      table = ap {B = TreeTable} (λ (r : List Row). record { table = r; width = w; max = max }) moved_rows ∙ ap (λ z. with_moved z from to) k.seen;
+    }
 
 -- a point that is moved to where it is
 pub stays_there : (s : TreeTable) (from to : List ℤ) (v : ℕ) → Some v ≡ find s.table from → same_point from to ≡ true → s ≡ with_moved s from to

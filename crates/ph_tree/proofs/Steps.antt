@@ -115,9 +115,6 @@ module _ (w dims : ℕ) (p : List ℤ) (t : PlainNode) (i : ℕ) (x : Entry) (at
   old_body : IsBody dims t.level x.body
   old_body = lawful-body dims t.level 0 t.chain i x ok at.0
 
-  pub same_length : length x.body ≡ length (digits_below w t.level p)
-  same_length = omega (arith, old_body.0, new_body.0)
-
   differs_by : (held : What) → x.what ≡ held → IsApart w p t.level x.body held → x.body ≢ digits_below w t.level p
   differs_by (value u) q a e = a e
   differs_by (node m) q a e =
@@ -168,19 +165,23 @@ module _ (w dims : ℕ) (p : List ℤ) (t : PlainNode) (i : ℕ) (x : Entry) (at
 pub record Splits (w dims : ℕ) (p : List ℤ) (t : PlainNode) (i place : ℕ) (body : List ℕ) : Type 0 where
   pub inside : i < length (entries t)
   pub under : place < t.level
+  pub digits : IsBody dims t.level body
   pub apart : body_at (entries t) i ≢ body
   pub at_place : split_place t.level (body_at (entries t) i) body ≡ place
   pub over : IsBelow place (what_at (entries t) i)
   pub put : (v : ℕ) → split_node t i place body v ≡ put_node w t p v
 
-pub splits : (w dims : ℕ) (p : List ℤ) (t : PlainNode) (i place : ℕ) (old body : List ℕ) → IsLawfulFrom dims t.level 0 t.chain → IsApartAt w p t i old → IsBody dims t.level body → body ≡ digits_below w t.level p → IsTopDifference old body place → Splits w dims p t i place body
-splits w dims p t i place old body ok (x, at, b, a) k e top =
+pub splits : {w dims level : ℕ} {p : List ℤ} {t : PlainNode} {i place : ℕ} (old : List ℕ) {body : List ℕ} → IsLawfulFrom dims t.level 0 t.chain → IsApartAt w p t i old → level ≡ t.level → IsBody dims level body → body ≡ digits_below w level p → IsTopDifference old body place → Splits w dims p t i place body
+splits {w = w} {dims = dims} {p = p} {t = t} {i = i} {place = place} old {body = body} ok (x, at, b, a) l body_ok digits top =
+    let k : IsBody dims t.level body = subst (λ n. IsBody dims n body) l body_ok in
+    let e : body ≡ digits_below w t.level p = digits ∙ ap (λ n. digits_below w n p) l in
     let here : body_at (entries t) i ≡ x.body = body_got (entries t) i x at.0 in
     let n : IsBody dims t.level (digits_below w t.level p) = subst (IsBody dims t.level) e k in
     let d : IsTopDifference x.body (digits_below w t.level p) place = subst (λ u. IsTopDifference x.body u place) e (subst (λ u. IsTopDifference u body place) (sym b) top) in
     record {
       inside = within (entries t) i x at.0;
       under = lower w dims p t i x at ok n place d;
+      digits = k;
       apart = λ s. differs w dims p t i x at ok n a (sym here ∙ s ∙ e);
       at_place = ap (λ u. split_place t.level u body) here ∙ ap (split_place t.level x.body) e ∙ split_here w dims p t i x at ok n place d;
       over = above w dims p t i x at ok n place d a;
@@ -188,9 +189,10 @@ splits w dims p t i place old body ok (x, at, b, a) k e top =
     }
 
 -- the words of two bodies differ, and are words
-pub words_differ : (w dims : ℕ) (p : List ℤ) (t : PlainNode) (i : ℕ) (old body : List ℕ) → IsLawfulFrom dims t.level 0 t.chain → IsApartAt w p t i old → IsBody dims t.level body → body ≡ digits_below w t.level p → old ≢ body
-words_differ w dims p t i old body ok (x, at, b, a) k e s =
-    differs w dims p t i x at ok (subst (IsBody dims t.level) e k) a (b ∙ s ∙ e)
+pub words_differ : (w dims : ℕ) (p : List ℤ) (t : PlainNode) (i : ℕ) {level : ℕ} {old body : List ℕ} → IsLawfulFrom dims t.level 0 t.chain → IsApartAt w p t i old → level ≡ t.level → IsBody dims level body → body ≡ digits_below w level p → old ≢ body
+words_differ w dims p t i {body = body} ok (x, at, b, a) l k digits s =
+    let e : body ≡ digits_below w t.level p = digits ∙ ap (λ n. digits_below w n p) l in
+    differs w dims p t i x at ok (subst (IsBody dims t.level) e (subst (λ n. IsBody dims n body) l k)) a (b ∙ s ∙ e)
 
 pub are_words : (level : ℕ) (xs : List ℕ) → level ≤ 64 → Each (λ x. x < 2 ^ level) xs → Each (λ x. x < 2 ^ 64) xs
 are_words level [] l h = tt

@@ -1,6 +1,6 @@
 -- A look-up and an edit by the step that they take at a node.
-use Rattle.std.proofs.Common.{length, take, ◌≡◌, ◌≢◌, ℕ, zero, suc, ◌+◌, ◌<◌, ◌≤◌, List, [], false, cond, refl, arith, ap, sym, ◌∙◌, subst, inl, inr, ne_eqb, eq-eqb, add-zero, zero-add}
-use Rattle.std.specs.Prelude.{Result, Ok, Err, IfOk, OnOk, OnErr, ℤ, Some, None, Option, slice_get, unwrap_or}
+use Rattle.std.proofs.Common.{length, ◌≡◌, ◌≢◌, ℕ, zero, suc, ◌+◌, ◌<◌, ◌≤◌, List, [], true, false, cond, refl, arith, ap, sym, ◌∙◌, subst, inl, inr, ne_eqb, eq-eqb, add-zero, zero-add}
+use Rattle.std.specs.Prelude.{Result, Ok, Err, IfOk, IsErrOf, OnOk, OnErr, ℤ, Some, None, Option, slice_get, unwrap_or}
 use Rattle.ph_specs.specs.ZOrder.{address}
 use Rattle.ph_specs.specs.Node.{Entries, end, point, child, Entry, What, value, node, PlainNode, entries, listed, node_of}
 use Rattle.ph_specs.specs.Shape.{digits_below, digits_between}
@@ -11,6 +11,7 @@ use Rattle.ph_specs.proofs.laws.Put.{either}
 use Rattle.ph_specs.proofs.lemmas.PointDigits.{same_digits-true, same_digits-refl}
 use Rattle.ph_specs.proofs.laws.EntryEdits as laws
 use Rattle.ph_node.specs.Shown.{shown}
+use Rattle.ph_node.specs.Split.{IsNode, IsValue}
 use Rattle.ph_node.specs.declared.reads.NodeRefOf.{NodeRefOf}
 use Rattle.ph_table.specs.declared.table.Put.{Put}
 use Rattle.ph_table.specs.declared.table.Put.TheVariants.{New}
@@ -18,7 +19,7 @@ use Rattle.ph_table.specs.Rows.{put_answer}
 use Rattle.ph_tree.specs.declared.step.StepOf.{StepOf}
 use Rattle.ph_tree.specs.declared.step.StepOf.TheVariants.{Absent, Same, Below, Other}
 use Rattle.ph_tree.specs.Opened.{opened_below}
-use Rattle.ph_tree.specs.Step.{IsApart, IsApartAt, IsStep, opened_for}
+use Rattle.ph_tree.specs.Step.{IsApart, IsStep, opened_for}
 use Rattle.ph_tree.proofs.Steps.{what_got, within, put_back, same_node}
 
 abbrev pub no_entry : Entry
@@ -72,89 +73,117 @@ opened-at w dims b least (child n body c chain rest) (suc i) x p h g a =
 
 -- ---- steps
 
-module _ (w dims : ℕ) (p : List ℤ) (t : PlainNode) (ok : IsLawfulFrom dims t.level 0 t.chain) (o : ℕ) where
-  pub absent_found : IsStep dims w p t Absent o → find_node w t p ≡ None
-  absent_found s = laws.find_node-absent w t p s.0
+-- what a step finds in a lawful node, and how many nodes below it are opened
+pub record IsStepAt (dims w : ℕ) (p : List ℤ) (t : PlainNode) (found : StepOf PlainNode) (o : ℕ) : Type 0 where
+  pub lawful : IsLawfulFrom dims t.level 0 t.chain
+  pub step : IsStep dims w p t found o
 
-  pub absent_opened : IsStep dims w p t Absent o → opened_below w t.level t.chain p ≡ o
-  absent_opened s =
-      opened-absent w t.level t.chain p (laws.absent-by (address w p t.level) (entries t) s.0) ∙ sym s.1
+-- the step is told of the node as it is visited
+pub step_at : {dims w o : ℕ} {p : List ℤ} {s t : PlainNode} {found : StepOf PlainNode} → s ≡ t → IsLawfulFrom dims t.level 0 t.chain → IsStep dims w p s found o → IsStepAt dims w p t found o
+step_at {dims = dims} {w = w} {o = o} {p = p} {found = found} e ok h =
+    record { lawful = ok; step = subst (λ u. IsStep dims w p u found o) e h }
 
-  module _ (i v : ℕ) (s : IsStep dims w p t (Same i v) o) where
+-- what a node has of the child that the point leads to
+pub record IsWayBelow (dims w : ℕ) (p : List ℤ) (t : PlainNode) (i : ℕ) (m : PlainNode) (o : ℕ) : Type 0 where
+  pub lower : m.level < t.level
+  pub lawful : IsLawfulFrom dims m.level 0 m.chain
+  pub found : find_node w t p ≡ find_node w m p
+  pub one : o ≡ 1
+  pub opened : opened_below w t.level t.chain p ≡ o + opened_below w m.level m.chain p
+  pub put : (u : ℕ) → with_child t i (put_node w m p u) ≡ put_node w t p u
+  pub back : with_child t i m ≡ t
+
+module _ {dims w o : ℕ} {p : List ℤ} {t : PlainNode} {found : StepOf PlainNode} (k : IsStepAt dims w p t found o) where
+  pub step_as : {x : StepOf PlainNode} → found ≡ x → IsStep dims w p t x o
+  step_as is = subst (λ u. IsStep dims w p t u o) is k.step
+
+  pub absent_found : found ≡ Absent → find_node w t p ≡ None
+  absent_found is = laws.find_node-absent w t p (step_as is).0
+
+  pub absent_opened : found ≡ Absent → opened_below w t.level t.chain p ≡ o
+  absent_opened is =
+      opened-absent w t.level t.chain p (laws.absent-by (address w p t.level) (entries t) (step_as is).0) ∙ sym (step_as is).1
+
+  module _ {i v : ℕ} (is : found ≡ Same i v) where
+    abbrev own : IsStep dims w p t (Same i v) o
+    own = step_as is
+
     pub same_found : find_node w t p ≡ Some v
     same_found =
-        laws.find_node-value w dims t i s.0 v p ok s.1.0 s.1.1 s.2 ∙ ap (λ z. cond z (Some v) None) (same_digits-refl s.0.body (digits_below w t.level p) s.3)
+        laws.find_node-value w dims t i own.0 v p k.lawful own.1.0 own.1.1 own.2 ∙ ap (λ z. cond z (Some v) None) (same_digits-refl own.0.body (digits_below w t.level p) own.3)
 
     pub same_opened : opened_below w t.level t.chain p ≡ o
     same_opened =
-        opened-at w dims t.level 0 t.chain i s.0 p ok s.1.0 s.1.1 ∙ ap (opened_by w p t.level s.0.body) s.2 ∙ sym s.4
+        opened-at w dims t.level 0 t.chain i own.0 p k.lawful own.1.0 own.1.1 ∙ ap (opened_by w p t.level own.0.body) own.2 ∙ sym own.4
 
-    pub same_what : what_at (entries t) i ≡ value v
-    same_what = what_got (entries t) i s.0 s.1.0 ∙ s.2
+    pub same_value : IsValue (what_at (entries t) i)
+    same_value = subst IsValue (sym (what_got (entries t) i own.0 own.1.0 ∙ own.2)) tt
 
     pub same_inside : i < length (entries t)
-    same_inside = within (entries t) i s.0 s.1.0
+    same_inside = within (entries t) i own.0 own.1.0
 
     pub same_put : (u : ℕ) → node_of t.level (with_what (entries t) i (value u)) ≡ put_node w t p u
-    same_put u = sym (laws.put_node-value w dims t i s.0 v p u ok s.1.0 s.1.1 s.2 s.3)
+    same_put u = sym (laws.put_node-value w dims t i own.0 v p u k.lawful own.1.0 own.1.1 own.2 own.3)
 
-  module _ (i : ℕ) (m : NodeRefOf PlainNode) (s : IsStep dims w p t (Below i m) o) where
-    pub below_lawful : ((shown m).level < t.level) × IsLawfulFrom dims (shown m).level 0 (shown m).chain
-    below_lawful =
-        let c : ((shown m).level < t.level) × (2 ≤ count (shown m).chain) × IsLawfulFrom dims (shown m).level 0 (shown m).chain = laws.lawful-child dims t.level 0 t.chain i s.0 (shown m) ok s.1.0 s.2 in
-        (c.0, c.2)
+  module _ {i : ℕ} {m : NodeRefOf PlainNode} (is : found ≡ Below i m) where
+    abbrev nearer : IsStep dims w p t (Below i m) o
+    nearer = step_as is
 
-    pub below_found : find_node w t p ≡ find_node w (shown m) p
-    below_found =
-        laws.find_node-child w dims t i s.0 (shown m) p ok s.1.0 s.1.1 s.2 ∙ ap (λ z. cond z (find_node w (shown m) p) None) (same_digits-refl s.0.body (digits_between w t.level (shown m).level p) s.3)
+    below_what : what_at (entries t) i ≡ node (shown m)
+    below_what = what_got (entries t) i nearer.0 nearer.1.0 ∙ nearer.2
 
-    pub below_opened : opened_below w t.level t.chain p ≡ o + opened_below w (shown m).level (shown m).chain p
-    below_opened =
-        opened-at w dims t.level 0 t.chain i s.0 p ok s.1.0 s.1.1 ∙ ap (opened_by w p t.level s.0.body) s.2
-        ∙ ap (λ z. 1 + cond z (opened_below w (shown m).level (shown m).chain p) 0) (same_digits-refl s.0.body (digits_between w t.level (shown m).level p) s.3)
-        ∙ ap (λ n. n + opened_below w (shown m).level (shown m).chain p) (sym s.4)
+    pub below_digits : same_digits nearer.0.body (digits_between w t.level (shown m).level p) ≡ true
+    below_digits = same_digits-refl nearer.0.body (digits_between w t.level (shown m).level p) nearer.3
 
-    pub below_what : what_at (entries t) i ≡ node (shown m)
-    below_what = what_got (entries t) i s.0 s.1.0 ∙ s.2
+    pub below_node : IsNode (what_at (entries t) i)
+    below_node = subst IsNode (sym below_what) tt
 
     pub below_inside : i < length (entries t)
-    below_inside = within (entries t) i s.0 s.1.0
+    below_inside = within (entries t) i nearer.0 nearer.1.0
 
-    pub below_put : (u : ℕ) → with_child t i (put_node w (shown m) p u) ≡ put_node w t p u
-    below_put u = sym (laws.put_node-child w dims t i s.0 (shown m) p u ok s.1.0 s.1.1 s.2 s.3)
+    -- the child as it is lent
+    pub below_lent : {n : PlainNode} → node n ≡ what_at (entries t) i → shown m ≡ n
+    below_lent {n = n} h = same_node (shown m) n (what_at (entries t) i) below_what (sym h)
 
-    pub below_back : with_child t i (shown m) ≡ t
-    below_back = put_back t i s.0 (shown m) s.1.0 s.2
+    pub way_below : {n : PlainNode} → shown m ≡ n → IsWayBelow dims w p t i n o
+    way_below e =
+        let held : ((shown m).level < t.level) × (2 ≤ count (shown m).chain) × IsLawfulFrom dims (shown m).level 0 (shown m).chain = laws.lawful-child dims t.level 0 t.chain i nearer.0 (shown m) k.lawful nearer.1.0 nearer.2 in
+        subst (λ u. IsWayBelow dims w p t i u o) e
+        (record {
+          lower = held.0;
+          lawful = held.2;
+          found = laws.find_node-child w dims t i nearer.0 (shown m) p k.lawful nearer.1.0 nearer.1.1 nearer.2 ∙ ap (λ z. cond z (find_node w (shown m) p) None) below_digits;
+          one = nearer.4;
+          opened =
+              opened-at w dims t.level 0 t.chain i nearer.0 p k.lawful nearer.1.0 nearer.1.1 ∙ ap (opened_by w p t.level nearer.0.body) nearer.2
+              ∙ ap (λ z. 1 + cond z (opened_below w (shown m).level (shown m).chain p) 0) below_digits
+              ∙ ap (λ n. n + opened_below w (shown m).level (shown m).chain p) (sym nearer.4);
+          put = λ u. sym (laws.put_node-child w dims t i nearer.0 (shown m) p u k.lawful nearer.1.0 nearer.1.1 nearer.2 nearer.3);
+          back = put_back t i nearer.0 (shown m) nearer.1.0 nearer.2;
+        })
 
-  module _ (i : ℕ) (body : List ℕ) (s : IsStep dims w p t (Other i body) o) where
-    found_by : (held : What) → s.0.what ≡ held → IsApart w p t.level s.0.body held → find_node w t p ≡ None
+  module _ {i : ℕ} {body : List ℕ} (is : found ≡ Other i body) where
+    abbrev other : IsStep dims w p t (Other i body) o
+    other = step_as is
+
+    found_by : (held : What) → other.0.what ≡ held → IsApart w p t.level other.0.body held → find_node w t p ≡ None
     found_by (value u) q a =
-        laws.find_node-value w dims t i s.0 u p ok s.1.0 s.1.1 q ∙ ap (λ z. cond z (Some u) None) (not_same s.0.body (digits_below w t.level p) a)
+        laws.find_node-value w dims t i other.0 u p k.lawful other.1.0 other.1.1 q ∙ ap (λ z. cond z (Some u) None) (not_same other.0.body (digits_below w t.level p) a)
     found_by (node m) q a =
-        laws.find_node-child w dims t i s.0 m p ok s.1.0 s.1.1 q ∙ ap (λ z. cond z (find_node w m p) None) (not_same s.0.body (digits_between w t.level m.level p) a)
+        laws.find_node-child w dims t i other.0 m p k.lawful other.1.0 other.1.1 q ∙ ap (λ z. cond z (find_node w m p) None) (not_same other.0.body (digits_between w t.level m.level p) a)
 
     pub other_found : find_node w t p ≡ None
-    other_found = found_by s.0.what refl s.3
+    other_found = found_by other.0.what refl other.3
 
-    opened_as : (held : What) → IsApart w p t.level s.0.body held → opened_by w p t.level s.0.body held ≡ opened_for held
+    opened_as : (held : What) → IsApart w p t.level other.0.body held → opened_by w p t.level other.0.body held ≡ opened_for held
     opened_as (value u) a = refl
-    opened_as (node m) a = ap (λ z. 1 + cond z (opened_below w m.level m.chain p) 0) (not_same s.0.body (digits_between w t.level m.level p) a)
+    opened_as (node m) a = ap (λ z. 1 + cond z (opened_below w m.level m.chain p) 0) (not_same other.0.body (digits_between w t.level m.level p) a)
 
     pub other_opened : opened_below w t.level t.chain p ≡ o
     other_opened =
-        opened-at w dims t.level 0 t.chain i s.0 p ok s.1.0 s.1.1 ∙ opened_as s.0.what s.3 ∙ sym s.4
+        opened-at w dims t.level 0 t.chain i other.0 p k.lawful other.1.0 other.1.1 ∙ opened_as other.0.what other.3 ∙ sym other.4
 
-    pub other_apart : IsApartAt w p t i (take dims body)
-    other_apart = (s.0, s.1, s.2, s.3)
-
--- ---- the node that was visited
-
-pub moved : (w dims : ℕ) (p : List ℤ) (s t : PlainNode) (found : StepOf PlainNode) (o : ℕ) → s ≡ t → IsStep dims w p s found o → IsStep dims w p t found o
-moved w dims p s t found o e h = subst (λ u. IsStep dims w p u found o) e h
-
--- a child as it is lent
-pub lent : (t : PlainNode) (i : ℕ) (m n : PlainNode) → what_at (entries t) i ≡ node m → node n ≡ what_at (entries t) i → m ≡ n
-lent t i m n h k = same_node m n (what_at (entries t) i) h (sym k)
+-- ---- what an answer tells
 
 pub answered : {E : Type 0} (r : Result Put E) (x y : Option ℕ) → x ≡ y → IfOk r (λ a. a ≡ put_answer x) → IfOk r (λ a. a ≡ put_answer y)
 answered (Ok a) x y e h = h ∙ ap put_answer e
@@ -168,6 +197,10 @@ pub on_ok : {T E P Q : Type 0} (r : Result T E) → (P → Q) → OnOk r P → O
 on_ok (Ok x) f p = f p
 on_ok (Err e) f p = p
 
+-- what holds of a call that succeeds holds where it has succeeded
+pub of_ok : {T E P : Type 0} {r : Result T E} {x : T} → r ≡ Ok x → OnOk r P → P
+of_ok {P = P} e p = subst (λ r. OnOk r P) e p
+
 pub on_err : {T E P Q : Type 0} (r : Result T E) → (P → Q) → OnErr r P → OnErr r Q
 on_err (Ok x) f p = p
 on_err (Err e) f p = f p
@@ -175,3 +208,11 @@ on_err (Err e) f p = f p
 pub always_err : {T E P : Type 0} (r : Result T E) → P → OnErr r P
 always_err (Ok x) p = tt
 always_err (Err e) p = p
+
+-- a call that succeeds has no error
+pub no_error : {T E A : Type 0} {x : T} {e : E} → IsErrOf (Ok x) e → A
+no_error h = absurd cc
+
+-- a value is not the want of one
+pub some_none : {T A : Type 0} {x : T} → Some x ≡ None → A
+some_none h = absurd cc

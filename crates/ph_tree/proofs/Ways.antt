@@ -1,21 +1,17 @@
 -- The nodes that a look-up opens are those whose region holds the point.
-use Rattle.std.proofs.Common.{◌≡◌, ◌≢◌, ℕ, ◌+◌, ◌-◌, ◌/◌, ◌%◌, ◌^◌, ◌<◌, ◌≤◌, refl, sym, ◌∙◌, ap, subst, arith, List, [], ◌∷◌, ◌++◌, length, map, replicate, Bool, true, false, ◌&&◌, cond, eqb-true, eq-eqb, get_or, drop, inl, inr}
-use Rattle.std.specs.Prelude.{ℤ, Option, Some, None, filter, ◌==◌, ◌⊎◌}
-use Rattle.std.specs.Cmp.Lexicographic.{pointwise}
-use Rattle.std.proofs.lemmas.Nat.{pow_pos}
+use Rattle.std.proofs.Common.{◌≡◌, ◌≢◌, ℕ, ◌+◌, ◌-◌, ◌%◌, ◌^◌, ◌<◌, ◌≤◌, refl, sym, ◌∙◌, ap, subst, arith, List, ◌∷◌, ◌++◌, length, map, replicate, true, false, cond, eqb-true, inl, inr}
+use Rattle.std.specs.Prelude.{ℤ, Option, Some, None, ◌==◌, ◌⊎◌}
 use Rattle.std.proofs.lemmas.Bool.{eqb-false}
-use Rattle.std.proofs.Math.Nat.{mul-div_cancel}
 use Rattle.ph_specs.specs.Coordinate.{coordinate, is_point}
 use Rattle.ph_specs.specs.ZOrder.{address}
 use Rattle.ph_specs.specs.Node.{Entries, end, point, child, PlainNode}
 use Rattle.ph_specs.specs.Shape.{digits_between}
 use Rattle.ph_specs.specs.Lawful.{put_together, IsBody, HasZerosFrom, IsLawful, IsLawfulFrom, rows}
 use Rattle.ph_specs.specs.PutTree.{same_digits}
-use Rattle.ph_specs.specs.Region.{is_in, prefix}
-use Rattle.ph_specs.specs.WorkSets.{Placed, placed, placed_below, path}
+use Rattle.ph_specs.specs.WorkSets.{placed, placed_below, path}
 use Rattle.ph_specs.proofs.lemmas.Assembled.{cleared}
 use Rattle.ph_specs.proofs.lemmas.Grouped.{same_place}
-use Rattle.ph_specs.proofs.lemmas.Joined.{offsets, from_place, number_at, offsets-coordinate, same_number, same_from, IsAbove, from_place-put_together, below-put_together, above-child}
+use Rattle.ph_specs.proofs.lemmas.Joined.{offsets, from_place, number_at, same_number, IsAbove, from_place-put_together, below-put_together, above-child}
 use Rattle.ph_specs.proofs.lemmas.PointDigits.{IsWhole, point-whole, none-known, zeros-cleared, above-point, address-is, known-between, same_digits-true, same_digits-false}
 use Rattle.ph_specs.proofs.lemmas.RowsBehind.{address-put_together}
 use Rattle.ph_specs.proofs.lemmas.Shaped.{between-between, body-between}

@@ -10,8 +10,6 @@ mod moves;
 mod puts;
 mod removals;
 mod step;
-#[cfg(test)]
-mod tests;
 mod tree;
 
 pub use error::PutError;

@@ -1,46 +1,35 @@
-use Rattle.std.proofs.Common.{arith, rules, sym, ◌∙◌}
+use Rattle.std.proofs.Common.{◌-◌, ℕ, arith, refl, rules, sym, ◌∙◌}
 use Rattle.ph_node.specs.Shown.{shown}
-use Rattle.ph_tree.proofs.Walks.{absent_found, absent_opened, same_found, same_opened, below_lawful, below_found, below_opened, other_found, other_opened}
+use Rattle.ph_tree.proofs.Walks.{IsStepAt, absent_found, absent_opened, same_found, same_opened, way_below, other_found, other_opened}
+use Rattle.ph_tree.proofs.find.+find_in.Given.{Over}
+use Rattle.ph_tree.proofs.find.+find_in.Goals.{After-step}
 use Rattle.ph_tree.proofs.find.+find_in.Goals as goal
+
+-- what the step finds in the node
+stepped : (g : Over) (t : ℕ) (c : After-step g t) → IsStepAt g.P.Dims.D c.args.key.now.width c.args.key.now.point (shown c.args.node) c.step.result (c.step.new.visits - c.args.visits.now)
+stepped g t c = record { lawful = c.requires.lawful; step = c.step.ensures.step }
 
 pub find_in-requires : goal.find_in-requires
 find_in-requires g t c κs within =
-    let k = c.args.key.now in
-    let d = below_lawful k.width g.P.Dims.D k.point (shown c.args.node) c.requires.lawful _ c.in-Below.field-0 c.in-Below.below c.in-Below.ensures.step in
-    (omega (arith, d.0, c.decreases), search (rules, within, d.0, d.1, c.requires.level))
+    let below = way_below (stepped g t (goal.at.find_in-requires g t c).After-step) c.in-Below.is refl in
+    (omega (arith, below.lower, c.decreases), search (rules, within, below.lower, below.lawful, c.requires.level))
 
-pub returns-in-Absent-clause-found : goal.returns-in-Absent-clause-found
-returns-in-Absent-clause-found g t c =
-    sym (absent_found c.args.key.now.width g.P.Dims.D c.args.key.now.point (shown c.args.node) c.requires.lawful _ c.in-Absent.ensures.step)
+pub returns-in-Absent : goal.returns-in-Absent
+returns-in-Absent g t c =
+    let k = stepped g t (goal.at.returns-in-Absent g t c).After-step in
+    record { found = sym (absent_found k c.in-Absent.is); cost = omega (arith, absent_opened k c.in-Absent.is, c.in-Absent.ensures.cost) }
 
-pub returns-in-Absent-clause-cost : goal.returns-in-Absent-clause-cost
-returns-in-Absent-clause-cost g t c =
-    let e = absent_opened c.args.key.now.width g.P.Dims.D c.args.key.now.point (shown c.args.node) c.requires.lawful _ c.in-Absent.ensures.step in
-    omega (arith, e, c.in-Absent.ensures.cost)
+pub returns-in-Same : goal.returns-in-Same
+returns-in-Same g t c =
+    let k = stepped g t (goal.at.returns-in-Same g t c).After-step in
+    record { found = sym (same_found k c.in-Same.is); cost = omega (arith, same_opened k c.in-Same.is, c.in-Same.ensures.cost) }
 
-pub returns-in-Same-clause-found : goal.returns-in-Same-clause-found
-returns-in-Same-clause-found g t c =
-    sym (same_found c.args.key.now.width g.P.Dims.D c.args.key.now.point (shown c.args.node) c.requires.lawful _ c.in-Same.field-0 c.in-Same.v c.in-Same.ensures.step)
+pub returns-in-Below : goal.returns-in-Below
+returns-in-Below g t c =
+    let below = way_below (stepped g t (goal.at.returns-in-Below g t c).After-step) c.in-Below.is refl in
+    record { found = c.find_in.ensures.found ∙ sym below.found; cost = omega (arith, below.opened, c.in-Below.ensures.cost, c.find_in.ensures.cost) }
 
-pub returns-in-Same-clause-cost : goal.returns-in-Same-clause-cost
-returns-in-Same-clause-cost g t c =
-    let e = same_opened c.args.key.now.width g.P.Dims.D c.args.key.now.point (shown c.args.node) c.requires.lawful _ c.in-Same.field-0 c.in-Same.v c.in-Same.ensures.step in
-    omega (arith, e, c.in-Same.ensures.cost)
-
-pub returns-in-Below-clause-found : goal.returns-in-Below-clause-found
-returns-in-Below-clause-found g t c =
-    c.find_in.ensures.found ∙ sym (below_found c.args.key.now.width g.P.Dims.D c.args.key.now.point (shown c.args.node) c.requires.lawful _ c.in-Below.field-0 c.in-Below.below c.in-Below.ensures.step)
-
-pub returns-in-Below-clause-cost : goal.returns-in-Below-clause-cost
-returns-in-Below-clause-cost g t c =
-    let e = below_opened c.args.key.now.width g.P.Dims.D c.args.key.now.point (shown c.args.node) c.requires.lawful _ c.in-Below.field-0 c.in-Below.below c.in-Below.ensures.step in
-    omega (arith, e, c.in-Below.ensures.cost, c.find_in.ensures.cost)
-
-pub returns-in-Other-clause-found : goal.returns-in-Other-clause-found
-returns-in-Other-clause-found g t c =
-    sym (other_found c.args.key.now.width g.P.Dims.D c.args.key.now.point (shown c.args.node) c.requires.lawful _ c.in-Other.field-0 c.in-Other.field-1 c.in-Other.ensures.step)
-
-pub returns-in-Other-clause-cost : goal.returns-in-Other-clause-cost
-returns-in-Other-clause-cost g t c =
-    let e = other_opened c.args.key.now.width g.P.Dims.D c.args.key.now.point (shown c.args.node) c.requires.lawful _ c.in-Other.field-0 c.in-Other.field-1 c.in-Other.ensures.step in
-    omega (arith, e, c.in-Other.ensures.cost)
+pub returns-in-Other : goal.returns-in-Other
+returns-in-Other g t c =
+    let k = stepped g t (goal.at.returns-in-Other g t c).After-step in
+    record { found = sym (other_found k c.in-Other.is); cost = omega (arith, other_opened k c.in-Other.is, c.in-Other.ensures.cost) }

@@ -1,79 +1,29 @@
-use Rattle.std.proofs.Common.{ℕ, arith, ap, sym, ◌∙◌, take, subst}
-use Rattle.ph_specs.specs.Lawful.{IsBody}
-use Rattle.ph_specs.specs.Shape.{digits_below}
-use Rattle.ph_tree.specs.Differences.{IsTopDifference}
-use Rattle.ph_tree.proofs.Steps.{splits, words_differ, are_words}
+use Rattle.std.proofs.Common.{arith, ◌∙◌, take}
+use Rattle.ph_tree.proofs.Steps.{Splits, splits, words_differ, are_words}
+use Rattle.ph_tree.proofs.puts.split_entry.Given.{Over}
+use Rattle.ph_tree.proofs.puts.split_entry.Goals.{After-top_difference-place}
 use Rattle.ph_tree.proofs.puts.split_entry.Goals as goal
 
 pub top_difference-place-requires-clause-differ : goal.top_difference-place-requires-clause-differ
 top_difference-place-requires-clause-differ g c e =
-    let k = c.args.key.now in
-    let t = c.args.cur.now in
-    words_differ k.width g.P.Dims.D k.point t c.args.i _ _ c.requires.lawful c.requires.apart
-    (subst (λ (l : ℕ). IsBody g.P.Dims.D l (take g.P.Dims.D c.below-below.result)) c.requires.level c.below-below.ensures.body)
-    (c.below-below.ensures.value ∙ ap (λ (l : ℕ). digits_below k.width l k.point) c.requires.level)
-    (sym (ap (λ n. take n c.args.body.now) c.D.ensures) ∙ e ∙ ap (λ n. take n c.below-below.result) c.D-2.ensures)
+    words_differ c.args.key.now.width g.P.Dims.D c.args.key.now.point c.args.cur.now c.args.i c.requires.lawful c.requires.apart c.requires.level c.below-below.ensures.body c.below-below.ensures.value
+    (rw (c.D.ensures, c.D-2.ensures) at e)
 
 pub top_difference-place-requires-clause-second : goal.top_difference-place-requires-clause-second
 top_difference-place-requires-clause-second g c =
     are_words c.args.level _ (omega (arith, c.requires.low)) (rw c.D-2.ensures c.below-below.ensures.body.1)
 
-pub split-requires-clause-within : goal.split-requires-clause-within
-split-requires-clause-within g c =
-    let k = c.args.key.now in
-    let t = c.args.cur.now in
-    let all = splits k.width g.P.Dims.D k.point t c.args.i c.top_difference-place.result (take g.P.Dims.D c.args.body.now) (take g.P.Dims.D c.below-below.result) c.requires.lawful c.requires.apart
-    (subst (λ (l : ℕ). IsBody g.P.Dims.D l (take g.P.Dims.D c.below-below.result)) c.requires.level c.below-below.ensures.body)
-    (c.below-below.ensures.value ∙ ap (λ (l : ℕ). digits_below k.width l k.point) c.requires.level)
-    (subst (λ n. IsTopDifference (take g.P.Dims.D c.args.body.now) (take n c.below-below.result) c.top_difference-place.result) c.D-2.ensures (subst (λ n. IsTopDifference (take n c.args.body.now) (take c.D-2.result c.below-below.result) c.top_difference-place.result) c.D.ensures c.top_difference-place.ensures)) in
-    all.inside
+-- the split at the greatest place where the body and the point's digits differ
+split_there : (g : Over) (c : After-top_difference-place g) → Splits c.args.key.now.width g.P.Dims.D c.args.key.now.point c.args.cur.now c.args.i c.top_difference-place.result (take g.P.Dims.D c.below-below.result)
+split_there g c =
+    splits (take g.P.Dims.D c.args.body.now) c.requires.lawful c.requires.apart c.requires.level c.below-below.ensures.body c.below-below.ensures.value
+    (rw (c.D.ensures, c.D-2.ensures) at c.top_difference-place.ensures)
 
-pub split-requires-clause-lower : goal.split-requires-clause-lower
-split-requires-clause-lower g c =
-    let k = c.args.key.now in
-    let t = c.args.cur.now in
-    let all = splits k.width g.P.Dims.D k.point t c.args.i c.top_difference-place.result (take g.P.Dims.D c.args.body.now) (take g.P.Dims.D c.below-below.result) c.requires.lawful c.requires.apart
-    (subst (λ (l : ℕ). IsBody g.P.Dims.D l (take g.P.Dims.D c.below-below.result)) c.requires.level c.below-below.ensures.body)
-    (c.below-below.ensures.value ∙ ap (λ (l : ℕ). digits_below k.width l k.point) c.requires.level)
-    (subst (λ n. IsTopDifference (take g.P.Dims.D c.args.body.now) (take n c.below-below.result) c.top_difference-place.result) c.D-2.ensures (subst (λ n. IsTopDifference (take n c.args.body.now) (take c.D-2.result c.below-below.result) c.top_difference-place.result) c.D.ensures c.top_difference-place.ensures)) in
-    all.under
-
-pub split-requires-clause-differ : goal.split-requires-clause-differ
-split-requires-clause-differ g c =
-    let k = c.args.key.now in
-    let t = c.args.cur.now in
-    let all = splits k.width g.P.Dims.D k.point t c.args.i c.top_difference-place.result (take g.P.Dims.D c.args.body.now) (take g.P.Dims.D c.below-below.result) c.requires.lawful c.requires.apart
-    (subst (λ (l : ℕ). IsBody g.P.Dims.D l (take g.P.Dims.D c.below-below.result)) c.requires.level c.below-below.ensures.body)
-    (c.below-below.ensures.value ∙ ap (λ (l : ℕ). digits_below k.width l k.point) c.requires.level)
-    (subst (λ n. IsTopDifference (take g.P.Dims.D c.args.body.now) (take n c.below-below.result) c.top_difference-place.result) c.D-2.ensures (subst (λ n. IsTopDifference (take n c.args.body.now) (take c.D-2.result c.below-below.result) c.top_difference-place.result) c.D.ensures c.top_difference-place.ensures)) in
-    all.apart
-
-pub split-requires-clause-place : goal.split-requires-clause-place
-split-requires-clause-place g c =
-    let k = c.args.key.now in
-    let t = c.args.cur.now in
-    let all = splits k.width g.P.Dims.D k.point t c.args.i c.top_difference-place.result (take g.P.Dims.D c.args.body.now) (take g.P.Dims.D c.below-below.result) c.requires.lawful c.requires.apart
-    (subst (λ (l : ℕ). IsBody g.P.Dims.D l (take g.P.Dims.D c.below-below.result)) c.requires.level c.below-below.ensures.body)
-    (c.below-below.ensures.value ∙ ap (λ (l : ℕ). digits_below k.width l k.point) c.requires.level)
-    (subst (λ n. IsTopDifference (take g.P.Dims.D c.args.body.now) (take n c.below-below.result) c.top_difference-place.result) c.D-2.ensures (subst (λ n. IsTopDifference (take n c.args.body.now) (take c.D-2.result c.below-below.result) c.top_difference-place.result) c.D.ensures c.top_difference-place.ensures)) in
-    all.at_place
-
-pub split-requires-clause-above : goal.split-requires-clause-above
-split-requires-clause-above g c =
-    let k = c.args.key.now in
-    let t = c.args.cur.now in
-    let all = splits k.width g.P.Dims.D k.point t c.args.i c.top_difference-place.result (take g.P.Dims.D c.args.body.now) (take g.P.Dims.D c.below-below.result) c.requires.lawful c.requires.apart
-    (subst (λ (l : ℕ). IsBody g.P.Dims.D l (take g.P.Dims.D c.below-below.result)) c.requires.level c.below-below.ensures.body)
-    (c.below-below.ensures.value ∙ ap (λ (l : ℕ). digits_below k.width l k.point) c.requires.level)
-    (subst (λ n. IsTopDifference (take g.P.Dims.D c.args.body.now) (take n c.below-below.result) c.top_difference-place.result) c.D-2.ensures (subst (λ n. IsTopDifference (take n c.args.body.now) (take c.D-2.result c.below-below.result) c.top_difference-place.result) c.D.ensures c.top_difference-place.ensures)) in
-    all.over
+pub split-requires : goal.split-requires
+split-requires g c =
+    let at = split_there g (goal.at.split-requires g c).After-top_difference-place in
+    record { within = at.inside; lower = at.under; body = at.digits; differ = at.apart; place = at.at_place; above = at.over }
 
 pub returns-in-Ok-clause-put : goal.returns-in-Ok-clause-put
 returns-in-Ok-clause-put g c =
-    let k = c.args.key.now in
-    let t = c.args.cur.now in
-    let all = splits k.width g.P.Dims.D k.point t c.args.i c.top_difference-place.result (take g.P.Dims.D c.args.body.now) (take g.P.Dims.D c.below-below.result) c.requires.lawful c.requires.apart
-    (subst (λ (l : ℕ). IsBody g.P.Dims.D l (take g.P.Dims.D c.below-below.result)) c.requires.level c.below-below.ensures.body)
-    (c.below-below.ensures.value ∙ ap (λ (l : ℕ). digits_below k.width l k.point) c.requires.level)
-    (subst (λ n. IsTopDifference (take g.P.Dims.D c.args.body.now) (take n c.below-below.result) c.top_difference-place.result) c.D-2.ensures (subst (λ n. IsTopDifference (take n c.args.body.now) (take c.D-2.result c.below-below.result) c.top_difference-place.result) c.D.ensures c.top_difference-place.ensures)) in
-    c.in-Ok.ensures.ok ∙ all.put c.args.v
+    c.in-Ok.ensures.ok ∙ (split_there g (goal.at.returns-in-Ok-clause-put g c).After-top_difference-place).put c.args.v

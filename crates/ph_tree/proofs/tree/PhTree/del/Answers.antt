@@ -1,125 +1,56 @@
-use Rattle.std.proofs.Common.{◌≡◌, ℕ, List, sym, ◌∙◌, ap, arith}
-use Rattle.std.specs.Prelude.{ℤ, Some, None}
-use Rattle.ph_specs.specs.PutTree.{find_tree}
-use Rattle.ph_specs.specs.DelTree.{del_tree}
-use Rattle.ph_specs.specs.Table.{find}
-use Rattle.ph_tree.specs.Opened.{opened_in}
-use Rattle.ph_tree.proofs.Trees.{found_is, path_is, path_short}
-use Rattle.ph_tree.proofs.Fewer.{some_row, fewer_tree, kept_tree, del_table}
+use Rattle.std.proofs.Common.{sym, ◌∙◌, refl, arith}
+use Rattle.ph_tree.proofs.Walks.{some_none}
+use Rattle.ph_tree.proofs.Trees.{IsKeyed, opened_is, opened_few}
+use Rattle.ph_tree.proofs.Fewer.{IsRemoval, removal}
+use Rattle.ph_tree.proofs.tree.PhTree.del.Given.{Over}
+use Rattle.ph_tree.proofs.tree.PhTree.del.Goals.{After-del_in}
 use Rattle.ph_tree.proofs.tree.PhTree.del.Goals as goal
 
+-- the key is that of the point
+keyed : (g : Over) (c : After-del_in g) → IsKeyed g.row.D c.self.inside.width c.self.inside.max c.self.inside.len c.self.inside.root c.args.self.now c.args.p.now c.new-key.result
+keyed g c =
+    record { seen = c.self.view_is; tree = c.self.invariant; at = c.requires; width = c.new-key.ensures.width; point = c.new-key.ensures.point ∙ c.as_slice.ensures.value }
+
+-- what is made is the tree without the row at the point, and what is found is its value
+removed : (g : Over) (c : After-del_in g) → IsRemoval g.row.D c.self.inside.width c.self.inside.max c.self.inside.len c.args.self.now c.args.p.now c.del_in.new.root c.del_in.result
+removed g c = removal (keyed g c) c.del_in.ensures.del c.del_in.ensures.answer
+
 pub overflow_sub-self : goal.overflow_sub-self
-overflow_sub-self g c =
-    let w = c.self.inside.width in
-    let t = c.self.inside.root in
-    let p = c.args.p.now in
-    let point : c.new-key.result.point ≡ p = c.new-key.ensures.point ∙ c.as_slice.ensures.value in
-    let before : find_tree c.new-key.result.width g.row.D t c.new-key.result.point ≡ find_tree w g.row.D t p = ap (λ (n : ℕ). find_tree n g.row.D t c.new-key.result.point) c.new-key.ensures.width ∙ ap (λ (q : List ℤ). find_tree w g.row.D t q) point in
-    let made : c.del_in.new.root ≡ del_tree w g.row.D t p = c.del_in.ensures.del ∙ ap (λ (n : ℕ). del_tree n g.row.D t c.new-key.result.point) c.new-key.ensures.width ∙ ap (λ (q : List ℤ). del_tree w g.row.D t q) point in
-    some_row _ _ _ _ _ _ c.self.view_is c.self.invariant p c.del_in.new.root c.requires made c.in-Some.value (sym before ∙ sym c.in-Some.ensures.answer)
+overflow_sub-self g c = (removed g (goal.at.overflow_sub-self g c).After-del_in).some_row _ c.in-Some.is
 
 pub invariant_of-self : goal.invariant_of-self
-invariant_of-self g c =
-    let w = c.self.inside.width in
-    let t = c.self.inside.root in
-    let p = c.args.p.now in
-    let point : c.new-key.result.point ≡ p = c.new-key.ensures.point ∙ c.as_slice.ensures.value in
-    let before : find_tree c.new-key.result.width g.row.D t c.new-key.result.point ≡ find_tree w g.row.D t p = ap (λ (n : ℕ). find_tree n g.row.D t c.new-key.result.point) c.new-key.ensures.width ∙ ap (λ (q : List ℤ). find_tree w g.row.D t q) point in
-    let made : c.del_in.new.root ≡ del_tree w g.row.D t p = c.del_in.ensures.del ∙ ap (λ (n : ℕ). del_tree n g.row.D t c.new-key.result.point) c.new-key.ensures.width ∙ ap (λ (q : List ℤ). del_tree w g.row.D t q) point in
-    fewer_tree _ _ _ _ _ _ c.self.view_is c.self.invariant p c.del_in.new.root c.requires made c.in-Some.value (sym before ∙ sym c.in-Some.ensures.answer)
+invariant_of-self g c = (removed g (goal.at.invariant_of-self g c).After-del_in).fewer _ c.in-Some.is
 
 pub invariant_of-self-in-None : goal.invariant_of-self-in-None
 invariant_of-self-in-None g c =
-    let w = c.self.inside.width in
-    let t = c.self.inside.root in
-    let p = c.args.p.now in
-    let point : c.new-key.result.point ≡ p = c.new-key.ensures.point ∙ c.as_slice.ensures.value in
-    let before : find_tree c.new-key.result.width g.row.D t c.new-key.result.point ≡ find_tree w g.row.D t p = ap (λ (n : ℕ). find_tree n g.row.D t c.new-key.result.point) c.new-key.ensures.width ∙ ap (λ (q : List ℤ). find_tree w g.row.D t q) point in
-    let made : c.del_in.new.root ≡ del_tree w g.row.D t p = c.del_in.ensures.del ∙ ap (λ (n : ℕ). del_tree n g.row.D t c.new-key.result.point) c.new-key.ensures.width ∙ ap (λ (q : List ℤ). del_tree w g.row.D t q) point in
-    kept_tree _ _ _ _ _ _ c.self.view_is c.self.invariant p c.del_in.new.root c.requires made (sym before ∙ sym c.in-None.ensures.answer)
+    (removed g (goal.at.invariant_of-self-in-None g c).After-del_in).kept c.in-None.is
 
-pub returns-in-Some-clause-del : goal.returns-in-Some-clause-del
-returns-in-Some-clause-del g c =
-    let w = c.self.inside.width in
-    let t = c.self.inside.root in
-    let p = c.args.p.now in
-    let point : c.new-key.result.point ≡ p = c.new-key.ensures.point ∙ c.as_slice.ensures.value in
-    let made : c.del_in.new.root ≡ del_tree w g.row.D t p = c.del_in.ensures.del ∙ ap (λ (n : ℕ). del_tree n g.row.D t c.new-key.result.point) c.new-key.ensures.width ∙ ap (λ (q : List ℤ). del_tree w g.row.D t q) point in
-    del_table _ _ _ _ _ _ c.self.view_is c.self.invariant p c.del_in.new.root c.requires made
+pub returns-in-Some : goal.returns-in-Some
+returns-in-Some g c =
+    let at = (goal.at.returns-in-Some g c).After-del_in in
+    let row = removed g at in
+    record {
+      ok = refl;
+      del = row.table;
+      answer = sym c.in-Some.is ∙ row.answer;
+      err = tt;
+      visits = omega (arith, opened_is (keyed g at));
+      limit = omega (arith, opened_few (keyed g at));
+      changes = omega arith;
+      spared = λ none. some_none (sym c.in-Some.is ∙ row.answer ∙ none);
+    }
 
-pub returns-in-Some-clause-answer : goal.returns-in-Some-clause-answer
-returns-in-Some-clause-answer g c =
-    let w = c.self.inside.width in
-    let t = c.self.inside.root in
-    let p = c.args.p.now in
-    let point : c.new-key.result.point ≡ p = c.new-key.ensures.point ∙ c.as_slice.ensures.value in
-    let before : find_tree c.new-key.result.width g.row.D t c.new-key.result.point ≡ find_tree w g.row.D t p = ap (λ (n : ℕ). find_tree n g.row.D t c.new-key.result.point) c.new-key.ensures.width ∙ ap (λ (q : List ℤ). find_tree w g.row.D t q) point in
-    c.in-Some.ensures.answer ∙ before ∙ found_is _ _ _ _ _ _ c.self.view_is c.self.invariant p c.requires
-
-pub returns-in-Some-clause-visits : goal.returns-in-Some-clause-visits
-returns-in-Some-clause-visits g c =
-    let w = c.self.inside.width in
-    let t = c.self.inside.root in
-    let p = c.args.p.now in
-    let point : c.new-key.result.point ≡ p = c.new-key.ensures.point ∙ c.as_slice.ensures.value in
-    let opened : opened_in c.new-key.result.width t c.new-key.result.point ≡ opened_in w t p = ap (λ (n : ℕ). opened_in n t c.new-key.result.point) c.new-key.ensures.width ∙ ap (λ (q : List ℤ). opened_in w t q) point in
-    let path = path_is _ _ _ _ _ _ c.self.view_is c.self.invariant p c.requires in
-    omega (arith, c.in-Some.ensures.visits, opened, path)
-
-pub returns-in-Some-clause-limit : goal.returns-in-Some-clause-limit
-returns-in-Some-clause-limit g c =
-    let w = c.self.inside.width in
-    let t = c.self.inside.root in
-    let p = c.args.p.now in
-    let point : c.new-key.result.point ≡ p = c.new-key.ensures.point ∙ c.as_slice.ensures.value in
-    let opened : opened_in c.new-key.result.width t c.new-key.result.point ≡ opened_in w t p = ap (λ (n : ℕ). opened_in n t c.new-key.result.point) c.new-key.ensures.width ∙ ap (λ (q : List ℤ). opened_in w t q) point in
-    let path = path_is _ _ _ _ _ _ c.self.view_is c.self.invariant p c.requires in
-    omega (arith, c.in-Some.ensures.visits, opened, path, path_short _ _ _ _ _ _ c.self.view_is c.self.invariant p)
-
-pub returns-in-None-clause-del : goal.returns-in-None-clause-del
-returns-in-None-clause-del g c =
-    let w = c.self.inside.width in
-    let t = c.self.inside.root in
-    let p = c.args.p.now in
-    let point : c.new-key.result.point ≡ p = c.new-key.ensures.point ∙ c.as_slice.ensures.value in
-    let made : c.del_in.new.root ≡ del_tree w g.row.D t p = c.del_in.ensures.del ∙ ap (λ (n : ℕ). del_tree n g.row.D t c.new-key.result.point) c.new-key.ensures.width ∙ ap (λ (q : List ℤ). del_tree w g.row.D t q) point in
-    del_table _ _ _ _ _ _ c.self.view_is c.self.invariant p c.del_in.new.root c.requires made
-
-pub returns-in-None-clause-answer : goal.returns-in-None-clause-answer
-returns-in-None-clause-answer g c =
-    let w = c.self.inside.width in
-    let t = c.self.inside.root in
-    let p = c.args.p.now in
-    let point : c.new-key.result.point ≡ p = c.new-key.ensures.point ∙ c.as_slice.ensures.value in
-    let before : find_tree c.new-key.result.width g.row.D t c.new-key.result.point ≡ find_tree w g.row.D t p = ap (λ (n : ℕ). find_tree n g.row.D t c.new-key.result.point) c.new-key.ensures.width ∙ ap (λ (q : List ℤ). find_tree w g.row.D t q) point in
-    c.in-None.ensures.answer ∙ before ∙ found_is _ _ _ _ _ _ c.self.view_is c.self.invariant p c.requires
-
-pub returns-in-None-clause-visits : goal.returns-in-None-clause-visits
-returns-in-None-clause-visits g c =
-    let w = c.self.inside.width in
-    let t = c.self.inside.root in
-    let p = c.args.p.now in
-    let point : c.new-key.result.point ≡ p = c.new-key.ensures.point ∙ c.as_slice.ensures.value in
-    let opened : opened_in c.new-key.result.width t c.new-key.result.point ≡ opened_in w t p = ap (λ (n : ℕ). opened_in n t c.new-key.result.point) c.new-key.ensures.width ∙ ap (λ (q : List ℤ). opened_in w t q) point in
-    let path = path_is _ _ _ _ _ _ c.self.view_is c.self.invariant p c.requires in
-    omega (arith, c.in-None.ensures.visits, opened, path)
-
-pub returns-in-None-clause-limit : goal.returns-in-None-clause-limit
-returns-in-None-clause-limit g c =
-    let w = c.self.inside.width in
-    let t = c.self.inside.root in
-    let p = c.args.p.now in
-    let point : c.new-key.result.point ≡ p = c.new-key.ensures.point ∙ c.as_slice.ensures.value in
-    let opened : opened_in c.new-key.result.width t c.new-key.result.point ≡ opened_in w t p = ap (λ (n : ℕ). opened_in n t c.new-key.result.point) c.new-key.ensures.width ∙ ap (λ (q : List ℤ). opened_in w t q) point in
-    let path = path_is _ _ _ _ _ _ c.self.view_is c.self.invariant p c.requires in
-    omega (arith, c.in-None.ensures.visits, opened, path, path_short _ _ _ _ _ _ c.self.view_is c.self.invariant p)
-
-pub returns-in-Some-clause-spared : goal.returns-in-Some-clause-spared
-returns-in-Some-clause-spared g c none =
-    let w = c.self.inside.width in
-    let t = c.self.inside.root in
-    let p = c.args.p.now in
-    let point : c.new-key.result.point ≡ p = c.new-key.ensures.point ∙ c.as_slice.ensures.value in
-    let before : find_tree c.new-key.result.width g.row.D t c.new-key.result.point ≡ find_tree w g.row.D t p = ap (λ (n : ℕ). find_tree n g.row.D t c.new-key.result.point) c.new-key.ensures.width ∙ ap (λ (q : List ℤ). find_tree w g.row.D t q) point in
-    let found : find c.args.self.now.table p ≡ Some c.in-Some.value = sym (c.in-Some.ensures.answer ∙ before ∙ found_is _ _ _ _ _ _ c.self.view_is c.self.invariant p c.requires) in
-    absurd (let no : Some c.in-Some.value ≡ None = sym found ∙ none in cc)
+pub returns-in-None : goal.returns-in-None
+returns-in-None g c =
+    let at = (goal.at.returns-in-None g c).After-del_in in
+    let row = removed g at in
+    record {
+      ok = refl;
+      del = row.table;
+      answer = sym c.in-None.is ∙ row.answer;
+      err = tt;
+      visits = omega (arith, opened_is (keyed g at));
+      limit = omega (arith, opened_few (keyed g at));
+      changes = omega arith;
+      spared = λ _. c.in-None.ensures.spared refl;
+    }

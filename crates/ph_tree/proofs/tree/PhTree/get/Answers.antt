@@ -1,45 +1,29 @@
-use Rattle.std.proofs.Common.{◌≡◌, ◌+◌, ℕ, List, sym, ◌∙◌, ap, arith, length}
-use Rattle.std.specs.Prelude.{ℤ, Option}
-use Rattle.ph_specs.specs.Node.{PlainNode}
-use Rattle.ph_specs.specs.PutTree.{find_node, find_tree}
-use Rattle.ph_specs.specs.WorkSets.{path}
+use Rattle.std.proofs.Common.{◌≡◌, sym, ◌∙◌, ap, arith}
+use Rattle.std.specs.Prelude.{Some}
+use Rattle.ph_specs.specs.PutTree.{find_tree}
 use Rattle.ph_node.specs.Shown.{shown}
-use Rattle.ph_tree.specs.Opened.{opened_below, opened_in}
-use Rattle.ph_tree.proofs.Trees.{found_is, path_is, path_short}
+use Rattle.ph_tree.specs.Opened.{opened_in}
+use Rattle.ph_tree.proofs.Trees.{IsKeyed, found_is, opened_is, opened_few}
+use Rattle.ph_tree.proofs.tree.PhTree.get.Given.{Over}
+use Rattle.ph_tree.proofs.tree.PhTree.get.Goals.{After-find_in}
 use Rattle.ph_tree.proofs.tree.PhTree.get.Goals as goal
 
-pub returns-in-Some-clause-found : goal.returns-in-Some-clause-found
-returns-in-Some-clause-found g c =
-    let point : c.new-key.result.point ≡ c.args.p.now = c.new-key.ensures.point ∙ c.as_slice.ensures.value in
-    c.find_in.ensures.found
-    ∙ ap (λ (n : PlainNode). find_node c.new-key.result.width n c.new-key.result.point) c.visit.ensures.shows
-    ∙ ap (λ (w : ℕ). find_node w c.in-Some.root c.new-key.result.point) c.new-key.ensures.width
-    ∙ ap (λ (p : List ℤ). find_node c.self.inside.width c.in-Some.root p) point
-    ∙ sym (ap (λ (t : Option PlainNode). find_tree c.self.inside.width g.row.D t c.args.p.now) c.in-Some.is)
-    ∙ found_is _ _ _ _ _ _ c.self.view_is c.self.invariant c.args.p.now c.requires
+-- the key is that of the point
+keyed : (g : Over) (c : After-find_in g) → IsKeyed g.row.D c.self.inside.width c.self.inside.max c.self.inside.len c.self.inside.root c.args.self.now c.args.p.now c.new-key.result
+keyed g c =
+    record { seen = c.self.view_is; tree = c.self.invariant; at = c.requires; width = c.new-key.ensures.width; point = c.new-key.ensures.point ∙ c.as_slice.ensures.value }
 
-pub returns-in-Some-clause-visits : goal.returns-in-Some-clause-visits
-returns-in-Some-clause-visits g c =
-    let point : c.new-key.result.point ≡ c.args.p.now = c.new-key.ensures.point ∙ c.as_slice.ensures.value in
-    let below : opened_below c.new-key.result.width (shown c.visit.result).level (shown c.visit.result).chain c.new-key.result.point ≡ opened_below c.self.inside.width c.in-Some.root.level c.in-Some.root.chain c.args.p.now =
-    ap (λ (n : PlainNode). opened_below c.new-key.result.width n.level n.chain c.new-key.result.point) c.visit.ensures.shows
-    ∙ ap (λ (w : ℕ). opened_below w c.in-Some.root.level c.in-Some.root.chain c.new-key.result.point) c.new-key.ensures.width
-    ∙ ap (λ (p : List ℤ). opened_below c.self.inside.width c.in-Some.root.level c.in-Some.root.chain p) point
-    in
-    let whole : length (path c.args.self.now.width g.row.D c.args.self.now.table c.args.p.now) ≡ 1 + opened_below c.self.inside.width c.in-Some.root.level c.in-Some.root.chain c.args.p.now =
-    path_is _ _ _ _ _ _ c.self.view_is c.self.invariant c.args.p.now c.requires ∙ ap (λ (t : Option PlainNode). opened_in c.self.inside.width t c.args.p.now) c.in-Some.is
-    in
-    omega (arith, c.find_in.ensures.cost, c.visit.ensures.cost, below, whole)
+-- the node that is visited is the root
+root : (g : Over) (c : After-find_in g) → c.self.inside.root ≡ Some (shown c.visit.result)
+root g c = c.in-Some.is ∙ ap Some (sym c.visit.ensures.shows)
 
-pub returns-in-Some-clause-limit : goal.returns-in-Some-clause-limit
-returns-in-Some-clause-limit g c =
-    let point : c.new-key.result.point ≡ c.args.p.now = c.new-key.ensures.point ∙ c.as_slice.ensures.value in
-    let below : opened_below c.new-key.result.width (shown c.visit.result).level (shown c.visit.result).chain c.new-key.result.point ≡ opened_below c.self.inside.width c.in-Some.root.level c.in-Some.root.chain c.args.p.now =
-    ap (λ (n : PlainNode). opened_below c.new-key.result.width n.level n.chain c.new-key.result.point) c.visit.ensures.shows
-    ∙ ap (λ (w : ℕ). opened_below w c.in-Some.root.level c.in-Some.root.chain c.new-key.result.point) c.new-key.ensures.width
-    ∙ ap (λ (p : List ℤ). opened_below c.self.inside.width c.in-Some.root.level c.in-Some.root.chain p) point
-    in
-    let whole : length (path c.args.self.now.width g.row.D c.args.self.now.table c.args.p.now) ≡ 1 + opened_below c.self.inside.width c.in-Some.root.level c.in-Some.root.chain c.args.p.now =
-    path_is _ _ _ _ _ _ c.self.view_is c.self.invariant c.args.p.now c.requires ∙ ap (λ (t : Option PlainNode). opened_in c.self.inside.width t c.args.p.now) c.in-Some.is
-    in
-    omega (arith, c.find_in.ensures.cost, c.visit.ensures.cost, below, whole, path_short _ _ _ _ _ _ c.self.view_is c.self.invariant c.args.p.now)
+pub returns-in-Some : goal.returns-in-Some
+returns-in-Some g c =
+    let at = (goal.at.returns-in-Some g c).After-find_in in
+    let key = c.new-key.result in
+    let opened = ap (λ t. opened_in key.width t key.point) (root g at) in
+    record {
+      found = c.find_in.ensures.found ∙ sym (ap (λ t. find_tree key.width g.row.D t key.point) (root g at)) ∙ found_is (keyed g at);
+      visits = omega (arith, c.find_in.ensures.cost, c.visit.ensures.cost, opened, opened_is (keyed g at));
+      limit = omega (arith, c.find_in.ensures.cost, c.visit.ensures.cost, opened, opened_few (keyed g at));
+    }

@@ -3,10 +3,11 @@
 ghost use Rattle.std.specs.Prelude.{◌≡◌, ◌<◌, ◌≤◌};
 ghost use Rattle.ph_specs.specs.Coordinate.{IsPoint};
 
-use crate::{Moved, PhTree, Put, PutError};
+use crate::pair::Counters;
 use ph_coord::{Point, Width};
-use ph_node::{Entry, NodeRef, What};
+use ph_node::{NodeRef, What};
 use ph_steps::Steps;
+use ph_tree::{Moved, PhTree, Put, PutError};
 use std::alloc::Global;
 use std::marker::Brand;
 use std::process::Abort;
@@ -17,7 +18,6 @@ const FULL: Result<Put, PutError> = Err(PutError::Full);
 #[derive(Clone, Copy)]
 enum Case {
     UnitSquare,
-    UnitSquareGone,
     EachSplit,
     DeepestPath,
     DeepestPathGone,
@@ -52,14 +52,13 @@ fn put<const D: usize, V: Ledger, C: Ledger>(
     tree: &mut PhTree<D>,
     coords: &[i64],
     v: u64,
-    visits: &mut Steps<V>,
-    changes: &mut Steps<C>,
+    counters: &mut Counters<V, C>,
     found: Result<Put, PutError>,
 )
     requires { D ≤ 16 }
 {
     let p = point(rt, tree, coords);
-    let answer = tree.put(p, v, visits, changes);
+    let answer = tree.put(p, v, &mut counters.visits, &mut counters.changes);
     assert!(rt; answer == found, "put {v}");
 }
 
@@ -69,12 +68,11 @@ fn put_new<const D: usize, V: Ledger, C: Ledger>(
     tree: &mut PhTree<D>,
     coords: &[i64],
     v: u64,
-    visits: &mut Steps<V>,
-    changes: &mut Steps<C>,
+    counters: &mut Counters<V, C>,
 )
     requires { D ≤ 16 }
 {
-    put(rt, tree, coords, v, visits, changes, Ok(Put::New));
+    put(rt, tree, coords, v, counters, Ok(Put::New));
 }
 
 // A removal that is to find this.
@@ -82,14 +80,13 @@ fn del<const D: usize, V: Ledger, C: Ledger>(
     rt: &impl Abort,
     tree: &mut PhTree<D>,
     coords: &[i64],
-    visits: &mut Steps<V>,
-    changes: &mut Steps<C>,
+    counters: &mut Counters<V, C>,
     found: Option<u64>,
 )
     requires { D ≤ 16 }
 {
     let p = point(rt, tree, coords);
-    let Ok(answer) = tree.del(&p, visits, changes) else {
+    let Ok(answer) = tree.del(&p, &mut counters.visits, &mut counters.changes) else {
         panic!(rt; "no memory");
     };
     assert_eq!(rt; answer, found);
@@ -137,47 +134,19 @@ fn put_corner<V: Ledger, C: Ledger>(
     rt: &impl Abort,
     tree: &mut PhTree<2>,
     corner: u64,
-    visits: &mut Steps<V>,
-    changes: &mut Steps<C>,
+    counters: &mut Counters<V, C>,
 ) {
-    put_new(rt, tree, &corner_point(corner), corner, visits, changes);
+    put_new(rt, tree, &corner_point(corner), corner, counters);
 }
 
 fn corner_point(corner: u64) -> [i64; 2] {
     [(corner >> 1 & 1) as i64, (corner & 1) as i64]
 }
 
-// Whether two nodes have the same level, and entries with the same addresses, fields and values.
-fn same_nodes<const D: usize>(a: NodeRef<'_, D>, b: NodeRef<'_, D>) -> bool
-    requires { D ≤ 16 }
-{
-    if a.level() != b.level() || a.len() != b.len() {
-        return false;
-    }
-    for i in 0..a.len() {
-        if i >= b.len() || !same_entries(&a.entry(i), &b.entry(i)) {
-            return false;
-        }
-    }
-    true
-}
-
-fn same_entries<const D: usize>(x: &Entry<'_, D>, y: &Entry<'_, D>) -> bool
-    requires { D ≤ 16 }
-{
-    let same = x.addr == y.addr && x.body[..D] == y.body[..D];
-    match (x.what, y.what) {
-        (What::Value(u), What::Value(v)) => same && u == v,
-        (What::Child(_), What::Child(_)) => same,
-        _ => false,
-    }
-}
-
 fn unit_square<V: Ledger, C: Ledger>(
     rt: &impl Abort,
     alloc: Global,
-    visits: &mut Steps<V>,
-    changes: &mut Steps<C>,
+    counters: &mut Counters<V, C>,
 ) {
     for order in 0..64u64 {
         let (a, b, c) = (order >> 4, order >> 2 & 3, order & 3);
@@ -186,11 +155,11 @@ fn unit_square<V: Ledger, C: Ledger>(
         }
         let mut tree: PhTree<2> = empty(rt, alloc, 4);
         for corner in [a, b, c, 6u64.saturating_sub(a + b + c)] {
-            put_corner(rt, &mut tree, corner, visits, changes);
+            put_corner(rt, &mut tree, corner, counters);
         }
-        let top = root(rt, &tree, visits);
+        let top = root(rt, &tree, &mut counters.visits);
         assert_eq!(rt; (top.level(), top.len()), (31, 1), "order {order}");
-        let square = child(rt, top, 0, visits);
+        let square = child(rt, top, 0, &mut counters.visits);
         assert_eq!(rt; (square.level(), square.len()), (0, 4), "order {order}");
         for i in 0..4 {
             assert!(rt; is_point(square, i, i as u64), "order {order}");
@@ -198,64 +167,14 @@ fn unit_square<V: Ledger, C: Ledger>(
     }
 }
 
-// Takes the corners out in each order, and compares what is left with a tree that is built of it.
-fn unit_square_gone<V: Ledger, C: Ledger>(
-    rt: &impl Abort,
-    alloc: Global,
-    visits: &mut Steps<V>,
-    changes: &mut Steps<C>,
-) {
-    for order in 0..64u64 {
-        let (a, b, c) = (order >> 4, order >> 2 & 3, order & 3);
-        if a == b || b == c || a == c {
-            continue;
-        }
-        let corners = [a, b, c, 6u64.saturating_sub(a + b + c)];
-        let mut tree: PhTree<2> = empty(rt, alloc, 4);
-        for corner in corners {
-            put_corner(rt, &mut tree, corner, visits, changes);
-        }
-        for gone in 0..4 {
-            let coords = corner_point(corners[gone]);
-            del(rt, &mut tree, &coords, visits, changes, Some(corners[gone]));
-            del(rt, &mut tree, &coords, visits, changes, None);
-            let mut left: PhTree<2> = empty(rt, alloc, 4);
-            for corner in &corners[gone + 1..] {
-                put_corner(rt, &mut left, *corner, visits, changes);
-            }
-            same_squares(rt, &tree, &left, visits);
-        }
-    }
-}
-
-// Two trees whose points are corners of the unit square are to be the same.
-fn same_squares<V: Ledger>(rt: &impl Abort, a: &PhTree<2>, b: &PhTree<2>, visits: &mut Steps<V>) {
-    assert_eq!(rt; a.len(), b.len());
-    assert_eq!(rt; a.root().is_some(), b.root().is_some());
-    if a.root().is_none() {
-        return;
-    }
-    let (top, other) = (root(rt, a, visits), root(rt, b, visits));
-    assert!(rt; same_nodes(top, other));
-    if a.len() > 1 {
-        let square = child(rt, top, 0, visits);
-        assert!(rt; same_nodes(square, child(rt, other, 0, visits)));
-    }
-}
-
-fn each_split<V: Ledger, C: Ledger>(
-    rt: &impl Abort,
-    alloc: Global,
-    visits: &mut Steps<V>,
-    changes: &mut Steps<C>,
-) {
+fn each_split<V: Ledger, C: Ledger>(rt: &impl Abort, alloc: Global, counters: &mut Counters<V, C>) {
     for place in 0..31u32 {
         let mut tree: PhTree<2> = empty(rt, alloc, 2);
-        put_new(rt, &mut tree, &[0, 0], 0, visits, changes);
+        put_new(rt, &mut tree, &[0, 0], 0, counters);
         let beside = [0, (1u64 << place) as i64];
-        put_new(rt, &mut tree, &beside, 1, visits, changes);
-        let top = root(rt, &tree, visits);
-        let split = child(rt, top, 0, visits);
+        put_new(rt, &mut tree, &beside, 1, counters);
+        let top = root(rt, &tree, &mut counters.visits);
+        let split = child(rt, top, 0, &mut counters.visits);
         assert_eq!(rt; (split.level(), split.len()), (place, 2));
         assert!(rt;
             is_point(split, 0, 0) && is_point(split, 1, 1),
@@ -268,18 +187,17 @@ fn each_split<V: Ledger, C: Ledger>(
 fn deepest_path<V: Ledger, C: Ledger>(
     rt: &impl Abort,
     alloc: Global,
-    visits: &mut Steps<V>,
-    changes: &mut Steps<C>,
+    counters: &mut Counters<V, C>,
 ) {
     let mut tree: PhTree<1> = empty(rt, alloc, 32);
-    put_new(rt, &mut tree, &[0], 0, visits, changes);
+    put_new(rt, &mut tree, &[0], 0, counters);
     for place in 0..31u32 {
         let power = 1u64 << place;
-        put_new(rt, &mut tree, &[power as i64], power, visits, changes);
+        put_new(rt, &mut tree, &[power as i64], power, counters);
     }
-    let mut node = root(rt, &tree, visits);
+    let mut node = root(rt, &tree, &mut counters.visits);
     for place in (0..31u32).rev() {
-        node = child(rt, node, 0, visits);
+        node = child(rt, node, 0, &mut counters.visits);
         assert_eq!(rt; (node.level(), node.len()), (place, 2));
         assert!(rt; is_point(node, 1, 1u64 << place), "place {place}");
     }
@@ -291,24 +209,28 @@ fn deepest_path<V: Ledger, C: Ledger>(
 fn deepest_path_gone<V: Ledger, C: Ledger>(
     rt: &impl Abort,
     alloc: Global,
-    visits: &mut Steps<V>,
-    changes: &mut Steps<C>,
+    counters: &mut Counters<V, C>,
 ) {
     let mut tree: PhTree<1> = empty(rt, alloc, 32);
-    put_new(rt, &mut tree, &[0], 7, visits, changes);
+    put_new(rt, &mut tree, &[0], 7, counters);
     for place in 0..31u32 {
         let power = [(1u64 << place) as i64];
-        put_new(rt, &mut tree, &power, 9, visits, changes);
+        put_new(rt, &mut tree, &power, 9, counters);
     }
     for place in (1..31u32).rev() {
         let power = [(1u64 << place) as i64];
-        del(rt, &mut tree, &power, visits, changes, Some(9));
-        let top = child(rt, root(rt, &tree, visits), 0, visits);
+        del(rt, &mut tree, &power, counters, Some(9));
+        let top = child(
+            rt,
+            root(rt, &tree, &mut counters.visits),
+            0,
+            &mut counters.visits,
+        );
         assert_eq!(rt; (top.level(), top.len()), (place - 1, 2));
     }
-    del(rt, &mut tree, &[1], visits, changes, Some(9));
-    assert_eq!(rt; root(rt, &tree, visits).len(), 1);
-    del(rt, &mut tree, &[0], visits, changes, Some(7));
+    del(rt, &mut tree, &[1], counters, Some(9));
+    assert_eq!(rt; root(rt, &tree, &mut counters.visits).len(), 1);
+    del(rt, &mut tree, &[0], counters, Some(7));
     assert!(rt; tree.root().is_none());
 }
 
@@ -316,8 +238,7 @@ fn deepest_path_gone<V: Ledger, C: Ledger>(
 fn crowded_cube<V: Ledger, C: Ledger>(
     rt: &impl Abort,
     alloc: Global,
-    visits: &mut Steps<V>,
-    changes: &mut Steps<C>,
+    counters: &mut Counters<V, C>,
 ) {
     let mut tree: PhTree<8> = empty(rt, alloc, 256);
     for k in 0..256u64 {
@@ -326,9 +247,14 @@ fn crowded_cube<V: Ledger, C: Ledger>(
         for (i, coord) in coords.iter_mut().enumerate() {
             *coord = (corner >> (7 - i) & 1) as i64;
         }
-        put_new(rt, &mut tree, &coords, corner, visits, changes);
+        put_new(rt, &mut tree, &coords, corner, counters);
     }
-    let cube = child(rt, root(rt, &tree, visits), 0, visits);
+    let cube = child(
+        rt,
+        root(rt, &tree, &mut counters.visits),
+        0,
+        &mut counters.visits,
+    );
     assert_eq!(rt; (cube.level(), cube.len()), (0, 256));
     for i in 0..256 {
         assert!(rt; is_point(cube, i, i as u64), "corner {i}");
@@ -339,8 +265,7 @@ fn crowded_cube<V: Ledger, C: Ledger>(
 fn dimensions<const D: usize, V: Ledger, C: Ledger>(
     rt: &impl Abort,
     alloc: Global,
-    visits: &mut Steps<V>,
-    changes: &mut Steps<C>,
+    counters: &mut Counters<V, C>,
 )
     requires some { 1 ≤ D }
     requires few { D ≤ 16 }
@@ -356,42 +281,32 @@ fn dimensions<const D: usize, V: Ledger, C: Ledger>(
             } else {
                 Put::Old(i as u64)
             };
-            put(rt, &mut tree, &coords, v, visits, changes, Ok(found));
+            put(rt, &mut tree, &coords, v, counters, Ok(found));
             let p = point(rt, &tree, &coords);
-            assert_eq!(rt; tree.get(&p, visits), Some(v));
+            assert_eq!(rt; tree.get(&p, &mut counters.visits), Some(v));
         }
     }
     let p = point(rt, &tree, &[0; D]);
-    assert_eq!(rt; tree.get(&p, visits), None);
+    assert_eq!(rt; tree.get(&p, &mut counters.visits), None);
     tree.clear();
     assert_eq!(rt; (tree.len(), tree.max()), (0, 16));
 }
 
-fn full_table<V: Ledger, C: Ledger>(
-    rt: &impl Abort,
-    alloc: Global,
-    visits: &mut Steps<V>,
-    changes: &mut Steps<C>,
-) {
+fn full_table<V: Ledger, C: Ledger>(rt: &impl Abort, alloc: Global, counters: &mut Counters<V, C>) {
     let mut tree: PhTree<2> = empty(rt, alloc, 1);
-    put_new(rt, &mut tree, &[0, 0], 1, visits, changes);
-    put(rt, &mut tree, &[1, 1], 2, visits, changes, FULL);
-    put(rt, &mut tree, &[0, 0], 3, visits, changes, Ok(Put::Old(1)));
+    put_new(rt, &mut tree, &[0, 0], 1, counters);
+    put(rt, &mut tree, &[1, 1], 2, counters, FULL);
+    put(rt, &mut tree, &[0, 0], 3, counters, Ok(Put::Old(1)));
     assert_eq!(rt; tree.len(), 1);
     let mut none: PhTree<2> = empty(rt, alloc, 0);
-    put(rt, &mut none, &[0, 0], 1, visits, changes, FULL);
+    put(rt, &mut none, &[0, 0], 1, counters, FULL);
 }
 
-// Moves in a full tree, and the tree that is left.
-fn moves<V: Ledger, C: Ledger>(
-    rt: &impl Abort,
-    alloc: Global,
-    visits: &mut Steps<V>,
-    changes: &mut Steps<C>,
-) {
+// Moves in a full tree, and the rows that are left.
+fn moves<V: Ledger, C: Ledger>(rt: &impl Abort, alloc: Global, counters: &mut Counters<V, C>) {
     let mut tree: PhTree<2> = empty(rt, alloc, 2);
-    put_new(rt, &mut tree, &[0, 0], 5, visits, changes);
-    put_new(rt, &mut tree, &[0, 1], 6, visits, changes);
+    put_new(rt, &mut tree, &[0, 0], 5, counters);
+    put_new(rt, &mut tree, &[0, 1], 6, counters);
     for (from, to, found) in [
         ([1, 1], [0, 0], Moved::Absent),
         ([1, 1], [1, 1], Moved::Absent),
@@ -401,15 +316,15 @@ fn moves<V: Ledger, C: Ledger>(
         ([0, 0], [1, 1], Moved::Absent),
     ] {
         let (p, q) = (point(rt, &tree, &from), point(rt, &tree, &to));
-        let Ok(answer) = tree.relocate(&p, &q, visits, changes) else {
+        let Ok(answer) = tree.relocate(&p, &q, &mut counters.visits, &mut counters.changes) else {
             panic!(rt; "no memory");
         };
         assert_eq!(rt; answer, found);
     }
-    let mut moved: PhTree<2> = empty(rt, alloc, 2);
-    put_new(rt, &mut moved, &[1, 1], 5, visits, changes);
-    put_new(rt, &mut moved, &[0, 1], 6, visits, changes);
-    same_squares(rt, &tree, &moved, visits);
+    for (coords, found) in [([0, 0], None), ([0, 1], Some(6)), ([1, 1], Some(5))] {
+        let p = point(rt, &tree, &coords);
+        assert_eq!(rt; tree.get(&p, &mut counters.visits), found);
+    }
 }
 
 fn outcome<V: Ledger, C: Ledger>(
@@ -422,24 +337,25 @@ fn outcome<V: Ledger, C: Ledger>(
     requires visits { (visits.name ≡ V.name) × (visits.parts ≡ V.parts) × (0 < visits.parts) }
     requires changes { (changes.name ≡ C.name) × (changes.parts ≡ C.parts) × (0 < changes.parts) }
 {
-    let mut visits: Steps<V> = Steps::new(visits);
-    let mut changes: Steps<C> = Steps::new(changes);
+    let mut counters: Counters<V, C> = Counters {
+        visits: Steps::new(visits),
+        changes: Steps::new(changes),
+    };
     match case {
-        Case::UnitSquare => unit_square(rt, alloc, &mut visits, &mut changes),
-        Case::UnitSquareGone => unit_square_gone(rt, alloc, &mut visits, &mut changes),
-        Case::EachSplit => each_split(rt, alloc, &mut visits, &mut changes),
-        Case::DeepestPath => deepest_path(rt, alloc, &mut visits, &mut changes),
-        Case::DeepestPathGone => deepest_path_gone(rt, alloc, &mut visits, &mut changes),
-        Case::CrowdedCube => crowded_cube(rt, alloc, &mut visits, &mut changes),
+        Case::UnitSquare => unit_square(rt, alloc, &mut counters),
+        Case::EachSplit => each_split(rt, alloc, &mut counters),
+        Case::DeepestPath => deepest_path(rt, alloc, &mut counters),
+        Case::DeepestPathGone => deepest_path_gone(rt, alloc, &mut counters),
+        Case::CrowdedCube => crowded_cube(rt, alloc, &mut counters),
         Case::Dimensions => {
-            dimensions::<1, V, C>(rt, alloc, &mut visits, &mut changes);
-            dimensions::<2, V, C>(rt, alloc, &mut visits, &mut changes);
-            dimensions::<3, V, C>(rt, alloc, &mut visits, &mut changes);
-            dimensions::<8, V, C>(rt, alloc, &mut visits, &mut changes);
-            dimensions::<16, V, C>(rt, alloc, &mut visits, &mut changes);
+            dimensions::<1, V, C>(rt, alloc, &mut counters);
+            dimensions::<2, V, C>(rt, alloc, &mut counters);
+            dimensions::<3, V, C>(rt, alloc, &mut counters);
+            dimensions::<8, V, C>(rt, alloc, &mut counters);
+            dimensions::<16, V, C>(rt, alloc, &mut counters);
         }
-        Case::FullTable => full_table(rt, alloc, &mut visits, &mut changes),
-        Case::Moves => moves(rt, alloc, &mut visits, &mut changes),
+        Case::FullTable => full_table(rt, alloc, &mut counters),
+        Case::Moves => moves(rt, alloc, &mut counters),
     }
 }
 
@@ -450,11 +366,6 @@ fn check(rt: &impl Abort, alloc: Global, case: Case) {
 #[test]
 fn unit_square_in_any_order(rt: HostRuntime) {
     check(&rt, rt.alloc(), Case::UnitSquare);
-}
-
-#[test]
-fn unit_square_gone_in_any_order(rt: HostRuntime) {
-    check(&rt, rt.alloc(), Case::UnitSquareGone);
 }
 
 #[test]

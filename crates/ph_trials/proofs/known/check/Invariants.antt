@@ -1,4 +1,4 @@
-use Rattle.ph_tree.proofs.tests.check.Given as goal
+use Rattle.ph_trials.proofs.known.check.Given as goal
 
 abbrev pub ghosts-outcome-V-Ledger : goal.ghosts-outcome-V-Ledger
 ghosts-outcome-V-Ledger g a = record { name = a.visits.name; parts = a.visits.parts }

@@ -1,0 +1,16 @@
+//! The tree beside the plain table and beside the shape of the table's rows: a comparison of the two forms of a tree, and
+//! tests that need both.
+#![tactic(auto)]
+
+#[cfg(test)]
+mod edits;
+#[cfg(test)]
+mod known;
+#[cfg(test)]
+mod orders;
+#[cfg(test)]
+mod pair;
+mod same;
+
+pub use ph_shape::NoMemory;
+pub use same::{is_same, is_shape};

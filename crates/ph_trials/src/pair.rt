@@ -1,0 +1,155 @@
+//! A tree and the plain table beside it, which are edited alike.
+
+ghost use Rattle.std.specs.Prelude.{◌≡◌, ◌≤◌};
+ghost use Rattle.ph_specs.specs.Coordinate.{IsPoint};
+
+use crate::is_shape;
+use ph_coord::{Point, Width};
+use ph_steps::Steps;
+use ph_table::Table;
+use ph_tree::{Moved, PhTree, PutError};
+use std::alloc::Global;
+use std::process::Abort;
+use std::sync::ledger::Ledger;
+use std::test::Fail;
+
+// What the edits of a tree count.
+#[derive(Drop)]
+pub(crate) struct Counters<V: Ledger, C: Ledger> {
+    pub visits: Steps<V>,
+    pub changes: Steps<C>,
+}
+
+#[derive(Drop)]
+pub(crate) struct Pair<const D: usize> {
+    pub tree: PhTree<D>,
+    pub table: Table<D>,
+    ghost tree_width: { tree.width ≡ 32 },
+    ghost table_width: { table.width ≡ 32 },
+}
+
+// The point of these coordinates of 32 bits.
+pub(crate) fn point<const D: usize>(rt: &impl Abort, coords: &[i64]) -> Point<D>
+    ensures { IsPoint 32 D result }
+{
+    let Some(p) = Point::from_slice(width(), coords) else {
+        panic!(rt; "no point");
+    };
+    p
+}
+
+fn width() -> Width
+    ensures { result ≡ 32 }
+{
+    match Width::new(32) {
+        Some(w) => w,
+        None => unreachable!(),
+    }
+}
+
+impl<const D: usize> Pair<D> {
+    // An empty tree of at most so many rows, and an empty table.
+    pub(crate) fn new(alloc: Global, max: u64) -> Pair<D>
+        requires some { 1 ≤ D }
+        requires few { D ≤ 16 }
+    {
+        Pair {
+            tree: PhTree::new(alloc, width(), max),
+            table: Table::new(alloc, width()),
+        }
+    }
+
+    pub(crate) fn put<V: Ledger, C: Ledger>(
+        &mut self,
+        rt: &impl Abort,
+        p: Point<D>,
+        v: u64,
+        counters: &mut Counters<V, C>,
+    ) -> Result<(), Fail>
+        requires few { D ≤ 16 }
+        requires point { IsPoint 32 D p }
+    {
+        let is_full = self.table.rows().len() as u64 == self.tree.max();
+        let is_refused = is_full && self.table.get(&p).is_none();
+        let answer = self
+            .tree
+            .put(p, v, &mut counters.visits, &mut counters.changes);
+        if is_refused {
+            assert!(rt; answer == Err(PutError::Full));
+            return Ok(());
+        }
+        let found = self.table.put(p, v)?;
+        assert_eq!(rt; answer?, found);
+        Ok(())
+    }
+
+    pub(crate) fn del<V: Ledger, C: Ledger>(
+        &mut self,
+        rt: &impl Abort,
+        p: &Point<D>,
+        counters: &mut Counters<V, C>,
+    ) -> Result<(), Fail>
+        requires few { D ≤ 16 }
+        requires point { IsPoint 32 D p.now }
+    {
+        let answer = self
+            .tree
+            .del(p, &mut counters.visits, &mut counters.changes)?;
+        let found = self.table.del(p);
+        assert_eq!(rt; answer, found);
+        Ok(())
+    }
+
+    pub(crate) fn relocate<V: Ledger, C: Ledger>(
+        &mut self,
+        rt: &impl Abort,
+        from: &Point<D>,
+        to: &Point<D>,
+        counters: &mut Counters<V, C>,
+    ) -> Result<(), Fail>
+        requires few { D ≤ 16 }
+        requires from { IsPoint 32 D from.now }
+        requires to { IsPoint 32 D to.now }
+    {
+        let answer = self
+            .tree
+            .relocate(from, to, &mut counters.visits, &mut counters.changes)?;
+        let found = self.move_row(from, to)?;
+        assert_eq!(rt; answer, found);
+        Ok(())
+    }
+
+    // Moves a row of the table.
+    fn move_row(&mut self, from: &Point<D>, to: &Point<D>) -> Result<Moved, Fail>
+        requires few { D ≤ 16 }
+        requires from { IsPoint 32 D from.now }
+        requires to { IsPoint 32 D to.now }
+    {
+        let Some(v) = self.table.get(from) else {
+            return Ok(Moved::Absent);
+        };
+        if from != to && self.table.get(to).is_some() {
+            return Ok(Moved::Taken);
+        }
+        let _value = self.table.del(from);
+        let _put = self.table.put(*to, v)?;
+        Ok(Moved::Done)
+    }
+
+    // The tree is to be the shape of the table's rows.
+    pub(crate) fn compare<V: Ledger, C: Ledger>(
+        &self,
+        rt: &impl Abort,
+        alloc: Global,
+        counters: &mut Counters<V, C>,
+    ) -> Result<(), Fail>
+        requires some { 1 ≤ D }
+        requires few { D ≤ 16 }
+    {
+        let rows = self.table.rows();
+        assert_eq!(rt; self.tree.len(), rows.len() as u64);
+        let root = self.tree.root();
+        assert!(rt; is_shape(alloc, root, self.table.width(), rows, &mut counters.visits)?);
+        Ok(())
+    }
+}
