@@ -2,8 +2,8 @@
 mod FormPlaces
 mod KeptNumbers
 mod LinePieces
-mod NumberSteps
 mod PickedForms
 pub mod Pieces
+mod PlaceSteps
 mod ReadPlaces
 mod WordCuts

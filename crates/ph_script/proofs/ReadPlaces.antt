@@ -129,9 +129,9 @@ pub same-of : (verb : Verb) (dims : ℕ) (places : List Place) (ws : List (List 
 same-of verb dims places ws cs ns e h a b = rw (a, b, e) (reads verb dims ws (rw e at h)).same
 
 -- the command of a form, where all its numbers and names fit
-pub does : (word : List ℕ) (verb : Verb) (dims : ℕ) (places tried named : List Place) (ws : List (List ℕ)) (cs : List Coord) (ns : List ℕ) (made : Command) → places ≡ places_by verb dims → tried ≡ places → named ≡ places → pointwise number_fits tried ws ≡ true → pointwise name_fits named ws ≡ true → cs ≡ coords_at tried ws → ns ≡ counts_at tried ws → ((t : List (List ℕ)) → made ≡ command_by verb dims (numbers_of cs ++ map pos ns) t) → read_form (form word places (command_by verb dims)) ws ≡ Reading.Do made
-does word verb dims places tried named ws cs ns made row e d h k a b makes =
+pub does : (word : List ℕ) (verb : Verb) (dims : ℕ) (places read : List Place) (ws : List (List ℕ)) (cs : List Coord) (ns : List ℕ) (made : Command) → places ≡ places_by verb dims → read ≡ places → pointwise number_fits read ws ≡ true → pointwise name_fits read ws ≡ true → cs ≡ coords_at read ws → ns ≡ counts_at read ws → ((t : List (List ℕ)) → made ≡ command_by verb dims (numbers_of cs ++ map pos ns) t) → read_form (form word places (command_by verb dims)) ws ≡ Reading.Do made
+does word verb dims places read ws cs ns made row e h k a b makes =
     let fits : pointwise number_fits places ws ≡ true = rw e at h in
-    let names : pointwise name_fits places ws ≡ true = rw d at k in
+    let names : pointwise name_fits places ws ≡ true = rw e at k in
     let same = same-of verb dims places ws cs ns row fits (rw e at a) (rw e at b) in
     rw (fits, names) (ap Reading.Do (ap (λ n. command_by verb dims n (texts places ws)) same ∙ sym (makes (texts places ws))))

@@ -1,8 +1,9 @@
--- What a form asks of the numbers in its places, and how many coordinates a command has.
-use Rattle.std.specs.Prelude.{◌≡◌, ◌<◌, ◌+◌, ◌^◌, ℕ, List, [], length, slice_index}
+-- What a form asks of the numbers in its places, the fault of words there, and how many coordinates a command has.
+use Rattle.std.specs.Prelude.{◌≡◌, ◌<◌, ◌+◌, ◌^◌, ℕ, Bool, true, false, List, [], length, slice_index}
 use Rattle.std.specs.Prelude.{Option, Some, None, Result, Ok, Err}
 use Rattle.ph_script.specs.declared.coords.Coord.{Coord}
 use Rattle.ph_script.specs.declared.command.Bad.{Bad}
+use Rattle.ph_script.specs.declared.command.Bad.TheVariants.{Word, Count as BadCount, Number, Name}
 use Rattle.ph_script.specs.declared.command.Command.{Command}
 use Rattle.ph_script.specs.declared.command.Command.TheVariants as by
 use Rattle.ph_script.specs.declared.forms.Verb.{Verb}
@@ -17,6 +18,13 @@ IsFit Del dims coords counts = (length coords ≡ dims) × (counts ≡ [])
 IsFit Relocate dims coords counts = (length coords ≡ dims + dims) × (counts ≡ [])
 IsFit Count dims coords counts = Unit {0}
 IsFit Clear dims coords counts = Unit {0}
+
+-- the fault of words in places, by whether all numbers and all names fit
+abbrev pub IsFault : Bad → Bool → Bool → Type 0
+IsFault Number numbers names = numbers ≡ false
+IsFault Name numbers names = (numbers ≡ true) × (names ≡ false)
+IsFault Word numbers names = ⊥
+IsFault BadCount numbers names = ⊥
 
 -- each point of the command has so many coordinates
 abbrev pub HasDims : ℕ → Command → Type 0

@@ -6,6 +6,7 @@ mod coords;
 mod forms;
 mod lines;
 mod numbers;
+mod places;
 mod read;
 mod reply;
 #[cfg(test)]

@@ -1,49 +1,21 @@
 //! The reading of a line.
 ghost use Rattle.std.specs.Prelude.{◌≡◌, ◌≤◌, ◌++◌, ℕ, List, length, map, pos, MatchResult, IfOk};
-ghost use Rattle.std.specs.Cmp.Lexicographic.{pointwise};
 ghost use Rattle.ph_specs.specs.Lines.{words};
-ghost use Rattle.ph_specs.specs.Command.{name_fits, read_form as by_form, Reading};
+ghost use Rattle.ph_specs.specs.Command.{read_form as by_form, Reading};
 ghost use Rattle.ph_specs.specs.Built.{built_words};
-ghost use Rattle.ph_script.specs.Forms.{place_of, places_of, form_of, IsRow, command_by};
+ghost use Rattle.ph_script.specs.Forms.{places_of, form_of, IsRow, command_by};
 ghost use Rattle.ph_script.specs.Meaning.{reading_of, command_of, bad_reply, numbers_of};
 ghost use Rattle.ph_script.specs.Fit.{IsFit, HasDims, ReadsDims};
 
 use crate::command::{Bad, Command};
 use crate::coords::Coords;
-use crate::forms::{Form, Place, Verb, find_form, spread};
-use crate::numbers::{Numbers, read_numbers};
+use crate::forms::{Form, Verb, find_form, spread};
+use crate::numbers::Numbers;
+use crate::places::read_places;
 use crate::words::{count_words, next_word};
 
 // The first byte of a comment.
 const COMMENT: u8 = b'#';
-
-// Whether a word is a fixed word as its place asks; no other place asks for one.
-fn is_named(place: Place, word: &[u8]) -> bool
-    ensures { result ≡ name_fits (place_of place) word.now }
-{
-    match place {
-        Place::Fixed(fixed) => word == fixed,
-        Place::Coordinate | Place::UpTo(_) => true,
-    }
-}
-
-// The same of the words of a text, as many words as places.
-fn are_named(places: &[Place], text: &[u8]) -> bool
-    requires { length (words text.now) ≡ length places.now }
-    ensures { result ≡ pointwise name_fits (map place_of places.now) (words text.now) }
-{
-    let mut rest = text;
-    for place in places {
-        let Some((word, behind)) = next_word(rest) else {
-            return false;
-        };
-        if !is_named(*place, word) {
-            return false;
-        }
-        rest = behind;
-    }
-    true
-}
 
 // The command that the words behind a form's word make, as many words as the form has places.
 fn read_form(form: &Form, dims: usize, text: &[u8]) -> Result<Command, Bad>
@@ -55,14 +27,8 @@ fn read_form(form: &Form, dims: usize, text: &[u8]) -> Result<Command, Bad>
         (λ b. by_form (form_of dims form.now) (words text.now) ≡ Reading.Refused (bad_reply b)) }
     ensures dims { IfOk result (λ c. HasDims dims c) }
 {
-    let list = spread(form.places, dims);
-    let places = list.as_slice();
-    let Some(numbers) = read_numbers(places, text) else {
-        return Err(Bad::Number);
-    };
-    if !are_named(places, text) {
-        return Err(Bad::Name);
-    }
+    let places = spread(form.places, dims);
+    let numbers = read_places(places.as_slice(), text)?;
     Ok(command(form.verb, dims, numbers))
 }
 

@@ -1,12 +1,13 @@
--- One more word in its place, and what it adds to the numbers.
+-- One more word in its place: whether it fits, and what it adds to the numbers.
 use Rattle.std.proofs.Common.{◌≡◌, ℕ, ◌+◌, ◌≤◌, List, ◌∷◌, ◌++◌, length, Bool, true, refl, ap, append_assoc, arith, length-append}
-use Rattle.std.specs.Prelude.{Option, Some, None}
+use Rattle.std.specs.Prelude.{◌&&◌, Option, Some, None}
 use Rattle.std.specs.List.{sum_by}
 use Rattle.std.specs.Option.{option_to_list}
 use Rattle.std.specs.Cmp.Lexicographic.{pointwise}
+use Rattle.std.proofs.Math.Bool.{and_assoc}
 use Rattle.std.proofs.lemmas.List.Sums.{sum_by-cons}
 use Rattle.ph_coord.specs.Spelling.{number_of}
-use Rattle.ph_specs.specs.Command.{Place, number_fits}
+use Rattle.ph_specs.specs.Command.{Place, number_fits, name_fits}
 use Rattle.ph_specs.specs.Command.Place.{Coordinate, Below, CursorName, FileName, OneOf}
 use Rattle.ph_script.specs.Numbers.{coord_of, count_of, coords_in, counts_in, coords_at, counts_at, coords_room, counts_room}
 
@@ -18,6 +19,9 @@ pub record Next (places : List Place) (ws : List (List ℕ)) (place : Place) (mo
 module _ {places : List Place} {ws : List (List ℕ)} {place : Place} {more : List Place} {word : List ℕ} {behind : List (List ℕ)} where
   pub fits-next : Next places ws place more word behind → number_fits place word ≡ true → (all : Bool) → pointwise number_fits places ws ≡ all → pointwise number_fits more behind ≡ all
   fits-next n t all h = rw (n.place_is, n.word_is, t) at h
+
+  pub named-next : Next places ws place more word behind → (old new all : Bool) → new ≡ (old && name_fits place word) → (old && pointwise name_fits places ws) ≡ all → (new && pointwise name_fits more behind) ≡ all
+  named-next n old new all e h = rw (e, and_assoc) (rw (n.place_is, n.word_is) at h)
 
   pub coords-next : Next places ws place more word behind → (xs ys all : List _) → ys ≡ xs ++ coords_in place word → xs ++ coords_at places ws ≡ all → ys ++ coords_at more behind ≡ all
   coords-next n xs ys all e h = rw (e, append_assoc xs (coords_in place word) (coords_at more behind)) (rw (n.place_is, n.word_is) at h)

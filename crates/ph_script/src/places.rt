@@ -1,0 +1,86 @@
+//! The words of a line, read in the places of a form.
+ghost use Rattle.std.specs.Prelude.{◌≡◌, ◌≤◌, ◌+◌, ◌++◌, length, map, true, false, MatchResult};
+ghost use Rattle.std.specs.List.{sum_by};
+ghost use Rattle.std.specs.Cmp.Lexicographic.{pointwise};
+ghost use Rattle.arrayvec.specs.ArrayVec.{array_vec_len};
+ghost use Rattle.ph_specs.specs.Lines.{words};
+ghost use Rattle.ph_specs.specs.Command.{number_fits, name_fits};
+ghost use Rattle.ph_script.specs.Forms.{place_of};
+ghost use Rattle.ph_script.specs.Numbers.{coords_in, counts_in, coords_at, counts_at, coords_room, counts_room};
+ghost use Rattle.ph_script.specs.Fit.{IsFault};
+
+use crate::command::Bad;
+use crate::forms::Place;
+use crate::numbers::{MOST_COORDINATES, Numbers, read_coord, read_count};
+use crate::words::next_word;
+use arrayvec::ArrayVec;
+
+// Reads a word in its place: a number, which is then among the numbers, or a fixed word.
+fn read_word(place: Place, word: &[u8], numbers: &mut Numbers) -> Result<(), Bad>
+    requires coords { array_vec_len numbers.old.coords + coords_room (place_of place) ≤ MOST_COORDINATES }
+    requires counts { array_vec_len numbers.old.counts + counts_room (place_of place) ≤ 2 }
+    ensures fits { MatchResult result
+        (λ _. (number_fits (place_of place) word.now ≡ true) × (name_fits (place_of place) word.now ≡ true))
+        (λ b. IsFault b (number_fits (place_of place) word.now) (name_fits (place_of place) word.now)) }
+    ensures coords { number_fits (place_of place) word.now ≡ true → numbers.new.coords.items ≡ numbers.old.coords.items ++ coords_in (place_of place) word.now }
+    ensures counts { number_fits (place_of place) word.now ≡ true → numbers.new.counts.items ≡ numbers.old.counts.items ++ counts_in (place_of place) word.now }
+{
+    match place {
+        Place::Coordinate => {
+            let Some(coord) = read_coord(word) else {
+                return Err(Bad::Number);
+            };
+            numbers.coords.push(coord);
+        }
+        Place::UpTo(most) => {
+            let Some(count) = read_count(word, most) else {
+                return Err(Bad::Number);
+            };
+            numbers.counts.push(count);
+        }
+        Place::Fixed(fixed) => {
+            if word != fixed {
+                return Err(Bad::Name);
+            }
+        }
+    }
+    Ok(())
+}
+
+/// The numbers among the words of a text, as many words as places, if each word is as its place asks.
+///
+/// A wrong number is told before a wrong name, wherever they stand.
+pub(crate) fn read_places(places: &[Place], text: &[u8]) -> Result<Numbers, Bad>
+    requires size { length (words text.now) ≡ length places.now }
+    requires coords { sum_by coords_room (map place_of places.now) ≤ MOST_COORDINATES }
+    requires counts { sum_by counts_room (map place_of places.now) ≤ 2 }
+    ensures { MatchResult result
+        (λ n. (pointwise number_fits (map place_of places.now) (words text.now) ≡ true)
+        × (pointwise name_fits (map place_of places.now) (words text.now) ≡ true)
+        × (n.coords.items ≡ coords_at (map place_of places.now) (words text.now))
+        × (n.counts.items ≡ counts_at (map place_of places.now) (words text.now)))
+        (λ b. IsFault b (pointwise number_fits (map place_of places.now) (words text.now)) (pointwise name_fits (map place_of places.now) (words text.now))) }
+{
+    let mut numbers = Numbers {
+        coords: ArrayVec::new(),
+        counts: ArrayVec::new(),
+    };
+    let mut names_fit = true;
+    let mut rest = text;
+    for place in places {
+        let Some((word, behind)) = next_word(rest) else {
+            unreachable!();
+        };
+        rest = behind;
+        match read_word(*place, word, &mut numbers) {
+            Ok(()) => {}
+            // A wrong number may come behind it.
+            Err(Bad::Name) => names_fit = false,
+            Err(bad) => return Err(bad),
+        }
+    }
+    if !names_fit {
+        return Err(Bad::Name);
+    }
+    Ok(numbers)
+}
