@@ -1,5 +1,5 @@
 -- The forms of the code's table in the definitions, and the search among forms.
-use Rattle.std.specs.Prelude.{◌≡◌, ℕ, ◌+◌, ◌-◌, ◌^◌, ◌==◌, Bool, true, if◌then◌else◌, List, [], ◌∷◌, ◌++◌, length, take, drop, codes, bytes_eq, ℤ}
+use Rattle.std.specs.Prelude.{◌≡◌, ℕ, ◌+◌, ◌-◌, ◌^◌, ◌==◌, Bool, true, if◌then◌else◌, List, [], ◌∷◌, ◌++◌, length, replicate, take, drop, codes, bytes_eq, ℤ}
 use Rattle.ph_specs.specs.Command.{Command as Asked, Place as Asks, Form as Spelling, form, count, value, fixed, coordinates, number_at}
 use Rattle.ph_specs.specs.Command.Command.{Begin as AskBegin, Put as AskPut, Get as AskGet, Del as AskDel, Relocate as AskRelocate, Count as AskCount, Clear as AskClear}
 use Rattle.ph_specs.specs.Command.Place.{Coordinate as AsksCoordinate, Below}
@@ -13,6 +13,7 @@ use Rattle.ph_script.specs.declared.forms.Places.TheVariants.{Coordinates, UpTo 
 use Rattle.ph_script.specs.declared.forms.Place.{Place}
 use Rattle.ph_script.specs.declared.forms.Place.TheVariants.{Coordinate, UpTo, Fixed}
 use Rattle.ph_script.specs.declared.forms.Form.{Form}
+use Rattle.ph_script.specs.declared.spread.Spread.{Spread}
 
 abbrev pub place_of : Place → Asks
 place_of Coordinate = AsksCoordinate
@@ -29,6 +30,10 @@ abbrev pub places_of : ℕ → List Places → List Asks
 places_of dims [] = []
 places_of dims (group ∷ []) = group_of dims group
 places_of dims (group ∷ next ∷ more) = group_of dims group ++ places_of dims (next ∷ more)
+
+-- the places that are still to come
+abbrev pub spread_of : Spread → List Asks
+spread_of s = replicate s.times (place_of s.place) ++ places_of s.dims s.groups.now
 
 -- the places of a command, and what it makes of the numbers there
 abbrev pub places_by : Verb → ℕ → List Asks

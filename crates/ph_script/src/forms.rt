@@ -1,16 +1,14 @@
 //! The forms of the commands, and the search for the form of a line.
 ghost use Rattle.std.specs.Prelude.{◌≡◌, ◌≤◌, ◌+◌, ◌++◌, ℕ, false, length, map, replicate, MatchResult};
 ghost use Rattle.std.specs.List.{AllByRecursion};
-ghost use Rattle.arrayvec.specs.ArrayVec.{array_vec_len};
 ghost use Rattle.ph_specs.specs.Built.{built_forms};
 ghost use Rattle.ph_script.specs.Forms.{place_of, group_of, places_of, form_of, IsRow, picked};
 ghost use Rattle.ph_script.specs.Forms.Picked.{The, Wrong};
 
 use crate::command::Bad;
-use arrayvec::ArrayVec;
 
-/// The most places that a form has, at 16 dimensions.
-pub(crate) const MOST_PLACES: usize = 32;
+// The most places that a form has, at 16 dimensions.
+const MOST_PLACES: usize = 32;
 
 /// A command, by its form.
 #[derive(Clone, Copy)]
@@ -37,9 +35,8 @@ pub(crate) enum Places {
 }
 
 /// What one word is read as.
-#[derive(Clone, Copy, Default)]
+#[derive(Clone, Copy)]
 pub(crate) enum Place {
-    #[default]
     Coordinate,
     /// A number from 0 to this one.
     UpTo(u128),
@@ -116,8 +113,8 @@ fn forms() -> &'static [Form]
 }
 
 impl Places {
-    // How many places there are.
-    fn count(self, dims: usize) -> usize
+    /// How many places there are.
+    pub(crate) fn count(self, dims: usize) -> usize
         ensures { result ≡ length (group_of dims self) }
     {
         match self {
@@ -126,8 +123,8 @@ impl Places {
         }
     }
 
-    // What each of them is.
-    fn each(self) -> Place
+    /// What each of them is.
+    pub(crate) fn each(self) -> Place
         ensures { (dims : ℕ) → replicate (length (group_of dims self)) (place_of result) ≡ group_of dims self }
     {
         match self {
@@ -167,25 +164,4 @@ pub(crate) fn find_form(word: &[u8], count: usize, dims: usize) -> Result<&'stat
         }
     }
     Err(if known { Bad::Count } else { Bad::Word })
-}
-
-/// The places of a form, one by one.
-pub(crate) fn spread(places: &[Places], dims: usize) -> ArrayVec<Place, MOST_PLACES>
-    requires { length (places_of dims places.now) ≤ MOST_PLACES }
-    ensures { map place_of result.items ≡ places_of dims places.now }
-{
-    let mut list = ArrayVec::new();
-    for group in places {
-        push_times(&mut list, group.each(), group.count(dims));
-    }
-    list
-}
-
-fn push_times(list: &mut ArrayVec<Place, MOST_PLACES>, place: Place, times: usize)
-    requires { array_vec_len list.old + times ≤ MOST_PLACES }
-    ensures { list.new.items ≡ list.old.items ++ replicate times place }
-{
-    for _i in 0..times {
-        list.push(place);
-    }
 }

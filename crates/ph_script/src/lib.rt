@@ -9,6 +9,7 @@ mod numbers;
 mod places;
 mod read;
 mod reply;
+mod spread;
 #[cfg(test)]
 mod tests;
 mod words;

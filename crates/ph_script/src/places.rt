@@ -1,17 +1,18 @@
 //! The words of a line, read in the places of a form.
-ghost use Rattle.std.specs.Prelude.{◌≡◌, ◌≤◌, ◌+◌, ◌++◌, length, map, true, false, MatchResult};
+ghost use Rattle.std.specs.Prelude.{◌≡◌, ◌≤◌, ◌+◌, ◌++◌, length, true, false, MatchResult};
 ghost use Rattle.std.specs.List.{sum_by};
 ghost use Rattle.std.specs.Cmp.Lexicographic.{pointwise};
 ghost use Rattle.arrayvec.specs.ArrayVec.{array_vec_len};
 ghost use Rattle.ph_specs.specs.Lines.{words};
 ghost use Rattle.ph_specs.specs.Command.{number_fits, name_fits};
-ghost use Rattle.ph_script.specs.Forms.{place_of};
+ghost use Rattle.ph_script.specs.Forms.{place_of, spread_of};
 ghost use Rattle.ph_script.specs.Numbers.{coords_in, counts_in, coords_at, counts_at, coords_room, counts_room};
 ghost use Rattle.ph_script.specs.Fit.{IsFault};
 
 use crate::command::Bad;
 use crate::forms::Place;
 use crate::numbers::{MOST_COORDINATES, Numbers, read_coord, read_count};
+use crate::spread::Spread;
 use crate::words::next_word;
 use arrayvec::ArrayVec;
 
@@ -50,16 +51,16 @@ fn read_word(place: Place, word: &[u8], numbers: &mut Numbers) -> Result<(), Bad
 /// The numbers among the words of a text, as many words as places, if each word is as its place asks.
 ///
 /// A wrong number is told before a wrong name, wherever they stand.
-pub(crate) fn read_places(places: &[Place], text: &[u8]) -> Result<Numbers, Bad>
-    requires size { length (words text.now) ≡ length places.now }
-    requires coords { sum_by coords_room (map place_of places.now) ≤ MOST_COORDINATES }
-    requires counts { sum_by counts_room (map place_of places.now) ≤ 2 }
+pub(crate) fn read_places(mut places: Spread, text: &[u8]) -> Result<Numbers, Bad>
+    requires size { length (words text.now) ≡ length (spread_of places) }
+    requires coords { sum_by coords_room (spread_of places) ≤ MOST_COORDINATES }
+    requires counts { sum_by counts_room (spread_of places) ≤ 2 }
     ensures { MatchResult result
-        (λ n. (pointwise number_fits (map place_of places.now) (words text.now) ≡ true)
-        × (pointwise name_fits (map place_of places.now) (words text.now) ≡ true)
-        × (n.coords.items ≡ coords_at (map place_of places.now) (words text.now))
-        × (n.counts.items ≡ counts_at (map place_of places.now) (words text.now)))
-        (λ b. IsFault b (pointwise number_fits (map place_of places.now) (words text.now)) (pointwise name_fits (map place_of places.now) (words text.now))) }
+        (λ n. (pointwise number_fits (spread_of places) (words text.now) ≡ true)
+        × (pointwise name_fits (spread_of places) (words text.now) ≡ true)
+        × (n.coords.items ≡ coords_at (spread_of places) (words text.now))
+        × (n.counts.items ≡ counts_at (spread_of places) (words text.now)))
+        (λ b. IsFault b (pointwise number_fits (spread_of places) (words text.now)) (pointwise name_fits (spread_of places) (words text.now))) }
 {
     let mut numbers = Numbers {
         coords: ArrayVec::new(),
@@ -67,12 +68,12 @@ pub(crate) fn read_places(places: &[Place], text: &[u8]) -> Result<Numbers, Bad>
     };
     let mut names_fit = true;
     let mut rest = text;
-    for place in places {
+    while let Some(place) = places.next_place() {
         let Some((word, behind)) = next_word(rest) else {
             unreachable!();
         };
         rest = behind;
-        match read_word(*place, word, &mut numbers) {
+        match read_word(place, word, &mut numbers) {
             Ok(()) => {}
             // A wrong number may come behind it.
             Err(Bad::Name) => names_fit = false,

@@ -9,9 +9,10 @@ ghost use Rattle.ph_script.specs.Fit.{IsFit, HasDims, ReadsDims};
 
 use crate::command::{Bad, Command};
 use crate::coords::Coords;
-use crate::forms::{Form, Verb, find_form, spread};
+use crate::forms::{Form, Verb, find_form};
 use crate::numbers::Numbers;
 use crate::places::read_places;
+use crate::spread::Spread;
 use crate::words::{count_words, next_word};
 
 // The first byte of a comment.
@@ -27,8 +28,8 @@ fn read_form(form: &Form, dims: usize, text: &[u8]) -> Result<Command, Bad>
         (λ b. by_form (form_of dims form.now) (words text.now) ≡ Reading.Refused (bad_reply b)) }
     ensures dims { IfOk result (λ c. HasDims dims c) }
 {
-    let places = spread(form.places, dims);
-    let numbers = read_places(places.as_slice(), text)?;
+    let places = Spread::new(form.places, dims);
+    let numbers = read_places(places, text)?;
     Ok(command(form.verb, dims, numbers))
 }
 

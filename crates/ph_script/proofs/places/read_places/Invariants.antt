@@ -1,21 +1,24 @@
-use Rattle.std.proofs.Common.{◌≡◌, ◌≤◌, ◌+◌, ◌++◌, drop, map, length}
+use Rattle.std.proofs.Common.{◌≡◌, ◌≤◌, ◌+◌, ◌++◌, length}
 use Rattle.std.specs.Prelude.{◌&&◌}
 use Rattle.std.specs.List.{sum_by}
 use Rattle.std.specs.Cmp.Lexicographic.{pointwise}
 use Rattle.arrayvec.specs.ArrayVec.{array_vec_len}
 use Rattle.ph_specs.specs.Lines.{words}
 use Rattle.ph_specs.specs.Command.{number_fits, name_fits}
-use Rattle.ph_script.specs.Forms.{place_of}
+use Rattle.ph_script.specs.Forms.{spread_of}
 use Rattle.ph_script.specs.Numbers.{coords_at, counts_at, coords_room, counts_room}
 use Rattle.ph_script.proofs.places.read_places.Given as goal
 
 abbrev pub invariant-loop-place : goal.invariant-loop-place
 invariant-loop-place l = record {
-  size : length (words l.rest) ≡ length (drop l.place-index l.places);
-  fits : pointwise number_fits (map place_of (drop l.place-index l.places)) (words l.rest) ≡ pointwise number_fits (map place_of l.places) (words l.text);
-  named : (l.names_fit && pointwise name_fits (map place_of (drop l.place-index l.places)) (words l.rest)) ≡ pointwise name_fits (map place_of l.places) (words l.text);
-  coords : l.numbers.coords.items ++ coords_at (map place_of (drop l.place-index l.places)) (words l.rest) ≡ coords_at (map place_of l.places) (words l.text);
-  counts : l.numbers.counts.items ++ counts_at (map place_of (drop l.place-index l.places)) (words l.rest) ≡ counts_at (map place_of l.places) (words l.text);
-  coords_fit : array_vec_len l.numbers.coords + sum_by coords_room (map place_of (drop l.place-index l.places)) ≤ 32;
-  counts_fit : array_vec_len l.numbers.counts + sum_by counts_room (map place_of (drop l.place-index l.places)) ≤ 2;
+  size : length (words l.rest) ≡ length (spread_of l.places);
+  fits : pointwise number_fits (spread_of l.places) (words l.rest) ≡ pointwise number_fits (spread_of l.initial.places) (words l.text);
+  named : (l.names_fit && pointwise name_fits (spread_of l.places) (words l.rest)) ≡ pointwise name_fits (spread_of l.initial.places) (words l.text);
+  coords : l.numbers.coords.items ++ coords_at (spread_of l.places) (words l.rest) ≡ coords_at (spread_of l.initial.places) (words l.text);
+  counts : l.numbers.counts.items ++ counts_at (spread_of l.places) (words l.rest) ≡ counts_at (spread_of l.initial.places) (words l.text);
+  coords_fit : array_vec_len l.numbers.coords + sum_by coords_room (spread_of l.places) ≤ 32;
+  counts_fit : array_vec_len l.numbers.counts + sum_by counts_room (spread_of l.places) ≤ 2;
 }
+
+abbrev pub decreases-loop-place : goal.decreases-loop-place
+decreases-loop-place l = length (spread_of l.places)

@@ -1,17 +1,16 @@
-use Rattle.std.proofs.Common.{ap, ◌∙◌, map}
+use Rattle.std.proofs.Common.{◌∙◌}
 use Rattle.ph_specs.specs.Lines.{words}
-use Rattle.ph_script.specs.Forms.{place_of}
 use Rattle.ph_script.proofs.ReadPlaces.{fit-of, does}
 use Rattle.ph_script.proofs.read.read_form.Goals as goal
 
 pub command-requires-clause-fit : goal.command-requires-clause-fit
 command-requires-clause-fit c =
     let n = c.in_ok-numbers.ensures in
-    let e = ap (map place_of) c.as_slice.ensures.value ∙ c.spread-places.ensures ∙ c.requires.row c.args.dims in
+    let e = c.new-places.ensures ∙ c.requires.row c.args.dims in
     fit-of c.args.form.now.verb c.args.dims _ (words c.args.text.now) _ _ e n.0 n.2 n.3
 
 pub returns-clause-meaning : goal.returns-clause-meaning
 returns-clause-meaning c =
     let n = c.in_ok-numbers.ensures in
-    let e = ap (map place_of) c.as_slice.ensures.value ∙ c.spread-places.ensures in
+    let e = c.new-places.ensures in
     does c.args.form.now.word.now c.args.form.now.verb c.args.dims _ _ (words c.args.text.now) _ _ _ (c.requires.row c.args.dims) e n.0 n.1 n.2 n.3 c.command.ensures.meaning
