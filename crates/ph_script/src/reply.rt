@@ -1,5 +1,5 @@
 //! Replies and their texts.
-ghost use Rattle.std.specs.Prelude.{◌≡◌, ◌≤◌, ◌∷◌, [], ◌++◌, length, decimal};
+ghost use Rattle.std.specs.Prelude.{◌≡◌, ◌≤◌, ◌+◌, ◌∷◌, [], ◌++◌, length, decimal};
 ghost use Rattle.ph_specs.specs.Reply.{reply_text as text_of_reply};
 ghost use Rattle.ph_script.specs.Meaning.{reply_of};
 
@@ -41,45 +41,37 @@ pub type Text = ArrayString<1024>;
 pub fn reply_text<const D: usize>(r: &Reply<D>) -> Text
     ensures { result.bytes ≡ text_of_reply (reply_of r.now) }
 {
-    match *r {
-        Reply::Opened => plain("opened\n"),
-        Reply::New => plain("new\n"),
-        Reply::Old(value) => numbered("old ", value),
-        Reply::Value(value) => numbered("value ", value),
-        Reply::Absent => plain("none\n"),
-        Reply::Gone(value) => numbered("gone ", value),
-        Reply::Moved => plain("moved\n"),
-        Reply::Taken => plain("taken\n"),
-        Reply::Rows(count) => numbered("count ", count),
-        Reply::Cleared => plain("cleared\n"),
-        Reply::ErrorLong => plain("error long\n"),
-        Reply::ErrorWord => plain("error word\n"),
-        Reply::ErrorCount => plain("error count\n"),
-        Reply::ErrorNumber => plain("error number\n"),
-        Reply::ErrorName => plain("error name\n"),
-        Reply::ErrorDims => plain("error dims\n"),
-        Reply::ErrorRange => plain("error range\n"),
-        Reply::ErrorFull => plain("error full\n"),
-    }
-}
-
-fn plain(line: &str) -> Text
-    requires { length line.now ≤ 100 }
-    ensures { result.bytes ≡ line.now }
-{
     let mut text = ArrayString::new();
-    text.push_str(line);
+    match *r {
+        Reply::Opened => text.push_str("opened\n"),
+        Reply::New => text.push_str("new\n"),
+        Reply::Old(value) => push_numbered(&mut text, "old ", value),
+        Reply::Value(value) => push_numbered(&mut text, "value ", value),
+        Reply::Absent => text.push_str("none\n"),
+        Reply::Gone(value) => push_numbered(&mut text, "gone ", value),
+        Reply::Moved => text.push_str("moved\n"),
+        Reply::Taken => text.push_str("taken\n"),
+        Reply::Rows(count) => push_numbered(&mut text, "count ", count),
+        Reply::Cleared => text.push_str("cleared\n"),
+        Reply::ErrorLong => text.push_str("error long\n"),
+        Reply::ErrorWord => text.push_str("error word\n"),
+        Reply::ErrorCount => text.push_str("error count\n"),
+        Reply::ErrorNumber => text.push_str("error number\n"),
+        Reply::ErrorName => text.push_str("error name\n"),
+        Reply::ErrorDims => text.push_str("error dims\n"),
+        Reply::ErrorRange => text.push_str("error range\n"),
+        Reply::ErrorFull => text.push_str("error full\n"),
+    }
     text
 }
 
 // A word with its space, and a number.
-fn numbered(word: &str, number: u64) -> Text
-    requires { length word.now ≤ 100 }
-    ensures { result.bytes ≡ word.now ++ decimal number ++ 10 ∷ [] }
+fn push_numbered(text: &mut Text, word: &str, number: u64)
+    requires { length text.old.bytes + length word.now ≤ 1000 }
+    ensures { text.new.bytes ≡ text.old.bytes ++ word.now ++ decimal number ++ 10 ∷ [] }
 {
-    let mut text = plain(word);
+    text.push_str(word);
     let mut buffer = Buffer::new();
     text.push_str(buffer.format(number));
     text.push_str("\n");
-    text
 }
