@@ -1,2 +1,5 @@
 pub mod Halves
 pub mod Digits
+pub mod Filled
+pub mod Points
+pub mod Signed

@@ -3,12 +3,14 @@
 
 mod dims;
 mod number;
+mod offsets;
 mod order;
 mod point;
 mod width;
 
 pub use dims::{Dim, Dims};
 pub use number::{Number, read_number};
+pub use offsets::offsets_of;
 pub use order::z_before;
 pub use point::{Point, Row};
 pub use width::Width;

@@ -1,9 +1,11 @@
 //! Numbers by their spelling.
-ghost use Rattle.std.specs.Prelude.{◌≡◌, ◌<◌, ◌^◌};
+ghost use Rattle.std.specs.Prelude.{◌≡◌, ◌<◌, ◌^◌, ◌&&◌, ◌==◌, not, length};
 ghost use Rattle.std.specs.List.{list_all};
 ghost use Rattle.std.specs.Char.{is_ascii_digit};
 ghost use Rattle.std.specs.Option.{SomeIff};
 ghost use Rattle.ph_coord.specs.Spelling.{number_of, signed_of, size_of};
+ghost use Rattle.ph_coord.specs.declared.number.Number.TheVariants.{Whole};
+ghost use Rattle.ph_coord.specs.Narrow.{Narrows};
 
 /// What a text spells.
 #[derive(Clone, Copy, Debug, PartialEq, Eq)]
@@ -30,15 +32,66 @@ pub fn read_number(text: &[u8]) -> Number
 fn read_digits(minus: bool, digits: &[u8]) -> Number
     ensures { result ≡ signed_of minus digits.now }
 {
-    if digits.is_empty() || !are_digits(digits) {
+    if digits.is_empty() {
         return Number::Not;
     }
-    match size(digits) {
-        Some(size) => Number::Whole {
-            minus: minus && size != 0,
-            size,
-        },
+    match narrow_size(digits) {
+        Narrow::Size(size) => whole(minus, u128::from(size)),
+        Narrow::Other => Number::Not,
+        Narrow::Long => read_long(minus, digits),
+    }
+}
+
+// What one pass over digits finds, with 64 bits for their number.
+#[derive(Clone, Copy)]
+enum Narrow {
+    Size(u64),
+    // There is another byte than a digit.
+    Other,
+    // The number may be too large for that.
+    Long,
+}
+
+// What is read in 64 bits stays below this until the last digit, so that ten times it and a digit do not overflow.
+const NARROW: u64 = 1 << 60;
+
+fn narrow_size(digits: &[u8]) -> Narrow
+    ensures { Narrows digits.now result }
+{
+    let mut size = 0u64;
+    for digit in digits {
+        if !digit.is_ascii_digit() {
+            return Narrow::Other;
+        }
+        if NARROW <= size {
+            return Narrow::Long;
+        }
+        size = size * 10 + u64::from(*digit - b'0');
+    }
+    Narrow::Size(size)
+}
+
+// The same as `read_digits`, for digits of any number.
+fn read_long(minus: bool, digits: &[u8]) -> Number
+    requires { 0 < length digits.now }
+    ensures { result ≡ signed_of minus digits.now }
+{
+    if !are_digits(digits) {
+        return Number::Not;
+    }
+    match wide_size(digits) {
+        Some(size) => whole(minus, size),
         None => Number::Wide,
+    }
+}
+
+// The number of a sign and a size.
+fn whole(minus: bool, size: u128) -> Number
+    ensures { result ≡ Whole (minus && not (size == 0)) size }
+{
+    Number::Whole {
+        minus: minus && size != 0,
+        size,
     }
 }
 
@@ -49,7 +102,7 @@ fn are_digits(text: &[u8]) -> bool
 }
 
 // The number that digits spell, if it is below 2^128.
-fn size(digits: &[u8]) -> Option<u128>
+fn wide_size(digits: &[u8]) -> Option<u128>
     ensures { SomeIff result (size_of digits.now < 2 ^ 128) (size_of digits.now) }
 {
     let mut size = 0u128;
@@ -72,11 +125,19 @@ mod tests {
     #[test]
     fn spellings(rt: HostRuntime) {
         let whole = |minus, size| Number::Whole { minus, size };
-        let cases: [(&[u8], Number); 9] = [
+        let cases: [(&[u8], Number); 14] = [
             (b"0", whole(false, 0)),
             (b"-0", whole(false, 0)),
             (b"+007", whole(false, 7)),
             (b"-12", whole(true, 12)),
+            (b"1152921504606846976", whole(false, 1152921504606846976)),
+            (b"-11529215046068469769", whole(true, 11529215046068469769)),
+            (b"18446744073709551616", whole(false, 18446744073709551616)),
+            (
+                b"000000000000000000000000000000000000000000000001",
+                whole(false, 1),
+            ),
+            (b"1152921504606846976x", Number::Not),
             (
                 b"340282366920938463463374607431768211455",
                 whole(false, u128::MAX),

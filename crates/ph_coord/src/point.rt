@@ -1,9 +1,10 @@
 //! Points and rows.
-ghost use Rattle.std.specs.Prelude.{◌≡◌, ◌<◌, length, slice_get, Some, IsTrue};
-ghost use Rattle.std.specs.List.{list_all};
+ghost use Rattle.std.specs.Prelude.{◌≡◌, ◌<◌, ◌^◌, length, map, slice_get, Some, IsTrue};
+ghost use Rattle.std.specs.List.{list_all, AllByRecursion as Each};
 ghost use Rattle.std.specs.Option.{SomeIff};
-ghost use Rattle.ph_specs.specs.Coordinate.{fits, IsPoint};
+ghost use Rattle.ph_specs.specs.Coordinate.{coordinate, fits, offset, IsPoint};
 
+use crate::offsets::offsets_of;
 use crate::width::Width;
 use std::marker::Model;
 
@@ -24,6 +25,13 @@ impl<const D: usize> Model for Point<D> {
 }
 
 impl<const D: usize> Point<D> {
+    /// The point of these coordinates, whatever width they have.
+    pub fn new(coords: [i64; D]) -> Point<D>
+        ensures { result ≡ coords.entry }
+    {
+        Point { coords }
+    }
+
     /// The point of these coordinates, if they are D numbers of the width.
     pub fn from_slice(w: Width, c: &[i64]) -> Option<Point<D>>
         ensures { SomeIff result (IsPoint w D c.now) c.now }
@@ -34,6 +42,29 @@ impl<const D: usize> Point<D> {
         let mut coords = [0; D];
         coords.copy_from_slice(c);
         Some(Point { coords })
+    }
+
+    /// The point whose coordinates lie so far above the least one.
+    pub fn from_offsets(w: Width, offsets: &[u64]) -> Point<D>
+        requires dims { length offsets.now ≡ D }
+        requires small { Each (λ x. x < 2 ^ w) offsets.now }
+        ensures value { result ≡ map (coordinate w) offsets.now }
+        ensures point { IsPoint w D result }
+    {
+        let _bits = w.bits();
+        let mut coords = [0; D];
+        for i in 0..D {
+            coords[i] = w.coordinate(offsets[i]);
+        }
+        Point { coords }
+    }
+
+    /// How far each coordinate lies above the least one.
+    pub fn offsets(&self, w: Width) -> [u64; D]
+        requires { IsPoint w D self.now }
+        ensures { result ≡ map (offset w) self.now }
+    {
+        offsets_of(w, &self.coords)
     }
 
     /// The coordinate in dimension i, counted from 0.
@@ -75,4 +106,20 @@ impl<const D: usize> Model for Row<D> {
     ghost view = { λ r. record { point = r.point; value = r.value } };
 
     ghost inverse = { λ r. record { point = r.point; value = r.value } };
+}
+
+#[cfg(test)]
+mod tests {
+    use super::*;
+    use std::test::Fail;
+
+    #[test]
+    fn offsets_and_back(rt: HostRuntime) -> Result<(), Fail> {
+        let w = Width::new(4).ok_or("no width")?;
+        let p: Point<3> = Point::from_slice(w, &[-8, 0, 7]).ok_or("no point")?;
+        let offsets: [u64; 4] = offsets_of(w, p.as_slice());
+        assert_eq!(rt; offsets, [0, 8, 15, 0]);
+        assert_eq!(rt; Point::from_offsets(w, &offsets[..3]), p);
+        Ok(())
+    }
 }

@@ -1,7 +1,7 @@
 //! The width of a coordinate in bits.
-ghost use Rattle.std.specs.Prelude.{IsTrue, ◌≡◌, ◌<◌, ◌≤◌, ◌^◌, ◌-◌};
+ghost use Rattle.std.specs.Prelude.{IsTrue, ◌≡◌, ◌+◌, ◌<◌, ◌≤◌, ◌^◌, ◌-◌};
 ghost use Rattle.std.specs.Option.{SomeIff};
-ghost use Rattle.ph_specs.specs.Coordinate.{half, least, greatest, offset, fits};
+ghost use Rattle.ph_specs.specs.Coordinate.{half, least, greatest, offset, coordinate, fits};
 
 use std::marker::Model;
 
@@ -75,10 +75,20 @@ impl Width {
         (c + self.half() as i64) as u64
     }
 
+    /// The coordinate that lies so far above the least one.
+    pub fn coordinate(&self, offset: u64) -> i64
+        requires { offset < 2 ^ self.now }
+        ensures { result ≡ coordinate self.now offset }
+    {
+        let half = self.half() as i64;
+        offset as i64 - half
+    }
+
     // Half of the numbers that a coordinate can be.
-    #[tactic(auto, using(crate::proofs::Halves::half_limits))]
+    #[tactic(auto, using(crate::proofs::Halves::half_limits, crate::proofs::Halves::half_twice))]
     fn half(&self) -> u64
         ensures value { result ≡ half self.now }
+        ensures twice { result + result ≡ 2 ^ self.now }
         ensures some { 1 ≤ result }
         ensures limit { result < 2 ^ 62 }
     {

@@ -1,8 +1,5 @@
 pub mod Views
-pub mod Filled
-pub mod Within
-pub mod Shifts
-pub mod Points
+pub mod Zeros
 pub mod Groups
 pub mod Fronts
 pub mod Chains

@@ -1,27 +1,22 @@
 -- A walk over lawful entries gathers their rows.
 use Rattle.std.proofs.Common.{◌≡◌, ℕ, zero, suc, ◌+◌, ◌<◌, ◌≤◌, refl, sym, ◌∙◌, ap, arith, List, [], ◌∷◌, ◌++◌, length, get_or, take, drop, replicate, append_assoc, drop-cons, add-one}
 use Rattle.std.specs.Prelude.{Option}
-use Rattle.std.specs.List.{AllByRecursion as Each}
 use Rattle.std.proofs.Math.Pow.{pow_mono}
+use Rattle.std.proofs.Math.Seq.{take-append_seam}
 use Rattle.std.proofs.lemmas.Nat.{pow_pos}
 use Rattle.std.proofs.lemmas.List.{append-nil, length-replicate}
 use Rattle.ph_specs.specs.Table.{Row}
-use Rattle.ph_specs.specs.Node.{Entries, end, point, child, Entry, What, value, node, PlainNode, listed, in_front, chained}
+use Rattle.ph_specs.specs.Node.{Entries, Entry, What, value, node, PlainNode, listed, in_front, chained}
 use Rattle.ph_specs.specs.Shape.{shape}
-use Rattle.ph_specs.specs.Lawful.{IsBody, HasZerosFrom, IsLawfulFrom, IsLawful, put_together, rows_behind, rows}
+use Rattle.ph_specs.specs.Lawful.{IsBody, HasZerosFrom, IsLawful, put_together, rows_behind, rows}
 use Rattle.ph_specs.proofs.lemmas.Joined.{length-put_together, zeros-put_together}
 use Rattle.ph_specs.proofs.laws.EntryLists.{chained-listed}
 use Rattle.ph_specs.proofs.laws.LawfulRows.{put_together-small}
 use Rattle.ph_specs.proofs.laws.Unique.{shape-rows, zeros_known}
+use Rattle.ph_specs.specs.PutTree.{body_above}
+use Rattle.ph_digits.proofs.Cuts.{above-zeros}
 use Rattle.ph_shape.specs.Bodies.{AreBelow}
-use Rattle.ph_shape.specs.Known.{IsKnown, IsLawfulEntry, what_rows, entry_rows, IsOnly}
-
--- lawful entries are lawful one by one
-pub entries-lawful : (dims level least : ℕ) (e : Entries) → IsLawfulFrom dims level least e → Each (IsLawfulEntry dims level) (listed e)
-entries-lawful dims level least end h = tt
-entries-lawful dims level least (point a body v rest) h = ((h.2, tt), entries-lawful dims level (a + 1) rest h.3)
-entries-lawful dims level least (child a body below chain rest) h =
-    ((h.2, (h.3, h.4, h.6)), entries-lawful dims level (a + 1) rest h.7)
+use Rattle.ph_shape.specs.Known.{IsKnown, what_rows, entry_rows, IsOnly}
 
 -- ---- rows, entry by entry
 
@@ -80,6 +75,13 @@ known-child w dims level c a above body l m h k z = record {
   zeros = zeros-put_together level c a above body m h.zeros z;
   small = small-known w dims level a above body l h k;
 }
+
+-- an entry is joined to what is known in the front of an array
+pub joined-front : (d level a : ℕ) (new above body rest : List ℕ) → new ≡ put_together level a (body_above level above) body → HasZerosFrom level above → length above ≡ d → length body ≡ d → take d (new ++ rest) ≡ put_together level a above body
+joined-front d level a new above body rest e z h k =
+    let all : new ≡ put_together level a above body = e ∙ ap (λ t. put_together level a t body) (sym (above-zeros level above z)) in
+    let long : length (put_together level a above body) ≡ d = length-put_together level a above body (h ∙ sym k) ∙ h in
+    ap (λ t. take d (t ++ rest)) all ∙ ap (λ n. take n (put_together level a above body ++ rest)) (sym long) ∙ take-append_seam (put_together level a above body) rest
 
 take-zeros : (n k : ℕ) → n ≤ k → take {A = ℕ} n (replicate k 0) ≡ replicate n 0
 take-zeros zero k l = refl

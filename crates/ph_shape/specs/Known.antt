@@ -1,10 +1,10 @@
 -- What a walk down a tree knows, and what it gathers.
-use Rattle.std.specs.Prelude.{◌≡◌, ℕ, ◌<◌, List, [], ◌∷◌, length, map, Option, Some, None}
+use Rattle.std.specs.Prelude.{◌≡◌, ℕ, List, [], ◌∷◌, length, map, Option, Some, None}
 use denote.Ref.{Bor}
 use Rattle.ph_specs.specs.Coordinate.{coordinate}
 use Rattle.ph_specs.specs.Table.{Row, row}
 use Rattle.ph_specs.specs.Node.{Entry, What, value, node, PlainNode}
-use Rattle.ph_specs.specs.Lawful.{IsBody, HasZerosFrom, IsLawfulFrom, IsLawful, put_together, rows_behind, rows}
+use Rattle.ph_specs.specs.Lawful.{HasZerosFrom, IsLawful, put_together, rows_behind, rows}
 use Rattle.ph_shape.specs.Bodies.{AreBelow}
 
 -- digits that are known above a level, and zeros from it down
@@ -12,15 +12,6 @@ pub record IsKnown (width dims level : ℕ) (digits : List ℕ) : Type 0 where
   pub long : length digits ≡ dims
   pub zeros : HasZerosFrom level digits
   pub small : AreBelow width digits
-
--- what lawful entries of a node at a level hold
-abbrev pub IsLawfulWhat : ℕ → ℕ → List ℕ → What → Type 0
-IsLawfulWhat dims level body (value v) = Unit {0}
-IsLawfulWhat dims level body (node n) =
-    (n.level < level) × HasZerosFrom n.level body × IsLawfulFrom dims n.level 0 n.chain
-
-abbrev pub IsLawfulEntry : ℕ → ℕ → Entry → Type 0
-IsLawfulEntry dims level e = IsBody dims level e.body × IsLawfulWhat dims level e.body e.what
 
 -- the rows of one entry
 abbrev pub what_rows : ℕ → List ℕ → What → List Row

@@ -4,7 +4,6 @@
 //! A tree is at most as many nodes deep as its coordinates have bits, so that no call recurses deeper than 62 nodes.
 #![tactic(auto)]
 
-mod digits;
 mod plain;
 mod rows;
 mod shape;

@@ -1,14 +1,14 @@
 //! The rows of a tree.
 ghost use Rattle.std.specs.Prelude.{◌≡◌, ◌<◌, ◌≤◌, ◌++◌, map, take, IfOk, OnOk};
-ghost use Rattle.ph_specs.specs.Lawful.{IsLawful, IsLawfulFrom, put_together, rows as the_rows, rows_behind};
-ghost use Rattle.ph_shape.specs.Known.{IsKnown, IsLawfulEntry, entry_rows, lent, IsOnly};
+ghost use Rattle.ph_specs.specs.Lawful.{IsLawful, IsLawfulEntry, IsLawfulFrom, put_together, rows as the_rows, rows_behind};
+ghost use Rattle.ph_shape.specs.Known.{IsKnown, entry_rows, lent, IsOnly};
 ghost use Rattle.ph_shape.specs.View.{entry_of};
 
 use crate::NoMemory;
-use crate::digits::joined;
 use crate::plain::{EntryOf, HeldOf, Plain, PlainOf};
 use crate::space::Space;
 use ph_coord::{Dim, Row, Width};
+use ph_digits::join;
 use std::alloc::Global;
 
 /// The rows of a lawful tree in Z-order: no other lawful tree has them.
@@ -89,5 +89,8 @@ fn digits_behind<P: Space>(w: Width, level: u32, entry: &EntryOf<P>, above: &[u6
     ensures { take P.D result ≡ put_together level entry.now.addr (take P.D above.now) (take P.D entry.now.body) }
 {
     let _bits = w.bits();
-    joined(P::D, level, entry.addr, above, &entry.body)
+    let dims = P::D;
+    let mut digits = *above;
+    join(&mut digits[..dims], level, entry.addr, &entry.body[..dims]);
+    digits
 }

@@ -10,8 +10,8 @@ ghost use Rattle.ph_specs.specs.ZOrder.{address};
 ghost use Rattle.ph_zorder.specs.Compared.{IsTopDifference};
 ghost use Rattle.ph_shape.specs.Bodies.{filled, AreBelow};
 
-use crate::digits::{below_place, between_places, coordinates};
-use ph_coord::{Dim, Dims, Point, Row, Width};
+use ph_coord::{Dim, Dims, Point, Row, Width, offsets_of};
+use ph_digits::{body_above, body_below};
 
 pub(crate) trait Space: Dims {
     type Row: Drop;
@@ -72,19 +72,17 @@ impl<const D: usize> Space for Dim<D> {
     }
 
     fn point_body(w: Width, row: &Row<D>, place: u32) -> [u64; 16] {
-        below_place(w, row.point.as_slice(), place)
+        body_below(place, offsets_of(w, row.point.as_slice()))
     }
 
     fn child_body(w: Width, row: &Row<D>, place: u32, low: u32) -> [u64; 16] {
-        between_places(w, row.point.as_slice(), place, low)
+        body_above(low, body_below(place, offsets_of(w, row.point.as_slice())))
     }
 
     fn with_offsets(w: Width, digits: &[u64; 16], value: u64) -> Row<D> {
-        let _bits = w.bits();
-        let coords: [i64; D] = coordinates(w, digits);
-        let Some(point) = Point::from_slice(w, &coords) else {
-            unreachable!()
-        };
-        Row { point, value }
+        Row {
+            point: Point::from_offsets(w, &digits[..D]),
+            value,
+        }
     }
 }

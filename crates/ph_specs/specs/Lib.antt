@@ -33,7 +33,6 @@ pub mod NodeCode
 pub mod NodeSize
 pub mod Reply
 pub mod Command
-pub mod Built
 pub mod Named
 pub mod Csv
 pub mod SavedTable

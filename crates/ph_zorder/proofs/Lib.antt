@@ -1,3 +1,4 @@
-pub mod Places
 pub mod Decided
+pub mod Filled
 pub mod Ordered
+pub mod Sides

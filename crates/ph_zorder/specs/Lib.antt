@@ -1,2 +1,3 @@
 pub mod Compared
-pub mod Differences
+pub mod Fill
+pub mod Sides

@@ -1,10 +1,13 @@
-//! Words of the Z-order (G. M. Morton, 1966): addresses, the place that decides between two points, and their order.
+//! Words of the Z-order (G. M. Morton, 1966): addresses, the place that decides between two points, their order, and the
+//! masks by which a window tells the parts of a region apart.
 #![tactic(auto)]
 
-mod addresses;
 mod order;
+mod regions;
+mod steps;
 #[cfg(test)]
 mod tests;
 
-pub use addresses::address;
-pub use order::{top_difference, z_cmp};
+pub use order::{address, top_difference, z_cmp};
+pub use regions::{Region, masks, offset_masks};
+pub use steps::next_address;

@@ -5,12 +5,13 @@ use Rattle.std.proofs.lemmas.List.{length-map, map-append}
 use Rattle.ph_specs.specs.Coordinate.{coordinate}
 use Rattle.ph_specs.specs.Table.{row, Row}
 use Rattle.ph_specs.specs.Node.{node}
-use Rattle.ph_specs.specs.Lawful.{put_together, rows_behind}
+use Rattle.ph_specs.specs.Lawful.{put_together, rows_behind, IsLawfulEntry, IsLawfulWhat}
+use Rattle.ph_specs.proofs.laws.EntryLists.{entries-lawful}
 use Rattle.ph_shape.specs.Bodies.{AreBelow}
-use Rattle.ph_shape.specs.Known.{IsKnown, IsLawfulEntry, IsLawfulWhat, entry_rows, what_rows}
+use Rattle.ph_shape.specs.Known.{IsKnown, entry_rows, what_rows}
 use Rattle.ph_shape.specs.View.{entry_of, what_of}
 use Rattle.ph_shape.proofs.Fronts.{each-item, item-is}
-use Rattle.ph_shape.proofs.Walk.{entries-lawful, gathered-next, gathered-all, small-known, known-child}
+use Rattle.ph_shape.proofs.Walk.{gathered-next, gathered-all, small-known, known-child}
 use Rattle.ph_shape.proofs.rows.+rows.Goals as goal
 
 pub gather-gather_entry-requires : goal.gather-gather_entry-requires
@@ -34,14 +35,14 @@ gather-returns g t c =
 
 pub gather_entry-with_offsets-requires-clause-small : goal.gather_entry-with_offsets-requires-clause-small
 gather_entry-with_offsets-requires-clause-small g t c =
-    subst (AreBelow c.args.w) (sym c.digits_behind-digits.ensures) (small-known c.args.w g.P.Dims.D c.args.level c.args.entry.now.addr (take g.P.Dims.D c.args.above.now) (take g.P.Dims.D c.args.entry.now.body) c.requires.level c.requires.above c.requires.lawful.0)
+    subst (AreBelow c.args.w) (sym c.digits_behind-digits.ensures) (small-known c.args.w g.P.Dims.D c.args.level c.args.entry.now.addr (take g.P.Dims.D c.args.above.now) (take g.P.Dims.D c.args.entry.now.body) c.requires.level c.requires.above c.requires.lawful.body)
 
 pub gather_entry-gather-requires : goal.gather_entry-gather-requires
 gather_entry-gather-requires g t c κs within =
-    let held : IsLawfulWhat g.P.Dims.D c.args.level (take g.P.Dims.D c.args.entry.now.body) (node c.in-Child.child) = subst (λ h. IsLawfulWhat g.P.Dims.D c.args.level (take g.P.Dims.D c.args.entry.now.body) (what_of h)) c.in-Child.is c.requires.lawful.1 in
-    let known : IsKnown c.args.w g.P.Dims.D c.in-Child.child.level (take g.P.Dims.D c.digits_behind-digits.result) = subst (IsKnown c.args.w g.P.Dims.D c.in-Child.child.level) (sym c.digits_behind-digits.ensures) (known-child c.args.w g.P.Dims.D c.args.level c.in-Child.child.level c.args.entry.now.addr (take g.P.Dims.D c.args.above.now) (take g.P.Dims.D c.args.entry.now.body) c.requires.level held.0 c.requires.above c.requires.lawful.0 held.1) in
+    let held : IsLawfulWhat g.P.Dims.D c.args.level (take g.P.Dims.D c.args.entry.now.body) (node c.in-Child.child) = subst (λ h. IsLawfulWhat g.P.Dims.D c.args.level (take g.P.Dims.D c.args.entry.now.body) (what_of h)) c.in-Child.is c.requires.lawful.held in
+    let known : IsKnown c.args.w g.P.Dims.D c.in-Child.child.level (take g.P.Dims.D c.digits_behind-digits.result) = subst (IsKnown c.args.w g.P.Dims.D c.in-Child.child.level) (sym c.digits_behind-digits.ensures) (known-child c.args.w g.P.Dims.D c.args.level c.in-Child.child.level c.args.entry.now.addr (take g.P.Dims.D c.args.above.now) (take g.P.Dims.D c.args.entry.now.body) c.requires.level held.0 c.requires.above c.requires.lawful.body held.1) in
     let l : c.in-Child.child.level < c.args.w = omega (arith, held.0, c.requires.level) in
-    (omega (arith, held.0, c.decreases), search (rules, within, known, l, held.2))
+    (omega (arith, held.0, c.decreases), search (rules, within, known, l, held.3))
 
 pub gather_entry-returns-in_ok-push-in-Value : goal.gather_entry-returns-in_ok-push-in-Value
 gather_entry-returns-in_ok-push-in-Value g t c =

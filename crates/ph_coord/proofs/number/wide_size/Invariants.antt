@@ -1,0 +1,10 @@
+use Rattle.std.proofs.Common.{◌≡◌, ◌+◌, ◌*◌, ◌-◌, ◌<◌, ◌^◌, drop}
+use Rattle.std.specs.Prelude.{fold}
+use Rattle.ph_coord.specs.Spelling.{size_of}
+use Rattle.ph_coord.proofs.number.wide_size.Given as goal
+
+abbrev pub invariant-loop-digit : goal.invariant-loop-digit
+invariant-loop-digit l = record {
+  value : fold (λ n b. n * 10 + (b - 48)) l.size (drop l.digit-index l.digits) ≡ size_of l.digits;
+  limit : l.size < 2 ^ 128;
+}

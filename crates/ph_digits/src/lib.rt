@@ -1,0 +1,16 @@
+//! The binary digits of words and of lists of words, by shifts and masks.
+//!
+//! Places are counted from 0 for the least digits.
+#![tactic(auto)]
+
+mod bodies;
+mod comparisons;
+mod differences;
+#[cfg(test)]
+mod tests;
+mod words;
+
+pub use bodies::{body_above, body_address, body_below, join};
+pub use comparisons::{is_below, is_between};
+pub use differences::top_difference;
+pub use words::{digit, digits_above, digits_below};
