@@ -10,12 +10,15 @@ use Rattle.ph_specs.proofs.laws.EntryEdits.{IsAbsent, absent-by}
 use Rattle.ph_node.specs.Items.{item_of, what_in}
 use Rattle.ph_node.specs.Kept.{IsKept, IsNodeOf}
 use Rattle.ph_node.specs.Slots.{IsSlot}
+use Rattle.ph_node.specs.Merge.{addr_at}
+use Rattle.ph_node.specs.Places.{place_for}
 use Rattle.ph_node.specs.Split.{IsNode, body_at}
 use Rattle.ph_node.specs.declared.plain.ItemOf.{ItemOf}
 use Rattle.ph_node.specs.declared.plain.HeldOf.{HeldOf}
 use Rattle.ph_node.specs.declared.plain.HeldOf.TheVariants.{Value, Child}
 use Rattle.ph_node.proofs.Keeps.{IsKeptAt, kept-at}
-use Rattle.ph_node.proofs.Places.{position-map, insert-map}
+use Rattle.ph_node.proofs.Merges.{got}
+use Rattle.ph_node.proofs.Places.{place-map, position-map, insert-map}
 
 get-map : {P : Type 0} (d : ℕ) (es : List (ItemOf P)) (i : ℕ) (x : ItemOf P) → i < length es → x ≡ get_or es i x → slice_get (map (item_of d) es) i ≡ Some (item_of d x)
 get-map d [] i x l e = absurd (omega (arith, l))
@@ -98,6 +101,12 @@ module _ {P : Type 0} (d level : ℕ) (es : List (ItemOf P)) (t : PlainNode) (is
 
   pub place_is : (p : Entry → Bool) → position p (entries t) ≡ position (λ e. p (item_of d e)) es
   place_is p = ap (λ u. position p u) entries_are ∙ position-map d p es
+
+  pub place_for_is : (a : ℕ) → place_for a (entries t) ≡ position_or_len (λ e. nat_le a e.addr) es
+  place_for_is a = ap (place_for a) entries_are ∙ place-map d (λ e. nat_le a e.addr) es
+
+  pub addr_is : (i : ℕ) (x : ItemOf P) → i < length (entries t) → x ≡ get_or es i x → addr_at (entries t) i ≡ x.addr
+  addr_is i x l e = (got (entries t) i (item_of d x) (get_is i x l e)).0
 
   pub absent_is : (a : ℕ) → position (has_address a) (entries t) ≡ None → IsAbsent a (map (item_of d) es)
   absent_is a h = subst (IsAbsent a) entries_are (absent-by a (entries t) h)

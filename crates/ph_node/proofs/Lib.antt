@@ -1,7 +1,6 @@
 -- Lemmas on nodes.
-pub mod Bodies
+pub mod Filled
 mod Items
-mod Joins
 mod Keeps
 pub mod Merges
 mod Parts

@@ -1,16 +1,16 @@
 -- The two entries of a child that splits an entry.
 use Rattle.std.proofs.Common.{◌≡◌, ◌≢◌, ℕ, ◌+◌, ◌<◌, List, [], ◌∷◌, map, cond, nat_lt, take, arith, ap, ◌∙◌, subst}
+use Rattle.ph_digits.proofs.Cuts.{is_body-below, address-below, other_address, none_from}
 use Rattle.ph_specs.specs.Node.{Entry, What, value, node, node_of}
 use Rattle.ph_specs.specs.Lawful.{IsBody}
-use Rattle.ph_specs.specs.PutTree.{digits_from, split_place, body_address, body_below}
+use Rattle.ph_specs.specs.PutTree.{digits_from, split_place, body_address, body_below, body_above}
 use Rattle.ph_specs.specs.EntryEdits.{inserted, parted}
 use Rattle.ph_specs.proofs.laws.SplitPlace.{split_place-has}
 use Rattle.ph_node.specs.Items.{item_of, what_in}
 use Rattle.ph_node.specs.Kept.{IsKept}
-use Rattle.ph_node.specs.Split.{entry_below, body_above}
+use Rattle.ph_node.specs.Split.{entry_below}
 use Rattle.ph_node.specs.declared.plain.ItemOf.{ItemOf}
 use Rattle.ph_node.specs.declared.plain.HeldOf.{HeldOf}
-use Rattle.ph_node.proofs.Bodies.{is_body-below, address-below, other_address, none_from}
 use Rattle.ph_node.proofs.Items.{pair-map}
 use Rattle.ph_node.proofs.Keeps.{IsKeptAt, kept-pair}
 

@@ -12,6 +12,7 @@ use Rattle.ph_specs.proofs.laws.Put.{either}
 use Rattle.ph_specs.proofs.laws.EntryEdits.{IsAbsent}
 use Rattle.ph_node.specs.Kept.{AreKept}
 use Rattle.ph_node.specs.Items.{item_of}
+use Rattle.ph_node.specs.Places.{place_for}
 use Rattle.ph_node.specs.declared.plain.ItemOf.{ItemOf}
 use Rattle.ph_node.specs.declared.plain.HeldOf.TheVariants.{Value}
 
@@ -94,9 +95,15 @@ next_some p xs i e l = rw (← e, lt-ltb i (length xs) l) refl
 pub next_none : {X : Type 0} (p : X → Bool) (xs : List X) (i : ℕ) → i ≡ position_or_len p xs → length xs ≤ i → None ≡ position p xs
 next_none p xs i e l = rw (← e, le-ltb i (length xs) l) refl
 
+-- a place is among the entries or behind them
+pub place-within : (a : ℕ) (es : List Entry) → place_for a es ≤ length es
+place-within a [] = omega arith
+place-within a (e ∷ es) =
+    elim (nat_le a e.addr) as (λ b. cond (not b) (1 + place_for a es) 0 ≤ suc (length es)) [ true ↦ omega arith | false ↦ omega (arith, place-within a es) ]
+
 -- ---- seen as entries
 
-place-map : {P : Type 0} (dims : ℕ) (p : Entry → Bool) (es : List (ItemOf P)) → position_or_len p (map (item_of dims) es) ≡ position_or_len (λ e. p (item_of dims e)) es
+pub place-map : {P : Type 0} (dims : ℕ) (p : Entry → Bool) (es : List (ItemOf P)) → position_or_len p (map (item_of dims) es) ≡ position_or_len (λ e. p (item_of dims e)) es
 place-map dims p [] = refl
 place-map dims p (e ∷ es) = ap (λ n. cond (not (p (item_of dims e))) (1 + n) 0) (place-map dims p es)
 

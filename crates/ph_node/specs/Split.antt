@@ -1,7 +1,7 @@
 -- What an edit asks of an entry, and a node with an entry split.
-use Rattle.std.specs.Prelude.{ℕ, zero, suc, ◌+◌, ◌*◌, ◌/◌, ◌^◌, ◌<◌, List, [], ◌∷◌, map}
+use Rattle.std.specs.Prelude.{ℕ, zero, suc, ◌<◌, List, [], ◌∷◌}
 use Rattle.ph_specs.specs.Node.{Entry, What, value, node, PlainNode, node_of, entries}
-use Rattle.ph_specs.specs.PutTree.{body_address, body_below}
+use Rattle.ph_specs.specs.PutTree.{body_address, body_below, body_above}
 use Rattle.ph_specs.specs.EntryEdits.{split_at}
 
 abbrev pub IsNode : What → Type 0
@@ -22,10 +22,6 @@ abbrev pub body_at : List Entry → ℕ → List ℕ
 body_at [] i = []
 body_at (e ∷ es) zero = e.body
 body_at (e ∷ es) (suc i) = body_at es i
-
--- a body above a place, with zeros from the place down
-abbrev pub body_above : ℕ → List ℕ → List ℕ
-body_above place body = map (λ x. x / 2 ^ (place + 1) * 2 ^ (place + 1)) body
 
 -- the entry of a body below a place
 abbrev pub entry_below : ℕ → List ℕ → What → Entry

@@ -1,10 +1,10 @@
-//! Making a node, and edits that take no memory.
+//! Making a node, and edits that cannot want memory.
 
 ghost use Rattle.std.specs.Prelude.{◌≡◌, ◌+◌, ◌^◌, ◌<◌, ◌≤◌, [], ◌∷◌, length, take, OnErr, OnOk, IfOk};
 ghost use Rattle.std.specs.Borrow.{Lends, sem};
 ghost use Rattle.ph_specs.specs.Node.{node_of, entries, node, value};
-ghost use Rattle.ph_specs.specs.Lawful.{IsBody};
 ghost use Rattle.ph_specs.specs.EntryEdits.{what_at, point_entry, with_what, with_child};
+ghost use Rattle.ph_node.specs.Bodies.{IsBodyArray};
 ghost use Rattle.ph_node.specs.Split.{IsNode, IsValue};
 
 use crate::NoMemory;
@@ -30,7 +30,7 @@ impl<P: Dims> NodeOf<P> {
         item.held.slot_mut()
     }
 
-    /// Makes a node of one point entry. Of the body, the first D fields count.
+    /// Makes a node of one point entry.
     pub fn single<C: Ledger>(
         alloc: Global,
         level: u32,
@@ -43,7 +43,7 @@ impl<P: Dims> NodeOf<P> {
         requires few { P.D ≤ 16 }
         requires low { level ≤ 61 }
         requires address { addr < 2 ^ P.D }
-        requires body { IsBody P.D level (take P.D body) }
+        requires body { IsBodyArray P.D level body }
         ensures ok { IfOk result (λ n. n ≡ node_of level (point_entry addr (take P.D body) v ∷ [])) }
         ensures cost { OnOk result (changes.new ≡ changes.old + 1) }
         ensures spared { OnErr result (changes.new ≡ changes.old) }
@@ -62,7 +62,7 @@ impl<P: Dims> NodeOf<P> {
         })
     }
 
-    /// Gives point entry `i` another value. Takes no memory.
+    /// Gives point entry `i` another value.
     pub fn set_value<C: Ledger>(&mut self, i: usize, v: u64, changes: &mut Steps<C>)
         requires within { i < length (entries self.old) }
         requires point { IsValue (what_at (entries self.old) i) }

@@ -3,11 +3,11 @@
 //!
 //! The number of dimensions is a type, [`Dims`], since a type that leads back to itself takes no const
 //! parameter; [`Node`], [`NodeRef`], [`Entry`], [`What`] and [`Slot`] are the names at a number.
-//! A node is read through [`NodeOf::visit`] alone, and each edit is counted.
+//! The level and the entries of a node are read through [`NodeOf::visit`] alone. Each call that edits a node counts its
+//! changes; that a node behind a `&mut` is swapped for another is not counted.
 #![tactic(auto)]
 
 mod adds;
-mod digits;
 mod dissolves;
 mod edits;
 mod plain;
@@ -18,7 +18,6 @@ mod splits;
 #[cfg(test)]
 mod tests;
 
-pub use digits::{body_above, body_address, body_below};
 pub use ph_coord::{Dim, Dims};
 pub use plain::{Node, NodeOf, Slot, SlotOf};
 pub use reads::{Entry, EntryOf, NodeRef, NodeRefOf, What, WhatOf};

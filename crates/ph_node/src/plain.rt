@@ -4,7 +4,7 @@ use ph_coord::{Dim, Dims};
 use std::marker::{Model, PhantomData};
 
 /// A node: a level from 0 to 61, and entries with rising addresses below 2^D. The fields of an entry's
-/// body are below 2^level.
+/// body are below 2^level, and the numbers behind them zeros.
 #[cycle(node)]
 #[derive(Drop)]
 pub struct NodeOf<P: Dims> {
@@ -51,11 +51,11 @@ impl<P: Dims> Model for NodeOf<P> {
     ghost use Rattle.std.specs.Prelude.{map};
     ghost use Rattle.ph_specs.specs.NodeSize.{node_size};
     ghost use Rattle.ph_node.specs.Items.{item_of};
-    ghost use Rattle.ph_node.specs.Kept.{IsKept};
+    ghost use Rattle.ph_node.specs.Stored.{IsStored};
 
     ghost view = { λ a. node_of a.level (map (item_of P.D) a.items.items) };
 
-    ghost invariant = { λ a. IsKept P.D a.level (map (item_of P.D) a.items.items) };
+    ghost invariant = { λ a. IsStored P.D a.level a.items.items };
 
     ghost size = { node_size };
 

@@ -1,16 +1,16 @@
 //! An entry less, and a child of two entries whose place one of them takes. Neither takes memory.
 
-ghost use Rattle.std.specs.Prelude.{◌≡◌, ◌+◌, ◌-◌, ◌<◌, ◌≤◌, Some, length, take, slice_get};
+ghost use Rattle.std.specs.Prelude.{◌≡◌, ◌+◌, ◌-◌, ◌<◌, ◌≤◌, Some, length, slice_get};
 ghost use Rattle.ph_specs.specs.Node.{node_of, entries};
-ghost use Rattle.ph_specs.specs.Lawful.{IsBody};
 ghost use Rattle.ph_specs.specs.EntryEdits.{what_at, without};
+ghost use Rattle.ph_node.specs.Bodies.{IsBodyArray};
 ghost use Rattle.ph_node.specs.Items.{item_of, what_in};
 ghost use Rattle.ph_node.specs.Split.{IsValue, body_at};
 ghost use Rattle.ph_node.specs.Merge.{IsPair, level_held, entries_held, merge_node};
 
-use crate::digits::body_joined;
 use crate::plain::{HeldOf, ItemOf, NodeOf, SlotOf};
 use ph_coord::Dims;
+use ph_digits::join;
 use ph_steps::Steps;
 use std::mem::replace;
 use std::sync::ledger::Ledger;
@@ -43,7 +43,12 @@ impl<P: Dims> NodeOf<P> {
         let item = &mut self.items[i];
         let held = replace(&mut item.held, HeldOf::Value(0));
         let (level, other) = other_of(held, j);
-        item.body = body_joined(P::D, level, other.addr, &item.body, &other.body);
+        join(
+            &mut item.body[..P::D],
+            level,
+            other.addr,
+            &other.body[..P::D],
+        );
         item.held = other.held;
     }
 }
@@ -55,7 +60,7 @@ fn other_of<P: Dims>(held: HeldOf<P>, j: usize) -> (u32, ItemOf<P>)
     ensures level { result.0 ≡ level_held (what_in held) }
     ensures low { result.0 ≤ 61 }
     ensures item { slice_get (entries_held (what_in held)) (1 - j) ≡ Some (item_of P.D result.1) }
-    ensures body { IsBody P.D result.0 (take P.D result.1.body) }
+    ensures body { IsBodyArray P.D result.0 result.1.body }
 {
     match held {
         HeldOf::Value(_) => unreachable!(),

@@ -2,16 +2,16 @@
 
 ghost use Rattle.std.specs.Prelude.{◌≡◌, ◌≢◌, ◌+◌, ◌<◌, ◌≤◌, ◌++◌, ◌∷◌, [], length, take, OnErr, OnOk, vec_len, vec_capacity, nat_lt, if◌then◌else◌};
 ghost use Rattle.ph_specs.specs.Node.{entries};
-ghost use Rattle.ph_specs.specs.Lawful.{IsBody};
 ghost use Rattle.ph_specs.specs.PutTree.{split_place};
 ghost use Rattle.ph_specs.specs.EntryEdits.{what_at};
+ghost use Rattle.ph_node.specs.Bodies.{IsBodyArray, IsFilled};
 ghost use Rattle.ph_node.specs.Items.{item_of, what_in};
 ghost use Rattle.ph_node.specs.Split.{IsBelow, body_at, entry_below, split_node};
 
 use crate::NoMemory;
-use crate::digits::{body_above, body_address, body_below};
 use crate::plain::{HeldOf, ItemOf, NodeOf, SlotOf};
 use ph_coord::Dims;
+use ph_digits::{body_above, body_address, body_below};
 use ph_steps::Steps;
 use std::marker::PhantomData;
 use std::mem::replace;
@@ -20,8 +20,7 @@ use std::sync::ledger::Ledger;
 impl<P: Dims> NodeOf<P> {
     /// Splits entry `i` at a level: it becomes a child there that holds what the entry held, and a point
     /// with this body, given by its digits below the node's level. The level is the greatest at which the
-    /// two bodies differ. Of the body, the first D fields count. The child's memory is taken before the
-    /// first edit.
+    /// two bodies differ. May want memory for the child.
     pub fn split<C: Ledger>(
         &mut self,
         i: usize,
@@ -32,7 +31,7 @@ impl<P: Dims> NodeOf<P> {
     ) -> Result<(), NoMemory>
         requires within { i < length (entries self.old) }
         requires lower { level < self.old.level }
-        requires body { IsBody P.D self.old.level (take P.D body) }
+        requires body { IsBodyArray P.D self.old.level body }
         requires differ { body_at (entries self.old) i ≢ take P.D body }
         requires place { split_place self.old.level (body_at (entries self.old) i) (take P.D body) ≡ level }
         requires above { IsBelow level (what_at (entries self.old) i) }
@@ -64,7 +63,9 @@ impl<P: Dims> NodeOf<P> {
 fn item_below<P: Dims>(place: u32, body: [u64; 16], held: HeldOf<P>) -> ItemOf<P>
     requires place { place < 64 }
     requires few { P.D ≤ 16 }
-    ensures { item_of P.D result ≡ entry_below place (take P.D body) (what_in held) }
+    requires filled { IsFilled P.D body }
+    ensures entry { item_of P.D result ≡ entry_below place (take P.D body) (what_in held) }
+    ensures filled { IsFilled P.D result.body }
 {
     ItemOf {
         addr: body_address(place, &body[..P::D]),

@@ -55,7 +55,7 @@ fn outcome<V: Ledger, C: Ledger>(
     let mut visits: Steps<V> = Steps::new(visits);
     let mut changes: Steps<C> = Steps::new(changes);
     let mut node: Node<2> = NodeOf::single(alloc, 5, 2, OLD, 70, &mut changes)?;
-    node.add(1, BESIDE, 71, &mut changes)?;
+    node.add(0, 1, BESIDE, 71, &mut changes)?;
     node.set_value(0, 72, &mut changes);
     node.split(1, 3, NEAR, 73, &mut changes)?;
     node.split(1, 4, FAR, 74, &mut changes)?;
@@ -101,7 +101,7 @@ fn removals<V: Ledger, C: Ledger>(
     let mut visits: Steps<V> = Steps::new(visits);
     let mut changes: Steps<C> = Steps::new(changes);
     let mut node: Node<2> = NodeOf::single(alloc, 5, 2, OLD, 70, &mut changes)?;
-    node.add(1, BESIDE, 71, &mut changes)?;
+    node.add(0, 1, BESIDE, 71, &mut changes)?;
     node.split(1, 3, NEAR, 73, &mut changes)?;
     node.merge(1, 0, &mut changes);
     let root = node.visit(&mut visits);

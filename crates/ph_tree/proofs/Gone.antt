@@ -141,12 +141,12 @@ pub record Merges (w : ℕ) (p : List ℤ) (t : PlainNode) (i j v : ℕ) : Type 
   pub found : find_node w t p ≡ Some v
 
 module _ {dims w o : ℕ} {p : List ℤ} {t : PlainNode} {found : StepOf PlainNode} (k : IsStepAt dims w p t found o) where
-  pub absent_del : found ≡ Absent → t ≡ del_node w t p
+  pub absent_del : {i : ℕ} → found ≡ Absent i → t ≡ del_node w t p
   absent_del is = sym (del_node-none w t p (step_as k is).0)
 
-  pub other_del : {i : ℕ} {body : List ℕ} → found ≡ Other i body → t ≡ del_node w t p
+  pub other_del : {i : ℕ} → found ≡ Other i → t ≡ del_node w t p
   other_del {i = i} is =
-      let s = step_as k is in sym (other_del_by w dims p t k.lawful i s.0 s.0.what s.1 refl s.3)
+      let s = step_as k is in sym (other_del_by w dims p t k.lawful i s.0 s.0.what s.1 refl s.2)
 
   module _ {i v : ℕ} (is : found ≡ Same i v) where
     same_own : IsOwn w p t i v
@@ -159,7 +159,7 @@ module _ {dims w o : ℕ} {p : List ℤ} {t : PlainNode} {found : StepOf PlainNo
     same_many = own_many w dims p t k.lawful i v same_own
 
   module _ {i : ℕ} {m : NodeRefOf PlainNode} (is : found ≡ Below i m) where
-    abbrev nearer : IsStep dims w p t (Below i m) o
+    abbrev nearer : IsStep w p t (Below i m) o
     nearer = step_as k is
 
     below_lawful : IsLawfulChild dims t.level nearer.0 (shown m)

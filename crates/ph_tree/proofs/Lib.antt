@@ -4,7 +4,6 @@ mod Gone
 mod Offsets
 mod Shifted
 mod Steps
-mod Tops
 mod Trees
 mod Walks
 mod Ways

@@ -1,21 +1,20 @@
 -- Bodies and addresses, cut from the offsets of a point.
-use Rattle.std.proofs.Common.{◌≡◌, ℕ, suc, ◌+◌, ◌*◌, ◌/◌, ◌%◌, ◌^◌, ◌<◌, ◌≤◌, List, [], ◌∷◌, ◌++◌, length, take, map, refl, ap, sym, ◌∙◌, subst, true, eqb-true, get_or, slice_set, add-one}
-use Rattle.std.proofs.lemmas.List.{map_more}
-use Rattle.std.proofs.Math.Seq.{take-suc-set}
+use Rattle.std.proofs.Common.{◌≡◌, ℕ, suc, ◌+◌, ◌-◌, ◌*◌, ◌/◌, ◌%◌, ◌^◌, ◌≤◌, List, [], ◌∷◌, length, take, drop, replicate, map, refl, ap, sym, ◌∙◌, subst, true, eqb-true}
 use Rattle.std.specs.Prelude.{ℤ}
 use Rattle.std.specs.List.{list_all}
 use Rattle.std.proofs.lemmas.Bool.{and_parts}
+use Rattle.ph_digits.proofs.Cuts.{take-below, is_body-below}
 use Rattle.ph_specs.specs.Coordinate.{offset, coordinate, fits, is_point}
 use Rattle.ph_specs.specs.ZOrder.{address, address_from}
-use Rattle.ph_specs.specs.Shape.{digits_below, digits_between}
+use Rattle.ph_specs.specs.Shape.{digits_below}
 use Rattle.ph_specs.specs.Lawful.{IsBody}
 use Rattle.ph_specs.specs.PutTree.{body_address, body_address_from, body_below}
 use Rattle.ph_specs.proofs.laws.Order.{offset_small}
 use Rattle.ph_specs.proofs.lemmas.Joined.{offsets, offsets-coordinate}
 use Rattle.ph_specs.proofs.lemmas.PointDigits.{point-whole}
 use Rattle.ph_specs.proofs.lemmas.Splits.{below-offsets}
-use Rattle.ph_node.specs.Split.{body_above}
-use Rattle.ph_node.proofs.Bodies.{take-below, take-above, is_body-below}
+use Rattle.ph_node.specs.Bodies.{IsBodyArray}
+use Rattle.ph_node.proofs.Filled.{filled-below, filled-behind}
 use Rattle.ph_tree.specs.Key.{Key, key, IsKey}
 
 address-from : (start place w : ℕ) (p : List ℤ) → body_address_from start place (offsets w p) ≡ address_from start w p place
@@ -36,8 +35,8 @@ pub point-fits : (w dims : ℕ) (p : List ℤ) → is_point w dims p ≡ true �
 point-fits w dims p h = (and_parts _ _ h).1
 
 -- the offsets of a point make a key, and the point is given back
-pub made : (w dims : ℕ) (p : List ℤ) (os : List ℕ) → 1 ≤ dims → dims ≤ 16 → 1 ≤ w → w ≤ 62 → is_point w dims p ≡ true → take (length p) os ≡ offsets w p → IsKey dims w os
-made w dims p os a b l u h e =
+pub made : (w dims : ℕ) (p : List ℤ) (os : List ℕ) → 1 ≤ dims → dims ≤ 16 → 1 ≤ w → w ≤ 62 → is_point w dims p ≡ true → take (length p) os ≡ offsets w p → drop (length p) os ≡ replicate (16 - length p) 0 → IsKey dims w os
+made w dims p os a b l u h e f =
     let long : length p ≡ dims = point-long w dims p h in
     let body : IsBody (length p) w (offsets w p) = is_body-offsets w p l (point-fits w dims p h) in
     record {
@@ -45,7 +44,7 @@ made w dims p os a b l u h e =
       few = b;
       wide = l;
       narrow = u;
-      body = subst (λ n. IsBody n w (take n os)) long (subst (IsBody (length p) w) (sym e) body);
+      body = subst (λ n. IsBodyArray n w os) long (record { fields = subst (IsBody (length p) w) (sym e) body; filled = filled-behind (length p) os f });
     }
 
 pub given_back : (w dims : ℕ) (p : List ℤ) (os : List ℕ) → is_point w dims p ≡ true → take (length p) os ≡ offsets w p → map (coordinate w) (take dims os) ≡ p
@@ -68,16 +67,8 @@ module _ (dims w : ℕ) (os : List ℕ) (k : Key) (is : key dims w os ≡ k) whe
   pub below_is : (level : ℕ) → take dims (body_below level os) ≡ digits_below k.width level k.point
   below_is level = take-below level dims os ∙ ap (body_below level) offsets_are ∙ sym (below-offsets k.width level k.point)
 
-  pub body_is : (level : ℕ) → IsKey dims w os → IsBody dims level (take dims (body_below level os))
-  body_is level h = subst (IsBody dims level) (sym (take-below level dims os)) (is_body-below dims level (take dims os) h.body.0)
-
-pub between_is : (dims w level low : ℕ) (p : List ℤ) (body : List ℕ) → take dims body ≡ digits_below w level p → take dims (body_above low body) ≡ digits_between w level low p
-between_is dims w level low p body e = take-above low dims body ∙ ap (body_above low) e
-
--- one offset more
-pub offset-more : (w i : ℕ) (os : List ℕ) (cs : List ℤ) (o : ℕ) (c : ℤ) → i < length os → i < length cs → take i os ≡ map (offset w) (take i cs) → o ≡ offset w c → c ≡ get_or cs i c → take (i + 1) (slice_set os i o) ≡ map (offset w) (take (i + 1) cs)
-offset-more w i os cs o c l k e f g =
-    ap (λ n. take n (slice_set os i o)) (add-one i) ∙ take-suc-set os i o l
-    ∙ ap (λ u. u ++ o ∷ []) e
-    ∙ ap (λ n. map (offset w) (take i cs) ++ n ∷ []) (f ∙ ap (offset w) g)
-    ∙ sym (map_more (offset w) cs i c k)
+  pub body_is : (level : ℕ) → IsKey dims w os → IsBodyArray dims level (body_below level os)
+  body_is level h = record {
+    fields = subst (IsBody dims level) (sym (take-below level dims os)) (is_body-below dims level (take dims os) h.body.fields.0);
+    filled = filled-below dims level os h.body.filled;
+  }

@@ -1,25 +1,27 @@
 -- What one node says of a point, and what an edit makes of it, by the laws of the definitions.
-use Rattle.std.proofs.Common.{◌≡◌, ◌≢◌, ℕ, zero, suc, ◌+◌, ◌*◌, ◌/◌, ◌^◌, ◌<◌, ◌≤◌, List, [], ◌∷◌, length, map, Bool, true, false, refl, arith, ap, sym, ◌∙◌, subst, inl, inr}
+use Rattle.std.proofs.Common.{◌≡◌, ◌≢◌, ℕ, zero, suc, ◌+◌, ◌*◌, ◌/◌, ◌^◌, ◌<◌, List, [], ◌∷◌, length, map, Bool, true, false, refl, arith, ap, sym, ◌∙◌, subst, inl, inr}
 use Rattle.std.specs.Prelude.{ℤ, Some, None, slice_get, position, unwrap_or}
-use Rattle.std.specs.List.{AllByRecursion as Each}
 use Rattle.std.proofs.lemmas.Bool.{cases_lt}
-use Rattle.std.proofs.Math.Pow.{pow_mono}
+use Rattle.std.proofs.lemmas.List.Quantifiers.{position-Some}
+use Rattle.ph_digits.specs.Differences.{IsTopDifference}
+use Rattle.ph_digits.proofs.Cuts.{none_from}
+use Rattle.ph_specs.specs.Coordinate.{offset}
 use Rattle.ph_specs.specs.ZOrder.{address}
 use Rattle.ph_specs.specs.Node.{Entries, end, point, child, Entry, What, value, node, PlainNode, entries, listed, node_of}
 use Rattle.ph_specs.specs.Shape.{digits_below, digits_between}
-use Rattle.ph_specs.specs.Lawful.{IsBody, HasZerosFrom, IsLawfulFrom}
-use Rattle.ph_specs.specs.PutTree.{same_digits, digits_from, split_place, body_address, body_below, put_node}
+use Rattle.ph_specs.specs.Lawful.{IsBody, IsLawfulFrom}
+use Rattle.ph_specs.specs.PutTree.{same_digits, digits_from, split_place, body_address, body_below, body_above, put_node}
 use Rattle.ph_specs.specs.EntryEdits.{has_address, point_entry, inserted, holding, with_what, with_child, what_at, split_at}
 use Rattle.ph_specs.proofs.lemmas.PointDigits.{same_digits-true, same_digits-false}
-use Rattle.ph_specs.proofs.lemmas.Places.{quotient}
 use Rattle.ph_specs.proofs.lemmas.Joined.{same_from}
+use Rattle.ph_specs.proofs.lemmas.Splits.{below-offsets}
 use Rattle.ph_specs.proofs.laws.EntryLists.{node_of-entries}
 use Rattle.ph_specs.proofs.laws.EntryEdits as laws
 use Rattle.ph_specs.proofs.laws.DelEntries.{IsLawfulChild, lawful-child}
 use Rattle.ph_specs.proofs.laws.SplitPlace.{split_place-is, split_place-whole, address-of-body, below-of-body}
-use Rattle.ph_node.specs.Split.{IsBelow, body_at, body_above, entry_below, split_node}
-use Rattle.ph_node.proofs.Bodies.{none_from}
-use Rattle.ph_tree.specs.Differences.{IsTopDifference}
+use Rattle.ph_node.specs.Merge.{addr_at}
+use Rattle.ph_node.specs.Split.{IsBelow, body_at, entry_below, split_node}
+use Rattle.ph_node.proofs.Merges.{above-zeros}
 use Rattle.ph_tree.specs.Step.{IsAt, IsApart, IsApartAt}
 
 abbrev no_entry : Entry
@@ -27,22 +29,44 @@ no_entry = point_entry 0 [] 0
 
 -- ---- reading
 
-pub at_entry : (w : ℕ) (p : List ℤ) (t : PlainNode) (level a i : ℕ) (x : Entry) → level ≡ t.level → a ≡ address w p level → Some i ≡ position (has_address a) (entries t) → slice_get (entries t) i ≡ Some x → IsAt w p t i x
-at_entry w p t level a i x l d f g = (g, laws.address-found a i (entries t) x (sym f) g ∙ d ∙ ap (address w p) l)
+-- entry i by its parts
+abbrev pub entry_at : List Entry → ℕ → Entry
+entry_at xs i = record { addr = addr_at xs i; body = body_at xs i; what = what_at xs i }
 
-pub same_below : (w level l : ℕ) (p : List ℤ) (xs : List ℕ) (r : Bool) → level ≡ l → r ≡ same_digits xs (digits_below w level p) → r ≡ true → xs ≡ digits_below w l p
-same_below w level l p xs r e f t = same_digits-true xs (digits_below w level p) (sym f ∙ t) ∙ ap (λ k. digits_below w k p) e
+entry_there : (xs : List Entry) (i : ℕ) → i < length xs → slice_get xs i ≡ Some (entry_at xs i)
+entry_there [] i l = absurd (omega (arith, l))
+entry_there (x ∷ xs) zero l = refl
+entry_there (x ∷ xs) (suc i) l = entry_there xs i (omega (arith, l))
 
-pub other_below : (w level l : ℕ) (p : List ℤ) (xs : List ℕ) (r : Bool) → level ≡ l → r ≡ same_digits xs (digits_below w level p) → r ≡ false → xs ≡ digits_below w l p → ⊥
-other_below w level l p xs r e f t s = same_digits-false xs (digits_below w level p) (sym f ∙ t) (s ∙ sym (ap (λ k. digits_below w k p) e))
+pub place_inside : (a i : ℕ) (xs : List Entry) → Some i ≡ position (has_address a) xs → i < length xs
+place_inside a i xs f = (position-Some (has_address a) xs i no_entry (sym f)).0
 
-pub same_between : (w level l low b : ℕ) (p : List ℤ) (xs : List ℕ) (r : Bool) → level ≡ l → low ≡ b → r ≡ same_digits xs (digits_between w level low p) → r ≡ true → xs ≡ digits_between w l b p
-same_between w level l low b p xs r e d f t =
-    same_digits-true xs (digits_between w level low p) (sym f ∙ t) ∙ ap (λ k. digits_between w k low p) e ∙ ap (λ k. digits_between w l k p) d
+-- the entry that a search by the point's address comes to
+pub at_entry : (w : ℕ) (p : List ℤ) (t : PlainNode) (level a i : ℕ) → level ≡ t.level → a ≡ address w p level → Some i ≡ position (has_address a) (entries t) → IsAt w p t i (entry_at (entries t) i)
+at_entry w p t level a i l d f =
+    let g = entry_there (entries t) i (place_inside a i (entries t) f) in
+    (g, laws.address-found a i (entries t) (entry_at (entries t) i) (sym f) g ∙ d ∙ ap (address w p) l)
 
-pub other_between : (w level l low b : ℕ) (p : List ℤ) (xs : List ℕ) (r : Bool) → level ≡ l → low ≡ b → r ≡ same_digits xs (digits_between w level low p) → r ≡ false → xs ≡ digits_between w l b p → ⊥
-other_between w level l low b p xs r e d f t s =
-    same_digits-false xs (digits_between w level low p) (sym f ∙ t) (s ∙ sym (ap (λ k. digits_between w k low p) e ∙ ap (λ k. digits_between w l k p) d))
+-- a body beside the digits of a point, by its offsets
+module _ (w level : ℕ) (p : List ℤ) (xs os : List ℕ) (r : Bool) (given : os ≡ map (offset w) p) where
+  below_point : body_below level os ≡ digits_below w level p
+  below_point = ap (body_below level) given ∙ sym (below-offsets w level p)
+
+  pub same_below : r ≡ same_digits xs (body_below level os) → r ≡ true → xs ≡ digits_below w level p
+  same_below f t = same_digits-true xs (body_below level os) (sym f ∙ t) ∙ below_point
+
+  pub other_below : r ≡ same_digits xs (body_below level os) → r ≡ false → xs ≡ digits_below w level p → ⊥
+  other_below f t s = same_digits-false xs (body_below level os) (sym f ∙ t) (s ∙ sym below_point)
+
+  between_point : (low b : ℕ) → low ≡ b → body_above low (body_below level os) ≡ digits_between w level b p
+  between_point low b d = ap (body_above low) below_point ∙ ap (λ k. digits_between w level k p) d
+
+  pub same_between : (low b : ℕ) → low ≡ b → r ≡ same_digits xs (body_above low (body_below level os)) → r ≡ true → xs ≡ digits_between w level b p
+  same_between low b d f t = same_digits-true xs (body_above low (body_below level os)) (sym f ∙ t) ∙ between_point low b d
+
+  pub other_between : (low b : ℕ) → low ≡ b → r ≡ same_digits xs (body_above low (body_below level os)) → r ≡ false → xs ≡ digits_between w level b p → ⊥
+  other_between low b d f t s =
+      same_digits-false xs (body_above low (body_below level os)) (sym f ∙ t) (s ∙ sym (between_point low b d))
 
 -- ---- an entry of a lawful node
 
@@ -95,11 +119,6 @@ put_absent w p t level a body v l d b n =
     ∙ sym (laws.put_node-absent w t p v (subst (λ k. position (has_address (address w p k)) (entries t) ≡ None) l n))
 
 -- ---- an entry is split
-
-above-zeros : (l : ℕ) (xs : List ℕ) → HasZerosFrom l xs → xs ≡ body_above l xs
-above-zeros l [] h = refl
-above-zeros l (x ∷ xs) h =
-    ap (λ n. n ∷ xs) (quotient x (2 ^ (l + 1)) h.0) ∙ ap {B = List ℕ} (λ u. x / 2 ^ (l + 1) * 2 ^ (l + 1) ∷ u) (above-zeros l xs h.1)
 
 above-digits : (l : ℕ) (xs : List ℕ) → body_above l xs ≡ map (λ n. n * 2 ^ (l + 1)) (digits_from (l + 1) xs)
 above-digits l [] = refl
@@ -171,13 +190,13 @@ pub record Splits (w dims : ℕ) (p : List ℤ) (t : PlainNode) (i place : ℕ) 
   pub over : IsBelow place (what_at (entries t) i)
   pub put : (v : ℕ) → split_node t i place body v ≡ put_node w t p v
 
-pub splits : {w dims level : ℕ} {p : List ℤ} {t : PlainNode} {i place : ℕ} (old : List ℕ) {body : List ℕ} → IsLawfulFrom dims t.level 0 t.chain → IsApartAt w p t i old → level ≡ t.level → IsBody dims level body → body ≡ digits_below w level p → IsTopDifference old body place → Splits w dims p t i place body
-splits {w = w} {dims = dims} {p = p} {t = t} {i = i} {place = place} old {body = body} ok (x, at, b, a) l body_ok digits top =
+pub splits : {w dims level : ℕ} {p : List ℤ} {t : PlainNode} {i place : ℕ} {body : List ℕ} → IsLawfulFrom dims t.level 0 t.chain → IsApartAt w p t i → level ≡ t.level → IsBody dims level body → body ≡ digits_below w level p → IsTopDifference (body_at (entries t) i) (digits_below w t.level p) place → Splits w dims p t i place body
+splits {w = w} {dims = dims} {p = p} {t = t} {i = i} {place = place} {body = body} ok (x, at, a) l body_ok digits top =
     let k : IsBody dims t.level body = subst (λ n. IsBody dims n body) l body_ok in
     let e : body ≡ digits_below w t.level p = digits ∙ ap (λ n. digits_below w n p) l in
     let here : body_at (entries t) i ≡ x.body = body_got (entries t) i x at.0 in
     let n : IsBody dims t.level (digits_below w t.level p) = subst (IsBody dims t.level) e k in
-    let d : IsTopDifference x.body (digits_below w t.level p) place = subst (λ u. IsTopDifference x.body u place) e (subst (λ u. IsTopDifference u body place) (sym b) top) in
+    let d : IsTopDifference x.body (digits_below w t.level p) place = subst (λ u. IsTopDifference u (digits_below w t.level p) place) here top in
     record {
       inside = within (entries t) i x at.0;
       under = lower w dims p t i x at ok n place d;
@@ -188,12 +207,23 @@ splits {w = w} {dims = dims} {p = p} {t = t} {i = i} {place = place} old {body =
       put = λ v. ap (λ u. split_node t i place u v) e ∙ put_split w dims p t i x at ok n place d a v;
     }
 
--- the words of two bodies differ, and are words
-pub words_differ : (w dims : ℕ) (p : List ℤ) (t : PlainNode) (i : ℕ) {level : ℕ} {old body : List ℕ} → IsLawfulFrom dims t.level 0 t.chain → IsApartAt w p t i old → level ≡ t.level → IsBody dims level body → body ≡ digits_below w level p → old ≢ body
-words_differ w dims p t i {body = body} ok (x, at, b, a) l k digits s =
-    let e : body ≡ digits_below w t.level p = digits ∙ ap (λ n. digits_below w n p) l in
-    differs w dims p t i x at ok (subst (IsBody dims t.level) e (subst (λ n. IsBody dims n body) l k)) a (b ∙ s ∙ e)
+-- the digits of a point below a node, as a body of its level
+pub record IsPointBelow (w dims level : ℕ) (p : List ℤ) (t : PlainNode) (body : List ℕ) : Type 0 where
+  pub level_is : level ≡ t.level
+  pub is_body : IsBody dims level body
+  pub digits : body ≡ digits_below w level p
 
-pub are_words : (level : ℕ) (xs : List ℕ) → level ≤ 64 → Each (λ x. x < 2 ^ level) xs → Each (λ x. x < 2 ^ 64) xs
-are_words level [] l h = tt
-are_words level (x ∷ xs) l h = let g : 2 ^ level ≤ 2 ^ 64 = pow_mono {i = level} {j = 64} l in (omega (arith, h.0, g), are_words level xs l h.1)
+module _ {w dims level : ℕ} {p : List ℤ} {t : PlainNode} {body : List ℕ} (b : IsPointBelow w dims level p t body) where
+  below_is : body ≡ digits_below w t.level p
+  below_is = b.digits ∙ ap (λ n. digits_below w n p) b.level_is
+
+  -- they differ from the body of an entry of which the point is no part
+  pub bodies_differ : (i : ℕ) → IsLawfulFrom dims t.level 0 t.chain → IsApartAt w p t i → body_at (entries t) i ≡ body → ⊥
+  bodies_differ i ok (x, at, a) s =
+      differs w dims p t i x at ok (subst (IsBody dims t.level) below_is (subst (λ n. IsBody dims n body) b.level_is b.is_body)) a (sym (body_got (entries t) i x at.0) ∙ s ∙ below_is)
+
+  pub top_there : (i place : ℕ) → IsTopDifference (body_at (entries t) i) body place → IsTopDifference (body_at (entries t) i) (digits_below w t.level p) place
+  top_there i place top = subst (λ u. IsTopDifference (body_at (entries t) i) u place) below_is top
+
+pub apart_inside : (w : ℕ) (p : List ℤ) (t : PlainNode) (i : ℕ) → IsApartAt w p t i → i < length (entries t)
+apart_inside w p t i (x, at, a) = within (entries t) i x at.0

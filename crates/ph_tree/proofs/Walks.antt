@@ -1,6 +1,6 @@
 -- A look-up and an edit by the step that they take at a node.
 use Rattle.std.proofs.Common.{length, ◌≡◌, ◌≢◌, ℕ, zero, suc, ◌+◌, ◌<◌, ◌≤◌, List, [], true, false, cond, refl, arith, ap, sym, ◌∙◌, subst, inl, inr, ne_eqb, eq-eqb, add-zero, zero-add}
-use Rattle.std.specs.Prelude.{Result, Ok, Err, IfOk, IsErrOf, OnOk, OnErr, ℤ, Some, None, Option, slice_get, unwrap_or}
+use Rattle.std.specs.Prelude.{Result, Ok, Err, IfOk, IsErrOf, OnOk, OnErr, IsSome, ℤ, Some, None, Option, slice_get, unwrap_or}
 use Rattle.ph_specs.specs.ZOrder.{address}
 use Rattle.ph_specs.specs.Node.{Entries, end, point, child, Entry, What, value, node, PlainNode, entries, listed, node_of}
 use Rattle.ph_specs.specs.Shape.{digits_below, digits_between}
@@ -19,7 +19,7 @@ use Rattle.ph_table.specs.Rows.{put_answer}
 use Rattle.ph_tree.specs.declared.step.StepOf.{StepOf}
 use Rattle.ph_tree.specs.declared.step.StepOf.TheVariants.{Absent, Same, Below, Other}
 use Rattle.ph_tree.specs.Opened.{opened_below}
-use Rattle.ph_tree.specs.Step.{IsApart, IsStep, opened_for}
+use Rattle.ph_tree.specs.Step.{IsApart, IsApartAt, IsStep, opened_for}
 use Rattle.ph_tree.proofs.Steps.{what_got, within, put_back, same_node}
 
 abbrev pub no_entry : Entry
@@ -76,12 +76,12 @@ opened-at w dims b least (child n body c chain rest) (suc i) x p h g a =
 -- what a step finds in a lawful node, and how many nodes below it are opened
 pub record IsStepAt (dims w : ℕ) (p : List ℤ) (t : PlainNode) (found : StepOf PlainNode) (o : ℕ) : Type 0 where
   pub lawful : IsLawfulFrom dims t.level 0 t.chain
-  pub step : IsStep dims w p t found o
+  pub step : IsStep w p t found o
 
 -- the step is told of the node as it is visited
-pub step_at : {dims w o : ℕ} {p : List ℤ} {s t : PlainNode} {found : StepOf PlainNode} → s ≡ t → IsLawfulFrom dims t.level 0 t.chain → IsStep dims w p s found o → IsStepAt dims w p t found o
+pub step_at : {dims w o : ℕ} {p : List ℤ} {s t : PlainNode} {found : StepOf PlainNode} → s ≡ t → IsLawfulFrom dims t.level 0 t.chain → IsStep w p s found o → IsStepAt dims w p t found o
 step_at {dims = dims} {w = w} {o = o} {p = p} {found = found} e ok h =
-    record { lawful = ok; step = subst (λ u. IsStep dims w p u found o) e h }
+    record { lawful = ok; step = subst (λ u. IsStep w p u found o) e h }
 
 -- what a node has of the child that the point leads to
 pub record IsWayBelow (dims w : ℕ) (p : List ℤ) (t : PlainNode) (i : ℕ) (m : PlainNode) (o : ℕ) : Type 0 where
@@ -94,18 +94,18 @@ pub record IsWayBelow (dims w : ℕ) (p : List ℤ) (t : PlainNode) (i : ℕ) (m
   pub back : with_child t i m ≡ t
 
 module _ {dims w o : ℕ} {p : List ℤ} {t : PlainNode} {found : StepOf PlainNode} (k : IsStepAt dims w p t found o) where
-  pub step_as : {x : StepOf PlainNode} → found ≡ x → IsStep dims w p t x o
-  step_as is = subst (λ u. IsStep dims w p t u o) is k.step
+  pub step_as : {x : StepOf PlainNode} → found ≡ x → IsStep w p t x o
+  step_as is = subst (λ u. IsStep w p t u o) is k.step
 
-  pub absent_found : found ≡ Absent → find_node w t p ≡ None
+  pub absent_found : {i : ℕ} → found ≡ Absent i → find_node w t p ≡ None
   absent_found is = laws.find_node-absent w t p (step_as is).0
 
-  pub absent_opened : found ≡ Absent → opened_below w t.level t.chain p ≡ o
+  pub absent_opened : {i : ℕ} → found ≡ Absent i → opened_below w t.level t.chain p ≡ o
   absent_opened is =
-      opened-absent w t.level t.chain p (laws.absent-by (address w p t.level) (entries t) (step_as is).0) ∙ sym (step_as is).1
+      opened-absent w t.level t.chain p (laws.absent-by (address w p t.level) (entries t) (step_as is).0) ∙ sym (step_as is).2
 
   module _ {i v : ℕ} (is : found ≡ Same i v) where
-    abbrev own : IsStep dims w p t (Same i v) o
+    abbrev own : IsStep w p t (Same i v) o
     own = step_as is
 
     pub same_found : find_node w t p ≡ Some v
@@ -126,7 +126,7 @@ module _ {dims w o : ℕ} {p : List ℤ} {t : PlainNode} {found : StepOf PlainNo
     same_put u = sym (laws.put_node-value w dims t i own.0 v p u k.lawful own.1.0 own.1.1 own.2 own.3)
 
   module _ {i : ℕ} {m : NodeRefOf PlainNode} (is : found ≡ Below i m) where
-    abbrev nearer : IsStep dims w p t (Below i m) o
+    abbrev nearer : IsStep w p t (Below i m) o
     nearer = step_as is
 
     below_what : what_at (entries t) i ≡ node (shown m)
@@ -162,9 +162,12 @@ module _ {dims w o : ℕ} {p : List ℤ} {t : PlainNode} {found : StepOf PlainNo
           back = put_back t i nearer.0 (shown m) nearer.1.0 nearer.2;
         })
 
-  module _ {i : ℕ} {body : List ℕ} (is : found ≡ Other i body) where
-    abbrev other : IsStep dims w p t (Other i body) o
+  module _ {i : ℕ} (is : found ≡ Other i) where
+    abbrev other : IsStep w p t (Other i) o
     other = step_as is
+
+    pub other_apart : IsApartAt w p t i
+    other_apart = (other.0, other.1, other.2)
 
     found_by : (held : What) → other.0.what ≡ held → IsApart w p t.level other.0.body held → find_node w t p ≡ None
     found_by (value u) q a =
@@ -173,7 +176,7 @@ module _ {dims w o : ℕ} {p : List ℤ} {t : PlainNode} {found : StepOf PlainNo
         laws.find_node-child w dims t i other.0 m p k.lawful other.1.0 other.1.1 q ∙ ap (λ z. cond z (find_node w m p) None) (not_same other.0.body (digits_between w t.level m.level p) a)
 
     pub other_found : find_node w t p ≡ None
-    other_found = found_by other.0.what refl other.3
+    other_found = found_by other.0.what refl other.2
 
     opened_as : (held : What) → IsApart w p t.level other.0.body held → opened_by w p t.level other.0.body held ≡ opened_for held
     opened_as (value u) a = refl
@@ -181,7 +184,7 @@ module _ {dims w o : ℕ} {p : List ℤ} {t : PlainNode} {found : StepOf PlainNo
 
     pub other_opened : opened_below w t.level t.chain p ≡ o
     other_opened =
-        opened-at w dims t.level 0 t.chain i other.0 p k.lawful other.1.0 other.1.1 ∙ opened_as other.0.what other.3 ∙ sym other.4
+        opened-at w dims t.level 0 t.chain i other.0 p k.lawful other.1.0 other.1.1 ∙ opened_as other.0.what other.2 ∙ sym other.3
 
 -- ---- what an answer tells
 
@@ -212,6 +215,11 @@ always_err (Err e) p = p
 -- a call that succeeds has no error
 pub no_error : {T E A : Type 0} {x : T} {e : E} → IsErrOf (Ok x) e → A
 no_error h = absurd cc
+
+-- what is there is not nowhere
+pub not_none : {T : Type 0} (o : Option T) → o ≡ None → IsSome o → ⊥
+not_none None e s = cc
+not_none (Some v) e s = cc
 
 -- a value is not the want of one
 pub some_none : {T A : Type 0} {x : T} → Some x ≡ None → A

@@ -1,7 +1,7 @@
 -- A point as the bodies of nodes are cut from it.
 use Rattle.std.specs.Prelude.{ℕ, ◌≤◌, List, take, map, ℤ}
 use Rattle.ph_specs.specs.Coordinate.{coordinate}
-use Rattle.ph_specs.specs.Lawful.{IsBody}
+use Rattle.ph_node.specs.Bodies.{IsBodyArray}
 
 -- a width, and a point of it
 pub record Key : Type 0 where
@@ -17,4 +17,4 @@ pub record IsKey (dims width : ℕ) (offsets : List ℕ) : Type 0 where
   pub few : dims ≤ 16
   pub wide : 1 ≤ width
   pub narrow : width ≤ 62
-  pub body : IsBody dims width (take dims offsets)
+  pub body : IsBodyArray dims width offsets

@@ -1,6 +1,5 @@
 -- What the clauses of trees cite.
 pub mod Key
-pub mod Differences
 pub mod Step
 pub mod Opened
 pub mod Tree

@@ -1,10 +1,11 @@
 -- What one node says of a point.
-use Rattle.std.specs.Prelude.{◌≡◌, ◌≤◌, ℕ, List, length, take, ℤ, position, slice_get, Option, None, Some}
+use Rattle.std.specs.Prelude.{◌≡◌, ◌≤◌, ℕ, List, length, ℤ, position, slice_get, Option, None, Some}
 use Rattle.ph_specs.specs.ZOrder.{address}
 use Rattle.ph_specs.specs.Node.{Entry, What, value, node, PlainNode, entries}
 use Rattle.ph_specs.specs.Shape.{digits_below, digits_between}
 use Rattle.ph_specs.specs.DelTree.{del_node}
 use Rattle.ph_specs.specs.EntryEdits.{has_address}
+use Rattle.ph_node.specs.Places.{place_for}
 use Rattle.ph_node.specs.Shown.{shown}
 use Rattle.ph_tree.specs.declared.step.StepOf.{StepOf}
 use Rattle.ph_tree.specs.declared.step.StepOf.TheVariants.{Absent, Same, Below, Other}
@@ -18,26 +19,25 @@ abbrev pub IsApart : ℕ → List ℤ → ℕ → List ℕ → What → Type 0
 IsApart width p level body (value v) = body ≡ digits_below width level p → ⊥
 IsApart width p level body (node m) = body ≡ digits_between width level m.level p → ⊥
 
--- entry i stands at the point's address with this body, and the point is not a part of it
-abbrev pub IsApartAt : ℕ → List ℤ → PlainNode → ℕ → List ℕ → Type 0
-IsApartAt width p n i body =
-    (x : Entry) × IsAt width p n i x × (x.body ≡ body) × IsApart width p n.level x.body x.what
+-- entry i stands at the point's address, and the point is not a part of it
+abbrev pub IsApartAt : ℕ → List ℤ → PlainNode → ℕ → Type 0
+IsApartAt width p n i = (x : Entry) × IsAt width p n i x × IsApart width p n.level x.body x.what
 
 -- how many nodes are opened to see what is held
 abbrev pub opened_for : What → ℕ
 opened_for (value v) = 0
 opened_for (node m) = 1
 
--- what is found in a node of so many dimensions, and how many nodes below it are opened
-abbrev pub IsStep : ℕ → ℕ → List ℤ → PlainNode → StepOf PlainNode → ℕ → Type 0
-IsStep dims width p n Absent opened =
-    (position (has_address (address width p n.level)) (entries n) ≡ None) × (opened ≡ 0)
-IsStep dims width p n (Same i v) opened =
+-- what is found in a node, and how many nodes below it are opened
+abbrev pub IsStep : ℕ → List ℤ → PlainNode → StepOf PlainNode → ℕ → Type 0
+IsStep width p n (Absent i) opened =
+    (position (has_address (address width p n.level)) (entries n) ≡ None) × (i ≡ place_for (address width p n.level) (entries n)) × (opened ≡ 0)
+IsStep width p n (Same i v) opened =
     (x : Entry) × IsAt width p n i x × (x.what ≡ value v) × (x.body ≡ digits_below width n.level p) × (opened ≡ 0)
-IsStep dims width p n (Below i m) opened =
+IsStep width p n (Below i m) opened =
     (x : Entry) × IsAt width p n i x × (x.what ≡ node (shown m)) × (x.body ≡ digits_between width n.level (shown m).level p) × (opened ≡ 1)
-IsStep dims width p n (Other i body) opened =
-    (x : Entry) × IsAt width p n i x × (x.body ≡ take dims body) × IsApart width p n.level x.body x.what × (opened ≡ opened_for x.what)
+IsStep width p n (Other i) opened =
+    (x : Entry) × IsAt width p n i x × IsApart width p n.level x.body x.what × (opened ≡ opened_for x.what)
 
 -- entry i is the point, with this value
 abbrev pub IsOwn : ℕ → List ℤ → PlainNode → ℕ → ℕ → Type 0

@@ -25,9 +25,9 @@ pub(crate) fn find_in<P: Dims, V: Ledger>(
     ensures cost { visits.new ≡ visits.old + opened_below key.now.width (shown node.entry).level (shown node.entry).chain key.now.point }
 {
     match step(node, key, visits) {
-        StepOf::Absent => None,
+        StepOf::Absent(_) => None,
         StepOf::Same(_, v) => Some(v),
         StepOf::Below(_, below) => find_in(below, key, visits),
-        StepOf::Other(..) => None,
+        StepOf::Other(_) => None,
     }
 }

@@ -2,7 +2,6 @@
 //! Multi-Dimensional Index", SIGMOD 2014): a table whose rows stand in a tree of hypercube nodes.
 #![tactic(auto)]
 
-mod differences;
 mod error;
 mod find;
 mod key;

@@ -1,9 +1,9 @@
 //! Moving the value at one point to another.
 
-ghost use Rattle.std.specs.Prelude.{◌≡◌, ◌+◌, ◌*◌, ◌≤◌, OnOk, OnErr};
+ghost use Rattle.std.specs.Prelude.{◌≡◌, ◌+◌, ◌*◌, ◌≤◌, None, OnOk, OnErr};
 ghost use Rattle.ph_specs.specs.Coordinate.{IsPoint};
 ghost use Rattle.ph_specs.specs.Lawful.{IsLawful};
-ghost use Rattle.ph_specs.specs.PutTree.{put_tree};
+ghost use Rattle.ph_specs.specs.PutTree.{find_tree, put_tree};
 ghost use Rattle.ph_specs.specs.DelTree.{del_tree};
 ghost use Rattle.ph_tree.specs.Opened.{opened_in};
 
@@ -46,8 +46,11 @@ pub(crate) fn move_in<P: Dims, V: Ledger, C: Ledger>(
     ensures moved { OnOk result (root.new ≡ del_tree from.now.width P.D (put_tree to.now.width P.D root.old to.now.point v) from.now.point) }
     ensures err { OnErr result (root.new ≡ root.old) }
     ensures visits { visits.new ≤ visits.old + 2 * opened_in to.now.width root.old to.now.point + 2 * opened_in from.now.width (put_tree to.now.width P.D root.old to.now.point v) from.now.point }
+    ensures later { visits.old ≤ visits.new }
     ensures changes { changes.new ≤ changes.old + 4 }
     ensures spared { OnErr result (changes.new ≡ changes.old) }
+    ensures kept { changes.old ≤ changes.new }
+    ensures made { find_tree to.now.width P.D root.old to.now.point ≡ None → OnOk result (changes.old + 1 ≤ changes.new) }
 {
     match put_in(root, alloc, to, v, true, visits, changes) {
         Ok(_) => {

@@ -1,21 +1,25 @@
 //! Putting a value at a point, below a node and in a tree.
 
-ghost use Rattle.std.specs.Prelude.{◌≡◌, ◌+◌, ◌*◌, ◌<◌, ◌≤◌, false, None, take, position, IfOk, OnOk, OnErr, IsErrOf};
+ghost use Rattle.std.specs.Prelude.{◌≡◌, ◌+◌, ◌*◌, ◌<◌, ◌≤◌, false, None, position, IsSome, IfOk, OnOk, OnErr, IsErrOf};
 ghost use Rattle.ph_specs.specs.ZOrder.{address};
 ghost use Rattle.ph_specs.specs.Node.{entries};
 ghost use Rattle.ph_specs.specs.Lawful.{IsLawful, IsLawfulFrom};
+ghost use Rattle.ph_specs.specs.Shape.{digits_below};
 ghost use Rattle.ph_specs.specs.PutTree.{find_node, find_tree, put_node, put_tree};
 ghost use Rattle.ph_specs.specs.EntryEdits.{has_address};
+ghost use Rattle.ph_digits.specs.Differences.{IsTopDifference};
+ghost use Rattle.ph_node.specs.Places.{place_for};
+ghost use Rattle.ph_node.specs.Shown.{shown};
+ghost use Rattle.ph_node.specs.Split.{body_at};
 ghost use Rattle.ph_table.specs.Rows.{put_answer};
 ghost use Rattle.ph_tree.specs.Opened.{opened_below, opened_in};
 ghost use Rattle.ph_tree.specs.Step.{IsApartAt};
 
-use crate::differences::top_difference;
 use crate::error::PutError;
 use crate::key::KeyOf;
 use crate::step::{StepOf, step};
 use ph_coord::Dims;
-use ph_node::NodeOf;
+use ph_node::{NodeOf, NodeRefOf};
 use ph_steps::Steps;
 use ph_table::Put;
 use std::alloc::Global;
@@ -41,8 +45,12 @@ pub(crate) fn put_in<P: Dims, V: Ledger, C: Ledger>(
     ensures absent { OnErr result (find_tree key.now.width P.D root.old key.now.point ≡ None) }
     ensures refused { find_tree key.now.width P.D root.old key.now.point ≡ None → room ≡ false → IsErrOf result PutError.Full }
     ensures visits { visits.new ≤ visits.old + 2 * opened_in key.now.width root.old key.now.point }
+    ensures later { visits.old ≤ visits.new }
     ensures changes { changes.new ≤ changes.old + 2 }
     ensures spared { OnErr result (changes.new ≡ changes.old) }
+    ensures kept { changes.old ≤ changes.new }
+    ensures made { IfOk result (λ a. a ≡ Put.New → changes.old + 1 ≤ changes.new) }
+    ensures replaced { IsSome (find_tree key.now.width P.D root.old key.now.point) → changes.new ≡ changes.old + 1 }
 {
     let top = key.width() - 1;
     match root {
@@ -81,13 +89,17 @@ pub(crate) fn put_at<P: Dims, V: Ledger, C: Ledger>(
     ensures absent { OnErr result (find_node key.now.width cur.old key.now.point ≡ None) }
     ensures refused { find_node key.now.width cur.old key.now.point ≡ None → room ≡ false → IsErrOf result PutError.Full }
     ensures visits { visits.new ≤ visits.old + 2 * opened_below key.now.width cur.old.level cur.old.chain key.now.point + 1 }
+    ensures later { visits.old ≤ visits.new }
     ensures changes { changes.new ≤ changes.old + 2 }
     ensures spared { OnErr result (changes.new ≡ changes.old) }
+    ensures kept { changes.old ≤ changes.new }
+    ensures made { IfOk result (λ a. a ≡ Put.New → changes.old + 1 ≤ changes.new) }
+    ensures replaced { IsSome (find_node key.now.width cur.old key.now.point) → changes.new ≡ changes.old + 1 }
 {
     let node = cur.visit(visits);
     let level = node.level();
     match step(node, key, visits) {
-        StepOf::Absent => add_point(cur, level, key, v, room, changes),
+        StepOf::Absent(i) => add_point(cur, i, level, key, v, room, changes),
         StepOf::Same(i, old) => {
             cur.set_value(i, v, changes);
             Ok(Put::Old(old))
@@ -96,13 +108,17 @@ pub(crate) fn put_at<P: Dims, V: Ledger, C: Ledger>(
             let slot = cur.child_mut(i);
             put_at(slot.node_mut(), key, v, room, visits, changes)
         }
-        StepOf::Other(i, body) => split_entry(cur, level, i, &body, key, v, room, changes),
+        StepOf::Other(i) => {
+            let place = place_apart(node, i, key);
+            split_entry(cur, i, level, place, key, v, room, changes)
+        }
     }
 }
 
-// Adds a point to a node at a level that has no entry at its address.
+// Adds a point to a node at a level that has no entry at its address, in the place of one.
 fn add_point<P: Dims, C: Ledger>(
     cur: &mut NodeOf<P>,
+    i: usize,
     level: u32,
     key: &KeyOf<P>,
     v: u64,
@@ -112,6 +128,7 @@ fn add_point<P: Dims, C: Ledger>(
     requires level { level ≡ cur.old.level }
     requires below { level < key.now.width }
     requires absent { position (has_address (address key.now.width key.now.point level)) (entries cur.old) ≡ None }
+    requires place { i ≡ place_for (address key.now.width key.now.point level) (entries cur.old) }
     ensures answer { IfOk result (λ a. a ≡ Put.New) }
     ensures put { OnOk result (cur.new ≡ put_node key.now.width cur.old key.now.point v) }
     ensures err { OnErr result (cur.new ≡ cur.old) }
@@ -119,22 +136,39 @@ fn add_point<P: Dims, C: Ledger>(
     ensures refused { room ≡ false → IsErrOf result PutError.Full }
     ensures changes { changes.new ≤ changes.old + 1 }
     ensures spared { OnErr result (changes.new ≡ changes.old) }
+    ensures kept { changes.old ≤ changes.new }
+    ensures made { IfOk result (λ a. a ≡ Put.New → changes.old + 1 ≤ changes.new) }
 {
     if !room {
         return Err(PutError::Full);
     }
-    match cur.add(key.address(level), key.below(level), v, changes) {
+    match cur.add(i, key.address(level), key.below(level), v, changes) {
         Ok(()) => Ok(Put::New),
         Err(_) => Err(PutError::NoMemory),
     }
 }
 
-// Splits an entry of a node at a level, so that a point with other digits stands beside what it holds.
+// The greatest place at which a point differs from the body of an entry of which it is no part.
+fn place_apart<P: Dims>(node: NodeRefOf<'_, NodeOf<P>>, i: usize, key: &KeyOf<P>) -> u32
+    requires lawful { IsLawfulFrom P.D (shown node).level 0 (shown node).chain }
+    requires level { (shown node).level < key.now.width }
+    requires apart { IsApartAt key.now.width key.now.point (shown node) i }
+    ensures { IsTopDifference (body_at (entries (shown node.entry)) i) (digits_below key.now.width (shown node.entry).level key.now.point) result }
+{
+    let below = key.below(node.level());
+    match node.top_difference(i, &below[..P::D]) {
+        Some(place) => place,
+        None => unreachable!(),
+    }
+}
+
+// Splits an entry of a node at a level, so that a point stands beside what it holds. The place is the greatest at which
+// their digits differ.
 fn split_entry<P: Dims, C: Ledger>(
     cur: &mut NodeOf<P>,
-    level: u32,
     i: usize,
-    body: &[u64; 16],
+    level: u32,
+    place: u32,
     key: &KeyOf<P>,
     v: u64,
     room: bool,
@@ -143,8 +177,8 @@ fn split_entry<P: Dims, C: Ledger>(
     requires lawful { IsLawfulFrom P.D cur.old.level 0 cur.old.chain }
     requires level { level ≡ cur.old.level }
     requires below { level < key.now.width }
-    requires low { level ≤ 61 }
-    requires apart { IsApartAt key.now.width key.now.point cur.old i (take P.D body.now) }
+    requires apart { IsApartAt key.now.width key.now.point cur.old i }
+    requires place { IsTopDifference (body_at (entries cur.old) i) (digits_below key.now.width cur.old.level key.now.point) place }
     ensures answer { IfOk result (λ a. a ≡ Put.New) }
     ensures put { OnOk result (cur.new ≡ put_node key.now.width cur.old key.now.point v) }
     ensures err { OnErr result (cur.new ≡ cur.old) }
@@ -152,13 +186,13 @@ fn split_entry<P: Dims, C: Ledger>(
     ensures refused { room ≡ false → IsErrOf result PutError.Full }
     ensures changes { changes.new ≤ changes.old + 2 }
     ensures spared { OnErr result (changes.new ≡ changes.old) }
+    ensures kept { changes.old ≤ changes.new }
+    ensures made { IfOk result (λ a. a ≡ Put.New → changes.old + 1 ≤ changes.new) }
 {
     if !room {
         return Err(PutError::Full);
     }
-    let below = key.below(level);
-    let place = top_difference(&body[..P::D], &below[..P::D]);
-    match cur.split(i, place, below, v, changes) {
+    match cur.split(i, place, key.below(level), v, changes) {
         Ok(()) => Ok(Put::New),
         Err(_) => Err(PutError::NoMemory),
     }

@@ -1,6 +1,6 @@
 //! Taking a point out, below a node and out of a tree.
 
-ghost use Rattle.std.specs.Prelude.{◌≡◌, ◌+◌, ◌*◌, ◌<◌, ◌≤◌, None, length};
+ghost use Rattle.std.specs.Prelude.{◌≡◌, ◌+◌, ◌*◌, ◌<◌, ◌≤◌, None, length, IsSome};
 ghost use Rattle.ph_specs.specs.Node.{entries};
 ghost use Rattle.ph_specs.specs.Lawful.{IsLawful, IsLawfulFrom};
 ghost use Rattle.ph_specs.specs.PutTree.{find_node, find_tree};
@@ -27,8 +27,11 @@ pub(crate) fn del_in<P: Dims, V: Ledger, C: Ledger>(
     ensures answer { result ≡ find_tree key.now.width P.D root.old key.now.point }
     ensures del { root.new ≡ del_tree key.now.width P.D root.old key.now.point }
     ensures visits { visits.new ≤ visits.old + 2 * opened_in key.now.width root.old key.now.point }
+    ensures later { visits.old ≤ visits.new }
     ensures changes { changes.new ≤ changes.old + 2 }
     ensures spared { result ≡ None → changes.new ≡ changes.old }
+    ensures kept { changes.old ≤ changes.new }
+    ensures made { IsSome result → changes.old + 1 ≤ changes.new }
 {
     // A use that makes the range of the width known.
     let _width = key.width();
@@ -61,12 +64,15 @@ pub(crate) fn del_at<P: Dims, V: Ledger, C: Ledger>(
     ensures answer { result ≡ find_node key.now.width cur.old key.now.point }
     ensures del { cur.new ≡ del_node key.now.width cur.old key.now.point }
     ensures visits { visits.new ≤ visits.old + 2 * opened_below key.now.width cur.old.level cur.old.chain key.now.point + 1 }
+    ensures later { visits.old ≤ visits.new }
     ensures changes { changes.new ≤ changes.old + 2 }
     ensures spared { result ≡ None → changes.new ≡ changes.old }
+    ensures kept { changes.old ≤ changes.new }
+    ensures made { IsSome result → changes.old + 1 ≤ changes.new }
 {
     let node = cur.visit(visits);
     match step(node, key, visits) {
-        StepOf::Absent => None,
+        StepOf::Absent(_) => None,
         StepOf::Same(i, value) => {
             cur.drop_entry(i, changes);
             Some(value)
@@ -81,7 +87,7 @@ pub(crate) fn del_at<P: Dims, V: Ledger, C: Ledger>(
                 del_at(slot.node_mut(), key, visits, changes)
             }
         },
-        StepOf::Other(..) => None,
+        StepOf::Other(_) => None,
     }
 }
 
@@ -98,14 +104,12 @@ fn point_among<P: Dims>(
     if node.len() != entries {
         return None;
     }
-    let level = node.level();
-    let Some(i) = node.find(key.address(level)) else {
+    let Some(i) = node.find(key.address(node.level())) else {
         return None;
     };
-    let entry = node.entry(i);
-    match entry.what {
+    match node.what(i) {
         WhatOf::Value(value) => {
-            if key.is_below(level, &entry.body) {
+            if node.is_below(i, key.offsets()) {
                 Some((i, value))
             } else {
                 None

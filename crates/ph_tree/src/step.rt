@@ -14,14 +14,14 @@ use std::sync::ledger::Ledger;
 // What a node has at the address of a point.
 #[derive_where(Clone, Copy)]
 pub(crate) enum StepOf<'t, N> {
-    // No entry.
-    Absent,
+    // No entry, and the place that one would have.
+    Absent(usize),
     // The point, as this entry and with this value.
     Same(usize, u64),
     // A child, by its entry and as it is visited, that has the point's digits above its level.
     Below(usize, NodeRefOf<'t, N>),
-    // An entry with this body, of which the point is no part.
-    Other(usize, [u64; 16]),
+    // This entry, of which the point is no part.
+    Other(usize),
 }
 
 // Looks for a point in a node. Visits the child at the point's address, if there is one.
@@ -32,28 +32,27 @@ pub(crate) fn step<'t, P: Dims, V: Ledger>(
 ) -> StepOf<'t, NodeOf<P>>
     requires lawful { IsLawfulFrom P.D (shown node).level 0 (shown node).chain }
     requires level { (shown node).level < key.now.width }
-    ensures step { IsStep P.D key.now.width key.now.point (shown node.entry) result (visits.new - visits.old) }
+    ensures step { IsStep key.now.width key.now.point (shown node.entry) result (visits.new - visits.old) }
     ensures cost { visits.old ≤ visits.new }
 {
-    let level = node.level();
-    let Some(i) = node.find(key.address(level)) else {
-        return StepOf::Absent;
+    let i = match node.search(key.address(node.level())) {
+        Ok(i) => i,
+        Err(i) => return StepOf::Absent(i),
     };
-    let entry = node.entry(i);
-    match entry.what {
+    match node.what(i) {
         WhatOf::Value(v) => {
-            if key.is_below(level, &entry.body) {
+            if node.is_below(i, key.offsets()) {
                 StepOf::Same(i, v)
             } else {
-                StepOf::Other(i, entry.body)
+                StepOf::Other(i)
             }
         }
         WhatOf::Child(child) => {
             let below = child.visit(visits);
-            if key.is_between(level, below.level(), &entry.body) {
+            if node.is_between(i, below.level(), key.offsets()) {
                 StepOf::Below(i, below)
             } else {
-                StepOf::Other(i, entry.body)
+                StepOf::Other(i)
             }
         }
     }

@@ -26,7 +26,7 @@ use std::sync::ledger::Ledger;
 
 /// A table of at most `max` rows, at points of D dimensions and of one width.
 ///
-/// Whatever the order of the puts, the same table is the same tree. It takes memory for its nodes alone.
+/// Whatever the order of the puts, the same table is the same tree.
 #[derive(Drop)]
 pub struct PhTree<const D: usize> {
     alloc: Global,
@@ -95,6 +95,8 @@ impl<const D: usize> PhTree<D> {
         ensures shape { option_copied result ≡ shape self.now.width self.now.table }
         ensures empty { (result ≡ None) ↔ (self.now.table ≡ []) }
         ensures table { IsTable self.now.width D self.now.table }
+        ensures some { 1 ≤ D }
+        ensures few { D ≤ 16 }
     {
         self.root.as_ref()
     }
@@ -107,7 +109,7 @@ impl<const D: usize> PhTree<D> {
         self.len = 0;
     }
 
-    /// The value at a point. Visits the nodes on the way to it, and no other.
+    /// The value at a point.
     pub fn get<V: Ledger>(&self, p: &Point<D>, visits: &mut Steps<V>) -> Option<u64>
         requires { IsPoint self.now.width D p.now }
         ensures found { result ≡ find self.now.table p.now }
@@ -123,8 +125,7 @@ impl<const D: usize> PhTree<D> {
 
     /// Puts a value at a point, in place of the one that stands there.
     ///
-    /// A new point takes memory for the node that gets it, and for one node more where an entry is split. The
-    /// work is that of the nodes on the way to the point, each of which is visited at most twice.
+    /// A new point may want memory, for the node that gets it or for one node more.
     pub fn put<V: Ledger, C: Ledger>(
         &mut self,
         p: Point<D>,
@@ -140,8 +141,12 @@ impl<const D: usize> PhTree<D> {
         ensures present { IsSome (find self.old.table p.entry) → IsOk result }
         ensures visits { visits.new ≤ visits.old + 2 * length (path self.old.width D self.old.table p.entry) }
         ensures limit { visits.new ≤ visits.old + 2 * self.old.width }
+        ensures later { visits.old ≤ visits.new }
         ensures changes { changes.new ≤ changes.old + 2 }
         ensures spared { OnErr result (changes.new ≡ changes.old) }
+        ensures kept { changes.old ≤ changes.new }
+        ensures made { IfOk result (λ a. a ≡ Put.New → changes.old + 1 ≤ changes.new) }
+        ensures replaced { IsSome (find self.old.table p.entry) → changes.new ≡ changes.old + 1 }
     {
         let key = KeyOf::new(self.width, p.as_slice());
         let room = self.len < self.max;
@@ -157,8 +162,7 @@ impl<const D: usize> PhTree<D> {
 
     /// Takes the row at a point out, and tells its value, or `None` where no row is there.
     ///
-    /// Takes no memory. A node that would keep one entry goes, and that entry takes its place; only the root may
-    /// have one. The work is that of the nodes on the way to the point, each of which is visited at most twice.
+    /// A node that would keep one entry goes, and that entry takes its place; only the root may have one.
     pub fn del<V: Ledger, C: Ledger>(
         &mut self,
         p: &Point<D>,
@@ -169,11 +173,13 @@ impl<const D: usize> PhTree<D> {
         ensures ok { IsOk result }
         ensures del { OnOk result (self.new ≡ without_row self.old p.now) }
         ensures answer { IfOk result (λ a. a ≡ find self.old.table p.now) }
-        ensures err { OnErr result (self.new ≡ self.old) }
         ensures visits { visits.new ≤ visits.old + 2 * length (path self.old.width D self.old.table p.now) }
         ensures limit { visits.new ≤ visits.old + 2 * self.old.width }
+        ensures later { visits.old ≤ visits.new }
         ensures changes { changes.new ≤ changes.old + 2 }
         ensures spared { find self.old.table p.now ≡ None → changes.new ≡ changes.old }
+        ensures kept { changes.old ≤ changes.new }
+        ensures made { IsSome (find self.old.table p.now) → changes.old + 1 ≤ changes.new }
     {
         let key = KeyOf::new(self.width, p.as_slice());
         match del_in(&mut self.root, &key, visits, changes) {
@@ -185,11 +191,10 @@ impl<const D: usize> PhTree<D> {
         }
     }
 
-    /// Moves the value at one point to another, where no row is at the other. Where both are the same point, the
-    /// move is done at once.
+    /// Moves the value at one point to another, where no row is at the other. Where both are the same point, nothing
+    /// changes.
     ///
-    /// Takes memory as a put does, before the first change. The tree may have as many rows as it may have, since a
-    /// move leaves their number. The work is that of four ways through the tree, two of which are visited twice.
+    /// May want memory as a put does. The tree may be full, since a move leaves the number of its rows.
     pub fn relocate<V: Ledger, C: Ledger>(
         &mut self,
         from: &Point<D>,
@@ -205,10 +210,13 @@ impl<const D: usize> PhTree<D> {
         ensures absent { find self.old.table from.now ≡ None → IsOk result }
         ensures taken { IsSome (find self.old.table to.now) → IsOk result }
         ensures limit { visits.new ≤ visits.old + 6 * self.old.width }
+        ensures later { visits.old ≤ visits.new }
         ensures changes { changes.new ≤ changes.old + 4 }
         ensures spared { OnErr result (changes.new ≡ changes.old) }
         ensures idle { find self.old.table from.now ≡ None → changes.new ≡ changes.old }
         ensures held { IsSome (find self.old.table to.now) → changes.new ≡ changes.old }
+        ensures kept { changes.old ≤ changes.new }
+        ensures made { IsSome (find self.old.table from.now) → find self.old.table to.now ≡ None → OnOk result (changes.old + 1 ≤ changes.new) }
     {
         let Some(value) = self.get(from, visits) else {
             return Ok(Moved::Absent);

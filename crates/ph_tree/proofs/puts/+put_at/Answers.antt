@@ -1,8 +1,9 @@
-use Rattle.std.proofs.Common.{◌-◌, ℕ, arith, rules, sym, ap, ◌∙◌}
+use Rattle.std.proofs.Common.{◌-◌, ℕ, arith, rules, sym, ap, ◌∙◌, subst}
+use Rattle.std.specs.Prelude.{IsSome}
 use Rattle.ph_specs.specs.Node.{node}
 use Rattle.ph_specs.specs.EntryEdits.{with_child}
 use Rattle.ph_table.specs.Rows.{put_answer}
-use Rattle.ph_tree.proofs.Walks.{IsStepAt, step_at, answered, answered_new, on_ok, on_err, always_err, some_none, absent_found, same_found, same_value, same_inside, same_put, below_node, below_inside, below_lent, way_below, other_found, other_opened}
+use Rattle.ph_tree.proofs.Walks.{IsStepAt, step_at, answered, answered_new, on_ok, on_err, always_err, not_none, some_none, absent_found, same_found, same_value, same_inside, same_put, below_node, below_inside, below_lent, way_below, other_found, other_opened}
 use Rattle.ph_tree.proofs.puts.+put_at.Given.{Over}
 use Rattle.ph_tree.proofs.puts.+put_at.Goals.{After-step}
 use Rattle.ph_tree.proofs.puts.+put_at.Goals as goal
@@ -61,9 +62,21 @@ returns-in-Below g t c =
       absent = on_err c.put_at.result (λ q. below.found ∙ q) put.absent;
       refused = λ none. put.refused (sym below.found ∙ none);
       visits = omega (arith, below.one, below.opened, c.in-Below.ensures.cost, put.visits, c.visit-node.ensures.cost);
+      later = omega (arith, c.in-Below.ensures.cost, put.later, c.visit-node.ensures.cost);
       changes = put.changes;
       spared = put.spared;
+      kept = put.kept;
+      made = put.made;
+      replaced = λ some. put.replaced (subst IsSome below.found some);
     }
+
+pub returns-in-Absent-clause-replaced : goal.returns-in-Absent-clause-replaced
+returns-in-Absent-clause-replaced g t c some =
+    absurd (not_none _ (absent_found (stepped g t (goal.at.returns-in-Absent-clause-replaced g t c).After-step) c.in-Absent.is) some)
+
+pub returns-in-Other-clause-replaced : goal.returns-in-Other-clause-replaced
+returns-in-Other-clause-replaced g t c some =
+    absurd (not_none _ (other_found (stepped g t (goal.at.returns-in-Other-clause-replaced g t c).After-step) c.in-Other.is) some)
 
 pub returns-in-Other-clause-answer : goal.returns-in-Other-clause-answer
 returns-in-Other-clause-answer g t c =

@@ -46,8 +46,11 @@ returns-in-Absent g t c =
       answer = sym (absent_found k c.in-Absent.is);
       del = absent_del k c.in-Absent.is;
       visits = omega (arith, absent_opened k c.in-Absent.is, c.in-Absent.ensures.cost, c.visit-node.ensures.cost);
+      later = omega (arith, c.in-Absent.ensures.cost, c.visit-node.ensures.cost);
       changes = omega arith;
       spared = λ _. refl;
+      kept = omega arith;
+      made = λ some. absurd cc;
     }
 
 pub returns-in-Same : goal.returns-in-Same
@@ -57,8 +60,11 @@ returns-in-Same g t c =
       answer = sym (same_found k c.in-Same.is);
       del = c.drop_entry.ensures.node ∙ same_del k c.in-Same.is;
       visits = omega (arith, same_opened k c.in-Same.is, c.in-Same.ensures.cost, c.visit-node.ensures.cost);
+      later = omega (arith, c.in-Same.ensures.cost, c.visit-node.ensures.cost);
       changes = omega arith;
       spared = some_none;
+      kept = omega arith;
+      made = λ _. omega arith;
     }
 
 pub returns-in-Some : goal.returns-in-Some
@@ -70,8 +76,11 @@ returns-in-Some g t c =
       answer = sym m.found;
       del = c.merge.ensures.node ∙ m.del;
       visits = omega (arith, below.one, below.opened, c.in-Below.ensures.cost, c.visit-node.ensures.cost);
+      later = omega (arith, c.in-Below.ensures.cost, c.visit-node.ensures.cost);
       changes = omega arith;
       spared = some_none;
+      kept = omega arith;
+      made = λ _. omega arith;
     }
 
 pub returns-in-None : goal.returns-in-None
@@ -83,8 +92,11 @@ returns-in-None g t c =
       answer = c.del_at.ensures.answer ∙ sym below.found;
       del = ap (with_child c.args.cur.now c.in-Below.i) c.del_at.ensures.del ∙ below_del k c.in-Below.is is c.in-None.ensures;
       visits = omega (arith, below.one, below.opened, c.in-Below.ensures.cost, c.del_at.ensures.visits, c.visit-node.ensures.cost);
+      later = omega (arith, c.in-Below.ensures.cost, c.del_at.ensures.later, c.visit-node.ensures.cost);
       changes = omega arith;
       spared = c.del_at.ensures.spared;
+      kept = c.del_at.ensures.kept;
+      made = c.del_at.ensures.made;
     }
 
 pub returns-in-Other : goal.returns-in-Other
@@ -94,6 +106,9 @@ returns-in-Other g t c =
       answer = sym (other_found k c.in-Other.is);
       del = other_del k c.in-Other.is;
       visits = omega (arith, other_opened k c.in-Other.is, c.in-Other.ensures.cost, c.visit-node.ensures.cost);
+      later = omega (arith, c.in-Other.ensures.cost, c.visit-node.ensures.cost);
       changes = omega arith;
       spared = λ _. refl;
+      kept = omega arith;
+      made = λ some. absurd cc;
     }

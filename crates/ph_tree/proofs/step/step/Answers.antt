@@ -1,46 +1,83 @@
-use Rattle.std.proofs.Common.{arith, refl, sym, ap, ◌∙◌, subst}
-use Rattle.ph_specs.specs.Node.{node}
-use Rattle.ph_node.specs.Shown.{entry_of, shown, what_of}
-use Rattle.ph_tree.specs.Step.{IsApart, opened_for}
-use Rattle.ph_tree.proofs.Steps.{at_entry, same_below, other_below, same_between, other_between}
+use Rattle.std.proofs.Common.{◌≡◌, arith, sym, ap, ◌∙◌, subst}
+use Rattle.std.specs.Prelude.{position}
+use Rattle.ph_specs.specs.Node.{node, entries}
+use Rattle.ph_specs.specs.ZOrder.{address}
+use Rattle.ph_specs.specs.EntryEdits.{has_address}
+use Rattle.ph_node.specs.Places.{place_for}
+use Rattle.ph_node.specs.Shown.{shown, what_of}
+use Rattle.ph_tree.specs.Step.{IsAt, IsApart, opened_for}
+use Rattle.ph_tree.proofs.Steps.{entry_at, place_inside, at_entry, same_below, other_below, same_between, other_between}
+use Rattle.ph_tree.proofs.step.step.Given.{Over}
+use Rattle.ph_tree.proofs.step.step.Goals.{In-Ok}
 use Rattle.ph_tree.proofs.step.step.Goals as goal
 
+-- the entry that was found stands at the point's address
+at : (g : Over) (c : In-Ok g) → IsAt c.args.key.now.width c.args.key.now.point (shown c.args.node) c.in-Ok.i (entry_at (entries (shown c.args.node)) c.in-Ok.i)
+at g c = at_entry c.args.key.now.width c.args.key.now.point (shown c.args.node) _ _ c.in-Ok.i c.level.ensures.value c.address.ensures.value c.in-Ok.ensures.found
+
+pub what-requires : goal.what-requires
+what-requires g c = place_inside _ c.in-Ok.i (entries (shown c.args.node)) c.in-Ok.ensures.found
+
+pub is_below-requires : goal.is_below-requires
+is_below-requires g c =
+    record { within = place_inside _ c.in-Ok.i (entries (shown c.args.node)) c.in-Ok.ensures.found; dims = c.offsets.ensures.dims }
+
+pub is_between-requires : goal.is_between-requires
+is_between-requires g c = record {
+  within = place_inside _ c.in-Ok.i (entries (shown c.args.node)) c.in-Ok.ensures.found;
+  low = omega (arith, c.level-in-Child.ensures.limit);
+  dims = c.offsets-in-Child.ensures.dims;
+}
+
+pub returns-in-Err-clause-step : goal.returns-in-Err-clause-step
+returns-in-Err-clause-step g c =
+    let n = shown c.args.node in
+    let a : c.address.result ≡ address c.args.key.now.width c.args.key.now.point n.level = c.address.ensures.value ∙ ap (address c.args.key.now.width c.args.key.now.point) c.level.ensures.value in (
+      sym (c.in-Err.ensures.absent ∙ ap (λ t. position (has_address t) (entries n)) a),
+      c.in-Err.ensures.place ∙ ap (λ t. place_for t (entries n)) a,
+      omega arith,
+    )
+
 pub returns-then-is_below-clause-step : goal.returns-then-is_below-clause-step
-returns-then-is_below-clause-step g c = (
-  entry_of g.P.Dims.D c.entry-entry.result,
-  at_entry c.args.key.now.width c.args.key.now.point _ _ _ _ _ c.level-level.ensures.value c.address.ensures.value (sym c.in-Some.is ∙ c.find.ensures) c.entry-entry.ensures.shows,
-  ap (λ u. what_of u) c.in-Value.is,
-  same_below c.args.key.now.width _ _ c.args.key.now.point _ _ c.level-level.ensures.value c.is_below.ensures c.if-is_below.true,
-  omega arith,
-)
+returns-then-is_below-clause-step g c =
+    let n = shown c.args.node in
+    let x = entry_at (entries n) c.in-Ok.i in (
+      x,
+      at g (goal.at.returns-then-is_below-clause-step g c).In-Ok,
+      sym c.what.ensures ∙ ap (λ u. what_of u) c.in-Value.is,
+      same_below c.args.key.now.width n.level c.args.key.now.point x.body _ _ c.offsets.ensures.value c.is_below.ensures c.if-is_below.true,
+      omega arith,
+    )
 
 pub returns-else-is_below-clause-step : goal.returns-else-is_below-clause-step
 returns-else-is_below-clause-step g c =
-    let x = entry_of g.P.Dims.D c.entry-entry.result in
-    let what = ap (λ u. what_of u) c.in-Value.is in (
+    let n = shown c.args.node in
+    let x = entry_at (entries n) c.in-Ok.i in
+    let what = sym c.what.ensures ∙ ap (λ u. what_of u) c.in-Value.is in (
       x,
-      at_entry c.args.key.now.width c.args.key.now.point _ _ _ _ _ c.level-level.ensures.value c.address.ensures.value (sym c.in-Some.is ∙ c.find.ensures) c.entry-entry.ensures.shows,
-      refl,
-      subst (IsApart c.args.key.now.width c.args.key.now.point (shown c.args.node).level x.body) (sym what) (other_below c.args.key.now.width _ _ c.args.key.now.point _ _ c.level-level.ensures.value c.is_below.ensures c.if-is_below.false),
+      at g (goal.at.returns-else-is_below-clause-step g c).In-Ok,
+      subst (IsApart c.args.key.now.width c.args.key.now.point n.level x.body) (sym what) (other_below c.args.key.now.width n.level c.args.key.now.point x.body _ _ c.offsets.ensures.value c.is_below.ensures c.if-is_below.false),
       omega (arith, ap opened_for what),
     )
 
 pub returns-then-is_between-clause-step : goal.returns-then-is_between-clause-step
-returns-then-is_between-clause-step g c = (
-  entry_of g.P.Dims.D c.entry-entry.result,
-  at_entry c.args.key.now.width c.args.key.now.point _ _ _ _ _ c.level-level.ensures.value c.address.ensures.value (sym c.in-Some.is ∙ c.find.ensures) c.entry-entry.ensures.shows,
-  ap (λ u. what_of u) c.in-Child.is ∙ ap node (sym c.visit-below.ensures.shows),
-  same_between c.args.key.now.width _ _ _ _ c.args.key.now.point _ _ c.level-level.ensures.value c.level.ensures.value c.is_between.ensures c.if-is_between.true,
-  omega (arith, c.visit-below.ensures.cost),
-)
+returns-then-is_between-clause-step g c =
+    let n = shown c.args.node in
+    let x = entry_at (entries n) c.in-Ok.i in (
+      x,
+      at g (goal.at.returns-then-is_between-clause-step g c).In-Ok,
+      sym c.what.ensures ∙ ap (λ u. what_of u) c.in-Child.is ∙ ap node (sym c.visit-below.ensures.shows),
+      same_between c.args.key.now.width n.level c.args.key.now.point x.body _ _ c.offsets-in-Child.ensures.value _ _ c.level-in-Child.ensures.value c.is_between.ensures c.if-is_between.true,
+      omega (arith, c.visit-below.ensures.cost),
+    )
 
 pub returns-else-is_between-clause-step : goal.returns-else-is_between-clause-step
 returns-else-is_between-clause-step g c =
-    let x = entry_of g.P.Dims.D c.entry-entry.result in
-    let what = ap (λ u. what_of u) c.in-Child.is ∙ ap node (sym c.visit-below.ensures.shows) in (
+    let n = shown c.args.node in
+    let x = entry_at (entries n) c.in-Ok.i in
+    let what = sym c.what.ensures ∙ ap (λ u. what_of u) c.in-Child.is ∙ ap node (sym c.visit-below.ensures.shows) in (
       x,
-      at_entry c.args.key.now.width c.args.key.now.point _ _ _ _ _ c.level-level.ensures.value c.address.ensures.value (sym c.in-Some.is ∙ c.find.ensures) c.entry-entry.ensures.shows,
-      refl,
-      subst (IsApart c.args.key.now.width c.args.key.now.point (shown c.args.node).level x.body) (sym what) (other_between c.args.key.now.width _ _ _ _ c.args.key.now.point _ _ c.level-level.ensures.value c.level.ensures.value c.is_between.ensures c.if-is_between.false),
+      at g (goal.at.returns-else-is_between-clause-step g c).In-Ok,
+      subst (IsApart c.args.key.now.width c.args.key.now.point n.level x.body) (sym what) (other_between c.args.key.now.width n.level c.args.key.now.point x.body _ _ c.offsets-in-Child.ensures.value _ _ c.level-in-Child.ensures.value c.is_between.ensures c.if-is_between.false),
       omega (arith, ap opened_for what, c.visit-below.ensures.cost),
     )

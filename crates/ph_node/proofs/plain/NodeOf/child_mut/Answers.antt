@@ -1,6 +1,7 @@
-use Rattle.std.proofs.Common.{arith, refl, ◌∙◌, sym, subst}
+use Rattle.std.proofs.Common.{◌<◌, length, arith, refl, ◌∙◌, sym, subst}
 use Rattle.ph_node.specs.Kept.{IsKept}
 use Rattle.ph_node.specs.Slots.{slot_held}
+use Rattle.ph_node.proofs.Filled.{filled-at, filled-set}
 use Rattle.ph_node.proofs.Items.{length_is, slot_is, what_is, set_is, set_items}
 use Rattle.ph_node.proofs.Keeps.{still-what}
 use Rattle.ph_node.proofs.plain.NodeOf.child_mut.Goals as goal
@@ -13,9 +14,16 @@ slot_mut-requires g c = slot_is _ _ _ _ c.self.view_is c.args.i c.index_mut-item
 
 pub invariant_of-self-lent : goal.invariant_of-self-lent
 invariant_of-self-lent g c w =
-    subst (IsKept g.P.Dims.D c.self.inside.level)
-    (sym (set_items _ _ _ _ c.self.view_is c.args.i c.index_mut-item.result.now (slot_held w) c.requires.within c.index_mut-item.ensures.value))
-    (still-what _ _ _ c.args.i _ c.self.invariant)
+    let inside : c.args.i < length c.self.inside.items.items = omega (arith, c.requires.within, length_is _ _ _ _ c.self.view_is) in
+    record {
+      kept =
+          subst (IsKept g.P.Dims.D c.self.inside.level)
+          (sym (set_items _ _ _ _ c.self.view_is c.args.i c.index_mut-item.result.now (slot_held w) c.requires.within c.index_mut-item.ensures.value))
+          (still-what _ _ _ c.args.i _ c.self.invariant.kept);
+      filled =
+          filled-set g.P.Dims.D c.self.inside.items.items c.args.i _ c.self.invariant.filled
+          (filled-at g.P.Dims.D c.self.inside.items.items c.args.i c.index_mut-item.result.now c.self.invariant.filled inside c.index_mut-item.ensures.value);
+    }
 
 pub returns : goal.returns
 returns g c = (

@@ -8,7 +8,7 @@ use Rattle.ph_node.proofs.reads.NodeRefOf+NodeOf+P.next_at_or_after.Goals as goa
 
 pub place_at_or_after-requires : goal.place_at_or_after-requires
 place_at_or_after-requires g c =
-    subst (IsNonDecreasingBy (λ (e : ItemOf g.row.P.Denot). e.addr)) (sym c.deref.ensures.value) (rising _ _ _ _ c.node.invariant.rise)
+    subst (IsNonDecreasingBy (λ (e : ItemOf g.row.P.Denot). e.addr)) (sym c.deref.ensures.value) (rising _ _ _ _ c.node.invariant.kept.rise)
 
 pub returns : goal.returns
 returns g c =

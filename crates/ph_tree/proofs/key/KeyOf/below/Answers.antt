@@ -1,5 +1,5 @@
 use Rattle.std.proofs.Common.{◌∙◌, ap, take, sym, subst}
-use Rattle.ph_specs.specs.Lawful.{IsBody}
+use Rattle.ph_node.specs.Bodies.{IsBodyArray}
 use Rattle.ph_tree.proofs.Offsets.{below_is, body_is}
 use Rattle.ph_tree.proofs.key.KeyOf.below.Goals as goal
 
@@ -8,4 +8,4 @@ returns-clause-value g c = ap (λ u. take g.P.Dims.D u) c.body_below.ensures ∙
 
 pub returns-clause-body : goal.returns-clause-body
 returns-clause-body g c =
-    subst (λ u. IsBody g.P.Dims.D c.args.level (take g.P.Dims.D u)) (sym c.body_below.ensures) (body_is _ _ _ _ c.self.view_is c.args.level c.self.invariant)
+    subst (IsBodyArray g.P.Dims.D c.args.level) (sym c.body_below.ensures) (body_is _ _ _ _ c.self.view_is c.args.level c.self.invariant)

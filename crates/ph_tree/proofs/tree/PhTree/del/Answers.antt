@@ -1,5 +1,6 @@
 use Rattle.std.proofs.Common.{sym, ◌∙◌, refl, arith}
-use Rattle.ph_tree.proofs.Walks.{some_none}
+use Rattle.ph_specs.specs.Table.{find}
+use Rattle.ph_tree.proofs.Walks.{not_none, some_none}
 use Rattle.ph_tree.proofs.Trees.{IsKeyed, opened_is, opened_few}
 use Rattle.ph_tree.proofs.Fewer.{IsRemoval, removal}
 use Rattle.ph_tree.proofs.tree.PhTree.del.Given.{Over}
@@ -33,11 +34,13 @@ returns-in-Some g c =
       ok = refl;
       del = row.table;
       answer = sym c.in-Some.is ∙ row.answer;
-      err = tt;
       visits = omega (arith, opened_is (keyed g at));
       limit = omega (arith, opened_few (keyed g at));
+      later = at.del_in.ensures.later;
       changes = omega arith;
       spared = λ none. some_none (sym c.in-Some.is ∙ row.answer ∙ none);
+      kept = at.del_in.ensures.kept;
+      made = λ _. at.del_in.ensures.made (rw c.in-Some.is refl);
     }
 
 pub returns-in-None : goal.returns-in-None
@@ -48,9 +51,11 @@ returns-in-None g c =
       ok = refl;
       del = row.table;
       answer = sym c.in-None.is ∙ row.answer;
-      err = tt;
       visits = omega (arith, opened_is (keyed g at));
       limit = omega (arith, opened_few (keyed g at));
+      later = at.del_in.ensures.later;
       changes = omega arith;
       spared = λ _. c.in-None.ensures.spared refl;
+      kept = at.del_in.ensures.kept;
+      made = λ some. absurd (not_none (find c.args.self.now.table c.args.p.now) (sym row.answer ∙ c.in-None.is) some);
     }

@@ -1,9 +1,9 @@
-use Rattle.std.proofs.Common.{◌≡◌, sym, ◌∙◌, ap, refl, arith}
+use Rattle.std.proofs.Common.{◌≡◌, sym, ◌∙◌, ap, refl, arith, subst}
 use Rattle.ph_specs.specs.Table.{find}
-use Rattle.std.specs.Prelude.{None}
+use Rattle.std.specs.Prelude.{None, IsSome}
 use Rattle.ph_table.specs.Rows.{put_answer}
 use Rattle.ph_tree.specs.Tree.{tree_table}
-use Rattle.ph_tree.proofs.Walks.{no_error}
+use Rattle.ph_tree.proofs.Walks.{no_error, not_none}
 use Rattle.ph_tree.proofs.Trees.{IsKeyed, found_is, opened_is, opened_few, full_when, new_tree, old_tree, put_table}
 use Rattle.ph_tree.proofs.tree.PhTree.put.Given.{Over}
 use Rattle.ph_tree.proofs.tree.PhTree.put.Goals.{After-put_in}
@@ -38,8 +38,12 @@ returns-in-Ok-New g c =
       present = λ _. refl;
       visits = omega (arith, put.visits, opened_is k);
       limit = omega (arith, put.visits, opened_few k);
+      later = put.later;
       changes = omega arith;
       spared = tt;
+      kept = put.kept;
+      made = put.made;
+      replaced = λ some. put.replaced (subst IsSome (sym (found_is k)) some);
     }
 
 pub returns-in-Ok-Old : goal.returns-in-Ok-Old
@@ -54,8 +58,12 @@ returns-in-Ok-Old g c =
       present = λ _. refl;
       visits = omega (arith, put.visits, opened_is k);
       limit = omega (arith, put.visits, opened_few k);
+      later = put.later;
       changes = omega arith;
       spared = tt;
+      kept = put.kept;
+      made = put.made;
+      replaced = λ some. put.replaced (subst IsSome (sym (found_is k)) some);
     }
 
 pub returns-in-Err : goal.returns-in-Err
@@ -71,6 +79,10 @@ returns-in-Err g c =
       present = λ some. rw none at some;
       visits = omega (arith, put.visits, opened_is k);
       limit = omega (arith, put.visits, opened_few k);
+      later = put.later;
       changes = omega arith;
       spared = put.spared;
+      kept = put.kept;
+      made = tt;
+      replaced = λ some. absurd (not_none (find c.args.self.now.table c.args.p) none some);
     }

@@ -1,7 +1,9 @@
-use Rattle.std.proofs.Common.{◌≤◌, ◌+◌, ◌*◌, sym, ◌∙◌, arith}
+use Rattle.std.proofs.Common.{◌≤◌, ◌+◌, ◌*◌, sym, ap, ◌∙◌, arith}
 use Rattle.std.specs.Prelude.{OnOk}
-use Rattle.ph_tree.proofs.Walks.{on_ok, of_ok}
-use Rattle.ph_tree.proofs.Trees.{IsKeyed, opened_few}
+use Rattle.ph_specs.specs.Table.{find}
+use Rattle.ph_specs.proofs.laws.Put.{same_from_test}
+use Rattle.ph_tree.proofs.Walks.{on_ok, of_ok, not_none}
+use Rattle.ph_tree.proofs.Trees.{IsKeyed, found_is, opened_few}
 use Rattle.ph_tree.proofs.Shifted.{IsMove, opened_between, moved, stays_there, none_of}
 use Rattle.ph_tree.proofs.tree.PhTree.relocate.Given.{Over}
 use Rattle.ph_tree.proofs.tree.PhTree.relocate.Goals.{After-move_in}
@@ -45,3 +47,12 @@ returns-clause-moved g c = (of_ok c.in_ok-move_in.was (row_moved g (goal.at.retu
 
 pub returns-clause-limit : goal.returns-clause-limit
 returns-clause-limit g c = few_visits g (goal.at.returns-clause-limit g c).After-move_in
+
+pub returns-then-eq-clause-made : goal.returns-then-eq-clause-made
+returns-then-eq-clause-made g c some none =
+    let same = same_from_test c.args.from.now c.args.to.now (sym c.eq.ensures ∙ c.if-eq.true) in
+    absurd (not_none (find c.args.self.now.table c.args.from.now) (ap (find c.args.self.now.table) same ∙ none) some)
+
+pub returns-clause-made : goal.returns-clause-made
+returns-clause-made g c some none =
+    of_ok c.in_ok-move_in.was (c.move_in.ensures.made (found_is (new_keyed g (goal.at.returns-clause-made g c).After-move_in) ∙ none))

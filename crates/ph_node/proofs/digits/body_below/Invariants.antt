@@ -1,5 +1,0 @@
-use Rattle.std.proofs.Common.{◌≡◌, ◌++◌, ◌%◌, ◌^◌, map, take, drop}
-use Rattle.ph_node.proofs.digits.body_below.Given as goal
-
-abbrev pub invariant-loop-field : goal.invariant-loop-field
-invariant-loop-field l = l.field-items ≡ map (λ x. x % 2 ^ l.place) (take l.field-index l.fn.body) ++ drop l.field-index l.fn.body

@@ -1,7 +1,0 @@
-use Rattle.std.proofs.Common.{◌∙◌, ◌-◌, ap}
-use Rattle.std.specs.Prelude.{bit_and}
-use Rattle.std.proofs.lemmas.Nat.{one_shl, and_mask}
-use Rattle.ph_node.proofs.digits.digits_below.Goals as goal
-
-pub returns : goal.returns
-returns c = ap (λ n. bit_and c.args.field (n - 1)) (one_shl c.args.place 64 c.requires) ∙ and_mask c.args.field c.args.place
