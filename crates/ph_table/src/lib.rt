@@ -1,6 +1,7 @@
 //! The plain index: a table as a vector of rows in Z-order.
 #![tactic(auto)]
 
+mod between;
 mod place;
 mod table;
 

@@ -2,8 +2,10 @@
 ghost use Rattle.std.specs.Prelude.{◌≡◌, ◌<◌, ◌≤◌, [], IfOk, OnOk, OnErr, IsSome, IsOk};
 ghost use Rattle.ph_specs.specs.Coordinate.{IsPoint};
 ghost use Rattle.ph_specs.specs.Table.{IsTable, find, put, del};
+ghost use Rattle.ph_specs.specs.Window.{window, is_between as lies_between};
 ghost use Rattle.ph_table.specs.Rows.{wide, put_answer};
 
+use crate::between::is_between;
 use crate::place::place_of;
 use ph_coord::{Point, Row, Width};
 use std::alloc::{AllocError, Global};
@@ -74,6 +76,27 @@ impl<const D: usize> Table<D> {
         }
     }
 
+    /// The rows between two corners, both of them inside, in Z-order. It compares each row, and takes memory for those
+    /// that it gives.
+    pub fn window(
+        &self,
+        alloc: Global,
+        lo: &Point<D>,
+        hi: &Point<D>,
+    ) -> Result<Vec<Row<D>>, AllocError>
+        ensures { IfOk result (λ found. found.items ≡ window lo.now hi.now self.now.rows) }
+    {
+        self.rows
+            .iter()
+            .filter(
+                |row| -> bool
+                    ensures { result ≡ lies_between lo.entry.now hi.entry.now row.entry.now.now.point }
+                { is_between(lo, hi, &row.point) },
+            )
+            .copied()
+            .collect(alloc)
+    }
+
     /// Takes the row at a point away, and gives its value. It takes no memory, and moves the rows behind.
     pub fn del(&mut self, p: &Point<D>) -> Option<u64>
         requires dims { D ≤ 16 }
@@ -131,15 +154,18 @@ mod tests {
             let p = Point::from_slice(w, &coords).ok_or("out of range")?;
             assert_eq!(rt; table.put(p, value)?, Put::New);
         }
-        let p = Point::from_slice(w, &[1, 0]).ok_or("out of range")?;
-        assert_eq!(rt; table.put(p, 5)?, Put::Old(3));
-        let expected = [([0, 0], 1), ([0, 1], 2), ([1, 0], 5), ([1, 1], 4)];
-        assert_eq!(rt; table.rows().len(), expected.len());
-        for (i, row) in table.rows().iter().enumerate() {
+        let lo = Point::from_slice(w, &[0, 0]).ok_or("out of range")?;
+        let hi = Point::from_slice(w, &[1, 1]).ok_or("out of range")?;
+        let found = table.window(rt.alloc(), &lo, &hi)?;
+        assert_eq!(rt; found.as_slice(), table.rows());
+        let expected = [([0, 0], 1), ([0, 1], 2), ([1, 0], 3), ([1, 1], 4)];
+        assert_eq!(rt; found.len(), expected.len());
+        for (i, row) in found.iter().enumerate() {
             let (coords, value) = expected.get(i).ok_or("too many rows")?;
             assert_eq!(rt; row.point.as_slice(), coords.as_slice());
             assert_eq!(rt; row.value, *value);
         }
+        assert_eq!(rt; table.put(lo, 5)?, Put::Old(1));
         Ok(())
     }
 }

@@ -8,16 +8,14 @@ use Rattle.std.proofs.lemmas.Option.{get_or_from_slice_get, slice_get-get_or}
 use Rattle.std.proofs.lemmas.Bool.Decides.{Decides-eqb}
 use denote.Ref.{Bor}
 use Rattle.ph_specs.specs.Node.{Entry, What, value, node, PlainNode, entries, node_of}
-use Rattle.ph_specs.specs.Lawful.{IsLawfulFrom}
+use Rattle.ph_specs.specs.Lawful.{IsLawfulFrom, IsLawfulEntry, IsLawfulWhat}
 use Rattle.ph_specs.specs.PutTree.{same_digits}
 use Rattle.ph_specs.proofs.lemmas.PointDigits.{same_digits-true}
-use Rattle.ph_specs.proofs.laws.EntryLists.{node_of-entries}
+use Rattle.ph_specs.proofs.laws.EntryLists.{node_of-entries, entries-lawful}
 use Rattle.ph_specs.proofs.laws.Ranked.{take-all}
 use Rattle.ph_shape.specs.Bodies.{filled}
-use Rattle.ph_shape.specs.Known.{IsLawfulEntry, IsLawfulWhat}
 use Rattle.ph_shape.specs.Shown.{IsValue, IsChild}
 use Rattle.ph_shape.proofs.Fronts.{each-at}
-use Rattle.ph_shape.proofs.Walk.{entries-lawful}
 
 -- the numbers of an entry's body, in front of the zeros
 pub take-filled : (dims : ℕ) (body : List ℕ) → length body ≡ dims → take dims (filled body) ≡ body
@@ -32,13 +30,13 @@ entry-lawful dims n i d h l =
 -- its children are lawful, and have lower levels
 pub child-lawful : (dims : ℕ) (n : PlainNode) (i : ℕ) (d : Entry) (below : Bor PlainNode) → IsLawfulFrom dims n.level 0 n.chain → i < length (entries n) → IfSome (slice_get (entries n) i) (λ e. IsChild e.what (Some below)) → (below.now.level < n.level) × IsLawfulFrom dims below.now.level 0 below.now.chain
 child-lawful dims n i d below h l c =
-    by_what (get_or (entries n) i d).body (get_or (entries n) i d).what (entry-lawful dims n i d h l).1
+    by_what (get_or (entries n) i d).body (get_or (entries n) i d).what (entry-lawful dims n i d h l).held
     (subst (λ o. IfSome o (λ e. IsChild e.what (Some below))) (slice_get-get_or (entries n) i d l) c)
   where
     by_what : (body : List ℕ) (w : What) → IsLawfulWhat dims n.level body w → IsChild w (Some below) → (below.now.level < n.level) × IsLawfulFrom dims below.now.level 0 below.now.chain
     by_what body (value v) k is = absurd is
     by_what body (node m) k is =
-        subst (λ (m : PlainNode). (m.level < n.level) × IsLawfulFrom dims m.level 0 m.chain) (sym is) (k.0, k.2)
+        subst (λ (m : PlainNode). (m.level < n.level) × IsLawfulFrom dims m.level 0 m.chain) (sym is) (k.0, k.3)
 
 -- lists that agree so far and in the next entry
 pub taken-next : (xs ys : List Entry) (i : ℕ) (e : Entry) → i < length xs → i < length ys → take i xs ≡ take i ys → slice_get xs i ≡ Some e → IfSome (slice_get ys i) (λ f. IsTrue true ↔ (e ≡ f)) → take (i + 1) xs ≡ take (i + 1) ys
@@ -78,7 +76,7 @@ front-same dims n i e addr body h l ea a eb b =
       body =
           eb
           ∙ ap (λ t. take dims t) (subst (λ o. IfSome o (λ f. body ≡ filled f.body)) s b)
-          ∙ take-filled dims (get_or (entries n) i e).body (entry-lawful dims n i e h l).0.0;
+          ∙ take-filled dims (get_or (entries n) i e).body (entry-lawful dims n i e h l).body.0;
     }
 
 entry-same : (e f : Entry) → e.addr ≡ f.addr → e.body ≡ f.body → e.what ≡ f.what → e ≡ f

@@ -18,12 +18,16 @@ const SEED: u64 = 2014;
 
 const EDITS: u64 = 2000;
 
-const LEAST: i64 = -(1 << 31);
+pub(crate) const LEAST: i64 = -(1 << 31);
 
-const GREATEST: i64 = (1 << 31) - 1;
+pub(crate) const GREATEST: i64 = (1 << 31) - 1;
 
 // A point whose coordinates are some of eight numbers.
-fn draw<const D: usize, R: Rng>(rt: &impl Abort, rng: &mut R, choices: &[i64; 8]) -> Point<D>
+pub(crate) fn draw<const D: usize, R: Rng>(
+    rt: &impl Abort,
+    rng: &mut R,
+    choices: &[i64; 8],
+) -> Point<D>
     ensures { IsPoint 32 D result }
 {
     let mut drawn = [0; D];
@@ -34,7 +38,7 @@ fn draw<const D: usize, R: Rng>(rt: &impl Abort, rng: &mut R, choices: &[i64; 8]
 }
 
 // One put, removal or move; puts are as many as both others.
-fn edit<const D: usize, R: Rng, V: Ledger, C: Ledger>(
+pub(crate) fn edit<const D: usize, R: Rng, V: Ledger, C: Ledger>(
     rt: &impl Abort,
     pair: &mut Pair<D>,
     rng: &mut R,

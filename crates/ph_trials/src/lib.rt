@@ -11,6 +11,8 @@ mod orders;
 #[cfg(test)]
 mod pair;
 mod same;
+#[cfg(test)]
+mod windows;
 
 pub use ph_shape::NoMemory;
 pub use same::{is_same, is_shape};

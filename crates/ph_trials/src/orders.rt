@@ -60,7 +60,7 @@ fn three_points<V: Ledger, C: Ledger>(
     Ok(())
 }
 
-// The corners of the unit square, which are deleted in every order.
+// The corners of the unit square, which are put and deleted in every order.
 fn unit_square<V: Ledger, C: Ledger>(
     rt: &impl Abort,
     alloc: Global,
@@ -71,8 +71,8 @@ fn unit_square<V: Ledger, C: Ledger>(
         if a == b || b == c || a == c {
             continue;
         }
-        let dels = [a, b, c, 6usize.saturating_sub(a + b + c)];
-        put_and_delete(rt, alloc, &CORNERS, &[0, 1, 2, 3], &dels, counters)?;
+        let corners = [a, b, c, 6usize.saturating_sub(a + b + c)];
+        put_and_delete(rt, alloc, &CORNERS, &corners, &corners, counters)?;
     }
     Ok(())
 }

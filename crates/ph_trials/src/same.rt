@@ -17,7 +17,7 @@ use std::sync::ledger::Ledger;
 
 /// Whether the nodes from a root down are the shape of a table. Without a root, whether the table is empty.
 ///
-/// Memory is taken for the shape, and given back. Each node that is compared is visited once.
+/// Takes memory for the shape.
 pub fn is_shape<const D: usize, V: Ledger>(
     alloc: Global,
     root: Option<&Node<D>>,
@@ -41,8 +41,6 @@ pub fn is_shape<const D: usize, V: Ledger>(
 
 /// Whether a node and all that is below it are the same as a lawful plain node: the levels, and of each entry the address, the
 /// body, and the value or the child.
-///
-/// It ends at the first difference. Each node that is compared is visited once.
 #[cycle(same)]
 pub fn is_same<P: Dims, V: Ledger>(
     node: &NodeOf<P>,

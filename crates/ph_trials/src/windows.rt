@@ -1,0 +1,239 @@
+//! Windows and pages of a tree beside windows of a table, between random edits.
+
+ghost use Rattle.std.specs.Prelude.{◌≡◌, ◌<◌, ◌≤◌};
+ghost use Rattle.ph_specs.specs.Coordinate.{IsPoint};
+ghost use Rattle.ph_window.specs.Page.{IsLast};
+
+use crate::edits::{GREATEST, LEAST, draw, edit};
+use crate::pair::{Counters, Pair, point};
+use ph_coord::{Point, Row, z_before};
+use ph_steps::Steps;
+use ph_window::{Cursor, Tail, Window};
+use rand_core::SeedableRng;
+use rand_xoshiro::Xoshiro256PlusPlus;
+use std::alloc::Global;
+use std::marker::Brand;
+use std::process::Abort;
+use std::sync::ledger::{Blank, Ledger};
+use std::test::Fail;
+
+const SEED: u64 = 1966;
+
+const EDITS: u64 = 400;
+
+// How many edits are made from one cursor on.
+const CURSOR_EDITS: u64 = 16;
+
+// The corners of the least window with both points. In one dimension, if there is such a one, the bounds are reversed.
+fn corners<const D: usize>(
+    rt: &impl Abort,
+    a: &Point<D>,
+    b: &Point<D>,
+    reversed: usize,
+) -> (Point<D>, Point<D>)
+    ensures lo { IsPoint 32 D result.0 }
+    ensures hi { IsPoint 32 D result.1 }
+{
+    let mut lo = [0; D];
+    let mut hi = [0; D];
+    for i in 0..D {
+        let least = a.at(i).min(b.at(i));
+        let greatest = a.at(i).max(b.at(i));
+        if i == reversed {
+            lo[i] = greatest;
+            hi[i] = least;
+        } else {
+            lo[i] = least;
+            hi[i] = greatest;
+        }
+    }
+    (point(rt, &lo), point(rt, &hi))
+}
+
+// Lists a window of the tree, which is to have these rows.
+fn list<const D: usize, V: Ledger, C: Ledger>(
+    rt: &impl Abort,
+    pair: &Pair<D>,
+    lo: Point<D>,
+    hi: Point<D>,
+    rows: &[Row<D>],
+    counters: &mut Counters<V, C>,
+)
+    requires few { D ≤ 16 }
+    requires lo { IsPoint 32 D lo }
+    requires hi { IsPoint 32 D hi }
+{
+    let mut window = Window::new(&pair.tree, lo, hi);
+    for row in rows {
+        assert_eq!(rt; window.next(&mut counters.visits), Some(*row));
+    }
+    assert_eq!(rt; window.next(&mut counters.visits), None);
+    assert_eq!(rt; window.next(&mut counters.visits), None);
+}
+
+// Lists a page, which is to have the first of the rows that are left, and tells the last point behind it.
+fn page<const D: usize, V: Ledger, C: Ledger>(
+    rt: &impl Abort,
+    pair: &Pair<D>,
+    cursor: &Cursor<D>,
+    left: &[Row<D>],
+    n: u32,
+    counters: &mut Counters<V, C>,
+) -> Option<Point<D>>
+    requires few { D ≤ 16 }
+    requires lo { IsPoint 32 D cursor.now.lo }
+    requires hi { IsPoint 32 D cursor.now.hi }
+    requires last { IsLast 32 D cursor.now.last }
+    ensures { IsLast 32 D result }
+{
+    let mut page = cursor.page(&pair.tree, n, &mut counters.visits);
+    for row in left.iter().take(n as usize) {
+        assert_eq!(rt; page.next(&mut counters.visits), Some(*row));
+    }
+    assert_eq!(rt; page.next(&mut counters.visits), None);
+    let behind = page.cursor();
+    let is_more = page.tail(&mut counters.visits) == Tail::More;
+    assert_eq!(rt; is_more, (n as usize) < left.len());
+    match behind.last {
+        Some(last) => Some(point(rt, last.as_slice())),
+        None => None,
+    }
+}
+
+// Lists a window of the tree by pages, which are to have these rows together.
+fn list_pages<const D: usize, V: Ledger, C: Ledger>(
+    rt: &impl Abort,
+    pair: &Pair<D>,
+    lo: Point<D>,
+    hi: Point<D>,
+    rows: &[Row<D>],
+    n: u32,
+    counters: &mut Counters<V, C>,
+)
+    requires few { D ≤ 16 }
+    requires lo { IsPoint 32 D lo }
+    requires hi { IsPoint 32 D hi }
+{
+    let mut left = rows;
+    let mut last = None;
+    for _ in 0..=rows.len() {
+        let cursor = Cursor { lo, hi, last };
+        last = page(rt, pair, &cursor, left, n, counters);
+        if left.len() <= n as usize {
+            return;
+        }
+        left = &left[n as usize..];
+    }
+    panic!(rt; "pages without rows");
+}
+
+// The rows of the table's window behind a point.
+fn rows_behind<const D: usize>(
+    rt: &impl Abort,
+    alloc: Global,
+    pair: &Pair<D>,
+    cursor: &Cursor<D>,
+) -> Result<Vec<Row<D>>, Fail>
+    requires few { D ≤ 16 }
+    requires last { IsLast 32 D cursor.now.last }
+{
+    let rows = pair.table.window(alloc, &cursor.lo, &cursor.hi)?;
+    let Some(last) = cursor.last else {
+        return Ok(rows);
+    };
+    let mut behind = Vec::new(alloc);
+    for row in rows {
+        let p = point(rt, row.point.as_slice());
+        if z_before(pair.table.width(), &last, &p) {
+            behind.push(row)?;
+        }
+    }
+    Ok(behind)
+}
+
+// Lists a window, at once and by pages of one, two and three rows.
+fn compare<const D: usize, V: Ledger, C: Ledger>(
+    rt: &impl Abort,
+    alloc: Global,
+    pair: &Pair<D>,
+    lo: Point<D>,
+    hi: Point<D>,
+    counters: &mut Counters<V, C>,
+) -> Result<(), Fail>
+    requires few { D ≤ 16 }
+    requires lo { IsPoint 32 D lo }
+    requires hi { IsPoint 32 D hi }
+{
+    let rows = pair.table.window(alloc, &lo, &hi)?;
+    list(rt, pair, lo, hi, &rows, counters);
+    for n in 1..=3 {
+        list_pages(rt, pair, lo, hi, &rows, n, counters);
+    }
+    Ok(())
+}
+
+// Compares windows and a page between edits.
+fn windows<const D: usize, V: Ledger, C: Ledger>(
+    rt: &impl Abort,
+    alloc: Global,
+    choices: &[i64; 8],
+    counters: &mut Counters<V, C>,
+) -> Result<(), Fail>
+    requires some { 1 ≤ D }
+    requires few { D ≤ 16 }
+{
+    let mut rng = Xoshiro256PlusPlus::seed_from_u64(SEED);
+    let mut pair: Pair<D> = Pair::new(alloc, u64::MAX);
+    let least = point(rt, &[LEAST; D]);
+    let greatest = point(rt, &[GREATEST; D]);
+    let mut last = None;
+    for v in 0..EDITS {
+        edit(rt, &mut pair, &mut rng, choices, v, counters)?;
+        let (a, b) = (draw(rt, &mut rng, choices), draw(rt, &mut rng, choices));
+        for reversed in 0..=D {
+            let (lo, hi) = corners(rt, &a, &b, reversed);
+            compare(rt, alloc, &pair, lo, hi, counters)?;
+        }
+        compare(rt, alloc, &pair, a, a, counters)?;
+        compare(rt, alloc, &pair, least, greatest, counters)?;
+        if v % CURSOR_EDITS == 0 {
+            last = None;
+        }
+        let cursor = Cursor {
+            lo: least,
+            hi: greatest,
+            last,
+        };
+        let left = rows_behind(rt, alloc, &pair, &cursor)?;
+        last = page(rt, &pair, &cursor, &left, 2, counters);
+    }
+    Ok(())
+}
+
+fn all_windows<V: Ledger, C: Ledger>(
+    rt: &impl Abort,
+    alloc: Global,
+    visits: Blank,
+    changes: Blank,
+) -> Result<(), Fail>
+    requires visits { (visits.name ≡ V.name) × (visits.parts ≡ V.parts) × (0 < visits.parts) }
+    requires changes { (changes.name ≡ C.name) × (changes.parts ≡ C.parts) × (0 < changes.parts) }
+{
+    let mut counters: Counters<V, C> = Counters {
+        visits: Steps::new(visits),
+        changes: Steps::new(changes),
+    };
+    let line = [LEAST, LEAST + 1, -2, -1, 0, 1, 2, GREATEST];
+    windows::<1, V, C>(rt, alloc, &line, &mut counters)?;
+    let square = [LEAST, LEAST, -2, -1, 0, 0, 1, GREATEST];
+    windows::<2, V, C>(rt, alloc, &square, &mut counters)?;
+    let cube = [LEAST, -1, -1, 0, 0, 1, 1, GREATEST];
+    windows::<3, V, C>(rt, alloc, &cube, &mut counters)?;
+    let mostly_zero = [LEAST, 0, 0, 0, 0, 0, 0, 1];
+    windows::<8, V, C>(rt, alloc, &mostly_zero, &mut counters)
+}
+
+#[test]
+fn windows_between_edits(rt: HostRuntime) -> Result<(), Fail> {
+    all_windows::<Brand, Brand>(&rt, rt.alloc(), Blank::new(1), Blank::new(1))
+}

@@ -1,0 +1,14 @@
+pub mod Frames
+pub mod Seeks
+pub mod Lists
+pub mod Knowns
+pub mod Paths
+pub mod Corners
+pub mod Steps
+pub mod Matches
+pub mod Goes
+pub mod Starts
+pub mod Marks
+pub mod Rests
+pub mod Resumes
+pub mod Behinds

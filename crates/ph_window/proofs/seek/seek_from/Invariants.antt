@@ -1,0 +1,13 @@
+use Rattle.std.proofs.Common.{◌-◌, ◌≤◌, length}
+use Rattle.ph_specs.specs.Node.{entries}
+use Rattle.ph_window.specs.Seek.{AreShut}
+use Rattle.ph_window.proofs.seek.seek_from.Given as goal
+
+abbrev pub invariant-loop-place : goal.invariant-loop-place
+invariant-loop-place g l = record {
+  behind : l.frame.place ≤ l.place;
+  shut : AreShut l.frame.lower l.frame.upper (entries l.node.node.now) l.frame.place l.place;
+}
+
+abbrev pub decreases-loop-place : goal.decreases-loop-place
+decreases-loop-place g l = length (entries l.node.node.now) - l.place

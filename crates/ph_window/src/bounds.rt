@@ -1,0 +1,164 @@
+//! The window, and the digits that are known where a walk stands.
+ghost use Rattle.std.specs.Prelude.{◌≡◌, ◌<◌, ◌≤◌, ◌&&◌, nat_le, length, take, map, replicate};
+ghost use Rattle.ph_specs.specs.Coordinate.{offset, IsPoint};
+ghost use Rattle.ph_specs.specs.Lawful.{IsBody, put_together};
+ghost use Rattle.ph_specs.specs.Window.{is_between as lies_between};
+ghost use Rattle.ph_specs.specs.Masks.{masks as the_masks};
+ghost use Rattle.ph_specs.specs.WindowWalk.{node_region};
+ghost use Rattle.ph_specs.specs.PutTree.{body_above};
+ghost use Rattle.ph_specs.specs.ZOrder.{before};
+ghost use Rattle.ph_window.specs.Bounds.{point_at, bounds_at, each_between};
+ghost use Rattle.ph_window.specs.Resumed.{IsStand};
+
+use crate::mark::MarkOf;
+use crate::parting::parting;
+use ph_coord::{Dims, Width, offsets_of};
+use ph_digits::join;
+use ph_zorder::offset_masks;
+use std::marker::{Model, PhantomData};
+
+// How a point stands to a region: it holds it, or all its points come later, or earlier.
+#[derive(Drop)]
+pub(crate) enum Stand {
+    Holds,
+    Later,
+    Earlier,
+}
+
+// Two corners and the digits at hand, all by their offsets.
+#[derive(Drop)]
+pub(crate) struct BoundsOf<P: Dims> {
+    width: Width,
+    known: [u64; 16],
+    low: [u64; 16],
+    high: [u64; 16],
+    dims: PhantomData<P>,
+}
+
+impl<P: Dims> Model for BoundsOf<P> {
+    ghost use Rattle.std.specs.Prelude.{take};
+    ghost use Rattle.ph_window.specs.Bounds.{Bounds, AreBounds};
+
+    ghost Value = { Bounds };
+
+    ghost view = { λ a. record { width = a.width; known = take P.D a.known; low = take P.D a.low; high = take P.D a.high } };
+
+    ghost invariant = { λ a. AreBounds P.D (record { width = a.width; known = take P.D a.known; low = take P.D a.low; high = take P.D a.high }) };
+}
+
+impl<P: Dims> BoundsOf<P> {
+    // The window between two corners, where no digits are known.
+    pub(crate) fn new(w: Width, lo: &[i64], hi: &[i64]) -> BoundsOf<P>
+        requires some { 1 ≤ P.D }
+        requires few { P.D ≤ 16 }
+        requires lo { IsPoint w P.D lo.now }
+        requires hi { IsPoint w P.D hi.now }
+        ensures { result ≡ bounds_at w (replicate P.D 0) (map (offset w) lo.now) (map (offset w) hi.now) }
+    {
+        let _bits = w.bits();
+        BoundsOf {
+            width: w,
+            known: [0; 16],
+            low: offsets_of(w, lo),
+            high: offsets_of(w, hi),
+            dims: PhantomData,
+        }
+    }
+
+    pub(crate) fn width(&self) -> Width
+        ensures { result ≡ self.now.width }
+    {
+        self.width
+    }
+
+    // The digits at hand.
+    pub(crate) fn known(&self) -> &[u64]
+        ensures digits { result.now ≡ self.now.known }
+        ensures body { IsBody P.D self.now.width result.now }
+    {
+        &self.known[..P::D]
+    }
+
+    // The masks of the window in a node at a level, below the digits that are known.
+    pub(crate) fn masks(&self, level: u32) -> Option<(u32, u32)>
+        requires { level < self.now.width }
+        ensures { result ≡ the_masks self.now.width (node_region self.now.width level (body_above level self.now.known)) (point_at self.now.width self.now.low) (point_at self.now.width self.now.high) }
+    {
+        let dims = P::D;
+        offset_masks(
+            level,
+            &self.known[..dims],
+            &self.low[..dims],
+            &self.high[..dims],
+        )
+    }
+
+    // Puts the digits of an entry behind those that are known above its level.
+    pub(crate) fn join(&mut self, level: u32, addr: u32, body: &[u64])
+        requires level { level < self.old.width }
+        requires body { IsBody P.D level body.now }
+        ensures { self.new ≡ record self.old { known = put_together level addr (body_above level self.old.known) body.now } }
+    {
+        let dims = P::D;
+        join(&mut self.known[..dims], level, addr, body);
+    }
+
+    // Whether the point with these digits is in the window.
+    pub(crate) fn is_inside(&self) -> bool
+        ensures { result ≡ lies_between (point_at self.now.width self.now.low) (point_at self.now.width self.now.high) (point_at self.now.width self.now.known) }
+    {
+        let dims = P::D;
+        are_between(&self.low[..dims], &self.high[..dims], &self.known[..dims])
+    }
+
+    // How a point stands to the region of the digits at hand above a level.
+    pub(crate) fn stand(&self, mark: &MarkOf<P>, level: u32) -> Stand
+        requires width { mark.now.width ≡ self.now.width }
+        ensures { IsStand level self.now mark.now result }
+    {
+        let dims = P::D;
+        let Some((place, is_later)) = parting(&mark.offsets[..dims], &self.known[..dims]) else {
+            return Stand::Holds;
+        };
+        if place <= level {
+            return Stand::Holds;
+        }
+        if is_later {
+            Stand::Later
+        } else {
+            Stand::Earlier
+        }
+    }
+
+    // Whether the digits at hand come behind a point.
+    pub(crate) fn is_behind(&self, mark: &MarkOf<P>) -> bool
+        requires width { mark.now.width ≡ self.now.width }
+        ensures { result ≡ before mark.now.width (point_at mark.now.width mark.now.digits) (point_at mark.now.width self.now.known) }
+    {
+        let dims = P::D;
+        match parting(&mark.offsets[..dims], &self.known[..dims]) {
+            Some((_, is_later)) => is_later,
+            None => false,
+        }
+    }
+}
+
+// Whether each number lies between two others.
+fn are_between(lo: &[u64], hi: &[u64], p: &[u64]) -> bool
+    requires low { length lo.now ≡ length p.now }
+    requires high { length hi.now ≡ length p.now }
+    ensures { result ≡ each_between lo.now hi.now p.now }
+{
+    for i in 0..p.len() {
+        if !is_between(lo[i], hi[i], p[i]) {
+            return false;
+        }
+    }
+    true
+}
+
+fn is_between(lo: u64, hi: u64, x: u64) -> bool
+    ensures { result ≡ (nat_le lo x && nat_le x hi) }
+{
+    lo <= x && x <= hi
+}

@@ -1,0 +1,18 @@
+//! Windows over a tree: the rows between two corners, in Z-order, and pages of them.
+#![tactic(auto)]
+
+mod bounds;
+mod cursor;
+mod enter;
+mod mark;
+mod page;
+mod parting;
+mod path;
+mod resume;
+mod seek;
+mod walk;
+mod window;
+
+pub use cursor::Cursor;
+pub use page::{Page, PageOf, Tail};
+pub use window::{Window, WindowOf};

@@ -1,0 +1,53 @@
+//! The point behind which a walk goes on.
+ghost use Rattle.std.specs.Prelude.{◌≡◌, ◌<◌, ◌≤◌, ◌^◌, map};
+ghost use Rattle.ph_specs.specs.Coordinate.{offset, IsPoint};
+ghost use Rattle.ph_specs.specs.ZOrder.{address};
+ghost use Rattle.ph_window.specs.Bounds.{point_at};
+ghost use Rattle.ph_window.specs.Mark.{mark_at};
+
+use ph_coord::{Dims, Width, offsets_of};
+use ph_digits::body_address;
+use std::marker::{Model, PhantomData};
+
+// A point, by the offsets of its coordinates.
+#[derive(Drop)]
+pub(crate) struct MarkOf<P: Dims> {
+    pub(crate) offsets: [u64; 16],
+    width: Width,
+    dims: PhantomData<P>,
+}
+
+impl<P: Dims> Model for MarkOf<P> {
+    ghost use Rattle.std.specs.Prelude.{take};
+    ghost use Rattle.ph_window.specs.Mark.{Mark, IsMark};
+
+    ghost Value = { Mark };
+
+    ghost view = { λ a. record { width = a.width; digits = take P.D a.offsets } };
+
+    ghost invariant = { λ a. IsMark P.D (record { width = a.width; digits = take P.D a.offsets }) };
+}
+
+impl<P: Dims> MarkOf<P> {
+    pub(crate) fn new(w: Width, p: &[i64]) -> MarkOf<P>
+        requires few { P.D ≤ 16 }
+        requires point { IsPoint w P.D p.now }
+        ensures { result ≡ mark_at w (map (offset w) p.now) }
+    {
+        let _bits = w.bits();
+        MarkOf {
+            offsets: offsets_of(w, p),
+            width: w,
+            dims: PhantomData,
+        }
+    }
+
+    // The hypercube address of the point at a level.
+    pub(crate) fn address(&self, level: u32) -> u32
+        requires { level < self.now.width }
+        ensures value { result ≡ address self.now.width (point_at self.now.width self.now.digits) level }
+        ensures limit { result < 2 ^ P.D }
+    {
+        body_address(level, &self.offsets[..P::D])
+    }
+}

@@ -1,0 +1,73 @@
+//! The entries of a node that fit the masks of a window.
+ghost use Rattle.std.specs.Prelude.{◌≡◌, ◌+◌, ◌<◌, ◌≤◌, ◌^◌, length, bit_and, MatchOption, IfSome};
+ghost use Rattle.ph_specs.specs.Node.{entries};
+ghost use Rattle.ph_specs.specs.Lawful.{IsLawfulFrom};
+ghost use Rattle.ph_specs.specs.Masks.{fits_masks};
+ghost use Rattle.ph_node.specs.Shown.{shown};
+ghost use Rattle.ph_window.specs.Seek.{AreShut, IsNextEntry, IsPassed};
+
+use crate::path::FrameOf;
+use ph_coord::Dims;
+use ph_node::NodeOf;
+use ph_zorder::next_address;
+
+// Whether an address has every digit of the lower mask and none that the upper mask has not.
+pub(crate) fn fits(addr: u32, lower: u32, upper: u32) -> bool
+    ensures { result ≡ fits_masks addr lower upper }
+{
+    addr | lower == addr && addr & upper == addr
+}
+
+// The place of the first entry at or behind the frame's place whose address fits.
+pub(crate) fn seek<P: Dims>(frame: FrameOf<'_, NodeOf<P>>) -> Option<usize>
+    requires masks { bit_and frame.lower frame.upper ≡ frame.lower }
+    requires upper { frame.upper < 2 ^ P.D }
+    requires lawful { IsLawfulFrom P.D (shown frame.node).level 0 (shown frame.node).chain }
+    ensures found { MatchOption result (AreShut frame.entry.lower frame.entry.upper (entries (shown frame.entry.node)) frame.entry.place (length (entries (shown frame.entry.node)))) (λ i. IsNextEntry frame.entry.lower frame.entry.upper (entries (shown frame.entry.node)) frame.entry.place i) }
+    ensures room { IfSome result (λ i. i + 1 < 2 ^ 64) }
+{
+    let Some(place) = first_place(frame) else {
+        return None;
+    };
+    seek_from(frame, place)
+}
+
+// The frame's place, or a later one before which no address has the digits of the lower mask.
+fn first_place<P: Dims>(frame: FrameOf<'_, NodeOf<P>>) -> Option<usize>
+    requires { frame.lower < 2 ^ P.D }
+    ensures { MatchOption result (AreShut frame.entry.lower frame.entry.upper (entries (shown frame.entry.node)) frame.entry.place (length (entries (shown frame.entry.node)))) (λ i. IsPassed frame.entry.lower frame.entry.upper (entries (shown frame.entry.node)) frame.entry.place i) }
+{
+    if frame.place > 0 {
+        return Some(frame.place);
+    }
+    if frame.lower == 0 {
+        return Some(frame.place);
+    }
+    frame.node.next_at_or_after(frame.lower)
+}
+
+// The same, from a place on before which nothing fits.
+fn seek_from<P: Dims>(frame: FrameOf<'_, NodeOf<P>>, mut place: usize) -> Option<usize>
+    requires masks { bit_and frame.lower frame.upper ≡ frame.lower }
+    requires upper { frame.upper < 2 ^ P.D }
+    requires lawful { IsLawfulFrom P.D (shown frame.node).level 0 (shown frame.node).chain }
+    requires passed { IsPassed frame.lower frame.upper (entries (shown frame.node)) frame.place place }
+    ensures found { MatchOption result (AreShut frame.entry.lower frame.entry.upper (entries (shown frame.entry.node)) frame.entry.place (length (entries (shown frame.entry.node)))) (λ i. IsNextEntry frame.entry.lower frame.entry.upper (entries (shown frame.entry.node)) frame.entry.place i) }
+    ensures room { IfSome result (λ i. i + 1 < 2 ^ 64) }
+{
+    let node = frame.node;
+    while place < node.len() {
+        let addr = node.address(place);
+        if fits(addr, frame.lower, frame.upper) {
+            return Some(place);
+        }
+        let Some(next) = next_address(addr, frame.lower, frame.upper) else {
+            return None;
+        };
+        let Some(found) = node.next_at_or_after(next) else {
+            return None;
+        };
+        place = found;
+    }
+    None
+}
