@@ -12,6 +12,9 @@ use std::marker::Model;
 
 /// A source over a reader. It knows what is left where the reader does, and each error of the
 /// reader is a fault, also one that a later read might not meet.
+///
+/// What is left of the standard input is never known. That its bytes come in their order, each once, and that a read gives 0
+/// at its end alone, is trusted of std and of the operating system.
 #[derive(Drop)]
 pub struct StdSource<R> {
     reader: R,
@@ -63,6 +66,9 @@ impl<R: Read> Source for StdSource<R> {
 
 /// A sink over a writer. It knows what was written where the writer does. Each error of the writer
 /// is a fault, and so is a write that takes nothing of a piece that has bytes. It never flushes.
+///
+/// What was written to the standard output is never known. That the bytes which a write says it took go out in their order,
+/// each once and none held back, is trusted of std and of the operating system.
 #[derive(Drop)]
 pub struct StdSink<W> {
     writer: W,

@@ -9,7 +9,7 @@ use Rattle.ph_specs.proofs.laws.Put.{either}
 use Rattle.ph_script.specs.declared.coords.Coord.{Coord}
 use Rattle.ph_script.specs.declared.coords.Coord.TheVariants.{Whole, Far}
 use Rattle.ph_script.specs.Meaning.{number_of_coord}
-use Rattle.ph_script.specs.Numbers.{coord_of, count_of}
+use Rattle.ph_script.specs.Parts.{coord_of, count_of}
 
 fits-pos : (n : ℕ) → fits 64 (pos n) ≡ nat_lt n (2 ^ 63)
 fits-pos n = grind (arith, nat_tests)

@@ -1,7 +1,9 @@
 -- `Pieces` has the laws that callers cite; the others are steps of this crate's proofs.
 mod KeptNumbers
 mod LinePieces
+mod NameBytes
 mod PickedForms
 pub mod Pieces
 mod ReadPlaces
+mod RowTexts
 mod WordCuts

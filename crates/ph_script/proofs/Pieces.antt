@@ -11,7 +11,7 @@ use Rattle.std.proofs.lemmas.List.Sums.{fails_before_first}
 use Rattle.std.proofs.lemmas.List.Splits.{slice_split_first, slice_split_none, length-slice_split}
 use Rattle.std.proofs.Math.Seq.{take-append-add, drop-append-add}
 use Rattle.ph_specs.specs.Lines.{lines, whole_lines, lines_among, ended_among, words}
-use Rattle.ph_specs.specs.Built.{built_reading, built_forms}
+use Rattle.ph_script.specs.Built.{built_reading, built_forms}
 use Rattle.ph_specs.specs.Command.{Reading, reading_by, Form, read_words_by}
 use Rattle.ph_specs.specs.Reply.{Reply as Answer}
 use Rattle.ph_specs.proofs.laws.Put.{either}

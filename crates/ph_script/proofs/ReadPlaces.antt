@@ -1,20 +1,20 @@
 -- What is read in the places of each form.
-use Rattle.std.proofs.Common.{◌≡◌, ℕ, zero, suc, ◌^◌, ◌<◌, ◌≤◌, List, [], ◌∷◌, ◌++◌, length, map, true, false, refl, sym, ap, ◌∙◌, subst, append_assoc, length-append, lit≤}
-use Rattle.std.specs.Prelude.{ℤ, pos, codes}
+use Rattle.std.proofs.Common.{◌≡◌, ℕ, zero, suc, ◌+◌, ◌^◌, ◌<◌, ◌≤◌, List, [], ◌∷◌, ◌++◌, length, map, true, false, refl, sym, ap, ◌∙◌, subst, append_assoc, length-append, lit≤}
+use Rattle.std.specs.Prelude.{ℤ, pos, codes, Option, Some, None}
 use Rattle.std.specs.List.{cons_option}
 use Rattle.std.specs.Cmp.Lexicographic.{pointwise}
 use Rattle.std.proofs.lemmas.List.{append-nil, map-append}
 use Rattle.std.proofs.lemmas.Bool.{and_parts}
 use Rattle.ph_specs.specs.Lines.{number}
 use Rattle.ph_specs.specs.Command.{Command, Place, form, number_fits, name_fits, numbers, texts, coordinates, count, value, fixed, read_form, Reading}
-use Rattle.ph_specs.specs.Command.Place.{Coordinate, Below, OneOf}
+use Rattle.ph_specs.specs.Command.Place.{Coordinate, Below, CursorName, OneOf}
 use Rattle.ph_script.specs.declared.coords.Coord.{Coord}
 use Rattle.ph_script.specs.declared.forms.Verb.{Verb}
-use Rattle.ph_script.specs.declared.forms.Verb.TheVariants.{Open, OpenMax, Put, Get, Del, Relocate, Count, Clear}
+use Rattle.ph_script.specs.declared.forms.Verb.TheVariants.{Open, OpenMax, Put, Get, Del, Relocate, Count, Clear, Window, Cursor, Page}
 use Rattle.ph_script.specs.Meaning.{number_of_coord, numbers_of}
 use Rattle.ph_script.specs.Forms.{places_by, command_by}
-use Rattle.ph_script.specs.Numbers.{coords_at, counts_at}
-use Rattle.ph_script.specs.Fit.{IsFit}
+use Rattle.ph_script.specs.Parts.{coords_at, counts_at, name_from}
+use Rattle.ph_script.specs.Fit.{IsFit, IsNamed}
 use Rattle.ph_script.proofs.KeptNumbers.{keeps-coord, keeps-count}
 
 -- words in places, read up to some of the places behind
@@ -48,6 +48,22 @@ led-fixed : (words : List (List ℕ)) (behind : List Place) (ws : List (List ℕ
 led-fixed words behind [] h = absurd (let k : false ≡ true = h in cc)
 led-fixed words behind (w ∷ ws) h = record { left = ws; fits = h; coords = refl; counts = refl; same = refl }
 
+led-name : {behind : List Place} {ws : List (List ℕ)} {cs : List Coord} {ns : List ℕ} {zs : List ℤ} (word : List ℕ) → Led behind ws [] cs ns zs → Led (CursorName ∷ behind) (word ∷ ws) [] cs ns zs
+led-name word l = record { left = l.left; fits = l.fits; coords = l.coords; counts = l.counts; same = l.same }
+
+-- no number changes the name
+unnamed : (got : Option (List ℕ)) (dims : ℕ) (behind : List Place) (ws : List (List ℕ)) → ((vs : List (List ℕ)) → name_from got behind vs ≡ got) → name_from got (coordinates dims ++ behind) ws ≡ got
+unnamed got zero behind ws h = h ws
+unnamed got (suc dims) behind [] h = refl
+unnamed got (suc dims) behind (w ∷ ws) h = unnamed got dims behind ws h
+
+unnamed-corners : (got : Option (List ℕ)) (dims : ℕ) (ws : List (List ℕ)) → name_from got (coordinates dims ++ coordinates dims) ws ≡ got
+unnamed-corners got dims ws = unnamed got dims (coordinates dims) ws (λ vs. subst (λ ps. name_from got ps vs ≡ got) (append-nil (coordinates dims)) (unnamed got dims [] vs (λ us. refl)))
+
+unnamed-count : (got : Option (List ℕ)) (limit : ℕ) (ws : List (List ℕ)) → name_from got (Below limit ∷ []) ws ≡ got
+unnamed-count got limit [] = refl
+unnamed-count got limit (w ∷ ws) = refl
+
 -- one after another
 led-on : {places middle behind : List Place} {ws : List (List ℕ)} {cs ds : List Coord} {ns ms : List ℕ} {zs ys : List ℤ} → (a : Led places ws middle cs ns zs) → Led middle a.left behind ds ms ys → Led places ws behind (cs ++ ds) (ns ++ ms) (zs ++ ys)
 led-on {behind} {cs} {ds} {ns} {ms} {zs} {ys} a b =
@@ -71,17 +87,18 @@ led-point (suc dims) behind ws h =
     let p = led-point dims behind c.1.left c.1.fits in
     record { at = c.0 ∷ p.at; size = ap suc p.size; led = led-on c.1 p.led }
 
--- the numbers in the places of each form are what it asks
+-- the parts in the places of each form are what it asks
 pub record Reads (verb : Verb) (dims : ℕ) (ws : List (List ℕ)) : Type 0 where
-  pub fit : IsFit verb dims (coords_at (places_by verb dims) ws) (counts_at (places_by verb dims) ws)
+  pub fit : IsFit verb dims (coords_at (places_by verb dims) ws) (counts_at (places_by verb dims) ws) (name_from None (places_by verb dims) ws)
   pub same : numbers (places_by verb dims) ws ≡ numbers_of (coords_at (places_by verb dims) ws) ++ map pos (counts_at (places_by verb dims) ws)
+  pub named : IsNamed verb (name_from None (places_by verb dims) ws) (texts (places_by verb dims) ws)
 
-closing : (verb : Verb) (dims : ℕ) (ws : List (List ℕ)) {cs : List Coord} {ns : List ℕ} {zs : List ℤ} → Led (places_by verb dims) ws [] cs ns zs → IsFit verb dims cs ns → zs ≡ numbers_of cs ++ map pos ns → Reads verb dims ws
-closing verb dims ws {cs} {ns} {zs} l f e =
+closing : (verb : Verb) (dims : ℕ) (ws : List (List ℕ)) {cs : List Coord} {ns : List ℕ} {zs : List ℤ} → Led (places_by verb dims) ws [] cs ns zs → IsFit verb dims cs ns (name_from None (places_by verb dims) ws) → zs ≡ numbers_of cs ++ map pos ns → IsNamed verb (name_from None (places_by verb dims) ws) (texts (places_by verb dims) ws) → Reads verb dims ws
+closing verb dims ws {cs} {ns} {zs} l f e named =
     let a : coords_at (places_by verb dims) ws ≡ cs = l.coords ∙ append-nil cs in
     let b : counts_at (places_by verb dims) ws ≡ ns = l.counts ∙ append-nil ns in
     let n : numbers (places_by verb dims) ws ≡ zs = l.same ∙ append-nil zs in
-    record { fit = rw (a, b) f; same = rw (a, b) (n ∙ e) }
+    record { fit = rw (a, b) f; same = rw (a, b) (n ∙ e); named = named }
 
 led-get : (dims : ℕ) (ws : List (List ℕ)) → pointwise number_fits (coordinates dims) ws ≡ true → (at : List Coord) × Led (coordinates dims) ws [] at [] (numbers_of at) × (length at ≡ dims)
 led-get dims ws h =
@@ -92,46 +109,78 @@ led-get dims ws h =
 led-none : (ws : List (List ℕ)) → pointwise number_fits [] ws ≡ true → Led [] ws [] [] [] []
 led-none ws h = record { left = ws; fits = h; coords = refl; counts = refl; same = refl }
 
+-- two points
+record LedCorners (dims : ℕ) (ws : List (List ℕ)) : Type 0 where
+  cs : List Coord
+  zs : List ℤ
+  led : Led (coordinates dims ++ coordinates dims) ws [] cs [] zs
+  size : length cs ≡ dims + dims
+  same : zs ≡ numbers_of cs ++ []
+
+led-corners : (dims : ℕ) (ws : List (List ℕ)) → pointwise number_fits (coordinates dims ++ coordinates dims) ws ≡ true → LedCorners dims ws
+led-corners dims ws h =
+    let p = led-point dims (coordinates dims) ws h in
+    let q = led-get dims p.led.left p.led.fits in
+    record {
+      cs = p.at ++ q.0;
+      zs = numbers_of p.at ++ numbers_of q.0;
+      led = led-on p.led q.1;
+      size = length-append p.at q.0 ∙ rw (p.size, q.2) refl;
+      same = rw (map-append number_of_coord p.at q.0, append-nil (numbers_of p.at ++ numbers_of q.0)) refl;
+    }
+
 pub reads : (verb : Verb) (dims : ℕ) (ws : List (List ℕ)) → pointwise number_fits (places_by verb dims) ws ≡ true → Reads verb dims ws
 reads Open dims ws h =
     let a = led-fixed (codes "points" ∷ []) (count ∷ []) ws h in
     let b = led-count (2 ^ 32) [] a.left (lit≤ tt) a.fits in
-    closing Open dims ws (led-on a b.led) (refl, refl, b.below) refl
+    closing Open dims ws (led-on a b.led) (refl, refl, b.below) refl tt
 reads OpenMax dims ws h =
     let a = led-fixed (codes "points" ∷ []) (count ∷ fixed (codes "max") ∷ value ∷ []) ws h in
     let b = led-count (2 ^ 32) (fixed (codes "max") ∷ value ∷ []) a.left (lit≤ tt) a.fits in
     let c = led-fixed (codes "max" ∷ []) (value ∷ []) b.led.left b.led.fits in
     let d = led-count (2 ^ 64) [] c.left (lit≤ tt) c.fits in
-    closing OpenMax dims ws (led-on a (led-on b.led (led-on c d.led))) (refl, refl, b.below, d.below) refl
+    closing OpenMax dims ws (led-on a (led-on b.led (led-on c d.led))) (refl, refl, b.below, d.below) refl tt
 reads Put dims ws h =
     let p = led-point dims (value ∷ []) ws h in
     let b = led-count (2 ^ 64) [] p.led.left (lit≤ tt) p.led.fits in
     let e = append-nil p.at in
-    closing Put dims ws (led-on p.led b.led) (rw e p.size, refl, b.below) (rw e refl)
+    closing Put dims ws (led-on p.led b.led) (rw e p.size, refl, b.below) (rw e refl) tt
 reads Get dims ws h =
     let p = led-get dims ws h in
-    closing Get dims ws p.1 (p.2, refl) (sym (append-nil (numbers_of p.0)))
+    closing Get dims ws p.1 (p.2, refl) (sym (append-nil (numbers_of p.0))) tt
 reads Del dims ws h =
     let p = led-get dims ws h in
-    closing Del dims ws p.1 (p.2, refl) (sym (append-nil (numbers_of p.0)))
-reads Relocate dims ws h =
-    let p = led-point dims (coordinates dims) ws h in
-    let q = led-get dims p.led.left p.led.fits in
-    closing Relocate dims ws (led-on p.led q.1) (length-append p.at q.0 ∙ rw (p.size, q.2) refl, refl) (rw (map-append number_of_coord p.at q.0, append-nil (numbers_of p.at ++ numbers_of q.0)) refl)
-reads Count dims ws h = closing Count dims ws (led-none ws h) tt refl
-reads Clear dims ws h = closing Clear dims ws (led-none ws h) tt refl
+    closing Del dims ws p.1 (p.2, refl) (sym (append-nil (numbers_of p.0))) tt
+reads Relocate dims ws h = let l = led-corners dims ws h in closing Relocate dims ws l.led (l.size, refl) l.same tt
+reads Count dims ws h = closing Count dims ws (led-none ws h) tt refl tt
+reads Clear dims ws h = closing Clear dims ws (led-none ws h) tt refl tt
+reads Window dims ws h = let l = led-corners dims ws h in closing Window dims ws l.led (l.size, refl) l.same tt
+reads Cursor dims [] h = absurd (let k : false ≡ true = h in cc)
+reads Cursor dims (w ∷ ws) h =
+    let l = led-corners dims ws h in
+    let n = unnamed-corners (Some w) dims ws in
+    closing Cursor dims (w ∷ ws) (led-name w l.led) (l.size, refl, rw n refl) l.same n
+reads Page dims [] h = absurd (let k : false ≡ true = h in cc)
+reads Page dims (w ∷ ws) h =
+    let b = led-count (2 ^ 32) [] ws (lit≤ tt) h in
+    let n = unnamed-count (Some w) (2 ^ 32) ws in
+    closing Page dims (w ∷ ws) (led-name w b.led) (refl, refl, b.below, rw n refl) refl n
 
--- the same of places and numbers that are these
-pub fit-of : (verb : Verb) (dims : ℕ) (places : List Place) (ws : List (List ℕ)) (cs : List Coord) (ns : List ℕ) → places ≡ places_by verb dims → pointwise number_fits places ws ≡ true → cs ≡ coords_at places ws → ns ≡ counts_at places ws → IsFit verb dims cs ns
-fit-of verb dims places ws cs ns e h a b = rw (a, b, e) (reads verb dims ws (rw e at h)).fit
+-- the same of places and parts that are these
+pub fit-of : (verb : Verb) (dims : ℕ) (places : List Place) (ws : List (List ℕ)) (cs : List Coord) (ns : List ℕ) (name : Option (List ℕ)) → places ≡ places_by verb dims → pointwise number_fits places ws ≡ true → cs ≡ coords_at places ws → ns ≡ counts_at places ws → name ≡ name_from None places ws → IsFit verb dims cs ns name
+fit-of verb dims places ws cs ns name e h a b n = rw (a, b, n, e) (reads verb dims ws (rw e at h)).fit
 
 pub same-of : (verb : Verb) (dims : ℕ) (places : List Place) (ws : List (List ℕ)) (cs : List Coord) (ns : List ℕ) → places ≡ places_by verb dims → pointwise number_fits places ws ≡ true → cs ≡ coords_at places ws → ns ≡ counts_at places ws → numbers places ws ≡ numbers_of cs ++ map pos ns
 same-of verb dims places ws cs ns e h a b = rw (a, b, e) (reads verb dims ws (rw e at h)).same
 
+named-of : (verb : Verb) (dims : ℕ) (places : List Place) (ws : List (List ℕ)) (name : Option (List ℕ)) → places ≡ places_by verb dims → pointwise number_fits places ws ≡ true → name ≡ name_from None places ws → IsNamed verb name (texts places ws)
+named-of verb dims places ws name e h n = rw (n, e) (reads verb dims ws (rw e at h)).named
+
 -- the command of a form, where all its numbers and names fit
-pub does : (word : List ℕ) (verb : Verb) (dims : ℕ) (places read : List Place) (ws : List (List ℕ)) (cs : List Coord) (ns : List ℕ) (made : Command) → places ≡ places_by verb dims → read ≡ places → pointwise number_fits read ws ≡ true → pointwise name_fits read ws ≡ true → cs ≡ coords_at read ws → ns ≡ counts_at read ws → ((t : List (List ℕ)) → made ≡ command_by verb dims (numbers_of cs ++ map pos ns) t) → read_form (form word places (command_by verb dims)) ws ≡ Reading.Do made
-does word verb dims places read ws cs ns made row e h k a b makes =
+pub does : (word : List ℕ) (verb : Verb) (dims : ℕ) (places read : List Place) (ws : List (List ℕ)) (cs : List Coord) (ns : List ℕ) (name : Option (List ℕ)) (made : Command) → places ≡ places_by verb dims → read ≡ places → pointwise number_fits read ws ≡ true → pointwise name_fits read ws ≡ true → cs ≡ coords_at read ws → ns ≡ counts_at read ws → name ≡ name_from None read ws → ((t : List (List ℕ)) → IsNamed verb name t → made ≡ command_by verb dims (numbers_of cs ++ map pos ns) t) → read_form (form word places (command_by verb dims)) ws ≡ Reading.Do made
+does word verb dims places read ws cs ns name made row e h k a b n makes =
     let fits : pointwise number_fits places ws ≡ true = rw e at h in
     let names : pointwise name_fits places ws ≡ true = rw e at k in
     let same = same-of verb dims places ws cs ns row fits (rw e at a) (rw e at b) in
-    rw (fits, names) (ap Reading.Do (ap (λ n. command_by verb dims n (texts places ws)) same ∙ sym (makes (texts places ws))))
+    let named = named-of verb dims places ws name row fits (rw e at n) in
+    rw (fits, names) (ap Reading.Do (ap (λ n. command_by verb dims n (texts places ws)) same ∙ sym (makes (texts places ws) named)))

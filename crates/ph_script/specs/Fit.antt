@@ -1,5 +1,5 @@
--- What a form asks of the numbers in its places, the fault of words there, and how many coordinates a command has.
-use Rattle.std.specs.Prelude.{◌≡◌, ◌<◌, ◌+◌, ◌^◌, ℕ, Bool, true, false, List, [], length, slice_index}
+-- What a form asks of the parts in its places, the fault of words there, and how many coordinates a command has.
+use Rattle.std.specs.Prelude.{◌≡◌, ◌<◌, ◌+◌, ◌^◌, ℕ, Bool, true, false, List, [], length, slice_index, IsSome}
 use Rattle.std.specs.Prelude.{Option, Some, None, Result, Ok, Err}
 use Rattle.ph_script.specs.declared.coords.Coord.{Coord}
 use Rattle.ph_script.specs.declared.command.Bad.{Bad}
@@ -7,17 +7,27 @@ use Rattle.ph_script.specs.declared.command.Bad.TheVariants.{Word, Count as BadC
 use Rattle.ph_script.specs.declared.command.Command.{Command}
 use Rattle.ph_script.specs.declared.command.Command.TheVariants as by
 use Rattle.ph_script.specs.declared.forms.Verb.{Verb}
-use Rattle.ph_script.specs.declared.forms.Verb.TheVariants.{Open, OpenMax, Put, Get, Del, Relocate, Count, Clear}
+use Rattle.ph_script.specs.declared.forms.Verb.TheVariants.{Open, OpenMax, Put, Get, Del, Relocate, Count, Clear, Window, Cursor, Page}
+use Rattle.ph_specs.specs.Command.{first_word}
 
-abbrev pub IsFit : Verb → ℕ → List Coord → List ℕ → Type 0
-IsFit Open dims coords counts = (coords ≡ []) × (length counts ≡ 1) × (slice_index counts 0 < 2 ^ 32)
-IsFit OpenMax dims coords counts = (coords ≡ []) × (length counts ≡ 2) × (slice_index counts 0 < 2 ^ 32) × (slice_index counts 1 < 2 ^ 64)
-IsFit Put dims coords counts = (length coords ≡ dims) × (length counts ≡ 1) × (slice_index counts 0 < 2 ^ 64)
-IsFit Get dims coords counts = (length coords ≡ dims) × (counts ≡ [])
-IsFit Del dims coords counts = (length coords ≡ dims) × (counts ≡ [])
-IsFit Relocate dims coords counts = (length coords ≡ dims + dims) × (counts ≡ [])
-IsFit Count dims coords counts = Unit {0}
-IsFit Clear dims coords counts = Unit {0}
+abbrev pub IsFit : Verb → ℕ → List Coord → List ℕ → Option (List ℕ) → Type 0
+IsFit Open dims coords counts name = (coords ≡ []) × (length counts ≡ 1) × (slice_index counts 0 < 2 ^ 32)
+IsFit OpenMax dims coords counts name = (coords ≡ []) × (length counts ≡ 2) × (slice_index counts 0 < 2 ^ 32) × (slice_index counts 1 < 2 ^ 64)
+IsFit Put dims coords counts name = (length coords ≡ dims) × (length counts ≡ 1) × (slice_index counts 0 < 2 ^ 64)
+IsFit Get dims coords counts name = (length coords ≡ dims) × (counts ≡ [])
+IsFit Del dims coords counts name = (length coords ≡ dims) × (counts ≡ [])
+IsFit Relocate dims coords counts name = (length coords ≡ dims + dims) × (counts ≡ [])
+IsFit Count dims coords counts name = Unit {0}
+IsFit Clear dims coords counts name = Unit {0}
+IsFit Window dims coords counts name = (length coords ≡ dims + dims) × (counts ≡ [])
+IsFit Cursor dims coords counts name = (length coords ≡ dims + dims) × (counts ≡ []) × IsSome name
+IsFit Page dims coords counts name = (coords ≡ []) × (length counts ≡ 1) × (slice_index counts 0 < 2 ^ 32) × IsSome name
+
+-- the name of a command that has one is the first of its words that are no numbers
+abbrev pub IsNamed : Verb → Option (List ℕ) → List (List ℕ) → Type 0
+IsNamed Cursor name texts = name ≡ Some (first_word texts)
+IsNamed Page name texts = name ≡ Some (first_word texts)
+IsNamed _ name texts = Unit {0}
 
 -- the fault of words in places, by whether all numbers and all names fit
 abbrev pub IsFault : Bad → Bool → Bool → Type 0
@@ -35,6 +45,9 @@ HasDims dims (by.Del at) = length at ≡ dims
 HasDims dims (by.Relocate from to) = (length from ≡ dims) × (length to ≡ dims)
 HasDims dims by.Count = Unit {0}
 HasDims dims by.Clear = Unit {0}
+HasDims dims (by.Window lo hi) = (length lo ≡ dims) × (length hi ≡ dims)
+HasDims dims (by.Cursor name lo hi) = (length lo ≡ dims) × (length hi ≡ dims)
+HasDims dims (by.Page name n) = Unit {0}
 
 -- the same of the command that was read, if there is one
 abbrev pub ReadsDims : ℕ → Result (Option Command) Bad → Type 0

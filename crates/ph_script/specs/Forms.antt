@@ -1,28 +1,30 @@
 -- The forms of the code's table in the definitions, and the search among forms.
 use Rattle.std.specs.Prelude.{◌≡◌, ℕ, ◌+◌, ◌-◌, ◌^◌, ◌==◌, Bool, true, if◌then◌else◌, List, [], ◌∷◌, ◌++◌, length, replicate, take, drop, codes, bytes_eq, ℤ}
-use Rattle.ph_specs.specs.Command.{Command as Asked, Place as Asks, Form as Spelling, form, count, value, fixed, coordinates, number_at}
-use Rattle.ph_specs.specs.Command.Command.{Begin as AskBegin, Put as AskPut, Get as AskGet, Del as AskDel, Relocate as AskRelocate, Count as AskCount, Clear as AskClear}
-use Rattle.ph_specs.specs.Command.Place.{Coordinate as AsksCoordinate, Below}
+use Rattle.ph_specs.specs.Command.{Command as Asked, Place as Asks, Form as Spelling, form, count, value, fixed, coordinates, number_at, first_word}
+use Rattle.ph_specs.specs.Command.Command.{Begin as AskBegin, Put as AskPut, Get as AskGet, Del as AskDel, Relocate as AskRelocate, Count as AskCount, Clear as AskClear, Window as AskWindow, Cursor as AskCursor, Page as AskPage}
+use Rattle.ph_specs.specs.Command.Place.{Coordinate as AsksCoordinate, Below, CursorName}
 use Rattle.ph_specs.specs.declared.Kind.TheVariants.{Points}
 use Rattle.ph_script.specs.declared.command.Bad.{Bad}
 use Rattle.ph_script.specs.declared.command.Bad.TheVariants.{Word, Count as BadCount}
 use Rattle.ph_script.specs.declared.forms.Verb.{Verb}
-use Rattle.ph_script.specs.declared.forms.Verb.TheVariants.{Open, OpenMax, Put, Get, Del, Relocate, Count, Clear}
+use Rattle.ph_script.specs.declared.forms.Verb.TheVariants.{Open, OpenMax, Put, Get, Del, Relocate, Count, Clear, Window, Cursor, Page}
 use Rattle.ph_script.specs.declared.forms.Places.{Places}
-use Rattle.ph_script.specs.declared.forms.Places.TheVariants.{Coordinates, UpTo as AllUpTo, Fixed as AllFixed}
+use Rattle.ph_script.specs.declared.forms.Places.TheVariants.{Coordinates, UpTo as AllUpTo, Name as AllName, Fixed as AllFixed}
 use Rattle.ph_script.specs.declared.forms.Place.{Place}
-use Rattle.ph_script.specs.declared.forms.Place.TheVariants.{Coordinate, UpTo, Fixed}
+use Rattle.ph_script.specs.declared.forms.Place.TheVariants.{Coordinate, UpTo, Name, Fixed}
 use Rattle.ph_script.specs.declared.forms.Form.{Form}
 use Rattle.ph_script.specs.declared.spread.Spread.{Spread}
 
 abbrev pub place_of : Place → Asks
 place_of Coordinate = AsksCoordinate
 place_of (UpTo most) = Below (most + 1)
+place_of Name = CursorName
 place_of (Fixed word) = fixed word.now
 
 abbrev pub group_of : ℕ → Places → List Asks
 group_of dims Coordinates = coordinates dims
 group_of dims (AllUpTo most) = Below (most + 1) ∷ []
+group_of dims AllName = CursorName ∷ []
 group_of dims (AllFixed word) = fixed word.now ∷ []
 
 -- the places that groups of them stand for
@@ -35,7 +37,7 @@ places_of dims (group ∷ next ∷ more) = group_of dims group ++ places_of dims
 abbrev pub spread_of : Spread → List Asks
 spread_of s = replicate s.times (place_of s.place) ++ places_of s.dims s.groups.now
 
--- the places of a command, and what it makes of the numbers there
+-- the places of a command, and what it makes of the numbers and the words there
 abbrev pub places_by : Verb → ℕ → List Asks
 places_by Open dims = fixed (codes "points") ∷ count ∷ []
 places_by OpenMax dims = fixed (codes "points") ∷ count ∷ fixed (codes "max") ∷ value ∷ []
@@ -45,6 +47,9 @@ places_by Del dims = coordinates dims
 places_by Relocate dims = coordinates dims ++ coordinates dims
 places_by Count dims = []
 places_by Clear dims = []
+places_by Window dims = coordinates dims ++ coordinates dims
+places_by Cursor dims = CursorName ∷ coordinates dims ++ coordinates dims
+places_by Page dims = CursorName ∷ count ∷ []
 
 abbrev pub command_by : Verb → ℕ → List ℤ → List (List ℕ) → Asked
 command_by Open dims = λ n t. AskBegin Points (number_at n 0) (2 ^ 64 - 1)
@@ -55,6 +60,9 @@ command_by Del dims = λ n t. AskDel n
 command_by Relocate dims = λ n t. AskRelocate (take dims n) (drop dims n)
 command_by Count dims = λ n t. AskCount
 command_by Clear dims = λ n t. AskClear
+command_by Window dims = λ n t. AskWindow (take dims n) (drop dims n)
+command_by Cursor dims = λ n t. AskCursor (first_word t) (take dims n) (drop dims n)
+command_by Page dims = λ n t. AskPage (first_word t) (number_at n 0)
 
 abbrev pub form_of : ℕ → Form → Spelling
 form_of dims f = form f.word.now (places_of dims f.places.now) (command_by f.verb dims)

@@ -1,7 +1,9 @@
+pub mod Built
 pub mod Meaning
 pub mod Forms
-pub mod Numbers
+pub mod Parts
 pub mod Fit
 pub mod Shown
 pub mod Unended
 pub mod Pieces
+pub mod KeptName

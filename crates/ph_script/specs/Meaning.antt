@@ -1,17 +1,17 @@
 -- What the commands and replies of the code are in the definitions.
 use Rattle.std.specs.Prelude.{ℕ, ◌^◌, List, map, ℤ, pos, Option, Some, None, Result, Ok, Err}
 use Rattle.ph_specs.specs.Command.{Command as Asked, Reading}
-use Rattle.ph_specs.specs.Command.Command.{Begin as AskBegin, Put as AskPut, Get as AskGet, Del as AskDel, Relocate as AskRelocate, Count as AskCount, Clear as AskClear}
+use Rattle.ph_specs.specs.Command.Command.{Begin as AskBegin, Put as AskPut, Get as AskGet, Del as AskDel, Relocate as AskRelocate, Count as AskCount, Clear as AskClear, Window as AskWindow, Cursor as AskCursor, Page as AskPage}
 use Rattle.ph_specs.specs.Reply.{Reply as Answer}
 use Rattle.ph_specs.specs.declared.Kind.TheVariants.{Points}
 use Rattle.ph_script.specs.declared.coords.Coord.{Coord}
 use Rattle.ph_script.specs.declared.coords.Coord.TheVariants.{Whole, Far}
 use Rattle.ph_script.specs.declared.command.Command.{Command}
-use Rattle.ph_script.specs.declared.command.Command.TheVariants.{Begin, Put, Get, Del, Relocate, Count, Clear}
+use Rattle.ph_script.specs.declared.command.Command.TheVariants.{Begin, Put, Get, Del, Relocate, Count, Clear, Window, Cursor, Page}
 use Rattle.ph_script.specs.declared.command.Bad.{Bad}
 use Rattle.ph_script.specs.declared.command.Bad.TheVariants.{Word, Count as BadCount, Number, Name}
 use Rattle.ph_script.specs.declared.reply.Reply.{Reply}
-use Rattle.ph_script.specs.declared.reply.Reply.TheVariants.{Opened, New, Old, Value, Absent, Gone, Moved, Taken, Rows, Cleared, ErrorLong, ErrorWord, ErrorCount, ErrorNumber, ErrorName, ErrorDims, ErrorRange, ErrorFull}
+use Rattle.ph_script.specs.declared.reply.Reply.TheVariants.{Opened, New, Old, Value, Absent, Gone, Moved, Taken, Rows, Cleared, RowIs, End, More, Ready, ErrorLong, ErrorWord, ErrorCount, ErrorNumber, ErrorName, ErrorDims, ErrorRange, ErrorCursor, ErrorCursors, ErrorFull}
 
 -- a coordinate; one that is far stands for each number outside of 64 bits
 abbrev pub number_of_coord : Coord → ℤ
@@ -29,6 +29,9 @@ command_of (Del at) = AskDel (numbers_of at)
 command_of (Relocate from to) = AskRelocate (numbers_of from) (numbers_of to)
 command_of Count = AskCount
 command_of Clear = AskClear
+command_of (Window lo hi) = AskWindow (numbers_of lo) (numbers_of hi)
+command_of (Cursor name lo hi) = AskCursor name (numbers_of lo) (numbers_of hi)
+command_of (Page name n) = AskPage name n
 
 abbrev pub bad_reply : Bad → Answer
 bad_reply Word = Answer.ErrorWord
@@ -53,6 +56,10 @@ reply_of Moved = Answer.Moved
 reply_of Taken = Answer.Taken
 reply_of (Rows n) = Answer.Rows n
 reply_of Cleared = Answer.Cleared
+reply_of (RowIs r) = Answer.RowIs r
+reply_of (End n) = Answer.End n
+reply_of (More n) = Answer.More n
+reply_of Ready = Answer.Ready
 reply_of ErrorLong = Answer.ErrorLong
 reply_of ErrorWord = Answer.ErrorWord
 reply_of ErrorCount = Answer.ErrorCount
@@ -60,4 +67,6 @@ reply_of ErrorNumber = Answer.ErrorNumber
 reply_of ErrorName = Answer.ErrorName
 reply_of ErrorDims = Answer.ErrorDims
 reply_of ErrorRange = Answer.ErrorRange
+reply_of ErrorCursor = Answer.ErrorCursor
+reply_of ErrorCursors = Answer.ErrorCursors
 reply_of ErrorFull = Answer.ErrorFull

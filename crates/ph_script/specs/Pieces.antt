@@ -3,7 +3,7 @@ use Rattle.std.specs.Prelude.{◌≡◌, ℕ, List, length}
 use Rattle.ph_specs.specs.Lines.{words}
 use Rattle.ph_specs.specs.Command.{Reading}
 use Rattle.ph_specs.specs.Reply.{Reply as Answer}
-use Rattle.ph_specs.specs.Built.{built_words}
+use Rattle.ph_script.specs.Built.{built_words}
 use Rattle.ph_script.specs.declared.lines.Line.{Line}
 use Rattle.ph_script.specs.declared.lines.Line.TheVariants.{Text, Long}
 use Rattle.ph_script.specs.Shown.{feed_at}

@@ -1,5 +1,6 @@
 //! Commands, and what is wrong with a line that is none.
 use crate::coords::Coords;
+use crate::name::Name;
 
 /// What a line asks for.
 #[derive(Debug, Drop, PartialEq, Eq)]
@@ -12,6 +13,12 @@ pub enum Command {
     Relocate { from: Coords, to: Coords },
     Count,
     Clear,
+    /// The rows between two corners.
+    Window { lo: Coords, hi: Coords },
+    /// A cursor over the rows between two corners.
+    Cursor { name: Name, lo: Coords, hi: Coords },
+    /// The next rows of a cursor, at most so many.
+    Page { name: Name, n: u32 },
 }
 
 /// The first fault of a line, in the order in which they are looked for.

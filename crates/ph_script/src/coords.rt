@@ -5,20 +5,23 @@ ghost use Rattle.std.specs.Option.{SomeIff};
 use arrayvec::ArrayVec;
 use std::marker::Model;
 
+// The most coordinates of a point.
+const MOST: usize = 16;
+
 /// A coordinate that a script names.
 #[derive(Clone, Copy, Debug, Default, PartialEq, Eq)]
 pub enum Coord {
-    /// A number of 64 bits.
-    Whole(i64),
-    /// Any other number. No width has it.
+    /// A number that is not one of 64 bits. No width has it.
     #[default]
     Far,
+    /// A number of 64 bits.
+    Whole(i64),
 }
 
 /// At most 16 coordinates, in the order of the dimensions. They lie in the value itself.
 #[derive(Clone, Debug, Drop, PartialEq, Eq)]
 pub struct Coords {
-    list: ArrayVec<Coord, 16>,
+    list: ArrayVec<Coord, MOST>,
 }
 
 impl Model for Coords {
@@ -39,20 +42,22 @@ impl Coords {
         requires { length c.now ≤ 16 }
         ensures { result ≡ c.now }
     {
-        match Coords::from_slice(c) {
-            Some(coords) => coords,
-            None => unreachable!(),
+        let mut list = ArrayVec::new();
+        match list.try_extend_from_slice(c) {
+            Ok(()) => {}
+            Err(_) => unreachable!(),
         }
+        Coords { list }
     }
 
     /// Coordinates in this order, if there are at most 16.
     pub fn from_slice(c: &[Coord]) -> Option<Coords>
         ensures { SomeIff result (length c.now ≤ 16) c.now }
     {
-        let mut list = ArrayVec::new();
-        match list.try_extend_from_slice(c) {
-            Ok(()) => Some(Coords { list }),
-            Err(_) => None,
+        if c.len() <= MOST {
+            Some(Coords::new(c))
+        } else {
+            None
         }
     }
 

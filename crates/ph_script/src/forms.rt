@@ -1,14 +1,14 @@
 //! The forms of the commands, and the search for the form of a line.
 ghost use Rattle.std.specs.Prelude.{◌≡◌, ◌≤◌, ◌+◌, ◌++◌, ℕ, false, length, map, replicate, MatchResult};
 ghost use Rattle.std.specs.List.{AllByRecursion};
-ghost use Rattle.ph_specs.specs.Built.{built_forms};
+ghost use Rattle.ph_script.specs.Built.{built_forms};
 ghost use Rattle.ph_script.specs.Forms.{place_of, group_of, places_of, form_of, IsRow, picked};
 ghost use Rattle.ph_script.specs.Forms.Picked.{The, Wrong};
 
 use crate::command::Bad;
 
 // The most places that a form has, at 16 dimensions.
-const MOST_PLACES: usize = 32;
+const MOST_PLACES: usize = 33;
 
 /// A command, by its form.
 #[derive(Clone, Copy)]
@@ -21,6 +21,9 @@ pub(crate) enum Verb {
     Relocate,
     Count,
     Clear,
+    Window,
+    Cursor,
+    Page,
 }
 
 /// What a form has behind its word, in one place or in several.
@@ -30,6 +33,8 @@ pub(crate) enum Places {
     Coordinates,
     /// A number from 0 to this one.
     UpTo(u128),
+    /// A cursor's name.
+    Name,
     /// This word.
     Fixed(&'static [u8]),
 }
@@ -40,6 +45,8 @@ pub(crate) enum Place {
     Coordinate,
     /// A number from 0 to this one.
     UpTo(u128),
+    /// A cursor's name.
+    Name,
     /// This word.
     Fixed(&'static [u8]),
 }
@@ -57,7 +64,7 @@ const COUNT: u128 = u32::MAX as u128;
 const VALUE: u128 = u64::MAX as u128;
 
 // The forms that are answered so far, in the order of the definitions. One more is a row here, a `Verb` and its command.
-static FORMS: [Form; 8] = [
+static FORMS: [Form; 11] = [
     Form {
         word: b"open",
         places: &[Places::Fixed(b"points"), Places::UpTo(COUNT)],
@@ -103,6 +110,21 @@ static FORMS: [Form; 8] = [
         places: &[],
         verb: Verb::Clear,
     },
+    Form {
+        word: b"window",
+        places: &[Places::Coordinates, Places::Coordinates],
+        verb: Verb::Window,
+    },
+    Form {
+        word: b"cursor",
+        places: &[Places::Name, Places::Coordinates, Places::Coordinates],
+        verb: Verb::Cursor,
+    },
+    Form {
+        word: b"page",
+        places: &[Places::Name, Places::UpTo(COUNT)],
+        verb: Verb::Page,
+    },
 ];
 
 fn forms() -> &'static [Form]
@@ -119,7 +141,7 @@ impl Places {
     {
         match self {
             Places::Coordinates => dims,
-            Places::UpTo(_) | Places::Fixed(_) => 1,
+            Places::UpTo(_) | Places::Name | Places::Fixed(_) => 1,
         }
     }
 
@@ -130,6 +152,7 @@ impl Places {
         match self {
             Places::Coordinates => Place::Coordinate,
             Places::UpTo(most) => Place::UpTo(most),
+            Places::Name => Place::Name,
             Places::Fixed(word) => Place::Fixed(word),
         }
     }

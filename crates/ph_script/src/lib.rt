@@ -5,17 +5,22 @@ mod command;
 mod coords;
 mod forms;
 mod lines;
+mod name;
 mod numbers;
+mod parts;
 mod places;
 mod read;
 mod reply;
 mod spread;
 #[cfg(test)]
 mod tests;
+mod text;
 mod words;
 
 pub use command::{Bad, Command};
 pub use coords::{Coord, Coords};
 pub use lines::{Line, Lines, NoMemory};
+pub use name::Name;
 pub use read::read_command;
-pub use reply::{Reply, Text, reply_text};
+pub use reply::Reply;
+pub use text::{Text, reply_text, write_text};

@@ -1,22 +1,11 @@
-//! The numbers of a command.
+//! The numbers that words spell.
 ghost use Rattle.std.specs.Prelude.{◌≡◌, ◌+◌, true, false};
 ghost use Rattle.ph_coord.specs.declared.number.Number.TheVariants.{Whole};
 ghost use Rattle.ph_coord.specs.Spelling.{number_of};
-ghost use Rattle.ph_script.specs.Numbers.{coord_of, count_of};
+ghost use Rattle.ph_script.specs.Parts.{coord_of, count_of};
 
 use crate::coords::Coord;
-use arrayvec::ArrayVec;
 use ph_coord::{Number, read_number};
-
-/// The most coordinates that a command has, at 16 dimensions.
-pub(crate) const MOST_COORDINATES: usize = 32;
-
-/// The numbers of a command: its coordinates, and the others, each in their order.
-#[derive(Drop)]
-pub(crate) struct Numbers {
-    pub coords: ArrayVec<Coord, MOST_COORDINATES>,
-    pub counts: ArrayVec<u128, 2>,
-}
 
 /// The coordinate that a word spells, if it spells a number.
 pub(crate) fn read_coord(word: &[u8]) -> Option<Coord>

@@ -1,43 +1,51 @@
 //! The words of a line, read in the places of a form.
-ghost use Rattle.std.specs.Prelude.{◌≡◌, ◌≤◌, ◌+◌, ◌++◌, length, true, false, MatchResult};
+ghost use Rattle.std.specs.Prelude.{◌≡◌, ◌≤◌, ◌+◌, ◌++◌, [], length, true, None, MatchResult};
 ghost use Rattle.std.specs.List.{sum_by};
 ghost use Rattle.std.specs.Cmp.Lexicographic.{pointwise};
 ghost use Rattle.arrayvec.specs.ArrayVec.{array_vec_len};
 ghost use Rattle.ph_specs.specs.Lines.{words};
 ghost use Rattle.ph_specs.specs.Command.{number_fits, name_fits};
 ghost use Rattle.ph_script.specs.Forms.{place_of, spread_of};
-ghost use Rattle.ph_script.specs.Numbers.{coords_in, counts_in, coords_at, counts_at, coords_room, counts_room};
+ghost use Rattle.ph_script.specs.Parts.{coords_in, counts_in, coords_at, counts_at, coords_room, counts_room, named, name_from};
 ghost use Rattle.ph_script.specs.Fit.{IsFault};
 
 use crate::command::Bad;
 use crate::forms::Place;
-use crate::numbers::{MOST_COORDINATES, Numbers, read_coord, read_count};
+use crate::name::Name;
+use crate::numbers::{read_coord, read_count};
+use crate::parts::{MOST_COORDINATES, Parts};
 use crate::spread::Spread;
 use crate::words::next_word;
-use arrayvec::ArrayVec;
 
-// Reads a word in its place: a number, which is then among the numbers, or a fixed word.
-fn read_word(place: Place, word: &[u8], numbers: &mut Numbers) -> Result<(), Bad>
-    requires coords { array_vec_len numbers.old.coords + coords_room (place_of place) ≤ MOST_COORDINATES }
-    requires counts { array_vec_len numbers.old.counts + counts_room (place_of place) ≤ 2 }
+// Reads a word in its place: a number or a name, which is then among the parts, or a fixed word.
+fn read_word(place: Place, word: &[u8], parts: &mut Parts) -> Result<(), Bad>
+    requires coords { array_vec_len parts.old.coords + coords_room (place_of place) ≤ MOST_COORDINATES }
+    requires counts { array_vec_len parts.old.counts + counts_room (place_of place) ≤ 2 }
     ensures fits { MatchResult result
         (λ _. (number_fits (place_of place) word.now ≡ true) × (name_fits (place_of place) word.now ≡ true))
         (λ b. IsFault b (number_fits (place_of place) word.now) (name_fits (place_of place) word.now)) }
-    ensures coords { number_fits (place_of place) word.now ≡ true → numbers.new.coords.items ≡ numbers.old.coords.items ++ coords_in (place_of place) word.now }
-    ensures counts { number_fits (place_of place) word.now ≡ true → numbers.new.counts.items ≡ numbers.old.counts.items ++ counts_in (place_of place) word.now }
+    ensures coords { number_fits (place_of place) word.now ≡ true → parts.new.coords.items ≡ parts.old.coords.items ++ coords_in (place_of place) word.now }
+    ensures counts { number_fits (place_of place) word.now ≡ true → parts.new.counts.items ≡ parts.old.counts.items ++ counts_in (place_of place) word.now }
+    ensures name { name_fits (place_of place) word.now ≡ true → parts.new.name ≡ named parts.old.name (place_of place) word.now }
 {
     match place {
         Place::Coordinate => {
             let Some(coord) = read_coord(word) else {
                 return Err(Bad::Number);
             };
-            numbers.coords.push(coord);
+            parts.coords.push(coord);
         }
         Place::UpTo(most) => {
             let Some(count) = read_count(word, most) else {
                 return Err(Bad::Number);
             };
-            numbers.counts.push(count);
+            parts.counts.push(count);
+        }
+        Place::Name => {
+            let Some(name) = Name::from_bytes(word) else {
+                return Err(Bad::Name);
+            };
+            parts.name = Some(name);
         }
         Place::Fixed(fixed) => {
             if word != fixed {
@@ -48,24 +56,23 @@ fn read_word(place: Place, word: &[u8], numbers: &mut Numbers) -> Result<(), Bad
     Ok(())
 }
 
-/// The numbers among the words of a text, as many words as places, if each word is as its place asks.
+/// Reads the words of a text, as many words as places, and adds their numbers and their name to the parts, if each word is
+/// as its place asks.
 ///
 /// A wrong number is told before a wrong name, wherever they stand.
-pub(crate) fn read_places(mut places: Spread, text: &[u8]) -> Result<Numbers, Bad>
+pub(crate) fn read_places(mut places: Spread, text: &[u8], parts: &mut Parts) -> Result<(), Bad>
+    requires empty { (parts.old.coords.items ≡ []) × (parts.old.counts.items ≡ []) × (parts.old.name ≡ None) }
     requires size { length (words text.now) ≡ length (spread_of places) }
     requires coords { sum_by coords_room (spread_of places) ≤ MOST_COORDINATES }
     requires counts { sum_by counts_room (spread_of places) ≤ 2 }
     ensures { MatchResult result
-        (λ n. (pointwise number_fits (spread_of places) (words text.now) ≡ true)
+        (λ _. (pointwise number_fits (spread_of places) (words text.now) ≡ true)
         × (pointwise name_fits (spread_of places) (words text.now) ≡ true)
-        × (n.coords.items ≡ coords_at (spread_of places) (words text.now))
-        × (n.counts.items ≡ counts_at (spread_of places) (words text.now)))
+        × (parts.new.coords.items ≡ coords_at (spread_of places) (words text.now))
+        × (parts.new.counts.items ≡ counts_at (spread_of places) (words text.now))
+        × (parts.new.name ≡ name_from None (spread_of places) (words text.now)))
         (λ b. IsFault b (pointwise number_fits (spread_of places) (words text.now)) (pointwise name_fits (spread_of places) (words text.now))) }
 {
-    let mut numbers = Numbers {
-        coords: ArrayVec::new(),
-        counts: ArrayVec::new(),
-    };
     let mut names_fit = true;
     let mut rest = text;
     while let Some(place) = places.next_place() {
@@ -73,7 +80,7 @@ pub(crate) fn read_places(mut places: Spread, text: &[u8]) -> Result<Numbers, Ba
             unreachable!();
         };
         rest = behind;
-        match read_word(place, word, &mut numbers) {
+        match read_word(place, word, parts) {
             Ok(()) => {}
             // A wrong number may come behind it.
             Err(Bad::Name) => names_fit = false,
@@ -83,5 +90,5 @@ pub(crate) fn read_places(mut places: Spread, text: &[u8]) -> Result<Numbers, Ba
     if !names_fit {
         return Err(Bad::Name);
     }
-    Ok(numbers)
+    Ok(())
 }

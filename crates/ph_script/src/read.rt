@@ -1,16 +1,17 @@
 //! The reading of a line.
-ghost use Rattle.std.specs.Prelude.{◌≡◌, ◌≤◌, ◌++◌, ℕ, List, length, map, pos, MatchResult, IfOk};
+ghost use Rattle.std.specs.Prelude.{◌≡◌, ◌≤◌, ◌++◌, ℕ, List, length, map, pos, Some, IsSome};
 ghost use Rattle.ph_specs.specs.Lines.{words};
 ghost use Rattle.ph_specs.specs.Command.{read_form as by_form, Reading};
-ghost use Rattle.ph_specs.specs.Built.{built_words};
+ghost use Rattle.ph_script.specs.Built.{built_words};
 ghost use Rattle.ph_script.specs.Forms.{places_of, form_of, IsRow, command_by};
-ghost use Rattle.ph_script.specs.Meaning.{reading_of, command_of, bad_reply, numbers_of};
-ghost use Rattle.ph_script.specs.Fit.{IsFit, HasDims, ReadsDims};
+ghost use Rattle.ph_script.specs.Meaning.{reading_of, command_of, numbers_of};
+ghost use Rattle.ph_script.specs.Fit.{IsFit, IsNamed, HasDims, ReadsDims};
 
 use crate::command::{Bad, Command};
 use crate::coords::Coords;
 use crate::forms::{Form, Verb, find_form};
-use crate::numbers::Numbers;
+use crate::name::Name;
+use crate::parts::Parts;
 use crate::places::read_places;
 use crate::spread::Spread;
 use crate::words::{count_words, next_word};
@@ -18,29 +19,33 @@ use crate::words::{count_words, next_word};
 // The first byte of a comment.
 const COMMENT: u8 = b'#';
 
-// The command that the words behind a form's word make, as many words as the form has places.
-fn read_form(form: &Form, dims: usize, text: &[u8]) -> Result<Command, Bad>
+// What a line is by its form and the words behind the form's word, as many words as the form has places.
+//
+// It answers what `read_command` answers, so that a command, which is large, is not copied once more on its way.
+fn read_form(form: &Form, dims: usize, text: &[u8]) -> Result<Option<Command>, Bad>
     requires dims { dims ≤ 16 }
     requires row { IsRow form.now }
     requires size { length (places_of dims form.now.places.now) ≡ length (words text.now) }
-    ensures meaning { MatchResult result
-        (λ c. by_form (form_of dims form.now) (words text.now) ≡ Reading.Do (command_of c))
-        (λ b. by_form (form_of dims form.now) (words text.now) ≡ Reading.Refused (bad_reply b)) }
-    ensures dims { IfOk result (λ c. HasDims dims c) }
+    ensures meaning { by_form (form_of dims form.now) (words text.now) ≡ reading_of result }
+    ensures dims { ReadsDims dims result }
 {
     let places = Spread::new(form.places, dims);
-    let numbers = read_places(places, text)?;
-    Ok(command(form.verb, dims, numbers))
+    let mut parts = Parts::new();
+    match read_places(places, text, &mut parts) {
+        Ok(()) => Ok(Some(command(form.verb, dims, &parts))),
+        Err(bad) => Err(bad),
+    }
 }
 
-// The command of a form and of the numbers in its places.
-fn command(verb: Verb, dims: usize, numbers: Numbers) -> Command
+// The command of a form and of the parts that its places have.
+fn command(verb: Verb, dims: usize, parts: &Parts) -> Command
     requires limit { dims ≤ 16 }
-    requires fit { IsFit verb dims numbers.coords.items numbers.counts.items }
-    ensures meaning { (texts : List (List ℕ)) → command_of result ≡ command_by verb dims (numbers_of numbers.coords.items ++ map pos numbers.counts.items) texts }
+    requires fit { IsFit verb dims parts.now.coords.items parts.now.counts.items parts.now.name }
+    ensures meaning { (texts : List (List ℕ)) → IsNamed verb parts.now.name texts → command_of result ≡ command_by verb dims (numbers_of parts.now.coords.items ++ map pos parts.now.counts.items) texts }
     ensures dims { HasDims dims result }
 {
-    let Numbers { coords, counts } = numbers;
+    let coords = parts.coords.as_slice();
+    let counts = parts.counts.as_slice();
     match verb {
         Verb::Open => Command::Begin {
             k: counts[0] as u32,
@@ -51,14 +56,14 @@ fn command(verb: Verb, dims: usize, numbers: Numbers) -> Command
             max: counts[1] as u64,
         },
         Verb::Put => Command::Put {
-            at: Coords::new(&coords),
+            at: Coords::new(coords),
             value: counts[0] as u64,
         },
         Verb::Get => Command::Get {
-            at: Coords::new(&coords),
+            at: Coords::new(coords),
         },
         Verb::Del => Command::Del {
-            at: Coords::new(&coords),
+            at: Coords::new(coords),
         },
         Verb::Relocate => {
             let (from, to) = coords.split_at(dims);
@@ -69,6 +74,35 @@ fn command(verb: Verb, dims: usize, numbers: Numbers) -> Command
         }
         Verb::Count => Command::Count,
         Verb::Clear => Command::Clear,
+        Verb::Window => {
+            let (lo, hi) = coords.split_at(dims);
+            Command::Window {
+                lo: Coords::new(lo),
+                hi: Coords::new(hi),
+            }
+        }
+        Verb::Cursor => {
+            let (lo, hi) = coords.split_at(dims);
+            Command::Cursor {
+                name: name_in(parts),
+                lo: Coords::new(lo),
+                hi: Coords::new(hi),
+            }
+        }
+        Verb::Page => Command::Page {
+            name: name_in(parts),
+            n: counts[0] as u32,
+        },
+    }
+}
+
+fn name_in(parts: &Parts) -> Name
+    requires { IsSome parts.now.name }
+    ensures { parts.now.name ≡ Some result }
+{
+    match parts.name {
+        Some(name) => name,
+        None => unreachable!(),
     }
 }
 
@@ -90,6 +124,5 @@ pub fn read_command(line: &[u8], dims: u32) -> Result<Option<Command>, Bad>
     }
     let dims = dims as usize;
     let form = find_form(word, count_words(rest), dims)?;
-    let command = read_form(form, dims, rest)?;
-    Ok(Some(command))
+    read_form(form, dims, rest)
 }

@@ -1,4 +1,8 @@
-use crate::{Bad, Command, Coord, Coords, Line, Lines, Reply, read_command, reply_text};
+use crate::{
+    Bad, Command, Coord, Coords, Line, Lines, Name, Reply, Text, read_command, reply_text,
+    write_text,
+};
+use ph_coord::{Point, Row, Width};
 use std::test::Fail;
 
 #[test]
@@ -32,6 +36,53 @@ fn read_commands(rt: HostRuntime) -> Result<(), Fail> {
     );
     assert_eq!(rt; read_command(b"count", 2), Ok(Some(Command::Count)));
     assert_eq!(rt; read_command(b"clear", 2), Ok(Some(Command::Clear)));
+    Ok(())
+}
+
+#[test]
+fn read_commands_on_windows(rt: HostRuntime) -> Result<(), Fail> {
+    let lo = Coords::from_slice(&[Coord::Whole(-1), Coord::Whole(0)]).ok_or("too many")?;
+    let hi = Coords::from_slice(&[Coord::Whole(3), Coord::Far]).ok_or("too many")?;
+    assert_eq!(rt;
+        read_command(b"window -1 0 3 9223372036854775808", 2),
+        Ok(Some(Command::Window { lo, hi }))
+    );
+    let name = Name::new("c_1-B").ok_or("no name")?;
+    let lo = Coords::from_slice(&[Coord::Whole(-1)]).ok_or("too many")?;
+    let hi = Coords::from_slice(&[Coord::Whole(3)]).ok_or("too many")?;
+    assert_eq!(rt;
+        read_command(b"cursor c_1-B -1 3", 1),
+        Ok(Some(Command::Cursor { name, lo, hi }))
+    );
+    assert_eq!(rt;
+        read_command(b"page c_1-B 4294967295", 1),
+        Ok(Some(Command::Page {
+            name,
+            n: 4294967295
+        }))
+    );
+    Ok(())
+}
+
+#[test]
+fn names(rt: HostRuntime) -> Result<(), Fail> {
+    let longest = "abcdefghijklmnopqrstuvwxyz-_0123";
+    assert_eq!(rt; longest.len(), 32);
+    assert_eq!(rt; Name::new(longest).ok_or("no name")?.as_str(), longest);
+    for text in [
+        "",
+        "a b",
+        "a.b",
+        "a/",
+        "\u{e9}",
+        "abcdefghijklmnopqrstuvwxyz-_01234",
+    ] {
+        assert!(rt; Name::new(text).is_none());
+    }
+    let name = Name::new("a-").ok_or("no name")?;
+    assert!(rt; name == Name::new("a-").ok_or("no name")?);
+    assert!(rt; name < Name::new("a0").ok_or("no name")?);
+    assert!(rt; Name::new("a").ok_or("no name")? < name);
     Ok(())
 }
 
@@ -70,6 +121,23 @@ fn refused_words(rt: HostRuntime) -> Result<(), Fail> {
         (b"open pointss 2", Bad::Name),
         (b"open points 2 least 1", Bad::Name),
         (b"open boxes 2 max 1", Bad::Name),
+    ];
+    for (line, bad) in cases {
+        assert_eq!(rt; read_command(line, 2), Err(bad));
+    }
+    Ok(())
+}
+
+#[test]
+fn refused_names(rt: HostRuntime) -> Result<(), Fail> {
+    let cases = [
+        (b"window 1 2 3".as_slice(), Bad::Count),
+        (b"cursor 0 0 1 1", Bad::Count),
+        (b"cursor a.b 0 0 1 x", Bad::Number),
+        (b"page a.b 4294967296", Bad::Number),
+        (b"page a.b 1", Bad::Name),
+        (b"page abcdefghijklmnopqrstuvwxyz-_01234 1", Bad::Name),
+        (b"cursor a! 0 0 1 1", Bad::Name),
     ];
     for (line, bad) in cases {
         assert_eq!(rt; read_command(line, 2), Err(bad));
@@ -144,6 +212,13 @@ fn texts_of_replies(rt: HostRuntime) -> Result<(), Fail> {
         (Reply::Taken, "taken\n"),
         (Reply::Rows(100), "count 100\n"),
         (Reply::Cleared, "cleared\n"),
+        (Reply::End(4), "end 4\n"),
+        (
+            Reply::End(340282366920938463463374607431768211455),
+            "end 340282366920938463463374607431768211455\n",
+        ),
+        (Reply::More(2), "more 2\n"),
+        (Reply::Ready, "ready\n"),
         (Reply::ErrorLong, "error long\n"),
         (Reply::ErrorWord, "error word\n"),
         (Reply::ErrorCount, "error count\n"),
@@ -151,12 +226,55 @@ fn texts_of_replies(rt: HostRuntime) -> Result<(), Fail> {
         (Reply::ErrorName, "error name\n"),
         (Reply::ErrorDims, "error dims\n"),
         (Reply::ErrorRange, "error range\n"),
+        (Reply::ErrorCursor, "error cursor\n"),
+        (Reply::ErrorCursors, "error cursors\n"),
         (Reply::ErrorFull, "error full\n"),
     ];
     for (reply, text) in cases {
         assert_eq!(rt; reply_text(&reply).as_str(), text);
     }
     Ok(())
+}
+
+#[test]
+fn texts_of_rows(rt: HostRuntime) -> Result<(), Fail> {
+    let w = Width::new(32).ok_or("no width")?;
+    let point = Point::from_slice(w, &[-1, 0]).ok_or("out of range")?;
+    let row = Row::<2> { point, value: 3 };
+    assert_eq!(rt; reply_text(&Reply::RowIs(row)).as_str(), "row -1 0 3\n");
+    let w = Width::new(62).ok_or("no width")?;
+    let point = Point::from_slice(w, &[-2305843009213693952; 16]).ok_or("out of range")?;
+    let row = Row::<16> {
+        point,
+        value: 18446744073709551615,
+    };
+    let text = reply_text(&Reply::RowIs(row));
+    let line = "row \
+        -2305843009213693952 -2305843009213693952 -2305843009213693952 -2305843009213693952 \
+        -2305843009213693952 -2305843009213693952 -2305843009213693952 -2305843009213693952 \
+        -2305843009213693952 -2305843009213693952 -2305843009213693952 -2305843009213693952 \
+        -2305843009213693952 -2305843009213693952 -2305843009213693952 -2305843009213693952 \
+        18446744073709551615\n";
+    assert_eq!(rt; text.as_str(), line);
+    Ok(())
+}
+
+#[test]
+fn one_text_for_many_replies(rt: HostRuntime) {
+    let mut text = Text::new();
+    assert_eq!(rt; text.as_str(), "");
+    let cases = [
+        (
+            Reply::<2>::Value(18446744073709551615),
+            "value 18446744073709551615\n",
+        ),
+        (Reply::New, "new\n"),
+        (Reply::Rows(7), "count 7\n"),
+    ];
+    for (reply, line) in cases {
+        write_text(&mut text, &reply);
+        assert_eq!(rt; text.as_str(), line);
+    }
 }
 
 #[test]

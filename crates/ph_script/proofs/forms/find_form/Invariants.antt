@@ -1,6 +1,6 @@
 use Rattle.std.proofs.Common.{◌≡◌, drop, map, false}
 use Rattle.std.specs.List.{AllByRecursion}
-use Rattle.ph_specs.specs.Built.{built_forms}
+use Rattle.ph_script.specs.Built.{built_forms}
 use Rattle.ph_script.specs.Forms.{form_of, picked, IsRow}
 use Rattle.ph_script.proofs.forms.find_form.Given as goal
 

@@ -5,12 +5,12 @@ use Rattle.ph_script.proofs.read.read_form.Goals as goal
 
 pub command-requires-clause-fit : goal.command-requires-clause-fit
 command-requires-clause-fit c =
-    let n = c.in_ok-numbers.ensures in
+    let n = c.in-Ok.ensures in
     let e = c.new-places.ensures ∙ c.requires.row c.args.dims in
-    fit-of c.args.form.now.verb c.args.dims _ (words c.args.text.now) _ _ e n.0 n.2 n.3
+    fit-of c.args.form.now.verb c.args.dims _ (words c.args.text.now) _ _ _ e n.0 n.2 n.3 n.4
 
-pub returns-clause-meaning : goal.returns-clause-meaning
-returns-clause-meaning c =
-    let n = c.in_ok-numbers.ensures in
+pub returns-in-Ok-clause-meaning : goal.returns-in-Ok-clause-meaning
+returns-in-Ok-clause-meaning c =
+    let n = c.in-Ok.ensures in
     let e = c.new-places.ensures in
-    does c.args.form.now.word.now c.args.form.now.verb c.args.dims _ _ (words c.args.text.now) _ _ _ (c.requires.row c.args.dims) e n.0 n.1 n.2 n.3 c.command.ensures.meaning
+    does c.args.form.now.word.now c.args.form.now.verb c.args.dims _ _ (words c.args.text.now) _ _ _ _ (c.requires.row c.args.dims) e n.0 n.1 n.2 n.3 n.4 c.command.ensures.meaning

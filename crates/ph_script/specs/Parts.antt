@@ -1,11 +1,11 @@
--- The numbers that the words of a command spell, as the code keeps them.
+-- The parts of a command that its words spell, as the code keeps them.
 use Rattle.std.specs.Prelude.{ℕ, ◌^◌, nat_lt, nat_le, true, false, if◌then◌else◌, List, [], ◌∷◌, ◌++◌, pos, neg_ℤ, Option, Some, None}
 use Rattle.std.specs.Option.{option_to_list}
 use Rattle.ph_coord.specs.declared.number.Number.{Number}
 use Rattle.ph_coord.specs.declared.number.Number.TheVariants.{Whole, Wide, Not}
 use Rattle.ph_coord.specs.Spelling.{number_of}
 use Rattle.ph_specs.specs.Command.{Place}
-use Rattle.ph_specs.specs.Command.Place.{Coordinate, Below}
+use Rattle.ph_specs.specs.Command.Place.{Coordinate, Below, CursorName}
 use Rattle.ph_script.specs.declared.coords.Coord.{Coord}
 use Rattle.ph_script.specs.declared.coords.Coord.TheVariants.{Whole as WholeCoord, Far}
 
@@ -42,7 +42,17 @@ counts_at [] ws = []
 counts_at (place ∷ places) [] = []
 counts_at (place ∷ places) (word ∷ ws) = counts_in place word ++ counts_at places ws
 
--- how much a place may add to them
+-- the name that was read last, behind one that was read before or none: with one word in its place, and with all
+abbrev pub named : Option (List ℕ) → Place → List ℕ → Option (List ℕ)
+named got CursorName word = Some word
+named got _ word = got
+
+abbrev pub name_from : Option (List ℕ) → List Place → List (List ℕ) → Option (List ℕ)
+name_from got [] ws = got
+name_from got (place ∷ places) [] = got
+name_from got (place ∷ places) (word ∷ ws) = name_from (named got place word) places ws
+
+-- how many coordinates and other numbers a place may add
 abbrev pub coords_room : Place → ℕ
 coords_room Coordinate = 1
 coords_room _ = 0

@@ -1,0 +1,128 @@
+//! The texts of replies.
+ghost use Rattle.std.specs.Prelude.{◌≡◌, ◌≤◌, ◌+◌, ◌∷◌, [], ◌++◌, length, codes};
+ghost use Rattle.ph_specs.specs.Reply.{reply_text as text_of_reply, row_words, line_of};
+ghost use Rattle.ph_script.specs.Meaning.{reply_of};
+
+use crate::reply::Reply;
+use arrayvec::ArrayString;
+use itoa::{Buffer, Integer};
+use ph_coord::Row;
+use std::marker::Model;
+
+// The bytes of the longest line that the script language has: `hit`, a distance of 128 bits, 16 coordinates and a value of
+// 64 bits, with a space before each number, and a line feed.
+const LONGEST: usize = 3 + (1 + 39) + 16 * (1 + 20) + (1 + 20) + 1;
+
+/// The line of a reply with its line feed. Its bytes lie in the value itself, and it is seen as these bytes.
+///
+/// One text can serve for many replies, one after another.
+#[derive(Debug, Drop)]
+pub struct Text {
+    line: ArrayString<LONGEST>,
+}
+
+impl Model for Text {
+    ghost use Rattle.std.specs.Prelude.{List, ℕ};
+
+    ghost Value = { List ℕ };
+
+    ghost view = { λ t. t.line.bytes };
+}
+
+impl Text {
+    /// A text without a byte.
+    pub fn new() -> Text
+        ensures { result ≡ [] }
+    {
+        Text {
+            line: ArrayString::new(),
+        }
+    }
+
+    /// The line.
+    pub fn as_str(&self) -> &str
+        ensures { result.now ≡ self.now }
+    {
+        self.line.as_str()
+    }
+}
+
+/// The line of a reply: its words, with a space between each two, and a line feed.
+pub fn reply_text<const D: usize>(reply: &Reply<D>) -> Text
+    requires { D ≤ 16 }
+    ensures { result ≡ text_of_reply (reply_of reply.now) }
+{
+    let mut text = Text::new();
+    write_text(&mut text, reply);
+    text
+}
+
+/// Makes a text the line of a reply, whatever it was before.
+pub fn write_text<const D: usize>(text: &mut Text, reply: &Reply<D>)
+    requires { D ≤ 16 }
+    ensures { text.new ≡ text_of_reply (reply_of reply.now) }
+{
+    let line = &mut text.line;
+    line.clear();
+    match reply {
+        Reply::Opened => line.push_str("opened\n"),
+        Reply::New => line.push_str("new\n"),
+        Reply::Old(value) => push_numbered(line, "old", *value),
+        Reply::Value(value) => push_numbered(line, "value", *value),
+        Reply::Absent => line.push_str("none\n"),
+        Reply::Gone(value) => push_numbered(line, "gone", *value),
+        Reply::Moved => line.push_str("moved\n"),
+        Reply::Taken => line.push_str("taken\n"),
+        Reply::Rows(count) => push_numbered(line, "count", *count),
+        Reply::Cleared => line.push_str("cleared\n"),
+        Reply::RowIs(row) => push_row(line, row),
+        Reply::End(count) => push_numbered(line, "end", *count),
+        Reply::More(count) => push_numbered(line, "more", *count),
+        Reply::Ready => line.push_str("ready\n"),
+        Reply::ErrorLong => line.push_str("error long\n"),
+        Reply::ErrorWord => line.push_str("error word\n"),
+        Reply::ErrorCount => line.push_str("error count\n"),
+        Reply::ErrorNumber => line.push_str("error number\n"),
+        Reply::ErrorName => line.push_str("error name\n"),
+        Reply::ErrorDims => line.push_str("error dims\n"),
+        Reply::ErrorRange => line.push_str("error range\n"),
+        Reply::ErrorCursor => line.push_str("error cursor\n"),
+        Reply::ErrorCursors => line.push_str("error cursors\n"),
+        Reply::ErrorFull => line.push_str("error full\n"),
+    }
+}
+
+// A word, a number and a line feed.
+fn push_numbered<I: Integer>(line: &mut ArrayString<LONGEST>, word: &str, number: I)
+    requires { length line.old.bytes + length word.now + 1 + I.MAX_STR_LEN + 1 ≤ LONGEST }
+    ensures { line.new.bytes ≡ line.old.bytes ++ word.now ++ 32 ∷ I.text number ++ 10 ∷ [] }
+{
+    line.push_str(word);
+    push_number(line, number);
+    line.push_str("\n");
+}
+
+// A space and a number.
+fn push_number<I: Integer>(line: &mut ArrayString<LONGEST>, number: I)
+    requires { length line.old.bytes + 1 + I.MAX_STR_LEN ≤ LONGEST }
+    ensures bytes { line.new.bytes ≡ line.old.bytes ++ 32 ∷ I.text number }
+    ensures len { length line.new.bytes ≤ length line.old.bytes + 1 + I.MAX_STR_LEN }
+{
+    line.push_str(" ");
+    let mut buffer = Buffer::new();
+    line.push_str(buffer.format(number));
+}
+
+// The line of a row.
+fn push_row<const D: usize>(line: &mut ArrayString<LONGEST>, row: &Row<D>)
+    requires dims { D ≤ 16 }
+    requires empty { line.old.bytes ≡ [] }
+    ensures { line.new.bytes ≡ line_of (codes "row" ∷ row_words row.now) }
+{
+    line.push_str("row");
+    for coordinate in row.point.as_slice() {
+        push_number(line, *coordinate);
+    }
+    push_number(line, row.value);
+    line.push_str("\n");
+}
