@@ -1,30 +1,33 @@
 -- What the answer to one line is, by what the line was read as.
-use Rattle.std.proofs.Common.{◌≡◌, ◌<◌, ℕ, Bool, false, List, [], ◌∷◌, ◌++◌, length, take, refl, ap, sym, ◌∙◌, append-nil, subst}
-use Rattle.std.specs.Prelude.{Ok, Err, Result, IfOk, IfErr, OnOk, OnErr}
+use Rattle.std.proofs.Common.{◌≡◌, ◌≤◌, ◌+◌, ℕ, inr, arith, Bool, false, List, [], ◌∷◌, ◌++◌, take, refl, ap, sym, ◌∙◌, append-nil, subst}
+use Rattle.std.specs.Prelude.{Some, None, Ok, Err, Result, IfOk, IfErr}
 use denote.Ref.{Bor}
 use Rattle.ph_specs.specs.Lines.{words}
 use Rattle.std.specs.declared.option.Option.{Option}
-use Rattle.std.specs.Io.KnownBytes.{Appends}
+use Rattle.ph_io.specs.Giving.{Given}
 use Rattle.ph_specs.specs.Command.{Command, Reading}
 use Rattle.ph_specs.specs.Command.Reading.{Nothing, Refused, Do}
 use Rattle.ph_specs.specs.Reply.{Reply, reply_text, replies_text}
-use Rattle.ph_specs.specs.State.{Engine, current, outcome}
-use Rattle.ph_specs.specs.Engine.{act_on}
-use Rattle.ph_specs.specs.Built.{built_reading, built_words}
+use Rattle.ph_specs.specs.State.{Engine, Files, current, outcome}
+use Rattle.ph_specs.specs.Engine.{act, act_on}
+use Rattle.ph_script.specs.Built.{built_reading, built_words}
 use Rattle.ph_script.specs.declared.lines.Line.{Line}
 use Rattle.ph_script.specs.declared.lines.Line.TheVariants.{Text, Long}
 use Rattle.ph_script.specs.Shown.{IsLine}
 use Rattle.ph_script.proofs.Pieces.{line-reading, line-from_kept, text-limit}
-use Rattle.ph_engine.specs.Machine.{is_refusal, KEPT, KEPT-is}
-use Rattle.ph_engine.specs.Answering.{Said, SaidFront, SaidOr}
-use Rattle.ph_engine.specs.BuiltMachine.{built_step, built_machine, alone}
-use Rattle.ph_engine.specs.Doing.{Does, Done, DoneOr, refuses}
+use Rattle.ph_engine.specs.Machine.{Machine, Turn, Work, turn, is_refusal, one_if, KEPT, KEPT-is}
+use Rattle.ph_engine.specs.Costs.{Spent, Worked}
+use Rattle.ph_engine.specs.Working.{no_work, work_of, IsAtMost, IsAtLeast}
+use Rattle.ph_engine.specs.Answering.{Said, SaysOr}
+use Rattle.ph_engine.specs.BuiltMachine.{Whole, whole, told_files, reading_in, built_step, cut_by, starved_by, wants_by, work_by, built_machine}
+use Rattle.ph_engine.specs.Beside.{Beside, AreTold, StillTells, Tells}
+use Rattle.ph_engine.specs.Doing.{Done, DoneOr, Knows, Leads, cut_engine, starved_engine, refuses}
 use Rattle.ph_engine.specs.Writing.{WritesFront}
 use Rattle.ph_engine.specs.Showing.{IsShort}
 use Rattle.ph_engine.specs.declared.status.Answer.{Answer}
 use Rattle.ph_engine.specs.declared.status.Stop.{Stop}
 use Rattle.ph_engine.specs.declared.status.Stop.TheVariants.{WriteFault, NoMemory}
-use Rattle.ph_engine.proofs.Appending.{appends_none}
+use Rattle.ph_engine.proofs.Appending.{given_none}
 
 -- a line that is shown as text is short enough to be read
 pub shown-short : (bytes : List ℕ) (line : Line) → IsLine bytes line → IsShort line
@@ -32,53 +35,149 @@ shown-short bytes (Text text) h = text-limit bytes text.now h.0 h.1
 shown-short bytes Long h = tt
 
 -- what a line does, by its reading
-step-is : (e : Engine) (bytes : List ℕ) (reading : Reading) → built_reading (current e).dims bytes ≡ reading → built_step (alone e) bytes ≡ act_on 0 e [] false reading
-step-is e bytes reading h = ap (act_on 0 e [] false) h
+step-is : (most : ℕ) (s : Whole) (t : Turn) (reading : Reading) → reading_in s t ≡ reading → built_step most s t ≡ act_on most s.engine s.files t.fault reading
+step-is most s t reading h = ap (act_on most s.engine s.files t.fault) h
 
 one-text : (r : Reply) → replies_text (r ∷ []) ≡ reply_text r
 one-text r = append-nil (reply_text r)
 
--- one reply, and the engine behind it
-pub said-one : (e now : Engine) (bytes : List ℕ) (reading : Reading) (reply : Reply) (written now_written : Option (List ℕ)) (answer : Answer) (refused : Bool) → built_reading (current e).dims bytes ≡ reading → act_on 0 e [] false reading ≡ outcome now [] (reply ∷ []) → Appends written now_written (reply_text reply) → refuses answer ≡ is_refusal (reply_text reply) → refused ≡ refuses answer → Said built_machine (alone e) bytes written now_written (alone now) refused
-said-one e now bytes reading reply written now_written answer refused h d t a r =
-    let s : built_step (alone e) bytes ≡ outcome now [] (reply ∷ []) = step-is e bytes reading h ∙ d in
-    record { told = rw (s, one-text reply) t; state = rw s refl; refusal = rw (s, one-text reply) (r ∙ a) }
+-- the files that are told behind a command
+told-behind : (told now_told : Option Files) (files now_files : Files) → told ≡ Some files → StillTells told now_told now_files → now_files ≡ told_files now_told
+told-behind told now_told files now_files e h = let k : now_told ≡ Some now_files = rw e at h in rw k refl
 
-pub said-front : (e now : Engine) (bytes : List ℕ) (reading : Reading) (reply : Reply) (written now_written : Option (List ℕ)) (count : ℕ) → built_reading (current e).dims bytes ≡ reading → act_on 0 e [] false reading ≡ outcome now [] (reply ∷ []) → count < length (reply_text reply) → Appends written now_written (take count (reply_text reply)) → SaidFront built_machine (alone e) bytes written now_written (alone now)
-said-front e now bytes reading reply written now_written count h d c t =
-    let s : built_step (alone e) bytes ≡ outcome now [] (reply ∷ []) = step-is e bytes reading h ∙ d in
-    record { count = count; short = rw (s, one-text reply) c; told = rw (s, one-text reply) t; state = rw s refl }
+known : (command : Command) (told : Option Files) (files : Files) → told ≡ Some files → Knows command told files
+known command told files e = rw e refl
+
+-- ---- the work of one line
+
+one-spent : (m : Machine Whole) (s : Whole) (t : Turn) (b now_b : Beside) (w : Work) → m.work s t ≡ w → Tells b.filings now_b.filings (one_if t.fault) → IsAtMost w b.visits now_b.visits b.changes now_b.changes → Spent m s (t ∷ []) b now_b
+one-spent m s t b now_b w e f h = record {
+  filings = let z : one_if t.fault + 0 ≡ one_if t.fault = omega arith in rw z f;
+  most_visits = omega (arith, h.few_visits, ap (λ x. x.most_visits) e);
+  most_changes = omega (arith, h.few_changes, ap (λ x. x.most_changes) e);
+}
+
+one-worked : (m : Machine Whole) (s : Whole) (t : Turn) (b now_b : Beside) (w : Work) → m.work s t ≡ w → Tells b.filings now_b.filings (one_if t.fault) → IsAtMost w b.visits now_b.visits b.changes now_b.changes → IsAtLeast w b.visits now_b.visits b.changes now_b.changes → Worked m s (t ∷ []) b now_b
+one-worked m s t b now_b w e f h l = record {
+  spent = one-spent m s t b now_b w e f h;
+  least_visits = omega (arith, l.enough_visits, ap (λ x. x.least_visits) e);
+  least_changes = omega (arith, l.enough_changes, ap (λ x. x.least_changes) e);
+}
+
+-- what stands beside is as it was, but for what the sink took
+pub record IsQuiet (b now_b : Beside) : Type 0 where
+  pub files : now_b.files ≡ b.files
+  pub filings : b.filings ≤ now_b.filings
+  pub visits : now_b.visits ≡ b.visits
+  pub changes : now_b.changes ≡ b.changes
+
+-- the work of a line that is no command
+quiet-work : (most : ℕ) (s : Whole) (line : List ℕ) (reading : Reading) (b now_b : Beside) → IsQuiet b now_b → reading_in s (turn line false) ≡ reading → ((most : ℕ) → work_by most s false reading ≡ no_work) → Worked (built_machine most) s (turn line false ∷ []) b now_b
+quiet-work most s line reading b now_b q h w =
+    one-worked (built_machine most) s (turn line false) b now_b no_work (ap (work_by most s false) h ∙ w most) (inr (omega (arith, q.filings)))
+    (record { few_visits = omega (arith, q.visits); few_changes = omega (arith, q.changes) })
+    (record { enough_visits = omega (arith, q.visits); enough_changes = omega (arith, q.changes) })
+
+-- ---- lines
 
 -- no command
-pub said-nothing : (e : Engine) (bytes : List ℕ) (written : Option (List ℕ)) → built_reading (current e).dims bytes ≡ Nothing → Said built_machine (alone e) bytes written written (alone e) false
-said-nothing e bytes written h =
-    let s : built_step (alone e) bytes ≡ outcome e [] [] = step-is e bytes Nothing h in
-    record { told = rw s (appends_none written); state = rw s refl; refusal = rw s refl }
-
--- a command that was done, and whose reply was given to a sink
-pub done-or : (e now : Engine) (command : Command) (reply : Reply) (written now_written : Option (List ℕ)) (result : Result Answer Stop) → Does e command now reply → IfOk result (λ answer. refuses answer ≡ is_refusal (reply_text reply)) → OnOk result (Appends written now_written (reply_text reply)) → IfErr result (λ stop. stop ≡ WriteFault) → OnErr result (WritesFront written now_written (reply_text reply)) → DoneOr e command written now_written now result
-done-or e now command reply written now_written (Ok answer) d a t s f = record { reply = reply; does = d; told = t; refusal = a }
-done-or e now command reply written now_written (Err WriteFault) d a t s f = record { reply = reply; does = d; count = f.count; short = f.short; told = f.told }
-done-or e now command reply written now_written (Err NoMemory) d a t s f = absurd (let clash : NoMemory ≡ WriteFault = s in cc)
+pub said-nothing : (most : ℕ) (s : Whole) (line : List ℕ) (b : Beside) → reading_in s (turn line false) ≡ Nothing → Said (built_machine most) s (turn line false) b b s false
+said-nothing most s line b h =
+    let o : built_step most s (turn line false) ≡ outcome s.engine s.files [] = step-is most s (turn line false) Nothing h in
+    record {
+      told = rw o (given_none b.sink);
+      state = rw o refl;
+      refusal = rw o refl;
+      worked = quiet-work most s line Nothing b b (record { files = refl; filings = omega arith; visits = refl; changes = refl }) h (λ _. refl);
+    }
 
 -- a command
-pub said-done : (e now : Engine) (bytes : List ℕ) (command : Command) (written now_written : Option (List ℕ)) (answer : Answer) (refused : Bool) → built_reading (current e).dims bytes ≡ Do command → Done e command written now_written now answer → refused ≡ refuses answer → Said built_machine (alone e) bytes written now_written (alone now) refused
-said-done e now bytes command written now_written answer refused h d r =
-    said-one e now bytes (Do command) d.reply written now_written answer refused h (d.does 0 [] false) d.told d.refusal r
+pub said-done : (most : ℕ) (e now : Engine) (files : Files) (line : List ℕ) (command : Command) (b now_b : Beside) (answer : Answer) (refused : Bool) → b.files ≡ Some files → (d : Done most e command b now_b now answer) → reading_in (whole e files) (turn line d.fault) ≡ Do command → refused ≡ refuses answer → Said (built_machine most) (whole e files) (turn line d.fault) b now_b (whole now (told_files now_b.files)) refused
+said-done most e now files line command b now_b answer refused told d h r =
+    let l : Leads (act most e files d.fault command) now b.files now_b.files d.replies = d.does files (known command b.files files told) in
+    let o : built_step most (whole e files) (turn line d.fault) ≡ outcome now l.files d.replies = step-is most (whole e files) (turn line d.fault) (Do command) h ∙ l.is in
+    record {
+      told = rw o d.told;
+      state = rw o (ap (whole now) (sym (told-behind b.files now_b.files files l.files told l.told_files)));
+      refusal = rw o (r ∙ d.refusal);
+      worked =
+          one-worked (built_machine most) (whole e files) (turn line d.fault) b now_b (work_of most e files d.fault command) (ap (work_by most (whole e files) d.fault) h) d.filings
+          (d.most_work files (known command b.files files told)) (d.least_work files (known command b.files files told));
+    }
 
-pub said-stopped : (e now : Engine) (bytes : List ℕ) (command : Command) (written now_written : Option (List ℕ)) (stop : Stop) → built_reading (current e).dims bytes ≡ Do command → DoneOr e command written now_written now (Err stop) → SaidOr built_machine (alone e) bytes written now_written (alone now) (Err stop)
-said-stopped e now bytes command written now_written WriteFault h d =
-    said-front e now bytes (Do command) d.reply written now_written d.count h (d.does 0 [] false) d.short d.told
-said-stopped e now bytes command written now_written NoMemory h d = record { told = d.told; state = ap alone d.state }
+pub said-stopped : (most : ℕ) (e now : Engine) (files : Files) (line : List ℕ) (command : Command) (b now_b : Beside) (stop : Stop) → b.files ≡ Some files → ((fault : Bool) → reading_in (whole e files) (turn line fault) ≡ Do command) → DoneOr most e command b now_b now (Err stop) → SaysOr (built_machine most) (whole e files) line b now_b (whole now (told_files now_b.files)) (Err stop)
+said-stopped most e now files line command b now_b WriteFault told h d =
+    let l : Leads (act most e files d.fault command) d.after b.files now_b.files d.replies = d.does files (known command b.files files told) in
+    let o : built_step most (whole e files) (turn line d.fault) ≡ outcome d.after l.files d.replies = step-is most (whole e files) (turn line d.fault) (Do command) (h d.fault) ∙ l.is in
+    let c : cut_by most (whole e files) d.fault (reading_in (whole e files) (turn line d.fault)) ≡ whole (cut_engine e command d.after) l.files = ap (cut_by most (whole e files) d.fault) (h d.fault) ∙ ap (λ x. whole (cut_engine e command x.engine) x.files) l.is in
+    record {
+      fault = d.fault;
+      said = record {
+        count = d.count;
+        short = rw o d.short;
+        told = rw o d.told;
+        state = ap (λ x. whole x (told_files now_b.files)) d.state ∙ ap (whole (cut_engine e command d.after)) (sym (told-behind b.files now_b.files files l.files told l.told_files)) ∙ sym c;
+        spent = one-spent (built_machine most) (whole e files) (turn line d.fault) b now_b (work_of most e files d.fault command) (ap (work_by most (whole e files) d.fault) (h d.fault)) d.filings (d.most_work files (known command b.files files told));
+      };
+    }
+said-stopped most e now files line command b now_b NoMemory told h d =
+    let same : files ≡ told_files now_b.files = told-behind b.files now_b.files files files told (d.files files (rw told refl)) in
+    record {
+      fault = d.fault;
+      said = record {
+        told = d.told;
+        part = d.part;
+        state = ap (λ x. whole x (told_files now_b.files)) (d.state files (known command b.files files told)) ∙ ap (whole (starved_engine e files command d.part)) (sym same) ∙ sym (ap (starved_by (whole e files) d.part) (h d.fault));
+        wanted = ap (wants_by (whole e files)) (h d.fault) ∙ d.wanted;
+        spent = one-spent (built_machine most) (whole e files) (turn line d.fault) b now_b (work_of most e files d.fault command) (ap (work_by most (whole e files) d.fault) (h d.fault)) d.filings (d.most_work files (known command b.files files told));
+      };
+    }
 
 -- a line that is refused
-pub said-refused : (e : Engine) (bytes : List ℕ) (reply : Reply) (written now_written : Option (List ℕ)) (result : Result Bool Stop) → built_reading (current e).dims bytes ≡ Refused reply → IfOk result (λ refused. Appends written now_written (reply_text reply) × (refused ≡ is_refusal (reply_text reply))) → IfErr result (λ stop. (stop ≡ WriteFault) × WritesFront written now_written (reply_text reply)) → SaidOr built_machine (alone e) bytes written now_written (alone e) result
-said-refused e bytes reply written now_written (Ok refused) h k f =
-    let s : built_step (alone e) bytes ≡ outcome e [] (reply ∷ []) = step-is e bytes (Refused reply) h in
-    record { told = rw (s, one-text reply) k.0; state = rw s refl; refusal = rw (s, one-text reply) k.1 }
-said-refused e bytes reply written now_written (Err WriteFault) h k f =
-    said-front e e bytes (Refused reply) reply written now_written f.1.count h refl f.1.short f.1.told
-said-refused e bytes reply written now_written (Err NoMemory) h k f = absurd (let clash : NoMemory ≡ WriteFault = f.0 in cc)
+pub said-refused : (most : ℕ) (e : Engine) (files : Files) (line : List ℕ) (reply : Reply) (b now_b : Beside) (result : Result Bool Stop) → b.files ≡ Some files → IsQuiet b now_b → reading_in (whole e files) (turn line false) ≡ Refused reply → IfOk result (λ refused. Given b.sink now_b.sink (reply_text reply) × (refused ≡ is_refusal (reply_text reply))) → IfErr result (λ stop. (stop ≡ WriteFault) × WritesFront b.sink now_b.sink (reply_text reply)) → SaysOr (built_machine most) (whole e files) line b now_b (whole e (told_files now_b.files)) result
+said-refused most e files line reply b now_b (Ok refused) told q h k f =
+    let o : built_step most (whole e files) (turn line false) ≡ outcome e files (reply ∷ []) = step-is most (whole e files) (turn line false) (Refused reply) h in
+    record {
+      fault = false;
+      said = record {
+        told = rw (o, one-text reply) k.0;
+        state = rw o (ap (λ x. whole e (told_files x)) (q.files ∙ told));
+        refusal = rw (o, one-text reply) k.1;
+        worked = quiet-work most (whole e files) line (Refused reply) b now_b q h (λ _. refl);
+      };
+    }
+said-refused most e files line reply b now_b (Err WriteFault) told q h k f =
+    let o : built_step most (whole e files) (turn line false) ≡ outcome e files (reply ∷ []) = step-is most (whole e files) (turn line false) (Refused reply) h in
+    record {
+      fault = false;
+      said = record {
+        count = f.1.count;
+        short = rw (o, one-text reply) f.1.short;
+        told = rw (o, one-text reply) f.1.told;
+        state = ap (λ x. whole e (told_files x)) (q.files ∙ told) ∙ sym (ap (cut_by most (whole e files) false) h);
+        spent = (quiet-work most (whole e files) line (Refused reply) b now_b q h (λ _. refl)).spent;
+      };
+    }
+said-refused most e files line reply b now_b (Err NoMemory) told q h k f = absurd (let clash : NoMemory ≡ WriteFault = f.0 in cc)
+
+-- ---- where the files are told
+
+pub told-is : (told : Option Files) → AreTold told → told ≡ Some (told_files told)
+told-is None h = absurd h
+told-is (Some files) h = refl
+
+tells : (told now_told : Option Files) (files : Files) → AreTold told → StillTells told now_told files → AreTold now_told
+tells None now_told files h k = absurd h
+tells (Some old) now_told files h k = rw k tt
+
+-- files that were told are told behind a command
+pub done-told : (most : ℕ) (e now : Engine) (command : Command) (b now_b : Beside) (result : Result Answer Stop) → AreTold b.files → DoneOr most e command b now_b now result → AreTold now_b.files
+done-told most e now command b now_b (Ok answer) h d =
+    let l = d.does (told_files b.files) (known command b.files (told_files b.files) (told-is b.files h)) in tells b.files now_b.files l.files h l.told_files
+done-told most e now command b now_b (Err WriteFault) h d =
+    let l = d.does (told_files b.files) (known command b.files (told_files b.files) (told-is b.files h)) in tells b.files now_b.files l.files h l.told_files
+done-told most e now command b now_b (Err NoMemory) h d =
+    tells b.files now_b.files (told_files b.files) h (d.files (told_files b.files) (let t : b.files ≡ Some (told_files b.files) = told-is b.files h in rw t refl))
 
 -- what a line that is shown was read as
 pub text-reading : (e : Engine) (dims : ℕ) (bytes : List ℕ) (line : Line) (t : Bor (List ℕ)) (reading : Reading) → dims ≡ (current e).dims → line ≡ Text t → IsLine bytes line → reading ≡ built_words dims (words t.now) → built_reading (current e).dims bytes ≡ reading

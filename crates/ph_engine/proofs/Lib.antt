@@ -1,6 +1,10 @@
 pub mod Appending
+pub mod Names
+pub mod Replies
+pub mod Listed
 pub mod Cuts
 pub mod Machines
+pub mod Sums
 pub mod Feeds
 pub mod Scans
 pub mod Runs
@@ -8,3 +12,9 @@ pub mod Words
 pub mod Far
 pub mod Answered
 pub mod Defined
+pub mod Refused
+pub mod Commanded
+pub mod Ends
+pub mod Slotted
+pub mod Paged
+pub mod Lifted

@@ -1,26 +1,63 @@
 -- The machine that answers the commands that are built, by the definition of a script's lines.
-use Rattle.std.specs.Prelude.{ℕ, false, List, []}
+use Rattle.std.specs.Prelude.{ℕ, Bool, false, List, [], Option, Some, None}
+use Rattle.ph_specs.specs.Command.{Reading}
+use Rattle.ph_specs.specs.Command.Reading.{Do}
 use Rattle.ph_specs.specs.Reply.{replies_text}
-use Rattle.ph_specs.specs.State.{Engine, Files, Outcome}
-use Rattle.ph_specs.specs.Engine.{step_by, run_by}
-use Rattle.ph_specs.specs.Built.{built_forms}
-use Rattle.ph_engine.specs.Machine.{Machine}
+use Rattle.ph_specs.specs.State.{Engine, Files, Outcome, current}
+use Rattle.ph_specs.specs.Engine.{act, step_by, run_by}
+use Rattle.ph_script.specs.Built.{built_forms, built_reading}
+use Rattle.ph_engine.specs.Doing.{wants_memory, cut_engine, starved_engine}
+use Rattle.ph_engine.specs.Machine.{Machine, Turn, Work}
+use Rattle.ph_engine.specs.Working.{no_work, work_of}
 
 -- an engine and the files beside it
 pub record Whole : Type 0 where
   pub engine : Engine
   pub files : Files
 
-abbrev pub built_step : Whole → List ℕ → Outcome
-built_step s line = step_by built_forms 0 s.engine s.files false line
+abbrev pub whole : Engine → Files → Whole
+whole e files = record { engine = e; files = files }
 
-abbrev pub built_machine : Machine Whole
-built_machine = record { answer = λ s line. replies_text (built_step s line).replies; next = λ s line. record { engine = (built_step s line).engine; files = (built_step s line).files } }
+-- the files that are told, and none where none are told
+abbrev pub told_files : Option Files → Files
+told_files None = []
+told_files (Some files) = files
 
--- no command that is built knows files
-abbrev pub alone : Engine → Whole
-alone e = record { engine = e; files = [] }
+-- what a line is, and what it does
+abbrev pub reading_in : Whole → Turn → Reading
+reading_in s t = built_reading (current s.engine).dims t.line
 
--- what the lines of a script do, by all forms that are built
-abbrev pub built_run : Engine → List (List ℕ) → Outcome
-built_run e lines = run_by built_forms 0 e [] [] lines
+abbrev pub built_step : ℕ → Whole → Turn → Outcome
+built_step most s t = step_by built_forms most s.engine s.files t.fault t.line
+
+-- where a write of its answer failed, and where memory is missing
+abbrev pub cut_by : ℕ → Whole → Bool → Reading → Whole
+cut_by most s fault (Do command) = let o = act most s.engine s.files fault command in whole (cut_engine s.engine command o.engine) o.files
+cut_by most s fault _ = s
+
+abbrev pub starved_by : Whole → ℕ → Reading → Whole
+starved_by s part (Do command) = whole (starved_engine s.engine s.files command part) s.files
+starved_by s part _ = s
+
+abbrev pub wants_by : Whole → Reading → Bool
+wants_by s (Do command) = wants_memory (current s.engine) command
+wants_by s _ = false
+
+abbrev pub work_by : ℕ → Whole → Bool → Reading → Work
+work_by most s fault (Do command) = work_of most s.engine s.files fault command
+work_by most s fault _ = no_work
+
+-- over files of at most so many bytes
+abbrev pub built_machine : ℕ → Machine Whole
+built_machine most = record {
+  answer = λ s t. replies_text (built_step most s t).replies;
+  next = λ s t. let o = built_step most s t in whole o.engine o.files;
+  cut = λ s t. cut_by most s t.fault (reading_in s t);
+  starved = λ s t part. starved_by s part (reading_in s t);
+  wants = λ s t. wants_by s (reading_in s t);
+  work = λ s t. work_by most s t.fault (reading_in s t);
+}
+
+-- what the lines of a script do, by all forms that are built, where the files fail in these lines
+abbrev pub built_run : ℕ → Whole → List Bool → List (List ℕ) → Outcome
+built_run most s faults lines = run_by built_forms most s.engine s.files faults lines

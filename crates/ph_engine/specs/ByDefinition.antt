@@ -1,15 +1,21 @@
 -- A run over a source, by the definition of a script's run.
-use Rattle.std.specs.Prelude.{◌≡◌, ℕ, List, Option}
-use Rattle.std.specs.Io.KnownBytes.{Appends, Consumes, IsAtEnd}
+use Rattle.std.specs.Prelude.{◌≡◌, ℕ, List, Bool, Option}
+use Rattle.std.specs.Io.KnownBytes.{Consumes, IsAtEnd}
+use Rattle.ph_io.specs.Giving.{Given}
 use Rattle.ph_specs.specs.Lines.{lines}
-use Rattle.ph_specs.specs.State.{Engine}
 use Rattle.ph_specs.specs.Engine.{written}
-use Rattle.ph_engine.specs.BuiltMachine.{built_run}
+use Rattle.ph_engine.specs.Beside.{Beside, Tells}
+use Rattle.ph_engine.specs.BuiltMachine.{Whole, built_run}
+use Rattle.ph_engine.specs.Machine.{faults_of}
 
--- What was written, and the engine behind it, are those of a run of the commands that are built over all lines of the source.
-pub record RunsAsDefined (left now_left written_before now_written : Option (List ℕ)) (e now : Engine) : Type 0 where
+-- What was written, and the state behind it, are those of a run of the commands that are built over all lines of the
+-- source. The files failed in no more of the lines than their count tells.
+pub record RunsAsDefined (most : ℕ) (left now_left : Option (List ℕ)) (b now_b : Beside) (s now : Whole) : Type 0 where
   pub bytes : List ℕ
   pub consumed : Consumes left now_left bytes
   pub ended : IsAtEnd now_left
-  pub told : Appends written_before now_written (written (built_run e (lines bytes)))
-  pub state : now ≡ (built_run e (lines bytes)).engine
+  pub faults : List Bool
+  pub told : Given b.sink now_b.sink (written (built_run most s faults (lines bytes)))
+  pub engine : now.engine ≡ (built_run most s faults (lines bytes)).engine
+  pub files : now.files ≡ (built_run most s faults (lines bytes)).files
+  pub filings : Tells b.filings now_b.filings (faults_of faults)

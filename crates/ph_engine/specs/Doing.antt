@@ -1,51 +1,179 @@
 -- What a command of the code does, by the definition of commands.
-use Rattle.std.specs.Prelude.{◌≡◌, ◌<◌, ℕ, Bool, true, false, List, [], ◌∷◌, length, take, Option, Result, Ok, Err}
-use Rattle.std.specs.Io.KnownBytes.{Appends}
+use Rattle.std.specs.Prelude.{◌≡◌, ◌<◌, ℕ, Bool, true, false, not, ◌&&◌, nat_lt, if◌then◌else◌, List, [], ◌∷◌, length, take, ℤ, Option, Some, None, Result, Ok, Err}
+use Rattle.std.specs.List.{list_all}
+use Rattle.ph_io.specs.Giving.{Taken, Given}
 use Rattle.ph_specs.specs.Command.{Command}
-use Rattle.ph_specs.specs.Reply.{Reply, reply_text}
-use Rattle.ph_specs.specs.State.{Engine, Files, outcome}
+use Rattle.ph_specs.specs.Reply.{Reply, replies_text}
+use Rattle.ph_specs.specs.Coordinate.{fits}
+use Rattle.ph_specs.specs.Table.{Row, has}
+use Rattle.ph_specs.specs.Sets.{put_all}
+use Rattle.ph_specs.specs.Refusals.{import_rows}
+use Rattle.ph_specs.specs.State.{Slot, Engine, Files, Outcome, outcome, current, with_table}
 use Rattle.ph_specs.specs.Engine.{act}
-use Rattle.ph_tree.specs.Tree.{TreeTable}
-use Rattle.ph_engine.specs.Machine.{is_refusal}
-use Rattle.ph_engine.specs.Slots.{point_slot, engine_of}
+use Rattle.ph_specs.specs.Named.{Named}
+use Rattle.ph_specs.specs.Window.{Cursor}
+use Rattle.ph_script.specs.declared.reply.Reply.{Reply as Told}
+use Rattle.ph_script.specs.Meaning.{reply_of}
+use Rattle.ph_engine.specs.Beside.{Beside, beside_sink, IsTold, StillTells, Tells}
+use Rattle.ph_engine.specs.Machine.{is_refusal, one_if}
+use Rattle.ph_engine.specs.Working.{work_of, IsAtMost, IsAtLeast}
+use Rattle.ph_engine.specs.Slots.{AnyTable, slot_of, engine_of}
 use Rattle.ph_engine.specs.declared.status.Answer.{Answer}
 use Rattle.ph_engine.specs.declared.status.Answer.TheVariants.{Good, Refused}
 use Rattle.ph_engine.specs.declared.status.Stop.{Stop}
 use Rattle.ph_engine.specs.declared.status.Stop.TheVariants.{WriteFault, NoMemory}
 
--- with whatever files, the command has this one reply and leads to this engine
-abbrev pub Does : Engine → Command → Engine → Reply → Type 0
-Does e command now reply = (most : ℕ) (files : Files) (fault : Bool) → act most e files fault command ≡ outcome now files (reply ∷ [])
+-- ---- commands that know no files
 
--- the same of a tree of so many dimensions
-abbrev pub DoesOn : ℕ → TreeTable → Command → TreeTable → Reply → Type 0
-DoesOn dims t command now reply = Does (engine_of (point_slot dims t)) command (engine_of (point_slot dims now)) reply
+-- with whatever files, the command has these replies, leads to this engine and leaves the files
+abbrev pub Does : Engine → Command → Engine → List Reply → Type 0
+Does e command now replies = (most : ℕ) (files : Files) (fault : Bool) → act most e files fault command ≡ outcome now files replies
+
+-- the same of an engine in which this slot is current
+abbrev pub DoesAt : Slot → Command → Slot → List Reply → Type 0
+DoesAt s command now replies = Does (engine_of s) command (engine_of now) replies
+
+-- the counters rose as far as the command's bounds let them, and as far as they must
+abbrev pub MostAt : Slot → Command → ℕ → ℕ → ℕ → ℕ → Type 0
+MostAt s command visits now_visits changes now_changes =
+    (most : ℕ) (files : Files) (fault : Bool) → IsAtMost (work_of most (engine_of s) files fault command) visits now_visits changes now_changes
+
+abbrev pub LeastAt : Slot → Command → ℕ → ℕ → ℕ → ℕ → Type 0
+LeastAt s command visits now_visits changes now_changes =
+    (most : ℕ) (files : Files) (fault : Bool) → IsAtLeast (work_of most (engine_of s) files fault command) visits now_visits changes now_changes
+
+-- ---- all commands
+
+-- whether a command reads a file
+abbrev pub fetches : Command → Bool
+fetches (Command.Load name) = true
+fetches (Command.Import name header) = true
+fetches _ = false
+
+-- files that are known well enough for the command: those that are told, and any where it reads none
+abbrev pub Knows : Command → Option Files → Files → Type 0
+Knows command None files = fetches command ≡ false
+Knows command (Some told) files = told ≡ files
+
+-- An outcome has these replies and this engine. Where the files were told, its files are those that are told now.
+pub record Leads (o : Outcome) (now : Engine) (told now_told : Option Files) (replies : List Reply) : Type 0 where
+  pub files : Files
+  pub is : o ≡ outcome now files replies
+  pub told_files : StillTells told now_told files
+
+-- whether a point is in the range of a slot
+abbrev pub is_in_range : Slot → List ℤ → Bool
+is_in_range s p = list_all (fits s.width) p
+
+-- whether a command may want memory: a put of a row that is new and has room, a move to another point, both in range, and what keeps
+-- nodes, rows or bytes in memory while it goes
+abbrev pub wants_memory : Slot → Command → Bool
+wants_memory s (Command.Put p v) = is_in_range s p && (not (has s.table p) && nat_lt (length s.table) s.max)
+wants_memory s (Command.Relocate p q) = is_in_range s p && (is_in_range s q && (has s.table p && not (has s.table q)))
+wants_memory s (Command.Near q n) = true
+wants_memory s (Command.Load name) = true
+wants_memory s (Command.Import name header) = true
+wants_memory s (Command.Export name) = true
+wants_memory s _ = false
+
+-- a command on a table, whatever cursors stand beside it, has this reply and leads to this table
+pub record Served (t : AnyTable) (command : Command) (now : AnyTable) (reply : Reply) (visits now_visits changes now_changes : ℕ) : Type 0 where
+  pub does : (cursors : Named Cursor) → DoesAt (slot_of t cursors) command (slot_of now cursors) (reply ∷ [])
+  pub most : (cursors : Named Cursor) → MostAt (slot_of t cursors) command visits now_visits changes now_changes
+  pub least : (cursors : Named Cursor) → LeastAt (slot_of t cursors) command visits now_visits changes now_changes
+
+-- the same without a change, and without any work
+pub record Looked (t : AnyTable) (command : Command) (now : AnyTable) (reply : Reply) (visits now_visits : ℕ) : Type 0 where
+  pub served : (changes : ℕ) → Served t command now reply visits now_visits changes changes
+
+pub record Idled (t : AnyTable) (command : Command) (now : AnyTable) (reply : Reply) : Type 0 where
+  pub served : (visits changes : ℕ) → Served t command now reply visits visits changes changes
+
+-- a command that makes a slot another one, without any work
+pub record Begun (s : Slot) (command : Command) (now : Slot) (reply : Reply) : Type 0 where
+  pub does : DoesAt s command now (reply ∷ [])
+  pub most : (visits changes : ℕ) → MostAt s command visits visits changes changes
+  pub least : (visits changes : ℕ) → LeastAt s command visits visits changes changes
+
+-- memory was missing for the command, which may want it
+pub record Unserved (t : AnyTable) (command : Command) (now : AnyTable) (visits now_visits changes now_changes : ℕ) : Type 0 where
+  pub stays : now ≡ t
+  pub wanted : (cursors : Named Cursor) → wants_memory (slot_of t cursors) command ≡ true
+  pub most : (cursors : Named Cursor) → MostAt (slot_of t cursors) command visits now_visits changes now_changes
+
+abbrev pub ServedOr : {D : ℕ} {E : Type 0} → AnyTable → Command → AnyTable → ℕ → ℕ → ℕ → ℕ → Result (Told D) E → Type 0
+ServedOr t command now visits now_visits changes now_changes (Ok reply) = Served t command now (reply_of reply) visits now_visits changes now_changes
+ServedOr t command now visits now_visits changes now_changes (Err error) = Unserved t command now visits now_visits changes now_changes
+
+-- the engine behind a command of whose reply a write failed: a page leaves its cursor as it was
+abbrev pub is_page : Command → Bool
+is_page (Command.Page name n) = true
+is_page _ = false
+
+abbrev pub cut_engine : Engine → Command → Engine → Engine
+cut_engine e command after = if is_page command then e else after
+
+-- the rows that an import has read, if it could
+abbrev pub rows_of : Result (List Row) Reply → Option (List Row)
+rows_of (Ok rows) = Some rows
+rows_of (Err fault) = None
+
+abbrev pub imported : Slot → Files → Command → Option (List Row)
+imported s files (Command.Import name header) = rows_of (import_rows s files name header)
+imported s files _ = None
+
+-- the engine in which memory is missing: of an import some first rows are in
+abbrev pub with_first : Engine → ℕ → Option (List Row) → Engine
+with_first e n (Some rows) = let s = current e in with_table e (put_all s.width s.table (take n rows))
+with_first e n None = e
+
+abbrev pub starved_engine : Engine → Files → Command → ℕ → Engine
+starved_engine e files command n = with_first e n (imported (current e) files command)
 
 abbrev pub refuses : Answer → Bool
 refuses Good = false
 refuses Refused = true
 
--- the command was done, and its reply written
-pub record Done (e : Engine) (command : Command) (written now_written : Option (List ℕ)) (now : Engine) (answer : Answer) : Type 0 where
-  pub reply : Reply
-  pub does : Does e command now reply
-  pub told : Appends written now_written (reply_text reply)
-  pub refusal : refuses answer ≡ is_refusal (reply_text reply)
+-- The command was done, and its replies written. The files failed in it or not.
+pub record Done (most : ℕ) (e : Engine) (command : Command) (b now_b : Beside) (now : Engine) (answer : Answer) : Type 0 where
+  pub fault : Bool
+  pub filings : Tells b.filings now_b.filings (one_if fault)
+  pub replies : List Reply
+  pub does : (files : Files) → Knows command b.files files → Leads (act most e files fault command) now b.files now_b.files replies
+  pub told : Given b.sink now_b.sink (replies_text replies)
+  pub refusal : refuses answer ≡ is_refusal (replies_text replies)
+  pub most_work : (files : Files) → Knows command b.files files → IsAtMost (work_of most e files fault command) b.visits now_b.visits b.changes now_b.changes
+  pub least_work : (files : Files) → Knows command b.files files → IsAtLeast (work_of most e files fault command) b.visits now_b.visits b.changes now_b.changes
 
--- the command was done, and a front of its reply written
-pub record DoneInPart (e : Engine) (command : Command) (written now_written : Option (List ℕ)) (now : Engine) : Type 0 where
-  pub reply : Reply
-  pub does : Does e command now reply
+-- The command was done, and a front of its replies written.
+pub record DoneInPart (most : ℕ) (e : Engine) (command : Command) (b now_b : Beside) (now : Engine) : Type 0 where
+  pub fault : Bool
+  pub filings : Tells b.filings now_b.filings (one_if fault)
+  pub replies : List Reply
+  pub after : Engine
+  pub does : (files : Files) → Knows command b.files files → Leads (act most e files fault command) after b.files now_b.files replies
+  pub state : now ≡ cut_engine e command after
   pub count : ℕ
-  pub short : count < length (reply_text reply)
-  pub told : Appends written now_written (take count (reply_text reply))
+  pub short : count < length (replies_text replies)
+  pub told : Given b.sink now_b.sink (take count (replies_text replies))
+  pub most_work : (files : Files) → Knows command b.files files → IsAtMost (work_of most e files fault command) b.visits now_b.visits b.changes now_b.changes
 
--- nothing was done or written
-pub record Undone (e : Engine) (written now_written : Option (List ℕ)) (now : Engine) : Type 0 where
-  pub state : now ≡ e
-  pub told : Appends written now_written []
+-- Memory was missing, in a command that may want it. Nothing was written, and the files are as before.
+pub record Undone (most : ℕ) (e : Engine) (command : Command) (b now_b : Beside) (now : Engine) : Type 0 where
+  pub fault : Bool
+  pub filings : Tells b.filings now_b.filings (one_if fault)
+  pub part : ℕ
+  pub state : (files : Files) → Knows command b.files files → now ≡ starved_engine e files command part
+  pub files : (files : Files) → IsTold b.files files → StillTells b.files now_b.files files
+  pub told : Given b.sink now_b.sink []
+  pub wanted : wants_memory (current e) command ≡ true
+  pub most_work : (files : Files) → Knows command b.files files → IsAtMost (work_of most e files fault command) b.visits now_b.visits b.changes now_b.changes
 
-abbrev pub DoneOr : Engine → Command → Option (List ℕ) → Option (List ℕ) → Engine → Result Answer Stop → Type 0
-DoneOr e command written now_written now (Ok answer) = Done e command written now_written now answer
-DoneOr e command written now_written now (Err WriteFault) = DoneInPart e command written now_written now
-DoneOr e command written now_written now (Err NoMemory) = Undone e written now_written now
+abbrev pub DoneOr : ℕ → Engine → Command → Beside → Beside → Engine → Result Answer Stop → Type 0
+DoneOr most e command b now_b now (Ok answer) = Done most e command b now_b now answer
+DoneOr most e command b now_b now (Err WriteFault) = DoneInPart most e command b now_b now
+DoneOr most e command b now_b now (Err NoMemory) = Undone most e command b now_b now
+
+-- the same of a slot, of a command that counts no changes
+pub record DoneWith (s : Slot) (command : Command) (sink now_sink : Taken) (visits now_visits : ℕ) (now : Slot) (result : Result Answer Stop) : Type 0 where
+  pub done : (changes : ℕ) → DoneOr 0 (engine_of s) command (beside_sink sink visits changes) (beside_sink now_sink now_visits changes) (engine_of now) result

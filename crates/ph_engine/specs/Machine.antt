@@ -1,29 +1,70 @@
--- A machine that answers lines, one after another.
-use Rattle.std.specs.Prelude.{◌≡◌, ℕ, Bool, false, ◌||◌, List, [], ◌∷◌, ◌++◌, nat_eq, codes, refl}
+-- A machine that answers lines, one after another. In each of them the files fail or do not.
+use Rattle.std.specs.Prelude.{◌≡◌, ℕ, ◌+◌, Bool, true, false, ◌||◌, List, [], ◌∷◌, ◌++◌, map, nat_eq, codes, refl}
 use Rattle.std.specs.List.{starts_with}
 
--- the bytes of the answer to a line in a state, and the state behind it
+-- a line, and whether the files fail in it
+pub record Turn : Type 0 where
+  pub line : List ℕ
+  pub fault : Bool
+
+abbrev pub turn : List ℕ → Bool → Turn
+turn line fault = record { line = line; fault = fault }
+
+-- bounds of the nodes visited and of the changes made
+pub record Work : Type 0 where
+  pub most_visits : ℕ
+  pub least_visits : ℕ
+  pub most_changes : ℕ
+  pub least_changes : ℕ
+
+-- The bytes of the answer to a line in a state, and the state behind it. The state where a write of the answer failed, and
+-- that in which memory is missing, behind so many parts of what the line asks for. Whether the line may want memory, and
+-- its work.
 pub record Machine (S : Type 0) : Type 0 where
-  pub answer : S → List ℕ → List ℕ
-  pub next : S → List ℕ → S
+  pub answer : S → Turn → List ℕ
+  pub next : S → Turn → S
+  pub cut : S → Turn → S
+  pub starved : S → Turn → ℕ → S
+  pub wants : S → Turn → Bool
+  pub work : S → Turn → Work
 
 -- whether an answer is a refusal
 abbrev pub is_refusal : List ℕ → Bool
 is_refusal answer = starts_with nat_eq answer (codes "error") || starts_with nat_eq answer (codes "bad")
 
 -- the answers to lines, and the state behind them
-abbrev pub answers : {S : Type 0} → Machine S → S → List (List ℕ) → List ℕ
+abbrev pub answers : {S : Type 0} → Machine S → S → List Turn → List ℕ
 answers m s [] = []
-answers m s (line ∷ lines) = m.answer s line ++ answers m (m.next s line) lines
+answers m s (t ∷ ts) = m.answer s t ++ answers m (m.next s t) ts
 
-abbrev pub after : {S : Type 0} → Machine S → S → List (List ℕ) → S
+abbrev pub after : {S : Type 0} → Machine S → S → List Turn → S
 after m s [] = s
-after m s (line ∷ lines) = after m (m.next s line) lines
+after m s (t ∷ ts) = after m (m.next s t) ts
 
 -- whether some line is refused
-abbrev pub some_refused : {S : Type 0} → Machine S → S → List (List ℕ) → Bool
+abbrev pub some_refused : {S : Type 0} → Machine S → S → List Turn → Bool
 some_refused m s [] = false
-some_refused m s (line ∷ lines) = is_refusal (m.answer s line) || some_refused m (m.next s line) lines
+some_refused m s (t ∷ ts) = is_refusal (m.answer s t) || some_refused m (m.next s t) ts
+
+-- a bound summed over lines
+abbrev pub total : {S : Type 0} → (Work → ℕ) → Machine S → S → List Turn → ℕ
+total bound m s [] = 0
+total bound m s (t ∷ ts) = bound (m.work s t) + total bound m (m.next s t) ts
+
+-- the lines alone, and in how many of them the files fail
+abbrev pub lines_of : List Turn → List (List ℕ)
+lines_of ts = map (λ t. t.line) ts
+
+abbrev pub one_if : Bool → ℕ
+one_if true = 1
+one_if false = 0
+
+abbrev pub faults_of : List Bool → ℕ
+faults_of [] = 0
+faults_of (fault ∷ faults) = one_if fault + faults_of faults
+
+abbrev pub faults_in : List Turn → ℕ
+faults_in ts = faults_of (map (λ t. t.fault) ts)
 
 -- the most bytes of a line that are told apart, and one more, which tells that a line is too long
 unfoldable pub KEPT : ℕ

@@ -1,42 +1,92 @@
 -- The engine of the code as that of the definitions.
-use Rattle.std.specs.Prelude.{ℕ, ◌-◌, ◌^◌, []}
+use Rattle.std.specs.Prelude.{◌≡◌, ◌≤◌, ℕ, ◌-◌, ◌^◌, List, [], length, IsTrue}
+use Rattle.std.specs.List.{AllByRecursion}
+use Rattle.std.specs.Ordering.{nat_cmp}
+use Rattle.std.specs.Cmp.Lexicographic.{slice_cmp}
+use Rattle.std.specs.FinMap.Entries.{is_sorted}
 use Rattle.ph_specs.specs.declared.Kind.TheVariants.{Points}
 use Rattle.ph_specs.specs.declared.Which.TheVariants.{A}
+use Rattle.ph_specs.specs.Coordinate.{IsPoint}
+use Rattle.ph_specs.specs.Named.{Named}
 use Rattle.ph_specs.specs.State.{Slot, Engine, empty_slot}
+use Rattle.ph_specs.specs.Window.{Cursor}
 use Rattle.ph_tree.specs.Tree.{TreeTable}
+use Rattle.ph_window.specs.Page.{IsLast}
 use Rattle.ph_engine.specs.declared.trees.AnyTree.{AnyTree}
-use Rattle.ph_engine.specs.declared.trees.AnyTree.TheVariants.{D1, D2, D3, D4, D5, D6, D7, D8}
+use Rattle.ph_engine.specs.Naming.{place, under, entered_at}
+use Rattle.ph_engine.specs.declared.trees.AnyTree.TheVariants as tree
+use Rattle.ph_engine.specs.declared.cursors.AnyCursor.{AnyCursor}
+use Rattle.ph_engine.specs.declared.cursors.AnyCursor.TheVariants as cursor
+use Rattle.ph_engine.specs.declared.cursors.Held.{Held}
 
-abbrev pub dims_of : AnyTree → ℕ
-dims_of (D1 t) = 1
-dims_of (D2 t) = 2
-dims_of (D3 t) = 3
-dims_of (D4 t) = 4
-dims_of (D5 t) = 5
-dims_of (D6 t) = 6
-dims_of (D7 t) = 7
-dims_of (D8 t) = 8
+-- a table, and its number of dimensions
+pub record AnyTable : Type 0 where
+  pub dims : ℕ
+  pub tree : TreeTable
 
-abbrev pub table_of : AnyTree → TreeTable
-table_of (D1 t) = t
-table_of (D2 t) = t
-table_of (D3 t) = t
-table_of (D4 t) = t
-table_of (D5 t) = t
-table_of (D6 t) = t
-table_of (D7 t) = t
-table_of (D8 t) = t
+abbrev pub table_at : ℕ → TreeTable → AnyTable
+table_at dims t = record { dims = dims; tree = t }
 
--- a slot of points without cursors
-abbrev pub point_slot : ℕ → TreeTable → Slot
-point_slot dims t = record { kind = Points; dims = dims; width = t.width; max = t.max; table = t.table; cursors = [] }
-
-abbrev pub any_slot : AnyTree → Slot
-any_slot t = point_slot (dims_of t) (table_of t)
+abbrev pub any_table : AnyTree → AnyTable
+any_table (tree.D1 t) = table_at 1 t
+any_table (tree.D2 t) = table_at 2 t
+any_table (tree.D3 t) = table_at 3 t
+any_table (tree.D4 t) = table_at 4 t
+any_table (tree.D5 t) = table_at 5 t
+any_table (tree.D6 t) = table_at 6 t
+any_table (tree.D7 t) = table_at 7 t
+any_table (tree.D8 t) = table_at 8 t
 
 -- the table of a new tree
-abbrev pub empty_table : ℕ → ℕ → TreeTable
-empty_table width max = record { table = []; width = width; max = max }
+abbrev pub empty_table : ℕ → ℕ → ℕ → AnyTable
+empty_table dims width max = table_at dims (record { table = []; width = width; max = max })
+
+-- a cursor, and its number of dimensions
+abbrev pub cursor_of : AnyCursor → Cursor
+cursor_of (cursor.D1 c) = c
+cursor_of (cursor.D2 c) = c
+cursor_of (cursor.D3 c) = c
+cursor_of (cursor.D4 c) = c
+cursor_of (cursor.D5 c) = c
+cursor_of (cursor.D6 c) = c
+cursor_of (cursor.D7 c) = c
+cursor_of (cursor.D8 c) = c
+
+abbrev pub cursor_dims : AnyCursor → ℕ
+cursor_dims (cursor.D1 c) = 1
+cursor_dims (cursor.D2 c) = 2
+cursor_dims (cursor.D3 c) = 3
+cursor_dims (cursor.D4 c) = 4
+cursor_dims (cursor.D5 c) = 5
+cursor_dims (cursor.D6 c) = 6
+cursor_dims (cursor.D7 c) = 7
+cursor_dims (cursor.D8 c) = 8
+
+-- the cursors of a slot under their names
+abbrev pub named : List Held → Named Cursor
+named held = under (λ h. h.name) (λ h. cursor_of h.cursor) held
+
+-- with a cursor more, in place of one of its name
+abbrev pub entered : Held → List Held → List Held
+entered h held = entered_at (place h.name (named held)) h held
+
+-- a slot of points with such cursors
+abbrev pub slot_of : AnyTable → Named Cursor → Slot
+slot_of t cursors = record { kind = Points; dims = t.dims; width = t.tree.width; max = t.tree.max; table = t.tree.table; cursors = cursors }
+
+-- a cursor that serves in a table: its corners and its last point are points of it
+pub record IsCursorIn (t : AnyTable) (c : AnyCursor) : Type 0 where
+  pub dims : cursor_dims c ≡ t.dims
+  pub lo : IsPoint t.tree.width t.dims (cursor_of c).lo
+  pub hi : IsPoint t.tree.width t.dims (cursor_of c).hi
+  pub last : IsLast t.tree.width t.dims (cursor_of c).last
+
+-- what a slot of the code keeps: its width, at most 16 cursors in the order of their names, which differ, and that each serves in its table
+pub record IsSlot (t : AnyTable) (held : List Held) : Type 0 where
+  pub width : t.tree.width ≡ 32
+  pub few : length held ≤ 16
+  pub sorted : IsTrue (is_sorted (slice_cmp nat_cmp) (named held))
+  pub serve : AllByRecursion (λ h. IsCursorIn t h.cursor) held
 
 -- an engine whose current slot is this one, and whose other slot is new
 abbrev pub engine_of : Slot → Engine

@@ -1,9 +1,9 @@
 -- What a status says.
 use Rattle.std.specs.Prelude.{◌≤◌, ◌≡◌, ◌⊎◌, ◌<◌, ℕ, List, [], ◌∷◌, length, take, codes, Bool, if◌then◌else◌, Option, Some, None, Result, IsErrOf}
-use Rattle.std.specs.Io.KnownBytes.{Appends}
+use Rattle.ph_io.specs.Giving.{Taken, Given}
 use Rattle.ph_specs.specs.Program.{usage_line}
 use Rattle.ph_engine.specs.declared.status.Status.{Status}
-use Rattle.ph_engine.specs.declared.status.Status.TheVariants.{Clean, Refused, ReadFault, WriteFault, Memory}
+use Rattle.ph_engine.specs.declared.status.Status.TheVariants.{Clean, Refused, Usage, ReadFault, WriteFault, Memory}
 use Rattle.ph_engine.specs.declared.status.Stop.{Stop}
 use Rattle.ph_engine.specs.declared.status.Stop.TheVariants as stop
 use Rattle.ph_io.specs.Causes.{Rose}
@@ -28,10 +28,11 @@ pub record StopHasCause {T : Type 0} (before now : ℕ) (result : Result T Stop)
   pub later : before ≤ now
   pub write : IsErrOf result stop.WriteFault → Rose before now
 
--- a fault is answered only where its count rose
+-- a fault is answered only where its count rose, and a run never answers that it is none
 pub record HasCauses (reads now_reads writes now_writes : ℕ) (status : Status) : Type 0 where
   pub read : status ≡ ReadFault → Rose reads now_reads
   pub write : status ≡ WriteFault → Rose writes now_writes
+  pub is_run : status ≡ Usage → ⊥
 
 -- a source is known to have at most so many bytes
 abbrev pub HasAtMost : ℕ → Option (List ℕ) → Type 0
@@ -39,7 +40,7 @@ HasAtMost most None = ⊥
 HasAtMost most (Some bytes) = length bytes ≤ most
 
 -- a front of the usage line was written
-pub record UsageCut (written now_written : Option (List ℕ)) : Type 0 where
+pub record UsageCut (old new : Taken) : Type 0 where
   pub count : ℕ
   pub short : count < length usage_line
-  pub told : Appends written now_written (take count usage_line)
+  pub told : Given old new (take count usage_line)

@@ -1,54 +1,59 @@
 //! What each command does to a tree.
-ghost use Rattle.std.specs.Prelude.{◌≡◌, ◌≤◌, true, length, IfOk, OnErr, IfSome};
+ghost use Rattle.std.specs.Prelude.{◌≡◌, ◌≤◌, None, true, length};
 ghost use Rattle.std.specs.List.{list_all};
-ghost use Rattle.std.specs.Option.{SomeIff};
 ghost use Rattle.ph_specs.specs.Coordinate.{fits, IsPoint};
 ghost use Rattle.ph_specs.specs.Command.{Command as Asked};
-ghost use Rattle.ph_script.specs.Meaning.{numbers_of, reply_of, command_of};
-ghost use Rattle.ph_script.specs.Fit.{HasDims};
-ghost use Rattle.ph_engine.specs.Doing.{DoesOn};
-ghost use Rattle.ph_engine.specs.Commands.{IsOnTree};
+ghost use Rattle.ph_script.specs.Meaning.{number_of_coord, numbers_of, reply_of};
+ghost use Rattle.ph_engine.specs.Doing.{Looked, Idled, ServedOr};
+ghost use Rattle.ph_engine.specs.Slots.{table_at};
 
-use arrayvec::ArrayVec;
 use ph_coord::{Point, Width};
-use ph_script::{Command, Coord, Coords, Reply};
+use ph_script::{Coord, Coords, Reply};
 use ph_steps::Steps;
 use ph_tree::{Moved, NoMemory, PhTree, Put, PutError};
+use ph_window::Cursor;
 use std::sync::ledger::Ledger;
 
-// The point at these coordinates, if they are in the width.
-pub fn locate<const D: usize>(w: Width, at: &Coords) -> Option<Point<D>>
+// The point at these coordinates, which are in the width.
+pub(crate) fn point_at<const D: usize>(w: Width, at: &Coords) -> Point<D>
     requires dims { length at.now ≡ D }
-    ensures value { SomeIff result (list_all (fits w) (numbers_of at.now) ≡ true) (numbers_of at.now) }
-    ensures point { IfSome result (λ p. IsPoint w D p) }
+    requires range { list_all (fits w) (numbers_of at.now) ≡ true }
+    ensures value { result ≡ numbers_of at.now }
+    ensures point { IsPoint w D result }
 {
-    let _bits = w.bits();
-    let mut numbers: ArrayVec<i64, 16> = ArrayVec::new();
-    for coord in at.as_slice() {
-        match coord {
-            Coord::Whole(c) => numbers.push(*c),
-            Coord::Far => return None,
-        }
+    let mut numbers = [0; D];
+    for (i, coord) in at.as_slice().iter().enumerate() {
+        numbers[i] = number_at(w, coord);
     }
-    Point::from_slice(w, numbers.as_slice())
+    Point::new(numbers)
 }
 
-fn put_row<const D: usize, V: Ledger, C: Ledger>(
+// A coordinate that is in the width.
+fn number_at(w: Width, coord: &Coord) -> i64
+    requires { fits w (number_of_coord coord.now) ≡ true }
+    ensures { result ≡ number_of_coord coord.now }
+{
+    // A use that makes known how wide a coordinate can be.
+    let _bits = w.bits();
+    match coord {
+        Coord::Whole(c) => *c,
+        Coord::Far => unreachable!(),
+    }
+}
+
+pub(crate) fn put_row<const D: usize, V: Ledger, C: Ledger>(
     tree: &mut PhTree<D>,
     at: &Coords,
     value: u64,
     visits: &mut Steps<V>,
     changes: &mut Steps<C>,
-) -> Result<Reply<D>, NoMemory>
+) -> Result<Reply<1>, NoMemory>
     requires dims { length at.now ≡ D }
+    requires range { list_all (fits tree.old.width) (numbers_of at.now) ≡ true }
     requires limit { D ≤ 16 }
-    ensures ok { IfOk result (λ r. DoesOn D tree.old (Asked.Put (numbers_of at.now) value) tree.new (reply_of r)) }
-    ensures err { OnErr result (tree.new ≡ tree.old) }
-    ensures width { tree.new.width ≡ tree.old.width }
+    ensures { ServedOr (table_at D tree.old) (Asked.Put (numbers_of at.now) value) (table_at D tree.new) visits.old visits.new changes.old changes.new result }
 {
-    let Some(p) = locate(tree.width(), at) else {
-        return Ok(Reply::ErrorRange);
-    };
+    let p = point_at(tree.width(), at);
     // A use that makes known that there are at most so many rows.
     let _len = tree.len();
     match tree.put(p, value, visits, changes) {
@@ -59,39 +64,35 @@ fn put_row<const D: usize, V: Ledger, C: Ledger>(
     }
 }
 
-fn get_row<const D: usize, V: Ledger>(
+pub(crate) fn get_row<const D: usize, V: Ledger>(
     tree: &PhTree<D>,
     at: &Coords,
     visits: &mut Steps<V>,
-) -> Reply<D>
+) -> Reply<1>
     requires dims { length at.now ≡ D }
+    requires range { list_all (fits tree.now.width) (numbers_of at.now) ≡ true }
     requires limit { D ≤ 16 }
-    ensures { DoesOn D tree.now (Asked.Get (numbers_of at.now)) tree.now (reply_of result) }
+    ensures { Looked (table_at D tree.now) (Asked.Get (numbers_of at.now)) (table_at D tree.now) (reply_of result) visits.old visits.new }
 {
-    let Some(p) = locate(tree.width(), at) else {
-        return Reply::ErrorRange;
-    };
+    let p = point_at(tree.width(), at);
     match tree.get(&p, visits) {
         Some(value) => Reply::Value(value),
         None => Reply::Absent,
     }
 }
 
-fn del_row<const D: usize, V: Ledger, C: Ledger>(
+pub(crate) fn del_row<const D: usize, V: Ledger, C: Ledger>(
     tree: &mut PhTree<D>,
     at: &Coords,
     visits: &mut Steps<V>,
     changes: &mut Steps<C>,
-) -> Result<Reply<D>, NoMemory>
+) -> Result<Reply<1>, NoMemory>
     requires dims { length at.now ≡ D }
+    requires range { list_all (fits tree.old.width) (numbers_of at.now) ≡ true }
     requires limit { D ≤ 16 }
-    ensures ok { IfOk result (λ r. DoesOn D tree.old (Asked.Del (numbers_of at.now)) tree.new (reply_of r)) }
-    ensures err { OnErr result (tree.new ≡ tree.old) }
-    ensures width { tree.new.width ≡ tree.old.width }
+    ensures { ServedOr (table_at D tree.old) (Asked.Del (numbers_of at.now)) (table_at D tree.new) visits.old visits.new changes.old changes.new result }
 {
-    let Some(p) = locate(tree.width(), at) else {
-        return Ok(Reply::ErrorRange);
-    };
+    let p = point_at(tree.width(), at);
     match tree.del(&p, visits, changes) {
         Ok(Some(value)) => Ok(Reply::Gone(value)),
         Ok(None) => Ok(Reply::Absent),
@@ -99,23 +100,22 @@ fn del_row<const D: usize, V: Ledger, C: Ledger>(
     }
 }
 
-fn move_row<const D: usize, V: Ledger, C: Ledger>(
+pub(crate) fn move_row<const D: usize, V: Ledger, C: Ledger>(
     tree: &mut PhTree<D>,
     from: &Coords,
     to: &Coords,
     visits: &mut Steps<V>,
     changes: &mut Steps<C>,
-) -> Result<Reply<D>, NoMemory>
+) -> Result<Reply<1>, NoMemory>
     requires from { length from.now ≡ D }
     requires to { length to.now ≡ D }
+    requires from_range { list_all (fits tree.old.width) (numbers_of from.now) ≡ true }
+    requires to_range { list_all (fits tree.old.width) (numbers_of to.now) ≡ true }
     requires limit { D ≤ 16 }
-    ensures ok { IfOk result (λ r. DoesOn D tree.old (Asked.Relocate (numbers_of from.now) (numbers_of to.now)) tree.new (reply_of r)) }
-    ensures err { OnErr result (tree.new ≡ tree.old) }
-    ensures width { tree.new.width ≡ tree.old.width }
+    ensures { ServedOr (table_at D tree.old) (Asked.Relocate (numbers_of from.now) (numbers_of to.now)) (table_at D tree.new) visits.old visits.new changes.old changes.new result }
 {
-    let (Some(p), Some(q)) = (locate(tree.width(), from), locate(tree.width(), to)) else {
-        return Ok(Reply::ErrorRange);
-    };
+    let p = point_at(tree.width(), from);
+    let q = point_at(tree.width(), to);
     match tree.relocate(&p, &q, visits, changes) {
         Ok(Moved::Done) => Ok(Reply::Moved),
         Ok(Moved::Taken) => Ok(Reply::Taken),
@@ -124,43 +124,32 @@ fn move_row<const D: usize, V: Ledger, C: Ledger>(
     }
 }
 
-fn count_rows<const D: usize>(tree: &PhTree<D>) -> Reply<D>
+pub(crate) fn count_rows<const D: usize>(tree: &PhTree<D>) -> Reply<1>
     requires { D ≤ 16 }
-    ensures { DoesOn D tree.now Asked.Count tree.now (reply_of result) }
+    ensures { Idled (table_at D tree.now) Asked.Count (table_at D tree.now) (reply_of result) }
 {
     Reply::Rows(tree.len())
 }
 
-fn clear<const D: usize>(tree: &mut PhTree<D>) -> Reply<D>
+pub(crate) fn clear_rows<const D: usize>(tree: &mut PhTree<D>) -> Reply<1>
     requires { D ≤ 16 }
-    ensures does { DoesOn D tree.old Asked.Clear tree.new (reply_of result) }
-    ensures width { tree.new.width ≡ tree.old.width }
+    ensures { Idled (table_at D tree.old) Asked.Clear (table_at D tree.new) (reply_of result) }
 {
     tree.clear();
     Reply::Cleared
 }
 
-// Does a command that is no `open`. Without memory all stays.
-pub fn act_on<const D: usize, V: Ledger, C: Ledger>(
-    tree: &mut PhTree<D>,
-    command: &Command,
-    visits: &mut Steps<V>,
-    changes: &mut Steps<C>,
-) -> Result<Reply<D>, NoMemory>
-    requires dims { HasDims D command.now }
-    requires limit { D ≤ 16 }
-    requires on_tree { IsOnTree command.now }
-    ensures ok { IfOk result (λ r. DoesOn D tree.old (command_of command.now) tree.new (reply_of r)) }
-    ensures err { OnErr result (tree.new ≡ tree.old) }
-    ensures width { tree.new.width ≡ tree.old.width }
+pub(crate) fn cursor_at<const D: usize>(tree: &PhTree<D>, lo: &Coords, hi: &Coords) -> Cursor<D>
+    requires lo { length lo.now ≡ D }
+    requires hi { length hi.now ≡ D }
+    requires lo_range { list_all (fits tree.now.width) (numbers_of lo.now) ≡ true }
+    requires hi_range { list_all (fits tree.now.width) (numbers_of hi.now) ≡ true }
+    ensures { result ≡ record { lo = numbers_of lo.now; hi = numbers_of hi.now; last = None } }
 {
-    match command {
-        Command::Begin { .. } => unreachable!(),
-        Command::Put { at, value } => put_row(tree, at, *value, visits, changes),
-        Command::Get { at } => Ok(get_row(tree, at, visits)),
-        Command::Del { at } => del_row(tree, at, visits, changes),
-        Command::Relocate { from, to } => move_row(tree, from, to, visits, changes),
-        Command::Count => Ok(count_rows(tree)),
-        Command::Clear => Ok(clear(tree)),
+    let w = tree.width();
+    Cursor {
+        lo: point_at(w, lo),
+        hi: point_at(w, hi),
+        last: None,
     }
 }

@@ -2,16 +2,22 @@
 #![tactic(auto)]
 
 mod commands;
+mod cursors;
 mod engine;
+mod listing;
 mod output;
 mod program;
+mod refusals;
 mod run;
+mod slot;
 mod status;
 #[cfg(test)]
 mod tests;
 mod trees;
 
-pub use engine::{Engine, Slot};
+pub use cursors::{AnyCursor, Held};
+pub use engine::Engine;
 pub use program::top;
+pub use slot::Slot;
 pub use status::{Answer, Limits, Status, Stop};
 pub use trees::AnyTree;

@@ -1,17 +1,19 @@
 //! Replies, and the sink that takes their texts.
-ghost use Rattle.std.specs.Prelude.{◌≡◌, IfOk, IfErr, OnOk, OnErr};
-ghost use Rattle.std.specs.Io.KnownBytes.{Appends};
+ghost use Rattle.std.specs.Prelude.{◌≡◌, ◌≤◌, IfOk, IfErr, OnOk, OnErr};
 ghost use Rattle.ph_io.specs.Causes.{HasCause};
+ghost use Rattle.ph_io.specs.Giving.{Given, taken_of};
 ghost use Rattle.ph_specs.specs.Reply.{reply_text as text_of};
 ghost use Rattle.ph_script.specs.Meaning.{reply_of};
 ghost use Rattle.ph_engine.specs.Machine.{is_refusal};
 ghost use Rattle.ph_engine.specs.Doing.{refuses};
 ghost use Rattle.ph_engine.specs.Statuses.{StopHasCause};
+ghost use Rattle.ph_engine.specs.Telling.{ToldOr};
 ghost use Rattle.ph_engine.specs.Writing.{WritesFront};
 
 use crate::status::{Answer, Stop};
 use ph_io::{Failed, Sink};
-use ph_script::{Reply, reply_text};
+use ph_script::{Reply, Text, write_text};
+use ph_tree::NoMemory;
 
 fn answer_of<const D: usize>(reply: &Reply<D>) -> Answer
     ensures { refuses result ≡ is_refusal (text_of (reply_of reply.now)) }
@@ -26,7 +28,11 @@ fn answer_of<const D: usize>(reply: &Reply<D>) -> Answer
         | Reply::Moved
         | Reply::Taken
         | Reply::Rows(_)
-        | Reply::Cleared => Answer::Good,
+        | Reply::Cleared
+        | Reply::RowIs(_)
+        | Reply::End(_)
+        | Reply::More(_)
+        | Reply::Ready => Answer::Good,
         Reply::ErrorLong
         | Reply::ErrorWord
         | Reply::ErrorCount
@@ -34,29 +40,51 @@ fn answer_of<const D: usize>(reply: &Reply<D>) -> Answer
         | Reply::ErrorName
         | Reply::ErrorDims
         | Reply::ErrorRange
+        | Reply::ErrorCursor
+        | Reply::ErrorCursors
         | Reply::ErrorFull => Answer::Refused,
     }
 }
 
-// Gives a reply to the sink, as one piece.
-pub fn say<const D: usize, O: Sink>(out: &mut O, reply: &Reply<D>) -> Result<Answer, Stop>
+// Gives a reply to the sink, by way of a text that it fills.
+pub(crate) fn say<const D: usize, O: Sink>(
+    out: &mut O,
+    text: &mut Text,
+    reply: &Reply<D>,
+) -> Result<Answer, Stop>
+    requires { D ≤ 16 }
     ensures answer { IfOk result (λ answer. refuses answer ≡ is_refusal (text_of (reply_of reply.now))) }
-    ensures told { OnOk result (Appends (O.written out.old) (O.written out.new) (text_of (reply_of reply.now))) }
+    ensures told { OnOk result (Given (taken_of (O.written out.old) (O.amount out.old)) (taken_of (O.written out.new) (O.amount out.new)) (text_of (reply_of reply.now))) }
     ensures err { IfErr result (λ stop. stop ≡ Stop.WriteFault) }
-    ensures front { OnErr result (WritesFront (O.written out.old) (O.written out.new) (text_of (reply_of reply.now))) }
+    ensures front { OnErr result (WritesFront (taken_of (O.written out.old) (O.amount out.old)) (taken_of (O.written out.new) (O.amount out.new)) (text_of (reply_of reply.now))) }
     ensures cause { StopHasCause (O.faults out.old) (O.faults out.new) result }
 {
-    let text = reply_text(reply);
+    write_text(text, reply);
     match write_piece(out, text.as_str().as_bytes()) {
         Ok(()) => Ok(answer_of(reply)),
         Err(Failed) => Err(Stop::WriteFault),
     }
 }
 
+// Says the reply to a command, if memory was there for it.
+pub(crate) fn tell<O: Sink>(
+    out: &mut O,
+    text: &mut Text,
+    outcome: Result<Reply<1>, NoMemory>,
+) -> Result<Answer, Stop>
+    ensures told { ToldOr (taken_of (O.written out.old) (O.amount out.old)) (taken_of (O.written out.new) (O.amount out.new)) outcome result }
+    ensures cause { StopHasCause (O.faults out.old) (O.faults out.new) result }
+{
+    match outcome {
+        Ok(reply) => say(out, text, &reply),
+        Err(NoMemory) => Err(Stop::NoMemory),
+    }
+}
+
 // Gives a piece to the sink, by as many writes as it takes.
-pub fn write_piece<O: Sink>(out: &mut O, piece: &[u8]) -> Result<(), Failed>
-    ensures told { OnOk result (Appends (O.written out.old) (O.written out.new) piece.now) }
-    ensures front { OnErr result (WritesFront (O.written out.old) (O.written out.new) piece.now) }
+pub(crate) fn write_piece<O: Sink>(out: &mut O, piece: &[u8]) -> Result<(), Failed>
+    ensures told { OnOk result (Given (taken_of (O.written out.old) (O.amount out.old)) (taken_of (O.written out.new) (O.amount out.new)) piece.now) }
+    ensures front { OnErr result (WritesFront (taken_of (O.written out.old) (O.amount out.old)) (taken_of (O.written out.new) (O.amount out.new)) piece.now) }
     ensures cause { HasCause (O.faults out.old) (O.faults out.new) result }
 {
     let mut at = 0;

@@ -1,25 +1,23 @@
 //! A run over a source: its bytes are cut into lines, and each line is answered.
-ghost use Rattle.std.specs.Prelude.{◌≡◌, ◌≤◌, ◌<◌, ◌+◌, ◌^◌, [], ◌||◌, ℕ, List, IfOk, IfErr, length};
-ghost use Rattle.std.specs.Io.KnownBytes.{Appends, ReadConsumes, IsAtEnd};
+ghost use Rattle.std.specs.Prelude.{◌≡◌, ◌≤◌, ◌<◌, ◌+◌, ◌^◌, [], ◌||◌, IfOk, IfErr, length};
+ghost use Rattle.std.specs.Io.KnownBytes.{ReadConsumes, IsAtEnd};
 ghost use Rattle.ph_io.specs.Causes.{HasCause, Rose};
+ghost use Rattle.ph_io.specs.Giving.{Given, taken_of};
 ghost use Rattle.ph_specs.specs.Reply.{reply_text as text_of};
 ghost use Rattle.ph_script.specs.Meaning.{reply_of, bad_reply as reply_to};
-ghost use Rattle.ph_script.specs.Shown.{IsLine};
 ghost use Rattle.ph_engine.specs.Machine.{is_refusal};
 ghost use Rattle.ph_engine.specs.Writing.{WritesFront};
-ghost use Rattle.ph_engine.specs.Answering.{SaidOr};
-ghost use Rattle.ph_engine.specs.BuiltMachine.{built_machine, alone};
 ghost use Rattle.ph_engine.specs.Doing.{refuses};
-ghost use Rattle.ph_engine.specs.Feeding.{Feeds, Ends};
-ghost use Rattle.ph_engine.specs.Outcomes.{Outcome};
+ghost use Rattle.ph_engine.specs.Serving.{ServesLine, ServesPiece, ServesEnd, ServesScript};
 ghost use Rattle.ph_engine.specs.Showing.{IsShort};
+ghost use Rattle.ph_engine.specs.Standing.{standing};
 ghost use Rattle.ph_engine.specs.Statuses.{StopHasCause, HasCauses, stop_status, read_status as status_of};
 
 use crate::engine::Engine;
 use crate::output::say;
 use crate::status::{Answer, Status, Stop};
 use ph_io::{Failed, Sink, Source};
-use ph_script::{Bad, Line, Lines, Reply, read_command};
+use ph_script::{Bad, Line, Lines, Reply, Text, read_command};
 use ph_steps::Steps;
 use std::alloc::Global;
 use std::sync::ledger::Ledger;
@@ -27,7 +25,7 @@ use std::sync::ledger::Ledger;
 const PIECE_BYTES: usize = 4096;
 
 // Runs a script of at most `most` bytes. Both buffers are taken before the first read.
-pub fn run<S: Source, O: Sink, V: Ledger, C: Ledger>(
+pub(crate) fn run<S: Source, O: Sink, V: Ledger, C: Ledger>(
     alloc: Global,
     src: &mut S,
     out: &mut O,
@@ -37,7 +35,7 @@ pub fn run<S: Source, O: Sink, V: Ledger, C: Ledger>(
     changes: &mut Steps<C>,
 ) -> Status
     requires { most < 2 ^ 63 }
-    ensures outcome { Outcome built_machine most (S.left src.old) (S.left src.new) (O.written out.old) (O.written out.new) (alone eng.old) (alone eng.new) result }
+    ensures outcome { ServesScript most (S.left src.old) (standing (O.written out.old) (O.amount out.old) visits.old changes.old eng.old) (S.left src.new) (standing (O.written out.new) (O.amount out.new) visits.new changes.new eng.new) result }
     ensures causes { HasCauses (S.faults src.old) (S.faults src.new) (O.faults out.old) (O.faults out.new) result }
 {
     let Ok(mut lines) = Lines::new(alloc) else {
@@ -54,6 +52,7 @@ pub fn run<S: Source, O: Sink, V: Ledger, C: Ledger>(
         most,
         &mut lines,
         piece.as_mut_slice(),
+        &mut Text::new(),
         visits,
         changes,
     )
@@ -67,13 +66,14 @@ fn run_pieces<S: Source, O: Sink, V: Ledger, C: Ledger>(
     most: u64,
     lines: &mut Lines,
     piece: &mut [u8],
+    text: &mut Text,
     visits: &mut Steps<V>,
     changes: &mut Steps<C>,
 ) -> Status
     requires most { most < 2 ^ 63 }
     requires lines { lines.old ≡ [] }
     requires room { 0 < length piece.old }
-    ensures outcome { Outcome built_machine most (S.left src.old) (S.left src.new) (O.written out.old) (O.written out.new) (alone eng.old) (alone eng.new) result }
+    ensures outcome { ServesScript most (S.left src.old) (standing (O.written out.old) (O.amount out.old) visits.old changes.old eng.old) (S.left src.new) (standing (O.written out.new) (O.amount out.new) visits.new changes.new eng.new) result }
     ensures causes { HasCauses (S.faults src.old) (S.faults src.new) (O.faults out.old) (O.faults out.new) result }
 {
     let mut taken = 0u64;
@@ -83,10 +83,19 @@ fn run_pieces<S: Source, O: Sink, V: Ledger, C: Ledger>(
             return Status::ReadFault;
         };
         if count == 0 {
-            return finish(alloc, out, eng, lines, refused, visits, changes);
+            return finish(alloc, out, text, eng, lines, refused, visits, changes);
         }
         let fresh = (most - taken).min(count as u64) as usize;
-        match feed(alloc, out, eng, lines, &piece[..fresh], visits, changes) {
+        match feed(
+            alloc,
+            out,
+            text,
+            eng,
+            lines,
+            &piece[..fresh],
+            visits,
+            changes,
+        ) {
             Ok(some) => refused = either(refused, some),
             Err(stop) => return stopped(stop),
         }
@@ -118,19 +127,20 @@ fn fill<S: Source>(src: &mut S, piece: &mut [u8], most: u64) -> Result<usize, Fa
 fn feed<O: Sink, V: Ledger, C: Ledger>(
     alloc: Global,
     out: &mut O,
+    text: &mut Text,
     eng: &mut Engine,
     lines: &mut Lines,
     piece: &[u8],
     visits: &mut Steps<V>,
     changes: &mut Steps<C>,
 ) -> Result<bool, Stop>
-    ensures fed { Feeds built_machine (alone eng.old) lines.old piece.now (O.written out.old) (O.written out.new) (alone eng.new) lines.new result }
+    ensures fed { ServesPiece (standing (O.written out.old) (O.amount out.old) visits.old changes.old eng.old) lines.old piece.now (standing (O.written out.new) (O.amount out.new) visits.new changes.new eng.new) lines.new result }
     ensures cause { StopHasCause (O.faults out.old) (O.faults out.new) result }
 {
     let mut refused = false;
     let mut at = 0;
     'lines: while let Some(line) = lines.next_line(piece, &mut at) {
-        match answer(alloc, out, eng, line, visits, changes) {
+        match answer(alloc, out, text, eng, line, visits, changes) {
             Ok(some) => refused = either(refused, some),
             Err(stop) => return Err(stop),
         }
@@ -142,19 +152,21 @@ fn feed<O: Sink, V: Ledger, C: Ledger>(
 fn finish<O: Sink, V: Ledger, C: Ledger>(
     alloc: Global,
     out: &mut O,
+    text: &mut Text,
     eng: &mut Engine,
     lines: &mut Lines,
     refused: bool,
     visits: &mut Steps<V>,
     changes: &mut Steps<C>,
 ) -> Status
-    ensures ends { Ends built_machine (alone eng.old) lines.old refused (O.written out.old) (O.written out.new) (alone eng.new) result }
+    ensures ends { ServesEnd (standing (O.written out.old) (O.amount out.old) visits.old changes.old eng.old) lines.old refused (standing (O.written out.new) (O.amount out.new) visits.new changes.new eng.new) result }
     ensures cause { result ≡ Status.WriteFault → Rose (O.faults out.old) (O.faults out.new) }
+    ensures read { (result ≡ Status.ReadFault → ⊥) × (result ≡ Status.Usage → ⊥) }
 {
     let Some(line) = lines.last() else {
         return read_status(refused);
     };
-    match answer(alloc, out, eng, line, visits, changes) {
+    match answer(alloc, out, text, eng, line, visits, changes) {
         Ok(last) => read_status(either(refused, last)),
         Err(stop) => stopped(stop),
     }
@@ -164,25 +176,26 @@ fn finish<O: Sink, V: Ledger, C: Ledger>(
 fn answer<O: Sink, V: Ledger, C: Ledger>(
     alloc: Global,
     out: &mut O,
+    text: &mut Text,
     eng: &mut Engine,
     line: Line<'_>,
     visits: &mut Steps<V>,
     changes: &mut Steps<C>,
 ) -> Result<bool, Stop>
     requires { IsShort line }
-    ensures answered { (bytes : List ℕ) → IsLine bytes line.entry → SaidOr built_machine (alone eng.old) bytes (O.written out.old) (O.written out.new) (alone eng.new) result }
+    ensures answered { ServesLine (standing (O.written out.old) (O.amount out.old) visits.old changes.old eng.old) line.entry (standing (O.written out.new) (O.amount out.new) visits.new changes.new eng.new) result }
     ensures cause { StopHasCause (O.faults out.old) (O.faults out.new) result }
 {
-    let Line::Text(text) = line else {
-        return refuse(out, &Reply::ErrorLong);
+    let Line::Text(bytes) = line else {
+        return refuse(out, text, &Reply::ErrorLong);
     };
-    match read_command(text, eng.dims()) {
+    match read_command(bytes, eng.dims()) {
         Ok(None) => Ok(false),
-        Ok(Some(command)) => match eng.exec(alloc, &command, out, visits, changes) {
+        Ok(Some(command)) => match eng.exec_by(alloc, &command, out, text, visits, changes) {
             Ok(answer) => Ok(is_refused(answer)),
             Err(stop) => Err(stop),
         },
-        Err(bad) => refuse(out, &bad_reply(bad)),
+        Err(bad) => refuse(out, text, &bad_reply(bad)),
     }
 }
 
@@ -198,12 +211,12 @@ fn bad_reply(bad: Bad) -> Reply<1>
 }
 
 // Refuses a line.
-fn refuse<O: Sink>(out: &mut O, reply: &Reply<1>) -> Result<bool, Stop>
-    ensures told { IfOk result (λ refused. Appends (O.written out.old) (O.written out.new) (text_of (reply_of reply.now)) × (refused ≡ is_refusal (text_of (reply_of reply.now)))) }
-    ensures front { IfErr result (λ stop. (stop ≡ Stop.WriteFault) × WritesFront (O.written out.old) (O.written out.new) (text_of (reply_of reply.now))) }
+fn refuse<O: Sink>(out: &mut O, text: &mut Text, reply: &Reply<1>) -> Result<bool, Stop>
+    ensures told { IfOk result (λ refused. Given (taken_of (O.written out.old) (O.amount out.old)) (taken_of (O.written out.new) (O.amount out.new)) (text_of (reply_of reply.now)) × (refused ≡ is_refusal (text_of (reply_of reply.now)))) }
+    ensures front { IfErr result (λ stop. (stop ≡ Stop.WriteFault) × WritesFront (taken_of (O.written out.old) (O.amount out.old)) (taken_of (O.written out.new) (O.amount out.new)) (text_of (reply_of reply.now))) }
     ensures cause { StopHasCause (O.faults out.old) (O.faults out.new) result }
 {
-    match say(out, reply) {
+    match say(out, text, reply) {
         Ok(answer) => Ok(is_refused(answer)),
         Err(stop) => Err(stop),
     }

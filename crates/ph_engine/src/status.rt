@@ -37,7 +37,7 @@ pub enum Answer {
 /// Why a command has no whole answer.
 #[derive(Clone, Copy, Debug, PartialEq, Eq)]
 pub enum Stop {
-    /// A write failed: a front of the reply was written, and the command is done.
+    /// A write failed: a front of the replies was written, and the command is done, but a page leaves its cursor as it was.
     WriteFault,
     /// Memory was missing: nothing was written or done.
     NoMemory,

@@ -130,11 +130,12 @@ fn refused_words(rt: HostRuntime) -> Result<(), Fail> {
     let script = "fly 1 x\nput 1 2\nput 1 x 2\nput 1 2 -1\nopen boxes x\nopen boxes 9\n\
         open points 9 max 1\nopen points 0\nput 1 2147483648 2\nmove 1 1 2\n\
         move 1 1 2 x\nmove 1 1 2 -2147483649\nget 1\n\
-        open points 3 max 0\nput 1 1 9999999999 1\nput 1 1 1 1\nget 1 1\n";
+        open points 3 max 0\nput 1 1 9999999999 1\nput 1 1 1 1\nget 1 1\n\
+        page c/d 1\n";
     let output = "error word\nerror count\nerror number\nerror number\nerror number\n\
         error name\nerror dims\nerror dims\nerror range\nerror count\n\
         error number\nerror range\nerror count\n\
-        opened\nerror range\nerror full\nerror count\n";
+        opened\nerror range\nerror full\nerror count\nerror name\n";
     check(&rt, rt.alloc(), &run(script, output, Status::Refused))?;
     Ok(())
 }
@@ -159,16 +160,66 @@ fn moves(rt: HostRuntime) -> Result<(), Fail> {
 }
 
 #[test]
+fn unit_square_in_z_order(rt: HostRuntime) -> Result<(), Fail> {
+    let script = "put 1 1 4\nput 1 0 3\nput 0 1 2\nput 0 0 1\nwindow 0 0 1 1\n";
+    let output = "new\nnew\nnew\nnew\nrow 0 0 1\nrow 0 1 2\nrow 1 0 3\nrow 1 1 4\nend 4\n";
+    check(&rt, rt.alloc(), &run(script, output, Status::Clean))?;
+    Ok(())
+}
+
+#[test]
+fn z_order_across_signs(rt: HostRuntime) -> Result<(), Fail> {
+    let script = "put 0 0 1\nput 0 -1 2\nput -1 0 3\nput -1 -1 4\nwindow -9 -9 9 9\n";
+    let output = "new\nnew\nnew\nnew\nrow -1 -1 4\nrow -1 0 3\nrow 0 -1 2\nrow 0 0 1\nend 4\n";
+    check(&rt, rt.alloc(), &run(script, output, Status::Clean))?;
+    Ok(())
+}
+
+#[test]
+fn reversed_and_single_windows(rt: HostRuntime) -> Result<(), Fail> {
+    let script = "put 5 5 1\nwindow 5 5 4 9\nwindow 5 5 5 5\n";
+    let output = "new\nend 0\nrow 5 5 1\nend 1\n";
+    check(&rt, rt.alloc(), &run(script, output, Status::Clean))?;
+    Ok(())
+}
+
+#[test]
+fn pages_resume_between_edits(rt: HostRuntime) -> Result<(), Fail> {
+    let script = "put 1 1 4\nput 1 0 3\nput 0 1 2\nput 0 0 1\ncursor c -5 -5 5 5\npage c 2\n\
+        put -1 -1 8\nput 2 2 9\npage c 10\npage c 10\n";
+    let output = "new\nnew\nnew\nnew\nready\nrow 0 0 1\nrow 0 1 2\nmore 2\n\
+        new\nnew\nrow 1 0 3\nrow 1 1 4\nrow 2 2 9\nend 3\nend 0\n";
+    check(&rt, rt.alloc(), &run(script, output, Status::Clean))?;
+    Ok(())
+}
+
+#[test]
+fn cursor_limit(rt: HostRuntime) -> Result<(), Fail> {
+    let script = "page q 1\n\
+        cursor c1 0 0 1 1\ncursor c2 0 0 1 1\ncursor c3 0 0 1 1\ncursor c4 0 0 1 1\n\
+        cursor c5 0 0 1 1\ncursor c6 0 0 1 1\ncursor c7 0 0 1 1\ncursor c8 0 0 1 1\n\
+        cursor c9 0 0 1 1\ncursor c10 0 0 1 1\ncursor c11 0 0 1 1\ncursor c12 0 0 1 1\n\
+        cursor c13 0 0 1 1\ncursor c14 0 0 1 1\ncursor c15 0 0 1 1\ncursor c16 0 0 1 1\n\
+        cursor c17 0 0 1 1\ncursor c1 0 0 2 2\n";
+    let output = "error cursor\n\
+        ready\nready\nready\nready\nready\nready\nready\nready\n\
+        ready\nready\nready\nready\nready\nready\nready\nready\n\
+        error cursors\nready\n";
+    check(&rt, rt.alloc(), &run(script, output, Status::Refused))?;
+    Ok(())
+}
+
+#[test]
 fn each_number_of_dimensions(rt: HostRuntime) -> Result<(), Fail> {
     let cases = [
         ("open points 1\nput 1 7\nget 1\n", "opened\nnew\nvalue 7\n"),
         (
-            "open points 3\nput 1 2 3 7\ndel 1 2 3\n",
-            "opened\nnew\ngone 7\n",
+            "open points 3\nput 1 2 3 7\ncursor c 0 0 0 9 9 9\npage c 1\npage c 1\ndel 1 2 3\n",
+            "opened\nnew\nready\nrow 1 2 3 7\nend 1\nend 0\ngone 7\n",
         ),
         (
-            "open points 8\nput 1 2 3 4 5 6 7 8 9\ncount\n",
-            "opened\nnew\ncount 1\n",
+            "open points 8\nput 1 2 3 4 5 6 7 8 9\nwindow 0 0 0 0 0 0 0 0 9 9 9 9 9 9 9 9\ncount\n",
+            "opened\nnew\nrow 1 2 3 4 5 6 7 8 9\nend 1\ncount 1\n",
         ),
     ];
     for (script, output) in cases {

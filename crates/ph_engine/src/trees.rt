@@ -1,18 +1,22 @@
-//! A tree of any number of dimensions that a slot can have.
-ghost use Rattle.std.specs.Prelude.{◌≡◌, ◌≤◌, ◌<◌, ◌⊎◌, MatchOption, IfSome};
-ghost use Rattle.ph_script.specs.Meaning.{command_of};
-ghost use Rattle.ph_script.specs.Fit.{HasDims};
-ghost use Rattle.ph_engine.specs.Commands.{IsOnTree};
-ghost use Rattle.ph_engine.specs.Doing.{DoneOr};
+//! A tree of any number of dimensions that a slot can have, with the commands about its rows.
+ghost use Rattle.std.specs.Prelude.{◌≡◌, ◌≤◌, None, true, length};
+ghost use Rattle.std.specs.List.{list_all};
+ghost use Rattle.ph_specs.specs.Coordinate.{fits};
+ghost use Rattle.ph_specs.specs.Command.{Command as Asked};
+ghost use Rattle.ph_script.specs.Meaning.{numbers_of, reply_of};
+ghost use Rattle.ph_engine.specs.Doing.{Looked, Idled, ServedOr};
+ghost use Rattle.ph_io.specs.Giving.{taken_of};
+ghost use Rattle.ph_engine.specs.Listing.{ListsWindow, ListsAnyPage};
+ghost use Rattle.ph_engine.specs.Slots.{any_table, empty_table, cursor_of, cursor_dims, IsCursorIn};
 ghost use Rattle.ph_engine.specs.Statuses.{StopHasCause};
-ghost use Rattle.ph_engine.specs.Slots.{dims_of, table_of, engine_of, any_slot, point_slot, empty_table};
 
-use crate::commands::act_on;
-use crate::output::say;
+use crate::commands::{clear_rows, count_rows, cursor_at, del_row, get_row, move_row, put_row};
+use crate::cursors::AnyCursor;
+use crate::listing::{list_page, list_window};
 use crate::status::{Answer, Stop};
 use ph_coord::Width;
 use ph_io::Sink;
-use ph_script::Command;
+use ph_script::{Coords, Reply, Text};
 use ph_steps::Steps;
 use ph_tree::{NoMemory, PhTree};
 use std::alloc::Global;
@@ -47,27 +51,44 @@ macro_rules! with_tree {
     };
 }
 
+// Runs a body with the tree of whatever dimensions and a cursor of as many, and gives the cursor that it gives.
+macro_rules! with_cursor {
+    ($any:expr, $cursor:expr, $tree:ident, $at:ident => $body:expr) => {
+        match ($any, $cursor) {
+            (AnyTree::D1($tree), AnyCursor::D1($at)) => $body.map(AnyCursor::D1),
+            (AnyTree::D2($tree), AnyCursor::D2($at)) => $body.map(AnyCursor::D2),
+            (AnyTree::D3($tree), AnyCursor::D3($at)) => $body.map(AnyCursor::D3),
+            (AnyTree::D4($tree), AnyCursor::D4($at)) => $body.map(AnyCursor::D4),
+            (AnyTree::D5($tree), AnyCursor::D5($at)) => $body.map(AnyCursor::D5),
+            (AnyTree::D6($tree), AnyCursor::D6($at)) => $body.map(AnyCursor::D6),
+            (AnyTree::D7($tree), AnyCursor::D7($at)) => $body.map(AnyCursor::D7),
+            (AnyTree::D8($tree), AnyCursor::D8($at)) => $body.map(AnyCursor::D8),
+            _ => unreachable!(),
+        }
+    };
+}
+
 impl AnyTree {
-    // An empty tree of so many dimensions, 1 to 8, for at most so many rows. It takes no memory.
-    pub fn new(alloc: Global, w: Width, dims: u32, max: u64) -> Option<AnyTree>
-        ensures some { IfSome result (λ t. (dims_of t ≡ dims) × (table_of t ≡ empty_table w max)) }
-        ensures none { MatchOption result ((dims ≡ 0) ⊎ (8 < dims)) (λ _. (1 ≤ dims) × (dims ≤ 8)) }
+    // An empty tree of so many dimensions, for at most so many rows. It takes no memory.
+    pub(crate) fn new(alloc: Global, w: Width, dims: u32, max: u64) -> AnyTree
+        requires some { 1 ≤ dims }
+        requires limit { dims ≤ 8 }
+        ensures { any_table result ≡ empty_table dims w max }
     {
         match dims {
-            1 => Some(AnyTree::D1(PhTree::new(alloc, w, max))),
-            2 => Some(AnyTree::D2(PhTree::new(alloc, w, max))),
-            3 => Some(AnyTree::D3(PhTree::new(alloc, w, max))),
-            4 => Some(AnyTree::D4(PhTree::new(alloc, w, max))),
-            5 => Some(AnyTree::D5(PhTree::new(alloc, w, max))),
-            6 => Some(AnyTree::D6(PhTree::new(alloc, w, max))),
-            7 => Some(AnyTree::D7(PhTree::new(alloc, w, max))),
-            8 => Some(AnyTree::D8(PhTree::new(alloc, w, max))),
-            _ => None,
+            1 => AnyTree::D1(PhTree::new(alloc, w, max)),
+            2 => AnyTree::D2(PhTree::new(alloc, w, max)),
+            3 => AnyTree::D3(PhTree::new(alloc, w, max)),
+            4 => AnyTree::D4(PhTree::new(alloc, w, max)),
+            5 => AnyTree::D5(PhTree::new(alloc, w, max)),
+            6 => AnyTree::D6(PhTree::new(alloc, w, max)),
+            7 => AnyTree::D7(PhTree::new(alloc, w, max)),
+            _ => AnyTree::D8(PhTree::new(alloc, w, max)),
         }
     }
 
-    pub fn dims(&self) -> u32
-        ensures value { result ≡ dims_of self.now }
+    pub(crate) fn dims(&self) -> u32
+        ensures value { result ≡ (any_table self.now).dims }
         ensures some { 1 ≤ result }
         ensures limit { result ≤ 8 }
     {
@@ -83,40 +104,120 @@ impl AnyTree {
         }
     }
 
-    // Does a command that is no `open`, and says its reply.
-    pub fn exec<O: Sink, V: Ledger, C: Ledger>(
+    pub(crate) fn put<V: Ledger, C: Ledger>(
         &mut self,
-        cmd: &Command,
-        out: &mut O,
+        at: &Coords,
+        value: u64,
         visits: &mut Steps<V>,
         changes: &mut Steps<C>,
-    ) -> Result<Answer, Stop>
-        requires dims { HasDims (dims_of self.old) cmd.now }
-        requires on_tree { IsOnTree cmd.now }
-        ensures done { DoneOr (engine_of (any_slot self.old)) (command_of cmd.now) (O.written out.old) (O.written out.new) (engine_of (any_slot self.new)) result }
-        ensures cause { StopHasCause (O.faults out.old) (O.faults out.new) result }
-        ensures width { (table_of self.new).width ≡ (table_of self.old).width }
+    ) -> Result<Reply<1>, NoMemory>
+        requires dims { length at.now ≡ (any_table self.old).dims }
+        requires range { list_all (fits (any_table self.old).tree.width) (numbers_of at.now) ≡ true }
+        ensures { ServedOr (any_table self.old) (Asked.Put (numbers_of at.now) value) (any_table self.new) visits.old visits.new changes.old changes.new result }
     {
-        with_tree!(self, tree => exec_on(tree, cmd, out, visits, changes))
+        with_tree!(self, tree => put_row(tree, at, value, visits, changes))
     }
-}
 
-fn exec_on<const D: usize, O: Sink, V: Ledger, C: Ledger>(
-    tree: &mut PhTree<D>,
-    cmd: &Command,
-    out: &mut O,
-    visits: &mut Steps<V>,
-    changes: &mut Steps<C>,
-) -> Result<Answer, Stop>
-    requires dims { HasDims D cmd.now }
-    requires limit { D ≤ 16 }
-    requires on_tree { IsOnTree cmd.now }
-    ensures done { DoneOr (engine_of (point_slot D tree.old)) (command_of cmd.now) (O.written out.old) (O.written out.new) (engine_of (point_slot D tree.new)) result }
-    ensures cause { StopHasCause (O.faults out.old) (O.faults out.new) result }
-    ensures width { tree.new.width ≡ tree.old.width }
-{
-    match act_on(tree, cmd, visits, changes) {
-        Ok(reply) => say(out, &reply),
-        Err(NoMemory) => Err(Stop::NoMemory),
+    pub(crate) fn get<V: Ledger>(&self, at: &Coords, visits: &mut Steps<V>) -> Reply<1>
+        requires dims { length at.now ≡ (any_table self.now).dims }
+        requires range { list_all (fits (any_table self.now).tree.width) (numbers_of at.now) ≡ true }
+        ensures { Looked (any_table self.now) (Asked.Get (numbers_of at.now)) (any_table self.now) (reply_of result) visits.old visits.new }
+    {
+        with_tree!(self, tree => get_row(tree, at, visits))
+    }
+
+    pub(crate) fn del<V: Ledger, C: Ledger>(
+        &mut self,
+        at: &Coords,
+        visits: &mut Steps<V>,
+        changes: &mut Steps<C>,
+    ) -> Result<Reply<1>, NoMemory>
+        requires dims { length at.now ≡ (any_table self.old).dims }
+        requires range { list_all (fits (any_table self.old).tree.width) (numbers_of at.now) ≡ true }
+        ensures { ServedOr (any_table self.old) (Asked.Del (numbers_of at.now)) (any_table self.new) visits.old visits.new changes.old changes.new result }
+    {
+        with_tree!(self, tree => del_row(tree, at, visits, changes))
+    }
+
+    pub(crate) fn relocate<V: Ledger, C: Ledger>(
+        &mut self,
+        from: &Coords,
+        to: &Coords,
+        visits: &mut Steps<V>,
+        changes: &mut Steps<C>,
+    ) -> Result<Reply<1>, NoMemory>
+        requires from { length from.now ≡ (any_table self.old).dims }
+        requires to { length to.now ≡ (any_table self.old).dims }
+        requires from_range { list_all (fits (any_table self.old).tree.width) (numbers_of from.now) ≡ true }
+        requires to_range { list_all (fits (any_table self.old).tree.width) (numbers_of to.now) ≡ true }
+        ensures { ServedOr (any_table self.old) (Asked.Relocate (numbers_of from.now) (numbers_of to.now)) (any_table self.new) visits.old visits.new changes.old changes.new result }
+    {
+        with_tree!(self, tree => move_row(tree, from, to, visits, changes))
+    }
+
+    pub(crate) fn count(&self) -> Reply<1>
+        ensures { Idled (any_table self.now) Asked.Count (any_table self.now) (reply_of result) }
+    {
+        with_tree!(self, tree => count_rows(tree))
+    }
+
+    pub(crate) fn clear(&mut self) -> Reply<1>
+        ensures { Idled (any_table self.old) Asked.Clear (any_table self.new) (reply_of result) }
+    {
+        with_tree!(self, tree => clear_rows(tree))
+    }
+
+    // A cursor between two corners, with no row listed.
+    pub(crate) fn cursor(&self, lo: &Coords, hi: &Coords) -> AnyCursor
+        requires lo { length lo.now ≡ (any_table self.now).dims }
+        requires hi { length hi.now ≡ (any_table self.now).dims }
+        requires lo_range { list_all (fits (any_table self.now).tree.width) (numbers_of lo.now) ≡ true }
+        requires hi_range { list_all (fits (any_table self.now).tree.width) (numbers_of hi.now) ≡ true }
+        ensures cursor { cursor_of result ≡ record { lo = numbers_of lo.now; hi = numbers_of hi.now; last = None } }
+        ensures dims { cursor_dims result ≡ (any_table self.now).dims }
+    {
+        match self {
+            AnyTree::D1(tree) => AnyCursor::D1(cursor_at(tree, lo, hi)),
+            AnyTree::D2(tree) => AnyCursor::D2(cursor_at(tree, lo, hi)),
+            AnyTree::D3(tree) => AnyCursor::D3(cursor_at(tree, lo, hi)),
+            AnyTree::D4(tree) => AnyCursor::D4(cursor_at(tree, lo, hi)),
+            AnyTree::D5(tree) => AnyCursor::D5(cursor_at(tree, lo, hi)),
+            AnyTree::D6(tree) => AnyCursor::D6(cursor_at(tree, lo, hi)),
+            AnyTree::D7(tree) => AnyCursor::D7(cursor_at(tree, lo, hi)),
+            AnyTree::D8(tree) => AnyCursor::D8(cursor_at(tree, lo, hi)),
+        }
+    }
+
+    pub(crate) fn list_window<O: Sink, V: Ledger>(
+        &self,
+        lo: &Coords,
+        hi: &Coords,
+        out: &mut O,
+        text: &mut Text,
+        visits: &mut Steps<V>,
+    ) -> Result<Answer, Stop>
+        requires lo { length lo.now ≡ (any_table self.now).dims }
+        requires hi { length hi.now ≡ (any_table self.now).dims }
+        requires lo_range { list_all (fits (any_table self.now).tree.width) (numbers_of lo.now) ≡ true }
+        requires hi_range { list_all (fits (any_table self.now).tree.width) (numbers_of hi.now) ≡ true }
+        ensures lists { ListsWindow (any_table self.now) (numbers_of lo.now) (numbers_of hi.now) (taken_of (O.written out.old) (O.amount out.old)) (taken_of (O.written out.new) (O.amount out.new)) visits.old visits.new result }
+        ensures cause { StopHasCause (O.faults out.old) (O.faults out.new) result }
+    {
+        with_tree!(self, tree => list_window(tree, lo, hi, out, text, visits))
+    }
+
+    pub(crate) fn list_page<O: Sink, V: Ledger>(
+        &self,
+        cursor: &AnyCursor,
+        n: u32,
+        out: &mut O,
+        text: &mut Text,
+        visits: &mut Steps<V>,
+    ) -> Result<AnyCursor, Stop>
+        requires { IsCursorIn (any_table self.now) cursor.now }
+        ensures lists { ListsAnyPage (any_table self.now) cursor.now n (taken_of (O.written out.old) (O.amount out.old)) (taken_of (O.written out.new) (O.amount out.new)) visits.old visits.new result }
+        ensures cause { StopHasCause (O.faults out.old) (O.faults out.new) result }
+    {
+        with_cursor!(self, cursor, tree, at => list_page(tree, at, n, out, text, visits))
     }
 }

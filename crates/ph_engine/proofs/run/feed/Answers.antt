@@ -1,8 +1,9 @@
-use Rattle.std.proofs.Common.{◌≡◌, ◌∷◌, [], ◌++◌, take, drop, ◌∙◌, ap, arith}
+use Rattle.std.proofs.Common.{◌≡◌, ℕ, List, ◌∷◌, [], ◌++◌, take, drop, ◌∙◌, ap, arith}
 use Rattle.ph_specs.specs.Lines.{LF}
 use Rattle.ph_script.specs.Shown.{before_feed}
-use Rattle.ph_engine.specs.BuiltMachine.{built_machine, alone}
-use Rattle.ph_engine.proofs.Feeds.{line-said, line-stopped, then-fed, then-stopped, then-part}
+use Rattle.ph_engine.specs.Machine.{KEPT}
+use Rattle.ph_engine.specs.BuiltMachine.{built_machine}
+use Rattle.ph_engine.proofs.Feeds.{fed-none, line-said, line-stopped, then-fed, then-stopped, then-part}
 use Rattle.ph_engine.proofs.Scans.{feed-unbroken, none-unbroken, feed-next, feed-within, whole, unended-feed, unended-none}
 use Rattle.ph_engine.proofs.Answered.{shown-behind}
 use Rattle.ph_engine.proofs.run.feed.Goals as goal
@@ -15,30 +16,53 @@ lines-preserved g c =
     record {
       within = feed-within c.args.piece.now c.lines.at c.next_line.new.at c.lines.invariant.within given.0 place;
       later = omega (arith, c.lines.invariant.later, c.in-Ok.ensures.cause.later);
-      fed = λ unended k u.
-          let before = c.lines.invariant.fed unended k u in
-          then-fed built_machine (alone c.args.eng.now) unended (take c.lines.at c.args.piece.now) (before_feed (drop c.lines.at c.args.piece.now) ++ LF ∷ []) (take c.next_line.new.at c.args.piece.now)
-          c.lines.lines c.next_line.follows.lender-at-none _ _ _ (alone c.lines.eng) (alone c.answer.new.eng) c.lines.refused c.in-Ok.some c.either-refused.result before
-          (λ now kept free. rw empty (line-said built_machine (alone c.lines.eng) now (before_feed (drop c.lines.at c.args.piece.now)) _ _ (alone c.answer.new.eng) c.in-Ok.some free (feed-unbroken (drop c.lines.at c.args.piece.now) given.0)
-          (c.in-Ok.ensures.answered (now ++ before_feed (drop c.lines.at c.args.piece.now)) (shown-behind now (before_feed (drop c.lines.at c.args.piece.now)) c.lines.lines c.in-Some.line kept given.1))))
-          (feed-next c.args.piece.now c.lines.at c.next_line.new.at given.0 place) c.either-refused.ensures;
+      fed = λ told.
+          let fed = c.lines.invariant.fed told in
+          let line = c.in-Ok.ensures.answered fed.0 in (
+            line.0,
+            λ unended k u.
+                let before = fed.1 unended k u in
+                let answered = λ (now : List ℕ) (kept : c.lines.lines ≡ take KEPT now). line.1 (now ++ before_feed (drop c.lines.at c.args.piece.now)) (shown-behind now (before_feed (drop c.lines.at c.args.piece.now)) c.lines.lines c.in-Some.line kept given.1) in
+                then-fed (built_machine 0) _ unended (take c.lines.at c.args.piece.now) (before_feed (drop c.lines.at c.args.piece.now) ++ LF ∷ []) (take c.next_line.new.at c.args.piece.now)
+                c.lines.lines c.next_line.follows.lender-at-none _ _ _ _ _ c.lines.refused c.in-Ok.some c.either-refused.result before
+                (λ now kept free. rw empty (line-said (built_machine 0) _ now (before_feed (drop c.lines.at c.args.piece.now)) (answered now kept).fault _ _ _ c.in-Ok.some free (feed-unbroken (drop c.lines.at c.args.piece.now) given.0)
+                (answered now kept).said))
+                (feed-next c.args.piece.now c.lines.at c.next_line.new.at given.0 place) c.either-refused.ensures,
+          );
     }
 
 pub returns-in-Err-clause-fed : goal.returns-in-Err-clause-fed
-returns-in-Err-clause-fed g c unended k u =
+returns-in-Err-clause-fed g c told =
     let given = c.in-Some.ensures.given in
     let place = c.in-Some.ensures.place in
-    let before = c.lines.invariant.fed unended k u in
-    then-stopped built_machine (alone c.args.eng.now) unended (take c.lines.at c.args.piece.now) (before_feed (drop c.lines.at c.args.piece.now) ++ LF ∷ []) (drop c.next_line.new.at c.args.piece.now) c.args.piece.now
-    c.lines.lines c.next_line.follows.lender-at-none _ _ _ (alone c.lines.eng) (alone c.answer.new.eng) c.lines.refused c.in-Err.stop before
-    (λ now kept free. line-stopped built_machine (alone c.lines.eng) now (before_feed (drop c.lines.at c.args.piece.now)) c.next_line.follows.lender-at-none _ _ (alone c.answer.new.eng) c.in-Err.stop free (feed-unbroken (drop c.lines.at c.args.piece.now) given.0)
-    (c.in-Err.ensures.answered (now ++ before_feed (drop c.lines.at c.args.piece.now)) (shown-behind now (before_feed (drop c.lines.at c.args.piece.now)) c.lines.lines c.in-Some.line kept given.1)))
-    (ap (λ t. t ++ drop c.next_line.new.at c.args.piece.now) (feed-next c.args.piece.now c.lines.at c.next_line.new.at given.0 place) ∙ whole c.args.piece.now c.next_line.new.at)
+    let fed = c.lines.invariant.fed told in
+    let line = c.in-Err.ensures.answered fed.0 in (
+      line.0,
+      λ unended k u.
+          let before = fed.1 unended k u in
+          let answered = λ (now : List ℕ) (kept : c.lines.lines ≡ take KEPT now). line.1 (now ++ before_feed (drop c.lines.at c.args.piece.now)) (shown-behind now (before_feed (drop c.lines.at c.args.piece.now)) c.lines.lines c.in-Some.line kept given.1) in
+          then-stopped (built_machine 0) _ unended (take c.lines.at c.args.piece.now) (before_feed (drop c.lines.at c.args.piece.now) ++ LF ∷ []) (drop c.next_line.new.at c.args.piece.now) c.args.piece.now
+          c.lines.lines c.next_line.follows.lender-at-none _ _ _ _ _ c.lines.refused c.in-Err.stop before
+          (λ now kept free. line-stopped (built_machine 0) _ now (before_feed (drop c.lines.at c.args.piece.now)) c.next_line.follows.lender-at-none (answered now kept).fault _ _ _ c.in-Err.stop free (feed-unbroken (drop c.lines.at c.args.piece.now) given.0)
+          (answered now kept).said)
+          (ap (λ t. t ++ drop c.next_line.new.at c.args.piece.now) (feed-next c.args.piece.now c.lines.at c.next_line.new.at given.0 place) ∙ whole c.args.piece.now c.next_line.new.at),
+    )
 
 pub returns-clause-fed : goal.returns-clause-fed
-returns-clause-fed g c unended k u =
-    let given = c.in_default.ensures.given in
-    let rests = c.next_line.follows.holds-at-none ∙ unended-none c.lines.lines (drop c.lines.at c.args.piece.now) given in
-    then-part built_machine (alone c.args.eng.now) unended (take c.lines.at c.args.piece.now) (drop c.lines.at c.args.piece.now) c.args.piece.now
-    c.lines.lines c.next_line.follows.lender-at-none _ _ (alone c.lines.eng) c.lines.refused (c.lines.invariant.fed unended k u)
-    (none-unbroken (drop c.lines.at c.args.piece.now) given) rests (whole c.args.piece.now c.lines.at)
+returns-clause-fed g c told =
+    let fed = c.lines.invariant.fed told in (
+      fed.0,
+      λ unended k u.
+          let given = c.in_default.ensures.given in
+          let rests = c.next_line.follows.holds-at-none ∙ unended-none c.lines.lines (drop c.lines.at c.args.piece.now) given in
+          then-part (built_machine 0) _ unended (take c.lines.at c.args.piece.now) (drop c.lines.at c.args.piece.now) c.args.piece.now
+          c.lines.lines c.next_line.follows.lender-at-none _ _ _ c.lines.refused (fed.1 unended k u)
+          (none-unbroken (drop c.lines.at c.args.piece.now) given) rests (whole c.args.piece.now c.lines.at),
+    )
+
+pub lines-init : goal.lines-init
+lines-init g c = record {
+  within = omega arith;
+  later = omega arith;
+  fed = λ told. (told, λ unended k u. fed-none (built_machine 0) _ unended c.args.lines.now _ k u);
+}

@@ -1,15 +1,14 @@
-use Rattle.std.proofs.Common.{◌≡◌, ℕ, ◌-◌, ◌≤◌, true, List, length, take}
-use Rattle.ph_engine.specs.Machine.{KEPT}
-use Rattle.ph_engine.specs.Cutting.{is_unbroken}
-use Rattle.ph_engine.specs.Feeding.{Fed}
-use Rattle.ph_engine.specs.BuiltMachine.{built_machine, alone}
+use Rattle.std.proofs.Common.{◌-◌, ◌≤◌, length, take}
+use Rattle.std.specs.Prelude.{Ok}
+use Rattle.ph_engine.specs.Serving.{ServesPiece}
+use Rattle.ph_engine.specs.Standing.{standing}
 use Rattle.ph_engine.proofs.run.feed.Given as goal
 
 abbrev pub invariant-lines : goal.invariant-lines
 invariant-lines g l = record {
   within : l.at ≤ length l.piece;
   later : g.O.Sink.faults l.initial.out ≤ g.O.Sink.faults l.out;
-  fed : (unended : List ℕ) → l.initial.lines ≡ take KEPT unended → is_unbroken unended ≡ true → Fed built_machine (alone l.initial.eng) unended (take l.at l.piece) (g.O.Sink.written l.initial.out) (g.O.Sink.written l.out) (alone l.eng) l.lines l.refused;
+  fed : ServesPiece (standing (g.O.Sink.written l.initial.out) (g.O.Sink.amount l.initial.out) l.initial.visits l.initial.changes l.initial.eng) l.initial.lines (take l.at l.piece) (standing (g.O.Sink.written l.out) (g.O.Sink.amount l.out) l.visits l.changes l.eng) l.lines (Ok l.refused);
 }
 
 abbrev pub decreases-lines : goal.decreases-lines

@@ -1,0 +1,162 @@
+-- A command on a slot does the same whatever the other slot is.
+use Rattle.std.proofs.Common.{◌≡◌, ℕ, Bool, true, false, List, [], ◌∷◌, refl, ap, sym, ◌∙◌}
+use Rattle.std.specs.Prelude.{Option, Some, None, Result, Ok, Err, if◌then◌else◌}
+use Rattle.ph_specs.specs.Command.{Command}
+use Rattle.ph_specs.specs.Reply.{Reply}
+use Rattle.ph_specs.specs.Table.{Row}
+use Rattle.ph_specs.specs.Window.{Cursor}
+use Rattle.ph_specs.specs.Named.{lookup}
+use Rattle.ph_specs.specs.declared.Which.TheVariants.{A, B}
+use Rattle.ph_specs.specs.declared.Which.{Which}
+use Rattle.ph_specs.specs.State.{Slot, Engine, Files, Outcome, current, with_slot, slot_at, put_slot, outcome}
+use Rattle.ph_specs.specs.Refusals.{refusal, table_read, import_rows}
+use Rattle.ph_specs.specs.Engine.{act, effect, unless_refused, page_outcome, load_outcome, import_outcome}
+use Rattle.ph_script.specs.declared.command.Command.{Command as Written}
+use Rattle.ph_script.specs.declared.command.Command.TheVariants as by
+use Rattle.ph_script.specs.Meaning.{command_of}
+use Rattle.ph_engine.specs.Beside.{Beside}
+use Rattle.ph_engine.specs.Doing.{Leads, DoneOr, is_page, imported, with_first}
+use Rattle.ph_engine.specs.Slots.{engine_of}
+use Rattle.ph_engine.specs.declared.status.Answer.{Answer}
+use Rattle.ph_engine.specs.declared.status.Stop.{Stop}
+use Rattle.ph_engine.specs.declared.status.Stop.TheVariants.{WriteFault, NoMemory}
+
+-- the command knows the current slot alone
+abbrev pub is_on_slot : Command → Bool
+is_on_slot (Command.Select which) = false
+is_on_slot Command.Compare = false
+is_on_slot _ = true
+
+-- what an engine of one slot is led to, in an engine with another other slot
+abbrev pub lift : Engine → Outcome → Outcome
+lift e o = outcome (with_slot e (current o.engine)) o.files o.replies
+
+put-same : (which : Which) (e : Engine) → put_slot which e (slot_at which e) ≡ e
+put-same A e = refl
+put-same B e = refl
+
+same : (e : Engine) → with_slot e (current e) ≡ e
+same e = put-same e.current e
+
+stays : (e : Engine) (files : Files) (replies : List Reply) → outcome e files replies ≡ lift e (outcome (engine_of (current e)) files replies)
+stays e files replies = ap (λ x. outcome x files replies) (sym (same e))
+
+page-lifted : (e : Engine) (files : Files) (name : List ℕ) (n : ℕ) (c : Option Cursor) → page_outcome e files name n c ≡ lift e (page_outcome (engine_of (current e)) files name n c)
+page-lifted e files name n None = stays e files []
+page-lifted e files name n (Some c) = refl
+
+load-lifted : (e : Engine) (files : Files) (read : Result (List Row) Reply) → load_outcome e files read ≡ lift e (load_outcome (engine_of (current e)) files read)
+load-lifted e files (Ok rows) = refl
+load-lifted e files (Err fault) = stays e files (fault ∷ [])
+
+import-lifted : (e : Engine) (files : Files) (read : Result (List Row) Reply) → import_outcome e files read ≡ lift e (import_outcome (engine_of (current e)) files read)
+import-lifted e files (Ok rows) = refl
+import-lifted e files (Err fault) = stays e files (fault ∷ [])
+
+effect-lifted : (e : Engine) (files : Files) (cmd : Command) → is_on_slot cmd ≡ true → effect e files cmd ≡ lift e (effect (engine_of (current e)) files cmd)
+effect-lifted e files (Command.Begin kind k max) h = refl
+effect-lifted e files (Command.Put p v) h = refl
+effect-lifted e files (Command.Get p) h = stays e files _
+effect-lifted e files (Command.Del p) h = refl
+effect-lifted e files (Command.Relocate p q) h = refl
+effect-lifted e files Command.Count h = stays e files _
+effect-lifted e files Command.Clear h = refl
+effect-lifted e files (Command.Window lo hi) h = stays e files _
+effect-lifted e files (Command.Cursor name lo hi) h = refl
+effect-lifted e files (Command.Page name n) h = page-lifted e files name n (lookup name (current e).cursors)
+effect-lifted e files (Command.Near q n) h = stays e files _
+effect-lifted e files (Command.Within q r) h = stays e files _
+effect-lifted e files (Command.Overlap q) h = stays e files _
+effect-lifted e files (Command.Inside q) h = stays e files _
+effect-lifted e files (Command.Covers q) h = stays e files _
+effect-lifted e files (Command.Save name) h = stays e _ _
+effect-lifted e files (Command.Load name) h = load-lifted e files (table_read (current e) files (Command.Load name))
+effect-lifted e files (Command.Import name header) h = import-lifted e files (import_rows (current e) files name header)
+effect-lifted e files (Command.Export name) h = stays e _ _
+effect-lifted e files Command.Statistics h = stays e files _
+effect-lifted e files (Command.Select which) h = absurd cc
+effect-lifted e files Command.Compare h = absurd cc
+
+unless-lifted : (r : Option Reply) (e : Engine) (files : Files) (cmd : Command) → is_on_slot cmd ≡ true → unless_refused r e files cmd ≡ lift e (unless_refused r (engine_of (current e)) files cmd)
+unless-lifted (Some r) e files cmd h = stays e files (r ∷ [])
+unless-lifted None e files cmd h = effect-lifted e files cmd h
+
+pub act-lifted : (most : ℕ) (e : Engine) (files : Files) (fault : Bool) (cmd : Command) → is_on_slot cmd ≡ true → act most e files fault cmd ≡ lift e (act most (engine_of (current e)) files fault cmd)
+act-lifted most e files fault cmd h = unless-lifted (refusal most e files fault cmd) e files cmd h
+
+-- ---- what a command of the code answers
+
+leads-lifted : (most : ℕ) (e after : Engine) (files : Files) (fault : Bool) (cmd : Command) (told now_told : Option Files) (replies : List Reply) → is_on_slot cmd ≡ true → Leads (act most (engine_of (current e)) files fault cmd) after told now_told replies → Leads (act most e files fault cmd) (with_slot e (current after)) told now_told replies
+leads-lifted most e after files fault cmd told now_told replies h l = record {
+  files = l.files;
+  is = act-lifted most e files fault cmd h ∙ ap (lift e) l.is;
+  told_files = l.told_files;
+}
+
+cut-or : (e after : Engine) (s : Slot) (page : Bool) → engine_of s ≡ (if page then engine_of (current e) else after) → with_slot e s ≡ (if page then e else with_slot e (current after))
+cut-or e after s true h = ap (λ x. with_slot e (current x)) h ∙ same e
+cut-or e after s false h = ap (λ x. with_slot e (current x)) h
+
+first-lifted : (e : Engine) (n : ℕ) (rows : Option (List Row)) → with_slot e (current (with_first (engine_of (current e)) n rows)) ≡ with_first e n rows
+first-lifted e n (Some rows) = refl
+first-lifted e n None = same e
+
+pub done-lifted : (most : ℕ) (e : Engine) (s : Slot) (cmd : Command) (b now_b : Beside) (result : Result Answer Stop) → is_on_slot cmd ≡ true → DoneOr most (engine_of (current e)) cmd b now_b (engine_of s) result → DoneOr most e cmd b now_b (with_slot e s) result
+done-lifted most e s cmd b now_b (Ok answer) h d = record {
+  fault = d.fault;
+  filings = d.filings;
+  replies = d.replies;
+  does = λ files k. leads-lifted most e (engine_of s) files d.fault cmd b.files now_b.files d.replies h (d.does files k);
+  told = d.told;
+  refusal = d.refusal;
+  most_work = λ files k. d.most_work files k;
+  least_work = λ files k. d.least_work files k;
+}
+done-lifted most e s cmd b now_b (Err WriteFault) h d = record {
+  fault = d.fault;
+  filings = d.filings;
+  replies = d.replies;
+  after = with_slot e (current d.after);
+  does = λ files k. leads-lifted most e d.after files d.fault cmd b.files now_b.files d.replies h (d.does files k);
+  state = cut-or e d.after s (is_page cmd) d.state;
+  count = d.count;
+  short = d.short;
+  told = d.told;
+  most_work = λ files k. d.most_work files k;
+}
+done-lifted most e s cmd b now_b (Err NoMemory) h d = record {
+  fault = d.fault;
+  filings = d.filings;
+  part = d.part;
+  state = λ files k. ap (λ x. with_slot e (current x)) (d.state files k) ∙ first-lifted e d.part (imported (current e) files cmd);
+  files = d.files;
+  told = d.told;
+  wanted = d.wanted;
+  most_work = λ files k. d.most_work files k;
+}
+
+-- every command of the code so far is on a slot
+pub on-slot : (c : Written) → is_on_slot (command_of c) ≡ true
+on-slot (by.Begin k max) = refl
+on-slot (by.Put at value) = refl
+on-slot (by.Get at) = refl
+on-slot (by.Del at) = refl
+on-slot (by.Relocate from to) = refl
+on-slot by.Count = refl
+on-slot by.Clear = refl
+on-slot (by.Window lo hi) = refl
+on-slot (by.Cursor name lo hi) = refl
+on-slot (by.Page name n) = refl
+
+-- the same by the fields of the code's engine
+pub done-at-a : (most : ℕ) (e : Engine) (a b s : Slot) (which : Which) (cmd : Command) (d now_d : Beside) (result : Result Answer Stop) → record { a = a; b = b; current = which } ≡ e → which ≡ A → is_on_slot cmd ≡ true → DoneOr most (engine_of a) cmd d now_d (engine_of s) result → DoneOr most e cmd d now_d (record { a = s; b = b; current = which }) result
+done-at-a most e a b s which cmd d now_d result v w h k =
+    let at : Engine = record { a = a; b = b; current = A } in
+    let is : at ≡ e = ap (λ x. record { a = a; b = b; current = x }) (sym w) ∙ v in
+    rw (← is, w) (done-lifted most at s cmd d now_d result h k)
+
+pub done-at-b : (most : ℕ) (e : Engine) (a b s : Slot) (which : Which) (cmd : Command) (d now_d : Beside) (result : Result Answer Stop) → record { a = a; b = b; current = which } ≡ e → which ≡ B → is_on_slot cmd ≡ true → DoneOr most (engine_of b) cmd d now_d (engine_of s) result → DoneOr most e cmd d now_d (record { a = a; b = s; current = which }) result
+done-at-b most e a b s which cmd d now_d result v w h k =
+    let at : Engine = record { a = a; b = b; current = B } in
+    let is : at ≡ e = ap (λ x. record { a = a; b = b; current = x }) (sym w) ∙ v in
+    rw (← is, w) (done-lifted most at s cmd d now_d result h k)

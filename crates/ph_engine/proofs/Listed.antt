@@ -1,0 +1,150 @@
+-- Listings, row by row.
+use Rattle.std.proofs.Common.{◌≡◌, ◌≤◌, ◌+◌, ℕ, zero, suc, Bool, true, false, List, [], ◌∷◌, ◌++◌, length, take, drop, refl, ap, sym, ◌∙◌, subst, arith}
+use Rattle.std.specs.Prelude.{◌↔◌, ℤ, Option, Some, None, Ok, Err, Result, IfOk, IfErr, OnOk, OnErr, slice_get, filter, if◌then◌else◌}
+use Rattle.std.specs.List.{list_all}
+use Rattle.std.proofs.lemmas.Bool.{and_parts}
+use Rattle.ph_io.specs.Giving.{Taken, Given}
+use Rattle.ph_specs.specs.Coordinate.{is_point}
+use Rattle.ph_specs.specs.Table.{Row}
+use Rattle.ph_specs.specs.Reply.{Reply, reply_text, replies_text}
+use Rattle.ph_specs.specs.Engine.{listing, row_replies, page_end}
+use Rattle.ph_specs.specs.Window.{Cursor, is_between, is_after, window, rest, page, has_more, last_listed, next_cursor}
+use Rattle.ph_specs.proofs.laws.Pages.{more-left}
+use Rattle.ph_window.specs.Page.{IsLast}
+use Rattle.ph_window.specs.declared.page.Tail.{Tail}
+use Rattle.ph_window.specs.declared.page.Tail.TheVariants.{More, End}
+use Rattle.ph_engine.specs.Doing.{refuses}
+use Rattle.ph_engine.specs.Listing.{PageListed, ListsWindow, met, page_replies, is_more}
+use Rattle.ph_engine.specs.Machine.{is_refusal}
+use Rattle.ph_engine.specs.Slots.{AnyTable}
+use Rattle.ph_engine.specs.Writing.{WritesFront}
+use Rattle.ph_engine.specs.declared.status.Answer.{Answer}
+use Rattle.ph_engine.specs.declared.status.Answer.TheVariants.{Good, Refused}
+use Rattle.ph_engine.specs.declared.status.Stop.{Stop}
+use Rattle.ph_engine.specs.declared.status.Stop.TheVariants.{WriteFault}
+use Rattle.ph_engine.proofs.Replies.{IsGiven, one_given, all_given, front_given}
+
+-- a row was written, or a front of it
+pub row-given : (all tail : List Reply) (rows next : List Row) (r : Row) (a b c : Taken) → IsGiven all (row_replies rows ++ tail) a b → rows ≡ r ∷ next → Given b c (reply_text (Reply.RowIs r)) → IsGiven all (row_replies next ++ tail) a c
+row-given all tail rows next r a b c h e k = one_given all (row_replies rows ++ tail) (row_replies next ++ tail) (Reply.RowIs r) a b c h (ap (λ rs. row_replies rs ++ tail) e) k
+
+pub row-front : (all tail : List Reply) (rows next : List Row) (r : Row) (a b c : Taken) → IsGiven all (row_replies rows ++ tail) a b → rows ≡ r ∷ next → WritesFront b c (reply_text (Reply.RowIs r)) → WritesFront a c (replies_text all)
+row-front all tail rows next r a b c h e k = front_given all (row_replies rows ++ tail) (row_replies next ++ tail) (Reply.RowIs r) a b c h (ap (λ rs. row_replies rs ++ tail) e) k
+
+-- the last reply was written, or a front of it
+pub last-given : (all : List Reply) (rows : List Row) (r : Reply) (a b c : Taken) → IsGiven all (row_replies rows ++ r ∷ []) a b → rows ≡ [] → Given b c (reply_text r) → Given a c (replies_text all)
+last-given all rows r a b c h e k =
+    all_given all [] a c (one_given all (row_replies rows ++ r ∷ []) [] r a b c h (ap (λ rs. row_replies rs ++ r ∷ []) e) k) refl
+
+pub last-front : (all : List Reply) (rows : List Row) (r : Reply) (a b c : Taken) → IsGiven all (row_replies rows ++ r ∷ []) a b → rows ≡ [] → WritesFront b c (reply_text r) → WritesFront a c (replies_text all)
+last-front all rows r a b c h e k = front_given all (row_replies rows ++ r ∷ []) [] r a b c h (ap (λ rs. row_replies rs ++ r ∷ []) e) k
+
+is-good : (a : Answer) → refuses a ≡ false → a ≡ Good
+is-good Good h = refl
+is-good Refused h = cc
+
+-- what is left of a window whose next row is missing
+pub none-left : (rows : List Row) → None ≡ slice_get rows 0 → rows ≡ []
+none-left [] h = refl
+none-left (r ∷ rows) h = cc
+
+-- ---- windows
+
+pub window-said : (t : AnyTable) (lo hi : List ℤ) (rows0 rows : List Row) (n v0 v : ℕ) (a b c : Taken) (result : Result Answer Stop) → rows0 ≡ window lo hi t.tree.table → IsGiven (listing rows0) (row_replies rows ++ Reply.End (length rows0) ∷ []) a b → rows ≡ [] → n ≡ length rows0 → IfOk result (λ answer. refuses answer ≡ is_refusal (reply_text (Reply.End n))) → OnOk result (Given b c (reply_text (Reply.End n))) → IfErr result (λ stop. stop ≡ WriteFault) → OnErr result (WritesFront b c (reply_text (Reply.End n))) → v ≡ v0 + met t lo hi → ListsWindow t lo hi a c v0 v result
+window-said t lo hi rows0 rows n v0 v a b c (Ok answer) e h none count good told fault front cost =
+    let k : Given b c (reply_text (Reply.End (length rows0))) = rw count at told in
+    record { told = rw (← e) (last-given (listing rows0) rows (Reply.End (length rows0)) a b c h none k); good = is-good answer good; visited = cost }
+window-said t lo hi rows0 rows n v0 v a b c (Err stop) e h none count good told fault front cost =
+    let k : WritesFront b c (reply_text (Reply.End (length rows0))) = rw count at front in
+    record { front = rw (← e) (last-front (listing rows0) rows (Reply.End (length rows0)) a b c h none k); fault = fault; visited = omega (arith, cost) }
+
+-- ---- pages
+
+-- one row more of a page
+pub page-step : (rows next : List Row) (left left' : ℕ) (r : Row) → rows ≡ r ∷ next → left ≡ suc left' → take left rows ≡ r ∷ take left' next
+page-step rows next left left' r e f = rw (e, f) refl
+
+pub page-rest : (rows next : List Row) (left left' : ℕ) (r : Row) → rows ≡ r ∷ next → left ≡ suc left' → drop left rows ≡ drop left' next
+page-rest rows next left left' r e f = rw (e, f) refl
+
+-- rows are left behind a page exactly where some are left of the window once the page is full
+left-over : (rows : List Row) (left : ℕ) → take left rows ≡ [] → drop left rows ≡ rows
+left-over rows zero h = refl
+left-over [] (suc left) h = refl
+left-over (r ∷ rows) (suc left) h = cc
+
+same-test : (a b : Bool) (P : Type 0) → (a ≡ true) ↔ P → (b ≡ true) ↔ P → a ≡ b
+same-test true true P h k = refl
+same-test false false P h k = refl
+same-test true false P h k = sym (k.1 (h.0 refl))
+same-test false true P h k = h.1 (k.0 refl)
+
+pub more-is : (w : ℕ) (c : Cursor) (n : ℕ) (table : List Row) (rows0 rows : List Row) (left : ℕ) (more : Bool) → rows0 ≡ rest w c table → drop left rows ≡ drop n rows0 → take left rows ≡ [] → (more ≡ true) ↔ (rows ≡ [] → ⊥) → more ≡ has_more w c n table
+more-is w c n table rows0 rows left more e d none h =
+    let same : rows ≡ drop n (rest w c table) = sym (left-over rows left none) ∙ d ∙ ap (drop n) e in
+    same-test more (has_more w c n table) (rows ≡ [] → ⊥) h (rw same (more-left w c n table))
+
+-- the points that are listed are points of the table
+pub last-point : (w d : ℕ) (last : Option (List ℤ)) (rows : List Row) → IsLast w d last → list_all (λ r. is_point w d r.point) rows ≡ true → IsLast w d (last_listed last rows)
+last-point w d last [] h k = h
+last-point w d last (r ∷ rows) h k = last-point w d (Some r.point) rows (and_parts _ _ k).0 (and_parts _ _ k).1
+
+all-taken : {A : Type 0} (p : A → Bool) (n : ℕ) (xs : List A) → list_all p xs ≡ true → list_all p (take n xs) ≡ true
+all-taken p zero xs h = refl
+all-taken p (suc n) [] h = refl
+all-taken p (suc n) (x ∷ xs) h = let k = and_parts (p x) (list_all p xs) h in rw (k.0) (all-taken p n xs k.1)
+
+all-filtered : {A : Type 0} (p q : A → Bool) (xs : List A) → list_all p xs ≡ true → list_all p (filter q xs) ≡ true
+all-filtered p q [] h = refl
+all-filtered p q (x ∷ xs) h =
+    let k = and_parts (p x) (list_all p xs) h in
+    let more = all-filtered p q xs k.1 in
+    elim (q x) as (λ b. list_all p (if b then x ∷ filter q xs else filter q xs) ≡ true) [ true ↦ rw k.0 more | false ↦ more ]
+
+same-cursor : (b c : Cursor) → b.lo ≡ c.lo → b.hi ≡ c.hi → b.last ≡ c.last → b ≡ c
+same-cursor b c lo hi last = λ i. record { lo = lo i; hi = hi i; last = last i }
+
+-- the replies of a page are its rows and then its end
+pub page-ended : (t : AnyTable) (c : Cursor) (n : ℕ) (rows0 rows : List Row) (left count : ℕ) (more : Bool) → rows0 ≡ rest t.tree.width c t.tree.table → take left rows ≡ [] → drop left rows ≡ drop n rows0 → count ≡ length (take n rows0) → (more ≡ true) ↔ (rows ≡ [] → ⊥) → row_replies (take n rows0) ++ page_end more count ∷ [] ≡ page_replies t c n
+page-ended t c n rows0 rows left count more e none d counted m =
+    let w = t.tree.width in
+    let listed : take n rows0 ≡ page w c n t.tree.table = ap (take n) e in
+    ap (λ b. row_replies (take n rows0) ++ page_end b count ∷ []) (more-is w c n t.tree.table rows0 rows left more e d none m)
+    ∙ ap (λ k. row_replies (take n rows0) ++ page_end (has_more w c n t.tree.table) k ∷ []) counted
+    ∙ ap (λ rs. row_replies rs ++ page_end (has_more w c n t.tree.table) (length rs) ∷ []) listed
+
+-- the whole page was given, and then its end
+pub page-said : (t : AnyTable) (c : Cursor) (n : ℕ) (rows0 rows : List Row) (left count v0 v : ℕ) (more : Bool) (behind : Cursor) (x y z : Taken) → rows0 ≡ rest t.tree.width c t.tree.table → ((tail : List Reply) → IsGiven (row_replies (take n rows0) ++ tail) (row_replies (take left rows) ++ tail) x y) → take left rows ≡ [] → drop left rows ≡ drop n rows0 → count ≡ length (take n rows0) → (more ≡ true) ↔ (rows ≡ [] → ⊥) → behind.lo ≡ c.lo → behind.hi ≡ c.hi → last_listed behind.last (take left rows) ≡ last_listed c.last (take n rows0) → IsLast t.tree.width t.dims c.last → list_all (λ r. is_point t.tree.width t.dims r.point) t.tree.table ≡ true → v0 ≤ v → v ≤ v0 + (t.tree.width + met t c.lo c.hi) → Given y z (reply_text (page_end more count)) → PageListed t c n x z v0 v behind
+page-said t c n rows0 rows left count v0 v more behind x y z e given none d counted m lo hi last start points grows cost told =
+    let w = t.tree.width in
+    let ended = page-ended t c n rows0 rows left count more e none d counted m in
+    let stands : behind.last ≡ last_listed c.last (take n rows0) = ap (last_listed behind.last) (sym none) ∙ last in
+    let inside : list_all (λ r. is_point w t.dims r.point) (take n rows0) ≡ true =
+    all-taken (λ r. is_point w t.dims r.point) n rows0 (rw e (all-filtered (λ r. is_point w t.dims r.point) (λ r. is_after w c.last r.point) (window c.lo c.hi t.tree.table) (all-filtered (λ r. is_point w t.dims r.point) (λ r. is_between c.lo c.hi r.point) t.tree.table points))) in
+    record {
+      told = subst (λ rs. Given x z (replies_text rs)) ended (last-given _ (take left rows) (page_end more count) x y z (given (page_end more count ∷ [])) none told);
+      next = same-cursor behind (next_cursor w c n t.tree.table) lo hi (stands ∙ ap (λ rs. last_listed c.last (take n rs)) e);
+      last = rw stands (last-point w t.dims c.last (take n rows0) start inside);
+      grows = grows;
+      visited = cost;
+    }
+
+-- the rows of the page were given, and a front of its end
+pub page-cut : (t : AnyTable) (c : Cursor) (n : ℕ) (rows0 rows : List Row) (left count : ℕ) (more : Bool) (x y z : Taken) → rows0 ≡ rest t.tree.width c t.tree.table → ((tail : List Reply) → IsGiven (row_replies (take n rows0) ++ tail) (row_replies (take left rows) ++ tail) x y) → take left rows ≡ [] → drop left rows ≡ drop n rows0 → count ≡ length (take n rows0) → (more ≡ true) ↔ (rows ≡ [] → ⊥) → WritesFront y z (reply_text (page_end more count)) → WritesFront x z (replies_text (page_replies t c n))
+page-cut t c n rows0 rows left count more x y z e given none d counted m told =
+    subst (λ rs. WritesFront x z (replies_text rs)) (page-ended t c n rows0 rows left count more e none d counted m) (last-front _ (take left rows) (page_end more count) x y z (given (page_end more count ∷ [])) none told)
+
+-- whether more is left, by what the walk tells
+pub more-by : (tail : Tail) (P : Type 0) → (tail ≡ More) ↔ P → (is_more tail ≡ true) ↔ P
+more-by More P h = (λ e. h.0 refl, λ p. refl)
+more-by End P h = (λ e. cc, λ p. absurd (let f : End ≡ More = h.1 p in cc))
+
+-- a window has no more rows than its table
+few-filtered : {A : Type 0} (q : A → Bool) (xs : List A) → length (filter q xs) ≤ length xs
+few-filtered q [] = omega arith
+few-filtered q (x ∷ xs) =
+    let more = few-filtered q xs in
+    elim (q x) as (λ b. length (if b then x ∷ filter q xs else filter q xs) ≤ suc (length xs)) [ true ↦ omega (arith, more) | false ↦ omega (arith, more) ]
+
+pub few-rows : (lo hi : List ℤ) (table : List Row) → length (window lo hi table) ≤ length table
+few-rows lo hi table = few-filtered (λ r. is_between lo hi r.point) table

@@ -1,0 +1,124 @@
+-- What the commands that list rows do, and those of cursors.
+use Rattle.std.proofs.Common.{◌≡◌, ◌+◌, ℕ, Bool, true, false, List, [], ◌∷◌, ◌++◌, length, refl, ap, sym, ◌∙◌, arith}
+use Rattle.std.specs.Prelude.{ℤ, Some, None, Result, Ok, Err, ◌&&◌, not, nat_le}
+use Rattle.std.specs.List.{list_all}
+use Rattle.std.proofs.lemmas.Grind.{common_steps}
+use Rattle.ph_io.specs.Giving.{Taken}
+use Rattle.ph_specs.specs.Command.{Command}
+use Rattle.ph_specs.specs.Coordinate.{fits, IsPoint}
+use Rattle.ph_specs.specs.Engine.{unless_refused, page_outcome, listing, row_replies, page_end}
+use Rattle.ph_specs.specs.Named.{Named, lookup, enter, has_name}
+use Rattle.ph_specs.specs.Reply.{Reply, reply_text, replies_text}
+use Rattle.ph_specs.specs.State.{Slot, outcome}
+use Rattle.ph_specs.specs.Table.{Row}
+use Rattle.ph_specs.specs.Window.{Cursor, window, next_cursor, page, has_more}
+use Rattle.ph_engine.specs.Beside.{beside_sink}
+use Rattle.ph_engine.specs.Doing.{Begun, Does, DoneOr, DoneWith}
+use Rattle.ph_engine.specs.Listing.{ListsWindow, FrontListed, PageListed, page_replies, met}
+use Rattle.ph_engine.specs.Machine.{is_refusal}
+use Rattle.ph_engine.specs.Refusing.{early_refusal}
+use Rattle.ph_engine.specs.Slots.{AnyTable, slot_of, engine_of}
+use Rattle.ph_engine.specs.declared.status.Answer.{Answer}
+use Rattle.ph_engine.specs.declared.status.Answer.TheVariants.{Good}
+use Rattle.ph_engine.specs.declared.status.Stop.{Stop}
+use Rattle.ph_engine.proofs.Commanded.{done-all}
+use Rattle.ph_engine.proofs.Refused.{unrefused, in-range, has-room, has-cursor}
+
+-- ---- a cursor
+
+both-true : (a b : Bool) → not (a && (b && true)) ≡ false → (a ≡ true) × (b ≡ true)
+both-true true true h = (refl, refl)
+both-true true false h = absurd cc
+both-true false b h = absurd cc
+
+-- the corners of a cursor that is not refused are in range
+pub corners-in : (s : Slot) (name : List ℕ) (lo hi : List ℤ) → early_refusal s (Command.Cursor name lo hi) ≡ None → (list_all (fits s.width) lo ≡ true) × (list_all (fits s.width) hi ≡ true)
+corners-in s name lo hi h = both-true (list_all (fits s.width) lo) (list_all (fits s.width) hi) (in-range s (Command.Cursor name lo hi) h)
+
+pub point-in : (w d : ℕ) (p : List ℤ) → length p ≡ d → list_all (fits w) p ≡ true → IsPoint w d p
+point-in w d p h k = grind (arith, common_steps)
+
+-- and where there is no room, one of its name is there
+room-or : (b : Bool) (n : ℕ) → (not b && nat_le 16 n) ≡ false → n ≡ 16 → b ≡ true
+room-or true n h k = refl
+room-or false n h k = absurd (let f : nat_le 16 16 ≡ false = ap (nat_le 16) (sym k) ∙ h in cc)
+
+pub room-in : (s : Slot) (name : List ℕ) (lo hi : List ℤ) → early_refusal s (Command.Cursor name lo hi) ≡ None → length s.cursors ≡ 16 → has_name name s.cursors ≡ true
+room-in s name lo hi h k = room-or (has_name name s.cursors) (length s.cursors) (has-room s (Command.Cursor name lo hi) h) k
+
+pub cursor-begun : (s : Slot) (name : List ℕ) (lo hi : List ℤ) (cursors : Named Cursor) → early_refusal s (Command.Cursor name lo hi) ≡ None → cursors ≡ enter name (record { lo = lo; hi = hi; last = None }) s.cursors → Begun s (Command.Cursor name lo hi) (record s { cursors = cursors }) Reply.Ready
+cursor-begun s name lo hi cursors h e =
+    let command = Command.Cursor name lo hi in
+    record {
+      does = λ most files fault. ap (λ r. unless_refused r (engine_of s) files command) (unrefused most s files fault command h refl) ∙ ap (λ x. outcome (engine_of (record s { cursors = x })) files (Reply.Ready ∷ [])) (sym e);
+      most = λ visits changes most files fault. record { few_visits = omega arith; few_changes = omega arith };
+      least = λ visits changes most files fault. rw (unrefused most s files fault command h refl) (record { enough_visits = omega arith; enough_changes = omega arith });
+    }
+
+-- ---- a page
+
+is-there : (b : Bool) → not b ≡ false → b ≡ true
+is-there true h = refl
+is-there false h = absurd cc
+
+-- the cursor of a page that is not refused is there
+pub cursor-there : (s : Slot) (name : List ℕ) (n : ℕ) → early_refusal s (Command.Page name n) ≡ None → has_name name s.cursors ≡ true
+cursor-there s name n h = is-there (has_name name s.cursors) (has-cursor s (Command.Page name n) h)
+
+good-row : (r : Row) (text : List ℕ) → is_refusal (reply_text (Reply.RowIs r) ++ text) ≡ false
+good-row r text = elim r.point as (λ p. is_refusal (reply_text (Reply.RowIs (record { point = p; value = r.value })) ++ text) ≡ false) [ [] ↦ refl | x ∷ p ↦ refl ]
+
+good-end : (b : Bool) (n : ℕ) → is_refusal (replies_text (page_end b n ∷ [])) ≡ false
+good-end true n = refl
+good-end false n = refl
+
+good-rows : (rows : List Row) (b : Bool) (n : ℕ) → is_refusal (replies_text (row_replies rows ++ page_end b n ∷ [])) ≡ false
+good-rows [] b n = good-end b n
+good-rows (r ∷ rows) b n = good-row r (replies_text (row_replies rows ++ page_end b n ∷ []))
+
+page-does : (t : AnyTable) (cursors after : Named Cursor) (name : List ℕ) (n : ℕ) (c : Cursor) → early_refusal (slot_of t cursors) (Command.Page name n) ≡ None → lookup name cursors ≡ Some c → after ≡ enter name (next_cursor t.tree.width c n t.tree.table) cursors → Does (engine_of (slot_of t cursors)) (Command.Page name n) (engine_of (slot_of t after)) (page_replies t c n)
+page-does t cursors after name n c h there e most files fault =
+    let s = slot_of t cursors in
+    let command = Command.Page name n in
+    ap (λ r. unless_refused r (engine_of s) files command) (unrefused most s files fault command h refl)
+    ∙ ap (page_outcome (engine_of s) files name n) there
+    ∙ ap (λ x. outcome (engine_of (slot_of t x)) files (page_replies t c n)) (sym e)
+
+-- a page that was listed, whose cursor was moved
+pub page-done : (t : AnyTable) (cursors after : Named Cursor) (name : List ℕ) (n : ℕ) (c behind : Cursor) (sink now_sink : Taken) (v now_v : ℕ) → early_refusal (slot_of t cursors) (Command.Page name n) ≡ None → lookup name cursors ≡ Some c → after ≡ enter name behind cursors → PageListed t c n sink now_sink v now_v behind → DoneWith (slot_of t cursors) (Command.Page name n) sink now_sink v now_v (slot_of t after) (Ok Good)
+page-done t cursors after name n c behind sink now_sink v now_v h there e listed =
+    let s = slot_of t cursors in
+    let command = Command.Page name n in
+    let rows = page t.tree.width c n t.tree.table in
+    record {
+      done = λ changes. done-all 0 (engine_of s) (engine_of (slot_of t after)) (engine_of (slot_of t after)) command (page_replies t c n) (beside_sink sink v changes) (beside_sink now_sink now_v changes) (Ok Good) (record { files = refl; later = omega arith }) refl tt (page-does t cursors after name n c h there (e ∙ ap (λ x. enter name x cursors) listed.next)) (λ most files fault. rw there (record { few_visits = listed.visited; few_changes = omega arith })) (λ most files fault. rw (unrefused most s files fault command h refl, there) (record { enough_visits = omega (arith, listed.grows); enough_changes = omega arith })) (sym (good-rows rows (has_more t.tree.width c n t.tree.table) (length rows))) listed.told tt tt;
+    }
+
+-- a page in which a write failed
+pub page-stopped : (t : AnyTable) (cursors : Named Cursor) (name : List ℕ) (n : ℕ) (c : Cursor) (sink now_sink : Taken) (v now_v : ℕ) (stop : Stop) → early_refusal (slot_of t cursors) (Command.Page name n) ≡ None → lookup name cursors ≡ Some c → FrontListed (page_replies t c n) (t.tree.width + met t c.lo c.hi) sink now_sink v now_v stop → DoneWith (slot_of t cursors) (Command.Page name n) sink now_sink v now_v (slot_of t cursors) (Err stop)
+page-stopped t cursors name n c sink now_sink v now_v stop h there listed =
+    let s = slot_of t cursors in
+    let after = enter name (next_cursor t.tree.width c n t.tree.table) cursors in
+    record {
+      done = λ changes. done-all 0 (engine_of s) (engine_of (slot_of t after)) (engine_of s) (Command.Page name n) (page_replies t c n) (beside_sink sink v changes) (beside_sink now_sink now_v changes) (Err stop) (record { files = refl; later = omega arith }) tt refl (page-does t cursors after name n c h there refl) (λ most files fault. rw there (record { few_visits = listed.visited; few_changes = omega arith })) tt tt tt listed.fault listed.front;
+    }
+
+-- ---- a window
+
+pub window-done : (t : AnyTable) (cursors : Named Cursor) (lo hi : List ℤ) (sink now_sink : Taken) (v now_v changes : ℕ) (result : Result Answer Stop) → early_refusal (slot_of t cursors) (Command.Window lo hi) ≡ None → ListsWindow t lo hi sink now_sink v now_v result → DoneOr 0 (engine_of (slot_of t cursors)) (Command.Window lo hi) (beside_sink sink v changes) (beside_sink now_sink now_v changes) (engine_of (slot_of t cursors)) result
+window-done t cursors lo hi sink now_sink v now_v changes (Ok answer) h listed =
+    let s = slot_of t cursors in
+    let command = Command.Window lo hi in
+    let rows = window lo hi t.tree.table in
+    done-all 0 (engine_of s) (engine_of s) (engine_of s) command (listing rows) (beside_sink sink v changes) (beside_sink now_sink now_v changes) (Ok answer) (record { files = refl; later = omega arith }) refl tt
+    (λ most files fault. ap (λ r. unless_refused r (engine_of s) files command) (unrefused most s files fault command h refl))
+    (λ most files fault. record { few_visits = omega (arith, listed.visited); few_changes = omega arith })
+    (λ most files fault. rw (unrefused most s files fault command h refl) (record { enough_visits = omega (arith, listed.visited); enough_changes = omega arith }))
+    (rw listed.good (sym (good-rows rows false (length rows)))) listed.told tt tt
+window-done t cursors lo hi sink now_sink v now_v changes (Err stop) h listed =
+    let s = slot_of t cursors in
+    let command = Command.Window lo hi in
+    done-all 0 (engine_of s) (engine_of s) (engine_of s) command (listing (window lo hi t.tree.table)) (beside_sink sink v changes) (beside_sink now_sink now_v changes) (Err stop) (record { files = refl; later = omega arith }) tt refl
+    (λ most files fault. ap (λ r. unless_refused r (engine_of s) files command) (unrefused most s files fault command h refl))
+    (λ most files fault. record { few_visits = listed.visited; few_changes = omega arith })
+    tt tt tt listed.fault listed.front

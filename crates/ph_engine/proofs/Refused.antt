@@ -1,0 +1,95 @@
+-- The refusals that are told without files come before the others.
+use Rattle.std.proofs.Common.{◌≡◌, ℕ, Bool, true, false, refl, ap, ◌∙◌, arith}
+use Rattle.std.specs.Prelude.{Option, Some, None}
+use Rattle.ph_specs.specs.Command.{Command}
+use Rattle.ph_specs.specs.Reply.{Reply}
+use Rattle.ph_specs.specs.State.{Slot, Engine, Files, current}
+use Rattle.ph_specs.specs.Refusals.{refusal, refuse_if, has_wrong_dims, has_wrong_kind, is_out_of_range, is_reversed, lacks_cursor, has_too_many_cursors}
+use Rattle.ph_engine.specs.Refusing.{or_else, early_refusal, late_refusal}
+use Rattle.ph_specs.specs.Named.{Named}
+use Rattle.ph_specs.specs.Window.{Cursor}
+use Rattle.ph_script.specs.declared.command.Command.{Command as Written}
+use Rattle.ph_script.specs.declared.command.Command.TheVariants as by
+use Rattle.ph_script.specs.Meaning.{command_of}
+use Rattle.ph_engine.specs.Slots.{AnyTable, slot_of, engine_of}
+use Rattle.ph_engine.specs.Doing.{Begun}
+
+-- a cause behind which others are looked for
+refuse-or : (b : Bool) (r : Reply) (x y : Option Reply) → refuse_if b r (or_else x y) ≡ or_else (refuse_if b r x) y
+refuse-or true r x y = refl
+refuse-or false r x y = refl
+
+pub refusal-parts : (most : ℕ) (e : Engine) (files : Files) (fault : Bool) (cmd : Command) → refusal most e files fault cmd ≡ or_else (early_refusal (current e) cmd) (late_refusal most (current e) files fault cmd)
+refusal-parts most e files fault cmd =
+    let s = current e in
+    let late = late_refusal most s files fault cmd in
+    ap (refuse_if (has_wrong_dims cmd) Reply.ErrorDims)
+    (ap (refuse_if (has_wrong_kind s.kind cmd) Reply.ErrorKind)
+    (ap (refuse_if (is_out_of_range s cmd) Reply.ErrorRange)
+    (ap (refuse_if (is_reversed s cmd) Reply.ErrorReversed)
+    (ap (refuse_if (lacks_cursor s cmd) Reply.ErrorCursor)
+    (refuse-or (has_too_many_cursors s cmd) Reply.ErrorCursors None late) ∙ refuse-or (lacks_cursor s cmd) Reply.ErrorCursor _ late)
+    ∙ refuse-or (is_reversed s cmd) Reply.ErrorReversed _ late)
+    ∙ refuse-or (is_out_of_range s cmd) Reply.ErrorRange _ late)
+    ∙ refuse-or (has_wrong_kind s.kind cmd) Reply.ErrorKind _ late)
+    ∙ refuse-or (has_wrong_dims cmd) Reply.ErrorDims _ late
+
+-- a command that is refused so has this reply and no work
+pub refused-begun : (s : Slot) (cmd : Command) (r : Reply) → early_refusal s cmd ≡ Some r → Begun s cmd s r
+refused-begun s cmd r h = record {
+  does = λ most files fault. rw (refusal-parts most (engine_of s) files fault cmd, h) refl;
+  most = λ visits changes most files fault. record { few_visits = omega arith; few_changes = omega arith };
+  least = λ visits changes most files fault. rw (refusal-parts most (engine_of s) files fault cmd, h) (record { enough_visits = omega arith; enough_changes = omega arith });
+}
+
+-- a command that is not refused at all
+pub unrefused : (most : ℕ) (s : Slot) (files : Files) (fault : Bool) (cmd : Command) → early_refusal s cmd ≡ None → late_refusal most s files fault cmd ≡ None → refusal most (engine_of s) files fault cmd ≡ None
+unrefused most s files fault cmd h k = refusal-parts most (engine_of s) files fault cmd ∙ ap (λ r. or_else r (late_refusal most s files fault cmd)) h ∙ k
+
+-- what is known of a command that is not refused so
+right-dims : (a : Bool) (later : Option Reply) → refuse_if a Reply.ErrorDims later ≡ None → a ≡ false
+right-dims true later h = absurd cc
+right-dims false later h = refl
+
+right-range : (a b c : Bool) (later : Option Reply) → refuse_if a Reply.ErrorDims (refuse_if b Reply.ErrorKind (refuse_if c Reply.ErrorRange later)) ≡ None → c ≡ false
+right-range true b c later h = absurd cc
+right-range false true c later h = absurd cc
+right-range false false true later h = absurd cc
+right-range false false false later h = refl
+
+pub has-dims : (s : Slot) (cmd : Command) → early_refusal s cmd ≡ None → has_wrong_dims cmd ≡ false
+has-dims s cmd h = right-dims (has_wrong_dims cmd) _ h
+
+pub in-range : (s : Slot) (cmd : Command) → early_refusal s cmd ≡ None → is_out_of_range s cmd ≡ false
+in-range s cmd h = right-range (has_wrong_dims cmd) (has_wrong_kind s.kind cmd) (is_out_of_range s cmd) _ h
+
+right-cursor : (a b c d e : Bool) (later : Option Reply) → refuse_if a Reply.ErrorDims (refuse_if b Reply.ErrorKind (refuse_if c Reply.ErrorRange (refuse_if d Reply.ErrorReversed (refuse_if e Reply.ErrorCursor later)))) ≡ None → (e ≡ false) × (later ≡ None)
+right-cursor true b c d e later h = absurd cc
+right-cursor false true c d e later h = absurd cc
+right-cursor false false true d e later h = absurd cc
+right-cursor false false false true e later h = absurd cc
+right-cursor false false false false true later h = absurd cc
+right-cursor false false false false false later h = (refl, h)
+
+right-cursors : (f : Bool) → refuse_if f Reply.ErrorCursors None ≡ None → f ≡ false
+right-cursors true h = absurd cc
+right-cursors false h = refl
+
+pub has-cursor : (s : Slot) (cmd : Command) → early_refusal s cmd ≡ None → lacks_cursor s cmd ≡ false
+has-cursor s cmd h = (right-cursor (has_wrong_dims cmd) (has_wrong_kind s.kind cmd) (is_out_of_range s cmd) (is_reversed s cmd) (lacks_cursor s cmd) _ h).0
+
+pub has-room : (s : Slot) (cmd : Command) → early_refusal s cmd ≡ None → has_too_many_cursors s cmd ≡ false
+has-room s cmd h = right-cursors (has_too_many_cursors s cmd) (right-cursor (has_wrong_dims cmd) (has_wrong_kind s.kind cmd) (is_out_of_range s cmd) (is_reversed s cmd) (lacks_cursor s cmd) _ h).1
+
+-- the causes that a slot of points can have
+pub points-refusal : (t : AnyTable) (cursors : Named Cursor) (c : Written) → let s = slot_of t cursors in let cmd = command_of c in early_refusal s cmd ≡ refuse_if (has_wrong_dims cmd) Reply.ErrorDims (refuse_if (is_out_of_range s cmd) Reply.ErrorRange (refuse_if (lacks_cursor s cmd) Reply.ErrorCursor (refuse_if (has_too_many_cursors s cmd) Reply.ErrorCursors None)))
+points-refusal t cursors (by.Begin k max) = refl
+points-refusal t cursors (by.Put at value) = refl
+points-refusal t cursors (by.Get at) = refl
+points-refusal t cursors (by.Del at) = refl
+points-refusal t cursors (by.Relocate from to) = refl
+points-refusal t cursors by.Count = refl
+points-refusal t cursors by.Clear = refl
+points-refusal t cursors (by.Window lo hi) = refl
+points-refusal t cursors (by.Cursor name lo hi) = refl
+points-refusal t cursors (by.Page name n) = refl

@@ -1,0 +1,11 @@
+use Rattle.ph_script.specs.Meaning.{command_of}
+use Rattle.ph_engine.proofs.Lifted.{done-at-a, done-at-b, on-slot}
+use Rattle.ph_engine.proofs.engine.Engine.exec_by.Goals as goal
+
+pub returns-in-A-clause-done : goal.returns-in-A-clause-done
+returns-in-A-clause-done g c =
+    done-at-a 0 c.args.self.now c.self.inside.a c.self.inside.b c.exec.new.self c.self.inside.current (command_of c.args.cmd.now) _ _ c.exec.result c.self.view_is c.in-A.is (on-slot c.args.cmd.now) c.exec.ensures.done
+
+pub returns-in-B-clause-done : goal.returns-in-B-clause-done
+returns-in-B-clause-done g c =
+    done-at-b 0 c.args.self.now c.self.inside.a c.self.inside.b c.exec-in-B.new.self c.self.inside.current (command_of c.args.cmd.now) _ _ c.exec-in-B.result c.self.view_is c.in-B.is (on-slot c.args.cmd.now) c.exec-in-B.ensures.done

@@ -1,0 +1,119 @@
+use Rattle.std.proofs.Common.{◌≡◌, ◌≤◌, List, [], ◌∷◌, ◌++◌, length, take, drop, ap, sym, ◌∙◌, subst, refl, arith}
+use Rattle.std.specs.Prelude.{◌↔◌}
+use Rattle.std.proofs.lemmas.Bool.{and_parts}
+use Rattle.std.proofs.lemmas.Result.{err_from_is_err_and}
+use Rattle.ph_io.specs.Giving.{taken_of}
+use Rattle.ph_specs.specs.Reply.{Reply, replies_text}
+use Rattle.ph_specs.specs.Engine.{row_replies, page_end}
+use Rattle.ph_specs.specs.Window.{page, has_more, last_listed}
+use Rattle.ph_window.specs.declared.page.Tail.TheVariants.{More}
+use Rattle.ph_engine.specs.Listing.{is_more, met}
+use Rattle.ph_engine.specs.Slots.{table_at}
+use Rattle.ph_engine.specs.Writing.{WritesFront}
+use Rattle.ph_engine.proofs.Replies.{none_given}
+use Rattle.ph_engine.proofs.Listed.{row-given, row-front, none-left, page-step, page-rest, page-said, page-cut, more-by}
+use Rattle.ph_engine.proofs.listing.list_page.Goals as goal
+
+pub rows-init : goal.rows-init
+rows-init g c = record {
+  later = omega arith;
+  given = λ tail. none_given _ _;
+  counted = omega arith;
+  behind = refl;
+  lo = refl;
+  hi = refl;
+  last = refl;
+  grows = omega arith;
+  cost = refl;
+}
+
+pub rows-preserved : goal.rows-preserved
+rows-preserved g c =
+    let old = c.rows.page in
+    let new = c.next.new.self in
+    let goes = c.in-Some.ensures.goes in
+    let e = page-step old.rows new.rows old.left new.left c.in-Some.row goes.0 goes.1 in
+    record {
+      later = omega (arith, c.rows.invariant.later, c.in_ok-say.ensures.cause.later);
+      given = λ tail. row-given _ tail (take old.left old.rows) (take new.left new.rows) c.in-Some.row _ _ _ (c.rows.invariant.given tail) e c.in_ok-say.ensures.told;
+      counted = omega (arith, c.rows.invariant.counted, ap (λ rs. length rs) e);
+      behind = sym (page-rest old.rows new.rows old.left new.left c.in-Some.row goes.0 goes.1) ∙ c.rows.invariant.behind;
+      lo = ap (λ x. x.lo) goes.2 ∙ c.rows.invariant.lo;
+      hi = ap (λ x. x.hi) goes.2 ∙ c.rows.invariant.hi;
+      last = ap (λ x. last_listed x.last (take new.left new.rows)) goes.2 ∙ sym (ap (last_listed old.cursor.last) e) ∙ c.rows.invariant.last;
+      grows = omega (arith, c.rows.invariant.grows, c.next.ensures.grows);
+      cost = c.next.ensures.cost ∙ c.rows.invariant.cost;
+    }
+
+pub returns-in_err-say-clause-lists : goal.returns-in_err-say-clause-lists
+returns-in_err-say-clause-lists g c =
+    let t = table_at g.row.D c.args.tree.now in
+    let cursor = c.args.cursor.now in
+    let first = c.page-page.result in
+    let old = c.rows.page in
+    let new = c.next.new.self in
+    let goes = c.in-Some.ensures.goes in
+    let e = page-step old.rows new.rows old.left new.left c.in-Some.row goes.0 goes.1 in
+    let listed = page t.tree.width cursor c.args.n t.tree.table in
+    let tail : List Reply = page_end (has_more t.tree.width cursor c.args.n t.tree.table) (length listed) ∷ [] in
+    let whole : take first.left first.rows ≡ listed = ap (λ k. take k first.rows) c.page-page.ensures.left ∙ ap (take c.args.n) c.page-page.ensures.rows in
+    let few : first.visits ≤ met t cursor.lo cursor.hi = c.page-page.ensures.visits in
+    let is = err_from_is_err_and c.from_residual.result c.from_residual.ensures.1 in
+    rw (is.1, is.2)
+    (record {
+      front = subst (λ rs. WritesFront (taken_of (g.O.Sink.written c.args.out.now) (g.O.Sink.amount c.args.out.now)) (taken_of (g.O.Sink.written c.say.new.out) (g.O.Sink.amount c.say.new.out)) (replies_text (row_replies rs ++ tail))) whole
+          (row-front _ tail (take old.left old.rows) (take new.left new.rows) c.in-Some.row _ _ _ (c.rows.invariant.given tail) e c.in_err-say.ensures.front);
+      fault = c.in_err-say.ensures.err;
+      visited = omega (arith, c.rows.invariant.cost, c.next.ensures.cost, few, c.page-page.ensures.cost);
+    })
+
+pub returns-clause-lists : goal.returns-clause-lists
+returns-clause-lists g c =
+    let t = table_at g.row.D c.args.tree.now in
+    let cursor = c.args.cursor.now in
+    let first = c.page-page.result in
+    let old = c.rows.page in
+    let same = c.in_default.ensures.goes in
+    let n = c.page-page.ensures.left in
+    let few : first.visits ≤ met t cursor.lo cursor.hi = c.page-page.ensures.visits in
+    let none = none-left (take old.left old.rows) c.in_default.ensures.row in
+    let more = more-by c.tail.result (old.rows ≡ [] → ⊥) (subst (λ rs. (c.tail.result ≡ More) ↔ (rs ≡ [] → ⊥)) same.0 c.tail.ensures.more) in
+    page-said t cursor c.args.n first.rows old.rows old.left c.rows.count c.args.visits.now c.tail.new.visits (is_more c.tail.result) c.cursor-behind.result (taken_of (g.O.Sink.written c.args.out.now) (g.O.Sink.amount c.args.out.now)) (taken_of (g.O.Sink.written c.rows.out) (g.O.Sink.amount c.rows.out)) (taken_of (g.O.Sink.written c.say-2.new.out) (g.O.Sink.amount c.say-2.new.out)) c.page-page.ensures.rows
+    (λ tail. rw (← n) (c.rows.invariant.given tail))
+    none
+    (c.rows.invariant.behind ∙ ap (λ k. drop k first.rows) n)
+    (rw (← n) (omega (arith, c.rows.invariant.counted, ap (λ rs. length rs) none)))
+    more
+    (ap (λ x. x.lo) (c.cursor-behind.ensures ∙ same.2) ∙ c.rows.invariant.lo ∙ ap (λ x. x.lo) c.page-page.ensures.cursor)
+    (ap (λ x. x.hi) (c.cursor-behind.ensures ∙ same.2) ∙ c.rows.invariant.hi ∙ ap (λ x. x.hi) c.page-page.ensures.cursor)
+    (ap (λ x. last_listed x.last (take old.left old.rows)) (c.cursor-behind.ensures ∙ same.2) ∙ c.rows.invariant.last ∙ ap (λ x. last_listed x.last (take first.left first.rows)) c.page-page.ensures.cursor ∙ ap (λ k. last_listed cursor.last (take k first.rows)) n)
+    c.requires.last
+    (and_parts _ _ (and_parts _ _ c.root-root.ensures.table).1).0
+    (omega (arith, c.page-page.ensures.grows, c.rows.invariant.grows, c.next.ensures.grows, c.tail.ensures.grows))
+    (omega (arith, c.rows.invariant.cost, c.next.ensures.cost, c.tail.ensures.cost, few, c.page-page.ensures.cost))
+    (rw (← c.page_end.ensures) c.in_ok-say-2.ensures.told)
+
+pub returns-in_err-say-2-clause-lists : goal.returns-in_err-say-2-clause-lists
+returns-in_err-say-2-clause-lists g c =
+    let t = table_at g.row.D c.args.tree.now in
+    let cursor = c.args.cursor.now in
+    let first = c.page-page.result in
+    let old = c.rows.page in
+    let same = c.in_default.ensures.goes in
+    let n = c.page-page.ensures.left in
+    let few : first.visits ≤ met t cursor.lo cursor.hi = c.page-page.ensures.visits in
+    let none = none-left (take old.left old.rows) c.in_default.ensures.row in
+    let more = more-by c.tail.result (old.rows ≡ [] → ⊥) (subst (λ rs. (c.tail.result ≡ More) ↔ (rs ≡ [] → ⊥)) same.0 c.tail.ensures.more) in
+    let is = err_from_is_err_and c.from_residual-in_err-say-2.result c.from_residual-in_err-say-2.ensures.1 in
+    rw (is.1, is.2)
+    (record {
+      front = page-cut t cursor c.args.n first.rows old.rows old.left c.rows.count (is_more c.tail.result) (taken_of (g.O.Sink.written c.args.out.now) (g.O.Sink.amount c.args.out.now)) (taken_of (g.O.Sink.written c.rows.out) (g.O.Sink.amount c.rows.out)) (taken_of (g.O.Sink.written c.say-2.new.out) (g.O.Sink.amount c.say-2.new.out)) c.page-page.ensures.rows
+          (λ tail. rw (← n) (c.rows.invariant.given tail))
+          none
+          (c.rows.invariant.behind ∙ ap (λ k. drop k first.rows) n)
+          (rw (← n) (omega (arith, c.rows.invariant.counted, ap (λ rs. length rs) none)))
+          more
+          (rw (← c.page_end.ensures) c.in_err-say-2.ensures.front);
+      fault = c.in_err-say-2.ensures.err;
+      visited = omega (arith, c.rows.invariant.cost, c.next.ensures.cost, c.tail.ensures.cost, few, c.page-page.ensures.cost);
+    })

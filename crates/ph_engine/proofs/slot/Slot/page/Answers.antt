@@ -1,0 +1,66 @@
+use Rattle.std.proofs.Common.{◌≡◌, ◌<◌, get_or, length, true, false, ap, sym, ◌∙◌, subst, arith}
+use Rattle.std.specs.Prelude.{None, Some, Ok, Err, is_ok}
+use Rattle.std.specs.List.{AllByRecursion}
+use Rattle.ph_specs.specs.Command.{Command}
+use Rattle.ph_specs.specs.Named.{enter, lookup}
+use Rattle.ph_engine.specs.Naming.{place}
+use Rattle.ph_engine.specs.Refusing.{early_refusal}
+use Rattle.ph_engine.specs.Slots.{any_table, named, slot_of, cursor_of, IsCursorIn}
+use Rattle.ph_engine.specs.declared.cursors.Held.{Held}
+use Rattle.ph_engine.proofs.Names.{has-place, found-in, under-entered, all-at}
+use Rattle.ph_engine.proofs.Paged.{cursor-there, page-done, page-stopped}
+use Rattle.ph_engine.proofs.Slotted.{names-sorted, slot-entered}
+use Rattle.ph_engine.proofs.slot.Slot.page.Goals as goal
+
+pub unreachable-requires : goal.unreachable-requires
+unreachable-requires g c =
+    let t = any_table c.self.inside.tree in
+    let items = c.self.inside.cursors.items in
+    let name = c.args.name.now in
+    let unrefused = subst (λ x. early_refusal x (Command.Page name c.args.n) ≡ None) (sym c.self.view_is) c.requires in
+    let at : place name (named items) ≡ Err c.in_default.field-0 = ap (λ xs. place name (named xs)) (sym c.as_slice.ensures.value) ∙ sym c.place_of.ensures.place ∙ c.in_default.is in
+    let clash : true ≡ false = sym (cursor-there (slot_of t (named items)) name c.args.n unrefused) ∙ has-place name (named items) (names-sorted t items c.self.invariant) ∙ ap (λ r. is_ok r) at in
+    cc
+
+pub invariant_of-self : goal.invariant_of-self
+invariant_of-self g c =
+    let t = any_table c.self.inside.tree in
+    let items = c.self.inside.cursors.items in
+    let name = c.args.name.now in
+    let slice = c.as_slice-2.result.now in
+    let unrefused = subst (λ x. early_refusal x (Command.Page name c.args.n) ≡ None) (sym c.self.view_is) c.requires in
+    let serve = subst (AllByRecursion (λ h. IsCursorIn t h.cursor)) (sym c.as_slice-2.ensures.value) c.self.invariant.serve in
+    let within : c.in-Ok.i < length slice = omega (arith, rw c.in-Ok.is at c.place_of.ensures.within, ap (λ xs. length xs) (c.as_slice.ensures.value ∙ sym c.as_slice-2.ensures.value)) in
+    let old = all-at (λ h. IsCursorIn t h.cursor) slice c.in-Ok.i c.index-as_slice-i.result serve within in
+    let lists = c.in-Ok-list_page.ensures.lists in
+    let held : Held = record { name = name; cursor = c.in-Ok-list_page.cursor } in
+    rw c.enter.ensures (slot-entered t held items c.self.invariant (record { dims = lists.0; lo = rw lists.1.next old.lo; hi = rw lists.1.next old.hi; last = lists.1.last })
+    (λ k. cursor-there (slot_of t (named items)) name c.args.n unrefused))
+
+pub returns-in-Ok-list_page-clause-done : goal.returns-in-Ok-list_page-clause-done
+returns-in-Ok-list_page-clause-done g c =
+    let t = any_table c.self.inside.tree in
+    let items = c.self.inside.cursors.items in
+    let name = c.args.name.now in
+    let slice = c.as_slice-2.result.now in
+    let unrefused = subst (λ x. early_refusal x (Command.Page name c.args.n) ≡ None) (sym c.self.view_is) c.requires in
+    let within : c.in-Ok.i < length slice = omega (arith, rw c.in-Ok.is at c.place_of.ensures.within, ap (λ xs. length xs) (c.as_slice.ensures.value ∙ sym c.as_slice-2.ensures.value)) in
+    let at : place name (named slice) ≡ Ok c.in-Ok.i = ap (λ xs. place name (named xs)) (c.as_slice-2.ensures.value ∙ sym c.as_slice.ensures.value) ∙ sym c.place_of.ensures.place ∙ c.in-Ok.is in
+    let old = cursor_of (get_or slice c.in-Ok.i c.index-as_slice-i.result).cursor in
+    let there = found-in (λ h. h.name) (λ h. cursor_of h.cursor) name slice c.in-Ok.i c.index-as_slice-i.result at within in
+    let held : Held = record { name = name; cursor = c.in-Ok-list_page.cursor } in
+    let is : named c.enter.new.cursors.items ≡ enter name (cursor_of c.in-Ok-list_page.cursor) (named items) = ap (λ xs. named xs) c.enter.ensures ∙ sym (under-entered (λ h. h.name) (λ h. cursor_of h.cursor) held items) in
+    rw (← c.self.view_is) (page-done t (named items) (named c.enter.new.cursors.items) name c.args.n old (cursor_of c.in-Ok-list_page.cursor) _ _ c.args.visits.now c.list_page.new.visits unrefused (subst (λ xs. lookup name (named xs) ≡ Some old) c.as_slice-2.ensures.value there) is c.in-Ok-list_page.ensures.lists.1)
+
+pub returns-in-Err-clause-done : goal.returns-in-Err-clause-done
+returns-in-Err-clause-done g c =
+    let t = any_table c.self.inside.tree in
+    let items = c.self.inside.cursors.items in
+    let name = c.args.name.now in
+    let slice = c.as_slice-2.result.now in
+    let unrefused = subst (λ x. early_refusal x (Command.Page name c.args.n) ≡ None) (sym c.self.view_is) c.requires in
+    let within : c.in-Ok.i < length slice = omega (arith, rw c.in-Ok.is at c.place_of.ensures.within, ap (λ xs. length xs) (c.as_slice.ensures.value ∙ sym c.as_slice-2.ensures.value)) in
+    let at : place name (named slice) ≡ Ok c.in-Ok.i = ap (λ xs. place name (named xs)) (c.as_slice-2.ensures.value ∙ sym c.as_slice.ensures.value) ∙ sym c.place_of.ensures.place ∙ c.in-Ok.is in
+    let old = cursor_of (get_or slice c.in-Ok.i c.index-as_slice-i.result).cursor in
+    let there = found-in (λ h. h.name) (λ h. cursor_of h.cursor) name slice c.in-Ok.i c.index-as_slice-i.result at within in
+    rw (← c.self.view_is) (page-stopped t (named items) name c.args.n old _ _ c.args.visits.now c.list_page.new.visits c.in-Err.stop unrefused (subst (λ xs. lookup name (named xs) ≡ Some old) c.as_slice-2.ensures.value there) c.in-Err.ensures.lists)

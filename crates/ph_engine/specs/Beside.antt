@@ -1,0 +1,38 @@
+-- What stands beside an engine while it does commands: a sink, files, and the counters of the tree's work.
+use Rattle.std.specs.Prelude.{◌≡◌, ◌⊎◌, ◌≤◌, ℕ, ◌+◌, ◌-◌, ◌^◌, List, [], Option, Some, None}
+use Rattle.ph_io.specs.Giving.{Taken, taken_of}
+use Rattle.ph_specs.specs.State.{Files}
+
+-- what the sink and the files tell, how often the files have failed, and what was counted
+pub record Beside : Type 0 where
+  pub sink : Taken
+  pub files : Option Files
+  pub filings : ℕ
+  pub visits : ℕ
+  pub changes : ℕ
+
+-- beside the engine of the code, which has no files
+abbrev pub beside_sink : Taken → ℕ → ℕ → Beside
+beside_sink sink visits changes = record { sink = sink; files = Some []; filings = 0; visits = visits; changes = changes }
+
+abbrev pub beside : Option (List ℕ) → Option ℕ → ℕ → ℕ → Beside
+beside written amount visits changes = beside_sink (taken_of written amount) visits changes
+
+-- some files are told
+abbrev pub AreTold : Option Files → Type 0
+AreTold None = ⊥
+AreTold (Some files) = Unit {0}
+
+-- the files are those that are told, where some are told
+abbrev pub IsTold : Option Files → Files → Type 0
+IsTold None files = Unit {0}
+IsTold (Some told) files = told ≡ files
+
+-- where files were told, these are told now
+abbrev pub StillTells : Option Files → Option Files → Files → Type 0
+StillTells None now files = Unit {0}
+StillTells (Some told) now files = now ≡ Some files
+
+-- so many faults of the files are told by their count, which may stand at 2^64 - 1
+abbrev pub Tells : ℕ → ℕ → ℕ → Type 0
+Tells before now n = (2 ^ 64 - 1 ≤ now) ⊎ (before + n ≤ now)

@@ -1,0 +1,64 @@
+-- Replies that list rows.
+use Rattle.std.specs.Prelude.{◌≡◌, ◌≤◌, ◌+◌, ℕ, Bool, true, false, List, [], ◌∷◌, ◌++◌, length, ℤ, Result, Ok, Err}
+use Rattle.ph_io.specs.Giving.{Taken, Given}
+use Rattle.ph_specs.specs.Reply.{Reply, replies_text}
+use Rattle.ph_specs.specs.Engine.{listing, row_replies, page_end}
+use Rattle.ph_specs.specs.Window.{Cursor, window, page, has_more, next_cursor}
+use Rattle.ph_specs.specs.WorkSets.{meets}
+use Rattle.ph_window.specs.Page.{IsLast}
+use Rattle.ph_window.specs.declared.page.Tail.{Tail}
+use Rattle.ph_window.specs.declared.page.Tail.TheVariants.{More, End}
+use Rattle.ph_engine.specs.Slots.{AnyTable, cursor_of, cursor_dims}
+use Rattle.ph_engine.specs.Writing.{WritesFront}
+use Rattle.ph_engine.specs.declared.cursors.AnyCursor.{AnyCursor}
+use Rattle.ph_engine.specs.declared.status.Answer.{Answer}
+use Rattle.ph_engine.specs.declared.status.Answer.TheVariants.{Good}
+use Rattle.ph_engine.specs.declared.status.Stop.{Stop}
+use Rattle.ph_engine.specs.declared.status.Stop.TheVariants.{WriteFault}
+
+-- the nodes that a window meets
+abbrev pub met : AnyTable → List ℤ → List ℤ → ℕ
+met t lo hi = length (meets t.tree.width t.dims t.tree.table lo hi)
+
+-- all rows of a window were listed
+pub record WindowListed (t : AnyTable) (lo hi : List ℤ) (sink now_sink : Taken) (visits now_visits : ℕ) (answer : Answer) : Type 0 where
+  pub told : Given sink now_sink (replies_text (listing (window lo hi t.tree.table)))
+  pub good : answer ≡ Good
+  pub visited : now_visits ≡ visits + met t lo hi
+
+-- a write failed in a reply, for which no more nodes were visited than for the whole
+pub record FrontListed (replies : List Reply) (most : ℕ) (sink now_sink : Taken) (visits now_visits : ℕ) (stop : Stop) : Type 0 where
+  pub front : WritesFront sink now_sink (replies_text replies)
+  pub fault : stop ≡ WriteFault
+  pub visited : now_visits ≤ visits + most
+
+abbrev pub ListsWindow : AnyTable → List ℤ → List ℤ → Taken → Taken → ℕ → ℕ → Result Answer Stop → Type 0
+ListsWindow t lo hi sink now_sink visits now_visits (Ok answer) = WindowListed t lo hi sink now_sink visits now_visits answer
+ListsWindow t lo hi sink now_sink visits now_visits (Err stop) = FrontListed (listing (window lo hi t.tree.table)) (met t lo hi) sink now_sink visits now_visits stop
+
+-- the replies of a page
+abbrev pub page_replies : AnyTable → Cursor → ℕ → List Reply
+page_replies t c n =
+    let rows = page t.tree.width c n t.tree.table in
+    row_replies rows ++ page_end (has_more t.tree.width c n t.tree.table) (length rows) ∷ []
+
+-- the next rows of a cursor were listed, and it stands behind them
+pub record PageListed (t : AnyTable) (c : Cursor) (n : ℕ) (sink now_sink : Taken) (visits now_visits : ℕ) (behind : Cursor) : Type 0 where
+  pub told : Given sink now_sink (replies_text (page_replies t c n))
+  pub next : behind ≡ next_cursor t.tree.width c n t.tree.table
+  pub last : IsLast t.tree.width t.dims behind.last
+  pub grows : visits ≤ now_visits
+  pub visited : now_visits ≤ visits + (t.tree.width + met t c.lo c.hi)
+
+abbrev pub ListsPage : AnyTable → Cursor → ℕ → Taken → Taken → ℕ → ℕ → Result Cursor Stop → Type 0
+ListsPage t c n sink now_sink visits now_visits (Ok behind) = PageListed t c n sink now_sink visits now_visits behind
+ListsPage t c n sink now_sink visits now_visits (Err stop) = FrontListed (page_replies t c n) (t.tree.width + met t c.lo c.hi) sink now_sink visits now_visits stop
+
+-- the same by cursors of any number of dimensions
+abbrev pub ListsAnyPage : AnyTable → AnyCursor → ℕ → Taken → Taken → ℕ → ℕ → Result AnyCursor Stop → Type 0
+ListsAnyPage t c n sink now_sink visits now_visits (Ok behind) = (cursor_dims behind ≡ t.dims) × PageListed t (cursor_of c) n sink now_sink visits now_visits (cursor_of behind)
+ListsAnyPage t c n sink now_sink visits now_visits (Err stop) = FrontListed (page_replies t (cursor_of c) n) (t.tree.width + met t (cursor_of c).lo (cursor_of c).hi) sink now_sink visits now_visits stop
+
+abbrev pub is_more : Tail → Bool
+is_more More = true
+is_more End = false

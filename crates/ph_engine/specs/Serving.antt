@@ -1,0 +1,29 @@
+-- What the code that answers a script leaves, where the files are told: by the machine of the commands that are built.
+use Rattle.std.specs.Prelude.{ℕ, Bool, List, Option, Result}
+use Rattle.ph_script.specs.declared.lines.Line.{Line}
+use Rattle.ph_script.specs.Shown.{IsLine}
+use Rattle.ph_engine.specs.Answering.{SaysOr}
+use Rattle.ph_engine.specs.BuiltMachine.{built_machine}
+use Rattle.ph_engine.specs.Feeding.{Feeds, Ends}
+use Rattle.ph_engine.specs.Outcomes.{Outcome}
+use Rattle.ph_engine.specs.Standing.{Standing, IsKnown, whole_of}
+use Rattle.ph_engine.specs.declared.status.Status.{Status}
+use Rattle.ph_engine.specs.declared.status.Stop.{Stop}
+
+-- a line that is shown
+abbrev pub ServesLine : Standing → Line → Standing → Result Bool Stop → Type 0
+ServesLine st line now result =
+    IsKnown st → IsKnown now × ((bytes : List ℕ) → IsLine bytes line → SaysOr (built_machine 0) (whole_of st) bytes st.beside now.beside (whole_of now) result)
+
+-- a piece of a script, by the kept bytes of the unended line before and behind it
+abbrev pub ServesPiece : Standing → List ℕ → List ℕ → Standing → List ℕ → Result Bool Stop → Type 0
+ServesPiece st line piece now kept result =
+    IsKnown st → IsKnown now × Feeds (built_machine 0) (whole_of st) line piece st.beside now.beside (whole_of now) kept result
+
+-- the end of a script
+abbrev pub ServesEnd : Standing → List ℕ → Bool → Standing → Status → Type 0
+ServesEnd st line refused now status = IsKnown st → Ends (built_machine 0) (whole_of st) line refused st.beside now.beside (whole_of now) status
+
+-- a script of at most so many bytes
+abbrev pub ServesScript : ℕ → Option (List ℕ) → Standing → Option (List ℕ) → Standing → Status → Type 0
+ServesScript most left st now_left now status = IsKnown st → Outcome (built_machine 0) most left now_left st.beside now.beside (whole_of st) (whole_of now) status

@@ -1,0 +1,53 @@
+-- The work of a command: bounds of the nodes that it visits and of the changes that it makes.
+use Rattle.std.specs.Prelude.{◌≤◌, ℕ, ◌+◌, ◌*◌, Bool, not, ◌&&◌, length, Option, Some, None}
+use Rattle.ph_specs.specs.Command.{Command}
+use Rattle.ph_specs.specs.Reply.{Reply}
+use Rattle.ph_specs.specs.Table.{has}
+use Rattle.ph_specs.specs.WorkSets.{path, meets}
+use Rattle.ph_specs.specs.Named.{lookup}
+use Rattle.ph_specs.specs.Window.{Cursor}
+use Rattle.ph_specs.specs.Refusals.{refusal}
+use Rattle.ph_specs.specs.State.{Slot, Engine, Files, current}
+use Rattle.ph_engine.specs.Machine.{Work, one_if}
+
+abbrev pub work : ℕ → ℕ → ℕ → ℕ → Work
+work most_visits least_visits most_changes least_changes =
+    record { most_visits = most_visits; least_visits = least_visits; most_changes = most_changes; least_changes = least_changes }
+
+abbrev pub no_work : Work
+no_work = work 0 0 0 0
+
+-- those of a page under a cursor, which may have to be found again
+abbrev pub page_bounds : Slot → Option Cursor → Work
+page_bounds s (Some c) = work (s.width + length (meets s.width s.dims s.table c.lo c.hi)) 0 0 0
+page_bounds s None = no_work
+
+-- the bounds of a command on a slot that does not refuse it
+abbrev pub bounds : Slot → Files → Command → Work
+bounds s files (Command.Get p) = let n = length (path s.width s.dims s.table p) in work n n 0 0
+bounds s files (Command.Put p v) = work (2 * s.width) 0 2 (one_if (not (has s.table p)))
+bounds s files (Command.Del p) = work (2 * s.width) 0 2 (one_if (has s.table p))
+bounds s files (Command.Relocate p q) = work (6 * s.width) 0 4 (one_if (has s.table p && not (has s.table q)))
+bounds s files (Command.Window lo hi) = let n = length (meets s.width s.dims s.table lo hi) in work n n 0 0
+bounds s files (Command.Page name n) = page_bounds s (lookup name s.cursors)
+bounds s files _ = no_work
+
+-- a command that is refused has no least bound but 0
+abbrev pub least_unless : Option Reply → ℕ → ℕ
+least_unless (Some r) n = 0
+least_unless None n = n
+
+abbrev pub work_of : ℕ → Engine → Files → Bool → Command → Work
+work_of most e files fault command =
+    let w = bounds (current e) files command in
+    let r = refusal most e files fault command in
+    work w.most_visits (least_unless r w.least_visits) w.most_changes (least_unless r w.least_changes)
+
+-- the counters rose by no more than the bounds, and by no less
+pub record IsAtMost (w : Work) (visits now_visits changes now_changes : ℕ) : Type 0 where
+  pub few_visits : now_visits ≤ visits + w.most_visits
+  pub few_changes : now_changes ≤ changes + w.most_changes
+
+pub record IsAtLeast (w : Work) (visits now_visits changes now_changes : ℕ) : Type 0 where
+  pub enough_visits : visits + w.least_visits ≤ now_visits
+  pub enough_changes : changes + w.least_changes ≤ now_changes
