@@ -1,6 +1,6 @@
 -- What the commands that list rows do, and those of cursors.
-use Rattle.std.proofs.Common.{◌≡◌, ◌+◌, ℕ, Bool, true, false, List, [], ◌∷◌, ◌++◌, length, refl, ap, sym, ◌∙◌, arith}
-use Rattle.std.specs.Prelude.{ℤ, Some, None, Result, Ok, Err, ◌&&◌, not, nat_le}
+use Rattle.std.proofs.Common.{◌≡◌, ◌<◌, ◌≤◌, ◌+◌, ℕ, Bool, true, false, List, [], ◌∷◌, ◌++◌, length, get_or, refl, ap, sym, ◌∙◌, subst, arith}
+use Rattle.std.specs.Prelude.{ℤ, Some, None, Result, Ok, Err, ◌&&◌, not, nat_le, MatchResult}
 use Rattle.std.specs.List.{list_all}
 use Rattle.std.proofs.lemmas.Grind.{common_steps}
 use Rattle.ph_io.specs.Giving.{Taken}
@@ -17,11 +17,14 @@ use Rattle.ph_engine.specs.Doing.{Begun, Does, DoneOr, DoneWith}
 use Rattle.ph_engine.specs.Listing.{ListsWindow, FrontListed, PageListed, page_replies, met}
 use Rattle.ph_engine.specs.Machine.{is_refusal}
 use Rattle.ph_engine.specs.Refusing.{early_refusal}
-use Rattle.ph_engine.specs.Slots.{AnyTable, slot_of, engine_of}
+use Rattle.ph_engine.specs.Naming.{place}
+use Rattle.ph_engine.specs.Slots.{AnyTable, slot_of, engine_of, cursor_of, named}
 use Rattle.ph_engine.specs.declared.status.Answer.{Answer}
 use Rattle.ph_engine.specs.declared.status.Answer.TheVariants.{Good}
 use Rattle.ph_engine.specs.declared.status.Stop.{Stop}
+use Rattle.ph_engine.specs.declared.cursors.Held.{Held}
 use Rattle.ph_engine.proofs.Commanded.{done-all}
+use Rattle.ph_engine.proofs.Names.{found-in}
 use Rattle.ph_engine.proofs.Refused.{unrefused, in-range, has-room, has-cursor}
 
 -- ---- a cursor
@@ -64,6 +67,13 @@ is-there false h = absurd cc
 -- the cursor of a page that is not refused is there
 pub cursor-there : (s : Slot) (name : List ℕ) (n : ℕ) → early_refusal s (Command.Page name n) ≡ None → has_name name s.cursors ≡ true
 cursor-there s name n h = is-there (has_name name s.cursors) (has-cursor s (Command.Page name n) h)
+
+-- the cursor at its place is the one that is found under the name
+pub found-there : (name : List ℕ) (items first second : List Held) (r : Result ℕ ℕ) (i : ℕ) (d : Held) → first ≡ items → second ≡ items → r ≡ place name (named first) → r ≡ Ok i → MatchResult r (λ j. j < length first) (λ j. j ≤ length first) → lookup name (named items) ≡ Some (cursor_of (get_or second i d).cursor)
+found-there name items first second r i d e f p is within =
+    let at : place name (named second) ≡ Ok i = ap (λ xs. place name (named xs)) (f ∙ sym e) ∙ sym p ∙ is in
+    let short : i < length second = omega (arith, rw is at within, ap (λ xs. length xs) (e ∙ sym f)) in
+    subst (λ xs. lookup name (named xs) ≡ Some (cursor_of (get_or second i d).cursor)) f (found-in (λ h. h.name) (λ h. cursor_of h.cursor) name second i d at short)
 
 good-row : (r : Row) (text : List ℕ) → is_refusal (reply_text (Reply.RowIs r) ++ text) ≡ false
 good-row r text = elim r.point as (λ p. is_refusal (reply_text (Reply.RowIs (record { point = p; value = r.value })) ++ text) ≡ false) [ [] ↦ refl | x ∷ p ↦ refl ]

@@ -93,10 +93,9 @@ pub(crate) fn del_row<const D: usize, V: Ledger, C: Ledger>(
     ensures { ServedOr (table_at D tree.old) (Asked.Del (numbers_of at.now)) (table_at D tree.new) visits.old visits.new changes.old changes.new result }
 {
     let p = point_at(tree.width(), at);
-    match tree.del(&p, visits, changes) {
-        Ok(Some(value)) => Ok(Reply::Gone(value)),
-        Ok(None) => Ok(Reply::Absent),
-        Err(error) => Err(error),
+    match tree.del(&p, visits, changes)? {
+        Some(value) => Ok(Reply::Gone(value)),
+        None => Ok(Reply::Absent),
     }
 }
 
@@ -116,11 +115,10 @@ pub(crate) fn move_row<const D: usize, V: Ledger, C: Ledger>(
 {
     let p = point_at(tree.width(), from);
     let q = point_at(tree.width(), to);
-    match tree.relocate(&p, &q, visits, changes) {
-        Ok(Moved::Done) => Ok(Reply::Moved),
-        Ok(Moved::Taken) => Ok(Reply::Taken),
-        Ok(Moved::Absent) => Ok(Reply::Absent),
-        Err(error) => Err(error),
+    match tree.relocate(&p, &q, visits, changes)? {
+        Moved::Done => Ok(Reply::Moved),
+        Moved::Taken => Ok(Reply::Taken),
+        Moved::Absent => Ok(Reply::Absent),
     }
 }
 

@@ -1,14 +1,14 @@
 use Rattle.std.proofs.Common.{◌≡◌, ◌<◌, get_or, length, true, false, ap, sym, ◌∙◌, subst, arith}
-use Rattle.std.specs.Prelude.{None, Some, Ok, Err, is_ok}
+use Rattle.std.specs.Prelude.{None, Err, is_ok}
 use Rattle.std.specs.List.{AllByRecursion}
 use Rattle.ph_specs.specs.Command.{Command}
-use Rattle.ph_specs.specs.Named.{enter, lookup}
+use Rattle.ph_specs.specs.Named.{enter}
 use Rattle.ph_engine.specs.Naming.{place}
 use Rattle.ph_engine.specs.Refusing.{early_refusal}
 use Rattle.ph_engine.specs.Slots.{any_table, named, slot_of, cursor_of, IsCursorIn}
 use Rattle.ph_engine.specs.declared.cursors.Held.{Held}
-use Rattle.ph_engine.proofs.Names.{has-place, found-in, under-entered, all-at}
-use Rattle.ph_engine.proofs.Paged.{cursor-there, page-done, page-stopped}
+use Rattle.ph_engine.proofs.Names.{has-place, under-entered, all-at}
+use Rattle.ph_engine.proofs.Paged.{cursor-there, found-there, page-done, page-stopped}
 use Rattle.ph_engine.proofs.Slotted.{names-sorted, slot-entered}
 use Rattle.ph_engine.proofs.slot.Slot.page.Goals as goal
 
@@ -42,25 +42,21 @@ returns-in-Ok-list_page-clause-done g c =
     let t = any_table c.self.inside.tree in
     let items = c.self.inside.cursors.items in
     let name = c.args.name.now in
-    let slice = c.as_slice-2.result.now in
+    let second = c.as_slice-2.result.now in
     let unrefused = subst (λ x. early_refusal x (Command.Page name c.args.n) ≡ None) (sym c.self.view_is) c.requires in
-    let within : c.in-Ok.i < length slice = omega (arith, rw c.in-Ok.is at c.place_of.ensures.within, ap (λ xs. length xs) (c.as_slice.ensures.value ∙ sym c.as_slice-2.ensures.value)) in
-    let at : place name (named slice) ≡ Ok c.in-Ok.i = ap (λ xs. place name (named xs)) (c.as_slice-2.ensures.value ∙ sym c.as_slice.ensures.value) ∙ sym c.place_of.ensures.place ∙ c.in-Ok.is in
-    let old = cursor_of (get_or slice c.in-Ok.i c.index-as_slice-i.result).cursor in
-    let there = found-in (λ h. h.name) (λ h. cursor_of h.cursor) name slice c.in-Ok.i c.index-as_slice-i.result at within in
+    let old = cursor_of (get_or second c.in-Ok.i c.index-as_slice-i.result).cursor in
+    let there = found-there name items c.as_slice.result.now second c.place_of.result c.in-Ok.i c.index-as_slice-i.result c.as_slice.ensures.value c.as_slice-2.ensures.value c.place_of.ensures.place c.in-Ok.is c.place_of.ensures.within in
     let held : Held = record { name = name; cursor = c.in-Ok-list_page.cursor } in
     let is : named c.enter.new.cursors.items ≡ enter name (cursor_of c.in-Ok-list_page.cursor) (named items) = ap (λ xs. named xs) c.enter.ensures ∙ sym (under-entered (λ h. h.name) (λ h. cursor_of h.cursor) held items) in
-    rw (← c.self.view_is) (page-done t (named items) (named c.enter.new.cursors.items) name c.args.n old (cursor_of c.in-Ok-list_page.cursor) _ _ c.args.visits.now c.list_page.new.visits unrefused (subst (λ xs. lookup name (named xs) ≡ Some old) c.as_slice-2.ensures.value there) is c.in-Ok-list_page.ensures.lists.1)
+    rw (← c.self.view_is) (page-done t (named items) (named c.enter.new.cursors.items) name c.args.n old (cursor_of c.in-Ok-list_page.cursor) _ _ c.args.visits.now c.list_page.new.visits unrefused there is c.in-Ok-list_page.ensures.lists.1)
 
 pub returns-in-Err-clause-done : goal.returns-in-Err-clause-done
 returns-in-Err-clause-done g c =
     let t = any_table c.self.inside.tree in
     let items = c.self.inside.cursors.items in
     let name = c.args.name.now in
-    let slice = c.as_slice-2.result.now in
+    let second = c.as_slice-2.result.now in
     let unrefused = subst (λ x. early_refusal x (Command.Page name c.args.n) ≡ None) (sym c.self.view_is) c.requires in
-    let within : c.in-Ok.i < length slice = omega (arith, rw c.in-Ok.is at c.place_of.ensures.within, ap (λ xs. length xs) (c.as_slice.ensures.value ∙ sym c.as_slice-2.ensures.value)) in
-    let at : place name (named slice) ≡ Ok c.in-Ok.i = ap (λ xs. place name (named xs)) (c.as_slice-2.ensures.value ∙ sym c.as_slice.ensures.value) ∙ sym c.place_of.ensures.place ∙ c.in-Ok.is in
-    let old = cursor_of (get_or slice c.in-Ok.i c.index-as_slice-i.result).cursor in
-    let there = found-in (λ h. h.name) (λ h. cursor_of h.cursor) name slice c.in-Ok.i c.index-as_slice-i.result at within in
-    rw (← c.self.view_is) (page-stopped t (named items) name c.args.n old _ _ c.args.visits.now c.list_page.new.visits c.in-Err.stop unrefused (subst (λ xs. lookup name (named xs) ≡ Some old) c.as_slice-2.ensures.value there) c.in-Err.ensures.lists)
+    let old = cursor_of (get_or second c.in-Ok.i c.index-as_slice-i.result).cursor in
+    let there = found-there name items c.as_slice.result.now second c.place_of.result c.in-Ok.i c.index-as_slice-i.result c.as_slice.ensures.value c.as_slice-2.ensures.value c.place_of.ensures.place c.in-Ok.is c.place_of.ensures.within in
+    rw (← c.self.view_is) (page-stopped t (named items) name c.args.n old _ _ c.args.visits.now c.list_page.new.visits c.in-Err.stop unrefused there c.in-Err.ensures.lists)
