@@ -57,8 +57,7 @@ impl Engine {
         }
     }
 
-    /// Does a command, and gives its replies to the sink, each line as a piece of its own and each row as it is found. It may want
-    /// memory for a row that is new or moves, and for no other command.
+    /// Does a command, and gives its replies to the sink. It may want memory for a row that is new or moves, and for no other command.
     ///
     /// After a write fault the command is done, but a page leaves its cursor as it was; a front of the replies is written.
     /// Without memory nothing is done or written.

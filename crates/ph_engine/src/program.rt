@@ -18,8 +18,8 @@ const USAGE: &str = "usage: phq run | phq check FILE | phq soak N START\n";
 
 /// Does all that the program does, by the words behind its name.
 ///
-/// With the one word `run` it reads a script from the source and gives the replies to each line to the sink, each as a
-/// piece of its own. Any other words get the usage line. A run takes two buffers of about 4,096 bytes before its first
+/// With the one word `run` it reads a script from the source and gives the replies to its lines to the sink, in their
+/// order. Any other words get the usage line. A run takes two buffers of about 4,096 bytes before its first
 /// read, and memory for new rows; it takes none for a line or a reply. The counters rise by the visits and the changes of
 /// the tree's nodes.
 pub fn top<S: Source, O: Sink, V: Ledger, C: Ledger>(
