@@ -5,7 +5,6 @@ ghost use Rattle.ph_specs.specs.Coordinate.{IsPoint};
 
 use crate::pair::{Counters, Pair, point};
 use ph_coord::Point;
-use ph_steps::Steps;
 use rand_core::{Rng, SeedableRng};
 use rand_xoshiro::Xoshiro256PlusPlus;
 use std::alloc::Global;
@@ -130,10 +129,7 @@ fn all_edits<V: Ledger, C: Ledger>(
     requires visits { (visits.name ≡ V.name) × (visits.parts ≡ V.parts) × (0 < visits.parts) }
     requires changes { (changes.name ≡ C.name) × (changes.parts ≡ C.parts) × (0 < changes.parts) }
 {
-    let mut counters: Counters<V, C> = Counters {
-        visits: Steps::new(visits),
-        changes: Steps::new(changes),
-    };
+    let mut counters: Counters<V, C> = Counters::new(visits, changes);
     let line = [LEAST, LEAST + 1, -2, -1, 0, 1, 2, GREATEST];
     edits::<1, V, C>(rt, alloc, u64::MAX, &line, &mut counters)?;
     let square = [LEAST, LEAST, -2, -1, 0, 0, 1, GREATEST];

@@ -337,10 +337,7 @@ fn outcome<V: Ledger, C: Ledger>(
     requires visits { (visits.name ≡ V.name) × (visits.parts ≡ V.parts) × (0 < visits.parts) }
     requires changes { (changes.name ≡ C.name) × (changes.parts ≡ C.parts) × (0 < changes.parts) }
 {
-    let mut counters: Counters<V, C> = Counters {
-        visits: Steps::new(visits),
-        changes: Steps::new(changes),
-    };
+    let mut counters: Counters<V, C> = Counters::new(visits, changes);
     match case {
         Case::UnitSquare => unit_square(rt, alloc, &mut counters),
         Case::EachSplit => each_split(rt, alloc, &mut counters),

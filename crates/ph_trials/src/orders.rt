@@ -3,7 +3,6 @@
 ghost use Rattle.std.specs.Prelude.{◌≡◌, ◌<◌};
 
 use crate::pair::{Counters, Pair, point};
-use ph_steps::Steps;
 use std::alloc::Global;
 use std::marker::Brand;
 use std::process::Abort;
@@ -86,10 +85,7 @@ fn every_order<V: Ledger, C: Ledger>(
     requires visits { (visits.name ≡ V.name) × (visits.parts ≡ V.parts) × (0 < visits.parts) }
     requires changes { (changes.name ≡ C.name) × (changes.parts ≡ C.parts) × (0 < changes.parts) }
 {
-    let mut counters: Counters<V, C> = Counters {
-        visits: Steps::new(visits),
-        changes: Steps::new(changes),
-    };
+    let mut counters: Counters<V, C> = Counters::new(visits, changes);
     three_points(rt, alloc, &mut counters)?;
     unit_square(rt, alloc, &mut counters)
 }

@@ -1,6 +1,6 @@
 //! A tree and the plain table beside it, which are edited alike.
 
-ghost use Rattle.std.specs.Prelude.{◌≡◌, ◌≤◌};
+ghost use Rattle.std.specs.Prelude.{◌≡◌, ◌<◌, ◌≤◌};
 ghost use Rattle.ph_specs.specs.Coordinate.{IsPoint};
 
 use crate::is_shape;
@@ -10,7 +10,7 @@ use ph_table::Table;
 use ph_tree::{Moved, PhTree, PutError};
 use std::alloc::Global;
 use std::process::Abort;
-use std::sync::ledger::Ledger;
+use std::sync::ledger::{Blank, Ledger};
 use std::test::Fail;
 
 // What the edits of a tree count.
@@ -18,6 +18,21 @@ use std::test::Fail;
 pub(crate) struct Counters<V: Ledger, C: Ledger> {
     pub visits: Steps<V>,
     pub changes: Steps<C>,
+}
+
+impl<V: Ledger, C: Ledger> Counters<V, C> {
+    // Both at 0.
+    pub(crate) fn new(visits: Blank, changes: Blank) -> Counters<V, C>
+        requires visits { (visits.name ≡ V.name) × (visits.parts ≡ V.parts) × (0 < visits.parts) }
+        requires changes { (changes.name ≡ C.name) × (changes.parts ≡ C.parts) × (0 < changes.parts) }
+        ensures visits { result.visits ≡ 0 }
+        ensures changes { result.changes ≡ 0 }
+    {
+        Counters {
+            visits: Steps::new(visits),
+            changes: Steps::new(changes),
+        }
+    }
 }
 
 #[derive(Drop)]

@@ -7,7 +7,6 @@ ghost use Rattle.ph_window.specs.Page.{IsLast};
 use crate::edits::{GREATEST, LEAST, draw, edit};
 use crate::pair::{Counters, Pair, point};
 use ph_coord::{Point, Row, z_before};
-use ph_steps::Steps;
 use ph_window::{Cursor, Tail, Window};
 use rand_core::SeedableRng;
 use rand_xoshiro::Xoshiro256PlusPlus;
@@ -219,10 +218,7 @@ fn all_windows<V: Ledger, C: Ledger>(
     requires visits { (visits.name ≡ V.name) × (visits.parts ≡ V.parts) × (0 < visits.parts) }
     requires changes { (changes.name ≡ C.name) × (changes.parts ≡ C.parts) × (0 < changes.parts) }
 {
-    let mut counters: Counters<V, C> = Counters {
-        visits: Steps::new(visits),
-        changes: Steps::new(changes),
-    };
+    let mut counters: Counters<V, C> = Counters::new(visits, changes);
     let line = [LEAST, LEAST + 1, -2, -1, 0, 1, 2, GREATEST];
     windows::<1, V, C>(rt, alloc, &line, &mut counters)?;
     let square = [LEAST, LEAST, -2, -1, 0, 0, 1, GREATEST];
