@@ -3,3 +3,4 @@ pub mod Digits
 pub mod Filled
 pub mod Points
 pub mod Signed
+pub mod Ordered
