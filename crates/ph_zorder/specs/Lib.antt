@@ -1,3 +1,4 @@
 pub mod Compared
 pub mod Fill
 pub mod Sides
+pub mod Squares

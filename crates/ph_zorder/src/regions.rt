@@ -76,7 +76,7 @@ pub fn offset_masks(level: u32, corner: &[u64], lo: &[u64], hi: &[u64]) -> Optio
     Some((lower, upper))
 }
 
-fn ones_below(place: u32) -> u64
+pub(crate) fn ones_below(place: u32) -> u64
     requires { place ≤ 62 }
     ensures { result ≡ 2 ^ place - 1 }
 {
