@@ -1,0 +1,185 @@
+ghost use Rattle.std.specs.Prelude.{◌≡◌, ◌*◌, ◌≤◌};
+ghost use Rattle.ph_specs.specs.Coordinate.{IsPoint};
+
+use super::*;
+use ph_coord::{Point, Width, is_at_most};
+use std::process::Abort;
+
+// Whether a box overlaps the asked one, lies inside it, and covers it.
+type Listed = [bool; 3];
+
+const APART: Listed = [false, false, false];
+
+const MEETS: Listed = [true, false, false];
+
+const INSIDE: Listed = [true, true, false];
+
+const COVERS: Listed = [true, false, true];
+
+const SAME: Listed = [true, true, true];
+
+fn width(rt: &impl Abort, bits: u32) -> Width {
+    let Some(w) = Width::new(bits) else {
+        panic!(rt; "no width");
+    };
+    w
+}
+
+fn point<const K: usize>(rt: &impl Abort, w: Width, coords: &[i64]) -> Point<K>
+    ensures { IsPoint w K result }
+{
+    let Some(p) = Point::from_slice(w, coords) else {
+        panic!(rt; "no point");
+    };
+    p
+}
+
+fn is_between<const D: usize>(p: &Point<D>, bounds: &(Point<D>, Point<D>)) -> bool {
+    is_at_most(bounds.0.as_slice(), p.as_slice()) && is_at_most(p.as_slice(), bounds.1.as_slice())
+}
+
+// Asks about the box from one corner to another, where boxes are stored of which the answers are known.
+fn check<const K: usize, const D: usize>(
+    rt: &impl Abort,
+    bits: u32,
+    lo: [i64; K],
+    hi: [i64; K],
+    stored: &[([i64; K], [i64; K], Listed)],
+)
+    requires dims { K * 2 ≡ D }
+    requires few { D ≤ 16 }
+{
+    let w = width(rt, bits);
+    let (lo, hi) = (point::<K>(rt, w, &lo), point::<K>(rt, w, &hi));
+    let overlap = overlap_bounds::<K, D>(w, &lo, &hi);
+    let inside = inside_bounds::<K, D>(w, &lo, &hi);
+    let cover = cover_bounds::<K, D>(w, &lo, &hi);
+    for (low, high, listed) in stored {
+        let (low, high) = (point::<K>(rt, w, low), point::<K>(rt, w, high));
+        let Some(p) = join_box::<K, D>(w, &low, &high) else {
+            panic!(rt; "no box");
+        };
+        assert_eq!(rt; split_box::<K, D>(w, &p), (low, high));
+        let answers = [
+            is_between(&p, &overlap),
+            is_between(&p, &inside),
+            is_between(&p, &cover),
+        ];
+        assert_eq!(rt; answers, *listed, "{low:?} to {high:?}");
+    }
+}
+
+#[test]
+fn boxes_of_one_dimension(rt: HostRuntime) {
+    let stored = [
+        ([2], [5], SAME),
+        ([5], [7], MEETS),
+        ([0], [2], MEETS),
+        ([1], [4], MEETS),
+        ([3], [6], MEETS),
+        ([6], [7], APART),
+        ([0], [1], APART),
+        ([3], [4], INSIDE),
+        ([2], [4], INSIDE),
+        ([3], [5], INSIDE),
+        ([5], [5], INSIDE),
+        ([6], [6], APART),
+        ([2], [6], COVERS),
+        ([1], [6], COVERS),
+    ];
+    check::<1, 2>(&rt, 32, [2], [5], &stored);
+    let around_one = [
+        ([3], [3], SAME),
+        ([3], [5], COVERS),
+        ([0], [3], COVERS),
+        ([2], [4], COVERS),
+        ([4], [4], APART),
+        ([0], [2], APART),
+    ];
+    check::<1, 2>(&rt, 32, [3], [3], &around_one);
+}
+
+#[test]
+fn boxes_of_two_dimensions(rt: HostRuntime) {
+    let stored = [
+        ([0, 0], [4, 4], SAME),
+        ([4, 4], [6, 6], MEETS),
+        ([-2, -3], [0, 0], MEETS),
+        ([-2, 4], [0, 5], MEETS),
+        ([4, 1], [6, 3], MEETS),
+        ([0, -1], [4, 0], MEETS),
+        ([5, 1], [6, 3], APART),
+        ([4, 5], [6, 6], APART),
+        ([1, 1], [5, 3], MEETS),
+        ([-1, 1], [5, 3], MEETS),
+        ([1, 1], [3, 3], INSIDE),
+        ([0, 1], [4, 3], INSIDE),
+        ([4, 4], [4, 4], INSIDE),
+        ([2, 0], [2, 4], INSIDE),
+        ([-1, -1], [5, 5], COVERS),
+        ([0, 0], [4, 5], COVERS),
+    ];
+    check::<2, 4>(&rt, 32, [0, 0], [4, 4], &stored);
+}
+
+#[test]
+fn boxes_of_more_dimensions(rt: HostRuntime) {
+    let stored = [
+        ([0, 0, 0], [2, 2, 2], SAME),
+        ([2, 2, 2], [3, 3, 3], MEETS),
+        ([2, 2, 0], [3, 3, 2], MEETS),
+        ([2, 0, 0], [3, 2, 2], MEETS),
+        ([0, 0, -1], [2, 2, 0], MEETS),
+        ([3, 0, 0], [4, 2, 2], APART),
+        ([2, 0, 3], [3, 2, 4], APART),
+        ([-1, -1, 1], [3, 3, 1], MEETS),
+        ([1, 1, 1], [1, 1, 1], INSIDE),
+        ([0, 1, 2], [2, 2, 2], INSIDE),
+        ([-1, 0, 0], [2, 3, 2], COVERS),
+    ];
+    check::<3, 6>(&rt, 32, [0; 3], [2; 3], &stored);
+    let stored = [
+        ([1; 8], [2; 8], MEETS),
+        ([2; 8], [3; 8], APART),
+        ([-1; 8], [1; 8], COVERS),
+    ];
+    check::<8, 16>(&rt, 32, [0; 8], [1; 8], &stored);
+}
+
+#[test]
+fn boxes_at_the_ends_of_a_width(rt: HostRuntime) {
+    for (bits, least, greatest) in [
+        (1, -1, 0),
+        (32, -2147483648, 2147483647),
+        (62, -2305843009213693952, 2305843009213693951),
+    ] {
+        let of_all = [
+            ([least], [greatest], SAME),
+            ([least], [least], INSIDE),
+            ([greatest], [greatest], INSIDE),
+        ];
+        check::<1, 2>(&rt, bits, [least], [greatest], &of_all);
+        let of_least = [
+            ([least], [least], SAME),
+            ([least], [greatest], COVERS),
+            ([least + 1], [greatest], APART),
+        ];
+        check::<1, 2>(&rt, bits, [least], [least], &of_least);
+        let of_greatest = [
+            ([greatest], [greatest], SAME),
+            ([least], [greatest], COVERS),
+            ([least], [greatest - 1], APART),
+        ];
+        check::<1, 2>(&rt, bits, [greatest], [greatest], &of_greatest);
+    }
+}
+
+#[test]
+fn corners_that_make_no_box(rt: HostRuntime) {
+    let w = width(&rt, 32);
+    for (lo, hi) in [([0, 1], [0, 0]), ([1, 0], [0, 5]), ([3, 3], [2, 2])] {
+        let (lo, hi) = (point::<2>(&rt, w, &lo), point::<2>(&rt, w, &hi));
+        let made = join_box::<2, 4>(w, &lo, &hi);
+        assert_eq!(rt; made, None);
+    }
+}
