@@ -1,3 +1,3 @@
 pub mod Search
 pub mod Places
-pub mod Ordered
+mod Nearest

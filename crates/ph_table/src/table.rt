@@ -3,11 +3,15 @@ ghost use Rattle.std.specs.Prelude.{◌≡◌, ◌<◌, ◌≤◌, [], IfOk, OnO
 ghost use Rattle.ph_specs.specs.Coordinate.{IsPoint};
 ghost use Rattle.ph_specs.specs.Table.{IsTable, find, put, del};
 ghost use Rattle.ph_specs.specs.Window.{window, is_between as lies_between};
+ghost use Rattle.ph_specs.specs.Distance.{near};
+ghost use Rattle.ph_table.specs.Hits.{hits_of};
 ghost use Rattle.ph_table.specs.Rows.{wide, put_answer};
 
 use crate::between::is_between;
+use crate::hit::{Hit, hits_before};
 use crate::place::place_of;
 use ph_coord::{Point, Row, Width};
+use ph_zorder::distance;
 use std::alloc::{AllocError, Global};
 use std::marker::Model;
 
@@ -97,6 +101,32 @@ impl<const D: usize> Table<D> {
             .collect(alloc)
     }
 
+    /// The first `n` rows by their distance from a point, and of equal distances in Z-order.
+    ///
+    /// It goes over all rows and keeps the nearest so far in order. It takes memory as these are found, and reserves none
+    /// by `n`. Without memory it gives none of them.
+    pub fn near(&self, alloc: Global, q: &Point<D>, n: u32) -> Result<Vec<Hit<D>>, AllocError>
+        requires dims { D ≤ 16 }
+        requires point { IsPoint self.now.width D q.now }
+        ensures { IfOk result (λ hits. hits.items ≡ hits_of q.now (near q.now n self.now.rows)) }
+    {
+        let _bits = self.width.bits();
+        let most = n as usize;
+        let mut hits: Vec<Hit<D>> = Vec::new(alloc);
+        for row in self.rows() {
+            let hit = Hit {
+                row: *row,
+                distance: distance(&row.point, q),
+            };
+            let place = hits_before(&hits, hit.distance);
+            if place < most {
+                hits.insert(place, hit)?;
+                hits.truncate(most);
+            }
+        }
+        Ok(hits)
+    }
+
     /// Takes the row at a point away, and gives its value. It takes no memory, and moves the rows behind.
     pub fn del(&mut self, p: &Point<D>) -> Option<u64>
         requires dims { D ≤ 16 }
@@ -166,6 +196,48 @@ mod tests {
             assert_eq!(rt; row.value, *value);
         }
         assert_eq!(rt; table.put(lo, 5)?, Put::Old(1));
+        Ok(())
+    }
+    // Rows at one distance from the origin, and one far away.
+    const ROWS: [([i64; 2], u64); 5] = [
+        ([1, 0], 1),
+        ([0, 1], 2),
+        ([-1, 0], 3),
+        ([0, -1], 4),
+        ([2147483647, 2147483647], 5),
+    ];
+
+    #[test]
+    fn nearest_rows_in_order(rt: HostRuntime) -> Result<(), Fail> {
+        let w = Width::new(32).ok_or("no width")?;
+        let mut table: Table<2> = Table::new(rt.alloc(), w);
+        for (coords, value) in ROWS {
+            let p = Point::from_slice(w, &coords).ok_or("out of range")?;
+            assert_eq!(rt; table.put(p, value)?, Put::New);
+        }
+        let origin = Point::from_slice(w, &[0, 0]).ok_or("out of range")?;
+        let expected = [
+            ([-1, 0], 3, 1),
+            ([0, -1], 4, 1),
+            ([0, 1], 2, 1),
+            ([1, 0], 1, 1),
+            ([2147483647, 2147483647], 5, 9223372028264841218),
+        ];
+        for (n, many) in [(0, 0), (3, 3), (9, 5)] {
+            let hits = table.near(rt.alloc(), &origin, n)?;
+            assert_eq!(rt; hits.len(), many);
+            for (hit, (coords, value, distance)) in hits.iter().zip(expected.iter()) {
+                assert_eq!(rt; hit.row.point.as_slice(), coords.as_slice());
+                assert_eq!(rt; (hit.row.value, hit.distance), (*value, *distance));
+            }
+        }
+        let corner = Point::from_slice(w, &[-2147483648, -2147483648]).ok_or("out of range")?;
+        let hits = table.near(rt.alloc(), &corner, u32::MAX)?;
+        let farthest = hits.last().ok_or("no hits")?;
+        assert_eq!(rt;
+            (farthest.row.value, farthest.distance),
+            (5, 36893488130239234050)
+        );
         Ok(())
     }
 }
