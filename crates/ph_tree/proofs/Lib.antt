@@ -1,4 +1,5 @@
 -- Lemmas on trees.
+pub mod Compared
 mod Fewer
 mod Gone
 mod Offsets

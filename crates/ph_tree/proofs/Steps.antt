@@ -33,7 +33,7 @@ no_entry = point_entry 0 [] 0
 abbrev pub entry_at : List Entry → ℕ → Entry
 entry_at xs i = record { addr = addr_at xs i; body = body_at xs i; what = what_at xs i }
 
-entry_there : (xs : List Entry) (i : ℕ) → i < length xs → slice_get xs i ≡ Some (entry_at xs i)
+pub entry_there : (xs : List Entry) (i : ℕ) → i < length xs → slice_get xs i ≡ Some (entry_at xs i)
 entry_there [] i l = absurd (omega (arith, l))
 entry_there (x ∷ xs) zero l = refl
 entry_there (x ∷ xs) (suc i) l = entry_there xs i (omega (arith, l))

@@ -4,3 +4,4 @@ pub mod Step
 pub mod Opened
 pub mod Tree
 pub mod Moves
+pub mod Compared

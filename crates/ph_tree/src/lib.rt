@@ -2,6 +2,7 @@
 //! Multi-Dimensional Index", SIGMOD 2014): a table whose rows stand in a tree of hypercube nodes.
 #![tactic(auto)]
 
+mod compare;
 mod error;
 mod find;
 mod key;

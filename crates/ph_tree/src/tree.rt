@@ -1,22 +1,23 @@
 //! The tree: a table in nodes.
 
-ghost use Rattle.std.specs.Prelude.{◌≡◌, ◌+◌, ◌*◌, ◌<◌, ◌≤◌, ◌↔◌, [], length, None, IfOk, OnOk, OnErr, IsErrOf, IsSome, IsOk};
+ghost use Rattle.std.specs.Prelude.{◌≡◌, ◌≢◌, ◌+◌, ◌*◌, ◌<◌, ◌≤◌, ◌↔◌, [], length, None, IfOk, OnOk, OnErr, IsErrOf, IsSome, IsOk, IsTrue};
 ghost use Rattle.std.specs.Option.{option_copied};
 ghost use Rattle.ph_specs.specs.Coordinate.{IsPoint};
 ghost use Rattle.ph_specs.specs.Table.{IsTable, find};
 ghost use Rattle.ph_specs.specs.Shape.{shape};
-ghost use Rattle.ph_specs.specs.WorkSets.{path};
+ghost use Rattle.ph_specs.specs.WorkSets.{all_nodes, path};
 ghost use Rattle.ph_table.specs.Rows.{put_answer};
 ghost use Rattle.ph_tree.specs.Tree.{with_row, without_row};
 ghost use Rattle.ph_tree.specs.Moves.{move_answer, with_moved};
 
+use crate::compare::is_same_node;
 use crate::error::PutError;
 use crate::find::find_in;
 use crate::key::KeyOf;
 use crate::moves::{Moved, move_in};
 use crate::puts::put_in;
 use crate::removals::del_in;
-use ph_coord::{Point, Width};
+use ph_coord::{Dim, Point, Width};
 use ph_node::{NoMemory, Node};
 use ph_steps::Steps;
 use ph_table::Put;
@@ -120,6 +121,29 @@ impl<const D: usize> PhTree<D> {
         match &self.root {
             Some(root) => find_in(root.visit(visits), &key, visits),
             None => None,
+        }
+    }
+
+    /// Whether another tree of the same width has the same table. How many rows each may have does not matter.
+    ///
+    /// Trees with different numbers of rows are told apart by these. Otherwise the nodes are compared, down from the
+    /// roots, up to the first difference.
+    pub fn same<V: Ledger>(&self, other: &PhTree<D>, visits: &mut Steps<V>) -> bool
+        requires { self.now.width ≡ other.now.width }
+        ensures same { IsTrue result ↔ (self.now.table ≡ other.now.table) }
+        ensures visits { visits.new ≤ visits.old + (length (all_nodes self.now.width D self.now.table) + length (all_nodes other.now.width D other.now.table)) }
+        ensures all { IsTrue result → visits.new ≡ visits.old + (length (all_nodes self.now.width D self.now.table) + length (all_nodes other.now.width D other.now.table)) }
+        ensures spared { length self.now.table ≢ length other.now.table → visits.new ≡ visits.old }
+        ensures later { visits.old ≤ visits.new }
+    {
+        let _bits = self.width.bits();
+        if self.len() != other.len() {
+            return false;
+        }
+        match (self.root(), other.root()) {
+            (Some(a), Some(b)) => is_same_node::<Dim<D>, V>(a, b, visits),
+            (None, None) => true,
+            _ => false,
         }
     }
 
