@@ -44,12 +44,6 @@ taken-next xs ys i e l m t s h =
     let at : IsTrue true ↔ (e ≡ get_or ys i e) = subst (λ o. IfSome o (λ f. IsTrue true ↔ (e ≡ f))) (slice_get-get_or ys i e m) h in
     take_more_same xs ys i e l m t (get_or_from_slice_get xs i e e s ∙ at.0 refl)
 
--- nodes with the same level, which agree in all entries, are the same
-pub node-same : (a b : PlainNode) (i : ℕ) → a.level ≡ b.level → length (entries a) ≤ i → length (entries b) ≤ i → take i (entries a) ≡ take i (entries b) → a ≡ b
-node-same a b i e l m t =
-    let f : entries a ≡ entries b = sym (take-all i (entries a) l) ∙ t ∙ take-all i (entries b) m in
-    sym (node_of-entries a) ∙ ap (λ n. node_of n (entries a)) e ∙ ap (λ es. node_of b.level es) f ∙ node_of-entries b
-
 -- ---- one entry
 
 not-true : (b : Bool) → false ≡ not b → b ≡ true

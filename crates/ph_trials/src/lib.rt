@@ -3,6 +3,10 @@
 #![tactic(auto)]
 
 #[cfg(test)]
+mod alike;
+#[cfg(test)]
+mod boxes;
+#[cfg(test)]
 mod edits;
 #[cfg(test)]
 mod known;

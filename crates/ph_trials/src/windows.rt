@@ -24,7 +24,7 @@ const EDITS: u64 = 400;
 const CURSOR_EDITS: u64 = 16;
 
 // The corners of the least window with both points. In one dimension, if there is such a one, the bounds are reversed.
-fn corners<const D: usize>(
+pub(crate) fn corners<const D: usize>(
     rt: &impl Abort,
     a: &Point<D>,
     b: &Point<D>,
@@ -50,7 +50,7 @@ fn corners<const D: usize>(
 }
 
 // Lists a window of the tree, which is to have these rows.
-fn list<const D: usize, V: Ledger, C: Ledger>(
+pub(crate) fn list<const D: usize, V: Ledger, C: Ledger>(
     rt: &impl Abort,
     pair: &Pair<D>,
     lo: Point<D>,

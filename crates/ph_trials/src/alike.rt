@@ -1,0 +1,127 @@
+//! Trees that were edited in different orders, compared with each other.
+
+ghost use Rattle.std.specs.Prelude.{◌≡◌, ◌<◌, ◌≤◌};
+ghost use Rattle.ph_specs.specs.Coordinate.{IsPoint};
+
+use crate::edits::{GREATEST, LEAST, edit};
+use crate::pair::{Counters, Pair, point};
+use ph_coord::{Point, Row};
+use rand_core::SeedableRng;
+use rand_xoshiro::Xoshiro256PlusPlus;
+use std::alloc::Global;
+use std::marker::Brand;
+use std::process::Abort;
+use std::sync::ledger::{Blank, Ledger};
+use std::test::Fail;
+
+const SEED: u64 = 1975;
+
+const EDITS: u64 = 48;
+
+// A coordinate that no edit draws.
+const UNUSED: i64 = 5;
+
+// A tree and a table to which these rows are put from the last to the first.
+fn backwards<const D: usize, V: Ledger, C: Ledger>(
+    rt: &impl Abort,
+    alloc: Global,
+    rows: &[Row<D>],
+    counters: &mut Counters<V, C>,
+) -> Result<Pair<D>, Fail>
+    requires some { 1 ≤ D }
+    requires few { D ≤ 16 }
+{
+    let mut pair: Pair<D> = Pair::new(alloc, u64::MAX);
+    for row in rows.iter().rev() {
+        let p = point(rt, row.point.as_slice());
+        pair.put(rt, p, row.value, counters)?;
+    }
+    Ok(pair)
+}
+
+// Whether the trees are the same, asked of each of them, is to be answered so.
+fn assert_same<const D: usize, V: Ledger, C: Ledger>(
+    rt: &impl Abort,
+    a: &Pair<D>,
+    b: &Pair<D>,
+    expected: bool,
+    counters: &mut Counters<V, C>,
+) {
+    assert_eq!(rt; a.tree.same(&b.tree, &mut counters.visits), expected);
+    assert_eq!(rt; b.tree.same(&a.tree, &mut counters.visits), expected);
+}
+
+// Edits one of two trees at a point of both, each time in one respect, and takes that back.
+fn edit_one<const D: usize, V: Ledger, C: Ledger>(
+    rt: &impl Abort,
+    a: &Pair<D>,
+    b: &mut Pair<D>,
+    p: Point<D>,
+    v: u64,
+    counters: &mut Counters<V, C>,
+) -> Result<(), Fail>
+    requires few { D ≤ 16 }
+    requires point { IsPoint 32 D p }
+{
+    let unused: Point<D> = point(rt, &[UNUSED; D]);
+    b.put(rt, p, v ^ 1, counters)?;
+    assert_same(rt, a, b, false, counters);
+    b.put(rt, p, v, counters)?;
+    assert_same(rt, a, b, true, counters);
+    b.relocate(rt, &p, &unused, counters)?;
+    assert_same(rt, a, b, false, counters);
+    b.relocate(rt, &unused, &p, counters)?;
+    assert_same(rt, a, b, true, counters);
+    b.put(rt, unused, v, counters)?;
+    assert_same(rt, a, b, false, counters);
+    b.del(rt, &unused, counters)?;
+    assert_same(rt, a, b, true, counters);
+    Ok(())
+}
+
+// Behind each random edit of a tree, another tree of the same rows.
+fn pairs<const D: usize, V: Ledger, C: Ledger>(
+    rt: &impl Abort,
+    alloc: Global,
+    choices: &[i64; 8],
+    counters: &mut Counters<V, C>,
+) -> Result<(), Fail>
+    requires some { 1 ≤ D }
+    requires few { D ≤ 16 }
+{
+    let mut rng = Xoshiro256PlusPlus::seed_from_u64(SEED);
+    let mut pair: Pair<D> = Pair::new(alloc, u64::MAX);
+    for v in 0..EDITS {
+        edit(rt, &mut pair, &mut rng, choices, v, counters)?;
+        let rows = pair.table.rows();
+        let mut other = backwards(rt, alloc, rows, counters)?;
+        assert_same(rt, &pair, &other, true, counters);
+        if let Some(row) = rows.get((v % 8) as usize) {
+            let p = point(rt, row.point.as_slice());
+            edit_one(rt, &pair, &mut other, p, row.value, counters)?;
+        }
+    }
+    Ok(())
+}
+
+fn all_pairs<V: Ledger, C: Ledger>(
+    rt: &impl Abort,
+    alloc: Global,
+    visits: Blank,
+    changes: Blank,
+) -> Result<(), Fail>
+    requires visits { (visits.name ≡ V.name) × (visits.parts ≡ V.parts) × (0 < visits.parts) }
+    requires changes { (changes.name ≡ C.name) × (changes.parts ≡ C.parts) × (0 < changes.parts) }
+{
+    let mut counters: Counters<V, C> = Counters::new(visits, changes);
+    let choices = [LEAST, -2, -1, 0, 0, 1, 2, GREATEST];
+    pairs::<1, V, C>(rt, alloc, &choices, &mut counters)?;
+    pairs::<2, V, C>(rt, alloc, &choices, &mut counters)?;
+    pairs::<3, V, C>(rt, alloc, &choices, &mut counters)?;
+    pairs::<8, V, C>(rt, alloc, &choices, &mut counters)
+}
+
+#[test]
+fn trees_edited_in_different_orders(rt: HostRuntime) -> Result<(), Fail> {
+    all_pairs::<Brand, Brand>(&rt, rt.alloc(), Blank::new(1), Blank::new(1))
+}

@@ -1,0 +1,169 @@
+//! Windows of boxes beside the questions that they answer.
+
+ghost use Rattle.std.specs.Prelude.{◌≡◌, ◌*◌, ◌<◌, ◌≤◌};
+ghost use Rattle.ph_specs.specs.Coordinate.{IsPoint};
+
+use crate::edits::draw;
+use crate::pair::{Counters, Pair};
+use crate::windows::{corners, list};
+use ph_box::{cover_bounds, inside_bounds, join_box, overlap_bounds};
+use ph_coord::{Point, Row, Width};
+use rand_core::{Rng, SeedableRng};
+use rand_xoshiro::Xoshiro256PlusPlus;
+use std::alloc::Global;
+use std::marker::Brand;
+use std::process::Abort;
+use std::sync::ledger::{Blank, Ledger};
+use std::test::Fail;
+
+const SEED: u64 = 1984;
+
+const STORED: u64 = 200;
+
+const ASKED: u64 = 100;
+
+const CHOICES: [i64; 8] = [-3, -2, -1, 0, 1, 2, 3, 4];
+
+#[derive(Clone, Copy)]
+enum Question {
+    Overlap,
+    Inside,
+    Cover,
+}
+
+// Whether a stored box is listed for the asked one.
+fn is_listed<const K: usize, const D: usize>(
+    question: Question,
+    lo: &Point<K>,
+    hi: &Point<K>,
+    stored: &Point<D>,
+) -> bool
+    requires { K * 2 ≡ D }
+{
+    for i in 0..K {
+        let (start, end) = (stored.at(i), stored.at(K + i));
+        let holds = match question {
+            Question::Overlap => start <= hi.at(i) && lo.at(i) <= end,
+            Question::Inside => lo.at(i) <= start && end <= hi.at(i),
+            Question::Cover => start <= lo.at(i) && hi.at(i) <= end,
+        };
+        if !holds {
+            return false;
+        }
+    }
+    true
+}
+
+// The rows of the table that are listed.
+fn listed<const K: usize, const D: usize>(
+    alloc: Global,
+    pair: &Pair<D>,
+    question: Question,
+    lo: &Point<K>,
+    hi: &Point<K>,
+) -> Result<Vec<Row<D>>, Fail>
+    requires { K * 2 ≡ D }
+{
+    let mut rows = Vec::new(alloc);
+    for row in pair.table.rows() {
+        if is_listed(question, lo, hi, &row.point) {
+            rows.push(*row)?;
+        }
+    }
+    Ok(rows)
+}
+
+// The corners of a box.
+fn draw_box<const K: usize, R: Rng>(rt: &impl Abort, rng: &mut R) -> (Point<K>, Point<K>)
+    ensures lo { IsPoint 32 K result.0 }
+    ensures hi { IsPoint 32 K result.1 }
+{
+    let (a, b) = (draw(rt, rng, &CHOICES), draw(rt, rng, &CHOICES));
+    corners(rt, &a, &b, K)
+}
+
+// Stores random boxes.
+fn fill<const K: usize, const D: usize, R: Rng, V: Ledger, C: Ledger>(
+    rt: &impl Abort,
+    pair: &mut Pair<D>,
+    rng: &mut R,
+    counters: &mut Counters<V, C>,
+) -> Result<(), Fail>
+    requires dims { K * 2 ≡ D }
+    requires few { D ≤ 16 }
+{
+    for v in 0..STORED {
+        let (lo, hi) = draw_box::<K, R>(rt, rng);
+        let Some(p) = join_box(pair.table.width(), &lo, &hi) else {
+            panic!(rt; "no box");
+        };
+        pair.put(rt, p, v, counters)?;
+    }
+    Ok(())
+}
+
+// The window that answers a question.
+fn bounds<const K: usize, const D: usize>(
+    w: Width,
+    question: Question,
+    lo: &Point<K>,
+    hi: &Point<K>,
+) -> (Point<D>, Point<D>)
+    requires dims { K * 2 ≡ D }
+    requires few { D ≤ 16 }
+    requires low { IsPoint w K lo.now }
+    requires high { IsPoint w K hi.now }
+    ensures low { IsPoint w D result.0 }
+    ensures high { IsPoint w D result.1 }
+{
+    match question {
+        Question::Overlap => overlap_bounds(w, lo, hi),
+        Question::Inside => inside_bounds(w, lo, hi),
+        Question::Cover => cover_bounds(w, lo, hi),
+    }
+}
+
+// Asks the three questions about random boxes.
+fn boxes<const K: usize, const D: usize, V: Ledger, C: Ledger>(
+    rt: &impl Abort,
+    alloc: Global,
+    counters: &mut Counters<V, C>,
+) -> Result<(), Fail>
+    requires dims { K * 2 ≡ D }
+    requires some { 1 ≤ D }
+    requires few { D ≤ 16 }
+{
+    let mut rng = Xoshiro256PlusPlus::seed_from_u64(SEED);
+    let mut pair: Pair<D> = Pair::new(alloc, u64::MAX);
+    fill::<K, D, Xoshiro256PlusPlus, V, C>(rt, &mut pair, &mut rng, counters)?;
+    for _ in 0..ASKED {
+        let (lo, hi) = draw_box::<K, Xoshiro256PlusPlus>(rt, &mut rng);
+        for question in [Question::Overlap, Question::Inside, Question::Cover] {
+            let (low, high) = bounds(pair.table.width(), question, &lo, &hi);
+            let rows = listed(alloc, &pair, question, &lo, &hi)?;
+            list(rt, &pair, low, high, &rows, counters);
+        }
+    }
+    Ok(())
+}
+
+fn all_boxes<V: Ledger, C: Ledger>(
+    rt: &impl Abort,
+    alloc: Global,
+    visits: Blank,
+    changes: Blank,
+) -> Result<(), Fail>
+    requires visits { (visits.name ≡ V.name) × (visits.parts ≡ V.parts) × (0 < visits.parts) }
+    requires changes { (changes.name ≡ C.name) × (changes.parts ≡ C.parts) × (0 < changes.parts) }
+{
+    let mut counters: Counters<V, C> = Counters::new(visits, changes);
+    boxes::<1, 2, V, C>(rt, alloc, &mut counters)?;
+    boxes::<2, 4, V, C>(rt, alloc, &mut counters)?;
+    boxes::<3, 6, V, C>(rt, alloc, &mut counters)?;
+    boxes::<4, 8, V, C>(rt, alloc, &mut counters)
+}
+
+#[test]
+fn boxes_by_windows(rt: HostRuntime) -> Result<(), Fail> {
+    all_boxes::<Brand, Brand>(&rt, rt.alloc(), Blank::new(1), Blank::new(1))
+}
