@@ -1,6 +1,6 @@
 -- What is read in the places of each form.
-use Rattle.std.proofs.Common.{◌≡◌, ℕ, zero, suc, ◌+◌, ◌^◌, ◌<◌, ◌≤◌, List, [], ◌∷◌, ◌++◌, length, map, true, false, refl, sym, ap, ◌∙◌, subst, append_assoc, length-append, lit≤}
-use Rattle.std.specs.Prelude.{ℤ, pos, codes, Option, Some, None}
+use Rattle.std.proofs.Common.{◌≡◌, ℕ, zero, suc, ◌+◌, ◌^◌, ◌<◌, ◌≤◌, List, [], ◌∷◌, ◌++◌, length, map, Bool, true, false, refl, sym, ap, ◌∙◌, subst, append_assoc, length-append, lit≤}
+use Rattle.std.specs.Prelude.{ℤ, pos, codes, bytes_eq, Option, Some, None}
 use Rattle.std.specs.List.{cons_option}
 use Rattle.std.specs.Cmp.Lexicographic.{pointwise}
 use Rattle.std.proofs.lemmas.List.{append-nil, map-append}
@@ -10,10 +10,10 @@ use Rattle.ph_specs.specs.Command.{Command, Place, form, number_fits, name_fits,
 use Rattle.ph_specs.specs.Command.Place.{Coordinate, Below, CursorName, OneOf}
 use Rattle.ph_script.specs.declared.coords.Coord.{Coord}
 use Rattle.ph_script.specs.declared.forms.Verb.{Verb}
-use Rattle.ph_script.specs.declared.forms.Verb.TheVariants.{Open, OpenMax, Put, Get, Del, Relocate, Count, Clear, Window, Cursor, Page}
+use Rattle.ph_script.specs.declared.forms.Verb.TheVariants.{Open, OpenMax, Put, Get, Del, Relocate, Count, Clear, Window, Cursor, Page, Overlap, Inside, Covers, Select, Same}
 use Rattle.ph_script.specs.Meaning.{number_of_coord, numbers_of}
 use Rattle.ph_script.specs.Forms.{places_by, command_by}
-use Rattle.ph_script.specs.Parts.{coords_at, counts_at, name_from}
+use Rattle.ph_script.specs.Parts.{coords_at, counts_at, name_from, second_in, second_from}
 use Rattle.ph_script.specs.Fit.{IsFit, IsNamed}
 use Rattle.ph_script.proofs.KeptNumbers.{keeps-coord, keeps-count}
 
@@ -64,6 +64,15 @@ unnamed-count : (got : Option (List ℕ)) (limit : ℕ) (ws : List (List ℕ)) �
 unnamed-count got limit [] = refl
 unnamed-count got limit (w ∷ ws) = refl
 
+-- no number and no fixed word tells which of two words it was
+unsaid-count : (got : Bool) (limit : ℕ) (behind : List Place) (ws : List (List ℕ)) → ((vs : List (List ℕ)) → second_from got behind vs ≡ got) → second_from got (Below limit ∷ behind) ws ≡ got
+unsaid-count got limit behind [] h = refl
+unsaid-count got limit behind (w ∷ ws) h = h ws
+
+unsaid-max : (got : Bool) (ws : List (List ℕ)) → second_from got (fixed (codes "max") ∷ value ∷ []) ws ≡ got
+unsaid-max got [] = refl
+unsaid-max got (w ∷ ws) = unsaid-count got (2 ^ 64) [] ws (λ vs. refl)
+
 -- one after another
 led-on : {places middle behind : List Place} {ws : List (List ℕ)} {cs ds : List Coord} {ns ms : List ℕ} {zs ys : List ℤ} → (a : Led places ws middle cs ns zs) → Led middle a.left behind ds ms ys → Led places ws behind (cs ++ ds) (ns ++ ms) (zs ++ ys)
 led-on {behind} {cs} {ds} {ns} {ms} {zs} {ys} a b =
@@ -91,9 +100,9 @@ led-point (suc dims) behind ws h =
 pub record Reads (verb : Verb) (dims : ℕ) (ws : List (List ℕ)) : Type 0 where
   pub fit : IsFit verb dims (coords_at (places_by verb dims) ws) (counts_at (places_by verb dims) ws) (name_from None (places_by verb dims) ws)
   pub same : numbers (places_by verb dims) ws ≡ numbers_of (coords_at (places_by verb dims) ws) ++ map pos (counts_at (places_by verb dims) ws)
-  pub named : IsNamed verb (name_from None (places_by verb dims) ws) (texts (places_by verb dims) ws)
+  pub named : IsNamed verb (name_from None (places_by verb dims) ws) (second_from false (places_by verb dims) ws) (texts (places_by verb dims) ws)
 
-closing : (verb : Verb) (dims : ℕ) (ws : List (List ℕ)) {cs : List Coord} {ns : List ℕ} {zs : List ℤ} → Led (places_by verb dims) ws [] cs ns zs → IsFit verb dims cs ns (name_from None (places_by verb dims) ws) → zs ≡ numbers_of cs ++ map pos ns → IsNamed verb (name_from None (places_by verb dims) ws) (texts (places_by verb dims) ws) → Reads verb dims ws
+closing : (verb : Verb) (dims : ℕ) (ws : List (List ℕ)) {cs : List Coord} {ns : List ℕ} {zs : List ℤ} → Led (places_by verb dims) ws [] cs ns zs → IsFit verb dims cs ns (name_from None (places_by verb dims) ws) → zs ≡ numbers_of cs ++ map pos ns → IsNamed verb (name_from None (places_by verb dims) ws) (second_from false (places_by verb dims) ws) (texts (places_by verb dims) ws) → Reads verb dims ws
 closing verb dims ws {cs} {ns} {zs} l f e named =
     let a : coords_at (places_by verb dims) ws ≡ cs = l.coords ∙ append-nil cs in
     let b : counts_at (places_by verb dims) ws ≡ ns = l.counts ∙ append-nil ns in
@@ -130,16 +139,18 @@ led-corners dims ws h =
     }
 
 pub reads : (verb : Verb) (dims : ℕ) (ws : List (List ℕ)) → pointwise number_fits (places_by verb dims) ws ≡ true → Reads verb dims ws
-reads Open dims ws h =
-    let a = led-fixed (codes "points" ∷ []) (count ∷ []) ws h in
+reads Open dims [] h = absurd (let k : false ≡ true = h in cc)
+reads Open dims (w ∷ ws) h =
+    let a = led-fixed (codes "points" ∷ codes "boxes" ∷ []) (count ∷ []) (w ∷ ws) h in
     let b = led-count (2 ^ 32) [] a.left (lit≤ tt) a.fits in
-    closing Open dims ws (led-on a b.led) (refl, refl, b.below) refl tt
-reads OpenMax dims ws h =
-    let a = led-fixed (codes "points" ∷ []) (count ∷ fixed (codes "max") ∷ value ∷ []) ws h in
+    closing Open dims (w ∷ ws) (led-on a b.led) (refl, refl, b.below) refl (unsaid-count (bytes_eq w (codes "boxes")) (2 ^ 32) [] ws (λ vs. refl))
+reads OpenMax dims [] h = absurd (let k : false ≡ true = h in cc)
+reads OpenMax dims (w ∷ ws) h =
+    let a = led-fixed (codes "points" ∷ codes "boxes" ∷ []) (count ∷ fixed (codes "max") ∷ value ∷ []) (w ∷ ws) h in
     let b = led-count (2 ^ 32) (fixed (codes "max") ∷ value ∷ []) a.left (lit≤ tt) a.fits in
     let c = led-fixed (codes "max" ∷ []) (value ∷ []) b.led.left b.led.fits in
     let d = led-count (2 ^ 64) [] c.left (lit≤ tt) c.fits in
-    closing OpenMax dims ws (led-on a (led-on b.led (led-on c d.led))) (refl, refl, b.below, d.below) refl tt
+    closing OpenMax dims (w ∷ ws) (led-on a (led-on b.led (led-on c d.led))) (refl, refl, b.below, d.below) refl (unsaid-count (bytes_eq w (codes "boxes")) (2 ^ 32) (fixed (codes "max") ∷ value ∷ []) ws (unsaid-max (bytes_eq w (codes "boxes"))))
 reads Put dims ws h =
     let p = led-point dims (value ∷ []) ws h in
     let b = led-count (2 ^ 64) [] p.led.left (lit≤ tt) p.led.fits in
@@ -165,6 +176,14 @@ reads Page dims (w ∷ ws) h =
     let b = led-count (2 ^ 32) [] ws (lit≤ tt) h in
     let n = unnamed-count (Some w) (2 ^ 32) ws in
     closing Page dims (w ∷ ws) (led-name w b.led) (refl, refl, b.below, rw n refl) refl n
+reads Overlap dims ws h = let p = led-get dims ws h in closing Overlap dims ws p.1 (p.2, refl) (sym (append-nil (numbers_of p.0))) tt
+reads Inside dims ws h = let p = led-get dims ws h in closing Inside dims ws p.1 (p.2, refl) (sym (append-nil (numbers_of p.0))) tt
+reads Covers dims ws h = let p = led-get dims ws h in closing Covers dims ws p.1 (p.2, refl) (sym (append-nil (numbers_of p.0))) tt
+reads Select dims [] h = absurd (let k : false ≡ true = h in cc)
+reads Select dims (w ∷ ws) h =
+    let a = led-fixed (codes "a" ∷ codes "b" ∷ []) [] (w ∷ ws) h in
+    closing Select dims (w ∷ ws) a tt refl refl
+reads Same dims ws h = closing Same dims ws (led-none ws h) tt refl tt
 
 -- the same of places and parts that are these
 pub fit-of : (verb : Verb) (dims : ℕ) (places : List Place) (ws : List (List ℕ)) (cs : List Coord) (ns : List ℕ) (name : Option (List ℕ)) → places ≡ places_by verb dims → pointwise number_fits places ws ≡ true → cs ≡ coords_at places ws → ns ≡ counts_at places ws → name ≡ name_from None places ws → IsFit verb dims cs ns name
@@ -173,14 +192,14 @@ fit-of verb dims places ws cs ns name e h a b n = rw (a, b, n, e) (reads verb di
 pub same-of : (verb : Verb) (dims : ℕ) (places : List Place) (ws : List (List ℕ)) (cs : List Coord) (ns : List ℕ) → places ≡ places_by verb dims → pointwise number_fits places ws ≡ true → cs ≡ coords_at places ws → ns ≡ counts_at places ws → numbers places ws ≡ numbers_of cs ++ map pos ns
 same-of verb dims places ws cs ns e h a b = rw (a, b, e) (reads verb dims ws (rw e at h)).same
 
-named-of : (verb : Verb) (dims : ℕ) (places : List Place) (ws : List (List ℕ)) (name : Option (List ℕ)) → places ≡ places_by verb dims → pointwise number_fits places ws ≡ true → name ≡ name_from None places ws → IsNamed verb name (texts places ws)
-named-of verb dims places ws name e h n = rw (n, e) (reads verb dims ws (rw e at h)).named
+named-of : (verb : Verb) (dims : ℕ) (places : List Place) (ws : List (List ℕ)) (name : Option (List ℕ)) (second : Bool) → places ≡ places_by verb dims → pointwise number_fits places ws ≡ true → name ≡ name_from None places ws → second ≡ second_from false places ws → IsNamed verb name second (texts places ws)
+named-of verb dims places ws name second e h n s = rw (n, s, e) (reads verb dims ws (rw e at h)).named
 
 -- the command of a form, where all its numbers and names fit
-pub does : (word : List ℕ) (verb : Verb) (dims : ℕ) (places read : List Place) (ws : List (List ℕ)) (cs : List Coord) (ns : List ℕ) (name : Option (List ℕ)) (made : Command) → places ≡ places_by verb dims → read ≡ places → pointwise number_fits read ws ≡ true → pointwise name_fits read ws ≡ true → cs ≡ coords_at read ws → ns ≡ counts_at read ws → name ≡ name_from None read ws → ((t : List (List ℕ)) → IsNamed verb name t → made ≡ command_by verb dims (numbers_of cs ++ map pos ns) t) → read_form (form word places (command_by verb dims)) ws ≡ Reading.Do made
-does word verb dims places read ws cs ns name made row e h k a b n makes =
+pub does : (word : List ℕ) (verb : Verb) (dims : ℕ) (places read : List Place) (ws : List (List ℕ)) (cs : List Coord) (ns : List ℕ) (name : Option (List ℕ)) (second : Bool) (made : Command) → places ≡ places_by verb dims → read ≡ places → pointwise number_fits read ws ≡ true → pointwise name_fits read ws ≡ true → cs ≡ coords_at read ws → ns ≡ counts_at read ws → name ≡ name_from None read ws → second ≡ second_from false read ws → ((t : List (List ℕ)) → IsNamed verb name second t → made ≡ command_by verb dims (numbers_of cs ++ map pos ns) t) → read_form (form word places (command_by verb dims)) ws ≡ Reading.Do made
+does word verb dims places read ws cs ns name second made row e h k a b n s makes =
     let fits : pointwise number_fits places ws ≡ true = rw e at h in
     let names : pointwise name_fits places ws ≡ true = rw e at k in
     let same = same-of verb dims places ws cs ns row fits (rw e at a) (rw e at b) in
-    let named = named-of verb dims places ws name row fits (rw e at n) in
+    let named = named-of verb dims places ws name second row fits (rw e at n) (rw e at s) in
     rw (fits, names) (ap Reading.Do (ap (λ n. command_by verb dims n (texts places ws)) same ∙ sym (makes (texts places ws) named)))

@@ -1,14 +1,13 @@
 -- The forms that the program answers so far. Any other first word is no command.
 use Rattle.std.specs.Prelude.{ℕ, ◌-◌, ◌^◌, List, [], ◌∷◌, ◌++◌, take, drop, codes}
-use Rattle.ph_specs.specs.declared.Kind.TheVariants.{Points}
-use Rattle.ph_specs.specs.Command.Command.{Begin, Put, Get, Del, Relocate, Count, Clear, Window, Cursor, Page}
-use Rattle.ph_specs.specs.Command.{Form, form, Reading, count, value, fixed, coordinates, number_at, first_word, read_words_by, reading_by}
-use Rattle.ph_specs.specs.Command.Place.{CursorName}
+use Rattle.ph_specs.specs.Command.Command.{Begin, Put, Get, Del, Relocate, Count, Clear, Window, Cursor, Page, Overlap, Inside, Covers, Select, Compare}
+use Rattle.ph_specs.specs.Command.{Form, form, Reading, count, value, fixed, coordinates, number_at, first_word, kind_of, slot_of, read_words_by, reading_by}
+use Rattle.ph_specs.specs.Command.Place.{CursorName, OneOf}
 
 abbrev pub built_forms : ℕ → List Form
 built_forms dims =
-    form (codes "open") (fixed (codes "points") ∷ count ∷ []) (λ n t. Begin Points (number_at n 0) (2 ^ 64 - 1))
-    ∷ form (codes "open") (fixed (codes "points") ∷ count ∷ fixed (codes "max") ∷ value ∷ []) (λ n t. Begin Points (number_at n 0) (number_at n 1))
+    form (codes "open") (OneOf (codes "points" ∷ codes "boxes" ∷ []) ∷ count ∷ []) (λ n t. Begin (kind_of t) (number_at n 0) (2 ^ 64 - 1))
+    ∷ form (codes "open") (OneOf (codes "points" ∷ codes "boxes" ∷ []) ∷ count ∷ fixed (codes "max") ∷ value ∷ []) (λ n t. Begin (kind_of t) (number_at n 0) (number_at n 1))
     ∷ form (codes "put") (coordinates dims ++ value ∷ []) (λ n t. Put (take dims n) (number_at n dims))
     ∷ form (codes "get") (coordinates dims) (λ n t. Get n)
     ∷ form (codes "del") (coordinates dims) (λ n t. Del n)
@@ -18,6 +17,11 @@ built_forms dims =
     ∷ form (codes "window") (coordinates dims ++ coordinates dims) (λ n t. Window (take dims n) (drop dims n))
     ∷ form (codes "cursor") (CursorName ∷ coordinates dims ++ coordinates dims) (λ n t. Cursor (first_word t) (take dims n) (drop dims n))
     ∷ form (codes "page") (CursorName ∷ count ∷ []) (λ n t. Page (first_word t) (number_at n 0))
+    ∷ form (codes "overlap") (coordinates dims) (λ n t. Overlap n)
+    ∷ form (codes "inside") (coordinates dims) (λ n t. Inside n)
+    ∷ form (codes "covers") (coordinates dims) (λ n t. Covers n)
+    ∷ form (codes "use") (OneOf (codes "a" ∷ codes "b" ∷ []) ∷ []) (λ n t. Select (slot_of t))
+    ∷ form (codes "same") [] (λ n t. Compare)
     ∷ []
 
 -- what words, and what a line, are by these forms, where points have so many dimensions

@@ -1,13 +1,12 @@
 -- What a form asks of the parts in its places, the fault of words there, and how many coordinates a command has.
-use Rattle.std.specs.Prelude.{◌≡◌, ◌<◌, ◌+◌, ◌^◌, ℕ, Bool, true, false, List, [], length, slice_index, IsSome}
-use Rattle.std.specs.Prelude.{Option, Some, None, Result, Ok, Err}
+use Rattle.std.specs.Prelude.{◌≡◌, ◌<◌, ◌+◌, ◌^◌, ℕ, Bool, true, false, List, [], length, slice_index, codes, bytes_eq, Option, Some, None, IsSome, Result, Ok, Err}
 use Rattle.ph_script.specs.declared.coords.Coord.{Coord}
 use Rattle.ph_script.specs.declared.command.Bad.{Bad}
 use Rattle.ph_script.specs.declared.command.Bad.TheVariants.{Word, Count as BadCount, Number, Name}
 use Rattle.ph_script.specs.declared.command.Command.{Command}
 use Rattle.ph_script.specs.declared.command.Command.TheVariants as by
 use Rattle.ph_script.specs.declared.forms.Verb.{Verb}
-use Rattle.ph_script.specs.declared.forms.Verb.TheVariants.{Open, OpenMax, Put, Get, Del, Relocate, Count, Clear, Window, Cursor, Page}
+use Rattle.ph_script.specs.declared.forms.Verb.TheVariants.{Open, OpenMax, Put, Get, Del, Relocate, Count, Clear, Window, Cursor, Page, Overlap, Inside, Covers, Select, Same}
 use Rattle.ph_specs.specs.Command.{first_word}
 
 abbrev pub IsFit : Verb → ℕ → List Coord → List ℕ → Option (List ℕ) → Type 0
@@ -22,12 +21,20 @@ IsFit Clear dims coords counts name = Unit {0}
 IsFit Window dims coords counts name = (length coords ≡ dims + dims) × (counts ≡ [])
 IsFit Cursor dims coords counts name = (length coords ≡ dims + dims) × (counts ≡ []) × IsSome name
 IsFit Page dims coords counts name = (coords ≡ []) × (length counts ≡ 1) × (slice_index counts 0 < 2 ^ 32) × IsSome name
+IsFit Overlap dims coords counts name = (length coords ≡ dims) × (counts ≡ [])
+IsFit Inside dims coords counts name = (length coords ≡ dims) × (counts ≡ [])
+IsFit Covers dims coords counts name = (length coords ≡ dims) × (counts ≡ [])
+IsFit Select dims coords counts name = Unit {0}
+IsFit Same dims coords counts name = Unit {0}
 
--- the name of a command that has one is the first of its words that are no numbers
-abbrev pub IsNamed : Verb → Option (List ℕ) → List (List ℕ) → Type 0
-IsNamed Cursor name texts = name ≡ Some (first_word texts)
-IsNamed Page name texts = name ≡ Some (first_word texts)
-IsNamed _ name texts = Unit {0}
+-- the first of a command's words that are no numbers tells its name, or which of two words it has
+abbrev pub IsNamed : Verb → Option (List ℕ) → Bool → List (List ℕ) → Type 0
+IsNamed Open name second texts = second ≡ bytes_eq (first_word texts) (codes "boxes")
+IsNamed OpenMax name second texts = second ≡ bytes_eq (first_word texts) (codes "boxes")
+IsNamed Cursor name second texts = name ≡ Some (first_word texts)
+IsNamed Page name second texts = name ≡ Some (first_word texts)
+IsNamed Select name second texts = second ≡ bytes_eq (first_word texts) (codes "b")
+IsNamed _ name second texts = Unit {0}
 
 -- the fault of words in places, by whether all numbers and all names fit
 abbrev pub IsFault : Bad → Bool → Bool → Type 0
@@ -38,7 +45,7 @@ IsFault BadCount numbers names = ⊥
 
 -- each point of the command has so many coordinates
 abbrev pub HasDims : ℕ → Command → Type 0
-HasDims dims (by.Begin k max) = Unit {0}
+HasDims dims (by.Begin kind k max) = Unit {0}
 HasDims dims (by.Put at value) = length at ≡ dims
 HasDims dims (by.Get at) = length at ≡ dims
 HasDims dims (by.Del at) = length at ≡ dims
@@ -48,6 +55,11 @@ HasDims dims by.Clear = Unit {0}
 HasDims dims (by.Window lo hi) = (length lo ≡ dims) × (length hi ≡ dims)
 HasDims dims (by.Cursor name lo hi) = (length lo ≡ dims) × (length hi ≡ dims)
 HasDims dims (by.Page name n) = Unit {0}
+HasDims dims (by.Overlap bounds) = length bounds ≡ dims
+HasDims dims (by.Inside bounds) = length bounds ≡ dims
+HasDims dims (by.Covers bounds) = length bounds ≡ dims
+HasDims dims (by.Select slot) = Unit {0}
+HasDims dims by.Same = Unit {0}
 
 -- the same of the command that was read, if there is one
 abbrev pub ReadsDims : ℕ → Result (Option Command) Bad → Type 0

@@ -1,17 +1,16 @@
 -- The forms of the code's table in the definitions, and the search among forms.
 use Rattle.std.specs.Prelude.{◌≡◌, ℕ, ◌+◌, ◌-◌, ◌^◌, ◌==◌, Bool, true, if◌then◌else◌, List, [], ◌∷◌, ◌++◌, length, replicate, take, drop, codes, bytes_eq, ℤ}
-use Rattle.ph_specs.specs.Command.{Command as Asked, Place as Asks, Form as Spelling, form, count, value, fixed, coordinates, number_at, first_word}
-use Rattle.ph_specs.specs.Command.Command.{Begin as AskBegin, Put as AskPut, Get as AskGet, Del as AskDel, Relocate as AskRelocate, Count as AskCount, Clear as AskClear, Window as AskWindow, Cursor as AskCursor, Page as AskPage}
-use Rattle.ph_specs.specs.Command.Place.{Coordinate as AsksCoordinate, Below, CursorName}
-use Rattle.ph_specs.specs.declared.Kind.TheVariants.{Points}
+use Rattle.ph_specs.specs.Command.{Command as Asked, Place as Asks, Form as Spelling, form, count, value, fixed, coordinates, number_at, first_word, kind_of, slot_of}
+use Rattle.ph_specs.specs.Command.Command.{Begin as AskBegin, Put as AskPut, Get as AskGet, Del as AskDel, Relocate as AskRelocate, Count as AskCount, Clear as AskClear, Window as AskWindow, Cursor as AskCursor, Page as AskPage, Overlap as AskOverlap, Inside as AskInside, Covers as AskCovers, Select as AskSelect, Compare as AskCompare}
+use Rattle.ph_specs.specs.Command.Place.{Coordinate as AsksCoordinate, Below, CursorName, OneOf}
 use Rattle.ph_script.specs.declared.command.Bad.{Bad}
 use Rattle.ph_script.specs.declared.command.Bad.TheVariants.{Word, Count as BadCount}
 use Rattle.ph_script.specs.declared.forms.Verb.{Verb}
-use Rattle.ph_script.specs.declared.forms.Verb.TheVariants.{Open, OpenMax, Put, Get, Del, Relocate, Count, Clear, Window, Cursor, Page}
+use Rattle.ph_script.specs.declared.forms.Verb.TheVariants.{Open, OpenMax, Put, Get, Del, Relocate, Count, Clear, Window, Cursor, Page, Overlap, Inside, Covers, Select, Same}
 use Rattle.ph_script.specs.declared.forms.Places.{Places}
-use Rattle.ph_script.specs.declared.forms.Places.TheVariants.{Coordinates, UpTo as AllUpTo, Name as AllName, Fixed as AllFixed}
+use Rattle.ph_script.specs.declared.forms.Places.TheVariants.{Coordinates, UpTo as AllUpTo, Name as AllName, Fixed as AllFixed, Either as AllEither}
 use Rattle.ph_script.specs.declared.forms.Place.{Place}
-use Rattle.ph_script.specs.declared.forms.Place.TheVariants.{Coordinate, UpTo, Name, Fixed}
+use Rattle.ph_script.specs.declared.forms.Place.TheVariants.{Coordinate, UpTo, Name, Fixed, Either}
 use Rattle.ph_script.specs.declared.forms.Form.{Form}
 use Rattle.ph_script.specs.declared.spread.Spread.{Spread}
 
@@ -20,12 +19,14 @@ place_of Coordinate = AsksCoordinate
 place_of (UpTo most) = Below (most + 1)
 place_of Name = CursorName
 place_of (Fixed word) = fixed word.now
+place_of (Either first second) = OneOf (first.now ∷ second.now ∷ [])
 
 abbrev pub group_of : ℕ → Places → List Asks
 group_of dims Coordinates = coordinates dims
 group_of dims (AllUpTo most) = Below (most + 1) ∷ []
 group_of dims AllName = CursorName ∷ []
 group_of dims (AllFixed word) = fixed word.now ∷ []
+group_of dims (AllEither first second) = OneOf (first.now ∷ second.now ∷ []) ∷ []
 
 -- the places that groups of them stand for
 abbrev pub places_of : ℕ → List Places → List Asks
@@ -39,8 +40,8 @@ spread_of s = replicate s.times (place_of s.place) ++ places_of s.dims s.groups.
 
 -- the places of a command, and what it makes of the numbers and the words there
 abbrev pub places_by : Verb → ℕ → List Asks
-places_by Open dims = fixed (codes "points") ∷ count ∷ []
-places_by OpenMax dims = fixed (codes "points") ∷ count ∷ fixed (codes "max") ∷ value ∷ []
+places_by Open dims = OneOf (codes "points" ∷ codes "boxes" ∷ []) ∷ count ∷ []
+places_by OpenMax dims = OneOf (codes "points" ∷ codes "boxes" ∷ []) ∷ count ∷ fixed (codes "max") ∷ value ∷ []
 places_by Put dims = coordinates dims ++ value ∷ []
 places_by Get dims = coordinates dims
 places_by Del dims = coordinates dims
@@ -50,10 +51,15 @@ places_by Clear dims = []
 places_by Window dims = coordinates dims ++ coordinates dims
 places_by Cursor dims = CursorName ∷ coordinates dims ++ coordinates dims
 places_by Page dims = CursorName ∷ count ∷ []
+places_by Overlap dims = coordinates dims
+places_by Inside dims = coordinates dims
+places_by Covers dims = coordinates dims
+places_by Select dims = OneOf (codes "a" ∷ codes "b" ∷ []) ∷ []
+places_by Same dims = []
 
 abbrev pub command_by : Verb → ℕ → List ℤ → List (List ℕ) → Asked
-command_by Open dims = λ n t. AskBegin Points (number_at n 0) (2 ^ 64 - 1)
-command_by OpenMax dims = λ n t. AskBegin Points (number_at n 0) (number_at n 1)
+command_by Open dims = λ n t. AskBegin (kind_of t) (number_at n 0) (2 ^ 64 - 1)
+command_by OpenMax dims = λ n t. AskBegin (kind_of t) (number_at n 0) (number_at n 1)
 command_by Put dims = λ n t. AskPut (take dims n) (number_at n dims)
 command_by Get dims = λ n t. AskGet n
 command_by Del dims = λ n t. AskDel n
@@ -63,6 +69,11 @@ command_by Clear dims = λ n t. AskClear
 command_by Window dims = λ n t. AskWindow (take dims n) (drop dims n)
 command_by Cursor dims = λ n t. AskCursor (first_word t) (take dims n) (drop dims n)
 command_by Page dims = λ n t. AskPage (first_word t) (number_at n 0)
+command_by Overlap dims = λ n t. AskOverlap n
+command_by Inside dims = λ n t. AskInside n
+command_by Covers dims = λ n t. AskCovers n
+command_by Select dims = λ n t. AskSelect (slot_of t)
+command_by Same dims = λ n t. AskCompare
 
 abbrev pub form_of : ℕ → Form → Spelling
 form_of dims f = form f.word.now (places_of dims f.places.now) (command_by f.verb dims)

@@ -1,17 +1,16 @@
 -- What the commands and replies of the code are in the definitions.
 use Rattle.std.specs.Prelude.{ℕ, ◌^◌, List, map, ℤ, pos, Option, Some, None, Result, Ok, Err}
 use Rattle.ph_specs.specs.Command.{Command as Asked, Reading}
-use Rattle.ph_specs.specs.Command.Command.{Begin as AskBegin, Put as AskPut, Get as AskGet, Del as AskDel, Relocate as AskRelocate, Count as AskCount, Clear as AskClear, Window as AskWindow, Cursor as AskCursor, Page as AskPage}
+use Rattle.ph_specs.specs.Command.Command.{Begin as AskBegin, Put as AskPut, Get as AskGet, Del as AskDel, Relocate as AskRelocate, Count as AskCount, Clear as AskClear, Window as AskWindow, Cursor as AskCursor, Page as AskPage, Overlap as AskOverlap, Inside as AskInside, Covers as AskCovers, Select as AskSelect, Compare as AskCompare}
 use Rattle.ph_specs.specs.Reply.{Reply as Answer}
-use Rattle.ph_specs.specs.declared.Kind.TheVariants.{Points}
 use Rattle.ph_script.specs.declared.coords.Coord.{Coord}
 use Rattle.ph_script.specs.declared.coords.Coord.TheVariants.{Whole, Far}
 use Rattle.ph_script.specs.declared.command.Command.{Command}
-use Rattle.ph_script.specs.declared.command.Command.TheVariants.{Begin, Put, Get, Del, Relocate, Count, Clear, Window, Cursor, Page}
+use Rattle.ph_script.specs.declared.command.Command.TheVariants.{Begin, Put, Get, Del, Relocate, Count, Clear, Window, Cursor, Page, Overlap, Inside, Covers, Select, Same as SameSlots}
 use Rattle.ph_script.specs.declared.command.Bad.{Bad}
 use Rattle.ph_script.specs.declared.command.Bad.TheVariants.{Word, Count as BadCount, Number, Name}
 use Rattle.ph_script.specs.declared.reply.Reply.{Reply}
-use Rattle.ph_script.specs.declared.reply.Reply.TheVariants.{Opened, New, Old, Value, Absent, Gone, Moved, Taken, Rows, Cleared, RowIs, End, More, Ready, ErrorLong, ErrorWord, ErrorCount, ErrorNumber, ErrorName, ErrorDims, ErrorRange, ErrorCursor, ErrorCursors, ErrorFull}
+use Rattle.ph_script.specs.declared.reply.Reply.TheVariants.{Opened, New, Old, Value, Absent, Gone, Moved, Taken, Rows, Cleared, RowIs, End, More, Ready, Using, Same, Differ, ErrorLong, ErrorWord, ErrorCount, ErrorNumber, ErrorName, ErrorDims, ErrorKind, ErrorRange, ErrorReversed, ErrorCursor, ErrorCursors, ErrorFull}
 
 -- a coordinate; one that is far stands for each number outside of 64 bits
 abbrev pub number_of_coord : Coord → ℤ
@@ -22,7 +21,7 @@ abbrev pub numbers_of : List Coord → List ℤ
 numbers_of cs = map number_of_coord cs
 
 abbrev pub command_of : Command → Asked
-command_of (Begin k max) = AskBegin Points k max
+command_of (Begin kind k max) = AskBegin kind k max
 command_of (Put at value) = AskPut (numbers_of at) value
 command_of (Get at) = AskGet (numbers_of at)
 command_of (Del at) = AskDel (numbers_of at)
@@ -32,6 +31,11 @@ command_of Clear = AskClear
 command_of (Window lo hi) = AskWindow (numbers_of lo) (numbers_of hi)
 command_of (Cursor name lo hi) = AskCursor name (numbers_of lo) (numbers_of hi)
 command_of (Page name n) = AskPage name n
+command_of (Overlap bounds) = AskOverlap (numbers_of bounds)
+command_of (Inside bounds) = AskInside (numbers_of bounds)
+command_of (Covers bounds) = AskCovers (numbers_of bounds)
+command_of (Select slot) = AskSelect slot
+command_of SameSlots = AskCompare
 
 abbrev pub bad_reply : Bad → Answer
 bad_reply Word = Answer.ErrorWord
@@ -60,13 +64,18 @@ reply_of (RowIs r) = Answer.RowIs r
 reply_of (End n) = Answer.End n
 reply_of (More n) = Answer.More n
 reply_of Ready = Answer.Ready
+reply_of (Using slot) = Answer.Using slot
+reply_of Same = Answer.Same
+reply_of Differ = Answer.Differ
 reply_of ErrorLong = Answer.ErrorLong
 reply_of ErrorWord = Answer.ErrorWord
 reply_of ErrorCount = Answer.ErrorCount
 reply_of ErrorNumber = Answer.ErrorNumber
 reply_of ErrorName = Answer.ErrorName
 reply_of ErrorDims = Answer.ErrorDims
+reply_of ErrorKind = Answer.ErrorKind
 reply_of ErrorRange = Answer.ErrorRange
+reply_of ErrorReversed = Answer.ErrorReversed
 reply_of ErrorCursor = Answer.ErrorCursor
 reply_of ErrorCursors = Answer.ErrorCursors
 reply_of ErrorFull = Answer.ErrorFull

@@ -1,11 +1,15 @@
 -- The parts of a command that its words spell, as the code keeps them.
-use Rattle.std.specs.Prelude.{ℕ, ◌^◌, nat_lt, nat_le, true, false, if◌then◌else◌, List, [], ◌∷◌, ◌++◌, pos, neg_ℤ, Option, Some, None}
+use Rattle.std.specs.Prelude.{ℕ, ◌^◌, nat_lt, nat_le, Bool, true, false, bytes_eq, if◌then◌else◌, List, [], ◌∷◌, ◌++◌, pos, neg_ℤ, Option, Some, None}
 use Rattle.std.specs.Option.{option_to_list}
 use Rattle.ph_coord.specs.declared.number.Number.{Number}
 use Rattle.ph_coord.specs.declared.number.Number.TheVariants.{Whole, Wide, Not}
 use Rattle.ph_coord.specs.Spelling.{number_of}
 use Rattle.ph_specs.specs.Command.{Place}
-use Rattle.ph_specs.specs.Command.Place.{Coordinate, Below, CursorName}
+use Rattle.ph_specs.specs.Command.Place.{Coordinate, Below, CursorName, OneOf}
+use Rattle.ph_specs.specs.declared.Kind.{Kind}
+use Rattle.ph_specs.specs.declared.Kind.TheVariants.{Points, Boxes}
+use Rattle.ph_specs.specs.declared.Which.{Which}
+use Rattle.ph_specs.specs.declared.Which.TheVariants.{A, B}
 use Rattle.ph_script.specs.declared.coords.Coord.{Coord}
 use Rattle.ph_script.specs.declared.coords.Coord.TheVariants.{Whole as WholeCoord, Far}
 
@@ -51,6 +55,23 @@ abbrev pub name_from : Option (List ℕ) → List Place → List (List ℕ) → 
 name_from got [] ws = got
 name_from got (place ∷ places) [] = got
 name_from got (place ∷ places) (word ∷ ws) = name_from (named got place word) places ws
+
+-- whether the last word in a place for one of two words is the second: with one word in its place, and with all
+abbrev pub second_in : Bool → Place → List ℕ → Bool
+second_in got (OneOf (first ∷ second ∷ [])) word = bytes_eq word second
+second_in got _ word = got
+
+abbrev pub second_from : Bool → List Place → List (List ℕ) → Bool
+second_from got [] ws = got
+second_from got (place ∷ places) [] = got
+second_from got (place ∷ places) (word ∷ ws) = second_from (second_in got place word) places ws
+
+-- what the first and the second of two words say: `points` and `boxes`, or `a` and `b`
+abbrev pub kind_by : Bool → Kind
+kind_by is_second = if is_second then Boxes else Points
+
+abbrev pub slot_by : Bool → Which
+slot_by is_second = if is_second then B else A
 
 -- how many coordinates and other numbers a place may add
 abbrev pub coords_room : Place → ℕ

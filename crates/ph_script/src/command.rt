@@ -1,12 +1,14 @@
 //! Commands, and what is wrong with a line that is none.
 use crate::coords::Coords;
 use crate::name::Name;
+use ph_coord::Kind;
+use ph_specs::Which;
 
 /// What a line asks for.
 #[derive(Debug, Drop, PartialEq, Eq)]
 pub enum Command {
-    /// A new table for points of k dimensions, with at most so many rows.
-    Begin { k: u32, max: u64 },
+    /// A new table for points or boxes of k dimensions, with at most so many rows.
+    Begin { kind: Kind, k: u32, max: u64 },
     Put { at: Coords, value: u64 },
     Get { at: Coords },
     Del { at: Coords },
@@ -19,6 +21,16 @@ pub enum Command {
     Cursor { name: Name, lo: Coords, hi: Coords },
     /// The next rows of a cursor, at most so many.
     Page { name: Name, n: u32 },
+    /// The boxes that overlap the one with these bounds, the low corner and then the high one.
+    Overlap { bounds: Coords },
+    /// The boxes that lie inside it.
+    Inside { bounds: Coords },
+    /// The boxes that cover it.
+    Covers { bounds: Coords },
+    /// The other table, or the same again.
+    Select { slot: Which },
+    /// Whether both tables are the same.
+    Same,
 }
 
 /// The first fault of a line, in the order in which they are looked for.

@@ -24,6 +24,11 @@ pub(crate) enum Verb {
     Window,
     Cursor,
     Page,
+    Overlap,
+    Inside,
+    Covers,
+    Select,
+    Same,
 }
 
 /// What a form has behind its word, in one place or in several.
@@ -37,6 +42,8 @@ pub(crate) enum Places {
     Name,
     /// This word.
     Fixed(&'static [u8]),
+    /// One of two words.
+    Either(&'static [u8], &'static [u8]),
 }
 
 /// What one word is read as.
@@ -49,6 +56,8 @@ pub(crate) enum Place {
     Name,
     /// This word.
     Fixed(&'static [u8]),
+    /// One of two words.
+    Either(&'static [u8], &'static [u8]),
 }
 
 /// A command's word, what stands behind it, and the command that this makes.
@@ -63,17 +72,19 @@ const COUNT: u128 = u32::MAX as u128;
 
 const VALUE: u128 = u64::MAX as u128;
 
+const KINDS: Places = Places::Either(b"points", b"boxes");
+
 // The forms that are answered so far, in the order of the definitions. One more is a row here, a `Verb` and its command.
-static FORMS: [Form; 11] = [
+static FORMS: [Form; 16] = [
     Form {
         word: b"open",
-        places: &[Places::Fixed(b"points"), Places::UpTo(COUNT)],
+        places: &[KINDS, Places::UpTo(COUNT)],
         verb: Verb::Open,
     },
     Form {
         word: b"open",
         places: &[
-            Places::Fixed(b"points"),
+            KINDS,
             Places::UpTo(COUNT),
             Places::Fixed(b"max"),
             Places::UpTo(VALUE),
@@ -125,6 +136,31 @@ static FORMS: [Form; 11] = [
         places: &[Places::Name, Places::UpTo(COUNT)],
         verb: Verb::Page,
     },
+    Form {
+        word: b"overlap",
+        places: &[Places::Coordinates],
+        verb: Verb::Overlap,
+    },
+    Form {
+        word: b"inside",
+        places: &[Places::Coordinates],
+        verb: Verb::Inside,
+    },
+    Form {
+        word: b"covers",
+        places: &[Places::Coordinates],
+        verb: Verb::Covers,
+    },
+    Form {
+        word: b"use",
+        places: &[Places::Either(b"a", b"b")],
+        verb: Verb::Select,
+    },
+    Form {
+        word: b"same",
+        places: &[],
+        verb: Verb::Same,
+    },
 ];
 
 fn forms() -> &'static [Form]
@@ -141,7 +177,7 @@ impl Places {
     {
         match self {
             Places::Coordinates => dims,
-            Places::UpTo(_) | Places::Name | Places::Fixed(_) => 1,
+            Places::UpTo(_) | Places::Name | Places::Fixed(_) | Places::Either(..) => 1,
         }
     }
 
@@ -154,6 +190,7 @@ impl Places {
             Places::UpTo(most) => Place::UpTo(most),
             Places::Name => Place::Name,
             Places::Fixed(word) => Place::Fixed(word),
+            Places::Either(first, second) => Place::Either(first, second),
         }
     }
 }

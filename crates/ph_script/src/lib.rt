@@ -21,6 +21,7 @@ pub use command::{Bad, Command};
 pub use coords::{Coord, Coords};
 pub use lines::{Line, Lines, NoMemory};
 pub use name::Name;
+pub use ph_specs::Which;
 pub use read::read_command;
 pub use reply::Reply;
 pub use text::{Text, reply_text, write_text};

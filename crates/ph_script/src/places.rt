@@ -1,12 +1,12 @@
 //! The words of a line, read in the places of a form.
-ghost use Rattle.std.specs.Prelude.{◌≡◌, ◌≤◌, ◌+◌, ◌++◌, [], length, true, None, MatchResult};
+ghost use Rattle.std.specs.Prelude.{◌≡◌, ◌≤◌, ◌+◌, ◌++◌, [], length, true, false, None, MatchResult};
 ghost use Rattle.std.specs.List.{sum_by};
 ghost use Rattle.std.specs.Cmp.Lexicographic.{pointwise};
 ghost use Rattle.arrayvec.specs.ArrayVec.{array_vec_len};
 ghost use Rattle.ph_specs.specs.Lines.{words};
 ghost use Rattle.ph_specs.specs.Command.{number_fits, name_fits};
 ghost use Rattle.ph_script.specs.Forms.{place_of, spread_of};
-ghost use Rattle.ph_script.specs.Parts.{coords_in, counts_in, coords_at, counts_at, coords_room, counts_room, named, name_from};
+ghost use Rattle.ph_script.specs.Parts.{coords_in, counts_in, coords_at, counts_at, coords_room, counts_room, named, name_from, second_in, second_from};
 ghost use Rattle.ph_script.specs.Fit.{IsFault};
 
 use crate::command::Bad;
@@ -27,6 +27,7 @@ fn read_word(place: Place, word: &[u8], parts: &mut Parts) -> Result<(), Bad>
     ensures coords { number_fits (place_of place) word.now ≡ true → parts.new.coords.items ≡ parts.old.coords.items ++ coords_in (place_of place) word.now }
     ensures counts { number_fits (place_of place) word.now ≡ true → parts.new.counts.items ≡ parts.old.counts.items ++ counts_in (place_of place) word.now }
     ensures name { name_fits (place_of place) word.now ≡ true → parts.new.name ≡ named parts.old.name (place_of place) word.now }
+    ensures second { number_fits (place_of place) word.now ≡ true → parts.new.is_second ≡ second_in parts.old.is_second (place_of place) word.now }
 {
     match place {
         Place::Coordinate => {
@@ -52,16 +53,22 @@ fn read_word(place: Place, word: &[u8], parts: &mut Parts) -> Result<(), Bad>
                 return Err(Bad::Name);
             }
         }
+        Place::Either(first, second) => {
+            parts.is_second = word == second;
+            if !parts.is_second && word != first {
+                return Err(Bad::Name);
+            }
+        }
     }
     Ok(())
 }
 
-/// Reads the words of a text, as many words as places, and adds their numbers and their name to the parts, if each word is
+/// Reads the words of a text, as many words as places, and adds what they tell to the parts, if each word is
 /// as its place asks.
 ///
 /// A wrong number is told before a wrong name, wherever they stand.
 pub(crate) fn read_places(mut places: Spread, text: &[u8], parts: &mut Parts) -> Result<(), Bad>
-    requires empty { (parts.old.coords.items ≡ []) × (parts.old.counts.items ≡ []) × (parts.old.name ≡ None) }
+    requires empty { (parts.old.coords.items ≡ []) × (parts.old.counts.items ≡ []) × (parts.old.name ≡ None) × (parts.old.is_second ≡ false) }
     requires size { length (words text.now) ≡ length (spread_of places) }
     requires coords { sum_by coords_room (spread_of places) ≤ MOST_COORDINATES }
     requires counts { sum_by counts_room (spread_of places) ≤ 2 }
@@ -70,7 +77,8 @@ pub(crate) fn read_places(mut places: Spread, text: &[u8], parts: &mut Parts) ->
         × (pointwise name_fits (spread_of places) (words text.now) ≡ true)
         × (parts.new.coords.items ≡ coords_at (spread_of places) (words text.now))
         × (parts.new.counts.items ≡ counts_at (spread_of places) (words text.now))
-        × (parts.new.name ≡ name_from None (spread_of places) (words text.now)))
+        × (parts.new.name ≡ name_from None (spread_of places) (words text.now))
+        × (parts.new.is_second ≡ second_from false (spread_of places) (words text.now)))
         (λ b. IsFault b (pointwise number_fits (spread_of places) (words text.now)) (pointwise name_fits (spread_of places) (words text.now))) }
 {
     let mut names_fit = true;

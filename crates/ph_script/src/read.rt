@@ -4,6 +4,7 @@ ghost use Rattle.ph_specs.specs.Lines.{words};
 ghost use Rattle.ph_specs.specs.Command.{read_form as by_form, Reading};
 ghost use Rattle.ph_script.specs.Built.{built_words};
 ghost use Rattle.ph_script.specs.Forms.{places_of, form_of, IsRow, command_by};
+ghost use Rattle.ph_script.specs.Parts.{kind_by, slot_by};
 ghost use Rattle.ph_script.specs.Meaning.{reading_of, command_of, numbers_of};
 ghost use Rattle.ph_script.specs.Fit.{IsFit, IsNamed, HasDims, ReadsDims};
 
@@ -15,6 +16,8 @@ use crate::parts::Parts;
 use crate::places::read_places;
 use crate::spread::Spread;
 use crate::words::{count_words, next_word};
+use ph_coord::Kind;
+use ph_specs::Which;
 
 // The first byte of a comment.
 const COMMENT: u8 = b'#';
@@ -41,17 +44,19 @@ fn read_form(form: &Form, dims: usize, text: &[u8]) -> Result<Option<Command>, B
 fn command(verb: Verb, dims: usize, parts: &Parts) -> Command
     requires limit { dims ≤ 16 }
     requires fit { IsFit verb dims parts.now.coords.items parts.now.counts.items parts.now.name }
-    ensures meaning { (texts : List (List ℕ)) → IsNamed verb parts.now.name texts → command_of result ≡ command_by verb dims (numbers_of parts.now.coords.items ++ map pos parts.now.counts.items) texts }
+    ensures meaning { (texts : List (List ℕ)) → IsNamed verb parts.now.name parts.now.is_second texts → command_of result ≡ command_by verb dims (numbers_of parts.now.coords.items ++ map pos parts.now.counts.items) texts }
     ensures dims { HasDims dims result }
 {
     let coords = parts.coords.as_slice();
     let counts = parts.counts.as_slice();
     match verb {
         Verb::Open => Command::Begin {
+            kind: kind_in(parts),
             k: counts[0] as u32,
             max: u64::MAX,
         },
         Verb::OpenMax => Command::Begin {
+            kind: kind_in(parts),
             k: counts[0] as u32,
             max: counts[1] as u64,
         },
@@ -93,6 +98,19 @@ fn command(verb: Verb, dims: usize, parts: &Parts) -> Command
             name: name_in(parts),
             n: counts[0] as u32,
         },
+        Verb::Overlap => Command::Overlap {
+            bounds: Coords::new(coords),
+        },
+        Verb::Inside => Command::Inside {
+            bounds: Coords::new(coords),
+        },
+        Verb::Covers => Command::Covers {
+            bounds: Coords::new(coords),
+        },
+        Verb::Select => Command::Select {
+            slot: slot_in(parts),
+        },
+        Verb::Same => Command::Same,
     }
 }
 
@@ -104,6 +122,24 @@ fn name_in(parts: &Parts) -> Name
         Some(name) => name,
         None => unreachable!(),
     }
+}
+
+// What the word `points` or `boxes` says.
+fn kind_in(parts: &Parts) -> Kind
+    ensures { result ≡ kind_by parts.now.is_second }
+{
+    if parts.is_second {
+        Kind::Boxes
+    } else {
+        Kind::Points
+    }
+}
+
+// What the word `a` or `b` says.
+fn slot_in(parts: &Parts) -> Which
+    ensures { result ≡ slot_by parts.now.is_second }
+{
+    if parts.is_second { Which::B } else { Which::A }
 }
 
 /// Reads a line that has lost its line feed and a carriage return before it; points have so many dimensions.

@@ -1,5 +1,6 @@
 //! The replies to commands.
 use ph_coord::Row;
+use ph_specs::Which;
 
 /// The answer to a command about points of D dimensions. Each is one line of the output.
 #[derive(Clone, Copy, Debug, PartialEq, Eq)]
@@ -27,13 +28,22 @@ pub enum Reply<const D: usize> {
     More(u32),
     /// The cursor is there.
     Ready,
+    /// The slot that commands are about from now on.
+    Using(Which),
+    /// Both slots have the same rows, of the same kind and dimensions.
+    Same,
+    Differ,
     ErrorLong,
     ErrorWord,
     ErrorCount,
     ErrorNumber,
     ErrorName,
     ErrorDims,
+    /// A question about boxes in a table of points, or the other way round.
+    ErrorKind,
     ErrorRange,
+    /// A box with a low bound above its high one.
+    ErrorReversed,
     /// No cursor has the name.
     ErrorCursor,
     /// There are as many cursors as may be.

@@ -1,8 +1,8 @@
 use crate::{
-    Bad, Command, Coord, Coords, Line, Lines, Name, Reply, Text, read_command, reply_text,
+    Bad, Command, Coord, Coords, Line, Lines, Name, Reply, Text, Which, read_command, reply_text,
     write_text,
 };
-use ph_coord::{Point, Row, Width};
+use ph_coord::{Kind, Point, Row, Width};
 use std::test::Fail;
 
 #[test]
@@ -21,21 +21,53 @@ fn read_commands(rt: HostRuntime) -> Result<(), Fail> {
         read_command(b"move 1 2 -1 9223372036854775808", 2),
         Ok(Some(relocate))
     );
-    let open = Command::Begin {
-        k: 9,
-        max: 18446744073709551615,
-    };
-    assert_eq!(rt; read_command(b"open points 9", 2), Ok(Some(open)));
-    let open = Command::Begin {
-        k: 4294967295,
-        max: 5,
-    };
-    assert_eq!(rt;
-        read_command(b"open points 4294967295 max 5", 2),
-        Ok(Some(open))
-    );
     assert_eq!(rt; read_command(b"count", 2), Ok(Some(Command::Count)));
     assert_eq!(rt; read_command(b"clear", 2), Ok(Some(Command::Clear)));
+    Ok(())
+}
+
+#[test]
+fn read_openings(rt: HostRuntime) -> Result<(), Fail> {
+    let cases = [
+        (
+            b"open points 9".as_slice(),
+            Kind::Points,
+            9,
+            18446744073709551615,
+        ),
+        (b"open points 4294967295 max 5", Kind::Points, 4294967295, 5),
+        (b"open boxes 0", Kind::Boxes, 0, 18446744073709551615),
+        (b"open boxes 4 max 0", Kind::Boxes, 4, 0),
+    ];
+    for (line, kind, k, max) in cases {
+        let open = Command::Begin { kind, k, max };
+        assert_eq!(rt; read_command(line, 2), Ok(Some(open)));
+    }
+    Ok(())
+}
+
+#[test]
+fn read_commands_on_boxes(rt: HostRuntime) -> Result<(), Fail> {
+    let corners = [Coord::Whole(1), Coord::Whole(-5)];
+    let bounds = Coords::from_slice(&corners).ok_or("too many")?;
+    let overlap = Command::Overlap { bounds };
+    assert_eq!(rt; read_command(b"overlap 1 -5", 2), Ok(Some(overlap)));
+    let bounds = Coords::from_slice(&corners).ok_or("too many")?;
+    let inside = Command::Inside { bounds };
+    assert_eq!(rt; read_command(b"inside 1 -5", 2), Ok(Some(inside)));
+    let bounds = Coords::from_slice(&corners).ok_or("too many")?;
+    let covers = Command::Covers { bounds };
+    assert_eq!(rt; read_command(b"covers 1 -5", 2), Ok(Some(covers)));
+    Ok(())
+}
+
+#[test]
+fn read_commands_on_slots(rt: HostRuntime) -> Result<(), Fail> {
+    let a = Command::Select { slot: Which::A };
+    assert_eq!(rt; read_command(b"use a", 2), Ok(Some(a)));
+    let b = Command::Select { slot: Which::B };
+    assert_eq!(rt; read_command(b"use b", 2), Ok(Some(b)));
+    assert_eq!(rt; read_command(b"same", 2), Ok(Some(Command::Same)));
     Ok(())
 }
 
@@ -120,7 +152,8 @@ fn refused_words(rt: HostRuntime) -> Result<(), Fail> {
         (b"open lines 2", Bad::Name),
         (b"open pointss 2", Bad::Name),
         (b"open points 2 least 1", Bad::Name),
-        (b"open boxes 2 max 1", Bad::Name),
+        (b"open boxes 2 least 1", Bad::Name),
+        (b"open a 2", Bad::Name),
     ];
     for (line, bad) in cases {
         assert_eq!(rt; read_command(line, 2), Err(bad));
@@ -138,6 +171,12 @@ fn refused_names(rt: HostRuntime) -> Result<(), Fail> {
         (b"page a.b 1", Bad::Name),
         (b"page abcdefghijklmnopqrstuvwxyz-_01234 1", Bad::Name),
         (b"cursor a! 0 0 1 1", Bad::Name),
+        (b"overlap 1", Bad::Count),
+        (b"inside 1 x", Bad::Number),
+        (b"use", Bad::Count),
+        (b"use c", Bad::Name),
+        (b"use points", Bad::Name),
+        (b"same a", Bad::Count),
     ];
     for (line, bad) in cases {
         assert_eq!(rt; read_command(line, 2), Err(bad));
@@ -219,13 +258,19 @@ fn texts_of_replies(rt: HostRuntime) -> Result<(), Fail> {
         ),
         (Reply::More(2), "more 2\n"),
         (Reply::Ready, "ready\n"),
+        (Reply::Using(Which::A), "using a\n"),
+        (Reply::Using(Which::B), "using b\n"),
+        (Reply::Same, "same\n"),
+        (Reply::Differ, "differ\n"),
         (Reply::ErrorLong, "error long\n"),
         (Reply::ErrorWord, "error word\n"),
         (Reply::ErrorCount, "error count\n"),
         (Reply::ErrorNumber, "error number\n"),
         (Reply::ErrorName, "error name\n"),
         (Reply::ErrorDims, "error dims\n"),
+        (Reply::ErrorKind, "error kind\n"),
         (Reply::ErrorRange, "error range\n"),
+        (Reply::ErrorReversed, "error reversed\n"),
         (Reply::ErrorCursor, "error cursor\n"),
         (Reply::ErrorCursors, "error cursors\n"),
         (Reply::ErrorFull, "error full\n"),

@@ -7,6 +7,7 @@ use crate::reply::Reply;
 use arrayvec::ArrayString;
 use itoa::{Buffer, Integer};
 use ph_coord::Row;
+use ph_specs::Which;
 use std::marker::Model;
 
 // The bytes of the longest line that the script language has: `hit`, a distance of 128 bits, 16 coordinates and a value of
@@ -79,13 +80,19 @@ pub fn write_text<const D: usize>(text: &mut Text, reply: &Reply<D>)
         Reply::End(count) => push_numbered(line, "end", *count),
         Reply::More(count) => push_numbered(line, "more", *count),
         Reply::Ready => line.push_str("ready\n"),
+        Reply::Using(Which::A) => line.push_str("using a\n"),
+        Reply::Using(Which::B) => line.push_str("using b\n"),
+        Reply::Same => line.push_str("same\n"),
+        Reply::Differ => line.push_str("differ\n"),
         Reply::ErrorLong => line.push_str("error long\n"),
         Reply::ErrorWord => line.push_str("error word\n"),
         Reply::ErrorCount => line.push_str("error count\n"),
         Reply::ErrorNumber => line.push_str("error number\n"),
         Reply::ErrorName => line.push_str("error name\n"),
         Reply::ErrorDims => line.push_str("error dims\n"),
+        Reply::ErrorKind => line.push_str("error kind\n"),
         Reply::ErrorRange => line.push_str("error range\n"),
+        Reply::ErrorReversed => line.push_str("error reversed\n"),
         Reply::ErrorCursor => line.push_str("error cursor\n"),
         Reply::ErrorCursors => line.push_str("error cursors\n"),
         Reply::ErrorFull => line.push_str("error full\n"),

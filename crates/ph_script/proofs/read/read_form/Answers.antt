@@ -13,4 +13,4 @@ pub returns-in-Ok-clause-meaning : goal.returns-in-Ok-clause-meaning
 returns-in-Ok-clause-meaning c =
     let n = c.in-Ok.ensures in
     let e = c.new-places.ensures in
-    does c.args.form.now.word.now c.args.form.now.verb c.args.dims _ _ (words c.args.text.now) _ _ _ _ (c.requires.row c.args.dims) e n.0 n.1 n.2 n.3 n.4 c.command.ensures.meaning
+    does c.args.form.now.word.now c.args.form.now.verb c.args.dims _ _ (words c.args.text.now) _ _ _ _ _ (c.requires.row c.args.dims) e n.0 n.1 n.2 n.3 n.4 n.5 c.command.ensures.meaning
