@@ -1,26 +1,34 @@
 -- What a command has done, once its replies were given to a sink.
-use Rattle.std.proofs.Common.{◌≡◌, ◌≤◌, ℕ, inr, arith, Bool, true, false, List, [], ◌∷◌, refl, ap, ◌∙◌, append-nil}
+use Rattle.std.proofs.Common.{◌≡◌, ◌≤◌, ℕ, ◌+◌, inr, arith, Bool, true, false, List, [], ◌∷◌, refl, ap, sym, ◌∙◌, append-nil}
 use Rattle.std.specs.Prelude.{Some, None, Ok, Err, Result, IfOk, IfErr, OnOk, OnErr, if◌then◌else◌}
 use Rattle.std.specs.declared.option.Option.{Option}
 use Rattle.ph_io.specs.Giving.{Taken, Given}
+use Rattle.ph_specs.specs.declared.Kind.{Kind}
 use Rattle.ph_specs.specs.Command.{Command as Asked}
 use Rattle.ph_specs.specs.Named.{Named}
 use Rattle.ph_specs.specs.Reply.{Reply, reply_text, replies_text}
-use Rattle.ph_specs.specs.State.{Slot, Engine, Files}
+use Rattle.ph_specs.specs.declared.Which.{Which}
+use Rattle.ph_specs.specs.declared.Kind.TheVariants.{Points, Boxes}
+use Rattle.ph_specs.specs.Engine.{same_slots, unless_refused}
+use Rattle.ph_specs.specs.Refusals.{refusal, has_wrong_kind, boxes_of}
+use Rattle.ph_specs.specs.State.{Slot, Engine, Files, current, outcome}
 use Rattle.ph_specs.specs.Window.{Cursor}
 use Rattle.ph_script.specs.declared.reply.Reply.{Reply as Told}
 use Rattle.ph_script.specs.Meaning.{reply_of}
 use Rattle.ph_engine.specs.Machine.{is_refusal}
 use Rattle.ph_engine.specs.Beside.{Beside, beside_sink, IsTold, StillTells}
-use Rattle.ph_engine.specs.Working.{work_of, IsAtMost, IsAtLeast}
-use Rattle.ph_engine.specs.Doing.{Does, DoneOr, Begun, Knows, Unserved, ServedOr, is_page, imported, cut_engine, refuses}
+use Rattle.ph_engine.specs.Comparing.{Compares}
+use Rattle.ph_engine.specs.Working.{work_of, nodes_of, IsAtMost, IsAtLeast}
+use Rattle.ph_engine.specs.Doing.{Does, DoneOr, Begun, Knows, Unserved, ServedOr, is_page, cut_engine, refuses}
 use Rattle.ph_engine.specs.Slots.{AnyTable, slot_of, engine_of}
 use Rattle.ph_engine.specs.Telling.{Tells, ToldOr}
 use Rattle.ph_engine.specs.Writing.{WritesFront}
 use Rattle.ph_engine.specs.declared.status.Answer.{Answer}
 use Rattle.ph_engine.specs.declared.status.Stop.{Stop}
 use Rattle.ph_engine.specs.declared.status.Stop.TheVariants.{WriteFault, NoMemory}
+use Rattle.ph_engine.specs.Refusing.{early_refusal}
 use Rattle.ph_engine.proofs.Appending.{given_none}
+use Rattle.ph_engine.proofs.Plain.{IsPlain, does-at, most-at, least-at, wants-at}
 
 known-told : (command : Asked) (told now_told : Option Files) (files : Files) → now_told ≡ told → Knows command told files → StillTells told now_told files
 known-told command None now_told files e k = tt
@@ -73,16 +81,16 @@ done-all most e after now command replies b now_b (Err WriteFault) l x w d u v a
 done-all most e after now command replies b now_b (Err NoMemory) l x w d u v a t s f = absurd (let clash : NoMemory ≡ WriteFault = s in cc)
 
 -- a command of one reply, once this was given to a sink
-pub done-said : {D : ℕ} (most : ℕ) (s now : Slot) (command : Asked) (reply : Told D) (b now_b : Beside) (result : Result Answer Stop) → LeavesFiles b now_b → engine_of now ≡ cut_engine (engine_of s) command (engine_of now) → Does (engine_of s) command (engine_of now) (reply_of reply ∷ []) → Most (engine_of s) command b now_b → Least (engine_of s) command b now_b → Tells b.sink now_b.sink reply result → DoneOr most (engine_of s) command b now_b (engine_of now) result
-done-said most s now command reply b now_b (Ok answer) l p d u v t =
-    done-all most (engine_of s) (engine_of now) (engine_of now) command (reply_of reply ∷ []) b now_b (Ok answer) l refl tt d u v (rw (one-text (reply_of reply)) t.1) (rw (one-text (reply_of reply)) t.0) tt tt
-done-said most s now command reply b now_b (Err stop) l p d u v t =
-    done-all most (engine_of s) (engine_of now) (engine_of now) command (reply_of reply ∷ []) b now_b (Err stop) l tt p d u tt tt tt t.0 (rw (one-text (reply_of reply)) t.1)
+pub done-said : {D : ℕ} (most : ℕ) (e now : Engine) (command : Asked) (reply : Told D) (b now_b : Beside) (result : Result Answer Stop) → LeavesFiles b now_b → now ≡ cut_engine e command now → Does e command now (reply_of reply ∷ []) → Most e command b now_b → Least e command b now_b → Tells b.sink now_b.sink reply result → DoneOr most e command b now_b now result
+done-said most e now command reply b now_b (Ok answer) l p d u v t =
+    done-all most e now now command (reply_of reply ∷ []) b now_b (Ok answer) l refl tt d u v (rw (one-text (reply_of reply)) t.1) (rw (one-text (reply_of reply)) t.0) tt tt
+done-said most e now command reply b now_b (Err stop) l p d u v t =
+    done-all most e now now command (reply_of reply ∷ []) b now_b (Err stop) l tt p d u tt tt tt t.0 (rw (one-text (reply_of reply)) t.1)
 
 -- a command that makes a slot another one
 pub done-begun : {D : ℕ} (most : ℕ) (s now : Slot) (command : Asked) (reply : Told D) (sink now_sink : Taken) (visits changes : ℕ) (result : Result Answer Stop) → engine_of now ≡ cut_engine (engine_of s) command (engine_of now) → Begun s command now (reply_of reply) → Tells sink now_sink reply result → DoneOr most (engine_of s) command (beside_sink sink visits changes) (beside_sink now_sink visits changes) (engine_of now) result
 done-begun most s now command reply sink now_sink visits changes result p h t =
-    done-said most s now command reply _ _ result (record { files = refl; later = omega arith }) p h.does (h.most visits changes) (h.least visits changes) t
+    done-said most (engine_of s) (engine_of now) command reply _ _ result (record { files = refl; later = omega arith }) p h.does (h.most visits changes) (h.least visits changes) t
 
 -- a command that is refused, a page too
 cut-same : (e : Engine) (page : Bool) → e ≡ (if page then e else e)
@@ -94,21 +102,60 @@ done-refused most s command reply sink now_sink visits changes result h t =
     done-begun most s s command reply sink now_sink visits changes result (cut-same (engine_of s) (is_page command)) h t
 
 -- a command for which memory was missing
-undone : (most : ℕ) (t now : AnyTable) (cursors : Named Cursor) (command : Asked) (b now_b : Beside) → LeavesFiles b now_b → ((files : Files) → imported (slot_of t cursors) files command ≡ None) → now_b.sink ≡ b.sink → Unserved t command now b.visits now_b.visits b.changes now_b.changes → DoneOr most (engine_of (slot_of t cursors)) command b now_b (engine_of (slot_of now cursors)) (Err NoMemory)
-undone most t now cursors command b now_b l i sink h = record {
+undone : (most : ℕ) (kind : Kind) (t now : AnyTable) (cursors : Named Cursor) (command : Asked) (b now_b : Beside) → LeavesFiles b now_b → IsPlain command → early_refusal (slot_of kind t cursors) command ≡ None → now_b.sink ≡ b.sink → Unserved t command now b.visits now_b.visits b.changes now_b.changes → DoneOr most (engine_of (slot_of kind t cursors)) command b now_b (engine_of (slot_of kind now cursors)) (Err NoMemory)
+undone most kind t now cursors command b now_b l p u sink h = record {
   fault = false;
   filings = inr (omega (arith, l.later));
   part = 0;
-  state = λ files k. rw (i files) (ap (λ x. engine_of (slot_of x cursors)) h.stays);
+  state = λ files k. rw (p.no_import (slot_of kind t cursors) files) (ap (λ x. engine_of (slot_of kind x cursors)) h.stays);
   files = λ files k. told-told b.files now_b.files files l.files k;
   told = rw sink (given_none b.sink);
-  wanted = h.wanted cursors;
-  most_work = λ files k. h.most cursors most files false;
+  wanted = wants-at kind t cursors command p u (h.wanted cursors);
+  most_work = λ files k. most-at kind t cursors command _ _ _ _ p u (h.most cursors) most files false;
 }
 
--- a command about the rows of a table that has one reply
-pub done-served : {D : ℕ} {E : Type 0} (most : ℕ) (t now : AnyTable) (cursors : Named Cursor) (command : Asked) (outcome : Result (Told D) E) (b now_b : Beside) (result : Result Answer Stop) → LeavesFiles b now_b → is_page command ≡ false → ((files : Files) → imported (slot_of t cursors) files command ≡ None) → ServedOr t command now b.visits now_b.visits b.changes now_b.changes outcome → ToldOr b.sink now_b.sink outcome result → DoneOr most (engine_of (slot_of t cursors)) command b now_b (engine_of (slot_of now cursors)) result
-done-served most t now cursors command (Ok reply) b now_b result l p i h k =
-    done-said most (slot_of t cursors) (slot_of now cursors) command reply b now_b result l (rw p refl) (h.does cursors) (h.most cursors) (h.least cursors) k
-done-served most t now cursors command (Err error) b now_b (Ok answer) l p i h k = absurd k
-done-served most t now cursors command (Err error) b now_b (Err stop) l p i h k = rw k.0 (undone most t now cursors command b now_b l i k.1 h)
+-- ---- commands that know both slots
+
+kind-of-select : (kind : Kind) (which : Which) → (has_wrong_kind kind (Asked.Select which) ≡ false) × (boxes_of kind (Asked.Select which) ≡ [])
+kind-of-select Points which = (refl, refl)
+kind-of-select Boxes which = (refl, refl)
+
+kind-of-compare : (kind : Kind) → (has_wrong_kind kind Asked.Compare ≡ false) × (boxes_of kind Asked.Compare ≡ [])
+kind-of-compare Points = (refl, refl)
+kind-of-compare Boxes = (refl, refl)
+
+select-unrefused : (most : ℕ) (e : Engine) (files : Files) (fault : Bool) (which : Which) → refusal most e files fault (Asked.Select which) ≡ None
+select-unrefused most e files fault which = let k = kind-of-select (current e).kind which in rw (k.0, k.1) refl
+
+compare-unrefused : (most : ℕ) (e : Engine) (files : Files) (fault : Bool) → refusal most e files fault Asked.Compare ≡ None
+compare-unrefused most e files fault = let k = kind-of-compare (current e).kind in rw (k.0, k.1) refl
+
+pub select-done : {D : ℕ} (e now : Engine) (which : Which) (reply : Told D) (sink now_sink : Taken) (visits changes : ℕ) (result : Result Answer Stop) → now ≡ record e { current = which } → reply_of reply ≡ Reply.Using which → Tells sink now_sink reply result → DoneOr 0 e (Asked.Select which) (beside_sink sink visits changes) (beside_sink now_sink visits changes) now result
+select-done e now which reply sink now_sink visits changes result is said told =
+    done-said 0 e now (Asked.Select which) reply (beside_sink sink visits changes) (beside_sink now_sink visits changes) result (record { files = refl; later = omega arith }) refl
+    (λ most files fault. ap (λ r. unless_refused r e files (Asked.Select which)) (select-unrefused most e files fault which) ∙ (λ i. outcome (sym is i) files (sym said i ∷ [])))
+    (λ most files fault. record { few_visits = omega arith; few_changes = omega arith })
+    (λ most files fault. rw (select-unrefused most e files fault which) (record { enough_visits = omega arith; enough_changes = omega arith })) told
+
+least-of-same : (test : Bool) (n v now_v : ℕ) → v ≤ now_v → (test ≡ true → now_v ≡ v + n) → v + (if test then n else 0) ≤ now_v
+least-of-same true n v now_v l h = let e = h refl in omega (arith, e)
+least-of-same false n v now_v l h = omega (arith, l)
+
+pub compare-done : {D : ℕ} (e : Engine) (reply : Told D) (sink now_sink : Taken) (visits now_visits changes : ℕ) (result : Result Answer Stop) → Compares e visits now_visits (reply_of reply) → Tells sink now_sink reply result → DoneOr 0 e Asked.Compare (beside_sink sink visits changes) (beside_sink now_sink now_visits changes) e result
+compare-done e reply sink now_sink visits now_visits changes result h told =
+    let n = nodes_of e.a + nodes_of e.b in
+    done-said 0 e e Asked.Compare reply (beside_sink sink visits changes) (beside_sink now_sink now_visits changes) result (record { files = refl; later = omega arith }) refl
+    (λ most files fault. ap (λ r. unless_refused r e files Asked.Compare) (compare-unrefused most e files fault) ∙ ap (λ r. outcome e files (r ∷ [])) (sym (h.2 ∙ ap (λ t. if t then Reply.Same else Reply.Differ) h.1.same)))
+    (λ most files fault. record { few_visits = h.1.few; few_changes = omega arith })
+    (λ most files fault. rw (compare-unrefused most e files fault) (record { enough_visits = least-of-same (same_slots e.a e.b) n visits now_visits h.1.later h.1.all; enough_changes = omega arith })) told
+
+-- ---- commands of one reply about the rows of a table
+
+pub done-served : {D : ℕ} {E : Type 0} (most : ℕ) (kind : Kind) (t now : AnyTable) (cursors : Named Cursor) (command : Asked) (outcome : Result (Told D) E) (b now_b : Beside) (result : Result Answer Stop) → LeavesFiles b now_b → IsPlain command → early_refusal (slot_of kind t cursors) command ≡ None → ServedOr t command now b.visits now_b.visits b.changes now_b.changes outcome → ToldOr b.sink now_b.sink outcome result → DoneOr most (engine_of (slot_of kind t cursors)) command b now_b (engine_of (slot_of kind now cursors)) result
+done-served most kind t now cursors command (Ok reply) b now_b result l p u h k =
+    done-said most (engine_of (slot_of kind t cursors)) (engine_of (slot_of kind now cursors)) command reply b now_b result l (rw p.no_page refl)
+    (does-at kind t now cursors command (reply_of reply) p u (h.does cursors))
+    (most-at kind t cursors command _ _ _ _ p u (h.most cursors))
+    (least-at kind t cursors command _ _ _ _ p u (h.least cursors)) k
+done-served most kind t now cursors command (Err error) b now_b (Ok answer) l p u h k = absurd k
+done-served most kind t now cursors command (Err error) b now_b (Err stop) l p u h k = rw k.0 (undone most kind t now cursors command b now_b l p u k.1 h)

@@ -2,6 +2,8 @@ pub mod Appending
 pub mod Names
 pub mod Replies
 pub mod Listed
+pub mod Asked
+pub mod Compared
 pub mod Cuts
 pub mod Machines
 pub mod Sums
@@ -13,6 +15,7 @@ pub mod Far
 pub mod Answered
 pub mod Defined
 pub mod Refused
+pub mod Plain
 pub mod Commanded
 pub mod Ends
 pub mod Slotted

@@ -1,5 +1,5 @@
 -- A command on a slot does the same whatever the other slot is.
-use Rattle.std.proofs.Common.{◌≡◌, ℕ, Bool, true, false, List, [], ◌∷◌, refl, ap, sym, ◌∙◌}
+use Rattle.std.proofs.Common.{◌≡◌, ℕ, Bool, true, false, List, [], ◌∷◌, refl, ap, sym, subst, ◌∙◌}
 use Rattle.std.specs.Prelude.{Option, Some, None, Result, Ok, Err, if◌then◌else◌}
 use Rattle.ph_specs.specs.Command.{Command}
 use Rattle.ph_specs.specs.Reply.{Reply}
@@ -15,17 +15,12 @@ use Rattle.ph_script.specs.declared.command.Command.{Command as Written}
 use Rattle.ph_script.specs.declared.command.Command.TheVariants as by
 use Rattle.ph_script.specs.Meaning.{command_of}
 use Rattle.ph_engine.specs.Beside.{Beside}
-use Rattle.ph_engine.specs.Doing.{Leads, DoneOr, is_page, imported, with_first}
+use Rattle.ph_engine.specs.Doing.{Leads, DoneOr, is_on_slot, is_page, imported, with_first}
 use Rattle.ph_engine.specs.Slots.{engine_of}
+use Rattle.ph_engine.specs.Working.{work, work_of, engine_bounds, least_unless, IsAtMost, IsAtLeast}
 use Rattle.ph_engine.specs.declared.status.Answer.{Answer}
 use Rattle.ph_engine.specs.declared.status.Stop.{Stop}
 use Rattle.ph_engine.specs.declared.status.Stop.TheVariants.{WriteFault, NoMemory}
-
--- the command knows the current slot alone
-abbrev pub is_on_slot : Command → Bool
-is_on_slot (Command.Select which) = false
-is_on_slot Command.Compare = false
-is_on_slot _ = true
 
 -- what an engine of one slot is led to, in an engine with another other slot
 abbrev pub lift : Engine → Outcome → Outcome
@@ -84,6 +79,37 @@ unless-lifted None e files cmd h = effect-lifted e files cmd h
 pub act-lifted : (most : ℕ) (e : Engine) (files : Files) (fault : Bool) (cmd : Command) → is_on_slot cmd ≡ true → act most e files fault cmd ≡ lift e (act most (engine_of (current e)) files fault cmd)
 act-lifted most e files fault cmd h = unless-lifted (refusal most e files fault cmd) e files cmd h
 
+-- ---- its work
+
+bounds-lifted : (e : Engine) (files : Files) (cmd : Command) → is_on_slot cmd ≡ true → engine_bounds e files cmd ≡ engine_bounds (engine_of (current e)) files cmd
+bounds-lifted e files (Command.Begin kind k max) h = refl
+bounds-lifted e files (Command.Put p v) h = refl
+bounds-lifted e files (Command.Get p) h = refl
+bounds-lifted e files (Command.Del p) h = refl
+bounds-lifted e files (Command.Relocate p q) h = refl
+bounds-lifted e files Command.Count h = refl
+bounds-lifted e files Command.Clear h = refl
+bounds-lifted e files (Command.Window lo hi) h = refl
+bounds-lifted e files (Command.Cursor name lo hi) h = refl
+bounds-lifted e files (Command.Page name n) h = refl
+bounds-lifted e files (Command.Near q n) h = refl
+bounds-lifted e files (Command.Within q r) h = refl
+bounds-lifted e files (Command.Overlap q) h = refl
+bounds-lifted e files (Command.Inside q) h = refl
+bounds-lifted e files (Command.Covers q) h = refl
+bounds-lifted e files (Command.Save name) h = refl
+bounds-lifted e files (Command.Load name) h = refl
+bounds-lifted e files (Command.Import name header) h = refl
+bounds-lifted e files (Command.Export name) h = refl
+bounds-lifted e files Command.Statistics h = refl
+bounds-lifted e files (Command.Select which) h = refl
+bounds-lifted e files Command.Compare h = absurd cc
+
+work-lifted : (most : ℕ) (e : Engine) (files : Files) (fault : Bool) (cmd : Command) → is_on_slot cmd ≡ true → work_of most e files fault cmd ≡ work_of most (engine_of (current e)) files fault cmd
+work-lifted most e files fault cmd h =
+    let r = refusal most e files fault cmd in
+    ap (λ w. work w.most_visits (least_unless r w.least_visits) w.most_changes (least_unless r w.least_changes)) (bounds-lifted e files cmd h)
+
 -- ---- what a command of the code answers
 
 leads-lifted : (most : ℕ) (e after : Engine) (files : Files) (fault : Bool) (cmd : Command) (told now_told : Option Files) (replies : List Reply) → is_on_slot cmd ≡ true → Leads (act most (engine_of (current e)) files fault cmd) after told now_told replies → Leads (act most e files fault cmd) (with_slot e (current after)) told now_told replies
@@ -109,8 +135,8 @@ done-lifted most e s cmd b now_b (Ok answer) h d = record {
   does = λ files k. leads-lifted most e (engine_of s) files d.fault cmd b.files now_b.files d.replies h (d.does files k);
   told = d.told;
   refusal = d.refusal;
-  most_work = λ files k. d.most_work files k;
-  least_work = λ files k. d.least_work files k;
+  most_work = λ files k. subst (λ w. IsAtMost w b.visits now_b.visits b.changes now_b.changes) (sym (work-lifted most e files d.fault cmd h)) (d.most_work files k);
+  least_work = λ files k. subst (λ w. IsAtLeast w b.visits now_b.visits b.changes now_b.changes) (sym (work-lifted most e files d.fault cmd h)) (d.least_work files k);
 }
 done-lifted most e s cmd b now_b (Err WriteFault) h d = record {
   fault = d.fault;
@@ -122,7 +148,7 @@ done-lifted most e s cmd b now_b (Err WriteFault) h d = record {
   count = d.count;
   short = d.short;
   told = d.told;
-  most_work = λ files k. d.most_work files k;
+  most_work = λ files k. subst (λ w. IsAtMost w b.visits now_b.visits b.changes now_b.changes) (sym (work-lifted most e files d.fault cmd h)) (d.most_work files k);
 }
 done-lifted most e s cmd b now_b (Err NoMemory) h d = record {
   fault = d.fault;
@@ -132,21 +158,26 @@ done-lifted most e s cmd b now_b (Err NoMemory) h d = record {
   files = d.files;
   told = d.told;
   wanted = d.wanted;
-  most_work = λ files k. d.most_work files k;
+  most_work = λ files k. subst (λ w. IsAtMost w b.visits now_b.visits b.changes now_b.changes) (sym (work-lifted most e files d.fault cmd h)) (d.most_work files k);
 }
 
--- every command of the code so far is on a slot
-pub on-slot : (c : Written) → is_on_slot (command_of c) ≡ true
-on-slot (by.Begin k max) = refl
-on-slot (by.Put at value) = refl
-on-slot (by.Get at) = refl
-on-slot (by.Del at) = refl
-on-slot (by.Relocate from to) = refl
-on-slot by.Count = refl
-on-slot by.Clear = refl
-on-slot (by.Window lo hi) = refl
-on-slot (by.Cursor name lo hi) = refl
-on-slot (by.Page name n) = refl
+-- the commands of the code but two are on a slot
+pub on-slot : (c : Written) → ((which : Which) → c ≡ by.Select which → ⊥) → (c ≡ by.Same → ⊥) → is_on_slot (command_of c) ≡ true
+on-slot (by.Begin kind k max) n m = refl
+on-slot (by.Put at value) n m = refl
+on-slot (by.Get at) n m = refl
+on-slot (by.Del at) n m = refl
+on-slot (by.Relocate from to) n m = refl
+on-slot by.Count n m = refl
+on-slot by.Clear n m = refl
+on-slot (by.Window lo hi) n m = refl
+on-slot (by.Cursor name lo hi) n m = refl
+on-slot (by.Page name count) n m = refl
+on-slot (by.Overlap bounds) n m = refl
+on-slot (by.Inside bounds) n m = refl
+on-slot (by.Covers bounds) n m = refl
+on-slot (by.Select which) n m = absurd (n which refl)
+on-slot by.Same n m = absurd (m refl)
 
 -- the same by the fields of the code's engine
 pub done-at-a : (most : ℕ) (e : Engine) (a b s : Slot) (which : Which) (cmd : Command) (d now_d : Beside) (result : Result Answer Stop) → record { a = a; b = b; current = which } ≡ e → which ≡ A → is_on_slot cmd ≡ true → DoneOr most (engine_of a) cmd d now_d (engine_of s) result → DoneOr most e cmd d now_d (record { a = s; b = b; current = which }) result

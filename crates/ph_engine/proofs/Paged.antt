@@ -4,21 +4,23 @@ use Rattle.std.specs.Prelude.{ℤ, Some, None, Result, Ok, Err, ◌&&◌, not, n
 use Rattle.std.specs.List.{list_all}
 use Rattle.std.proofs.lemmas.Grind.{common_steps}
 use Rattle.ph_io.specs.Giving.{Taken}
+use Rattle.ph_specs.specs.declared.Kind.{Kind}
 use Rattle.ph_specs.specs.Command.{Command}
 use Rattle.ph_specs.specs.Coordinate.{fits, IsPoint}
-use Rattle.ph_specs.specs.Engine.{unless_refused, page_outcome, listing, row_replies, page_end}
+use Rattle.ph_specs.specs.Engine.{effect, unless_refused, page_outcome, listing, row_replies, page_end}
 use Rattle.ph_specs.specs.Named.{Named, lookup, enter, has_name}
 use Rattle.ph_specs.specs.Reply.{Reply, reply_text, replies_text}
-use Rattle.ph_specs.specs.State.{Slot, outcome}
+use Rattle.ph_specs.specs.State.{Slot, Files, outcome}
 use Rattle.ph_specs.specs.Table.{Row}
-use Rattle.ph_specs.specs.Window.{Cursor, window, next_cursor, page, has_more}
+use Rattle.ph_specs.specs.Window.{Cursor, next_cursor, page, has_more}
 use Rattle.ph_engine.specs.Beside.{beside_sink}
-use Rattle.ph_engine.specs.Doing.{Begun, Does, DoneOr, DoneWith}
-use Rattle.ph_engine.specs.Listing.{ListsWindow, FrontListed, PageListed, page_replies, met}
+use Rattle.ph_engine.specs.Doing.{Begun, Does, DoneOr, DoneWith, is_page}
+use Rattle.ph_engine.specs.Listing.{ListsRows, FrontListed, PageListed, page_replies, met}
 use Rattle.ph_engine.specs.Machine.{is_refusal}
-use Rattle.ph_engine.specs.Refusing.{early_refusal}
+use Rattle.ph_engine.specs.Refusing.{early_refusal, late_refusal}
 use Rattle.ph_engine.specs.Naming.{place}
 use Rattle.ph_engine.specs.Slots.{AnyTable, slot_of, engine_of, cursor_of, named}
+use Rattle.ph_engine.specs.Working.{work, engine_bounds}
 use Rattle.ph_engine.specs.declared.status.Answer.{Answer}
 use Rattle.ph_engine.specs.declared.status.Answer.TheVariants.{Good}
 use Rattle.ph_engine.specs.declared.status.Stop.{Stop}
@@ -86,49 +88,45 @@ good-rows : (rows : List Row) (b : Bool) (n : ℕ) → is_refusal (replies_text 
 good-rows [] b n = good-end b n
 good-rows (r ∷ rows) b n = good-row r (replies_text (row_replies rows ++ page_end b n ∷ []))
 
-page-does : (t : AnyTable) (cursors after : Named Cursor) (name : List ℕ) (n : ℕ) (c : Cursor) → early_refusal (slot_of t cursors) (Command.Page name n) ≡ None → lookup name cursors ≡ Some c → after ≡ enter name (next_cursor t.tree.width c n t.tree.table) cursors → Does (engine_of (slot_of t cursors)) (Command.Page name n) (engine_of (slot_of t after)) (page_replies t c n)
-page-does t cursors after name n c h there e most files fault =
-    let s = slot_of t cursors in
+page-does : (kind : Kind) (t : AnyTable) (cursors after : Named Cursor) (name : List ℕ) (n : ℕ) (c : Cursor) → early_refusal (slot_of kind t cursors) (Command.Page name n) ≡ None → lookup name cursors ≡ Some c → after ≡ enter name (next_cursor t.tree.width c n t.tree.table) cursors → Does (engine_of (slot_of kind t cursors)) (Command.Page name n) (engine_of (slot_of kind t after)) (page_replies t c n)
+page-does kind t cursors after name n c h there e most files fault =
+    let s = slot_of kind t cursors in
     let command = Command.Page name n in
     ap (λ r. unless_refused r (engine_of s) files command) (unrefused most s files fault command h refl)
     ∙ ap (page_outcome (engine_of s) files name n) there
-    ∙ ap (λ x. outcome (engine_of (slot_of t x)) files (page_replies t c n)) (sym e)
+    ∙ ap (λ x. outcome (engine_of (slot_of kind t x)) files (page_replies t c n)) (sym e)
 
 -- a page that was listed, whose cursor was moved
-pub page-done : (t : AnyTable) (cursors after : Named Cursor) (name : List ℕ) (n : ℕ) (c behind : Cursor) (sink now_sink : Taken) (v now_v : ℕ) → early_refusal (slot_of t cursors) (Command.Page name n) ≡ None → lookup name cursors ≡ Some c → after ≡ enter name behind cursors → PageListed t c n sink now_sink v now_v behind → DoneWith (slot_of t cursors) (Command.Page name n) sink now_sink v now_v (slot_of t after) (Ok Good)
-page-done t cursors after name n c behind sink now_sink v now_v h there e listed =
-    let s = slot_of t cursors in
+pub page-done : (kind : Kind) (t : AnyTable) (cursors after : Named Cursor) (name : List ℕ) (n : ℕ) (c behind : Cursor) (sink now_sink : Taken) (v now_v : ℕ) → early_refusal (slot_of kind t cursors) (Command.Page name n) ≡ None → lookup name cursors ≡ Some c → after ≡ enter name behind cursors → PageListed t c n sink now_sink v now_v behind → DoneWith (slot_of kind t cursors) (Command.Page name n) sink now_sink v now_v (slot_of kind t after) (Ok Good)
+page-done kind t cursors after name n c behind sink now_sink v now_v h there e listed =
+    let s = slot_of kind t cursors in
     let command = Command.Page name n in
     let rows = page t.tree.width c n t.tree.table in
     record {
-      done = λ changes. done-all 0 (engine_of s) (engine_of (slot_of t after)) (engine_of (slot_of t after)) command (page_replies t c n) (beside_sink sink v changes) (beside_sink now_sink now_v changes) (Ok Good) (record { files = refl; later = omega arith }) refl tt (page-does t cursors after name n c h there (e ∙ ap (λ x. enter name x cursors) listed.next)) (λ most files fault. rw there (record { few_visits = listed.visited; few_changes = omega arith })) (λ most files fault. rw (unrefused most s files fault command h refl, there) (record { enough_visits = omega (arith, listed.grows); enough_changes = omega arith })) (sym (good-rows rows (has_more t.tree.width c n t.tree.table) (length rows))) listed.told tt tt;
+      done = λ changes. done-all 0 (engine_of s) (engine_of (slot_of kind t after)) (engine_of (slot_of kind t after)) command (page_replies t c n) (beside_sink sink v changes) (beside_sink now_sink now_v changes) (Ok Good) (record { files = refl; later = omega arith }) refl tt (page-does kind t cursors after name n c h there (e ∙ ap (λ x. enter name x cursors) listed.next)) (λ most files fault. rw there (record { few_visits = listed.visited; few_changes = omega arith })) (λ most files fault. rw (unrefused most s files fault command h refl, there) (record { enough_visits = omega (arith, listed.grows); enough_changes = omega arith })) (sym (good-rows rows (has_more t.tree.width c n t.tree.table) (length rows))) listed.told tt tt;
     }
 
 -- a page in which a write failed
-pub page-stopped : (t : AnyTable) (cursors : Named Cursor) (name : List ℕ) (n : ℕ) (c : Cursor) (sink now_sink : Taken) (v now_v : ℕ) (stop : Stop) → early_refusal (slot_of t cursors) (Command.Page name n) ≡ None → lookup name cursors ≡ Some c → FrontListed (page_replies t c n) (t.tree.width + met t c.lo c.hi) sink now_sink v now_v stop → DoneWith (slot_of t cursors) (Command.Page name n) sink now_sink v now_v (slot_of t cursors) (Err stop)
-page-stopped t cursors name n c sink now_sink v now_v stop h there listed =
-    let s = slot_of t cursors in
+pub page-stopped : (kind : Kind) (t : AnyTable) (cursors : Named Cursor) (name : List ℕ) (n : ℕ) (c : Cursor) (sink now_sink : Taken) (v now_v : ℕ) (stop : Stop) → early_refusal (slot_of kind t cursors) (Command.Page name n) ≡ None → lookup name cursors ≡ Some c → FrontListed (page_replies t c n) (t.tree.width + met t c.lo c.hi) sink now_sink v now_v stop → DoneWith (slot_of kind t cursors) (Command.Page name n) sink now_sink v now_v (slot_of kind t cursors) (Err stop)
+page-stopped kind t cursors name n c sink now_sink v now_v stop h there listed =
+    let s = slot_of kind t cursors in
     let after = enter name (next_cursor t.tree.width c n t.tree.table) cursors in
     record {
-      done = λ changes. done-all 0 (engine_of s) (engine_of (slot_of t after)) (engine_of s) (Command.Page name n) (page_replies t c n) (beside_sink sink v changes) (beside_sink now_sink now_v changes) (Err stop) (record { files = refl; later = omega arith }) tt refl (page-does t cursors after name n c h there refl) (λ most files fault. rw there (record { few_visits = listed.visited; few_changes = omega arith })) tt tt tt listed.fault listed.front;
+      done = λ changes. done-all 0 (engine_of s) (engine_of (slot_of kind t after)) (engine_of s) (Command.Page name n) (page_replies t c n) (beside_sink sink v changes) (beside_sink now_sink now_v changes) (Err stop) (record { files = refl; later = omega arith }) tt refl (page-does kind t cursors after name n c h there refl) (λ most files fault. rw there (record { few_visits = listed.visited; few_changes = omega arith })) tt tt tt listed.fault listed.front;
     }
 
--- ---- a window
+-- ---- listings
 
-pub window-done : (t : AnyTable) (cursors : Named Cursor) (lo hi : List ℤ) (sink now_sink : Taken) (v now_v changes : ℕ) (result : Result Answer Stop) → early_refusal (slot_of t cursors) (Command.Window lo hi) ≡ None → ListsWindow t lo hi sink now_sink v now_v result → DoneOr 0 (engine_of (slot_of t cursors)) (Command.Window lo hi) (beside_sink sink v changes) (beside_sink now_sink now_v changes) (engine_of (slot_of t cursors)) result
-window-done t cursors lo hi sink now_sink v now_v changes (Ok answer) h listed =
-    let s = slot_of t cursors in
-    let command = Command.Window lo hi in
-    let rows = window lo hi t.tree.table in
+-- a command that lists rows as a window lists them, and is not refused
+pub listing-done : (s : Slot) (command : Command) (rows : List Row) (n : ℕ) (sink now_sink : Taken) (v now_v changes : ℕ) (result : Result Answer Stop) → early_refusal s command ≡ None → ((most : ℕ) (files : Files) (fault : Bool) → late_refusal most s files fault command ≡ None) → ((files : Files) → effect (engine_of s) files command ≡ outcome (engine_of s) files (listing rows)) → ((files : Files) → engine_bounds (engine_of s) files command ≡ work n n 0 0) → is_page command ≡ false → ListsRows rows n sink now_sink v now_v result → DoneOr 0 (engine_of s) command (beside_sink sink v changes) (beside_sink now_sink now_v changes) (engine_of s) result
+listing-done s command rows n sink now_sink v now_v changes (Ok answer) h late e w page listed =
     done-all 0 (engine_of s) (engine_of s) (engine_of s) command (listing rows) (beside_sink sink v changes) (beside_sink now_sink now_v changes) (Ok answer) (record { files = refl; later = omega arith }) refl tt
-    (λ most files fault. ap (λ r. unless_refused r (engine_of s) files command) (unrefused most s files fault command h refl))
-    (λ most files fault. record { few_visits = omega (arith, listed.visited); few_changes = omega arith })
-    (λ most files fault. rw (unrefused most s files fault command h refl) (record { enough_visits = omega (arith, listed.visited); enough_changes = omega arith }))
+    (λ most files fault. ap (λ r. unless_refused r (engine_of s) files command) (unrefused most s files fault command h (late most files fault)) ∙ e files)
+    (λ most files fault. rw (w files) (record { few_visits = omega (arith, listed.visited); few_changes = omega arith }))
+    (λ most files fault. rw (unrefused most s files fault command h (late most files fault), w files) (record { enough_visits = omega (arith, listed.visited); enough_changes = omega arith }))
     (rw listed.good (sym (good-rows rows false (length rows)))) listed.told tt tt
-window-done t cursors lo hi sink now_sink v now_v changes (Err stop) h listed =
-    let s = slot_of t cursors in
-    let command = Command.Window lo hi in
-    done-all 0 (engine_of s) (engine_of s) (engine_of s) command (listing (window lo hi t.tree.table)) (beside_sink sink v changes) (beside_sink now_sink now_v changes) (Err stop) (record { files = refl; later = omega arith }) tt refl
-    (λ most files fault. ap (λ r. unless_refused r (engine_of s) files command) (unrefused most s files fault command h refl))
-    (λ most files fault. record { few_visits = listed.visited; few_changes = omega arith })
+listing-done s command rows n sink now_sink v now_v changes (Err stop) h late e w page listed =
+    done-all 0 (engine_of s) (engine_of s) (engine_of s) command (listing rows) (beside_sink sink v changes) (beside_sink now_sink now_v changes) (Err stop) (record { files = refl; later = omega arith }) tt (rw page refl)
+    (λ most files fault. ap (λ r. unless_refused r (engine_of s) files command) (unrefused most s files fault command h (late most files fault)) ∙ e files)
+    (λ most files fault. rw (w files) (record { few_visits = listed.visited; few_changes = omega arith }))
     tt tt tt listed.fault listed.front

@@ -1,17 +1,14 @@
 -- The refusals that are told without files come before the others.
-use Rattle.std.proofs.Common.{◌≡◌, ℕ, Bool, true, false, refl, ap, ◌∙◌, arith}
+use Rattle.std.proofs.Common.{◌≡◌, ℕ, Bool, true, false, refl, sym, ap, ◌∙◌, arith}
 use Rattle.std.specs.Prelude.{Option, Some, None}
 use Rattle.ph_specs.specs.Command.{Command}
 use Rattle.ph_specs.specs.Reply.{Reply}
 use Rattle.ph_specs.specs.State.{Slot, Engine, Files, current}
 use Rattle.ph_specs.specs.Refusals.{refusal, refuse_if, has_wrong_dims, has_wrong_kind, is_out_of_range, is_reversed, lacks_cursor, has_too_many_cursors}
 use Rattle.ph_engine.specs.Refusing.{or_else, early_refusal, late_refusal}
-use Rattle.ph_specs.specs.Named.{Named}
-use Rattle.ph_specs.specs.Window.{Cursor}
 use Rattle.ph_script.specs.declared.command.Command.{Command as Written}
-use Rattle.ph_script.specs.declared.command.Command.TheVariants as by
 use Rattle.ph_script.specs.Meaning.{command_of}
-use Rattle.ph_engine.specs.Slots.{AnyTable, slot_of, engine_of}
+use Rattle.ph_engine.specs.Slots.{engine_of}
 use Rattle.ph_engine.specs.Doing.{Begun}
 
 -- a cause behind which others are looked for
@@ -60,6 +57,24 @@ right-range false false false later h = refl
 pub has-dims : (s : Slot) (cmd : Command) → early_refusal s cmd ≡ None → has_wrong_dims cmd ≡ false
 has-dims s cmd h = right-dims (has_wrong_dims cmd) _ h
 
+right-bounds : (a b c d : Bool) (later : Option Reply) → refuse_if a Reply.ErrorDims (refuse_if b Reply.ErrorKind (refuse_if c Reply.ErrorRange (refuse_if d Reply.ErrorReversed later))) ≡ None → d ≡ false
+right-bounds true b c d later h = absurd cc
+right-bounds false true c d later h = absurd cc
+right-bounds false false true d later h = absurd cc
+right-bounds false false false true later h = absurd cc
+right-bounds false false false false later h = refl
+
+right-kind : (a b : Bool) (later : Option Reply) → refuse_if a Reply.ErrorDims (refuse_if b Reply.ErrorKind later) ≡ None → b ≡ false
+right-kind true b later h = absurd cc
+right-kind false true later h = absurd cc
+right-kind false false later h = refl
+
+pub of-kind : (s : Slot) (cmd : Command) → early_refusal s cmd ≡ None → has_wrong_kind s.kind cmd ≡ false
+of-kind s cmd h = right-kind (has_wrong_dims cmd) (has_wrong_kind s.kind cmd) _ h
+
+pub unreversed : (s : Slot) (cmd : Command) → early_refusal s cmd ≡ None → is_reversed s cmd ≡ false
+unreversed s cmd h = right-bounds (has_wrong_dims cmd) (has_wrong_kind s.kind cmd) (is_out_of_range s cmd) (is_reversed s cmd) _ h
+
 pub in-range : (s : Slot) (cmd : Command) → early_refusal s cmd ≡ None → is_out_of_range s cmd ≡ false
 in-range s cmd h = right-range (has_wrong_dims cmd) (has_wrong_kind s.kind cmd) (is_out_of_range s cmd) _ h
 
@@ -81,15 +96,6 @@ has-cursor s cmd h = (right-cursor (has_wrong_dims cmd) (has_wrong_kind s.kind c
 pub has-room : (s : Slot) (cmd : Command) → early_refusal s cmd ≡ None → has_too_many_cursors s cmd ≡ false
 has-room s cmd h = right-cursors (has_too_many_cursors s cmd) (right-cursor (has_wrong_dims cmd) (has_wrong_kind s.kind cmd) (is_out_of_range s cmd) (is_reversed s cmd) (lacks_cursor s cmd) _ h).1
 
--- the causes that a slot of points can have
-pub points-refusal : (t : AnyTable) (cursors : Named Cursor) (c : Written) → let s = slot_of t cursors in let cmd = command_of c in early_refusal s cmd ≡ refuse_if (has_wrong_dims cmd) Reply.ErrorDims (refuse_if (is_out_of_range s cmd) Reply.ErrorRange (refuse_if (lacks_cursor s cmd) Reply.ErrorCursor (refuse_if (has_too_many_cursors s cmd) Reply.ErrorCursors None)))
-points-refusal t cursors (by.Begin k max) = refl
-points-refusal t cursors (by.Put at value) = refl
-points-refusal t cursors (by.Get at) = refl
-points-refusal t cursors (by.Del at) = refl
-points-refusal t cursors (by.Relocate from to) = refl
-points-refusal t cursors by.Count = refl
-points-refusal t cursors by.Clear = refl
-points-refusal t cursors (by.Window lo hi) = refl
-points-refusal t cursors (by.Cursor name lo hi) = refl
-points-refusal t cursors (by.Page name n) = refl
+-- an arm of a command that is not refused
+pub unrefused-arm : (s now : Slot) (cmd arm : Written) → s ≡ now → cmd ≡ arm → None ≡ early_refusal now (command_of cmd) → early_refusal s (command_of arm) ≡ None
+unrefused-arm s now cmd arm e is h = ap (λ x. early_refusal x (command_of arm)) e ∙ ap (λ x. early_refusal now (command_of x)) (sym is) ∙ sym h

@@ -1,69 +1,160 @@
 -- What a slot keeps, a command keeps.
-use Rattle.std.proofs.Common.{◌≡◌, ◌≤◌, ◌+◌, ℕ, zero, suc, Bool, true, false, List, [], ◌∷◌, length, refl, ap, sym, ◌∙◌, arith, cond}
-use Rattle.std.specs.Prelude.{Option, Some, None, Result, Ok, Err, ℤ}
-use Rattle.std.specs.List.{AllByRecursion}
+use Rattle.std.proofs.Common.{◌≡◌, ◌≤◌, ◌+◌, ℕ, zero, suc, Bool, true, false, List, [], ◌∷◌, length, refl, ap, sym, subst, ◌∙◌, arith, cond}
+use Rattle.std.specs.Prelude.{Option, Some, None, Result, Ok, Err, ℤ, not, ◌&&◌, if◌then◌else◌}
+use Rattle.std.specs.List.{AllByRecursion, list_all}
 use Rattle.std.specs.Ordering.{nat_cmp}
 use Rattle.std.specs.Cmp.Lexicographic.{slice_cmp}
 use Rattle.std.specs.FinMap.Entries.{is_sorted}
 use Rattle.std.proofs.Math.Dec.{T}
+use Rattle.ph_specs.specs.declared.Kind.{Kind}
+use Rattle.ph_specs.specs.declared.Kind.TheVariants.{Points, Boxes}
 use Rattle.ph_specs.specs.Command.{Command}
-use Rattle.ph_specs.specs.Named.{has_name}
+use Rattle.ph_specs.specs.Coordinate.{same_point, is_box, IsBox}
+use Rattle.ph_specs.specs.Named.{Named, has_name}
+use Rattle.ph_specs.specs.Table.{Row, row, put, del, move, move_value, find, has}
+use Rattle.ph_specs.specs.ZOrder.{before}
 use Rattle.ph_specs.specs.Reply.{Reply}
 use Rattle.ph_specs.specs.State.{current}
-use Rattle.ph_specs.specs.Refusals.{refusal}
+use Rattle.ph_specs.specs.Refusals.{refusal, boxes_of}
 use Rattle.ph_specs.specs.Window.{Cursor}
 use Rattle.ph_specs.specs.Engine.{unless_refused}
 use Rattle.ph_script.specs.declared.reply.Reply.{Reply as Told}
 use Rattle.ph_engine.specs.Doing.{ServedOr}
-use Rattle.ph_engine.specs.Slots.{AnyTable, slot_of, engine_of, cursor_of, cursor_dims, named, entered, IsCursorIn, IsSlot}
+use Rattle.ph_engine.specs.Slots.{AnyTable, slot_of, engine_of, cursor_of, cursor_dims, named, entered, AreBoxes, IsOfKind, IsCursorIn, IsSlot}
+use Rattle.ph_engine.specs.Refusing.{early_refusal}
 use Rattle.ph_engine.specs.declared.cursors.Held.{Held}
 use Rattle.ph_engine.specs.declared.cursors.AnyCursor.{AnyCursor}
 use Rattle.ph_engine.specs.declared.cursors.AnyCursor.TheVariants as at
+use Rattle.ph_engine.proofs.Refused.{unreversed}
 use Rattle.ph_engine.proofs.Names.{true-is, is-true, sorted-entered, length-entered, all-entered}
 
--- a table of the same width and number of dimensions
-pub record SameFrame (t now : AnyTable) : Type 0 where
+-- ---- rows that are boxes
+
+boxes-put : (w : ℕ) (rows : List Row) (p : List ℤ) (v : ℕ) → IsBox p → AreBoxes rows → AreBoxes (put w rows p v)
+boxes-put w [] p v b h = (b, tt)
+boxes-put w (r ∷ rows) p v b h =
+    elim (same_point r.point p) as (λ t. AreBoxes (if t then row p v ∷ rows else (if before w p r.point then row p v ∷ r ∷ rows else r ∷ put w rows p v))) [
+      | true ↦ (b, h.1)
+      | false ↦ elim (before w p r.point) as (λ t. AreBoxes (if t then row p v ∷ r ∷ rows else r ∷ put w rows p v)) [ true ↦ (b, h) | false ↦ (h.0, boxes-put w rows p v b h.1) ]
+    ]
+
+boxes-del : (rows : List Row) (p : List ℤ) → AreBoxes rows → AreBoxes (del rows p)
+boxes-del [] p h = h
+boxes-del (r ∷ rows) p h = elim (same_point r.point p) as (λ t. AreBoxes (if t then rows else r ∷ del rows p)) [ true ↦ h.1 | false ↦ (h.0, boxes-del rows p h.1) ]
+
+boxes-value : (w : ℕ) (rows : List Row) (p q : List ℤ) (v : Option ℕ) → IsBox q → AreBoxes rows → AreBoxes (move_value w rows p q v)
+boxes-value w rows p q None b h = h
+boxes-value w rows p q (Some v) b h = boxes-put w (del rows p) q v b (boxes-del rows p h)
+
+boxes-move : (w : ℕ) (rows : List Row) (p q : List ℤ) → IsBox q → AreBoxes rows → AreBoxes (move w rows p q)
+boxes-move w rows p q b h = elim (has rows q) as (λ t. AreBoxes (if t then rows else move_value w rows p q (find rows p))) [ true ↦ h | false ↦ boxes-value w rows p q (find rows p) b h ]
+
+is-box : (b : Bool) → not (b && true) ≡ false → b ≡ true
+is-box true h = refl
+is-box false h = absurd cc
+
+second-box : (a b : Bool) → not (a && (b && true)) ≡ false → b ≡ true
+second-box true true h = refl
+second-box true false h = absurd cc
+second-box false b h = absurd cc
+
+-- ---- a table of the same width, number of dimensions and kind
+
+pub record SameFrame (kind : Kind) (t now : AnyTable) : Type 0 where
   pub width : now.tree.width ≡ t.tree.width
   pub dims : now.dims ≡ t.dims
+  pub of_kind : IsOfKind kind t → IsOfKind kind now
 
--- refused or not, the command leaves both
-abbrev pub KeepsFrame : AnyTable → Command → Type 0
-KeepsFrame t command =
-    (r : Option Reply) → let s = current (unless_refused r (engine_of (slot_of t [])) [] command).engine in (s.width ≡ t.tree.width) × (s.dims ≡ t.dims)
+-- refused or not, a command on points leaves the width and the dimensions, and where a slot of the kind does not refuse it, the kind
+pub record KeepsFrame (kind : Kind) (t : AnyTable) (command : Command) : Type 0 where
+  pub same : (r : Option Reply) → let s = current (unless_refused r (engine_of (slot_of Points t [])) [] command).engine in (s.width ≡ t.tree.width) × (s.dims ≡ t.dims)
+  pub boxes : (r : Option Reply) → kind ≡ Boxes → AreBoxes t.tree.table → AreBoxes (current (unless_refused r (engine_of (slot_of Points t [])) [] command).engine).table
 
-pub same-frame : {D : ℕ} {E : Type 0} (t now : AnyTable) (command : Command) (outcome : Result (Told D) E) (v now_v c now_c : ℕ) → KeepsFrame t command → ServedOr t command now v now_v c now_c outcome → SameFrame t now
-same-frame t now command (Ok reply) v now_v c now_c k h =
+of-kind-still : (kind : Kind) (t now : AnyTable) → now.dims ≡ t.dims → (kind ≡ Boxes → AreBoxes t.tree.table → AreBoxes now.tree.table) → IsOfKind kind t → IsOfKind kind now
+of-kind-still Points t now d b h = h
+of-kind-still Boxes t now d b h = (rw d h.0, b refl h.1)
+
+pub same-frame : {D : ℕ} {E : Type 0} (kind : Kind) (t now : AnyTable) (command : Command) (outcome : Result (Told D) E) (v now_v c now_c : ℕ) → KeepsFrame kind t command → ServedOr t command now v now_v c now_c outcome → SameFrame kind t now
+same-frame kind t now command (Ok reply) v now_v c now_c k h =
     let does = h.does [] 0 [] false in
-    let kept = k (refusal 0 (engine_of (slot_of t [])) [] false command) in
-    record { width = sym (ap (λ o. (current o.engine).width) does) ∙ kept.0; dims = sym (ap (λ o. (current o.engine).dims) does) ∙ kept.1 }
-same-frame t now command (Err error) v now_v c now_c k h = record { width = ap (λ x. x.tree.width) h.stays; dims = ap (λ x. x.dims) h.stays }
+    let r = refusal 0 (engine_of (slot_of Points t [])) [] false command in
+    let dims : now.dims ≡ t.dims = sym (ap (λ o. (current o.engine).dims) does) ∙ (k.same r).1 in
+    record {
+      width = sym (ap (λ o. (current o.engine).width) does) ∙ (k.same r).0;
+      dims = dims;
+      of_kind = of-kind-still kind t now dims (λ e b. subst AreBoxes (ap (λ o. (current o.engine).table) does) (k.boxes r e b));
+    }
+same-frame kind t now command (Err error) v now_v c now_c k h =
+    record { width = ap (λ x. x.tree.width) h.stays; dims = ap (λ x. x.dims) h.stays; of_kind = λ o. rw h.stays o }
 
-pub put-frame : (t : AnyTable) (p : List ℤ) (v : ℕ) → KeepsFrame t (Command.Put p v)
-put-frame t p v (Some r) = (refl, refl)
-put-frame t p v None = (refl, refl)
+-- a point of a command that a slot of boxes does not refuse is a box
+box-of : (t : AnyTable) (cursors : Named Cursor) (kind : Kind) (command : Command) (p : List ℤ) → boxes_of Boxes command ≡ p ∷ [] → kind ≡ Boxes → early_refusal (slot_of kind t cursors) command ≡ None → IsBox p
+box-of t cursors kind command p e k h =
+    is-box (is_box p) (ap (λ ps. not (list_all is_box ps)) (sym e) ∙ ap (λ x. not (list_all is_box (boxes_of x command))) (sym k) ∙ unreversed (slot_of kind t cursors) command h)
 
-pub del-frame : (t : AnyTable) (p : List ℤ) → KeepsFrame t (Command.Del p)
-del-frame t p (Some r) = (refl, refl)
-del-frame t p None = (refl, refl)
+module _ (kind : Kind) (t : AnyTable) (cursors : Named Cursor) where
+  pub put-frame : (p : List ℤ) (v : ℕ) → early_refusal (slot_of kind t cursors) (Command.Put p v) ≡ None → KeepsFrame kind t (Command.Put p v)
+  put-frame p v h = record { same = stays; boxes = boxed }
+    where
+      stays : (r : Option Reply) → let s = current (unless_refused r (engine_of (slot_of Points t [])) [] (Command.Put p v)).engine in (s.width ≡ t.tree.width) × (s.dims ≡ t.dims)
+      stays (Some r) = (refl, refl)
+      stays None = (refl, refl)
 
-pub move-frame : (t : AnyTable) (p q : List ℤ) → KeepsFrame t (Command.Relocate p q)
-move-frame t p q (Some r) = (refl, refl)
-move-frame t p q None = (refl, refl)
+      boxed : (r : Option Reply) → kind ≡ Boxes → AreBoxes t.tree.table → AreBoxes (current (unless_refused r (engine_of (slot_of Points t [])) [] (Command.Put p v)).engine).table
+      boxed (Some r) e b = b
+      boxed None e b = boxes-put t.tree.width t.tree.table p v (box-of t cursors kind (Command.Put p v) p refl e h) b
 
-pub clear-frame : (t : AnyTable) → KeepsFrame t Command.Clear
-clear-frame t (Some r) = (refl, refl)
-clear-frame t None = (refl, refl)
+  pub del-frame : (p : List ℤ) → KeepsFrame kind t (Command.Del p)
+  del-frame p = record { same = stays; boxes = boxed }
+    where
+      stays : (r : Option Reply) → let s = current (unless_refused r (engine_of (slot_of Points t [])) [] (Command.Del p)).engine in (s.width ≡ t.tree.width) × (s.dims ≡ t.dims)
+      stays (Some r) = (refl, refl)
+      stays None = (refl, refl)
+
+      boxed : (r : Option Reply) → kind ≡ Boxes → AreBoxes t.tree.table → AreBoxes (current (unless_refused r (engine_of (slot_of Points t [])) [] (Command.Del p)).engine).table
+      boxed (Some r) e b = b
+      boxed None e b = boxes-del t.tree.table p b
+
+  pub move-frame : (p q : List ℤ) → early_refusal (slot_of kind t cursors) (Command.Relocate p q) ≡ None → KeepsFrame kind t (Command.Relocate p q)
+  move-frame p q h = record { same = stays; boxes = boxed }
+    where
+      stays : (r : Option Reply) → let s = current (unless_refused r (engine_of (slot_of Points t [])) [] (Command.Relocate p q)).engine in (s.width ≡ t.tree.width) × (s.dims ≡ t.dims)
+      stays (Some r) = (refl, refl)
+      stays None = (refl, refl)
+
+      target : kind ≡ Boxes → IsBox q
+      target e = second-box (is_box p) (is_box q) (ap (λ x. not (list_all is_box (boxes_of x (Command.Relocate p q)))) (sym e) ∙ unreversed (slot_of kind t cursors) (Command.Relocate p q) h)
+
+      boxed : (r : Option Reply) → kind ≡ Boxes → AreBoxes t.tree.table → AreBoxes (current (unless_refused r (engine_of (slot_of Points t [])) [] (Command.Relocate p q)).engine).table
+      boxed (Some r) e b = b
+      boxed None e b = boxes-move t.tree.width t.tree.table p q (target e) b
+
+  pub clear-frame : KeepsFrame kind t Command.Clear
+  clear-frame = record { same = stays; boxes = boxed }
+    where
+      stays : (r : Option Reply) → let s = current (unless_refused r (engine_of (slot_of Points t [])) [] Command.Clear).engine in (s.width ≡ t.tree.width) × (s.dims ≡ t.dims)
+      stays (Some r) = (refl, refl)
+      stays None = (refl, refl)
+
+      boxed : (r : Option Reply) → kind ≡ Boxes → AreBoxes t.tree.table → AreBoxes (current (unless_refused r (engine_of (slot_of Points t [])) [] Command.Clear).engine).table
+      boxed (Some r) e b = b
+      boxed None e b = tt
+
+-- a slot in which a question about boxes is not refused is one of boxes
+pub kind-of-boxes : (kind : Kind) (t : AnyTable) → (kind ≡ Points → ⊥) → IsOfKind kind t → IsOfKind Boxes t
+kind-of-boxes Points t n h = absurd (n refl)
+kind-of-boxes Boxes t n h = h
 
 -- a cursor that serves in a table serves in such a one
-cursor-kept : (t now : AnyTable) (c : AnyCursor) → SameFrame t now → IsCursorIn t c → IsCursorIn now c
-cursor-kept t now c f h = record { dims = h.dims ∙ sym f.dims; lo = rw (f.width, f.dims) h.lo; hi = rw (f.width, f.dims) h.hi; last = rw (f.width, f.dims) h.last }
+cursor-kept : (kind : Kind) (t now : AnyTable) (c : AnyCursor) → SameFrame kind t now → IsCursorIn t c → IsCursorIn now c
+cursor-kept kind t now c f h = record { dims = h.dims ∙ sym f.dims; lo = rw (f.width, f.dims) h.lo; hi = rw (f.width, f.dims) h.hi; last = rw (f.width, f.dims) h.last }
 
-cursors-kept : (t now : AnyTable) (held : List Held) → SameFrame t now → AllByRecursion (λ h. IsCursorIn t h.cursor) held → AllByRecursion (λ h. IsCursorIn now h.cursor) held
-cursors-kept t now [] f h = h
-cursors-kept t now (x ∷ held) f h = (cursor-kept t now x.cursor f h.0, cursors-kept t now held f h.1)
+cursors-kept : (kind : Kind) (t now : AnyTable) (held : List Held) → SameFrame kind t now → AllByRecursion (λ h. IsCursorIn t h.cursor) held → AllByRecursion (λ h. IsCursorIn now h.cursor) held
+cursors-kept kind t now [] f h = h
+cursors-kept kind t now (x ∷ held) f h = (cursor-kept kind t now x.cursor f h.0, cursors-kept kind t now held f h.1)
 
-pub slot-keeps : (t now : AnyTable) (held : List Held) → SameFrame t now → IsSlot t held → IsSlot now held
-slot-keeps t now held f h = record { width = f.width ∙ h.width; few = h.few; sorted = h.sorted; serve = cursors-kept t now held f h.serve }
+pub slot-keeps : (kind : Kind) (t now : AnyTable) (held : List Held) → SameFrame kind t now → IsSlot kind t held → IsSlot kind now held
+slot-keeps kind t now held f h = record { width = f.width ∙ h.width; of_kind = f.of_kind h.of_kind; few = h.few; sorted = h.sorted; serve = cursors-kept kind t now held f h.serve }
 
 -- a cursor is known by its number of dimensions
 abbrev pub by_dims : ℕ → Cursor → AnyCursor
@@ -88,8 +179,8 @@ by-dims (at.D8 c) = refl
 
 -- ---- with a cursor more
 
-pub names-sorted : (t : AnyTable) (held : List Held) → IsSlot t held → T (is_sorted (slice_cmp nat_cmp) (named held))
-names-sorted t held h = true-is (is_sorted (slice_cmp nat_cmp) (named held)) h.sorted
+pub names-sorted : (kind : Kind) (t : AnyTable) (held : List Held) → IsSlot kind t held → T (is_sorted (slice_cmp nat_cmp) (named held))
+names-sorted kind t held h = true-is (is_sorted (slice_cmp nat_cmp) (named held)) h.sorted
 
 few-entered : (b : Bool) (n : ℕ) → n ≤ 16 → (n ≡ 16 → b ≡ true) → cond b n (n + 1) ≤ 16
 few-entered true n h k = h
@@ -98,11 +189,12 @@ few-entered false n h k = less n h (λ e. absurd (let f : false ≡ true = k e i
     less : (n : ℕ) → n ≤ 16 → (n ≡ 16 → ⊥) → n + 1 ≤ 16
     less n h k = omega arith
 
-pub slot-entered : (t : AnyTable) (h : Held) (held : List Held) → IsSlot t held → IsCursorIn t h.cursor → (length held ≡ 16 → has_name h.name (named held) ≡ true) → IsSlot t (entered h held)
-slot-entered t h held s c room =
-    let sorted = names-sorted t held s in
+pub slot-entered : (kind : Kind) (t : AnyTable) (h : Held) (held : List Held) → IsSlot kind t held → IsCursorIn t h.cursor → (length held ≡ 16 → has_name h.name (named held) ≡ true) → IsSlot kind t (entered h held)
+slot-entered kind t h held s c room =
+    let sorted = names-sorted kind t held s in
     record {
       width = s.width;
+      of_kind = s.of_kind;
       few = rw (length-entered (λ x. x.name) (λ x. cursor_of x.cursor) h held sorted) (few-entered (has_name h.name (named held)) (length held) s.few room);
       sorted = is-true _ (sorted-entered (λ x. x.name) (λ x. cursor_of x.cursor) h held sorted);
       serve = all-entered (λ x. IsCursorIn t x.cursor) (λ x. x.name) (λ x. cursor_of x.cursor) h held s.serve c;

@@ -1,10 +1,9 @@
 -- What a command of the code does, by the definition of commands.
-use Rattle.std.specs.Prelude.{◌≡◌, ◌<◌, ℕ, Bool, true, false, not, ◌&&◌, nat_lt, if◌then◌else◌, List, [], ◌∷◌, length, take, ℤ, Option, Some, None, Result, Ok, Err}
-use Rattle.std.specs.List.{list_all}
+use Rattle.std.specs.Prelude.{◌≡◌, ◌<◌, ℕ, Bool, true, false, not, ◌&&◌, nat_lt, if◌then◌else◌, List, [], ◌∷◌, length, take, Option, Some, None, is_none, Result, Ok, Err}
 use Rattle.ph_io.specs.Giving.{Taken, Given}
 use Rattle.ph_specs.specs.Command.{Command}
 use Rattle.ph_specs.specs.Reply.{Reply, replies_text}
-use Rattle.ph_specs.specs.Coordinate.{fits}
+use Rattle.ph_specs.specs.declared.Kind.TheVariants.{Points}
 use Rattle.ph_specs.specs.Table.{Row, has}
 use Rattle.ph_specs.specs.Sets.{put_all}
 use Rattle.ph_specs.specs.Refusals.{import_rows}
@@ -16,6 +15,7 @@ use Rattle.ph_script.specs.declared.reply.Reply.{Reply as Told}
 use Rattle.ph_script.specs.Meaning.{reply_of}
 use Rattle.ph_engine.specs.Beside.{Beside, beside_sink, IsTold, StillTells, Tells}
 use Rattle.ph_engine.specs.Machine.{is_refusal, one_if}
+use Rattle.ph_engine.specs.Refusing.{early_refusal}
 use Rattle.ph_engine.specs.Working.{work_of, IsAtMost, IsAtLeast}
 use Rattle.ph_engine.specs.Slots.{AnyTable, slot_of, engine_of}
 use Rattle.ph_engine.specs.declared.status.Answer.{Answer}
@@ -50,6 +50,12 @@ fetches (Command.Load name) = true
 fetches (Command.Import name header) = true
 fetches _ = false
 
+-- whether a command knows the current slot alone
+abbrev pub is_on_slot : Command → Bool
+is_on_slot (Command.Select which) = false
+is_on_slot Command.Compare = false
+is_on_slot _ = true
+
 -- files that are known well enough for the command: those that are told, and any where it reads none
 abbrev pub Knows : Command → Option Files → Files → Type 0
 Knows command None files = fetches command ≡ false
@@ -61,26 +67,27 @@ pub record Leads (o : Outcome) (now : Engine) (told now_told : Option Files) (re
   pub is : o ≡ outcome now files replies
   pub told_files : StillTells told now_told files
 
--- whether a point is in the range of a slot
-abbrev pub is_in_range : Slot → List ℤ → Bool
-is_in_range s p = list_all (fits s.width) p
+-- whether a command takes memory on a slot: a put of a row that is new and has room, a move to another point, and what keeps nodes, rows or
+-- bytes in memory while it goes
+abbrev pub takes_memory : Slot → Command → Bool
+takes_memory s (Command.Put p v) = not (has s.table p) && nat_lt (length s.table) s.max
+takes_memory s (Command.Relocate p q) = has s.table p && not (has s.table q)
+takes_memory s (Command.Near q n) = true
+takes_memory s (Command.Load name) = true
+takes_memory s (Command.Import name header) = true
+takes_memory s (Command.Export name) = true
+takes_memory s _ = false
 
--- whether a command may want memory: a put of a row that is new and has room, a move to another point, both in range, and what keeps
--- nodes, rows or bytes in memory while it goes
+-- whether it may want memory: it takes some, and is not refused before
 abbrev pub wants_memory : Slot → Command → Bool
-wants_memory s (Command.Put p v) = is_in_range s p && (not (has s.table p) && nat_lt (length s.table) s.max)
-wants_memory s (Command.Relocate p q) = is_in_range s p && (is_in_range s q && (has s.table p && not (has s.table q)))
-wants_memory s (Command.Near q n) = true
-wants_memory s (Command.Load name) = true
-wants_memory s (Command.Import name header) = true
-wants_memory s (Command.Export name) = true
-wants_memory s _ = false
+wants_memory s command = is_none (early_refusal s command) && takes_memory s command
 
--- a command on a table, whatever cursors stand beside it, has this reply and leads to this table
+-- A command on a table of points, whatever cursors stand beside it, has this reply and leads to this table. What it does to boxes is the same,
+-- where it is not refused.
 pub record Served (t : AnyTable) (command : Command) (now : AnyTable) (reply : Reply) (visits now_visits changes now_changes : ℕ) : Type 0 where
-  pub does : (cursors : Named Cursor) → DoesAt (slot_of t cursors) command (slot_of now cursors) (reply ∷ [])
-  pub most : (cursors : Named Cursor) → MostAt (slot_of t cursors) command visits now_visits changes now_changes
-  pub least : (cursors : Named Cursor) → LeastAt (slot_of t cursors) command visits now_visits changes now_changes
+  pub does : (cursors : Named Cursor) → DoesAt (slot_of Points t cursors) command (slot_of Points now cursors) (reply ∷ [])
+  pub most : (cursors : Named Cursor) → MostAt (slot_of Points t cursors) command visits now_visits changes now_changes
+  pub least : (cursors : Named Cursor) → LeastAt (slot_of Points t cursors) command visits now_visits changes now_changes
 
 -- the same without a change, and without any work
 pub record Looked (t : AnyTable) (command : Command) (now : AnyTable) (reply : Reply) (visits now_visits : ℕ) : Type 0 where
@@ -98,8 +105,8 @@ pub record Begun (s : Slot) (command : Command) (now : Slot) (reply : Reply) : T
 -- memory was missing for the command, which may want it
 pub record Unserved (t : AnyTable) (command : Command) (now : AnyTable) (visits now_visits changes now_changes : ℕ) : Type 0 where
   pub stays : now ≡ t
-  pub wanted : (cursors : Named Cursor) → wants_memory (slot_of t cursors) command ≡ true
-  pub most : (cursors : Named Cursor) → MostAt (slot_of t cursors) command visits now_visits changes now_changes
+  pub wanted : (cursors : Named Cursor) → takes_memory (slot_of Points t cursors) command ≡ true
+  pub most : (cursors : Named Cursor) → MostAt (slot_of Points t cursors) command visits now_visits changes now_changes
 
 abbrev pub ServedOr : {D : ℕ} {E : Type 0} → AnyTable → Command → AnyTable → ℕ → ℕ → ℕ → ℕ → Result (Told D) E → Type 0
 ServedOr t command now visits now_visits changes now_changes (Ok reply) = Served t command now (reply_of reply) visits now_visits changes now_changes

@@ -11,6 +11,7 @@ pub mod Writing
 pub mod Telling
 pub mod Naming
 pub mod Slots
+pub mod Comparing
 pub mod Refusing
 pub mod Listing
 pub mod Doing

@@ -1,7 +1,10 @@
 -- Replies that list rows.
-use Rattle.std.specs.Prelude.{◌≡◌, ◌≤◌, ◌+◌, ℕ, Bool, true, false, List, [], ◌∷◌, ◌++◌, length, ℤ, Result, Ok, Err}
+use Rattle.std.specs.Prelude.{◌≡◌, ◌≤◌, ◌+◌, ℕ, Bool, true, false, List, [], ◌∷◌, ◌++◌, length, ℤ, filter, Result, Ok, Err}
 use Rattle.ph_io.specs.Giving.{Taken, Given}
+use Rattle.ph_specs.specs.Boxes.{overlaps, is_inside, covers, overlaps_low, overlaps_high, inside_low, inside_high, covers_low, covers_high}
+use Rattle.ph_specs.specs.Coordinate.{low_corner, high_corner}
 use Rattle.ph_specs.specs.Reply.{Reply, replies_text}
+use Rattle.ph_specs.specs.Table.{Row}
 use Rattle.ph_specs.specs.Engine.{listing, row_replies, page_end}
 use Rattle.ph_specs.specs.Window.{Cursor, window, page, has_more, next_cursor}
 use Rattle.ph_specs.specs.WorkSets.{meets}
@@ -11,6 +14,8 @@ use Rattle.ph_window.specs.declared.page.Tail.TheVariants.{More, End}
 use Rattle.ph_engine.specs.Slots.{AnyTable, cursor_of, cursor_dims}
 use Rattle.ph_engine.specs.Writing.{WritesFront}
 use Rattle.ph_engine.specs.declared.cursors.AnyCursor.{AnyCursor}
+use Rattle.ph_engine.specs.declared.boxes.Question.{Question}
+use Rattle.ph_engine.specs.declared.boxes.Question.TheVariants.{Overlap, Inside, Covers}
 use Rattle.ph_engine.specs.declared.status.Answer.{Answer}
 use Rattle.ph_engine.specs.declared.status.Answer.TheVariants.{Good}
 use Rattle.ph_engine.specs.declared.status.Stop.{Stop}
@@ -20,11 +25,11 @@ use Rattle.ph_engine.specs.declared.status.Stop.TheVariants.{WriteFault}
 abbrev pub met : AnyTable → List ℤ → List ℤ → ℕ
 met t lo hi = length (meets t.tree.width t.dims t.tree.table lo hi)
 
--- all rows of a window were listed
-pub record WindowListed (t : AnyTable) (lo hi : List ℤ) (sink now_sink : Taken) (visits now_visits : ℕ) (answer : Answer) : Type 0 where
-  pub told : Given sink now_sink (replies_text (listing (window lo hi t.tree.table)))
+-- these rows were listed, and so many nodes visited for them
+pub record RowsListed (rows : List Row) (n : ℕ) (sink now_sink : Taken) (visits now_visits : ℕ) (answer : Answer) : Type 0 where
+  pub told : Given sink now_sink (replies_text (listing rows))
   pub good : answer ≡ Good
-  pub visited : now_visits ≡ visits + met t lo hi
+  pub visited : now_visits ≡ visits + n
 
 -- a write failed in a reply, for which no more nodes were visited than for the whole
 pub record FrontListed (replies : List Reply) (most : ℕ) (sink now_sink : Taken) (visits now_visits : ℕ) (stop : Stop) : Type 0 where
@@ -32,9 +37,43 @@ pub record FrontListed (replies : List Reply) (most : ℕ) (sink now_sink : Take
   pub fault : stop ≡ WriteFault
   pub visited : now_visits ≤ visits + most
 
+abbrev pub ListsRows : List Row → ℕ → Taken → Taken → ℕ → ℕ → Result Answer Stop → Type 0
+ListsRows rows n sink now_sink visits now_visits (Ok answer) = RowsListed rows n sink now_sink visits now_visits answer
+ListsRows rows n sink now_sink visits now_visits (Err stop) = FrontListed (listing rows) n sink now_sink visits now_visits stop
+
+-- the rows of a window, with the visits that it takes
 abbrev pub ListsWindow : AnyTable → List ℤ → List ℤ → Taken → Taken → ℕ → ℕ → Result Answer Stop → Type 0
-ListsWindow t lo hi sink now_sink visits now_visits (Ok answer) = WindowListed t lo hi sink now_sink visits now_visits answer
-ListsWindow t lo hi sink now_sink visits now_visits (Err stop) = FrontListed (listing (window lo hi t.tree.table)) (met t lo hi) sink now_sink visits now_visits stop
+ListsWindow t lo hi sink now_sink visits now_visits result = ListsRows (window lo hi t.tree.table) (met t lo hi) sink now_sink visits now_visits result
+
+-- ---- questions about boxes
+
+-- whether a question lists a box
+abbrev pub asks : Question → List ℤ → List ℤ → Bool
+asks Overlap q box = overlaps q box
+asks Inside q box = is_inside q box
+asks Covers q box = covers q box
+
+-- the rows that a question lists
+abbrev pub answered : Question → List ℤ → List Row → List Row
+answered question q table = filter (λ r. asks question q r.point) table
+
+-- the corners of its window
+abbrev pub low_bound : Question → ℕ → List ℤ → List ℤ
+low_bound Overlap w q = overlaps_low w (low_corner q) (high_corner q)
+low_bound Inside w q = inside_low w (low_corner q) (high_corner q)
+low_bound Covers w q = covers_low w (low_corner q) (high_corner q)
+
+abbrev pub high_bound : Question → ℕ → List ℤ → List ℤ
+high_bound Overlap w q = overlaps_high w (low_corner q) (high_corner q)
+high_bound Inside w q = inside_high w (low_corner q) (high_corner q)
+high_bound Covers w q = covers_high w (low_corner q) (high_corner q)
+
+-- the boxes that a question lists, with the visits that its window takes
+abbrev pub ListsBoxes : Question → AnyTable → List ℤ → Taken → Taken → ℕ → ℕ → Result Answer Stop → Type 0
+ListsBoxes question t q sink now_sink visits now_visits result =
+    ListsRows (answered question q t.tree.table) (met t (low_bound question t.tree.width q) (high_bound question t.tree.width q)) sink now_sink visits now_visits result
+
+-- ---- pages
 
 -- the replies of a page
 abbrev pub page_replies : AnyTable → Cursor → ℕ → List Reply

@@ -1,12 +1,14 @@
 -- The engine of the code as that of the definitions.
-use Rattle.std.specs.Prelude.{◌≡◌, ◌≤◌, ℕ, ◌-◌, ◌^◌, List, [], length, IsTrue}
+use Rattle.std.specs.Prelude.{◌≡◌, ◌≤◌, ℕ, ◌-◌, ◌%◌, ◌^◌, List, [], length, IsTrue}
 use Rattle.std.specs.List.{AllByRecursion}
 use Rattle.std.specs.Ordering.{nat_cmp}
 use Rattle.std.specs.Cmp.Lexicographic.{slice_cmp}
 use Rattle.std.specs.FinMap.Entries.{is_sorted}
-use Rattle.ph_specs.specs.declared.Kind.TheVariants.{Points}
+use Rattle.ph_specs.specs.declared.Kind.{Kind}
+use Rattle.ph_specs.specs.declared.Kind.TheVariants.{Points, Boxes}
 use Rattle.ph_specs.specs.declared.Which.TheVariants.{A}
-use Rattle.ph_specs.specs.Coordinate.{IsPoint}
+use Rattle.ph_specs.specs.Coordinate.{IsPoint, IsBox}
+use Rattle.ph_specs.specs.Table.{Row}
 use Rattle.ph_specs.specs.Named.{Named}
 use Rattle.ph_specs.specs.State.{Slot, Engine, empty_slot}
 use Rattle.ph_specs.specs.Window.{Cursor}
@@ -70,9 +72,9 @@ named held = under (λ h. h.name) (λ h. cursor_of h.cursor) held
 abbrev pub entered : Held → List Held → List Held
 entered h held = entered_at (place h.name (named held)) h held
 
--- a slot of points with such cursors
-abbrev pub slot_of : AnyTable → Named Cursor → Slot
-slot_of t cursors = record { kind = Points; dims = t.dims; width = t.tree.width; max = t.tree.max; table = t.tree.table; cursors = cursors }
+-- a slot of a kind with such cursors
+abbrev pub slot_of : Kind → AnyTable → Named Cursor → Slot
+slot_of kind t cursors = record { kind = kind; dims = t.dims; width = t.tree.width; max = t.tree.max; table = t.tree.table; cursors = cursors }
 
 -- a cursor that serves in a table: its corners and its last point are points of it
 pub record IsCursorIn (t : AnyTable) (c : AnyCursor) : Type 0 where
@@ -81,9 +83,20 @@ pub record IsCursorIn (t : AnyTable) (c : AnyCursor) : Type 0 where
   pub hi : IsPoint t.tree.width t.dims (cursor_of c).hi
   pub last : IsLast t.tree.width t.dims (cursor_of c).last
 
--- what a slot of the code keeps: its width, at most 16 cursors in the order of their names, which differ, and that each serves in its table
-pub record IsSlot (t : AnyTable) (held : List Held) : Type 0 where
+-- each row is a box
+abbrev pub AreBoxes : List Row → Type 0
+AreBoxes rows = AllByRecursion (λ r. IsBox r.point) rows
+
+-- the points of a table are of the kind: those of boxes have an even number of dimensions, half of them for the low corner, and each is a box
+abbrev pub IsOfKind : Kind → AnyTable → Type 0
+IsOfKind Points t = Unit {0}
+IsOfKind Boxes t = (t.dims % 2 ≡ 0) × AreBoxes t.tree.table
+
+-- what a slot of the code keeps: its width, that its rows are of its kind, at most 16 cursors in the order of their names, which differ, and that
+-- each serves in its table
+pub record IsSlot (kind : Kind) (t : AnyTable) (held : List Held) : Type 0 where
   pub width : t.tree.width ≡ 32
+  pub of_kind : IsOfKind kind t
   pub few : length held ≤ 16
   pub sorted : IsTrue (is_sorted (slice_cmp nat_cmp) (named held))
   pub serve : AllByRecursion (λ h. IsCursorIn t h.cursor) held

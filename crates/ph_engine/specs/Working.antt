@@ -1,9 +1,12 @@
 -- The work of a command: bounds of the nodes that it visits and of the changes that it makes.
-use Rattle.std.specs.Prelude.{◌≤◌, ℕ, ◌+◌, ◌*◌, Bool, not, ◌&&◌, length, Option, Some, None}
+use Rattle.std.specs.Prelude.{◌≤◌, ℕ, ◌+◌, ◌*◌, Bool, not, ◌&&◌, if◌then◌else◌, List, length, ℤ, Option, Some, None}
 use Rattle.ph_specs.specs.Command.{Command}
 use Rattle.ph_specs.specs.Reply.{Reply}
 use Rattle.ph_specs.specs.Table.{has}
-use Rattle.ph_specs.specs.WorkSets.{path, meets}
+use Rattle.ph_specs.specs.WorkSets.{path, meets, all_nodes}
+use Rattle.ph_specs.specs.Coordinate.{low_corner, high_corner}
+use Rattle.ph_specs.specs.Boxes.{overlaps_low, overlaps_high, inside_low, inside_high, covers_low, covers_high}
+use Rattle.ph_specs.specs.Engine.{same_slots}
 use Rattle.ph_specs.specs.Named.{lookup}
 use Rattle.ph_specs.specs.Window.{Cursor}
 use Rattle.ph_specs.specs.Refusals.{refusal}
@@ -22,15 +25,31 @@ abbrev pub page_bounds : Slot → Option Cursor → Work
 page_bounds s (Some c) = work (s.width + length (meets s.width s.dims s.table c.lo c.hi)) 0 0 0
 page_bounds s None = no_work
 
+-- those of a listing of a window
+abbrev pub window_bounds : Slot → List ℤ → List ℤ → Work
+window_bounds s lo hi = let n = length (meets s.width s.dims s.table lo hi) in work n n 0 0
+
 -- the bounds of a command on a slot that does not refuse it
 abbrev pub bounds : Slot → Files → Command → Work
 bounds s files (Command.Get p) = let n = length (path s.width s.dims s.table p) in work n n 0 0
 bounds s files (Command.Put p v) = work (2 * s.width) 0 2 (one_if (not (has s.table p)))
 bounds s files (Command.Del p) = work (2 * s.width) 0 2 (one_if (has s.table p))
 bounds s files (Command.Relocate p q) = work (6 * s.width) 0 4 (one_if (has s.table p && not (has s.table q)))
-bounds s files (Command.Window lo hi) = let n = length (meets s.width s.dims s.table lo hi) in work n n 0 0
+bounds s files (Command.Window lo hi) = window_bounds s lo hi
+bounds s files (Command.Overlap q) = window_bounds s (overlaps_low s.width (low_corner q) (high_corner q)) (overlaps_high s.width (low_corner q) (high_corner q))
+bounds s files (Command.Inside q) = window_bounds s (inside_low s.width (low_corner q) (high_corner q)) (inside_high s.width (low_corner q) (high_corner q))
+bounds s files (Command.Covers q) = window_bounds s (covers_low s.width (low_corner q) (high_corner q)) (covers_high s.width (low_corner q) (high_corner q))
 bounds s files (Command.Page name n) = page_bounds s (lookup name s.cursors)
 bounds s files _ = no_work
+
+-- the nodes of a slot's tree
+abbrev pub nodes_of : Slot → ℕ
+nodes_of s = length (all_nodes s.width s.dims s.table)
+
+-- the bounds of a command of an engine: a comparison visits no more than all nodes of both trees, and these where the slots are the same
+abbrev pub engine_bounds : Engine → Files → Command → Work
+engine_bounds e files Command.Compare = let n = nodes_of e.a + nodes_of e.b in work n (if same_slots e.a e.b then n else 0) 0 0
+engine_bounds e files command = bounds (current e) files command
 
 -- a command that is refused has no least bound but 0
 abbrev pub least_unless : Option Reply → ℕ → ℕ
@@ -39,7 +58,7 @@ least_unless None n = n
 
 abbrev pub work_of : ℕ → Engine → Files → Bool → Command → Work
 work_of most e files fault command =
-    let w = bounds (current e) files command in
+    let w = engine_bounds e files command in
     let r = refusal most e files fault command in
     work w.most_visits (least_unless r w.least_visits) w.most_changes (least_unless r w.least_changes)
 

@@ -1,11 +1,13 @@
 //! What each command does to a tree.
-ghost use Rattle.std.specs.Prelude.{◌≡◌, ◌≤◌, None, true, length};
+ghost use Rattle.std.specs.Prelude.{◌≡◌, ◌≤◌, [], None, true, length};
 ghost use Rattle.std.specs.List.{list_all};
 ghost use Rattle.ph_specs.specs.Coordinate.{fits, IsPoint};
 ghost use Rattle.ph_specs.specs.Command.{Command as Asked};
 ghost use Rattle.ph_script.specs.Meaning.{number_of_coord, numbers_of, reply_of};
 ghost use Rattle.ph_engine.specs.Doing.{Looked, Idled, ServedOr};
-ghost use Rattle.ph_engine.specs.Slots.{table_at};
+ghost use Rattle.ph_engine.specs.Slots.{table_at, slot_of};
+ghost use Rattle.ph_engine.specs.Comparing.{IsCompared};
+ghost use Rattle.ph_specs.specs.declared.Kind.TheVariants.{Points};
 
 use ph_coord::{Point, Width};
 use ph_script::{Coord, Coords, Reply};
@@ -135,6 +137,17 @@ pub(crate) fn clear_rows<const D: usize>(tree: &mut PhTree<D>) -> Reply<1>
 {
     tree.clear();
     Reply::Cleared
+}
+
+pub(crate) fn are_same<const D: usize, V: Ledger>(
+    a: &PhTree<D>,
+    b: &PhTree<D>,
+    visits: &mut Steps<V>,
+) -> bool
+    requires { a.now.width ≡ b.now.width }
+    ensures { IsCompared (slot_of Points (table_at D a.now) []) (slot_of Points (table_at D b.now) []) visits.old visits.new result }
+{
+    a.same(b, visits)
 }
 
 pub(crate) fn cursor_at<const D: usize>(tree: &PhTree<D>, lo: &Coords, hi: &Coords) -> Cursor<D>

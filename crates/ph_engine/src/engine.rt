@@ -1,17 +1,19 @@
 //! The state of the program, and what a command does to it.
 ghost use Rattle.std.specs.Prelude.{◌≡◌, ◌≤◌};
-ghost use Rattle.ph_specs.specs.State.{new_engine, current};
-ghost use Rattle.ph_script.specs.Meaning.{command_of};
+ghost use Rattle.ph_specs.specs.Reply.{Reply as Replied};
+ghost use Rattle.ph_specs.specs.State.{new_engine, current, slot_at};
+ghost use Rattle.ph_script.specs.Meaning.{command_of, reply_of};
 ghost use Rattle.ph_script.specs.Fit.{HasDims};
 ghost use Rattle.ph_engine.specs.Beside.{beside};
+ghost use Rattle.ph_engine.specs.Comparing.{Compares};
 ghost use Rattle.ph_engine.specs.Doing.{DoneOr};
 ghost use Rattle.ph_engine.specs.Statuses.{StopHasCause};
 
+use crate::output::tell;
 use crate::slot::Slot;
 use crate::status::{Answer, Stop};
 use ph_io::Sink;
-use ph_script::{Command, Text};
-use ph_specs::Which;
+use ph_script::{Command, Reply, Text, Which};
 use ph_steps::Steps;
 use std::alloc::Global;
 use std::marker::Model;
@@ -45,7 +47,17 @@ impl Engine {
         }
     }
 
-    /// The number of dimensions of the current slot's points: 1 to 8.
+    /// A slot.
+    pub fn slot(&self, which: Which) -> &Slot
+        ensures { result.now ≡ slot_at which self.now }
+    {
+        match which {
+            Which::A => &self.a,
+            Which::B => &self.b,
+        }
+    }
+
+    /// The number of dimensions of the current slot's points: 1 to 8. A box has its two corners.
     pub fn dims(&self) -> u32
         ensures value { result ≡ (current self.now).dims }
         ensures some { 1 ≤ result }
@@ -90,9 +102,48 @@ impl Engine {
         ensures done { DoneOr 0 self.old (command_of cmd.now) (beside (O.written out.old) (O.amount out.old) visits.old changes.old) (beside (O.written out.new) (O.amount out.new) visits.new changes.new) self.new result }
         ensures cause { StopHasCause (O.faults out.old) (O.faults out.new) result }
     {
-        match self.current {
-            Which::A => self.a.exec(alloc, cmd, out, text, visits, changes),
-            Which::B => self.b.exec(alloc, cmd, out, text, visits, changes),
+        match cmd {
+            Command::Select { slot } => tell(out, text, Ok(self.select(*slot))),
+            Command::Same => tell(out, text, Ok(self.compare(visits))),
+            _ => match self.current {
+                Which::A => self.a.exec(alloc, cmd, out, text, visits, changes),
+                Which::B => self.b.exec(alloc, cmd, out, text, visits, changes),
+            },
         }
+    }
+
+    // Makes a slot the current one.
+    fn select(&mut self, slot: Which) -> Reply<1>
+        ensures engine { self.new ≡ record self.old { current = slot } }
+        ensures reply { reply_of result ≡ Replied.Using slot }
+    {
+        self.current = slot;
+        Reply::Using(slot)
+    }
+
+    // Whether both slots have the same rows, of one kind and as many dimensions.
+    fn compare<V: Ledger>(&self, visits: &mut Steps<V>) -> Reply<1>
+        ensures { Compares self.now visits.old visits.new (reply_of result) }
+    {
+        if self.a.is_same(&self.b, visits) {
+            Reply::Same
+        } else {
+            Reply::Differ
+        }
+    }
+}
+
+#[cfg(test)]
+mod tests {
+    use super::*;
+
+    // An engine has these fields and no other.
+    #[test]
+    fn fields(rt: HostRuntime) {
+        let engine = Engine::new(rt.alloc());
+        let Engine { a, b, current } = &engine;
+        assert_eq!(rt; a.dims(), 2);
+        assert_eq!(rt; b.dims(), 2);
+        assert!(rt; *current == Which::A);
     }
 }

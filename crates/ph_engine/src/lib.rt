@@ -1,6 +1,7 @@
 //! The engine: a script in, replies out.
 #![tactic(auto)]
 
+mod boxes;
 mod commands;
 mod cursors;
 mod engine;

@@ -13,6 +13,7 @@ ghost use Rattle.ph_engine.specs.Statuses.{StopHasCause};
 use crate::commands::point_at;
 use crate::output::say;
 use crate::status::{Answer, Stop};
+use ph_coord::Point;
 use ph_io::Sink;
 use ph_script::{Coords, Reply, Text};
 use ph_steps::Steps;
@@ -38,9 +39,27 @@ pub(crate) fn list_window<const D: usize, O: Sink, V: Ledger>(
     ensures cause { StopHasCause (O.faults out.old) (O.faults out.new) result }
 {
     let w = tree.width();
+    list_between(tree, point_at(w, lo), point_at(w, hi), out, text, visits)
+}
+
+// The same by points.
+pub(crate) fn list_between<const D: usize, O: Sink, V: Ledger>(
+    tree: &PhTree<D>,
+    lo: Point<D>,
+    hi: Point<D>,
+    out: &mut O,
+    text: &mut Text,
+    visits: &mut Steps<V>,
+) -> Result<Answer, Stop>
+    requires lo { IsPoint tree.now.width D lo }
+    requires hi { IsPoint tree.now.width D hi }
+    requires limit { D ≤ 16 }
+    ensures lists { ListsWindow (table_at D tree.now) lo.entry hi.entry (taken_of (O.written out.old) (O.amount out.old)) (taken_of (O.written out.new) (O.amount out.new)) visits.old visits.new result }
+    ensures cause { StopHasCause (O.faults out.old) (O.faults out.new) result }
+{
     // A use that makes known that there are at most so many rows.
     let _len = tree.len();
-    let mut window = Window::new(tree, point_at(w, lo), point_at(w, hi));
+    let mut window = Window::new(tree, lo, hi);
     let mut count = 0u128;
     'rows: while let Some(row) = window.next(visits) {
         say(out, text, &Reply::RowIs(row))?;

@@ -32,14 +32,19 @@ fn answer_of<const D: usize>(reply: &Reply<D>) -> Answer
         | Reply::RowIs(_)
         | Reply::End(_)
         | Reply::More(_)
-        | Reply::Ready => Answer::Good,
+        | Reply::Ready
+        | Reply::Using(_)
+        | Reply::Same
+        | Reply::Differ => Answer::Good,
         Reply::ErrorLong
         | Reply::ErrorWord
         | Reply::ErrorCount
         | Reply::ErrorNumber
         | Reply::ErrorName
         | Reply::ErrorDims
+        | Reply::ErrorKind
         | Reply::ErrorRange
+        | Reply::ErrorReversed
         | Reply::ErrorCursor
         | Reply::ErrorCursors
         | Reply::ErrorFull => Answer::Refused,

@@ -1,12 +1,12 @@
 //! Why a slot refuses a command, where that is told without files.
-ghost use Rattle.std.specs.Prelude.{◌≡◌};
+ghost use Rattle.std.specs.Prelude.{◌≡◌, length};
 ghost use Rattle.std.specs.List.{list_all};
-ghost use Rattle.ph_specs.specs.Coordinate.{fits};
-ghost use Rattle.ph_specs.specs.Refusals.{has_wrong_dims as asks_wrong_dims};
+ghost use Rattle.ph_specs.specs.Coordinate.{at_most, fits, is_box};
+ghost use Rattle.ph_specs.specs.Refusals.{has_wrong_dims as asks_wrong_dims, has_wrong_kind as asks_wrong_kind};
 ghost use Rattle.ph_script.specs.Meaning.{command_of, number_of_coord, numbers_of};
-ghost use Rattle.ph_engine.specs.Refusing.{names_points_outside};
+ghost use Rattle.ph_engine.specs.Refusing.{names_points_outside, names_reversed};
 
-use ph_coord::Width;
+use ph_coord::{Kind, Width};
 use ph_script::{Command, Coord, Coords};
 
 // Whether the command opens a slot with a number of dimensions that none has.
@@ -14,7 +14,30 @@ pub(crate) fn has_wrong_dims(cmd: &Command) -> bool
     ensures { result ≡ asks_wrong_dims (command_of cmd.now) }
 {
     match cmd {
-        Command::Begin { k, .. } => *k < 1 || 8 < *k,
+        Command::Begin { kind, k, .. } => *k < 1 || most_dims(*kind) < *k,
+        _ => false,
+    }
+}
+
+// The most dimensions that points or boxes have.
+fn most_dims(kind: Kind) -> u32
+    ensures points { kind ≡ Kind.Points → result ≡ 8 }
+    ensures boxes { kind ≡ Kind.Boxes → result ≡ 4 }
+{
+    match kind {
+        Kind::Points => 8,
+        Kind::Boxes => 4,
+    }
+}
+
+// Whether the command asks about boxes in a slot of points.
+pub(crate) fn has_wrong_kind(kind: Kind, cmd: &Command) -> bool
+    ensures { result ≡ asks_wrong_kind kind (command_of cmd.now) }
+{
+    match cmd {
+        Command::Overlap { .. } | Command::Inside { .. } | Command::Covers { .. } => {
+            kind == Kind::Points
+        }
         _ => false,
     }
 }
@@ -24,11 +47,68 @@ pub(crate) fn is_out_of_range(w: Width, cmd: &Command) -> bool
     ensures { result ≡ names_points_outside w (command_of cmd.now) }
 {
     match cmd {
-        Command::Put { at, .. } | Command::Get { at } | Command::Del { at } => !are_in_range(w, at),
+        Command::Put { at, .. }
+        | Command::Get { at }
+        | Command::Del { at }
+        | Command::Overlap { bounds: at }
+        | Command::Inside { bounds: at }
+        | Command::Covers { bounds: at } => !are_in_range(w, at),
         Command::Relocate { from: p, to: q }
         | Command::Window { lo: p, hi: q }
         | Command::Cursor { lo: p, hi: q, .. } => !(are_in_range(w, p) && are_in_range(w, q)),
-        Command::Begin { .. } | Command::Count | Command::Clear | Command::Page { .. } => false,
+        Command::Begin { .. }
+        | Command::Count
+        | Command::Clear
+        | Command::Page { .. }
+        | Command::Select { .. }
+        | Command::Same => false,
+    }
+}
+
+// Whether a point of the command that has to be a box has a low bound above its high one.
+pub(crate) fn is_reversed(kind: Kind, cmd: &Command) -> bool
+    ensures { result ≡ names_reversed kind (command_of cmd.now) }
+{
+    match cmd {
+        Command::Put { at, .. } | Command::Get { at } | Command::Del { at } => {
+            kind == Kind::Boxes && !is_box(at)
+        }
+        Command::Relocate { from, to } => kind == Kind::Boxes && !(is_box(from) && is_box(to)),
+        Command::Overlap { bounds } | Command::Inside { bounds } | Command::Covers { bounds } => {
+            !is_box(bounds)
+        }
+        _ => false,
+    }
+}
+
+fn is_box(at: &Coords) -> bool
+    ensures { result ≡ is_box (numbers_of at.now) }
+{
+    let coords = at.as_slice();
+    let (low, high) = coords.split_at(coords.len() / 2);
+    low.len() == high.len() && are_at_most(low, high)
+}
+
+// Whether each coordinate is at most the other one at its place.
+fn are_at_most(low: &[Coord], high: &[Coord]) -> bool
+    requires { length low.now ≡ length high.now }
+    ensures { result ≡ at_most (numbers_of low.now) (numbers_of high.now) }
+{
+    for (a, b) in low.iter().zip(high) {
+        if number(b) < number(a) {
+            return false;
+        }
+    }
+    true
+}
+
+// A coordinate as a number; one number stands for all that are far.
+fn number(coord: &Coord) -> i128
+    ensures { result ≡ number_of_coord coord.now }
+{
+    match coord {
+        Coord::Whole(n) => i128::from(*n),
+        Coord::Far => 1 << 63,
     }
 }
 

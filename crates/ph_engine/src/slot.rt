@@ -1,26 +1,29 @@
 //! A table with what belongs to it, and what a command does to it.
-ghost use Rattle.std.specs.Prelude.{◌≡◌, ◌≤◌, ◌-◌, ◌^◌, None, not, ◌&&◌, nat_le, length, option_map};
+ghost use Rattle.std.specs.Prelude.{◌≡◌, ◌≤◌, ◌-◌, ◌^◌, None, true, false, not, ◌&&◌, nat_le, length, option_map};
 ghost use Rattle.ph_specs.specs.declared.Kind.TheVariants.{Points};
 ghost use Rattle.ph_specs.specs.Command.Command.{Begin as AskBegin, Cursor as AskCursor, Page as AskPage};
 ghost use Rattle.ph_specs.specs.Named.{has_name};
-ghost use Rattle.ph_specs.specs.Refusals.{lacks_cursor, has_too_many_cursors};
+ghost use Rattle.ph_specs.specs.Refusals.{has_wrong_dims, lacks_cursor, has_too_many_cursors};
+ghost use Rattle.ph_specs.specs.Engine.{opened_dims};
 ghost use Rattle.ph_specs.specs.State.{empty_slot};
 ghost use Rattle.ph_script.specs.Meaning.{command_of, numbers_of, reply_of};
 ghost use Rattle.ph_script.specs.Fit.{HasDims};
 ghost use Rattle.ph_io.specs.Giving.{taken_of};
 ghost use Rattle.ph_engine.specs.Beside.{beside};
-ghost use Rattle.ph_engine.specs.Doing.{Begun, DoneWith, DoneOr};
-ghost use Rattle.ph_engine.specs.Refusing.{early_refusal};
+ghost use Rattle.ph_engine.specs.Comparing.{IsCompared};
+ghost use Rattle.ph_engine.specs.Doing.{Begun, DoneWith, DoneOr, is_on_slot};
+ghost use Rattle.ph_engine.specs.Refusing.{early_refusal, cursor_refusal};
 ghost use Rattle.ph_engine.specs.Slots.{engine_of};
 ghost use Rattle.ph_engine.specs.Statuses.{StopHasCause};
 
+use crate::boxes::Question;
 use crate::cursors::{CURSORS, Held, enter, place_of};
 use crate::output::tell;
-use crate::refusals::{has_wrong_dims, is_out_of_range};
+use crate::refusals::{has_wrong_dims, has_wrong_kind, is_out_of_range, is_reversed};
 use crate::status::{Answer, Stop};
 use crate::trees::AnyTree;
 use arrayvec::ArrayVec;
-use ph_coord::Width;
+use ph_coord::{Kind, Width};
 use ph_io::Sink;
 use ph_script::{Command, Coords, Name, Reply, Text};
 use ph_steps::Steps;
@@ -28,9 +31,10 @@ use std::alloc::Global;
 use std::marker::Model;
 use std::sync::ledger::Ledger;
 
-/// A table of points of 32 bits, as a tree, and its cursors in the order of their names.
+/// A table of points or boxes of 32 bits, as a tree, and its cursors in the order of their names.
 #[derive(Drop)]
 pub struct Slot {
+    kind: Kind,
     tree: AnyTree,
     cursors: ArrayVec<Held, CURSORS>,
 }
@@ -41,9 +45,9 @@ impl Model for Slot {
 
     ghost Value = { State };
 
-    ghost view = { λ s. slot_of (any_table s.tree) (named s.cursors.items) };
+    ghost view = { λ s. slot_of s.kind (any_table s.tree) (named s.cursors.items) };
 
-    ghost invariant = { λ s. IsSlot (any_table s.tree) s.cursors.items };
+    ghost invariant = { λ s. IsSlot s.kind (any_table s.tree) s.cursors.items };
 }
 
 impl Slot {
@@ -52,6 +56,7 @@ impl Slot {
         ensures { result ≡ empty_slot Points 2 (2 ^ 64 - 1) }
     {
         Slot {
+            kind: Kind::Points,
             tree: AnyTree::new(alloc, width(), 2, u64::MAX),
             cursors: ArrayVec::new(),
         }
@@ -66,6 +71,13 @@ impl Slot {
         self.tree.dims()
     }
 
+    // Whether another slot has the same rows, of the same kind and as many dimensions.
+    pub(crate) fn is_same<V: Ledger>(&self, other: &Slot, visits: &mut Steps<V>) -> bool
+        ensures { IsCompared self.now other.now visits.old visits.new result }
+    {
+        self.kind == other.kind && self.tree.is_same(&other.tree, visits)
+    }
+
     // Does a command that is about this slot alone, as in an engine whose other slot is new.
     pub(crate) fn exec<O: Sink, V: Ledger, C: Ledger>(
         &mut self,
@@ -76,7 +88,8 @@ impl Slot {
         visits: &mut Steps<V>,
         changes: &mut Steps<C>,
     ) -> Result<Answer, Stop>
-        requires { HasDims self.old.dims cmd.now }
+        requires dims { HasDims self.old.dims cmd.now }
+        requires slot { is_on_slot (command_of cmd.now) ≡ true }
         ensures done { DoneOr 0 (engine_of self.old) (command_of cmd.now) (beside (O.written out.old) (O.amount out.old) visits.old changes.old) (beside (O.written out.new) (O.amount out.new) visits.new changes.new) (engine_of self.new) result }
         ensures cause { StopHasCause (O.faults out.old) (O.faults out.new) result }
     {
@@ -84,7 +97,9 @@ impl Slot {
             return tell(out, text, Ok(reply));
         }
         match cmd {
-            Command::Begin { k, max } => tell(out, text, Ok(self.begin(alloc, *k, *max))),
+            Command::Begin { kind, k, max } => {
+                tell(out, text, Ok(self.begin(alloc, *kind, *k, *max)))
+            }
             Command::Put { at, value } => {
                 tell(out, text, self.tree.put(at, *value, visits, changes))
             }
@@ -98,6 +113,19 @@ impl Slot {
             Command::Window { lo, hi } => self.tree.list_window(lo, hi, out, text, visits),
             Command::Cursor { name, lo, hi } => tell(out, text, Ok(self.set_cursor(name, lo, hi))),
             Command::Page { name, n } => self.page(name, *n, out, text, visits),
+            Command::Overlap { bounds } => {
+                self.tree
+                    .list_boxes(Question::Overlap, bounds, out, text, visits)
+            }
+            Command::Inside { bounds } => {
+                self.tree
+                    .list_boxes(Question::Inside, bounds, out, text, visits)
+            }
+            Command::Covers { bounds } => {
+                self.tree
+                    .list_boxes(Question::Covers, bounds, out, text, visits)
+            }
+            Command::Select { .. } | Command::Same => unreachable!(),
         }
     }
 
@@ -110,9 +138,22 @@ impl Slot {
         if has_wrong_dims(cmd) {
             return Some(Reply::ErrorDims);
         }
+        if has_wrong_kind(self.kind, cmd) {
+            return Some(Reply::ErrorKind);
+        }
         if is_out_of_range(width(), cmd) {
             return Some(Reply::ErrorRange);
         }
+        if is_reversed(self.kind, cmd) {
+            return Some(Reply::ErrorReversed);
+        }
+        self.cursor_refusal(cmd)
+    }
+
+    // The same of the causes that are about cursors, which come behind the others.
+    fn cursor_refusal(&self, cmd: &Command) -> Option<Reply<1>>
+        ensures { option_map reply_of result ≡ cursor_refusal self.now (command_of cmd.now) }
+    {
         if self.lacks_cursor(cmd) {
             return Some(Reply::ErrorCursor);
         }
@@ -154,13 +195,13 @@ impl Slot {
         place_of(self.cursors.as_slice(), name).is_ok()
     }
 
-    // Makes it a new one, of 1 to 8 dimensions and without cursors.
-    fn begin(&mut self, alloc: Global, k: u32, max: u64) -> Reply<1>
-        requires some { 1 ≤ k }
-        requires limit { k ≤ 8 }
-        ensures { Begun self.old (AskBegin Points k max) self.new (reply_of result) }
+    // Makes it a new one for points or boxes of so many dimensions, without cursors.
+    fn begin(&mut self, alloc: Global, kind: Kind, k: u32, max: u64) -> Reply<1>
+        requires { has_wrong_dims (AskBegin kind k max) ≡ false }
+        ensures { Begun self.old (AskBegin kind k max) self.new (reply_of result) }
     {
-        self.tree = AnyTree::new(alloc, width(), k, max);
+        self.kind = kind;
+        self.tree = AnyTree::new(alloc, width(), tree_dims(kind, k), max);
         self.cursors.clear();
         Reply::Opened
     }
@@ -216,6 +257,19 @@ impl Slot {
     }
 }
 
+// The dimensions of the tree of a slot that is opened with k. A box has its two corners.
+fn tree_dims(kind: Kind, k: u32) -> u32
+    requires { has_wrong_dims (AskBegin kind k 0) ≡ false }
+    ensures value { result ≡ opened_dims kind k }
+    ensures some { 1 ≤ result }
+    ensures limit { result ≤ 8 }
+{
+    match kind {
+        Kind::Points => k,
+        Kind::Boxes => 2 * k,
+    }
+}
+
 // The width of all coordinates.
 fn width() -> Width
     ensures { result ≡ 32 }
@@ -223,5 +277,26 @@ fn width() -> Width
     match Width::new(32) {
         Some(w) => w,
         None => unreachable!(),
+    }
+}
+
+#[cfg(test)]
+mod tests {
+    use super::*;
+
+    // A slot has these fields and no other, and so has a cursor of it.
+    #[test]
+    fn fields(rt: HostRuntime) {
+        let slot = Slot::new(rt.alloc());
+        let Slot {
+            kind,
+            tree,
+            cursors,
+        } = &slot;
+        assert!(rt; *kind == Kind::Points);
+        assert_eq!(rt; tree.dims(), 2);
+        assert_eq!(rt; cursors.len(), 0);
+        let Held { name, cursor: _ } = &Held::default();
+        assert_eq!(rt; name.as_str(), "-");
     }
 }

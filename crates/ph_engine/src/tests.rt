@@ -1,6 +1,8 @@
 //! Scripts and what is answered to them, over a source and a sink in memory.
 ghost use Rattle.std.specs.Prelude.{◌≡◌, ◌<◌};
 
+mod boxes;
+
 use crate::engine::Engine;
 use crate::program::top;
 use crate::status::{Limits, Status};
@@ -133,7 +135,7 @@ fn refused_words(rt: HostRuntime) -> Result<(), Fail> {
         open points 3 max 0\nput 1 1 9999999999 1\nput 1 1 1 1\nget 1 1\n\
         page c/d 1\n";
     let output = "error word\nerror count\nerror number\nerror number\nerror number\n\
-        error name\nerror dims\nerror dims\nerror range\nerror count\n\
+        error dims\nerror dims\nerror dims\nerror range\nerror count\n\
         error number\nerror range\nerror count\n\
         opened\nerror range\nerror full\nerror count\nerror name\n";
     check(&rt, rt.alloc(), &run(script, output, Status::Refused))?;

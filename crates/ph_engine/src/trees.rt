@@ -1,16 +1,21 @@
 //! A tree of any number of dimensions that a slot can have, with the commands about its rows.
-ghost use Rattle.std.specs.Prelude.{◌≡◌, ◌≤◌, None, true, length};
+ghost use Rattle.std.specs.Prelude.{◌≡◌, ◌≤◌, None, true, [], length};
 ghost use Rattle.std.specs.List.{list_all};
 ghost use Rattle.ph_specs.specs.Coordinate.{fits};
 ghost use Rattle.ph_specs.specs.Command.{Command as Asked};
+ghost use Rattle.ph_specs.specs.declared.Kind.TheVariants.{Boxes, Points};
 ghost use Rattle.ph_script.specs.Meaning.{numbers_of, reply_of};
 ghost use Rattle.ph_engine.specs.Doing.{Looked, Idled, ServedOr};
 ghost use Rattle.ph_io.specs.Giving.{taken_of};
-ghost use Rattle.ph_engine.specs.Listing.{ListsWindow, ListsAnyPage};
-ghost use Rattle.ph_engine.specs.Slots.{any_table, empty_table, cursor_of, cursor_dims, IsCursorIn};
+ghost use Rattle.ph_engine.specs.Listing.{ListsWindow, ListsBoxes, ListsAnyPage};
+ghost use Rattle.ph_engine.specs.Slots.{any_table, empty_table, cursor_of, cursor_dims, slot_of, IsCursorIn, IsOfKind};
+ghost use Rattle.ph_engine.specs.Comparing.{IsCompared};
 ghost use Rattle.ph_engine.specs.Statuses.{StopHasCause};
 
-use crate::commands::{clear_rows, count_rows, cursor_at, del_row, get_row, move_row, put_row};
+use crate::boxes::{Question, list_boxes};
+use crate::commands::{
+    are_same, clear_rows, count_rows, cursor_at, del_row, get_row, move_row, put_row,
+};
 use crate::cursors::AnyCursor;
 use crate::listing::{list_page, list_window};
 use crate::status::{Answer, Stop};
@@ -204,6 +209,48 @@ impl AnyTree {
         ensures cause { StopHasCause (O.faults out.old) (O.faults out.new) result }
     {
         with_tree!(self, tree => list_window(tree, lo, hi, out, text, visits))
+    }
+
+    // Whether another tree of the width has as many dimensions and the same rows.
+    pub(crate) fn is_same<V: Ledger>(&self, other: &AnyTree, visits: &mut Steps<V>) -> bool
+        requires { (any_table self.now).tree.width ≡ (any_table other.now).tree.width }
+        ensures { IsCompared (slot_of Points (any_table self.now) []) (slot_of Points (any_table other.now) []) visits.old visits.new result }
+    {
+        match (self, other) {
+            (AnyTree::D1(a), AnyTree::D1(b)) => are_same(a, b, visits),
+            (AnyTree::D2(a), AnyTree::D2(b)) => are_same(a, b, visits),
+            (AnyTree::D3(a), AnyTree::D3(b)) => are_same(a, b, visits),
+            (AnyTree::D4(a), AnyTree::D4(b)) => are_same(a, b, visits),
+            (AnyTree::D5(a), AnyTree::D5(b)) => are_same(a, b, visits),
+            (AnyTree::D6(a), AnyTree::D6(b)) => are_same(a, b, visits),
+            (AnyTree::D7(a), AnyTree::D7(b)) => are_same(a, b, visits),
+            (AnyTree::D8(a), AnyTree::D8(b)) => are_same(a, b, visits),
+            _ => false,
+        }
+    }
+
+    // Lists the boxes that a question lists, in a tree of boxes.
+    pub(crate) fn list_boxes<O: Sink, V: Ledger>(
+        &self,
+        question: Question,
+        asked: &Coords,
+        out: &mut O,
+        text: &mut Text,
+        visits: &mut Steps<V>,
+    ) -> Result<Answer, Stop>
+        requires boxes { IsOfKind Boxes (any_table self.now) }
+        requires dims { length asked.now ≡ (any_table self.now).dims }
+        requires range { list_all (fits (any_table self.now).tree.width) (numbers_of asked.now) ≡ true }
+        ensures lists { ListsBoxes question (any_table self.now) (numbers_of asked.now) (taken_of (O.written out.old) (O.amount out.old)) (taken_of (O.written out.new) (O.amount out.new)) visits.old visits.new result }
+        ensures cause { StopHasCause (O.faults out.old) (O.faults out.new) result }
+    {
+        match self {
+            AnyTree::D2(tree) => list_boxes::<1, 2, O, V>(tree, question, asked, out, text, visits),
+            AnyTree::D4(tree) => list_boxes::<2, 4, O, V>(tree, question, asked, out, text, visits),
+            AnyTree::D6(tree) => list_boxes::<3, 6, O, V>(tree, question, asked, out, text, visits),
+            AnyTree::D8(tree) => list_boxes::<4, 8, O, V>(tree, question, asked, out, text, visits),
+            _ => unreachable!(),
+        }
     }
 
     pub(crate) fn list_page<O: Sink, V: Ledger>(

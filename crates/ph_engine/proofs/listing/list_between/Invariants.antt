@@ -3,7 +3,7 @@ use Rattle.ph_io.specs.Giving.{taken_of}
 use Rattle.ph_specs.specs.Reply.{Reply}
 use Rattle.ph_specs.specs.Engine.{listing, row_replies}
 use Rattle.ph_engine.proofs.Replies.{IsGiven}
-use Rattle.ph_engine.proofs.listing.list_window.Given as goal
+use Rattle.ph_engine.proofs.listing.list_between.Given as goal
 
 abbrev pub invariant-rows : goal.invariant-rows
 invariant-rows g l = record {

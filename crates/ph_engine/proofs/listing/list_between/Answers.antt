@@ -1,12 +1,9 @@
 use Rattle.std.proofs.Common.{length, refl, ap, ◌∙◌, arith}
 use Rattle.std.proofs.lemmas.Result.{err_from_is_err_and}
-use Rattle.ph_specs.specs.Window.{window}
-use Rattle.ph_script.specs.Meaning.{numbers_of}
-use Rattle.ph_engine.specs.Listing.{met}
 use Rattle.ph_engine.specs.Slots.{table_at}
 use Rattle.ph_engine.proofs.Replies.{none_given, next-is}
 use Rattle.ph_engine.proofs.Listed.{row-given, row-front, none-left, window-said, few-rows}
-use Rattle.ph_engine.proofs.listing.list_window.Goals as goal
+use Rattle.ph_engine.proofs.listing.list_between.Goals as goal
 
 pub rows-init : goal.rows-init
 rows-init g c = record { later = omega arith; given = none_given _ _; counted = omega arith; cost = refl }
@@ -29,30 +26,25 @@ rows-preserved g c =
 pub overflow_add-count : goal.overflow_add-count
 overflow_add-count g c =
     let e = next-is c.rows.window.rows c.next.new.self.rows c.in-Some.row c.in-Some.ensures.row c.next.ensures.rest in
-    let few = few-rows c.point_at.result c.point_at-2.result c.args.tree.now.table in
+    let few = few-rows c.args.lo c.args.hi c.args.tree.now.table in
     let all = ap (λ rs. length rs) c.new-window.ensures.rows in
     omega (arith, c.rows.invariant.counted, ap (λ rs. length rs) e, few, all, c.len-len.ensures.value, c.len-len.type_inv)
 
 pub returns-in_err-say-clause-lists : goal.returns-in_err-say-clause-lists
 returns-in_err-say-clause-lists g c =
-    let t = table_at g.row.D c.args.tree.now in
     let e = next-is c.rows.window.rows c.next.new.self.rows c.in-Some.row c.in-Some.ensures.row c.next.ensures.rest in
-    let all = c.new-window.ensures.rows ∙ ap (λ p. window p c.point_at-2.result t.tree.table) c.point_at.ensures.value ∙ ap (λ p. window (numbers_of c.args.lo.now) p t.tree.table) c.point_at-2.ensures.value in
-    let met = c.new-window.ensures.visits ∙ ap (λ p. met t p c.point_at-2.result) c.point_at.ensures.value ∙ ap (λ p. met t (numbers_of c.args.lo.now) p) c.point_at-2.ensures.value in
     let is = err_from_is_err_and c.from_residual.result c.from_residual.ensures.1 in
     rw (is.1, is.2)
     (record {
-      front = rw (← all) (row-front _ _ c.rows.window.rows c.next.new.self.rows c.in-Some.row _ _ _ c.rows.invariant.given e c.in_err-say.ensures.front);
+      front = rw (← c.new-window.ensures.rows) (row-front _ _ c.rows.window.rows c.next.new.self.rows c.in-Some.row _ _ _ c.rows.invariant.given e c.in_err-say.ensures.front);
       fault = c.in_err-say.ensures.err;
-      visited = omega (arith, c.rows.invariant.cost, c.next.ensures.cost, met);
+      visited = omega (arith, c.rows.invariant.cost, c.next.ensures.cost, c.new-window.ensures.visits);
     })
 
 pub returns-clause-lists : goal.returns-clause-lists
 returns-clause-lists g c =
     let t = table_at g.row.D c.args.tree.now in
-    let all = c.new-window.ensures.rows ∙ ap (λ p. window p c.point_at-2.result t.tree.table) c.point_at.ensures.value ∙ ap (λ p. window (numbers_of c.args.lo.now) p t.tree.table) c.point_at-2.ensures.value in
-    let met = c.new-window.ensures.visits ∙ ap (λ p. met t p c.point_at-2.result) c.point_at.ensures.value ∙ ap (λ p. met t (numbers_of c.args.lo.now) p) c.point_at-2.ensures.value in
     let none = none-left c.rows.window.rows c.in_default.ensures.row in
-    window-said t (numbers_of c.args.lo.now) (numbers_of c.args.hi.now) c.new-window.result.rows c.rows.window.rows c.rows.count c.args.visits.now c.next.new.visits _ _ _ c.say-2.result
-    all c.rows.invariant.given none (omega (arith, c.rows.invariant.counted, ap (λ rs. length rs) none)) c.say-2.ensures.answer c.say-2.ensures.told c.say-2.ensures.err c.say-2.ensures.front
-    (omega (arith, c.rows.invariant.cost, c.next.ensures.cost, c.in_default.ensures.end refl, met))
+    window-said t c.args.lo c.args.hi c.new-window.result.rows c.rows.window.rows c.rows.count c.args.visits.now c.next.new.visits _ _ _ c.say-2.result
+    c.new-window.ensures.rows c.rows.invariant.given none (omega (arith, c.rows.invariant.counted, ap (λ rs. length rs) none)) c.say-2.ensures.answer c.say-2.ensures.told c.say-2.ensures.err c.say-2.ensures.front
+    (omega (arith, c.rows.invariant.cost, c.next.ensures.cost, c.in_default.ensures.end refl, c.new-window.ensures.visits))

@@ -1,0 +1,144 @@
+-- What a command does to a slot of points it does to one of boxes, where it is not refused.
+use Rattle.std.proofs.Common.{◌≡◌, ℕ, Bool, true, false, List, [], ◌∷◌, refl, ap, sym, subst, ◌∙◌}
+use Rattle.std.specs.Prelude.{ℤ, Option, Some, None}
+use Rattle.ph_specs.specs.declared.Kind.{Kind}
+use Rattle.ph_specs.specs.declared.Kind.TheVariants.{Points, Boxes}
+use Rattle.ph_specs.specs.Command.{Command}
+use Rattle.ph_specs.specs.Named.{Named}
+use Rattle.ph_specs.specs.Reply.{Reply}
+use Rattle.ph_specs.specs.State.{Slot, Files, Outcome, current}
+use Rattle.ph_specs.specs.Refusals.{refusal}
+use Rattle.ph_specs.specs.Engine.{act, effect, unless_refused}
+use Rattle.ph_specs.specs.Window.{Cursor}
+use Rattle.ph_engine.specs.Doing.{DoesAt, MostAt, LeastAt, takes_memory, wants_memory, is_page, imported}
+use Rattle.ph_engine.specs.Refusing.{or_else, early_refusal, late_refusal}
+use Rattle.ph_engine.specs.Slots.{AnyTable, slot_of, engine_of}
+use Rattle.ph_engine.specs.Working.{work, work_of, engine_bounds, least_unless, IsAtMost, IsAtLeast}
+use Rattle.ph_engine.proofs.Refused.{refusal-parts, in-range}
+
+-- an outcome whose current slot is one of boxes
+abbrev boxed : Outcome → Outcome
+boxed o = record o { engine = engine_of (record (current o.engine) { kind = Boxes }) }
+
+-- a command of one reply that knows of a slot no more than its rows
+pub record IsPlain (command : Command) : Type 0 where
+  pub unrefused : (t : AnyTable) (cursors : Named Cursor) → early_refusal (slot_of Boxes t cursors) command ≡ None → early_refusal (slot_of Points t cursors) command ≡ None
+  pub late : (most : ℕ) (t : AnyTable) (cursors : Named Cursor) (files : Files) (fault : Bool) → late_refusal most (slot_of Boxes t cursors) files fault command ≡ late_refusal most (slot_of Points t cursors) files fault command
+  pub effect : (t : AnyTable) (cursors : Named Cursor) (files : Files) → effect (engine_of (slot_of Boxes t cursors)) files command ≡ boxed (effect (engine_of (slot_of Points t cursors)) files command)
+  pub bounds : (t : AnyTable) (cursors : Named Cursor) (files : Files) → engine_bounds (engine_of (slot_of Boxes t cursors)) files command ≡ engine_bounds (engine_of (slot_of Points t cursors)) files command
+  pub takes : (t : AnyTable) (cursors : Named Cursor) → takes_memory (slot_of Boxes t cursors) command ≡ takes_memory (slot_of Points t cursors) command
+  pub no_page : is_page command ≡ false
+  pub no_import : (s : Slot) (files : Files) → imported s files command ≡ None
+
+pub plain-put : (p : List ℤ) (v : ℕ) → IsPlain (Command.Put p v)
+plain-put p v = record {
+  unrefused = λ t cursors h. rw (in-range (slot_of Boxes t cursors) (Command.Put p v) h) refl;
+  late = λ most t cursors files fault. refl;
+  effect = λ t cursors files. refl;
+  bounds = λ t cursors files. refl;
+  takes = λ t cursors. refl;
+  no_page = refl;
+  no_import = λ s files. refl;
+}
+
+pub plain-get : (p : List ℤ) → IsPlain (Command.Get p)
+plain-get p = record {
+  unrefused = λ t cursors h. rw (in-range (slot_of Boxes t cursors) (Command.Get p) h) refl;
+  late = λ most t cursors files fault. refl;
+  effect = λ t cursors files. refl;
+  bounds = λ t cursors files. refl;
+  takes = λ t cursors. refl;
+  no_page = refl;
+  no_import = λ s files. refl;
+}
+
+pub plain-del : (p : List ℤ) → IsPlain (Command.Del p)
+plain-del p = record {
+  unrefused = λ t cursors h. rw (in-range (slot_of Boxes t cursors) (Command.Del p) h) refl;
+  late = λ most t cursors files fault. refl;
+  effect = λ t cursors files. refl;
+  bounds = λ t cursors files. refl;
+  takes = λ t cursors. refl;
+  no_page = refl;
+  no_import = λ s files. refl;
+}
+
+pub plain-move : (p q : List ℤ) → IsPlain (Command.Relocate p q)
+plain-move p q = record {
+  unrefused = λ t cursors h. rw (in-range (slot_of Boxes t cursors) (Command.Relocate p q) h) refl;
+  late = λ most t cursors files fault. refl;
+  effect = λ t cursors files. refl;
+  bounds = λ t cursors files. refl;
+  takes = λ t cursors. refl;
+  no_page = refl;
+  no_import = λ s files. refl;
+}
+
+pub plain-count : IsPlain Command.Count
+plain-count = record {
+  unrefused = λ t cursors h. refl;
+  late = λ most t cursors files fault. refl;
+  effect = λ t cursors files. refl;
+  bounds = λ t cursors files. refl;
+  takes = λ t cursors. refl;
+  no_page = refl;
+  no_import = λ s files. refl;
+}
+
+pub plain-clear : IsPlain Command.Clear
+plain-clear = record {
+  unrefused = λ t cursors h. refl;
+  late = λ most t cursors files fault. refl;
+  effect = λ t cursors files. refl;
+  bounds = λ t cursors files. refl;
+  takes = λ t cursors. refl;
+  no_page = refl;
+  no_import = λ s files. refl;
+}
+
+unless-boxed : (r : Option Reply) (t : AnyTable) (cursors : Named Cursor) (files : Files) (command : Command) → IsPlain command → unless_refused r (engine_of (slot_of Boxes t cursors)) files command ≡ boxed (unless_refused r (engine_of (slot_of Points t cursors)) files command)
+unless-boxed (Some r) t cursors files command p = refl
+unless-boxed None t cursors files command p = p.effect t cursors files
+
+module _ (t : AnyTable) (cursors : Named Cursor) (command : Command) (p : IsPlain command) (h : early_refusal (slot_of Boxes t cursors) command ≡ None) where
+  same-refusal : (most : ℕ) (files : Files) (fault : Bool) → refusal most (engine_of (slot_of Boxes t cursors)) files fault command ≡ refusal most (engine_of (slot_of Points t cursors)) files fault command
+  same-refusal most files fault =
+      let boxes = slot_of Boxes t cursors in
+      let points = slot_of Points t cursors in
+      refusal-parts most (engine_of boxes) files fault command
+      ∙ ap (λ r. or_else r (late_refusal most boxes files fault command)) h
+      ∙ p.late most t cursors files fault
+      ∙ ap (λ r. or_else r (late_refusal most points files fault command)) (sym (p.unrefused t cursors h))
+      ∙ sym (refusal-parts most (engine_of points) files fault command)
+
+  same-act : (most : ℕ) (files : Files) (fault : Bool) → act most (engine_of (slot_of Boxes t cursors)) files fault command ≡ boxed (act most (engine_of (slot_of Points t cursors)) files fault command)
+  same-act most files fault =
+      ap (λ r. unless_refused r (engine_of (slot_of Boxes t cursors)) files command) (same-refusal most files fault)
+      ∙ unless-boxed (refusal most (engine_of (slot_of Points t cursors)) files fault command) t cursors files command p
+
+  same-work : (most : ℕ) (files : Files) (fault : Bool) → work_of most (engine_of (slot_of Boxes t cursors)) files fault command ≡ work_of most (engine_of (slot_of Points t cursors)) files fault command
+  same-work most files fault i =
+      let w = p.bounds t cursors files i in
+      let r = same-refusal most files fault i in
+      work w.most_visits (least_unless r w.least_visits) w.most_changes (least_unless r w.least_changes)
+
+-- ---- by the kind of a slot
+
+pub does-at : (kind : Kind) (t now : AnyTable) (cursors : Named Cursor) (command : Command) (reply : Reply) → IsPlain command → early_refusal (slot_of kind t cursors) command ≡ None → DoesAt (slot_of Points t cursors) command (slot_of Points now cursors) (reply ∷ []) → DoesAt (slot_of kind t cursors) command (slot_of kind now cursors) (reply ∷ [])
+does-at Points t now cursors command reply p h d = d
+does-at Boxes t now cursors command reply p h d = λ most files fault. same-act t cursors command p h most files fault ∙ ap boxed (d most files fault)
+
+pub most-at : (kind : Kind) (t : AnyTable) (cursors : Named Cursor) (command : Command) (v now_v c now_c : ℕ) → IsPlain command → early_refusal (slot_of kind t cursors) command ≡ None → MostAt (slot_of Points t cursors) command v now_v c now_c → MostAt (slot_of kind t cursors) command v now_v c now_c
+most-at Points t cursors command v now_v c now_c p h w = w
+most-at Boxes t cursors command v now_v c now_c p h w = λ most files fault. subst (λ x. IsAtMost x v now_v c now_c) (sym (same-work t cursors command p h most files fault)) (w most files fault)
+
+pub least-at : (kind : Kind) (t : AnyTable) (cursors : Named Cursor) (command : Command) (v now_v c now_c : ℕ) → IsPlain command → early_refusal (slot_of kind t cursors) command ≡ None → LeastAt (slot_of Points t cursors) command v now_v c now_c → LeastAt (slot_of kind t cursors) command v now_v c now_c
+least-at Points t cursors command v now_v c now_c p h w = w
+least-at Boxes t cursors command v now_v c now_c p h w = λ most files fault. subst (λ x. IsAtLeast x v now_v c now_c) (sym (same-work t cursors command p h most files fault)) (w most files fault)
+
+takes-at : (kind : Kind) (t : AnyTable) (cursors : Named Cursor) (command : Command) → IsPlain command → takes_memory (slot_of kind t cursors) command ≡ takes_memory (slot_of Points t cursors) command
+takes-at Points t cursors command p = refl
+takes-at Boxes t cursors command p = p.takes t cursors
+
+pub wants-at : (kind : Kind) (t : AnyTable) (cursors : Named Cursor) (command : Command) → IsPlain command → early_refusal (slot_of kind t cursors) command ≡ None → takes_memory (slot_of Points t cursors) command ≡ true → wants_memory (slot_of kind t cursors) command ≡ true
+wants-at kind t cursors command p h w = rw h (takes-at kind t cursors command p ∙ w)

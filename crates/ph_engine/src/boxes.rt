@@ -1,0 +1,75 @@
+//! Questions about boxes, which are windows in twice as many dimensions.
+ghost use Rattle.std.specs.Prelude.{◌≡◌, ◌*◌, ◌≤◌, true, length};
+ghost use Rattle.std.specs.List.{list_all};
+ghost use Rattle.ph_specs.specs.Boxes.{IsWindowFor};
+ghost use Rattle.ph_specs.specs.Coordinate.{fits, IsPoint};
+ghost use Rattle.ph_io.specs.Giving.{taken_of};
+ghost use Rattle.ph_script.specs.Meaning.{numbers_of};
+ghost use Rattle.ph_engine.specs.Listing.{asks, low_bound, high_bound, ListsBoxes};
+ghost use Rattle.ph_engine.specs.Slots.{table_at, AreBoxes};
+ghost use Rattle.ph_engine.specs.Statuses.{StopHasCause};
+
+use crate::commands::point_at;
+use crate::listing::list_between;
+use crate::status::{Answer, Stop};
+use ph_box::{cover_bounds, inside_bounds, overlap_bounds, split_box};
+use ph_coord::{Point, Width};
+use ph_io::Sink;
+use ph_script::{Coords, Text};
+use ph_steps::Steps;
+use ph_tree::PhTree;
+use std::sync::ledger::Ledger;
+
+/// How the boxes that are listed lie to the asked one.
+#[derive(Clone, Copy)]
+pub(crate) enum Question {
+    Overlap,
+    Inside,
+    Covers,
+}
+
+// The corners of the window whose boxes are those that a question lists.
+fn bounds_of<const K: usize, const D: usize>(
+    question: Question,
+    w: Width,
+    asked: &Point<D>,
+) -> (Point<D>, Point<D>)
+    requires dims { K * 2 ≡ D }
+    requires few { D ≤ 16 }
+    requires point { IsPoint w D asked.now }
+    ensures low { result.0 ≡ low_bound question w asked.now }
+    ensures high { result.1 ≡ high_bound question w asked.now }
+    ensures points { IsPoint w D result.0 × IsPoint w D result.1 }
+    ensures window { IsWindowFor w D (asks question asked.now) result.0 result.1 }
+{
+    let (lo, hi) = split_box::<K, D>(w, asked);
+    match question {
+        Question::Overlap => overlap_bounds(w, &lo, &hi),
+        Question::Inside => inside_bounds(w, &lo, &hi),
+        Question::Covers => cover_bounds(w, &lo, &hi),
+    }
+}
+
+// Lists the boxes that a question lists, and then their number.
+pub(crate) fn list_boxes<const K: usize, const D: usize, O: Sink, V: Ledger>(
+    tree: &PhTree<D>,
+    question: Question,
+    asked: &Coords,
+    out: &mut O,
+    text: &mut Text,
+    visits: &mut Steps<V>,
+) -> Result<Answer, Stop>
+    requires halves { K * 2 ≡ D }
+    requires dims { length asked.now ≡ D }
+    requires range { list_all (fits tree.now.width) (numbers_of asked.now) ≡ true }
+    requires boxes { AreBoxes tree.now.table }
+    requires limit { D ≤ 16 }
+    ensures lists { ListsBoxes question (table_at D tree.now) (numbers_of asked.now) (taken_of (O.written out.old) (O.amount out.old)) (taken_of (O.written out.new) (O.amount out.new)) visits.old visits.new result }
+    ensures cause { StopHasCause (O.faults out.old) (O.faults out.new) result }
+{
+    // A use that makes known that the rows are those of a table.
+    let _root = tree.root();
+    let w = tree.width();
+    let (lo, hi) = bounds_of::<K, D>(question, w, &point_at(w, asked));
+    list_between(tree, lo, hi, out, text, visits)
+}
