@@ -16,13 +16,14 @@ use Rattle.ph_specs.proofs.lemmas.Joined.{offsets}
 use Rattle.ph_specs.proofs.lemmas.PointDigits.{point-whole}
 use Rattle.ph_specs.specs.PutTree.{body_above}
 use Rattle.ph_zorder.proofs.Decided.{is_body-point}
-use Rattle.ph_window.specs.declared.path.FrameOf.{FrameOf}
-use Rattle.ph_window.specs.Bounds.{Bounds, AreBounds, point_at, bounds_at}
+use Rattle.ph_window.specs.Frames.{FrameOf}
+use Rattle.ph_path.specs.Known.{point_at}
+use Rattle.ph_window.specs.Bounds.{Bounds, AreBounds, bounds_at}
 use Rattle.ph_window.specs.Mark.{Mark, mark_at}
 use Rattle.ph_window.specs.Window.{behind}
 use Rattle.ph_window.specs.Resumed.{IsReady, IsResumed}
 use Rattle.ph_window.specs.Walk.{path_rows, path_nodes, IsWalk}
-use Rattle.ph_window.proofs.Knowns.{above-top}
+use Rattle.ph_path.proofs.Knowns.{above-top}
 use Rattle.ph_window.proofs.Lists.{none-nodes}
 use Rattle.ph_window.proofs.Starts.{start-bounds}
 

@@ -1,8 +1,7 @@
 -- The window and the digits at hand, by offsets and as points.
-use Rattle.std.proofs.Common.{◌≡◌, ℕ, ◌^◌, ◌<◌, ◌≤◌, List, [], ◌∷◌, ◌++◌, length, take, refl, sym, ◌∙◌, ap, subst, arith, Bool, true, false, ◌&&◌, leb-true, le-leb}
+use Rattle.std.proofs.Common.{◌≡◌, ℕ, ◌^◌, ◌<◌, ◌≤◌, List, [], ◌∷◌, length, take, refl, sym, ◌∙◌, ap, subst, arith, Bool, true, false, ◌&&◌, leb-true, le-leb}
 use Rattle.std.specs.Prelude.{nat_le}
 use Rattle.std.specs.List.{AllByRecursion as Each}
-use Rattle.std.proofs.Math.Pow.{pow_mono}
 use Rattle.ph_specs.specs.Coordinate.{at_most}
 use Rattle.ph_specs.specs.Lawful.{IsBody, put_together}
 use Rattle.ph_specs.specs.Masks.{masks}
@@ -14,23 +13,12 @@ use Rattle.ph_specs.proofs.lemmas.Tests.{and-parts, and-made}
 use Rattle.ph_specs.specs.PutTree.{body_above}
 use Rattle.ph_zorder.specs.Sides.{side_masks}
 use Rattle.ph_zorder.proofs.Sides.{masks-node}
-use Rattle.ph_window.specs.Bounds.{point_at, Bounds, AreBounds, each_between}
+use Rattle.ph_path.specs.Known.{point_at}
+use Rattle.ph_window.specs.Bounds.{Bounds, bounds_at, AreBounds, each_between}
 use Rattle.ph_digits.proofs.Joins.{above-long}
-use Rattle.ph_window.proofs.Knowns.{masks-above, joined-body}
-
-pub wider : (d w k : ℕ) (xs : List ℕ) → w ≤ k → IsBody d w xs → IsBody d k xs
-wider d w k xs l h = (h.0, each xs h.1)
-  where
-    each : (xs : List ℕ) → Each (λ x. x < 2 ^ w) xs → Each (λ x. x < 2 ^ k) xs
-    each [] h = tt
-    each (x ∷ xs) h = (omega (arith, h.0, pow_mono {i = w} {j = k} l), each xs h.1)
-
-pub taken : (d : ℕ) (xs ys : List ℕ) → length xs ≡ d → take d (xs ++ ys) ≡ xs
-taken d xs ys e = subst (λ n. take n (xs ++ ys) ≡ xs) e (front xs)
-  where
-    front : (xs : List ℕ) → take (length xs) (xs ++ ys) ≡ xs
-    front [] = refl
-    front (x ∷ xs) = ap {B = List ℕ} (λ t. x ∷ t) (front xs)
+use Rattle.ph_path.specs.Known.{Known, known_at}
+use Rattle.ph_path.proofs.Knowns.{joined-body, wider}
+use Rattle.ph_window.proofs.MaskDigits.{masks-above}
 
 between-below : (los his ps : List ℕ) → length los ≡ length ps → length his ≡ length ps → each_between los his ps ≡ true → Below los ps × Below ps his
 between-below [] [] [] e f h = (tt, tt)
@@ -82,34 +70,26 @@ masks-are d level b h l =
 -- ---- as the code keeps them
 
 abbrev pub cut : ℕ → ℕ → List ℕ → List ℕ → List ℕ → Bounds
-cut d w known low high =
-    record { width = w; known = take d known; low = take d low; high = take d high }
+cut d w known low high = bounds_at w known (take d low) (take d high)
 
-module _ (d n w : ℕ) (known low high : List ℕ) (e : n ≡ d) (h : AreBounds d (cut d w known low high)) where
-  pub inside-seen : (seen : Bounds) → cut d w known low high ≡ seen → each_between (take n low) (take n high) (take n known) ≡ is_between (point_at seen.width seen.low) (point_at seen.width seen.high) (point_at seen.width seen.known)
+module _ (d n w : ℕ) (known low high ks : List ℕ) (e : n ≡ d) (h : AreBounds d (cut d w known low high)) (s : ks ≡ known) where
+  pub inside-seen : (seen : Bounds) → cut d w known low high ≡ seen → each_between (take n low) (take n high) ks ≡ is_between (point_at seen.width seen.low) (point_at seen.width seen.high) (point_at seen.width seen.known)
   inside-seen seen v =
-      subst (λ k. each_between (take k low) (take k high) (take k known) ≡ is_between (point_at w (take d low)) (point_at w (take d high)) (point_at w (take d known))) (sym e) (between-is d (cut d w known low high) h)
+      (λ i. each_between (take (e i) low) (take (e i) high) (s i)) ∙ between-is d (cut d w known low high) h
       ∙ ap (λ s. is_between (point_at s.width s.low) (point_at s.width s.high) (point_at s.width s.known)) v
 
-  pub masks-seen : (seen : Bounds) (level : ℕ) → cut d w known low high ≡ seen → level < seen.width → side_masks level (take n known) (take n low) (take n high) ≡ masks seen.width (node_region seen.width level (body_above level seen.known)) (point_at seen.width seen.low) (point_at seen.width seen.high)
+  pub masks-seen : (seen : Bounds) (level : ℕ) → cut d w known low high ≡ seen → level < seen.width → side_masks level ks (take n low) (take n high) ≡ masks seen.width (node_region seen.width level (body_above level seen.known)) (point_at seen.width seen.low) (point_at seen.width seen.high)
   masks-seen seen level v l =
-      subst (λ k. side_masks level (take k known) (take k low) (take k high) ≡ masks w (node_region w level (body_above level (take d known))) (point_at w (take d low)) (point_at w (take d high))) (sym e) (masks-are d level (cut d w known low high) h (subst (λ s. level < s.width) (sym v) l))
+      (λ i. side_masks level (s i) (take (e i) low) (take (e i) high))
+      ∙ masks-are d level (cut d w known low high) h (subst (λ s. level < s.width) (sym v) l)
       ∙ ap (λ s. masks s.width (node_region s.width level (body_above level s.known)) (point_at s.width s.low) (point_at s.width s.high)) v
 
-  wide-known : IsBody d 62 (take d known)
-  wide-known = wider d w 62 (take d known) h.narrow h.digits
+  pub small-seen : Each (λ x. x < 2 ^ 62) ks
+  small-seen = subst (Each (λ x. x < 2 ^ 62)) (sym s) (wider d w 62 known h.narrow h.digits).1
 
-  pub small-seen : Each (λ x. x < 2 ^ 62) (take n known)
-  small-seen = subst (λ k. Each (λ x. x < 2 ^ 62) (take k known)) (sym e) wide-known.1
-
-  pub body-seen : IsBody (length (take n known)) 62 (take n known)
-  body-seen = (refl, small-seen)
-
-  pub joined-seen : (seen : Bounds) (level a : ℕ) (body new others : List ℕ) → cut d w known low high ≡ seen → level < seen.width → IsBody d level body → new ≡ put_together level a (body_above level (take n known)) body → AreBounds d (record { width = w; known = take d (new ++ others); low = take d low; high = take d high }) × (take d (new ++ others) ≡ put_together level a (body_above level seen.known) body)
-  joined-seen seen level a body new others v l k f =
-      let s : new ≡ put_together level a (body_above level (take d known)) body = subst (λ m. new ≡ put_together level a (body_above level (take m known)) body) e f in
-      let b : IsBody d w (put_together level a (body_above level (take d known)) body) = joined-body d w level a (take d known) body (subst (λ s. level < s.width) (sym v) l) h.digits k in
-      let t : take d (new ++ others) ≡ put_together level a (body_above level (take d known)) body = taken d new others (ap (λ xs. length xs) s ∙ b.0) ∙ s in (
-        record { some = h.some; few = h.few; wide = h.wide; narrow = h.narrow; digits = subst (IsBody d w) (sym t) b; starts = h.starts; ends = h.ends },
-        t ∙ ap (λ s. put_together level a (body_above level s.known) body) v,
-      )
+-- an entry that is joined
+pub joined-bounds : (d w level a : ℕ) (known low high body : List ℕ) (seen : Bounds) → bounds_at w known low high ≡ seen → AreBounds d (bounds_at w known low high) → level < seen.width → IsBody d level body → (k : Known) → k ≡ known_at w (put_together level a (body_above level known) body) → AreBounds d (bounds_at k.width k.digits low high)
+joined-bounds d w level a known low high body seen v h l b k e =
+    let j : IsBody d w (put_together level a (body_above level known) body) = joined-body d w level a known body (subst (λ s. level < s.width) (sym v) l) h.digits b in
+    subst (λ k. AreBounds d (bounds_at k.width k.digits low high)) (sym e)
+    (record { some = h.some; few = h.few; wide = h.wide; narrow = h.narrow; digits = j; starts = h.starts; ends = h.ends })

@@ -10,14 +10,16 @@ use Rattle.ph_specs.specs.WindowWalk.{node_region, listed_below, opened_below}
 use Rattle.ph_specs.specs.PutTree.{body_above}
 use Rattle.ph_node.specs.Shown.{shown}
 use Rattle.ph_node.specs.declared.reads.NodeRefOf.{NodeRefOf}
-use Rattle.ph_window.specs.declared.path.FrameOf.{FrameOf}
+use Rattle.ph_window.specs.Frames.{FrameOf}
 use Rattle.ph_window.specs.declared.walk.Step.TheVariants.{Found, Moved}
-use Rattle.ph_window.specs.Bounds.{Bounds, point_at}
+use Rattle.ph_path.specs.Known.{point_at}
+use Rattle.ph_window.specs.Bounds.{Bounds}
 use Rattle.ph_window.specs.Seek.{AreShut, IsNextEntry}
 use Rattle.ph_window.specs.Enters.{IsEntered}
-use Rattle.ph_window.specs.Walk.{Walk, walk_of, path_rows, path_nodes, path_steps, root_rows, root_nodes, root_steps, entry_steps, AreOver, IsWalk, IsStep}
-use Rattle.ph_window.proofs.Knowns.{above-top}
-use Rattle.ph_window.proofs.Paths.{few-frames}
+use Rattle.ph_path.specs.Path.{path_steps, root_steps, entry_steps, AreOver}
+use Rattle.ph_window.specs.Walk.{IsFrame, Walk, walk_of, path_rows, path_nodes, root_rows, root_nodes, IsWalk, IsStep}
+use Rattle.ph_path.proofs.Knowns.{above-top}
+use Rattle.ph_path.proofs.Paths.{few-frames}
 use Rattle.ph_window.proofs.Steps.{HasEntered, frame-masks, rest-walk, entered, done-rows, done-nodes, after-walk, found-rows, found-nodes, found-steps, child-lower, child-lawful, child-over, below-rows, below-nodes, below-steps}
 
 module _ {d : ℕ} {b : Bounds} {root : Option PlainNode} {path : List (FrameOf PlainNode)} {old : Walk} (h : IsWalk d b root path) (v : walk_of d b root path ≡ old) where
@@ -92,7 +94,7 @@ module _ {d : ℕ} {b : Bounds} {root : Option PlainNode} {path : List (FrameOf 
     pub top-walk : IsWalk d b root (f ∷ fs)
     top-walk = subst (IsWalk d b root) p h
 
-    pub top-masks : (bit_and f.lower f.upper ≡ f.lower) × (f.upper < 2 ^ d)
+    pub top-masks : (bit_and f.note.lower f.note.upper ≡ f.note.lower) × (f.note.upper < 2 ^ d)
     top-masks = frame-masks d b f h.bounds top-walk.way.0
 
     pub top-lawful : IsLawfulFrom d (shown f.node).level 0 (shown f.node).chain
@@ -100,7 +102,7 @@ module _ {d : ℕ} {b : Bounds} {root : Option PlainNode} {path : List (FrameOf 
 
     pub top-few : length fs < 62
     top-few =
-        let l : length fs + (shown f.node).level + 1 ≤ b.width = few-frames d b.width (shown f.node).level lo hi b.known fs top-walk.way.0.level top-walk.way.1 top-walk.way.2 in
+        let l : length fs + (shown f.node).level + 1 ≤ b.width = few-frames b.width (shown f.node).level (IsFrame d b.width lo hi b.known) (λ f k. k.level) fs top-walk.way.0.level top-walk.way.1 top-walk.way.2 in
         omega (arith, l, h.bounds.narrow)
 
     top-rest : old.rest ≡ path_rows b.width lo hi b.known (f ∷ fs) ++ root_rows b.width d lo hi root
@@ -113,7 +115,7 @@ module _ {d : ℕ} {b : Bounds} {root : Option PlainNode} {path : List (FrameOf 
     top-steps = was-steps ∙ ap (λ t. path_steps t + root_steps root) p
 
     -- nothing more fits in it
-    module _ {new : List (FrameOf PlainNode)} (into : new ≡ fs) (s : AreShut f.lower f.upper (entries (shown f.node)) f.place (length (entries (shown f.node)))) where
+    module _ {new : List (FrameOf PlainNode)} (into : new ≡ fs) (s : AreShut f.note.lower f.note.upper (entries (shown f.node)) f.place (length (entries (shown f.node)))) where
       pub done-walk : IsWalk d b root new
       done-walk = subst (IsWalk d b root) (sym into) (rest-walk d b root f fs top-walk)
 
@@ -131,17 +133,17 @@ module _ {d : ℕ} {b : Bounds} {root : Option PlainNode} {path : List (FrameOf 
           omega (arith, top-visits, z, y)
 
     -- an entry that is found, and the walk behind it
-    module _ {i : ℕ} {x : Entry} (at : slice_get (entries (shown f.node)) i ≡ Some x) (next : IsNextEntry f.lower f.upper (entries (shown f.node)) f.place i) {c : Bounds} (to : c ≡ record { width = b.width; known = put_together (shown f.node).level x.addr (body_above (shown f.node).level b.known) x.body; low = b.low; high = b.high }) {new : List (FrameOf PlainNode)} (into : new ≡ record { node = f.node; place = i + 1; lower = f.lower; upper = f.upper } ∷ fs) where
+    module _ {i : ℕ} {x : Entry} (at : slice_get (entries (shown f.node)) i ≡ Some x) (next : IsNextEntry f.note.lower f.note.upper (entries (shown f.node)) f.place i) {c : Bounds} (to : c ≡ record { width = b.width; known = put_together (shown f.node).level x.addr (body_above (shown f.node).level b.known) x.body; low = b.low; high = b.high }) {new : List (FrameOf PlainNode)} (into : new ≡ record { node = f.node; place = i + 1; note = f.note } ∷ fs) where
       pub new-walk : IsWalk d c root new
       new-walk = subst (λ c. IsWalk d c root new) (sym to) (subst (IsWalk d _ root) (sym into) (after-walk d b root f fs top-walk i x at next))
 
-      new-rows : path_rows b.width lo hi (put_together (shown f.node).level x.addr (body_above (shown f.node).level b.known) x.body) (record { node = f.node; place = i + 1; lower = f.lower; upper = f.upper } ∷ fs) ++ root_rows b.width d lo hi root ≡ (walk_of d c root new).rest
+      new-rows : path_rows b.width lo hi (put_together (shown f.node).level x.addr (body_above (shown f.node).level b.known) x.body) (record { node = f.node; place = i + 1; note = f.note } ∷ fs) ++ root_rows b.width d lo hi root ≡ (walk_of d c root new).rest
       new-rows = sym (ap (λ c. (walk_of d c root new).rest) to ∙ ap (λ t. path_rows b.width lo hi (put_together (shown f.node).level x.addr (body_above (shown f.node).level b.known) x.body) t ++ root_rows b.width d lo hi root) into)
 
-      new-visits : path_nodes b.width lo hi (put_together (shown f.node).level x.addr (body_above (shown f.node).level b.known) x.body) (record { node = f.node; place = i + 1; lower = f.lower; upper = f.upper } ∷ fs) + root_nodes b.width d lo hi root ≡ (walk_of d c root new).visits
+      new-visits : path_nodes b.width lo hi (put_together (shown f.node).level x.addr (body_above (shown f.node).level b.known) x.body) (record { node = f.node; place = i + 1; note = f.note } ∷ fs) + root_nodes b.width d lo hi root ≡ (walk_of d c root new).visits
       new-visits = sym (ap (λ c. (walk_of d c root new).visits) to ∙ ap (λ t. path_nodes b.width lo hi (put_together (shown f.node).level x.addr (body_above (shown f.node).level b.known) x.body) t + root_nodes b.width d lo hi root) into)
 
-      new-steps : (walk_of d c root new).steps ≡ path_steps (record { node = f.node; place = i + 1; lower = f.lower; upper = f.upper } ∷ fs) + root_steps root
+      new-steps : (walk_of d c root new).steps ≡ path_steps (record { node = f.node; place = i + 1; note = f.note } ∷ fs) + root_steps root
       new-steps = ap (λ t. path_steps t + root_steps root) into
 
       module _ {n : ℕ} (is : x.what ≡ value n) where
@@ -153,7 +155,7 @@ module _ {d : ℕ} {b : Bounds} {root : Option PlainNode} {path : List (FrameOf 
             let same : t ≡ is_between lo hi (point_at b.width (put_together (shown f.node).level x.addr (body_above (shown f.node).level b.known) x.body)) = q ∙ ap (λ c. is_between (point_at c.width c.low) (point_at c.width c.high) (point_at c.width c.known)) to in
             top-rest
             ∙ ap (λ z. z ++ root_rows b.width d lo hi root) (found-rows d b root f fs top-walk i x at next n is)
-            ∙ front u (row pt n) (path_rows b.width lo hi (put_together (shown f.node).level x.addr (body_above (shown f.node).level b.known) x.body) (record { node = f.node; place = i + 1; lower = f.lower; upper = f.upper } ∷ fs)) (root_rows b.width d lo hi root)
+            ∙ front u (row pt n) (path_rows b.width lo hi (put_together (shown f.node).level x.addr (body_above (shown f.node).level b.known) x.body) (record { node = f.node; place = i + 1; note = f.note } ∷ fs)) (root_rows b.width d lo hi root)
             ∙ ap (λ z. if u then row pt n ∷ z else z) new-rows
             ∙ ap (λ z. if z then row pt n ∷ (walk_of d c root new).rest else (walk_of d c root new).rest) (sym same)
             ∙ ap (λ c'. if t then row (point_at c'.width c'.known) n ∷ (walk_of d c root new).rest else (walk_of d c root new).rest) (sym to)
@@ -164,7 +166,7 @@ module _ {d : ℕ} {b : Bounds} {root : Option PlainNode} {path : List (FrameOf 
 
         value-less : (walk_of d c root new).steps < old.steps
         value-less =
-            let z : path_steps (record { node = f.node; place = i + 1; lower = f.lower; upper = f.upper } ∷ fs) < path_steps (f ∷ fs) = found-steps d b root f fs top-walk i x at next n is in
+            let z : path_steps (record { node = f.node; place = i + 1; note = f.note } ∷ fs) < path_steps (f ∷ fs) = found-steps d b root f fs top-walk i x at next n is in
             omega (arith, new-steps, top-steps, z)
 
         pub value-found : {t : Bool} → t ≡ is_between (point_at c.width c.low) (point_at c.width c.high) (point_at c.width c.known) → t ≡ true → IsStep old (walk_of d c root new) (Found n)
@@ -183,7 +185,7 @@ module _ {d : ℕ} {b : Bounds} {root : Option PlainNode} {path : List (FrameOf 
 
         pub enter-room : (length new < 62) × ((shown r).level < c.width)
         enter-room =
-            let l : length fs + (shown f.node).level + 1 ≤ b.width = few-frames d b.width (shown f.node).level lo hi b.known fs top-walk.way.0.level top-walk.way.1 top-walk.way.2 in
+            let l : length fs + (shown f.node).level + 1 ≤ b.width = few-frames b.width (shown f.node).level (IsFrame d b.width lo hi b.known) (λ f k. k.level) fs top-walk.way.0.level top-walk.way.1 top-walk.way.2 in
             let m : length new ≡ suc (length fs) = ap (λ t. length t) into in
             let w : c.width ≡ b.width = ap (λ t. t.width) to in
             let s : (shown r).level ≡ n.level = ap (λ t. t.level) shows in
@@ -213,7 +215,7 @@ module _ {d : ℕ} {b : Bounds} {root : Option PlainNode} {path : List (FrameOf 
           top-root c = root_rows c.width d (point_at c.width c.low) (point_at c.width c.high) root
 
           abbrev mv : List (FrameOf PlainNode)
-          mv = record { node = f.node; place = i + 1; lower = f.lower; upper = f.upper } ∷ fs
+          mv = record { node = f.node; place = i + 1; note = f.note } ∷ fs
 
           pub deep-step : (old.rest ≡ (walk_of d c root deep).rest) × ((walk_of d c root deep).steps < old.steps)
           deep-step =

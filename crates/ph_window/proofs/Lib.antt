@@ -1,7 +1,6 @@
-pub mod Frames
 pub mod Seeks
 pub mod Lists
-pub mod Knowns
+pub mod MaskDigits
 pub mod Paths
 pub mod Corners
 pub mod Steps

@@ -1,6 +1,6 @@
 -- What is listed, opened and looked at below entries, one entry after the other.
-use Rattle.std.proofs.Common.{◌≡◌, ℕ, zero, suc, ◌+◌, ◌-◌, ◌<◌, ◌≤◌, List, [], ◌∷◌, ◌++◌, length, drop, refl, sym, ◌∙◌, ap, arith, true, false, ◌&&◌, add-one, length-append}
-use Rattle.std.specs.Prelude.{ℤ, Option, Some, None, slice_get, if◌then◌else◌}
+use Rattle.std.proofs.Common.{◌≡◌, ℕ, zero, suc, ◌+◌, ◌-◌, ◌<◌, ◌≤◌, List, [], ◌∷◌, ◌++◌, length, drop, refl, sym, ◌∙◌, ap, arith, true, false, ◌&&◌, length-append}
+use Rattle.std.specs.Prelude.{ℤ, Some, None, slice_get, if◌then◌else◌}
 use Rattle.ph_specs.specs.Table.{Row, row}
 use Rattle.ph_specs.specs.Node.{Entries, end, point, child, What, value, node, Entry, PlainNode, chained, in_front}
 use Rattle.ph_specs.specs.Lawful.{put_together}
@@ -9,15 +9,7 @@ use Rattle.ph_specs.specs.WorkSets.{Placed}
 use Rattle.ph_specs.specs.Masks.{masks, fits_masks, fits_some}
 use Rattle.ph_specs.specs.WindowWalk.{node_region, is_open, point_of, listed_below, opened_below}
 use Rattle.ph_window.specs.Seek.{AreShut}
-use Rattle.ph_window.specs.Walk.{entry_steps}
-
-pub drop-at : {X : Type 0} (es : List X) (i : ℕ) (x : X) → slice_get es i ≡ Some x → drop i es ≡ x ∷ drop (i + 1) es
-drop-at {X = X} es i x g = by_suc es i g ∙ ap {B = List X} (λ n. x ∷ drop n es) (sym (add-one i))
-  where
-    by_suc : (es : List X) (i : ℕ) → slice_get es i ≡ Some x → drop i es ≡ x ∷ drop (suc i) es
-    by_suc [] i g = absurd (let no : ◌≡◌ {A = Option X} None (Some x) = g in cc)
-    by_suc (y ∷ es) zero g = let s : y ≡ x = cc in ap {B = List X} (λ t. t ∷ es) s
-    by_suc (y ∷ es) (suc i) g = by_suc es i g
+use Rattle.ph_path.specs.Path.{entry_steps}
 
 drop-none : {X : Type 0} (i : ℕ) → drop {A = X} i [] ≡ []
 drop-none zero = refl
@@ -143,6 +135,3 @@ fewer-steps (e ∷ es) zero (suc i) l =
     omega (arith, ih, s)
 fewer-steps (e ∷ es) (suc p) zero l = absurd (omega (arith, l))
 fewer-steps (e ∷ es) (suc p) (suc i) l = fewer-steps es p i (omega (arith, l))
-
-pub entry-first : (es : List Entry) (i : ℕ) (x : Entry) → slice_get es i ≡ Some x → chained (drop i es) ≡ in_front x.addr x.body x.what (chained (drop (i + 1) es))
-entry-first es i x g = ap chained (drop-at es i x g)

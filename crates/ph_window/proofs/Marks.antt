@@ -8,13 +8,13 @@ use Rattle.ph_specs.specs.PutTree.{body_address, body_address_from, body_above}
 use Rattle.ph_specs.proofs.lemmas.Joined.{from_place, number_at, offsets-coordinate, same_number, same_from}
 use Rattle.ph_zorder.proofs.Decided.{address-is, before-decided, is_body-point}
 use Rattle.ph_specs.proofs.laws.Order.{before_irrefl}
-use Rattle.ph_window.specs.Bounds.{point_at, Bounds}
+use Rattle.ph_path.specs.Known.{point_at}
+use Rattle.ph_window.specs.Bounds.{Bounds}
 use Rattle.ph_window.specs.Mark.{Mark}
-use Rattle.ph_window.proofs.Knowns.{above-same, above-from}
+use Rattle.ph_path.proofs.Knowns.{above-same, above-from, offsets-point}
 use Rattle.ph_digits.specs.Differences.{IsTopDifference}
 use Rattle.ph_digits.proofs.Cuts.{other_address}
 use Rattle.ph_digits.proofs.Tops.{top-lower}
-use Rattle.ph_window.proofs.Starts.{offsets-point}
 
 body-number : (s t : ℕ) (xs : List ℕ) → body_address_from s t xs ≡ number_at s t xs
 body-number s t [] = refl
@@ -44,12 +44,12 @@ above-apart : (level place : ℕ) (xs ys : List ℕ) → level < place → IsTop
 above-apart level place xs ys l p e =
     p.differ (same_from (level + 1) place xs ys (omega (arith, l)) (sym (above-from level xs) ∙ ap (from_place (level + 1)) (sym e) ∙ above-from level ys))
 
-module _ (d n w u : ℕ) (known offsets : List ℕ) (m : Mark) (b : Bounds) (e : n ≡ d) (hk : IsBody d w (take d known)) (hm : IsBody d u (take d offsets)) (sk : take d known ≡ b.known) (wk : w ≡ b.width) (sm : take d offsets ≡ m.digits) (same : m.width ≡ b.width) (um : u ≡ m.width) where
+module _ (d n w u : ℕ) (known ks offsets : List ℕ) (m : Mark) (b : Bounds) (e : n ≡ d) (hk : IsBody d w known) (hm : IsBody d u (take d offsets)) (s : ks ≡ known) (sk : known ≡ b.known) (wk : w ≡ b.width) (sm : take d offsets ≡ m.digits) (same : m.width ≡ b.width) (um : u ≡ m.width) where
   mk : take n offsets ≡ m.digits
   mk = ap (λ k. take k offsets) e ∙ sm
 
-  kk : take n known ≡ b.known
-  kk = ap (λ k. take k known) e ∙ sk
+  kk : ks ≡ b.known
+  kk = s ∙ sk
 
   body-m : IsBody d m.width m.digits
   body-m = subst (λ k. IsBody d k m.digits) um (subst (IsBody d u) sm hm)
@@ -57,20 +57,20 @@ module _ (d n w u : ℕ) (known offsets : List ℕ) (m : Mark) (b : Bounds) (e :
   body-k : IsBody d m.width b.known
   body-k = subst (λ k. IsBody d k b.known) (wk ∙ sym same) (subst (IsBody d w) sk hk)
 
-  at-place : (place : ℕ) → IsTopDifference (take n offsets) (take n known) place → IsTopDifference m.digits b.known place
+  at-place : (place : ℕ) → IsTopDifference (take n offsets) ks place → IsTopDifference m.digits b.known place
   at-place place p = subst (λ x. IsTopDifference x b.known place) mk (subst (λ y. IsTopDifference (take n offsets) y place) kk p)
 
-  pub part-order : (place : ℕ) (late : Bool) → IsTopDifference (take n offsets) (take n known) place → late ≡ nat_lt (body_address place (take n offsets)) (body_address place (take n known)) → late ≡ before m.width (point_at m.width m.digits) (point_at m.width b.known)
+  pub part-order : (place : ℕ) (late : Bool) → IsTopDifference (take n offsets) ks place → late ≡ nat_lt (body_address place (take n offsets)) (body_address place ks) → late ≡ before m.width (point_at m.width m.digits) (point_at m.width b.known)
   part-order place late p q =
-      q ∙ ap (λ x. nat_lt (body_address place x) (body_address place (take n known))) mk ∙ ap (λ y. nat_lt (body_address place m.digits) (body_address place y)) kk
+      q ∙ ap (λ x. nat_lt (body_address place x) (body_address place ks)) mk ∙ ap (λ y. nat_lt (body_address place m.digits) (body_address place y)) kk
       ∙ sym (parting-order d m.width place m.digits b.known body-m body-k (at-place place p))
 
-  pub part-none : take n offsets ≡ take n known → false ≡ before m.width (point_at m.width m.digits) (point_at m.width b.known)
+  pub part-none : take n offsets ≡ ks → false ≡ before m.width (point_at m.width m.digits) (point_at m.width b.known)
   part-none q =
       sym (ap (λ x. before m.width (point_at m.width m.digits) (point_at m.width x)) (sym kk ∙ sym q ∙ mk) ∙ before_irrefl m.width (point_at m.width m.digits))
 
-  pub part-holds : (place level : ℕ) → place ≤ level → IsTopDifference (take n offsets) (take n known) place → body_above level b.known ≡ body_above level m.digits
+  pub part-holds : (place level : ℕ) → place ≤ level → IsTopDifference (take n offsets) ks place → body_above level b.known ≡ body_above level m.digits
   part-holds place level l p = above-top-same level place m.digits b.known l (at-place place p)
 
-  pub part-apart : (place level : ℕ) → level < place → IsTopDifference (take n offsets) (take n known) place → body_above level b.known ≡ body_above level m.digits → ⊥
+  pub part-apart : (place level : ℕ) → level < place → IsTopDifference (take n offsets) ks place → body_above level b.known ≡ body_above level m.digits → ⊥
   part-apart place level l p = above-apart level place m.digits b.known l (at-place place p)

@@ -18,7 +18,7 @@ use Rattle.ph_specs.proofs.laws.WindowSteps.{node-digits}
 use Rattle.ph_specs.proofs.laws.WindowWalk.{At, IsChildRow, child-rows, at-child, listed-window, none-pass, shut-rows, under-in}
 use Rattle.ph_specs.proofs.laws.OneSide.{one-side}
 use Rattle.ph_specs.proofs.laws.EntryLists.{chained-listed}
-use Rattle.ph_window.specs.Bounds.{point_at}
+use Rattle.ph_path.specs.Known.{point_at}
 
 -- behind one point
 abbrev pub behind : List ℤ → List ℤ → List ℤ → Cursor

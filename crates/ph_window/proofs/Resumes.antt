@@ -18,15 +18,18 @@ use Rattle.ph_specs.proofs.laws.WindowWalk.{At, listed-window}
 use Rattle.ph_specs.specs.PutTree.{body_above}
 use Rattle.ph_node.specs.Shown.{shown}
 use Rattle.ph_node.specs.declared.reads.NodeRefOf.{NodeRefOf}
-use Rattle.ph_window.specs.declared.path.FrameOf.{FrameOf}
-use Rattle.ph_window.specs.Bounds.{Bounds, AreBounds, point_at}
+use Rattle.ph_window.specs.Frames.{FrameOf}
+use Rattle.ph_path.specs.Known.{point_at}
+use Rattle.ph_window.specs.Bounds.{Bounds, AreBounds}
 use Rattle.ph_window.specs.Mark.{Mark}
 use Rattle.ph_window.specs.Enters.{frame_at, IsEntered}
 use Rattle.ph_window.specs.Resumed.{IsReady, IsResumed}
-use Rattle.ph_window.specs.Walk.{path_rows, path_nodes, IsFrame, AreOver, IsPath}
-use Rattle.ph_window.proofs.Lists.{entry-first, none-rows, open-fits, child-nodes}
-use Rattle.ph_window.proofs.Knowns.{above-is, above-from, above-same, joined-body, joined-above, joined-child}
-use Rattle.ph_window.proofs.Paths.{frame-kept, rows-kept, nodes-kept, path-kept, few-frames, over-less}
+use Rattle.ph_path.specs.Path.{AreOver}
+use Rattle.ph_window.specs.Walk.{path_rows, path_nodes, IsFrame, IsPath}
+use Rattle.ph_path.proofs.Knowns.{above-is, above-from, above-same, joined-body, joined-above, joined-child}
+use Rattle.ph_path.proofs.Paths.{entry-first, found-kept, counted-kept, few-frames, over-less}
+use Rattle.ph_window.proofs.Lists.{none-rows, open-fits, child-nodes}
+use Rattle.ph_window.proofs.Paths.{frame-kept, way-kept}
 use Rattle.ph_window.proofs.Seeks.{before-position, none-position, at-position, no_entry}
 use Rattle.ph_window.proofs.Steps.{low-point, high-point, HasEntered, entered}
 use Rattle.std.proofs.lemmas.Option.{get_or_from_slice_get}
@@ -162,19 +165,19 @@ module _ {d : ℕ} {m : Mark} {b : Bounds} {fs : List (FrameOf PlainNode)} {n : 
             masks = ap (λ t. masks w (node_region w t.level (body_above t.level b.known)) lo hi) shows ∙ mk;
           } in
           let z : n.level ≤ (shown r).level = let e : (shown r).level ≡ n.level = ap (λ t. t.level) shows in omega (arith, e) in
-          (frame-kept d w n.level lo hi b.known K kept (frame_at r k pair) z f, subst (λ t. AreOver t.level fs) (sym shows) h.over, path-kept d w n.level lo hi b.known K kept fs h.over h.way)
+          (frame-kept d w n.level lo hi b.known K kept (frame_at r k pair) z f, subst (λ t. AreOver t.level fs) (sym shows) h.over, way-kept d w n.level lo hi b.known K kept fs h.over h.way)
 
       pub framed-rows : (k : ℕ) → path_rows w lo hi K (frame_at r k pair ∷ fs) ≡ listed_below w lo hi n.level above (chained (drop k (entries n))) ++ path_rows w lo hi b.known fs
       framed-rows k =
           ap (λ t. listed_below w lo hi t.level (body_above t.level K) (chained (drop k (entries t))) ++ path_rows w lo hi K fs) shows
           ∙ ap (λ t. listed_below w lo hi n.level t (chained (drop k (entries n))) ++ path_rows w lo hi K fs) (kept n.level (omega arith))
-          ∙ ap (λ t. listed_below w lo hi n.level above (chained (drop k (entries n))) ++ t) (rows-kept d w n.level lo hi b.known K kept fs h.over)
+          ∙ ap (λ t. listed_below w lo hi n.level above (chained (drop k (entries n))) ++ t) (found-kept (listed_below w lo hi) n.level b.known K kept fs h.over)
 
       pub framed-nodes : (k : ℕ) → path_nodes w lo hi K (frame_at r k pair ∷ fs) ≡ length (opened_below w lo hi n.level above (chained (drop k (entries n)))) + path_nodes w lo hi b.known fs
       framed-nodes k =
           ap (λ t. length (opened_below w lo hi t.level (body_above t.level K) (chained (drop k (entries t)))) + path_nodes w lo hi K fs) shows
           ∙ ap (λ t. length (opened_below w lo hi n.level t (chained (drop k (entries n)))) + path_nodes w lo hi K fs) (kept n.level (omega arith))
-          ∙ ap (λ t. length (opened_below w lo hi n.level above (chained (drop k (entries n)))) + t) (nodes-kept d w n.level lo hi b.known K kept fs h.over)
+          ∙ ap (λ t. length (opened_below w lo hi n.level above (chained (drop k (entries n)))) + t) (counted-kept (opened_below w lo hi) n.level b.known K kept fs h.over)
 
     chain-whole : length (opened_below w lo hi n.level above (chained (entries n))) ≡ length (opened_below w lo hi n.level above n.chain)
     chain-whole = ap (λ t. length (opened_below w lo hi n.level above t)) (chained-listed n.chain)
@@ -423,5 +426,5 @@ resumed-at {d = d} {m = m} {n = n} {b = b} {fs = fs} {c = c} {e = e} {p = p} {q 
 
 pub room-at : {d : ℕ} {m : Mark} {b : Bounds} {fs : List (FrameOf PlainNode)} {n : PlainNode} → IsReady d m b fs n → (length fs < 62) × (length fs + n.level < 62)
 room-at {d = d} {b = b} {fs = fs} {n = n} h =
-    let l : length fs + n.level + 1 ≤ b.width = few-frames d b.width n.level (point_at b.width b.low) (point_at b.width b.high) b.known fs h.level h.over h.way in
+    let l : length fs + n.level + 1 ≤ b.width = few-frames b.width n.level (IsFrame d b.width (point_at b.width b.low) (point_at b.width b.high) b.known) (λ f k. k.level) fs h.level h.over h.way in
     (omega (arith, l, h.bounds.narrow), omega (arith, l, h.bounds.narrow))

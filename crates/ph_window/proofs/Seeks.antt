@@ -6,10 +6,8 @@ use Rattle.std.proofs.lemmas.Bool.{cases_lt}
 use Rattle.std.proofs.lemmas.Option.{slice_get_within, get_or_from_slice_get, slice_get-get_or}
 use Rattle.std.proofs.lemmas.List.Quantifiers.{position-Some}
 use Rattle.std.proofs.lemmas.List.Sums.{fails_before_first}
-use Rattle.ph_specs.specs.EntryEdits.{point_entry, what_at}
-use Rattle.ph_node.specs.Merge.{addr_at}
-use Rattle.ph_node.specs.Split.{body_at}
-use Rattle.ph_specs.specs.Node.{Entries, end, point, child, Entry, What, listed}
+use Rattle.ph_specs.specs.EntryEdits.{point_entry}
+use Rattle.ph_specs.specs.Node.{Entries, end, point, child, Entry, listed}
 use Rattle.ph_specs.specs.Lawful.{IsLawfulFrom}
 use Rattle.ph_specs.specs.Masks.{fits_masks, IsNextOf}
 use Rattle.ph_specs.proofs.laws.MaskBounds.{fits-between}
@@ -140,17 +138,6 @@ pub place-within : (a : ℕ) {i : ℕ} (es : List Entry) {o : Option ℕ} → o 
 place-within a {i = i} es p s = (at-position a es i (sym p ∙ s)).0
 
 -- ---- below the lower mask
-
--- an entry by its parts, one by one
-pub read-entry : (es : List Entry) (i a : ℕ) (body : List ℕ) (o : What) → i < length es → a ≡ addr_at es i → body ≡ body_at es i → o ≡ what_at es i → slice_get es i ≡ Some (record { addr = a; body = body; what = o })
-read-entry es i a body o l e f g =
-    here es i l ∙ ap {B = Option Entry} (λ a. Some (record { addr = a; body = body_at es i; what = what_at es i })) (sym e)
-    ∙ ap {B = Option Entry} (λ b. Some (record { addr = a; body = b; what = what_at es i })) (sym f) ∙ ap {B = Option Entry} (λ o. Some (record { addr = a; body = body; what = o })) (sym g)
-  where
-    here : (es : List Entry) (i : ℕ) → i < length es → slice_get es i ≡ Some (record { addr = addr_at es i; body = body_at es i; what = what_at es i })
-    here [] i l = absurd (omega (arith, l))
-    here (x ∷ es) zero l = refl
-    here (x ∷ es) (suc i) l = here es i (omega (arith, l))
 
 below-lower : (l u : ℕ) (e : Entry) → e.addr < l → fits_masks e.addr l u ≡ false
 below-lower l u e h =

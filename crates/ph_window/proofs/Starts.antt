@@ -1,61 +1,36 @@
 -- A walk before its first step.
-use Rattle.std.proofs.Common.{◌≡◌, ℕ, zero, suc, ◌-◌, ◌^◌, ◌<◌, ◌≤◌, List, [], ◌∷◌, length, take, map, replicate, refl, sym, ◌∙◌, ap, subst, arith, Bool, true, false}
+use Rattle.std.proofs.Common.{◌≡◌, ℕ, ◌-◌, ◌≤◌, List, [], ◌∷◌, length, take, map, replicate, refl, sym, ◌∙◌, ap, arith, Bool, true, false}
 use Rattle.std.specs.Prelude.{ℤ, Option, Some, None, is_some, if◌then◌else◌}
-use Rattle.std.specs.List.{AllByRecursion as Each}
-use Rattle.std.proofs.lemmas.Nat.{pow_pos}
-use Rattle.std.proofs.lemmas.List.{length-map, length-replicate}
 use Rattle.ph_specs.specs.Coordinate.{offset, IsPoint}
 use Rattle.ph_specs.specs.Table.{Row, IsTable}
 use Rattle.ph_specs.specs.Shape.{shape}
 use Rattle.ph_specs.specs.Window.{window}
-use Rattle.ph_specs.proofs.laws.TableShape.{table-shape}
 use Rattle.ph_specs.proofs.laws.WindowWalk.{window_listed-shape, opened-shape}
 use Rattle.ph_specs.specs.Node.{PlainNode}
-use Rattle.ph_specs.specs.Lawful.{IsBody, IsLawful}
+use Rattle.ph_specs.specs.Lawful.{IsLawful}
 use Rattle.ph_specs.specs.Region.{meets_window}
 use Rattle.ph_specs.specs.WorkSets.{Placed, meets}
 use Rattle.ph_specs.specs.Masks.{mask, masks}
 use Rattle.ph_specs.specs.WindowWalk.{node_region, opened_below, window_listed, opened}
 use Rattle.ph_specs.proofs.lemmas.Joined.{offsets}
-use Rattle.ph_specs.proofs.lemmas.Bounds.{point-long}
 use Rattle.ph_specs.proofs.lemmas.PointDigits.{point-whole}
 use Rattle.ph_specs.specs.PutTree.{body_above}
 use Rattle.ph_zorder.proofs.Decided.{is_body-point}
-use Rattle.ph_window.specs.Bounds.{Bounds, AreBounds, point_at, bounds_at}
+use Rattle.ph_path.specs.Known.{known_at, point_at}
+use Rattle.ph_window.specs.Bounds.{Bounds, AreBounds, bounds_at}
 use Rattle.ph_window.specs.Walk.{root_rows, root_nodes}
-use Rattle.ph_window.proofs.Knowns.{above-top}
+use Rattle.ph_path.proofs.Knowns.{above-top, offsets-point, zeros-body}
 use Rattle.ph_window.proofs.Lists.{none-rows}
-
-pub take-zeros : (d n : ℕ) → d ≤ n → take {A = ℕ} d (replicate n 0) ≡ replicate d 0
-take-zeros zero n l = none (replicate n 0)
-  where
-    none : (xs : List ℕ) → take 0 xs ≡ []
-    none [] = refl
-    none (x ∷ xs) = refl
-take-zeros (suc d) zero l = absurd (omega (arith, l))
-take-zeros (suc d) (suc n) l = ap {B = List ℕ} (λ t. 0 ∷ t) (take-zeros d n (omega (arith, l)))
-
-zeros-body : (d w : ℕ) → IsBody d w (replicate d 0)
-zeros-body d w = (length-replicate d 0, each d)
-  where
-    each : (d : ℕ) → Each (λ x. x < 2 ^ w) (replicate d 0)
-    each zero = tt
-    each (suc d) = (pow_pos w, each d)
 
 pub start-bounds : (d w : ℕ) (lo hi : List ℤ) → 1 ≤ d → d ≤ 16 → 1 ≤ w → w ≤ 62 → IsPoint w d lo → IsPoint w d hi → AreBounds d (bounds_at w (replicate d 0) (offsets w lo) (offsets w hi))
 start-bounds d w lo hi s f l u p q =
     record { some = s; few = f; wide = l; narrow = u; digits = zeros-body d w; starts = is_body-point w d lo l p; ends = is_body-point w d hi l q }
 
--- a point's offsets, in an array that is longer
-pub offsets-point : (w d : ℕ) (p : List ℤ) (os : List ℕ) → IsPoint w d p → take (length p) os ≡ map (offset w) p → take d os ≡ offsets w p
-offsets-point w d p os h e = ap (λ n. take n os) (sym (sym (length-map p (offset w)) ∙ point-long w d p h)) ∙ e
-
 -- the bounds as the code makes them
-pub made-bounds : (d w : ℕ) (lo hi : List ℤ) (low high : List ℕ) → d ≤ 16 → IsPoint w d lo → IsPoint w d hi → take (length lo) low ≡ map (offset w) lo → take (length hi) high ≡ map (offset w) hi → bounds_at w (take d (replicate 16 0)) (take d low) (take d high) ≡ bounds_at w (replicate d 0) (offsets w lo) (offsets w hi)
-made-bounds d w lo hi low high f p q e g =
-    ap (λ t. bounds_at w t (take d low) (take d high)) (take-zeros d 16 f)
-    ∙ ap (λ t. bounds_at w (replicate d 0) t (take d high)) (offsets-point w d lo low p e)
-    ∙ ap (λ t. bounds_at w (replicate d 0) (offsets w lo) t) (offsets-point w d hi high q g)
+pub made-bounds : (d w k : ℕ) (lo hi : List ℤ) (known low high : List ℕ) → IsPoint w d lo → IsPoint w d hi → known_at k known ≡ known_at w (replicate d 0) → take (length lo) low ≡ map (offset w) lo → take (length hi) high ≡ map (offset w) hi → bounds_at k known (take d low) (take d high) ≡ bounds_at w (replicate d 0) (offsets w lo) (offsets w hi)
+made-bounds d w k lo hi known low high p q n e g =
+    (λ i. bounds_at (n i).width (n i).digits (take d low) (take d high))
+    ∙ (λ i. bounds_at w (replicate d 0) (offsets-point w d lo low p e i) (offsets-point w d hi high q g i))
 
 module _ (d w k : ℕ) (lo hi : List ℤ) (b : Bounds) (root : Option PlainNode) (m : Option (ℕ × ℕ)) (l : 1 ≤ w) (p : IsPoint w d lo) (q : IsPoint w d hi) (h : IsLawful w d root) (made : b ≡ bounds_at w (replicate d 0) (offsets w lo) (offsets w hi)) (same : k ≡ w) (is : m ≡ masks b.width (node_region b.width (k - 1) (body_above (k - 1) b.known)) (point_at b.width b.low) (point_at b.width b.high)) where
   low-is : point_at w (offsets w lo) ≡ lo
@@ -134,10 +109,6 @@ module _ (d w k : ℕ) (lo hi : List ℤ) (b : Bounds) (root : Option PlainNode)
 
 -- ---- of a table
 
-pub shape-lawful : (d w u : ℕ) (o : Option PlainNode) (table : List Row) → 1 ≤ w → w ≡ u → IsTable u d table → o ≡ shape u table → IsLawful w d o
-shape-lawful d w u o table l e h f =
-    subst (λ n. IsLawful n d o) (sym e) (subst (IsLawful u d) (sym f) (table-shape u d table (omega (arith, l, e)) h).0)
-
 pub table-rows : (d w u : ℕ) (o : Option PlainNode) (table : List Row) (lo hi p q : List ℤ) → 1 ≤ w → w ≡ u → IsTable u d table → o ≡ shape u table → p ≡ lo → q ≡ hi → IsPoint u d lo → IsPoint u d hi → window_listed w d p q o ≡ window lo hi table
 table-rows d w u o table lo hi p q l e h f a b x y =
     ap (λ n. window_listed n d p q o) e ∙ ap (λ t. window_listed u d t q o) a ∙ ap (λ t. window_listed u d lo t o) b ∙ ap (window_listed u d lo hi) f
@@ -147,6 +118,3 @@ pub table-nodes : (d w u : ℕ) (o : Option PlainNode) (table : List Row) (lo hi
 table-nodes d w u o table lo hi p q l e h f a b x y =
     ap (λ n. length (opened n d p q o)) e ∙ ap (λ t. length (opened u d t q o)) a ∙ ap (λ t. length (opened u d lo t o)) b ∙ ap (λ o. length (opened u d lo hi o)) f
     ∙ ap length (opened-shape u d lo hi table (omega (arith, l, e)) x y h)
-
-pub same-point : (w u d : ℕ) (p q : List ℤ) → w ≡ u → p ≡ q → IsPoint u d q → IsPoint w d p
-same-point w u d p q e f h = subst (λ n. IsPoint n d p) (sym e) (subst (IsPoint u d) (sym f) h)

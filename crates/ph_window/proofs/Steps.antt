@@ -17,15 +17,18 @@ use Rattle.ph_specs.proofs.laws.EntryLists.{chained-listed, entry-lawful}
 use Rattle.ph_specs.specs.PutTree.{body_above}
 use Rattle.ph_node.specs.Shown.{shown}
 use Rattle.ph_node.specs.declared.reads.NodeRefOf.{NodeRefOf}
-use Rattle.ph_window.specs.declared.path.FrameOf.{FrameOf}
-use Rattle.ph_window.specs.Bounds.{Bounds, AreBounds, point_at}
+use Rattle.ph_window.specs.Frames.{FrameOf}
+use Rattle.ph_path.specs.Known.{point_at}
+use Rattle.ph_window.specs.Bounds.{Bounds, AreBounds}
 use Rattle.ph_window.specs.Seek.{AreShut, IsNextEntry}
 use Rattle.ph_window.specs.Enters.{frame_at, IsEntered}
-use Rattle.ph_window.specs.Walk.{left_in, frame_rows, frame_nodes, path_rows, path_nodes, path_steps, entry_steps, IsFrame, AreOver, IsWalk}
+use Rattle.ph_path.specs.Path.{found_in, left_in, path_steps, entry_steps, AreOver}
+use Rattle.ph_window.specs.Walk.{path_rows, path_nodes, IsFrame, IsWalk}
 use Rattle.ph_digits.proofs.Joins.{above-long}
-use Rattle.ph_window.proofs.Lists.{entry-first, open-fits, past-rows, past-nodes, none-rows, none-nodes, value-rows, value-nodes, child-rows, child-nodes, fewer-steps}
-use Rattle.ph_window.proofs.Knowns.{joined-body, joined-above, joined-child}
-use Rattle.ph_window.proofs.Paths.{frame-kept, rows-kept, nodes-kept, path-kept, over-less}
+use Rattle.ph_window.proofs.Lists.{open-fits, past-rows, past-nodes, none-rows, none-nodes, value-rows, value-nodes, child-rows, child-nodes, fewer-steps}
+use Rattle.ph_path.proofs.Knowns.{joined-body, joined-above, joined-child}
+use Rattle.ph_path.proofs.Paths.{entry-first, found-behind, counted-behind, over-less}
+use Rattle.ph_window.proofs.Paths.{frame-kept, way-kept}
 
 -- ---- the corners are points
 
@@ -39,11 +42,11 @@ above-point : (d level : ℕ) (b : Bounds) → AreBounds d b → IsPoint b.width
 above-point d level b h =
     small-point b.width d (body_above level b.known) h.wide (above-long level b.known ∙ h.digits.0) (lows-small b.width level b.known h.digits.1)
 
-pub frame-masks : (d : ℕ) (b : Bounds) (f : FrameOf PlainNode) → AreBounds d b → IsFrame d b.width (point_at b.width b.low) (point_at b.width b.high) b.known f → (bit_and f.lower f.upper ≡ f.lower) × (f.upper < 2 ^ d)
+pub frame-masks : (d : ℕ) (b : Bounds) (f : FrameOf PlainNode) → AreBounds d b → IsFrame d b.width (point_at b.width b.low) (point_at b.width b.high) b.known f → (bit_and f.note.lower f.note.upper ≡ f.note.lower) × (f.note.upper < 2 ^ d)
 frame-masks d b f h k =
     let level : ℕ = (shown f.node).level in
-    let m : AreMasks b.width d (node_region b.width level (body_above level b.known)) (point_at b.width b.low) (point_at b.width b.high) (f.lower, f.upper) = masks-fit b.width d (node_region b.width level (body_above level b.known)) (point_at b.width b.low) (point_at b.width b.high) (f.lower, f.upper) k.level (above-point d level b h) (low-point d b h) (high-point d b h) k.masks in
-    ((fits-parts f.lower f.lower f.upper m.lower_fits).1, m.upper_small)
+    let m : AreMasks b.width d (node_region b.width level (body_above level b.known)) (point_at b.width b.low) (point_at b.width b.high) (f.note.lower, f.note.upper) = masks-fit b.width d (node_region b.width level (body_above level b.known)) (point_at b.width b.low) (point_at b.width b.high) (f.note.lower, f.note.upper) k.level (above-point d level b h) (low-point d b h) (high-point d b h) k.masks in
+    ((fits-parts f.note.lower f.note.lower f.note.upper m.lower_fits).1, m.upper_small)
 
 -- ---- a node that is entered
 
@@ -122,28 +125,28 @@ module _ (d : ℕ) (b : Bounds) (root : Option PlainNode) (f : FrameOf PlainNode
   pub rest-walk : IsWalk d b root fs
   rest-walk = record { bounds = h.bounds; tree = h.tree; way = h.way.2 }
 
-  nothing-left : AreShut f.lower f.upper es f.place (length es) → (chained (drop (length es) es) ≡ chained []) → (listed_below w lo hi level known (chained (drop f.place es)) ≡ []) × (length (opened_below w lo hi level known (chained (drop f.place es))) ≡ 0)
+  nothing-left : AreShut f.note.lower f.note.upper es f.place (length es) → (chained (drop (length es) es) ≡ chained []) → (listed_below w lo hi level known (chained (drop f.place es)) ≡ []) × (length (opened_below w lo hi level known (chained (drop f.place es))) ≡ 0)
   nothing-left s e =
       elim (cases_lt f.place (length es)) [
         | inl l ↦ (
-          past-rows w level known lo hi f.lower f.upper h.way.0.masks es f.place (length es) (omega (arith, l)) s ∙ ap (listed_below w lo hi level known) e,
-          ap length (past-nodes w level known lo hi f.lower f.upper h.way.0.masks es f.place (length es) (omega (arith, l)) s) ∙ ap (λ t. length (opened_below w lo hi level known t)) e,
+          past-rows w level known lo hi f.note.lower f.note.upper h.way.0.masks es f.place (length es) (omega (arith, l)) s ∙ ap (listed_below w lo hi level known) e,
+          ap length (past-nodes w level known lo hi f.note.lower f.note.upper h.way.0.masks es f.place (length es) (omega (arith, l)) s) ∙ ap (λ t. length (opened_below w lo hi level known t)) e,
         )
         | inr l ↦
             let z : drop f.place es ≡ [] = drop_of_length-le es l in
             (ap (λ t. listed_below w lo hi level known (chained t)) z, ap (λ t. length (opened_below w lo hi level known (chained t))) z)
       ]
 
-  pub done-rows : AreShut f.lower f.upper es f.place (length es) → path_rows w lo hi b.known (f ∷ fs) ≡ path_rows w lo hi b.known fs
+  pub done-rows : AreShut f.note.lower f.note.upper es f.place (length es) → path_rows w lo hi b.known (f ∷ fs) ≡ path_rows w lo hi b.known fs
   done-rows s = ap (λ t. t ++ path_rows w lo hi b.known fs) (nothing-left s (ap chained (drop-length es))).0
 
-  pub done-nodes : AreShut f.lower f.upper es f.place (length es) → path_nodes w lo hi b.known (f ∷ fs) ≡ path_nodes w lo hi b.known fs
+  pub done-nodes : AreShut f.note.lower f.note.upper es f.place (length es) → path_nodes w lo hi b.known (f ∷ fs) ≡ path_nodes w lo hi b.known fs
   done-nodes s =
-      let z : frame_nodes w lo hi b.known f ≡ 0 = (nothing-left s (ap chained (drop-length es))).1 in omega (arith, z)
+      let z : length (found_in (opened_below w lo hi) b.known f) ≡ 0 = (nothing-left s (ap chained (drop-length es))).1 in omega (arith, z)
 
   -- ---- an entry that is found
 
-  module _ (i : ℕ) (x : Entry) (at : slice_get es i ≡ Some x) (next : IsNextEntry f.lower f.upper es f.place i) where
+  module _ (i : ℕ) (x : Entry) (at : slice_get es i ≡ Some x) (next : IsNextEntry f.note.lower f.note.upper es f.place i) where
     pub same-entry : next.entry.0 ≡ x
     same-entry = let o : ◌≡◌ {A = Option Entry} (Some next.entry.0) (Some x) = sym next.entry.1 ∙ at in cc
 
@@ -151,7 +154,7 @@ module _ (d : ℕ) (b : Bounds) (root : Option PlainNode) (f : FrameOf PlainNode
     lawful = entry-lawful d level 0 i (shown f.node).chain x h.way.0.lawful at
 
     opens : is_open w lo hi level known x.addr ≡ true
-    opens = open-fits w level known lo hi f.lower f.upper h.way.0.masks x.addr ∙ subst (λ y. fits_masks y.addr f.lower f.upper ≡ true) same-entry next.entry.2
+    opens = open-fits w level known lo hi f.note.lower f.note.upper h.way.0.masks x.addr ∙ subst (λ y. fits_masks y.addr f.note.lower f.note.upper ≡ true) same-entry next.entry.2
 
     abbrev joined : List ℕ
     joined = put_together (shown f.node).level x.addr (body_above (shown f.node).level b.known) x.body
@@ -160,7 +163,7 @@ module _ (d : ℕ) (b : Bounds) (root : Option PlainNode) (f : FrameOf PlainNode
     after = record { width = b.width; known = put_together (shown f.node).level x.addr (body_above (shown f.node).level b.known) x.body; low = b.low; high = b.high }
 
     abbrev moved : FrameOf PlainNode
-    moved = record { node = f.node; place = i + 1; lower = f.lower; upper = f.upper }
+    moved = record { node = f.node; place = i + 1; note = f.note }
 
     kept : (c : ℕ) → level ≤ c → body_above c joined ≡ body_above c b.known
     kept c l = joined-above d w level x.addr b.known x.body h.way.0.level h.bounds.digits lawful.body c l
@@ -183,7 +186,7 @@ module _ (d : ℕ) (b : Bounds) (root : Option PlainNode) (f : FrameOf PlainNode
         record {
           bounds = after-bounds;
           tree = h.tree;
-          way = (frame-kept d w level lo hi b.known joined kept moved (omega arith) k, h.way.1, path-kept d w level lo hi b.known joined kept fs h.way.1 h.way.2);
+          way = (frame-kept d w level lo hi b.known joined kept moved (omega arith) k, h.way.1, way-kept d w level lo hi b.known joined kept fs h.way.1 h.way.2);
         }
 
     abbrev behind : Entries
@@ -193,20 +196,16 @@ module _ (d : ℕ) (b : Bounds) (root : Option PlainNode) (f : FrameOf PlainNode
     left-rows = path_rows w lo hi joined (moved ∷ fs)
 
     rows-behind : listed_below w lo hi level known behind ++ path_rows w lo hi b.known fs ≡ path_rows w lo hi joined (moved ∷ fs)
-    rows-behind =
-        ap (λ t. listed_below w lo hi level t behind ++ path_rows w lo hi b.known fs) (sym (kept level (omega arith)))
-        ∙ ap (λ t. listed_below w lo hi level (body_above level joined) behind ++ t) (sym (rows-kept d w level lo hi b.known joined kept fs h.way.1))
+    rows-behind = found-behind (listed_below w lo hi) level b.known joined kept f fs (i + 1) (omega arith) h.way.1
 
     nodes-behind : length (opened_below w lo hi level known behind) + path_nodes w lo hi b.known fs ≡ path_nodes w lo hi joined (moved ∷ fs)
-    nodes-behind =
-        ap (λ t. length (opened_below w lo hi level t behind) + path_nodes w lo hi b.known fs) (sym (kept level (omega arith)))
-        ∙ ap (λ t. length (opened_below w lo hi level (body_above level joined) behind) + t) (sym (nodes-kept d w level lo hi b.known joined kept fs h.way.1))
+    nodes-behind = counted-behind (opened_below w lo hi) level b.known joined kept f fs (i + 1) (omega arith) h.way.1
 
-    first-rows : frame_rows w lo hi b.known f ≡ listed_below w lo hi level known (chained (drop i es))
-    first-rows = past-rows w level known lo hi f.lower f.upper h.way.0.masks es f.place i next.behind next.shut
+    first-rows : found_in (listed_below w lo hi) b.known f ≡ listed_below w lo hi level known (chained (drop i es))
+    first-rows = past-rows w level known lo hi f.note.lower f.note.upper h.way.0.masks es f.place i next.behind next.shut
 
-    first-nodes : frame_nodes w lo hi b.known f ≡ length (opened_below w lo hi level known (chained (drop i es)))
-    first-nodes = ap length (past-nodes w level known lo hi f.lower f.upper h.way.0.masks es f.place i next.behind next.shut)
+    first-nodes : length (found_in (opened_below w lo hi) b.known f) ≡ length (opened_below w lo hi level known (chained (drop i es)))
+    first-nodes = ap length (past-nodes w level known lo hi f.note.lower f.note.upper h.way.0.masks es f.place i next.behind next.shut)
 
     row-front : (t : Bool) (r : Row) (xs ys : List Row) → (if t then r ∷ xs else xs) ++ ys ≡ (if t then r ∷ (xs ++ ys) else (xs ++ ys))
     row-front true r xs ys = refl
@@ -260,7 +259,7 @@ module _ (d : ℕ) (b : Bounds) (root : Option PlainNode) (f : FrameOf PlainNode
 
       pub below-nodes : path_nodes w lo hi b.known (f ∷ fs) ≡ suc (length (opened_below w lo hi m.level (body_above m.level joined) m.chain) + path_nodes w lo hi joined (moved ∷ fs))
       below-nodes =
-          let a : frame_nodes w lo hi b.known f ≡ suc (length (opened_below w lo hi m.level joined m.chain) + length (opened_below w lo hi level known behind)) = first-nodes ∙ ap (λ t. length (opened_below w lo hi level known t)) (entry-first es i x at) ∙ child-nodes w level known lo hi x behind opens m is in
+          let a : length (found_in (opened_below w lo hi) b.known f) ≡ suc (length (opened_below w lo hi m.level joined m.chain) + length (opened_below w lo hi level known behind)) = first-nodes ∙ ap (λ t. length (opened_below w lo hi level known t)) (entry-first es i x at) ∙ child-nodes w level known lo hi x behind opens m is in
           let c : length (opened_below w lo hi m.level (body_above m.level joined) m.chain) ≡ length (opened_below w lo hi m.level joined m.chain) = ap (λ t. length (opened_below w lo hi m.level t m.chain)) all-known in
           let e : length (opened_below w lo hi level known behind) + path_nodes w lo hi b.known fs ≡ path_nodes w lo hi joined (moved ∷ fs) = nodes-behind in
           omega (arith, a, c, e)

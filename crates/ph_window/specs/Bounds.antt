@@ -1,11 +1,6 @@
 -- A window, and the digits that are known where a walk stands.
-use Rattle.std.specs.Prelude.{ℕ, ◌≤◌, Bool, true, ◌&&◌, nat_le, List, ◌∷◌, map, ℤ}
-use Rattle.ph_specs.specs.Coordinate.{coordinate}
+use Rattle.std.specs.Prelude.{ℕ, ◌≤◌, Bool, true, ◌&&◌, nat_le, List, ◌∷◌}
 use Rattle.ph_specs.specs.Lawful.{IsBody}
-
--- a point by its offsets
-abbrev pub point_at : ℕ → List ℕ → List ℤ
-point_at w os = map (coordinate w) os
 
 -- the corners and the digits, by offsets
 pub record Bounds : Type 0 where

@@ -1,30 +1,7 @@
--- Frames that are stacked, seen from the last one.
-use Rattle.std.specs.Prelude.{◌≡◌, ℕ, List, [], ◌∷◌, ◌++◌, Option, Some, None}
-use Rattle.ph_window.specs.declared.path.FrameOf.{FrameOf}
+-- The frames of a walk over a window.
+use Rattle.ph_path.specs.declared.frame.FrameOf.{FrameOf as TheFrame}
+use Rattle.ph_window.specs.declared.frame.Masks.{Masks}
 
--- the elements of a list that grows at its end, the last one first
-abbrev pub top_first : {X : Type 0} → List (Option X) → List X
-top_first [] = []
-top_first (None ∷ xs) = top_first xs
-top_first (Some x ∷ xs) = top_first xs ++ x ∷ []
-
--- no place is empty
-abbrev pub AllThere : {X : Type 0} → List (Option X) → Type 0
-AllThere [] = Unit {0}
-AllThere (None ∷ xs) = ⊥
-AllThere (Some x ∷ xs) = AllThere xs
-
--- all elements, where the last one stands apart
-abbrev pub last_first : {X : Type 0} → Option X → List (Option X) → List X
-last_first None xs = top_first xs
-last_first (Some x) xs = x ∷ top_first xs
-
--- without a last one there is none
-abbrev pub AreStacked : {X : Type 0} → Option X → List (Option X) → Type 0
-AreStacked None xs = xs ≡ []
-AreStacked (Some x) xs = AllThere xs
-
--- frames whose last one stands at another place
-abbrev pub at_place : {N : Type 0} → ℕ → List (FrameOf N) → List (FrameOf N)
-at_place place [] = []
-at_place place (f ∷ fs) = record f { place = place } ∷ fs
+-- of a node its masks are noted
+abbrev pub FrameOf : Type 0 → Type 0
+FrameOf N = TheFrame N Masks

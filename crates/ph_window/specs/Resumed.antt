@@ -6,12 +6,14 @@ use Rattle.ph_specs.specs.Lawful.{IsLawfulFrom, rows_behind}
 use Rattle.ph_specs.specs.Window.{Cursor, rest}
 use Rattle.ph_specs.specs.WindowWalk.{opened_below}
 use Rattle.ph_specs.specs.PutTree.{body_above}
-use Rattle.ph_window.specs.declared.path.FrameOf.{FrameOf}
+use Rattle.ph_window.specs.Frames.{FrameOf}
 use Rattle.ph_window.specs.declared.bounds.Stand.{Stand}
 use Rattle.ph_window.specs.declared.bounds.Stand.TheVariants.{Holds, Later, Earlier}
-use Rattle.ph_window.specs.Bounds.{Bounds, AreBounds, point_at}
+use Rattle.ph_path.specs.Known.{point_at}
+use Rattle.ph_window.specs.Bounds.{Bounds, AreBounds}
 use Rattle.ph_window.specs.Mark.{Mark, IsMark}
-use Rattle.ph_window.specs.Walk.{AreOver, IsPath, path_rows, path_nodes}
+use Rattle.ph_path.specs.Path.{AreOver}
+use Rattle.ph_window.specs.Walk.{IsPath, path_rows, path_nodes}
 
 -- how a point stands to the region of the digits at hand above a level
 abbrev pub IsStand : ℕ → Bounds → Mark → Stand → Type 0

@@ -1,38 +1,25 @@
 -- What a walk over a window has still to list and to visit.
-use Rattle.std.specs.Prelude.{◌≡◌, ℕ, suc, ◌+◌, ◌<◌, List, [], ◌∷◌, ◌++◌, length, drop, replicate, ℤ, Option, Some, None}
+use Rattle.std.specs.Prelude.{◌≡◌, ℕ, suc, ◌+◌, ◌<◌, List, [], ◌∷◌, ◌++◌, length, replicate, ℤ, Option, Some, None}
 use Rattle.ph_specs.specs.Table.{Row, row}
-use Rattle.ph_specs.specs.Node.{Entries, end, point, child, PlainNode, entries, chained}
+use Rattle.ph_specs.specs.Node.{PlainNode}
 use Rattle.ph_specs.specs.Lawful.{IsLawfulFrom, IsLawful}
 use Rattle.ph_specs.specs.Masks.{masks}
 use Rattle.ph_specs.specs.WindowWalk.{node_region, listed_below, opened_below}
 use Rattle.ph_specs.specs.PutTree.{body_above}
 use Rattle.ph_node.specs.Shown.{shown}
-use Rattle.ph_window.specs.Bounds.{Bounds, AreBounds, point_at}
-use Rattle.ph_window.specs.declared.path.FrameOf.{FrameOf}
+use Rattle.ph_path.specs.Known.{point_at}
+use Rattle.ph_window.specs.Bounds.{Bounds, AreBounds}
+use Rattle.ph_path.specs.Path.{IsPath as IsPathOf, found, counted, path_steps, root_steps}
+use Rattle.ph_window.specs.Frames.{FrameOf}
 use Rattle.ph_window.specs.declared.walk.Step.{Step}
 use Rattle.ph_window.specs.declared.walk.Step.TheVariants.{Found, Moved, Done}
 
--- the entries of a frame's node that are still to be looked at
-abbrev pub left_in : FrameOf PlainNode → Entries
-left_in f = chained (drop f.place (entries (shown f.node)))
-
--- the rows of the window below them, and how many nodes are opened for these. Of `known`, the digits above the node's level count
-abbrev pub frame_rows : ℕ → List ℤ → List ℤ → List ℕ → FrameOf PlainNode → List Row
-frame_rows w lo hi known f =
-    listed_below w lo hi (shown f.node).level (body_above (shown f.node).level known) (left_in f)
-
-abbrev pub frame_nodes : ℕ → List ℤ → List ℤ → List ℕ → FrameOf PlainNode → ℕ
-frame_nodes w lo hi known f =
-    length (opened_below w lo hi (shown f.node).level (body_above (shown f.node).level known) (left_in f))
-
--- of all frames, the last one first
+-- the rows of the window below the frames, and how many nodes are opened for these
 abbrev pub path_rows : ℕ → List ℤ → List ℤ → List ℕ → List (FrameOf PlainNode) → List Row
-path_rows w lo hi known [] = []
-path_rows w lo hi known (f ∷ fs) = frame_rows w lo hi known f ++ path_rows w lo hi known fs
+path_rows w lo hi known fs = found (listed_below w lo hi) known fs
 
 abbrev pub path_nodes : ℕ → List ℤ → List ℤ → List ℕ → List (FrameOf PlainNode) → ℕ
-path_nodes w lo hi known [] = 0
-path_nodes w lo hi known (f ∷ fs) = frame_nodes w lo hi known f + path_nodes w lo hi known fs
+path_nodes w lo hi known fs = counted (opened_below w lo hi) known fs
 
 -- of a root that has not been visited
 abbrev pub root_rows : ℕ → ℕ → List ℤ → List ℤ → Option PlainNode → List Row
@@ -42,20 +29,6 @@ root_rows w d lo hi (Some n) = listed_below w lo hi n.level (replicate d 0) n.ch
 abbrev pub root_nodes : ℕ → ℕ → List ℤ → List ℤ → Option PlainNode → ℕ
 root_nodes w d lo hi None = 0
 root_nodes w d lo hi (Some n) = suc (length (opened_below w lo hi n.level (replicate d 0) n.chain))
-
--- a bound on the steps that are left
-abbrev pub entry_steps : Entries → ℕ
-entry_steps end = 0
-entry_steps (point a body v rest) = suc (entry_steps rest)
-entry_steps (child a body below chain rest) = suc (suc (entry_steps chain + entry_steps rest))
-
-abbrev pub path_steps : List (FrameOf PlainNode) → ℕ
-path_steps [] = 0
-path_steps (f ∷ fs) = suc (entry_steps (left_in f) + path_steps fs)
-
-abbrev pub root_steps : Option PlainNode → ℕ
-root_steps None = 0
-root_steps (Some n) = suc (suc (entry_steps n.chain))
 
 -- the digits at hand, the rows and the visits that are left, and a bound on the steps
 pub record Walk : Type 0 where
@@ -80,17 +53,10 @@ walk_of d b root path =
 pub record IsFrame (d w : ℕ) (lo hi : List ℤ) (known : List ℕ) (f : FrameOf PlainNode) : Type 0 where
   pub level : (shown f.node).level < w
   pub lawful : IsLawfulFrom d (shown f.node).level 0 (shown f.node).chain
-  pub masks : masks w (node_region w (shown f.node).level (body_above (shown f.node).level known)) lo hi ≡ Some (f.lower, f.upper)
-
--- the nodes of all frames are above a level
-abbrev pub AreOver : ℕ → List (FrameOf PlainNode) → Type 0
-AreOver b [] = Unit {0}
-AreOver b (f ∷ fs) = (b < (shown f.node).level) × AreOver b fs
+  pub masks : masks w (node_region w (shown f.node).level (body_above (shown f.node).level known)) lo hi ≡ Some (f.note.lower, f.note.upper)
 
 abbrev pub IsPath : ℕ → ℕ → List ℤ → List ℤ → List ℕ → List (FrameOf PlainNode) → Type 0
-IsPath d w lo hi known [] = Unit {0}
-IsPath d w lo hi known (f ∷ fs) =
-    IsFrame d w lo hi known f × AreOver (shown f.node).level fs × IsPath d w lo hi known fs
+IsPath d w lo hi known fs = IsPathOf (IsFrame d w lo hi known) fs
 
 pub record IsWalk (d : ℕ) (b : Bounds) (root : Option PlainNode) (path : List (FrameOf PlainNode)) : Type 0 where
   pub bounds : AreBounds d b

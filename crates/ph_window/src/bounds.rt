@@ -7,15 +7,16 @@ ghost use Rattle.ph_specs.specs.Masks.{masks as the_masks};
 ghost use Rattle.ph_specs.specs.WindowWalk.{node_region};
 ghost use Rattle.ph_specs.specs.PutTree.{body_above};
 ghost use Rattle.ph_specs.specs.ZOrder.{before};
-ghost use Rattle.ph_window.specs.Bounds.{point_at, bounds_at, each_between};
+ghost use Rattle.ph_path.specs.Known.{known_at, point_at};
+ghost use Rattle.ph_window.specs.Bounds.{bounds_at, each_between};
 ghost use Rattle.ph_window.specs.Resumed.{IsStand};
 
 use crate::mark::MarkOf;
 use crate::parting::parting;
 use ph_coord::{Dims, Width, offsets_of};
-use ph_digits::join;
+use ph_path::KnownOf;
 use ph_zorder::offset_masks;
-use std::marker::{Model, PhantomData};
+use std::marker::Model;
 
 // How a point stands to a region: it holds it, or all its points come later, or earlier.
 #[derive(Drop)]
@@ -28,22 +29,20 @@ pub(crate) enum Stand {
 // Two corners and the digits at hand, all by their offsets.
 #[derive(Drop)]
 pub(crate) struct BoundsOf<P: Dims> {
-    width: Width,
-    known: [u64; 16],
+    known: KnownOf<P>,
     low: [u64; 16],
     high: [u64; 16],
-    dims: PhantomData<P>,
 }
 
 impl<P: Dims> Model for BoundsOf<P> {
     ghost use Rattle.std.specs.Prelude.{take};
-    ghost use Rattle.ph_window.specs.Bounds.{Bounds, AreBounds};
+    ghost use Rattle.ph_window.specs.Bounds.{Bounds, AreBounds, bounds_at};
 
     ghost Value = { Bounds };
 
-    ghost view = { λ a. record { width = a.width; known = take P.D a.known; low = take P.D a.low; high = take P.D a.high } };
+    ghost view = { λ a. bounds_at a.known.width a.known.digits (take P.D a.low) (take P.D a.high) };
 
-    ghost invariant = { λ a. AreBounds P.D (record { width = a.width; known = take P.D a.known; low = take P.D a.low; high = take P.D a.high }) };
+    ghost invariant = { λ a. AreBounds P.D (bounds_at a.known.width a.known.digits (take P.D a.low) (take P.D a.high)) };
 }
 
 impl<P: Dims> BoundsOf<P> {
@@ -57,26 +56,17 @@ impl<P: Dims> BoundsOf<P> {
     {
         let _bits = w.bits();
         BoundsOf {
-            width: w,
-            known: [0; 16],
+            known: KnownOf::new(w),
             low: offsets_of(w, lo),
             high: offsets_of(w, hi),
-            dims: PhantomData,
         }
     }
 
-    pub(crate) fn width(&self) -> Width
-        ensures { result ≡ self.now.width }
-    {
-        self.width
-    }
-
     // The digits at hand.
-    pub(crate) fn known(&self) -> &[u64]
-        ensures digits { result.now ≡ self.now.known }
-        ensures body { IsBody P.D self.now.width result.now }
+    pub(crate) fn known(&self) -> &KnownOf<P>
+        ensures { result.now ≡ known_at self.now.width self.now.known }
     {
-        &self.known[..P::D]
+        &self.known
     }
 
     // The masks of the window in a node at a level, below the digits that are known.
@@ -87,7 +77,7 @@ impl<P: Dims> BoundsOf<P> {
         let dims = P::D;
         offset_masks(
             level,
-            &self.known[..dims],
+            self.known.digits(),
             &self.low[..dims],
             &self.high[..dims],
         )
@@ -99,8 +89,7 @@ impl<P: Dims> BoundsOf<P> {
         requires body { IsBody P.D level body.now }
         ensures { self.new ≡ record self.old { known = put_together level addr (body_above level self.old.known) body.now } }
     {
-        let dims = P::D;
-        join(&mut self.known[..dims], level, addr, body);
+        self.known.join(level, addr, body);
     }
 
     // Whether the point with these digits is in the window.
@@ -108,7 +97,7 @@ impl<P: Dims> BoundsOf<P> {
         ensures { result ≡ lies_between (point_at self.now.width self.now.low) (point_at self.now.width self.now.high) (point_at self.now.width self.now.known) }
     {
         let dims = P::D;
-        are_between(&self.low[..dims], &self.high[..dims], &self.known[..dims])
+        are_between(&self.low[..dims], &self.high[..dims], self.known.digits())
     }
 
     // How a point stands to the region of the digits at hand above a level.
@@ -116,8 +105,8 @@ impl<P: Dims> BoundsOf<P> {
         requires width { mark.now.width ≡ self.now.width }
         ensures { IsStand level self.now mark.now result }
     {
-        let dims = P::D;
-        let Some((place, is_later)) = parting(&mark.offsets[..dims], &self.known[..dims]) else {
+        let point = &mark.offsets[..P::D];
+        let Some((place, is_later)) = parting(point, self.known.digits()) else {
             return Stand::Holds;
         };
         if place <= level {
@@ -135,8 +124,8 @@ impl<P: Dims> BoundsOf<P> {
         requires width { mark.now.width ≡ self.now.width }
         ensures { result ≡ before mark.now.width (point_at mark.now.width mark.now.digits) (point_at mark.now.width self.now.known) }
     {
-        let dims = P::D;
-        match parting(&mark.offsets[..dims], &self.known[..dims]) {
+        let point = &mark.offsets[..P::D];
+        match parting(point, self.known.digits()) {
             Some((_, is_later)) => is_later,
             None => false,
         }

@@ -6,17 +6,18 @@ ghost use Rattle.ph_specs.specs.Masks.{masks as the_masks};
 ghost use Rattle.ph_specs.specs.PutTree.{body_above};
 ghost use Rattle.ph_specs.specs.WindowWalk.{node_region};
 ghost use Rattle.ph_node.specs.Shown.{shown};
-ghost use Rattle.ph_window.specs.Bounds.{point_at};
+ghost use Rattle.ph_path.specs.Known.{point_at};
 ghost use Rattle.ph_window.specs.Enters.{IsEntered};
 
 use crate::bounds::BoundsOf;
-use crate::path::{FrameOf, PathOf};
+use crate::frame::{Masks, WayOf};
 use ph_coord::Dims;
 use ph_node::{NodeOf, NodeRefOf};
+use ph_path::FrameOf;
 
 // Puts a node on the path, where the window meets it.
 pub(crate) fn enter<'t, P: Dims>(
-    path: &mut PathOf<'t, NodeOf<P>>,
+    path: &mut WayOf<'t, NodeOf<P>>,
     node: NodeRefOf<'t, NodeOf<P>>,
     bounds: &BoundsOf<P>,
 )
@@ -28,8 +29,7 @@ pub(crate) fn enter<'t, P: Dims>(
         path.push(FrameOf {
             node,
             place: 0,
-            lower,
-            upper,
+            note: Masks { lower, upper },
         });
     }
 }

@@ -4,10 +4,10 @@
 mod bounds;
 mod cursor;
 mod enter;
+mod frame;
 mod mark;
 mod page;
 mod parting;
-mod path;
 mod resume;
 mod seek;
 mod walk;

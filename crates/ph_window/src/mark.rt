@@ -2,7 +2,7 @@
 ghost use Rattle.std.specs.Prelude.{◌≡◌, ◌<◌, ◌≤◌, ◌^◌, map};
 ghost use Rattle.ph_specs.specs.Coordinate.{offset, IsPoint};
 ghost use Rattle.ph_specs.specs.ZOrder.{address};
-ghost use Rattle.ph_window.specs.Bounds.{point_at};
+ghost use Rattle.ph_path.specs.Known.{point_at};
 ghost use Rattle.ph_window.specs.Mark.{mark_at};
 
 use ph_coord::{Dims, Width, offsets_of};

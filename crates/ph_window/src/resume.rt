@@ -5,17 +5,18 @@ ghost use Rattle.ph_window.specs.Resumed.{IsReady, IsResumed};
 
 use crate::bounds::{BoundsOf, Stand};
 use crate::enter::enter;
+use crate::frame::{Masks, WayOf};
 use crate::mark::MarkOf;
-use crate::path::{FrameOf, PathOf};
 use crate::seek::fits;
 use ph_coord::Dims;
 use ph_node::{NodeOf, NodeRefOf, WhatOf};
+use ph_path::FrameOf;
 use ph_steps::Steps;
 use std::sync::ledger::Ledger;
 
 // Goes down to the point, from a node whose region holds it, and leaves on the path what comes behind it.
 pub(crate) fn resume<'t, P: Dims, V: Ledger>(
-    path: &mut PathOf<'t, NodeOf<P>>,
+    path: &mut WayOf<'t, NodeOf<P>>,
     bounds: &mut BoundsOf<P>,
     mark: &MarkOf<P>,
     node: NodeRefOf<'t, NodeOf<P>>,
@@ -39,8 +40,7 @@ pub(crate) fn resume<'t, P: Dims, V: Ledger>(
     let frame = FrameOf {
         node,
         place,
-        lower,
-        upper,
+        note: Masks { lower, upper },
     };
     let addr = node.address(place);
     if addr != address {

@@ -6,9 +6,10 @@ ghost use Rattle.ph_specs.specs.Masks.{fits_masks};
 ghost use Rattle.ph_node.specs.Shown.{shown};
 ghost use Rattle.ph_window.specs.Seek.{AreShut, IsNextEntry, IsPassed};
 
-use crate::path::FrameOf;
+use crate::frame::Masks;
 use ph_coord::Dims;
 use ph_node::NodeOf;
+use ph_path::FrameOf;
 use ph_zorder::next_address;
 
 // Whether an address has every digit of the lower mask and none that the upper mask has not.
@@ -19,11 +20,11 @@ pub(crate) fn fits(addr: u32, lower: u32, upper: u32) -> bool
 }
 
 // The place of the first entry at or behind the frame's place whose address fits.
-pub(crate) fn seek<P: Dims>(frame: FrameOf<'_, NodeOf<P>>) -> Option<usize>
-    requires masks { bit_and frame.lower frame.upper ≡ frame.lower }
-    requires upper { frame.upper < 2 ^ P.D }
+pub(crate) fn seek<P: Dims>(frame: FrameOf<'_, NodeOf<P>, Masks>) -> Option<usize>
+    requires masks { bit_and frame.note.lower frame.note.upper ≡ frame.note.lower }
+    requires upper { frame.note.upper < 2 ^ P.D }
     requires lawful { IsLawfulFrom P.D (shown frame.node).level 0 (shown frame.node).chain }
-    ensures found { MatchOption result (AreShut frame.entry.lower frame.entry.upper (entries (shown frame.entry.node)) frame.entry.place (length (entries (shown frame.entry.node)))) (λ i. IsNextEntry frame.entry.lower frame.entry.upper (entries (shown frame.entry.node)) frame.entry.place i) }
+    ensures found { MatchOption result (AreShut frame.entry.note.lower frame.entry.note.upper (entries (shown frame.entry.node)) frame.entry.place (length (entries (shown frame.entry.node)))) (λ i. IsNextEntry frame.entry.note.lower frame.entry.note.upper (entries (shown frame.entry.node)) frame.entry.place i) }
     ensures room { IfSome result (λ i. i + 1 < 2 ^ 64) }
 {
     let Some(place) = first_place(frame) else {
@@ -33,35 +34,35 @@ pub(crate) fn seek<P: Dims>(frame: FrameOf<'_, NodeOf<P>>) -> Option<usize>
 }
 
 // The frame's place, or a later one before which no address has the digits of the lower mask.
-fn first_place<P: Dims>(frame: FrameOf<'_, NodeOf<P>>) -> Option<usize>
-    requires { frame.lower < 2 ^ P.D }
-    ensures { MatchOption result (AreShut frame.entry.lower frame.entry.upper (entries (shown frame.entry.node)) frame.entry.place (length (entries (shown frame.entry.node)))) (λ i. IsPassed frame.entry.lower frame.entry.upper (entries (shown frame.entry.node)) frame.entry.place i) }
+fn first_place<P: Dims>(frame: FrameOf<'_, NodeOf<P>, Masks>) -> Option<usize>
+    requires { frame.note.lower < 2 ^ P.D }
+    ensures { MatchOption result (AreShut frame.entry.note.lower frame.entry.note.upper (entries (shown frame.entry.node)) frame.entry.place (length (entries (shown frame.entry.node)))) (λ i. IsPassed frame.entry.note.lower frame.entry.note.upper (entries (shown frame.entry.node)) frame.entry.place i) }
 {
     if frame.place > 0 {
         return Some(frame.place);
     }
-    if frame.lower == 0 {
+    if frame.note.lower == 0 {
         return Some(frame.place);
     }
-    frame.node.next_at_or_after(frame.lower)
+    frame.node.next_at_or_after(frame.note.lower)
 }
 
 // The same, from a place on before which nothing fits.
-fn seek_from<P: Dims>(frame: FrameOf<'_, NodeOf<P>>, mut place: usize) -> Option<usize>
-    requires masks { bit_and frame.lower frame.upper ≡ frame.lower }
-    requires upper { frame.upper < 2 ^ P.D }
+fn seek_from<P: Dims>(frame: FrameOf<'_, NodeOf<P>, Masks>, mut place: usize) -> Option<usize>
+    requires masks { bit_and frame.note.lower frame.note.upper ≡ frame.note.lower }
+    requires upper { frame.note.upper < 2 ^ P.D }
     requires lawful { IsLawfulFrom P.D (shown frame.node).level 0 (shown frame.node).chain }
-    requires passed { IsPassed frame.lower frame.upper (entries (shown frame.node)) frame.place place }
-    ensures found { MatchOption result (AreShut frame.entry.lower frame.entry.upper (entries (shown frame.entry.node)) frame.entry.place (length (entries (shown frame.entry.node)))) (λ i. IsNextEntry frame.entry.lower frame.entry.upper (entries (shown frame.entry.node)) frame.entry.place i) }
+    requires passed { IsPassed frame.note.lower frame.note.upper (entries (shown frame.node)) frame.place place }
+    ensures found { MatchOption result (AreShut frame.entry.note.lower frame.entry.note.upper (entries (shown frame.entry.node)) frame.entry.place (length (entries (shown frame.entry.node)))) (λ i. IsNextEntry frame.entry.note.lower frame.entry.note.upper (entries (shown frame.entry.node)) frame.entry.place i) }
     ensures room { IfSome result (λ i. i + 1 < 2 ^ 64) }
 {
     let node = frame.node;
     while place < node.len() {
         let addr = node.address(place);
-        if fits(addr, frame.lower, frame.upper) {
+        if fits(addr, frame.note.lower, frame.note.upper) {
             return Some(place);
         }
-        let Some(next) = next_address(addr, frame.lower, frame.upper) else {
+        let Some(next) = next_address(addr, frame.note.lower, frame.note.upper) else {
             return None;
         };
         let Some(found) = node.next_at_or_after(next) else {

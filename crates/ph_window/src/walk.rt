@@ -2,20 +2,22 @@
 ghost use Rattle.std.specs.Prelude.{◌≡◌, ◌+◌, ◌≤◌, length};
 ghost use Rattle.std.specs.Option.{option_copied};
 ghost use Rattle.ph_specs.specs.Coordinate.{IsPoint};
-ghost use Rattle.ph_specs.specs.Lawful.{IsBody, IsLawful, rows};
+ghost use Rattle.ph_specs.specs.Lawful.{IsLawful, rows};
 ghost use Rattle.ph_specs.specs.Window.{rest as the_rest};
 ghost use Rattle.ph_specs.specs.WindowWalk.{window_listed, opened};
+ghost use Rattle.ph_path.specs.Known.{known_at};
 ghost use Rattle.ph_window.specs.Walk.{IsStep};
 ghost use Rattle.ph_window.specs.Window.{behind};
 
 use crate::bounds::BoundsOf;
 use crate::enter::enter;
+use crate::frame::WayOf;
 use crate::mark::MarkOf;
-use crate::path::PathOf;
 use crate::resume::resume;
 use crate::seek::seek;
 use ph_coord::{Dims, Width};
 use ph_node::{NodeOf, WhatOf};
+use ph_path::{FrameOf, KnownOf, PathOf};
 use ph_steps::Steps;
 use std::marker::Model;
 use std::sync::ledger::Ledger;
@@ -32,7 +34,7 @@ pub(crate) enum Step {
 #[derive(Drop)]
 pub(crate) struct WalkOf<'t, P: Dims> {
     root: Option<&'t NodeOf<P>>,
-    path: PathOf<'t, NodeOf<P>>,
+    path: WayOf<'t, NodeOf<P>>,
     bounds: BoundsOf<P>,
 }
 
@@ -116,16 +118,9 @@ impl<'t, P: Dims> WalkOf<'t, P> {
         }
     }
 
-    pub(crate) fn width(&self) -> Width
-        ensures { result ≡ self.now.width }
-    {
-        self.bounds.width()
-    }
-
     // The digits of the point at hand.
-    pub(crate) fn known(&self) -> &[u64]
-        ensures digits { result.now ≡ self.now.known }
-        ensures body { IsBody P.D self.now.width result.now }
+    pub(crate) fn known(&self) -> &KnownOf<P>
+        ensures { result.now ≡ known_at self.now.width self.now.known }
     {
         self.bounds.known()
     }
@@ -149,7 +144,10 @@ impl<'t, P: Dims> WalkOf<'t, P> {
             self.path.leave();
             return Step::Moved;
         };
-        self.path.go_on(place + 1);
+        self.path.set_last(FrameOf {
+            place: place + 1,
+            ..frame
+        });
         let node = frame.node;
         let level = node.level();
         self.bounds

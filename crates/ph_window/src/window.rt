@@ -89,7 +89,7 @@ impl<'t, const D: usize> WindowOf<'t, Dim<D>> {
         loop {
             match self.walk.step(visits) {
                 Step::Found(value) => {
-                    let point = Point::from_offsets(self.walk.width(), self.walk.known());
+                    let point = self.walk.known().point();
                     return Some(Row { point, value });
                 }
                 Step::Moved => {}

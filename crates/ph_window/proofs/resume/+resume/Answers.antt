@@ -2,7 +2,8 @@ use Rattle.std.proofs.Common.{◌∙◌, ap, arith, refl, sym, subst, rules, len
 use Rattle.ph_node.specs.Shown.{shown, what_of}
 use Rattle.ph_window.specs.Resumed.{IsStand, IsReady}
 use Rattle.ph_window.proofs.Resumes.{unmet, exhausted, same-here, found-first, masks-at, address-at, first-at, entry-behind, joined-is, behind-is, apart-is, resumed-at, room-at, jumped, point-ahead, point-passed, held, child-none, shut-child, child-opens, child-past, child-ready, child-resumed, child-entered}
-use Rattle.ph_window.proofs.Seeks.{read-entry, place-within}
+use Rattle.ph_path.proofs.Paths.{read-entry}
+use Rattle.ph_window.proofs.Seeks.{place-within}
 use Rattle.ph_window.proofs.resume.+resume.Goals as goal
 
 -- ---- nothing is left in the node

@@ -2,7 +2,8 @@ use Rattle.std.proofs.Common.{◌∙◌, refl, sym, arith, subst}
 use Rattle.ph_specs.specs.Node.{entries}
 use Rattle.ph_node.specs.Shown.{shown}
 use Rattle.ph_specs.specs.Masks.{IsNextOf}
-use Rattle.ph_window.proofs.Seeks.{read-entry, lawful-rising, none-left, past-all, passed-over, farther}
+use Rattle.ph_path.proofs.Paths.{read-entry}
+use Rattle.ph_window.proofs.Seeks.{lawful-rising, none-left, past-all, passed-over, farther}
 use Rattle.ph_window.proofs.seek.seek_from.Goals as goal
 
 pub returns-then-fits-clause-found : goal.returns-then-fits-clause-found
@@ -19,25 +20,25 @@ pub returns-in_default-clause-found : goal.returns-in_default-clause-found
 returns-in_default-clause-found g c =
     let f = c.args.frame in
     let d = g.P.Dims.D in
-    none-left f.lower f.upper (entries (shown f.node)) (lawful-rising d (shown f.node).level 0 (shown f.node).chain c.requires.lawful) f.place c.loop-place.place _ (read-entry (entries (shown f.node)) c.loop-place.place _ _ _ (omega arith) c.address-addr.ensures.value refl refl) (sym c.fits.ensures ∙ c.if-fits.false) c.loop-place.invariant.shut
-    (subst (IsNextOf c.address-addr.result f.lower f.upper) c.in_default.is c.next_address.ensures)
+    none-left f.note.lower f.note.upper (entries (shown f.node)) (lawful-rising d (shown f.node).level 0 (shown f.node).chain c.requires.lawful) f.place c.loop-place.place _ (read-entry (entries (shown f.node)) c.loop-place.place _ _ _ (omega arith) c.address-addr.ensures.value refl refl) (sym c.fits.ensures ∙ c.if-fits.false) c.loop-place.invariant.shut
+    (subst (IsNextOf c.address-addr.result f.note.lower f.note.upper) c.in_default.is c.next_address.ensures)
 
 pub returns-in_default-next_at_or_after-clause-found : goal.returns-in_default-next_at_or_after-clause-found
 returns-in_default-next_at_or_after-clause-found g c =
     let f = c.args.frame in
     let d = g.P.Dims.D in
-    past-all f.lower f.upper (entries (shown f.node)) (lawful-rising d (shown f.node).level 0 (shown f.node).chain c.requires.lawful) f.place c.loop-place.place _ (read-entry (entries (shown f.node)) c.loop-place.place _ _ _ (omega arith) c.address-addr.ensures.value refl refl) (sym c.fits.ensures ∙ c.if-fits.false) c.loop-place.invariant.shut
+    past-all f.note.lower f.note.upper (entries (shown f.node)) (lawful-rising d (shown f.node).level 0 (shown f.node).chain c.requires.lawful) f.place c.loop-place.place _ (read-entry (entries (shown f.node)) c.loop-place.place _ _ _ (omega arith) c.address-addr.ensures.value refl refl) (sym c.fits.ensures ∙ c.if-fits.false) c.loop-place.invariant.shut
     c.in-Some.next
-    (subst (IsNextOf c.address-addr.result f.lower f.upper) c.in-Some.is c.next_address.ensures)
+    (subst (IsNextOf c.address-addr.result f.note.lower f.note.upper) c.in-Some.is c.next_address.ensures)
     (sym c.next_at_or_after.ensures ∙ c.in_default-next_at_or_after.is)
 
 pub loop-place-smaller : goal.loop-place-smaller
 loop-place-smaller g c =
     let f = c.args.frame in
     let d = g.P.Dims.D in
-    let m = farther f.lower f.upper (entries (shown f.node)) (lawful-rising d (shown f.node).level 0 (shown f.node).chain c.requires.lawful) f.place c.loop-place.place _ (read-entry (entries (shown f.node)) c.loop-place.place _ _ _ (omega arith) c.address-addr.ensures.value refl refl) (sym c.fits.ensures ∙ c.if-fits.false) c.loop-place.invariant.shut
+    let m = farther f.note.lower f.note.upper (entries (shown f.node)) (lawful-rising d (shown f.node).level 0 (shown f.node).chain c.requires.lawful) f.place c.loop-place.place _ (read-entry (entries (shown f.node)) c.loop-place.place _ _ _ (omega arith) c.address-addr.ensures.value refl refl) (sym c.fits.ensures ∙ c.if-fits.false) c.loop-place.invariant.shut
     c.in-Some.next c.in-Some-next_at_or_after.found
-    (subst (IsNextOf c.address-addr.result f.lower f.upper) c.in-Some.is c.next_address.ensures)
+    (subst (IsNextOf c.address-addr.result f.note.lower f.note.upper) c.in-Some.is c.next_address.ensures)
     (sym c.next_at_or_after.ensures ∙ c.in-Some-next_at_or_after.is) in
     omega (arith, m, c.loop-place-test.true)
 
@@ -45,14 +46,14 @@ pub loop-place-preserved : goal.loop-place-preserved
 loop-place-preserved g c =
     let f = c.args.frame in
     let d = g.P.Dims.D in
-    let m = farther f.lower f.upper (entries (shown f.node)) (lawful-rising d (shown f.node).level 0 (shown f.node).chain c.requires.lawful) f.place c.loop-place.place _ (read-entry (entries (shown f.node)) c.loop-place.place _ _ _ (omega arith) c.address-addr.ensures.value refl refl) (sym c.fits.ensures ∙ c.if-fits.false) c.loop-place.invariant.shut
+    let m = farther f.note.lower f.note.upper (entries (shown f.node)) (lawful-rising d (shown f.node).level 0 (shown f.node).chain c.requires.lawful) f.place c.loop-place.place _ (read-entry (entries (shown f.node)) c.loop-place.place _ _ _ (omega arith) c.address-addr.ensures.value refl refl) (sym c.fits.ensures ∙ c.if-fits.false) c.loop-place.invariant.shut
     c.in-Some.next c.in-Some-next_at_or_after.found
-    (subst (IsNextOf c.address-addr.result f.lower f.upper) c.in-Some.is c.next_address.ensures)
+    (subst (IsNextOf c.address-addr.result f.note.lower f.note.upper) c.in-Some.is c.next_address.ensures)
     (sym c.next_at_or_after.ensures ∙ c.in-Some-next_at_or_after.is) in
     record {
       behind = omega (arith, m, c.loop-place.invariant.behind);
-      shut = passed-over f.lower f.upper (entries (shown f.node)) (lawful-rising d (shown f.node).level 0 (shown f.node).chain c.requires.lawful) f.place c.loop-place.place _ (read-entry (entries (shown f.node)) c.loop-place.place _ _ _ (omega arith) c.address-addr.ensures.value refl refl) (sym c.fits.ensures ∙ c.if-fits.false) c.loop-place.invariant.shut
+      shut = passed-over f.note.lower f.note.upper (entries (shown f.node)) (lawful-rising d (shown f.node).level 0 (shown f.node).chain c.requires.lawful) f.place c.loop-place.place _ (read-entry (entries (shown f.node)) c.loop-place.place _ _ _ (omega arith) c.address-addr.ensures.value refl refl) (sym c.fits.ensures ∙ c.if-fits.false) c.loop-place.invariant.shut
           c.in-Some.next c.in-Some-next_at_or_after.found
-          (subst (IsNextOf c.address-addr.result f.lower f.upper) c.in-Some.is c.next_address.ensures)
+          (subst (IsNextOf c.address-addr.result f.note.lower f.note.upper) c.in-Some.is c.next_address.ensures)
           (sym c.next_at_or_after.ensures ∙ c.in-Some-next_at_or_after.is);
     }

@@ -6,7 +6,7 @@ use Rattle.ph_window.proofs.seek.seek_from.Given as goal
 abbrev pub invariant-loop-place : goal.invariant-loop-place
 invariant-loop-place g l = record {
   behind : l.frame.place ≤ l.place;
-  shut : AreShut l.frame.lower l.frame.upper (entries l.node.node.now) l.frame.place l.place;
+  shut : AreShut l.frame.note.lower l.frame.note.upper (entries l.node.node.now) l.frame.place l.place;
 }
 
 abbrev pub decreases-loop-place : goal.decreases-loop-place

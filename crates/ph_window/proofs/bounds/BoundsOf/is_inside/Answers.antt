@@ -5,4 +5,4 @@ use Rattle.ph_window.proofs.bounds.BoundsOf.is_inside.Goals as goal
 pub returns : goal.returns
 returns g c =
     c.are_between.ensures
-    ∙ inside-seen g.P.Dims.D c.D-dims.result c.self.inside.width c.self.inside.known c.self.inside.low c.self.inside.high c.D-dims.ensures c.self.invariant c.args.self.now c.self.view_is
+    ∙ inside-seen g.P.Dims.D c.D-dims.result c.self.inside.known.width c.self.inside.known.digits c.self.inside.low c.self.inside.high c.digits.result.now c.D-dims.ensures c.self.invariant c.digits.ensures.value c.args.self.now c.self.view_is

@@ -1,6 +1,7 @@
 use Rattle.std.proofs.Common.{◌∙◌, arith}
 use Rattle.std.specs.Option.{option_copied}
-use Rattle.ph_window.proofs.Starts.{shape-lawful, table-nodes, same-point}
+use Rattle.ph_path.proofs.Roots.{shape-lawful, same-point}
+use Rattle.ph_window.proofs.Starts.{table-nodes}
 use Rattle.ph_window.proofs.Behinds.{table-rest}
 use Rattle.ph_window.proofs.window.WindowOf+Dim+D.after.Goals as goal
 

@@ -1,5 +1,5 @@
-use Rattle.ph_window.proofs.Frames.{left, left-none}
-use Rattle.ph_window.proofs.path.PathOf.leave.Goals as goal
+use Rattle.ph_path.proofs.Stacks.{left, left-none}
+use Rattle.ph_path.proofs.path.PathOf.leave.Goals as goal
 
 pub invariant_of-self : goal.invariant_of-self
 invariant_of-self g c =

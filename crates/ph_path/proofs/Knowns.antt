@@ -1,17 +1,20 @@
 -- The digits that are known above a level, as an entry is joined to them.
-use Rattle.std.proofs.Common.{◌≡◌, ℕ, ◌+◌, ◌-◌, ◌*◌, ◌/◌, ◌%◌, ◌^◌, ◌<◌, ◌≤◌, List, [], ◌∷◌, length, map, replicate, refl, sym, ◌∙◌, ap, subst, arith, ◌&&◌}
-use Rattle.std.specs.Prelude.{Option, Some, None, nat_le, if◌then◌else◌}
+use Rattle.std.proofs.Common.{◌≡◌, ℕ, zero, suc, ◌+◌, ◌*◌, ◌/◌, ◌%◌, ◌^◌, ◌<◌, ◌≤◌, List, [], ◌∷◌, ◌++◌, length, take, map, replicate, refl, sym, ◌∙◌, ap, subst, arith}
+use Rattle.std.specs.Prelude.{ℤ}
 use Rattle.std.specs.List.{AllByRecursion as Each}
+use Rattle.std.proofs.Math.Pow.{pow_mono}
 use Rattle.std.proofs.lemmas.Nat.{pow_pos, div-mul-add, div-add-mod'}
+use Rattle.std.proofs.lemmas.List.{length-map, length-replicate}
+use Rattle.ph_specs.specs.Coordinate.{offset, IsPoint}
 use Rattle.ph_specs.specs.Lawful.{put_together, IsBody, HasZerosFrom, IsAbove}
-use Rattle.ph_specs.proofs.lemmas.Joined.{from_place, same_from, from_place-put_together, length-put_together, above-child}
-use Rattle.ph_specs.proofs.lemmas.Bounds.{lows-small}
-use Rattle.ph_specs.proofs.laws.LawfulRows.{put_together-small}
 use Rattle.ph_specs.specs.PutTree.{body_above}
-use Rattle.ph_zorder.specs.Sides.{start_of, meets_side, meets_sides, half_digit, side_mask, side_masks}
+use Rattle.ph_specs.proofs.lemmas.Joined.{offsets, from_place, same_from, from_place-put_together, length-put_together, above-child}
+use Rattle.ph_specs.proofs.lemmas.Bounds.{lows-small, point-long}
+use Rattle.ph_specs.proofs.laws.LawfulRows.{put_together-small}
 use Rattle.ph_digits.proofs.Joins.{above-long}
+use Rattle.ph_path.specs.Known.{Known, known_at, AreKnown}
 
-block-whole : (q m : ℕ) → 0 < m → (q * m) / m ≡ q
+pub block-whole : (q m : ℕ) → 0 < m → (q * m) / m ≡ q
 block-whole q m l = let e : q * m ≡ q * m + 0 = omega arith in ap (λ t. t / m) e ∙ div-mul-add q m 0 l
 
 block-zero : (q m : ℕ) → 0 < m → (q * m) % m ≡ 0
@@ -87,28 +90,56 @@ module _ (d w b a : ℕ) (xs body : List ℕ) (l : b < w) (h : IsBody d w xs) (k
   pub joined-child : (c : ℕ) → c < b → HasZerosFrom c body → body_above c (put_together b a (body_above b xs) body) ≡ put_together b a (body_above b xs) body
   joined-child c m z = above-whole c (put_together b a (body_above b xs) body) (above-child d b c a (body_above b xs) body m above k z).zeros
 
--- ---- the masks do not see the digits below
+-- ---- an array that is cut to the dimensions
 
-start-above : (b x : ℕ) → start_of b (start_of b x) ≡ start_of b x
-start-above b x = ap (λ q. q * 2 ^ (b + 1)) (block-whole (x / 2 ^ (b + 1)) (2 ^ (b + 1)) (pow_pos (b + 1)))
+pub wider : (d w k : ℕ) (xs : List ℕ) → w ≤ k → IsBody d w xs → IsBody d k xs
+wider d w k xs l h = (h.0, each xs h.1)
+  where
+    each : (xs : List ℕ) → Each (λ x. x < 2 ^ w) xs → Each (λ x. x < 2 ^ k) xs
+    each [] h = tt
+    each (x ∷ xs) h = (omega (arith, h.0, pow_mono {i = w} {j = k} l), each xs h.1)
 
-mask-above : (s b : ℕ) (xs bs : List ℕ) → side_mask s b (body_above b xs) bs ≡ side_mask s b xs bs
-mask-above s b [] bs = refl
-mask-above s b (x ∷ xs) [] = refl
-mask-above s b (x ∷ xs) (y ∷ bs) =
-    mask-above (s * 2 + half_digit b (start_of b x) y) b xs bs
-    ∙ ap (λ t. side_mask (s * 2 + (if nat_le (t + 2 ^ b) y then 1 else 0)) b xs bs) (start-above b x)
+pub taken : (d : ℕ) (xs ys : List ℕ) → length xs ≡ d → take d (xs ++ ys) ≡ xs
+taken d xs ys e = subst (λ n. take n (xs ++ ys) ≡ xs) e (front xs)
+  where
+    front : (xs : List ℕ) → take (length xs) (xs ++ ys) ≡ xs
+    front [] = refl
+    front (x ∷ xs) = ap {B = List ℕ} (λ t. x ∷ t) (front xs)
 
-meets-above : (b : ℕ) (xs los his : List ℕ) → meets_sides b (body_above b xs) los his ≡ meets_sides b xs los his
-meets-above b [] los his = refl
-meets-above b (x ∷ xs) [] his = refl
-meets-above b (x ∷ xs) (a ∷ los) [] = refl
-meets-above b (x ∷ xs) (a ∷ los) (c ∷ his) =
-    ap (λ t. ((nat_le a c && nat_le a (t + (2 ^ (b + 1) - 1))) && nat_le t c) && meets_sides b (body_above b xs) los his) (start-above b x)
-    ∙ ap (λ t. meets_side b x a c && t) (meets-above b xs los his)
+pub take-zeros : (d n : ℕ) → d ≤ n → take {A = ℕ} d (replicate n 0) ≡ replicate d 0
+take-zeros zero n l = none (replicate n 0)
+  where
+    none : (xs : List ℕ) → take 0 xs ≡ []
+    none [] = refl
+    none (x ∷ xs) = refl
+take-zeros (suc d) zero l = absurd (omega (arith, l))
+take-zeros (suc d) (suc n) l = ap {B = List ℕ} (λ t. 0 ∷ t) (take-zeros d n (omega (arith, l)))
 
-pub masks-above : (b : ℕ) (xs los his : List ℕ) → side_masks b (body_above b xs) los his ≡ side_masks b xs los his
-masks-above b xs los his =
-    ap {B = Option (ℕ × ℕ)} (λ t. if t then Some (side_mask 0 b (body_above b xs) los, side_mask 0 b (body_above b xs) his) else None) (meets-above b xs los his)
-    ∙ ap {B = Option (ℕ × ℕ)} (λ t. if meets_sides b xs los his then Some (t, side_mask 0 b (body_above b xs) his) else None) (mask-above 0 b xs los)
-    ∙ ap {B = Option (ℕ × ℕ)} (λ t. if meets_sides b xs los his then Some (side_mask 0 b xs los, t) else None) (mask-above 0 b xs his)
+pub zeros-body : (d w : ℕ) → IsBody d w (replicate d 0)
+zeros-body d w = (length-replicate d 0, each d)
+  where
+    each : (d : ℕ) → Each (λ x. x < 2 ^ w) (replicate d 0)
+    each zero = tt
+    each (suc d) = (pow_pos w, each d)
+
+-- a point's offsets, in an array that is longer
+pub offsets-point : (w d : ℕ) (p : List ℤ) (os : List ℕ) → IsPoint w d p → take (length p) os ≡ map (offset w) p → take d os ≡ offsets w p
+offsets-point w d p os h e = ap (λ n. take n os) (sym (sym (length-map p (offset w)) ∙ point-long w d p h)) ∙ e
+
+-- where nothing is known
+pub start-known : (d w : ℕ) → 1 ≤ d → d ≤ 16 → 1 ≤ w → w ≤ 62 → AreKnown d (known_at w (replicate d 0))
+start-known d w s f l u = record { some = s; few = f; wide = l; narrow = u; digits = zeros-body d w }
+
+module _ (d n w : ℕ) (digits : List ℕ) (e : n ≡ d) (h : AreKnown d (known_at w (take d digits))) where
+  pub body-seen : IsBody (length (take n digits)) 62 (take n digits)
+  body-seen =
+      (refl, subst (λ k. Each (λ x. x < 2 ^ 62) (take k digits)) (sym e) (wider d w 62 (take d digits) h.narrow h.digits).1)
+
+  pub joined-seen : (seen : Known) (level a : ℕ) (body new others : List ℕ) → known_at w (take d digits) ≡ seen → level < seen.width → IsBody d level body → new ≡ put_together level a (body_above level (take n digits)) body → AreKnown d (known_at w (take d (new ++ others))) × (known_at w (take d (new ++ others)) ≡ known_at seen.width (put_together level a (body_above level seen.digits) body))
+  joined-seen seen level a body new others v l k f =
+      let s : new ≡ put_together level a (body_above level (take d digits)) body = subst (λ m. new ≡ put_together level a (body_above level (take m digits)) body) e f in
+      let b : IsBody d w (put_together level a (body_above level (take d digits)) body) = joined-body d w level a (take d digits) body (subst (λ s. level < s.width) (sym v) l) h.digits k in
+      let t : take d (new ++ others) ≡ put_together level a (body_above level (take d digits)) body = taken d new others (ap (λ xs. length xs) s ∙ b.0) ∙ s in (
+        record { some = h.some; few = h.few; wide = h.wide; narrow = h.narrow; digits = subst (IsBody d w) (sym t) b },
+        ap (known_at w) t ∙ ap (λ s. known_at s.width (put_together level a (body_above level s.digits) body)) v,
+      )

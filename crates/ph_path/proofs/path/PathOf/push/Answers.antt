@@ -1,6 +1,6 @@
 use Rattle.std.proofs.Common.{arith}
-use Rattle.ph_window.proofs.Frames.{first-pushed, few-above, pushed}
-use Rattle.ph_window.proofs.path.PathOf.push.Goals as goal
+use Rattle.ph_path.proofs.Stacks.{first-pushed, few-above, pushed}
+use Rattle.ph_path.proofs.path.PathOf.push.Goals as goal
 
 pub invariant_of-self : goal.invariant_of-self
 invariant_of-self g c =

@@ -1,9 +1,8 @@
--- Stacked frames.
+-- Stacked elements.
 use Rattle.std.proofs.Common.{◌≡◌, ℕ, suc, ◌<◌, List, [], ◌∷◌, ◌++◌, length, drop, refl, sym, ◌∙◌, ap, subst, arith, Bool, true, false}
-use Rattle.std.specs.Prelude.{◌↔◌, IsSome, Option, Some, None, slice_get}
+use Rattle.std.specs.Prelude.{◌↔◌, IsSome, Option, Some, None}
 use Rattle.std.specs.Option.{option_to_list}
-use Rattle.ph_window.specs.declared.path.FrameOf.{FrameOf}
-use Rattle.ph_window.specs.Frames.{top_first, AllThere, last_first, AreStacked, at_place}
+use Rattle.ph_path.specs.Stacked.{top_first, AllThere, last_first, AreStacked}
 
 -- ---- a list that grows at its end
 
@@ -94,18 +93,8 @@ left-none {X = X} o xs ys p seen h e s k v =
     by_last None e = ap {B = List X} (drop 1) e
     by_last (Some x) e = ap {B = List X} (drop 1) e
 
--- ---- the last frame
-
-pub no-frames : {N : Type 0} (fs : List (FrameOf N)) (o : Option (FrameOf N)) → o ≡ slice_get fs 0 → o ≡ None → fs ≡ []
-no-frames [] o e n = refl
-no-frames {N = N} (f ∷ fs) o e n = absurd (let no : ◌≡◌ {A = Option (FrameOf N)} (Some f) None = sym e ∙ n in cc)
-
-pub last-frame : {N : Type 0} (fs : List (FrameOf N)) (o : Option (FrameOf N)) (f : FrameOf N) → o ≡ slice_get fs 0 → o ≡ Some f → fs ≡ f ∷ drop 1 fs
-last-frame {N = N} [] o f e s = absurd (let no : ◌≡◌ {A = Option (FrameOf N)} None (Some f) = sym e ∙ s in cc)
-last-frame {N = N} (g ∷ fs) o f e s =
-    let no : ◌≡◌ {A = Option (FrameOf N)} (Some g) (Some f) = sym e ∙ s in
-    let same : g ≡ f = cc in
-    ap {B = List (FrameOf N)} (λ x. x ∷ fs) same
-
-pub moved-on : {N : Type 0} (fs gs : List (FrameOf N)) (f : FrameOf N) (place : ℕ) → fs ≡ f ∷ gs → at_place place fs ≡ record f { place = place } ∷ gs
-moved-on fs gs f place e = ap (at_place place) e
+-- another in its place
+pub replaced : {X : Type 0} (o : Option X) (xs : List (Option X)) (x : X) (seen : List X) → AreStacked o xs → last_first o xs ≡ seen → AllThere xs × (x ∷ top_first xs ≡ x ∷ drop 1 seen)
+replaced {X = X} None xs x seen h v =
+    (subst AllThere (sym h) tt, ap {B = List X} (λ s. x ∷ s) (ap top_first h ∙ sym (ap {B = List X} (λ s. drop 1 (top_first s)) h) ∙ ap {B = List X} (drop 1) v))
+replaced {X = X} (Some y) xs x seen h v = (h, ap {B = List X} (λ s. x ∷ drop 1 s) v)

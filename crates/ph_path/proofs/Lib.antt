@@ -1,0 +1,5 @@
+-- Lemmas on paths, for walks.
+pub mod Stacks
+pub mod Knowns
+pub mod Paths
+pub mod Roots

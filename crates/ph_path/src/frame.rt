@@ -1,0 +1,10 @@
+//! Where a walk stands in a node.
+use ph_node::NodeRefOf;
+
+/// A visited node, the place of the entry that is to be looked at next, and what a walk notes of the node beside.
+#[derive_where(Clone, Copy; M)]
+pub struct FrameOf<'t, N, M> {
+    pub node: NodeRefOf<'t, N>,
+    pub place: usize,
+    pub note: M,
+}

@@ -1,0 +1,82 @@
+//! The digits that are known where a walk stands.
+ghost use Rattle.std.specs.Prelude.{◌≡◌, ◌<◌, ◌≤◌, length, take, replicate};
+ghost use Rattle.ph_specs.specs.Coordinate.{IsPoint};
+ghost use Rattle.ph_specs.specs.Lawful.{IsBody, put_together};
+ghost use Rattle.ph_specs.specs.PutTree.{body_above};
+ghost use Rattle.ph_path.specs.Known.{known_at, point_at};
+
+use ph_coord::{Dim, Dims, Point, Width};
+use ph_digits::join;
+use std::marker::{Model, PhantomData};
+
+/// The offsets of a point as far as its digits are known. What is known above a level does not change while digits are joined below
+/// it, so one array serves all nodes of a path.
+#[derive(Drop)]
+pub struct KnownOf<P: Dims> {
+    width: Width,
+    digits: [u64; 16],
+    dims: PhantomData<P>,
+}
+
+impl<P: Dims> Model for KnownOf<P> {
+    ghost use Rattle.std.specs.Prelude.{take};
+    ghost use Rattle.ph_path.specs.Known.{Known, AreKnown, known_at};
+
+    ghost Value = { Known };
+
+    ghost view = { λ a. known_at a.width (take P.D a.digits) };
+
+    ghost invariant = { λ a. AreKnown P.D (known_at a.width (take P.D a.digits)) };
+}
+
+impl<P: Dims> KnownOf<P> {
+    /// No digits.
+    pub fn new(w: Width) -> KnownOf<P>
+        requires some { 1 ≤ P.D }
+        requires few { P.D ≤ 16 }
+        ensures { result ≡ known_at w (replicate P.D 0) }
+    {
+        let _bits = w.bits();
+        KnownOf {
+            width: w,
+            digits: [0; 16],
+            dims: PhantomData,
+        }
+    }
+
+    /// The width of the coordinates.
+    pub fn width(&self) -> Width
+        ensures { result ≡ self.now.width }
+    {
+        self.width
+    }
+
+    /// The digits, an offset for each dimension.
+    pub fn digits(&self) -> &[u64]
+        ensures value { result.now ≡ self.now.digits }
+        ensures body { IsBody P.D self.now.width result.now }
+        ensures few { length result.now ≤ 16 }
+    {
+        &self.digits[..P::D]
+    }
+
+    /// Puts the digits of an entry behind those that are known above its level.
+    pub fn join(&mut self, level: u32, addr: u32, body: &[u64])
+        requires level { level < self.old.width }
+        requires body { IsBody P.D level body.now }
+        ensures { self.new ≡ known_at self.old.width (put_together level addr (body_above level self.old.digits) body.now) }
+    {
+        let dims = P::D;
+        join(&mut self.digits[..dims], level, addr, body);
+    }
+}
+
+impl<const D: usize> KnownOf<Dim<D>> {
+    /// The point with these digits.
+    pub fn point(&self) -> Point<D>
+        ensures value { result ≡ point_at self.now.width self.now.digits }
+        ensures point { IsPoint self.now.width D result }
+    {
+        Point::from_offsets(self.width(), self.digits())
+    }
+}
