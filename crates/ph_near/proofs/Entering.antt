@@ -1,0 +1,101 @@
+-- The entries of a node as items of the queue.
+use Rattle.std.proofs.Common.{◌≡◌, ℕ, zero, suc, ◌+◌, ◌-◌, ◌<◌, ◌≤◌, ◌^◌, refl, sym, ◌∙◌, ap, subst, arith, List, [], ◌∷◌, ◌++◌, length, map, take, append_assoc, add-one}
+use Rattle.std.specs.Prelude.{ℤ}
+use Rattle.std.specs.List.{AllByRecursion as Each}
+use Rattle.std.specs.List.Sorted.{IsPermutation}
+use Rattle.std.proofs.Math.Pow.{pow_mono}
+use Rattle.std.proofs.lemmas.List.Sorted.{IsPermutation-trans, IsPermutation-middle, IsPermutation-cons, IsPermutation-map}
+use Rattle.ph_specs.specs.Coordinate.{coordinate}
+use Rattle.ph_specs.specs.Table.{row}
+use Rattle.ph_specs.specs.Node.{Entries, end, point, child, PlainNode, listed, entries}
+use Rattle.ph_specs.specs.EntryEdits.{what_at}
+use Rattle.ph_specs.specs.Lawful.{IsAbove, IsBody, put_together}
+use Rattle.ph_specs.specs.PutTree.{body_above}
+use Rattle.ph_specs.specs.BallSearch.{placed_at}
+use Rattle.ph_specs.specs.BestFirst as best
+use Rattle.ph_specs.specs.BestFirst.{Item, found, items_below, item_distance}
+use Rattle.ph_specs.proofs.lemmas.Gathered.{Each-permutation}
+use Rattle.ph_specs.proofs.lemmas.Joined.{length-put_together}
+use Rattle.ph_specs.proofs.laws.LawfulRows.{put_together-small}
+use Rattle.ph_specs.proofs.laws.Ranked.{take-all}
+use Rattle.ph_digits.proofs.Cuts.{above-zeros}
+use Rattle.ph_node.specs.declared.reads.WhatOf.{WhatOf}
+use Rattle.ph_node.specs.declared.reads.WhatOf.TheVariants.{Value, Child}
+use Rattle.ph_node.specs.Merge.{addr_at}
+use Rattle.ph_node.specs.Shown.{what_of}
+use Rattle.ph_node.specs.Split.{body_at}
+use Rattle.ph_near.specs.declared.waiting.WaitingOf.{WaitingOf}
+use Rattle.ph_near.specs.Waiting.{held_item, item_of, queue_of, IsWaiting, AreWaiting}
+use Rattle.ph_near.specs.Queue.{entry_at, what_item, entry_item}
+
+-- ---- one entry
+
+pub small-wide : (w : ℕ) (xs : List ℕ) → w ≤ 62 → Each (λ x. x < 2 ^ w) xs → Each (λ x. x < 2 ^ 62) xs
+small-wide w [] l h = tt
+small-wide w (x ∷ xs) l h = (omega (arith, h.0, pow_mono {i = w} {j = 62} l), small-wide w xs l h.1)
+
+held-what : (w level : ℕ) (known : List ℕ) (h : WhatOf PlainNode) → held_item w level known h ≡ what_item w level known (what_of h)
+held-what w level known (Value v) = refl
+held-what w level known (Child c) = refl
+
+-- what is known behind entry i of a node, once it is joined
+module _ (w d i e t : ℕ) (n : PlainNode) (above given known : List ℕ) (l : n.level < w) (h : IsAbove d n.level above) (k : IsBody d w above) (b : IsBody d n.level given) (j : known ≡ put_together e t (body_above e above) given) (f : e ≡ n.level) where
+  joined-is : known ≡ put_together n.level t above given
+  joined-is =
+      j ∙ ap (λ m. put_together m t (body_above m above) given) f
+      ∙ ap (λ u. put_together n.level t u given) (sym (above-zeros n.level above h.zeros))
+
+  pub joined-body : IsBody d w known
+  joined-body =
+      subst (IsBody d w) (sym joined-is) (
+        length-put_together n.level t above given (h.long ∙ sym b.0) ∙ h.long,
+        put_together-small w n.level t above given l h.zeros k.1 b.1,
+      )
+
+  pub joined-item : (x : WaitingOf PlainNode d) → x.known ≡ known → x.level ≡ e - 1 → t ≡ addr_at (entries n) i → given ≡ body_at (entries n) i → what_of x.what ≡ what_at (entries n) i → item_of w x ≡ entry_item w n.level above (entry_at (entries n) i)
+  joined-item x p q a c o =
+      held-what w x.level x.known x.what
+      ∙ ap (λ m. what_item w m x.known (what_of x.what)) (q ∙ ap (λ m. m - 1) f)
+      ∙ ap (λ u. what_item w (n.level - 1) u (what_of x.what)) (p ∙ joined-is)
+      ∙ ap (λ m. what_item w (n.level - 1) (put_together n.level m above given) (what_of x.what)) a
+      ∙ ap (λ u. what_item w (n.level - 1) (put_together n.level (addr_at (entries n) i) above u) (what_of x.what)) c
+      ∙ ap (what_item w (n.level - 1) (put_together n.level (addr_at (entries n) i) above (body_at (entries n) i))) o
+
+-- ---- all entries
+
+entry-more : (w level i : ℕ) (above : List ℕ) (e : Entries) → i < length (listed e) → take (suc i) (items_below w level above e) ≡ take i (items_below w level above e) ++ entry_item w level above (entry_at (listed e) i) ∷ []
+entry-more w level i above end l = absurd (omega (arith, l))
+entry-more w level zero above (point a body v rest) l = refl
+entry-more w level zero above (child a body below chain rest) l = refl
+entry-more w level (suc i) above (point a body v rest) l =
+    ap {B = List Item} (λ t. found (row (map (coordinate w) (put_together level a above body)) v) ∷ t) (entry-more w level i above rest (omega (arith, l)))
+entry-more w level (suc i) above (child a body below chain rest) l =
+    ap {B = List Item} (λ t. best.node (placed_at w (level - 1) (put_together level a above body) (record { level = below; chain = chain })) ∷ t) (entry-more w level i above rest (omega (arith, l)))
+
+items-long : (w level : ℕ) (above : List ℕ) (e : Entries) → length (items_below w level above e) ≡ length (listed e)
+items-long w level above end = refl
+items-long w level above (point a body v rest) = ap suc (items-long w level above rest)
+items-long w level above (child a body below chain rest) = ap suc (items-long w level above rest)
+
+module _ (w d : ℕ) (above : List ℕ) (n : PlainNode) where
+  -- one entry more in the queue
+  pub entered : (i : ℕ) (x : WaitingOf PlainNode d) (old now next : List (WaitingOf PlainNode d)) → i < length (entries n) → item_of w x ≡ entry_item w n.level above (entry_at (entries n) i) → IsPermutation (take i (items_below w n.level above n.chain) ++ queue_of w old) (queue_of w now) → IsPermutation (x ∷ now) next → IsPermutation (take (i + 1) (items_below w n.level above n.chain) ++ queue_of w old) (queue_of w next)
+  entered i x old now next l f p q =
+      let items : List Item = items_below w n.level above n.chain in
+      let more : take (i + 1) (items_below w n.level above n.chain) ≡ take i (items_below w n.level above n.chain) ++ item_of w x ∷ [] =
+      ap (λ k. take k (items_below w n.level above n.chain)) (add-one i) ∙ entry-more w n.level i above n.chain l ∙ ap (λ t. take i (items_below w n.level above n.chain) ++ t ∷ []) (sym f) in
+      let r : IsPermutation ((take i items ++ item_of w x ∷ []) ++ queue_of w old) (item_of w x ∷ (take i items ++ queue_of w old)) =
+      subst (λ ys. IsPermutation ys (item_of w x ∷ (take i items ++ queue_of w old))) (sym (append_assoc (take i items) (item_of w x ∷ []) (queue_of w old))) (IsPermutation-middle (take i items) (item_of w x) (queue_of w old)) in
+      subst (λ ys. IsPermutation (ys ++ queue_of w old) (queue_of w next)) (sym more)
+      (IsPermutation-trans ((take i items ++ item_of w x ∷ []) ++ queue_of w old) (item_of w x ∷ (take i items ++ queue_of w old)) (queue_of w next) r
+      (IsPermutation-trans (item_of w x ∷ (take i items ++ queue_of w old)) (item_of w x ∷ queue_of w now) (queue_of w next)
+      (IsPermutation-cons (item_of w x) (take i items ++ queue_of w old) (queue_of w now) p)
+      (IsPermutation-map (item_of w) (x ∷ now) next q)))
+
+  -- all of them
+  pub all_entered : (i : ℕ) (old now : List (WaitingOf PlainNode d)) → length (entries n) ≤ i → IsPermutation (take i (items_below w n.level above n.chain) ++ queue_of w old) (queue_of w now) → IsPermutation (items_below w n.level above n.chain ++ queue_of w old) (queue_of w now)
+  all_entered i old now l p =
+      subst (λ ys. IsPermutation (ys ++ queue_of w old) (queue_of w now)) (take-all i (items_below w n.level above n.chain) (omega (arith, items-long w n.level above n.chain, l))) p
+
+pub waiting_more : {w d : ℕ} {q : List ℤ} (x : WaitingOf PlainNode d) {now next : List (WaitingOf PlainNode d)} → IsWaiting w d q x → AreWaiting w d q now → IsPermutation (x ∷ now) next → AreWaiting w d q next
+waiting_more {w} {d} {q} x {now} {next} h k p = Each-permutation (IsWaiting w d q) (x ∷ now) next p (h, k)

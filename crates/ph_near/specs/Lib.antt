@@ -1,0 +1,5 @@
+pub mod Waiting
+pub mod Queue
+pub mod Ball
+pub mod BallSphere
+pub mod BallSweep

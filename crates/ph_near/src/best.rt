@@ -1,0 +1,87 @@
+//! The rows that are nearest to a point, best first.
+
+ghost use Rattle.std.specs.Prelude.{◌≡◌, ◌+◌, ◌≤◌, length, map, IfOk};
+ghost use Rattle.std.specs.Option.{option_copied};
+ghost use Rattle.ph_specs.specs.Coordinate.{coordinate, IsPoint};
+ghost use Rattle.ph_specs.specs.Lawful.{IsBody, IsLawful, rows};
+ghost use Rattle.ph_specs.specs.Distance.{near};
+ghost use Rattle.ph_specs.specs.WorkSets.{reach};
+ghost use Rattle.ph_table.specs.Hits.{hits_of};
+
+use crate::opening::open;
+use crate::queue::start;
+use ph_coord::{Point, Row, Width};
+use ph_node::{NoMemory, Node, WhatOf};
+use ph_steps::Steps;
+use ph_table::Hit;
+use ph_tree::PhTree;
+use std::alloc::Global;
+use std::sync::ledger::Ledger;
+
+/// The first `n` rows by their distance from a point, and of equal distances in Z-order, each with the square of its distance.
+///
+/// It is the best-first search of G. R. Hjaltason and H. Samet ("Distance Browsing in Spatial Databases", ACM TODS 24, 1999).
+/// One queue has the rows and the nodes that were found and wait, the nodes by the least distance of their regions.
+///
+/// It takes memory for what waits, at most an item for each entry of a visited node, and for the rows as they are found. It
+/// reserves none by `n`, and takes none where `n` is 0. Without memory it gives no rows; the nodes visited by then are counted.
+pub fn nearest<const D: usize, V: Ledger>(
+    alloc: Global,
+    tree: &PhTree<D>,
+    q: Point<D>,
+    n: u32,
+    visits: &mut Steps<V>,
+) -> Result<Vec<Hit<D>>, NoMemory>
+    requires point { IsPoint tree.now.width D q }
+    ensures hits { IfOk result (λ hits. hits.items ≡ hits_of q.entry (near q.entry n tree.now.table)) }
+    ensures visits { visits.new ≤ visits.old + length (reach tree.now.width D tree.now.table q.entry n) }
+    ensures grows { visits.old ≤ visits.new }
+{
+    let w = tree.width();
+    let _bits = w.bits();
+    search(alloc, w, tree.root(), &q.offsets(w), n, visits)
+}
+
+// The search below a root, from the point of these offsets.
+fn search<const D: usize, V: Ledger>(
+    alloc: Global,
+    w: Width,
+    root: Option<&Node<D>>,
+    center: &[u64; D],
+    n: u32,
+    visits: &mut Steps<V>,
+) -> Result<Vec<Hit<D>>, NoMemory>
+    requires few { D ≤ 16 }
+    requires point { IsBody D w center.now }
+    requires tree { IsLawful w D (option_copied root) }
+    ensures hits { IfOk result (λ hits. hits.items ≡ hits_of (map (coordinate w) center.now) (near (map (coordinate w) center.now) n (rows w D (option_copied root.entry)))) }
+    ensures visits { visits.new ≤ visits.old + length (reach w D (rows w D (option_copied root.entry)) (map (coordinate w) center.now) n) }
+    ensures grows { visits.old ≤ visits.new }
+{
+    let _bits = w.bits();
+    let mut hits = Vec::new(alloc);
+    if n == 0 {
+        return Ok(hits);
+    }
+    let mut queue = start(alloc, w, root, center)?;
+    while hits.len() < n as usize {
+        match queue.pop() {
+            None => return Ok(hits),
+            Some(item) => match item.what {
+                WhatOf::Value(value) => {
+                    let point = Point::from_offsets(w, &item.known);
+                    let row = Row { point, value };
+                    let distance = item.distance;
+                    match hits.push(Hit { row, distance }) {
+                        Ok(()) => {}
+                        Err(_) => return Err(NoMemory),
+                    }
+                }
+                WhatOf::Child(node) => {
+                    open(node.visit(visits), &item.known, w, center, &mut queue)?
+                }
+            },
+        }
+    }
+    Ok(hits)
+}

@@ -1,0 +1,17 @@
+//! Rows near a point of a tree: the nearest ones, and those within a radius.
+#![tactic(auto)]
+
+mod ball;
+mod best;
+mod opening;
+mod queue;
+mod sphere;
+mod sweep;
+#[cfg(test)]
+mod tests;
+mod waiting;
+
+pub use ball::{Ball, BallOf};
+pub use best::nearest;
+pub use ph_node::NoMemory;
+pub use ph_table::Hit;

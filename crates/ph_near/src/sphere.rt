@@ -1,0 +1,89 @@
+//! A point and a radius, and the digits that are known where a sweep stands.
+ghost use Rattle.std.specs.Prelude.{◌≡◌, ◌<◌, ◌≤◌, length, take, map, replicate};
+ghost use Rattle.ph_specs.specs.Coordinate.{offset, IsPoint};
+ghost use Rattle.ph_specs.specs.Distance.{distance};
+ghost use Rattle.ph_specs.specs.Lawful.{IsBody, put_together};
+ghost use Rattle.ph_specs.specs.PutTree.{body_above};
+ghost use Rattle.ph_path.specs.Known.{known_at, point_at};
+ghost use Rattle.ph_near.specs.BallSphere.{sphere_at, reaches};
+
+use ph_coord::{Dims, Width, offsets_of};
+use ph_path::KnownOf;
+use ph_zorder::{offset_distance, offset_least_distance};
+use std::marker::Model;
+
+// The center by its offsets, the square of the radius, and the digits at hand.
+#[derive(Drop)]
+pub(crate) struct SphereOf<P: Dims> {
+    known: KnownOf<P>,
+    center: [u64; 16],
+    radius: u128,
+}
+
+impl<P: Dims> Model for SphereOf<P> {
+    ghost use Rattle.std.specs.Prelude.{take};
+    ghost use Rattle.ph_near.specs.BallSphere.{Sphere, IsSphere, sphere_at};
+
+    ghost Value = { Sphere };
+
+    ghost view = { λ a. sphere_at a.known.width a.known.digits (take P.D a.center) a.radius };
+
+    ghost invariant = { λ a. IsSphere P.D (sphere_at a.known.width a.known.digits (take P.D a.center) a.radius) };
+}
+
+impl<P: Dims> SphereOf<P> {
+    // A center and a radius, where no digits are known.
+    pub(crate) fn new(w: Width, q: &[i64], r: u128) -> SphereOf<P>
+        requires some { 1 ≤ P.D }
+        requires few { P.D ≤ 16 }
+        requires point { IsPoint w P.D q.now }
+        ensures { result ≡ sphere_at w (replicate P.D 0) (map (offset w) q.now) r }
+    {
+        let _bits = w.bits();
+        SphereOf {
+            known: KnownOf::new(w),
+            center: offsets_of(w, q),
+            radius: r,
+        }
+    }
+
+    // The digits at hand.
+    pub(crate) fn known(&self) -> &KnownOf<P>
+        ensures { result.now ≡ known_at self.now.width self.now.known }
+    {
+        &self.known
+    }
+
+    // Puts the digits of an entry behind those that are known above its level.
+    pub(crate) fn join(&mut self, level: u32, addr: u32, body: &[u64])
+        requires level { level < self.old.width }
+        requires body { IsBody P.D level body.now }
+        ensures { self.new ≡ record self.old { known = put_together level addr (body_above level self.old.known) body.now } }
+    {
+        self.known.join(level, addr, body);
+    }
+
+    // How far the point with the digits at hand is.
+    pub(crate) fn distance(&self) -> u128
+        ensures { result ≡ distance (point_at self.now.width self.now.known) (point_at self.now.width self.now.center) }
+    {
+        let center = &self.center[..P::D];
+        offset_distance(self.known.width(), self.known.digits(), center)
+    }
+
+    // Whether the region of the digits at hand above a level has a point within the radius.
+    pub(crate) fn reaches(&self, level: u32) -> bool
+        requires { level < self.now.width }
+        ensures { result ≡ reaches self.now level }
+    {
+        let center = &self.center[..P::D];
+        let least = offset_least_distance(self.known.width(), level, self.known.digits(), center);
+        least <= self.radius
+    }
+
+    pub(crate) fn radius(&self) -> u128
+        ensures { result ≡ self.now.radius }
+    {
+        self.radius
+    }
+}

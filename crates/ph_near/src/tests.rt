@@ -1,0 +1,4 @@
+//! Queries of small trees.
+
+mod balls;
+mod nearest_rows;
