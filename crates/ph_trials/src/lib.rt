@@ -11,6 +11,8 @@ mod edits;
 #[cfg(test)]
 mod known;
 #[cfg(test)]
+mod nearest_rows;
+#[cfg(test)]
 mod orders;
 #[cfg(test)]
 mod pair;

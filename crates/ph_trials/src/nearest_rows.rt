@@ -1,0 +1,126 @@
+//! The nearest rows of a tree, and those within a radius, beside those of a table, between random edits.
+
+ghost use Rattle.std.specs.Prelude.{◌≡◌, ◌<◌, ◌≤◌};
+ghost use Rattle.ph_specs.specs.Coordinate.{IsPoint};
+
+use crate::edits::{GREATEST, LEAST, draw, edit};
+use crate::pair::{Counters, Pair};
+use ph_coord::Point;
+use ph_near::{Ball, Hit, nearest};
+use rand_core::SeedableRng;
+use rand_xoshiro::Xoshiro256PlusPlus;
+use std::alloc::Global;
+use std::marker::Brand;
+use std::process::Abort;
+use std::sync::ledger::{Blank, Ledger};
+use std::test::Fail;
+
+const SEED: u64 = 1999;
+
+const EDITS: u64 = 100;
+
+// The nearest rows are to be those of the table, however many are asked for.
+fn compare<const D: usize, V: Ledger, C: Ledger>(
+    rt: &impl Abort,
+    alloc: Global,
+    pair: &Pair<D>,
+    q: Point<D>,
+    counters: &mut Counters<V, C>,
+) -> Result<(), Fail>
+    requires few { D ≤ 16 }
+    requires point { IsPoint 32 D q }
+{
+    let all = u32::try_from(pair.table.rows().len())
+        .ok()
+        .ok_or("too many rows")?;
+    for n in [0, 1, all / 2, all, u32::MAX] {
+        let hits = nearest(alloc, &pair.tree, q, n, &mut counters.visits)?;
+        let expected = pair.table.near(alloc, &q, n)?;
+        assert_eq!(rt; hits, expected);
+    }
+    Ok(())
+}
+
+// The square of the distance of two points.
+fn square(p: &[i64], q: &[i64]) -> u128 {
+    let mut sum: u128 = 0;
+    for (a, b) in p.iter().zip(q) {
+        let gap = u128::from(a.abs_diff(*b));
+        sum = sum.saturating_add(gap.saturating_mul(gap));
+    }
+    sum
+}
+
+// The rows within a radius are to be those of the table that are as near, in their order.
+fn compare_ball<const D: usize, V: Ledger, C: Ledger>(
+    rt: &impl Abort,
+    pair: &Pair<D>,
+    q: Point<D>,
+    r: u128,
+    counters: &mut Counters<V, C>,
+)
+    requires few { D ≤ 16 }
+    requires point { IsPoint 32 D q }
+{
+    let mut ball = Ball::new(&pair.tree, q, r);
+    for row in pair.table.rows() {
+        let distance = square(row.point.as_slice(), q.as_slice());
+        if distance <= r {
+            let hit = Hit {
+                row: *row,
+                distance,
+            };
+            assert_eq!(rt; ball.next(&mut counters.visits), Some(hit));
+        }
+    }
+    assert_eq!(rt; ball.next(&mut counters.visits), None);
+    assert_eq!(rt; ball.next(&mut counters.visits), None);
+}
+
+// Compares the nearest rows of some points, and those within some radii, between edits.
+fn compare_between_edits<const D: usize, V: Ledger, C: Ledger>(
+    rt: &impl Abort,
+    alloc: Global,
+    choices: &[i64; 8],
+    counters: &mut Counters<V, C>,
+) -> Result<(), Fail>
+    requires some { 1 ≤ D }
+    requires few { D ≤ 16 }
+{
+    let mut rng = Xoshiro256PlusPlus::seed_from_u64(SEED);
+    let mut pair: Pair<D> = Pair::new(alloc, u64::MAX);
+    for v in 0..EDITS {
+        edit(rt, &mut pair, &mut rng, choices, v, counters)?;
+        let q = draw(rt, &mut rng, choices);
+        compare(rt, alloc, &pair, q, counters)?;
+        for r in [0, 1, 3, u128::MAX] {
+            compare_ball(rt, &pair, q, r, counters);
+        }
+    }
+    Ok(())
+}
+
+fn all_dimensions<V: Ledger, C: Ledger>(
+    rt: &impl Abort,
+    alloc: Global,
+    visits: Blank,
+    changes: Blank,
+) -> Result<(), Fail>
+    requires visits { (visits.name ≡ V.name) × (visits.parts ≡ V.parts) × (0 < visits.parts) }
+    requires changes { (changes.name ≡ C.name) × (changes.parts ≡ C.parts) × (0 < changes.parts) }
+{
+    let mut counters: Counters<V, C> = Counters::new(visits, changes);
+    let line = [LEAST, -3, -2, -1, 0, 1, 2, GREATEST];
+    compare_between_edits::<1, V, C>(rt, alloc, &line, &mut counters)?;
+    let square = [LEAST, -2, -1, -1, 0, 0, 1, 2];
+    compare_between_edits::<2, V, C>(rt, alloc, &square, &mut counters)?;
+    let cube = [-1, -1, -1, 0, 0, 0, 1, GREATEST];
+    compare_between_edits::<3, V, C>(rt, alloc, &cube, &mut counters)?;
+    let mostly_zero = [-1, 0, 0, 0, 0, 0, 0, 1];
+    compare_between_edits::<8, V, C>(rt, alloc, &mostly_zero, &mut counters)
+}
+
+#[test]
+fn nearest_rows_between_edits(rt: HostRuntime) -> Result<(), Fail> {
+    all_dimensions::<Brand, Brand>(&rt, rt.alloc(), Blank::new(1), Blank::new(1))
+}
