@@ -1,4 +1,4 @@
-//! Puts many points in a tree and looks them up, for bench/tree to time.
+//! Puts many points in a tree, looks them up and asks for the nearest of others, for bench/tree to time.
 #![tactic(auto)]
 
 ghost use Rattle.std.specs.Prelude.{◌≡◌, ◌<◌};
@@ -25,7 +25,7 @@ fn main(rt: HostRuntime) -> ExitCode {
     match requested(&rt) {
         Some(request) => serve::<Brand, Brand>(&rt, &request, Blank::new(1), Blank::new(1)),
         None => {
-            let _ = eprintln!(rt; "usage: tree_bench uniform|clustered COUNT GETS");
+            let _ = eprintln!(rt; "usage: tree_bench uniform|clustered COUNT GETS ASKED N");
             ExitCode::from(WRONG_WORDS)
         }
     }
@@ -54,10 +54,16 @@ fn serve<V: Ledger, C: Ledger>(
     let mut visits: Steps<V> = Steps::new(visits);
     let mut changes: Steps<C> = Steps::new(changes);
     match do_request(rt.alloc(), request, &mut visits, &mut changes) {
-        Ok(done) => match println!(rt; "rows {} found {}", done.rows, done.found) {
-            Ok(()) => ExitCode::from(0),
-            Err(_) => ExitCode::from(NOT_PRINTED),
-        },
+        Ok(done) => {
+            let printed = println!(rt;
+                "rows {} found {} near {}",
+                done.rows, done.found, done.near
+            );
+            match printed {
+                Ok(()) => ExitCode::from(0),
+                Err(_) => ExitCode::from(NOT_PRINTED),
+            }
+        }
         Err(_) => ExitCode::from(NO_MEMORY),
     }
 }

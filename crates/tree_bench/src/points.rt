@@ -9,6 +9,8 @@ use rand_xoshiro::SplitMix64;
 
 const SEED: u64 = 2014;
 
+const OTHER_SEED: u64 = 1999;
+
 const CENTRES: u64 = 1000;
 
 const COORDINATES: u64 = 1 << 32;
@@ -47,6 +49,14 @@ impl Points {
         Points {
             kind,
             numbers: SplitMix64::seed_from_u64(SEED),
+        }
+    }
+
+    /// Another sequence of a kind, around the same centres.
+    pub fn others(kind: Kind) -> Points {
+        Points {
+            kind,
+            numbers: SplitMix64::seed_from_u64(OTHER_SEED),
         }
     }
 
