@@ -2,11 +2,11 @@
 use Rattle.std.proofs.Common.{◌≡◌, ℕ, ◌<◌, ◌≤◌, List, [], ◌∷◌, ◌++◌, length, drop, get_or, subst, arith, length-append}
 use Rattle.std.specs.List.{AllByRecursion}
 use Rattle.std.proofs.lemmas.List.{drop_more, length-replicate}
-use Rattle.ph_specs.specs.Command.{Place, coordinates, value}
+use Rattle.ph_specs.specs.Command.{Place, coordinates, count, value, radius}
 use Rattle.ph_specs.specs.Command.Place.{Coordinate}
 use Rattle.ph_script.specs.declared.forms.Form.{Form}
 use Rattle.ph_script.specs.declared.forms.Verb.{Verb}
-use Rattle.ph_script.specs.declared.forms.Verb.TheVariants.{Open, OpenMax, Put, Get, Del, Relocate, Count, Clear, Window, Cursor, Page, Overlap, Inside, Covers, Select, Same}
+use Rattle.ph_script.specs.declared.forms.Verb.TheVariants.{Open, OpenMax, Put, Get, Del, Relocate, Count, Clear, Window, Cursor, Page, Near, Within, Overlap, Inside, Covers, Select, Same}
 use Rattle.ph_script.specs.Forms.{places_of, places_by, IsRow}
 
 point-size : (dims : ℕ) → length (coordinates dims) ≡ dims
@@ -33,6 +33,8 @@ few-places Clear dims h = omega arith
 few-places Window dims h = few-corners dims h
 few-places Cursor dims h = omega (arith, corners-size dims h)
 few-places Page dims h = omega arith
+few-places Near dims h = omega (arith, length-append (coordinates dims) (count ∷ []), point-size dims)
+few-places Within dims h = omega (arith, length-append (coordinates dims) (radius ∷ []), point-size dims)
 few-places Overlap dims h = few-point dims h
 few-places Inside dims h = few-point dims h
 few-places Covers dims h = few-point dims h

@@ -6,11 +6,11 @@ use Rattle.std.specs.Cmp.Lexicographic.{pointwise}
 use Rattle.std.proofs.lemmas.List.{append-nil, map-append}
 use Rattle.std.proofs.lemmas.Bool.{and_parts}
 use Rattle.ph_specs.specs.Lines.{number}
-use Rattle.ph_specs.specs.Command.{Command, Place, form, number_fits, name_fits, numbers, texts, coordinates, count, value, fixed, read_form, Reading}
+use Rattle.ph_specs.specs.Command.{Command, Place, form, number_fits, name_fits, numbers, texts, coordinates, count, value, radius, fixed, read_form, Reading}
 use Rattle.ph_specs.specs.Command.Place.{Coordinate, Below, CursorName, OneOf}
 use Rattle.ph_script.specs.declared.coords.Coord.{Coord}
 use Rattle.ph_script.specs.declared.forms.Verb.{Verb}
-use Rattle.ph_script.specs.declared.forms.Verb.TheVariants.{Open, OpenMax, Put, Get, Del, Relocate, Count, Clear, Window, Cursor, Page, Overlap, Inside, Covers, Select, Same}
+use Rattle.ph_script.specs.declared.forms.Verb.TheVariants.{Open, OpenMax, Put, Get, Del, Relocate, Count, Clear, Window, Cursor, Page, Near, Within, Overlap, Inside, Covers, Select, Same}
 use Rattle.ph_script.specs.Meaning.{number_of_coord, numbers_of}
 use Rattle.ph_script.specs.Forms.{places_by, command_by}
 use Rattle.ph_script.specs.Parts.{coords_at, counts_at, name_from, second_in, second_from}
@@ -176,6 +176,16 @@ reads Page dims (w ∷ ws) h =
     let b = led-count (2 ^ 32) [] ws (lit≤ tt) h in
     let n = unnamed-count (Some w) (2 ^ 32) ws in
     closing Page dims (w ∷ ws) (led-name w b.led) (refl, refl, b.below, rw n refl) refl n
+reads Near dims ws h =
+    let p = led-point dims (count ∷ []) ws h in
+    let b = led-count (2 ^ 32) [] p.led.left (lit≤ tt) p.led.fits in
+    let e = append-nil p.at in
+    closing Near dims ws (led-on p.led b.led) (rw e p.size, refl, b.below) (rw e refl) tt
+reads Within dims ws h =
+    let p = led-point dims (radius ∷ []) ws h in
+    let b = led-count (2 ^ 128) [] p.led.left (lit≤ tt) p.led.fits in
+    let e = append-nil p.at in
+    closing Within dims ws (led-on p.led b.led) (rw e p.size, refl) (rw e refl) tt
 reads Overlap dims ws h = let p = led-get dims ws h in closing Overlap dims ws p.1 (p.2, refl) (sym (append-nil (numbers_of p.0))) tt
 reads Inside dims ws h = let p = led-get dims ws h in closing Inside dims ws p.1 (p.2, refl) (sym (append-nil (numbers_of p.0))) tt
 reads Covers dims ws h = let p = led-get dims ws h in closing Covers dims ws p.1 (p.2, refl) (sym (append-nil (numbers_of p.0))) tt

@@ -6,10 +6,7 @@ use Rattle.std.specs.List.{join_with_byte}
 use Rattle.std.proofs.lemmas.List.{append-nil}
 use Rattle.ph_specs.specs.Table.{Row}
 use Rattle.ph_specs.specs.Reply.{row_words, line_of}
-
--- a coordinate behind a space
-abbrev pub spaced : ℤ → List ℕ
-spaced c = 32 ∷ signed_decimal c
+use Rattle.ph_script.specs.RowNumbers.{spaced, numbers_line}
 
 joined : (word : List ℕ) (ws : List (List ℕ)) → join_with_byte 32 (word ∷ ws) ≡ word ++ flat_map (λ w. 32 ∷ w) ws
 joined word [] = sym (append-nil word)
@@ -19,8 +16,18 @@ numbers-spaced : (p : List ℤ) (last : List ℕ) → flat_map (λ w. 32 ∷ w) 
 numbers-spaced [] last = append-nil (32 ∷ last)
 numbers-spaced (c ∷ p) last = ap (λ bytes. spaced c ++ bytes) (numbers-spaced p last) ∙ sym (append_assoc (spaced c) (flat_map spaced p) (32 ∷ last))
 
-pub row-line : (r : Row) → ((codes "row" ++ flat_map spaced r.point) ++ (32 ∷ decimal r.value)) ++ 10 ∷ [] ≡ line_of (codes "row" ∷ row_words r)
-row-line r =
-    ap (λ bytes. bytes ++ 10 ∷ []) (append_assoc (codes "row") (flat_map spaced r.point) (32 ∷ decimal r.value)
-    ∙ ap (λ bytes. codes "row" ++ bytes) (sym (numbers-spaced r.point (decimal r.value)))
-    ∙ sym (joined (codes "row") (row_words r)))
+-- behind what stands on the line already
+pub numbers-behind : (front : List ℕ) (r : Row) → ((front ++ flat_map spaced r.point) ++ (32 ∷ decimal r.value)) ++ 10 ∷ [] ≡ front ++ numbers_line r
+numbers-behind front r =
+    ap (λ bytes. bytes ++ 10 ∷ []) (append_assoc front (flat_map spaced r.point) (32 ∷ decimal r.value))
+    ∙ append_assoc front (flat_map spaced r.point ++ (32 ∷ decimal r.value)) (10 ∷ [])
+
+-- behind a word
+pub row-line : (word : List ℕ) (r : Row) → word ++ numbers_line r ≡ line_of (word ∷ row_words r)
+row-line word r =
+    sym (append_assoc word (flat_map spaced r.point ++ (32 ∷ decimal r.value)) (10 ∷ []))
+    ∙ ap (λ bytes. bytes ++ 10 ∷ []) (ap (λ bytes. word ++ bytes) (sym (numbers-spaced r.point (decimal r.value))) ∙ sym (joined word (row_words r)))
+
+-- behind a word and a number
+pub hit-line : (word number : List ℕ) (r : Row) → (word ++ (32 ∷ number)) ++ numbers_line r ≡ line_of (word ∷ number ∷ row_words r)
+hit-line word number r = append_assoc word (32 ∷ number) (numbers_line r) ∙ ap (λ bytes. word ++ (32 ∷ bytes)) (row-line number r) ∙ sym (append_assoc word (32 ∷ join_with_byte 32 (number ∷ row_words r)) (10 ∷ []))

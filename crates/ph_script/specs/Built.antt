@@ -1,7 +1,7 @@
 -- The forms that the program answers so far. Any other first word is no command.
 use Rattle.std.specs.Prelude.{ℕ, ◌-◌, ◌^◌, List, [], ◌∷◌, ◌++◌, take, drop, codes}
-use Rattle.ph_specs.specs.Command.Command.{Begin, Put, Get, Del, Relocate, Count, Clear, Window, Cursor, Page, Overlap, Inside, Covers, Select, Compare}
-use Rattle.ph_specs.specs.Command.{Form, form, Reading, count, value, fixed, coordinates, number_at, first_word, kind_of, slot_of, read_words_by, reading_by}
+use Rattle.ph_specs.specs.Command.Command.{Begin, Put, Get, Del, Relocate, Count, Clear, Window, Cursor, Page, Near, Within, Overlap, Inside, Covers, Select, Compare}
+use Rattle.ph_specs.specs.Command.{Form, form, Reading, count, value, fixed, radius, coordinates, number_at, first_word, kind_of, slot_of, read_words_by, reading_by}
 use Rattle.ph_specs.specs.Command.Place.{CursorName, OneOf}
 
 abbrev pub built_forms : ℕ → List Form
@@ -17,6 +17,8 @@ built_forms dims =
     ∷ form (codes "window") (coordinates dims ++ coordinates dims) (λ n t. Window (take dims n) (drop dims n))
     ∷ form (codes "cursor") (CursorName ∷ coordinates dims ++ coordinates dims) (λ n t. Cursor (first_word t) (take dims n) (drop dims n))
     ∷ form (codes "page") (CursorName ∷ count ∷ []) (λ n t. Page (first_word t) (number_at n 0))
+    ∷ form (codes "near") (coordinates dims ++ count ∷ []) (λ n t. Near (take dims n) (number_at n dims))
+    ∷ form (codes "within") (coordinates dims ++ radius ∷ []) (λ n t. Within (take dims n) (number_at n dims))
     ∷ form (codes "overlap") (coordinates dims) (λ n t. Overlap n)
     ∷ form (codes "inside") (coordinates dims) (λ n t. Inside n)
     ∷ form (codes "covers") (coordinates dims) (λ n t. Covers n)

@@ -6,7 +6,7 @@ use Rattle.ph_script.specs.declared.command.Bad.TheVariants.{Word, Count as BadC
 use Rattle.ph_script.specs.declared.command.Command.{Command}
 use Rattle.ph_script.specs.declared.command.Command.TheVariants as by
 use Rattle.ph_script.specs.declared.forms.Verb.{Verb}
-use Rattle.ph_script.specs.declared.forms.Verb.TheVariants.{Open, OpenMax, Put, Get, Del, Relocate, Count, Clear, Window, Cursor, Page, Overlap, Inside, Covers, Select, Same}
+use Rattle.ph_script.specs.declared.forms.Verb.TheVariants.{Open, OpenMax, Put, Get, Del, Relocate, Count, Clear, Window, Cursor, Page, Near, Within, Overlap, Inside, Covers, Select, Same}
 use Rattle.ph_specs.specs.Command.{first_word}
 
 abbrev pub IsFit : Verb → ℕ → List Coord → List ℕ → Option (List ℕ) → Type 0
@@ -21,6 +21,8 @@ IsFit Clear dims coords counts name = Unit {0}
 IsFit Window dims coords counts name = (length coords ≡ dims + dims) × (counts ≡ [])
 IsFit Cursor dims coords counts name = (length coords ≡ dims + dims) × (counts ≡ []) × IsSome name
 IsFit Page dims coords counts name = (coords ≡ []) × (length counts ≡ 1) × (slice_index counts 0 < 2 ^ 32) × IsSome name
+IsFit Near dims coords counts name = (length coords ≡ dims) × (length counts ≡ 1) × (slice_index counts 0 < 2 ^ 32)
+IsFit Within dims coords counts name = (length coords ≡ dims) × (length counts ≡ 1)
 IsFit Overlap dims coords counts name = (length coords ≡ dims) × (counts ≡ [])
 IsFit Inside dims coords counts name = (length coords ≡ dims) × (counts ≡ [])
 IsFit Covers dims coords counts name = (length coords ≡ dims) × (counts ≡ [])
@@ -55,6 +57,8 @@ HasDims dims by.Clear = Unit {0}
 HasDims dims (by.Window lo hi) = (length lo ≡ dims) × (length hi ≡ dims)
 HasDims dims (by.Cursor name lo hi) = (length lo ≡ dims) × (length hi ≡ dims)
 HasDims dims (by.Page name n) = Unit {0}
+HasDims dims (by.Near q n) = length q ≡ dims
+HasDims dims (by.Within q r) = length q ≡ dims
 HasDims dims (by.Overlap bounds) = length bounds ≡ dims
 HasDims dims (by.Inside bounds) = length bounds ≡ dims
 HasDims dims (by.Covers bounds) = length bounds ≡ dims

@@ -4,6 +4,7 @@ pub mod Forms
 pub mod Parts
 pub mod Fit
 pub mod Shown
+pub mod RowNumbers
 pub mod Unended
 pub mod Pieces
 pub mod KeptName

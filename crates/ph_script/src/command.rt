@@ -21,6 +21,10 @@ pub enum Command {
     Cursor { name: Name, lo: Coords, hi: Coords },
     /// The next rows of a cursor, at most so many.
     Page { name: Name, n: u32 },
+    /// The rows nearest to a point, at most so many, each with its distance.
+    Near { q: Coords, n: u32 },
+    /// The rows whose distance from a point, squared, is at most so much.
+    Within { q: Coords, r: u128 },
     /// The boxes that overlap the one with these bounds, the low corner and then the high one.
     Overlap { bounds: Coords },
     /// The boxes that lie inside it.

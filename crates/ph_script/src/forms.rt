@@ -24,6 +24,8 @@ pub(crate) enum Verb {
     Window,
     Cursor,
     Page,
+    Near,
+    Within,
     Overlap,
     Inside,
     Covers,
@@ -72,10 +74,12 @@ const COUNT: u128 = u32::MAX as u128;
 
 const VALUE: u128 = u64::MAX as u128;
 
+const RADIUS: u128 = u128::MAX;
+
 const KINDS: Places = Places::Either(b"points", b"boxes");
 
 // The forms that are answered so far, in the order of the definitions. One more is a row here, a `Verb` and its command.
-static FORMS: [Form; 16] = [
+static FORMS: [Form; 18] = [
     Form {
         word: b"open",
         places: &[KINDS, Places::UpTo(COUNT)],
@@ -135,6 +139,16 @@ static FORMS: [Form; 16] = [
         word: b"page",
         places: &[Places::Name, Places::UpTo(COUNT)],
         verb: Verb::Page,
+    },
+    Form {
+        word: b"near",
+        places: &[Places::Coordinates, Places::UpTo(COUNT)],
+        verb: Verb::Near,
+    },
+    Form {
+        word: b"within",
+        places: &[Places::Coordinates, Places::UpTo(RADIUS)],
+        verb: Verb::Within,
     },
     Form {
         word: b"overlap",

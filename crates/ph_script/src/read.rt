@@ -98,6 +98,14 @@ fn command(verb: Verb, dims: usize, parts: &Parts) -> Command
             name: name_in(parts),
             n: counts[0] as u32,
         },
+        Verb::Near => Command::Near {
+            q: Coords::new(coords),
+            n: counts[0] as u32,
+        },
+        Verb::Within => Command::Within {
+            q: Coords::new(coords),
+            r: counts[0],
+        },
         Verb::Overlap => Command::Overlap {
             bounds: Coords::new(coords),
         },

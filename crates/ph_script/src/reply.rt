@@ -22,6 +22,8 @@ pub enum Reply<const D: usize> {
     Cleared,
     /// A row that was found; its line begins with `row`.
     RowIs(Row<D>),
+    /// A row that was found near a point, with the square of its distance; its line begins with `hit`.
+    HitIs { distance: u128, row: Row<D> },
     /// The end of what was found, with the number of rows that the reply has listed.
     End(u128),
     /// The end of a page behind which there are more rows, with the number of rows that it has listed.

@@ -62,6 +62,22 @@ fn read_commands_on_boxes(rt: HostRuntime) -> Result<(), Fail> {
 }
 
 #[test]
+fn read_commands_on_distances(rt: HostRuntime) -> Result<(), Fail> {
+    let corners = [Coord::Whole(1), Coord::Whole(-5)];
+    let q = Coords::from_slice(&corners).ok_or("too many")?;
+    let near = Command::Near { q, n: 4294967295 };
+    assert_eq!(rt; read_command(b"near 1 -5 4294967295", 2), Ok(Some(near)));
+    let q = Coords::from_slice(&corners).ok_or("too many")?;
+    let within = Command::Within {
+        q,
+        r: 340282366920938463463374607431768211455,
+    };
+    let line = b"within 1 -5 340282366920938463463374607431768211455";
+    assert_eq!(rt; read_command(line, 2), Ok(Some(within)));
+    Ok(())
+}
+
+#[test]
 fn read_commands_on_slots(rt: HostRuntime) -> Result<(), Fail> {
     let a = Command::Select { slot: Which::A };
     assert_eq!(rt; read_command(b"use a", 2), Ok(Some(a)));
@@ -171,6 +187,13 @@ fn refused_names(rt: HostRuntime) -> Result<(), Fail> {
         (b"page a.b 1", Bad::Name),
         (b"page abcdefghijklmnopqrstuvwxyz-_01234 1", Bad::Name),
         (b"cursor a! 0 0 1 1", Bad::Name),
+        (b"near 1 2", Bad::Count),
+        (b"near 1 2 4294967296", Bad::Number),
+        (b"within 1 2 -1", Bad::Number),
+        (
+            b"within 1 2 340282366920938463463374607431768211456",
+            Bad::Number,
+        ),
         (b"overlap 1", Bad::Count),
         (b"inside 1 x", Bad::Number),
         (b"use", Bad::Count),
@@ -287,6 +310,8 @@ fn texts_of_rows(rt: HostRuntime) -> Result<(), Fail> {
     let point = Point::from_slice(w, &[-1, 0]).ok_or("out of range")?;
     let row = Row::<2> { point, value: 3 };
     assert_eq!(rt; reply_text(&Reply::RowIs(row)).as_str(), "row -1 0 3\n");
+    let hit = Reply::HitIs { distance: 0, row };
+    assert_eq!(rt; reply_text(&hit).as_str(), "hit 0 -1 0 3\n");
     let w = Width::new(62).ok_or("no width")?;
     let point = Point::from_slice(w, &[-2305843009213693952; 16]).ok_or("out of range")?;
     let row = Row::<16> {
@@ -301,6 +326,16 @@ fn texts_of_rows(rt: HostRuntime) -> Result<(), Fail> {
         -2305843009213693952 -2305843009213693952 -2305843009213693952 -2305843009213693952 \
         18446744073709551615\n";
     assert_eq!(rt; text.as_str(), line);
+    let hit = Reply::HitIs {
+        distance: 340282366920938463463374607431768211455,
+        row,
+    };
+    let text = reply_text(&hit);
+    assert_eq!(rt; text.as_str().len(), line.len() + 40);
+    assert!(rt;
+        text.as_str()
+            .starts_with("hit 340282366920938463463374607431768211455 -23")
+    );
     Ok(())
 }
 

@@ -1,7 +1,8 @@
 //! The texts of replies.
-ghost use Rattle.std.specs.Prelude.{◌≡◌, ◌≤◌, ◌+◌, ◌∷◌, [], ◌++◌, length, codes};
+ghost use Rattle.std.specs.Prelude.{◌≡◌, ◌≤◌, ◌+◌, ◌∷◌, [], ◌++◌, length, codes, decimal};
 ghost use Rattle.ph_specs.specs.Reply.{reply_text as text_of_reply, row_words, line_of};
 ghost use Rattle.ph_script.specs.Meaning.{reply_of};
+ghost use Rattle.ph_script.specs.RowNumbers.{numbers_line};
 
 use crate::reply::Reply;
 use arrayvec::ArrayString;
@@ -77,6 +78,7 @@ pub fn write_text<const D: usize>(text: &mut Text, reply: &Reply<D>)
         Reply::Rows(count) => push_numbered(line, "count", *count),
         Reply::Cleared => line.push_str("cleared\n"),
         Reply::RowIs(row) => push_row(line, row),
+        Reply::HitIs { distance, row } => push_hit(line, *distance, row),
         Reply::End(count) => push_numbered(line, "end", *count),
         Reply::More(count) => push_numbered(line, "more", *count),
         Reply::Ready => line.push_str("ready\n"),
@@ -127,6 +129,26 @@ fn push_row<const D: usize>(line: &mut ArrayString<LONGEST>, row: &Row<D>)
     ensures { line.new.bytes ≡ line_of (codes "row" ∷ row_words row.now) }
 {
     line.push_str("row");
+    push_numbers(line, row);
+}
+
+// The line of a row with its distance.
+fn push_hit<const D: usize>(line: &mut ArrayString<LONGEST>, distance: u128, row: &Row<D>)
+    requires dims { D ≤ 16 }
+    requires empty { line.old.bytes ≡ [] }
+    ensures { line.new.bytes ≡ line_of (codes "hit" ∷ decimal distance ∷ row_words row.now) }
+{
+    line.push_str("hit");
+    push_number(line, distance);
+    push_numbers(line, row);
+}
+
+// The numbers of a row, with a space before each, and a line feed.
+fn push_numbers<const D: usize>(line: &mut ArrayString<LONGEST>, row: &Row<D>)
+    requires dims { D ≤ 16 }
+    requires room { length line.old.bytes ≤ 3 + 40 }
+    ensures { line.new.bytes ≡ line.old.bytes ++ numbers_line row.now }
+{
     for coordinate in row.point.as_slice() {
         push_number(line, *coordinate);
     }
