@@ -2,6 +2,7 @@ pub mod Appending
 pub mod Names
 pub mod Replies
 pub mod Listed
+pub mod Hits
 pub mod Asked
 pub mod Compared
 pub mod Cuts

@@ -1,5 +1,5 @@
 -- Listings, row by row.
-use Rattle.std.proofs.Common.{◌≡◌, ◌≤◌, ◌+◌, ℕ, zero, suc, Bool, true, false, List, [], ◌∷◌, ◌++◌, length, take, drop, refl, ap, sym, ◌∙◌, subst, arith}
+use Rattle.std.proofs.Common.{◌≡◌, ◌≤◌, ◌+◌, ℕ, zero, suc, Bool, true, false, List, [], ◌∷◌, ◌++◌, length, map, take, drop, refl, ap, sym, ◌∙◌, subst, arith}
 use Rattle.std.specs.Prelude.{◌↔◌, ℤ, Option, Some, None, Ok, Err, Result, IfOk, IfErr, OnOk, OnErr, slice_get, filter, if◌then◌else◌}
 use Rattle.std.specs.List.{list_all}
 use Rattle.std.proofs.lemmas.Bool.{and_parts}
@@ -7,14 +7,14 @@ use Rattle.ph_io.specs.Giving.{Taken, Given}
 use Rattle.ph_specs.specs.Coordinate.{is_point}
 use Rattle.ph_specs.specs.Table.{Row}
 use Rattle.ph_specs.specs.Reply.{Reply, reply_text, replies_text}
-use Rattle.ph_specs.specs.Engine.{listing, row_replies, page_end}
+use Rattle.ph_specs.specs.Engine.{row_replies, page_end}
 use Rattle.ph_specs.specs.Window.{Cursor, is_between, is_after, window, rest, page, has_more, last_listed, next_cursor}
 use Rattle.ph_specs.proofs.laws.Pages.{more-left}
 use Rattle.ph_window.specs.Page.{IsLast}
 use Rattle.ph_window.specs.declared.page.Tail.{Tail}
 use Rattle.ph_window.specs.declared.page.Tail.TheVariants.{More, End}
 use Rattle.ph_engine.specs.Doing.{refuses}
-use Rattle.ph_engine.specs.Listing.{PageListed, ListsWindow, met, page_replies, is_more}
+use Rattle.ph_engine.specs.Listing.{PageListed, Lists, met, page_replies, is_more}
 use Rattle.ph_engine.specs.Machine.{is_refusal}
 use Rattle.ph_engine.specs.Slots.{AnyTable}
 use Rattle.ph_engine.specs.Writing.{WritesFront}
@@ -24,39 +24,42 @@ use Rattle.ph_engine.specs.declared.status.Stop.{Stop}
 use Rattle.ph_engine.specs.declared.status.Stop.TheVariants.{WriteFault}
 use Rattle.ph_engine.proofs.Replies.{IsGiven, one_given, all_given, front_given}
 
--- a row was written, or a front of it
-pub row-given : (all tail : List Reply) (rows next : List Row) (r : Row) (a b c : Taken) → IsGiven all (row_replies rows ++ tail) a b → rows ≡ r ∷ next → Given b c (reply_text (Reply.RowIs r)) → IsGiven all (row_replies next ++ tail) a c
-row-given all tail rows next r a b c h e k = one_given all (row_replies rows ++ tail) (row_replies next ++ tail) (Reply.RowIs r) a b c h (ap (λ rs. row_replies rs ++ tail) e) k
+-- replies of one kind, one for each item, and further ones behind them
+module _ {X : Type 0} (f : X → Reply) where
+  -- one was written, or a front of it
+  pub item-given : (all tail : List Reply) (xs next : List X) (x : X) (a b c : Taken) → IsGiven all (map f xs ++ tail) a b → xs ≡ x ∷ next → Given b c (reply_text (f x)) → IsGiven all (map f next ++ tail) a c
+  item-given all tail xs next x a b c h e k = one_given all (map f xs ++ tail) (map f next ++ tail) (f x) a b c h (ap (λ ys. map f ys ++ tail) e) k
 
-pub row-front : (all tail : List Reply) (rows next : List Row) (r : Row) (a b c : Taken) → IsGiven all (row_replies rows ++ tail) a b → rows ≡ r ∷ next → WritesFront b c (reply_text (Reply.RowIs r)) → WritesFront a c (replies_text all)
-row-front all tail rows next r a b c h e k = front_given all (row_replies rows ++ tail) (row_replies next ++ tail) (Reply.RowIs r) a b c h (ap (λ rs. row_replies rs ++ tail) e) k
+  pub item-front : (all tail : List Reply) (xs next : List X) (x : X) (a b c : Taken) → IsGiven all (map f xs ++ tail) a b → xs ≡ x ∷ next → WritesFront b c (reply_text (f x)) → WritesFront a c (replies_text all)
+  item-front all tail xs next x a b c h e k = front_given all (map f xs ++ tail) (map f next ++ tail) (f x) a b c h (ap (λ ys. map f ys ++ tail) e) k
 
--- the last reply was written, or a front of it
-pub last-given : (all : List Reply) (rows : List Row) (r : Reply) (a b c : Taken) → IsGiven all (row_replies rows ++ r ∷ []) a b → rows ≡ [] → Given b c (reply_text r) → Given a c (replies_text all)
-last-given all rows r a b c h e k =
-    all_given all [] a c (one_given all (row_replies rows ++ r ∷ []) [] r a b c h (ap (λ rs. row_replies rs ++ r ∷ []) e) k) refl
+  -- the last reply was written, or a front of it
+  pub last-given : (all : List Reply) (xs : List X) (r : Reply) (a b c : Taken) → IsGiven all (map f xs ++ r ∷ []) a b → xs ≡ [] → Given b c (reply_text r) → Given a c (replies_text all)
+  last-given all xs r a b c h e k =
+      all_given all [] a c (one_given all (map f xs ++ r ∷ []) [] r a b c h (ap (λ ys. map f ys ++ r ∷ []) e) k) refl
 
-pub last-front : (all : List Reply) (rows : List Row) (r : Reply) (a b c : Taken) → IsGiven all (row_replies rows ++ r ∷ []) a b → rows ≡ [] → WritesFront b c (reply_text r) → WritesFront a c (replies_text all)
-last-front all rows r a b c h e k = front_given all (row_replies rows ++ r ∷ []) [] r a b c h (ap (λ rs. row_replies rs ++ r ∷ []) e) k
+  pub last-front : (all : List Reply) (xs : List X) (r : Reply) (a b c : Taken) → IsGiven all (map f xs ++ r ∷ []) a b → xs ≡ [] → WritesFront b c (reply_text r) → WritesFront a c (replies_text all)
+  last-front all xs r a b c h e k = front_given all (map f xs ++ r ∷ []) [] r a b c h (ap (λ ys. map f ys ++ r ∷ []) e) k
 
 is-good : (a : Answer) → refuses a ≡ false → a ≡ Good
 is-good Good h = refl
 is-good Refused h = cc
 
--- what is left of a window whose next row is missing
-pub none-left : (rows : List Row) → None ≡ slice_get rows 0 → rows ≡ []
+-- what is left where the next one is missing
+pub none-left : {X : Type 0} (xs : List X) → None ≡ slice_get xs 0 → xs ≡ []
 none-left [] h = refl
-none-left (r ∷ rows) h = cc
+none-left (x ∷ xs) h = cc
 
--- ---- windows
+-- ---- listings that go to their end
 
-pub window-said : (t : AnyTable) (lo hi : List ℤ) (rows0 rows : List Row) (n v0 v : ℕ) (a b c : Taken) (result : Result Answer Stop) → rows0 ≡ window lo hi t.tree.table → IsGiven (listing rows0) (row_replies rows ++ Reply.End (length rows0) ∷ []) a b → rows ≡ [] → n ≡ length rows0 → IfOk result (λ answer. refuses answer ≡ is_refusal (reply_text (Reply.End n))) → OnOk result (Given b c (reply_text (Reply.End n))) → IfErr result (λ stop. stop ≡ WriteFault) → OnErr result (WritesFront b c (reply_text (Reply.End n))) → v ≡ v0 + met t lo hi → ListsWindow t lo hi a c v0 v result
-window-said t lo hi rows0 rows n v0 v a b c (Ok answer) e h none count good told fault front cost =
-    let k : Given b c (reply_text (Reply.End (length rows0))) = rw count at told in
-    record { told = rw (← e) (last-given (listing rows0) rows (Reply.End (length rows0)) a b c h none k); good = is-good answer good; visited = cost }
-window-said t lo hi rows0 rows n v0 v a b c (Err stop) e h none count good told fault front cost =
-    let k : WritesFront b c (reply_text (Reply.End (length rows0))) = rw count at front in
-    record { front = rw (← e) (last-front (listing rows0) rows (Reply.End (length rows0)) a b c h none k); fault = fault; visited = omega (arith, cost) }
+-- All items were listed, and what comes behind them was said.
+pub items-said : {X : Type 0} (f : X → Reply) (all xs : List X) (n count least most v0 v : ℕ) (a b c : Taken) (result : Result Answer Stop) → IsGiven (map f all ++ Reply.End n ∷ []) (map f xs ++ Reply.End n ∷ []) a b → xs ≡ [] → count ≡ n → IfOk result (λ answer. refuses answer ≡ is_refusal (reply_text (Reply.End count))) → OnOk result (Given b c (reply_text (Reply.End count))) → IfErr result (λ stop. stop ≡ WriteFault) → OnErr result (WritesFront b c (reply_text (Reply.End count))) → v0 + least ≤ v → v ≤ v0 + most → Lists (map f all ++ Reply.End n ∷ []) least most a c v0 v result
+items-said f all xs n count least most v0 v a b c (Ok answer) h none counted good told fault front enough few =
+    let k : Given b c (reply_text (Reply.End n)) = rw counted at told in
+    record { told = last-given f (map f all ++ Reply.End n ∷ []) xs (Reply.End n) a b c h none k; good = is-good answer good; enough = enough; few = few }
+items-said f all xs n count least most v0 v a b c (Err stop) h none counted good told fault front enough few =
+    let k : WritesFront b c (reply_text (Reply.End n)) = rw counted at front in
+    record { front = last-front f (map f all ++ Reply.End n ∷ []) xs (Reply.End n) a b c h none k; fault = fault; visited = few }
 
 -- ---- pages
 
@@ -122,7 +125,7 @@ page-said t c n rows0 rows left count v0 v more behind x y z e given none d coun
     let inside : list_all (λ r. is_point w t.dims r.point) (take n rows0) ≡ true =
     all-taken (λ r. is_point w t.dims r.point) n rows0 (rw e (all-filtered (λ r. is_point w t.dims r.point) (λ r. is_after w c.last r.point) (window c.lo c.hi t.tree.table) (all-filtered (λ r. is_point w t.dims r.point) (λ r. is_between c.lo c.hi r.point) t.tree.table points))) in
     record {
-      told = subst (λ rs. Given x z (replies_text rs)) ended (last-given _ (take left rows) (page_end more count) x y z (given (page_end more count ∷ [])) none told);
+      told = subst (λ rs. Given x z (replies_text rs)) ended (last-given Reply.RowIs _ (take left rows) (page_end more count) x y z (given (page_end more count ∷ [])) none told);
       next = same-cursor behind (next_cursor w c n t.tree.table) lo hi (stands ∙ ap (λ rs. last_listed c.last (take n rs)) e);
       last = rw stands (last-point w t.dims c.last (take n rows0) start inside);
       grows = grows;
@@ -132,7 +135,7 @@ page-said t c n rows0 rows left count v0 v more behind x y z e given none d coun
 -- the rows of the page were given, and a front of its end
 pub page-cut : (t : AnyTable) (c : Cursor) (n : ℕ) (rows0 rows : List Row) (left count : ℕ) (more : Bool) (x y z : Taken) → rows0 ≡ rest t.tree.width c t.tree.table → ((tail : List Reply) → IsGiven (row_replies (take n rows0) ++ tail) (row_replies (take left rows) ++ tail) x y) → take left rows ≡ [] → drop left rows ≡ drop n rows0 → count ≡ length (take n rows0) → (more ≡ true) ↔ (rows ≡ [] → ⊥) → WritesFront y z (reply_text (page_end more count)) → WritesFront x z (replies_text (page_replies t c n))
 page-cut t c n rows0 rows left count more x y z e given none d counted m told =
-    subst (λ rs. WritesFront x z (replies_text rs)) (page-ended t c n rows0 rows left count more e none d counted m) (last-front _ (take left rows) (page_end more count) x y z (given (page_end more count ∷ [])) none told)
+    subst (λ rs. WritesFront x z (replies_text rs)) (page-ended t c n rows0 rows left count more e none d counted m) (last-front Reply.RowIs _ (take left rows) (page_end more count) x y z (given (page_end more count ∷ [])) none told)
 
 -- whether more is left, by what the walk tells
 pub more-by : (tail : Tail) (P : Type 0) → (tail ≡ More) ↔ P → (is_more tail ≡ true) ↔ P
@@ -140,7 +143,7 @@ more-by More P h = (λ e. h.0 refl, λ p. refl)
 more-by End P h = (λ e. cc, λ p. absurd (let f : End ≡ More = h.1 p in cc))
 
 -- a window has no more rows than its table
-few-filtered : {A : Type 0} (q : A → Bool) (xs : List A) → length (filter q xs) ≤ length xs
+pub few-filtered : {A : Type 0} (q : A → Bool) (xs : List A) → length (filter q xs) ≤ length xs
 few-filtered q [] = omega arith
 few-filtered q (x ∷ xs) =
     let more = few-filtered q xs in

@@ -1,5 +1,5 @@
 -- What the commands that list rows do, and those of cursors.
-use Rattle.std.proofs.Common.{◌≡◌, ◌<◌, ◌≤◌, ◌+◌, ℕ, Bool, true, false, List, [], ◌∷◌, ◌++◌, length, get_or, refl, ap, sym, ◌∙◌, subst, arith}
+use Rattle.std.proofs.Common.{◌≡◌, ◌<◌, ◌≤◌, ◌+◌, ℕ, Bool, true, false, List, [], ◌∷◌, ◌++◌, length, get_or, refl, ap, sym, ◌∙◌, subst, arith, inr}
 use Rattle.std.specs.Prelude.{ℤ, Some, None, Result, Ok, Err, ◌&&◌, not, nat_le, MatchResult}
 use Rattle.std.specs.List.{list_all}
 use Rattle.std.proofs.lemmas.Grind.{common_steps}
@@ -7,7 +7,8 @@ use Rattle.ph_io.specs.Giving.{Taken}
 use Rattle.ph_specs.specs.declared.Kind.{Kind}
 use Rattle.ph_specs.specs.Command.{Command}
 use Rattle.ph_specs.specs.Coordinate.{fits, IsPoint}
-use Rattle.ph_specs.specs.Engine.{effect, unless_refused, page_outcome, listing, row_replies, page_end}
+use Rattle.ph_specs.specs.Engine.{effect, unless_refused, page_outcome, listing, hit_listing, row_replies, page_end}
+use Rattle.ph_specs.specs.Distance.{distance, near}
 use Rattle.ph_specs.specs.Named.{Named, lookup, enter, has_name}
 use Rattle.ph_specs.specs.Reply.{Reply, reply_text, replies_text}
 use Rattle.ph_specs.specs.State.{Slot, Files, outcome}
@@ -15,7 +16,7 @@ use Rattle.ph_specs.specs.Table.{Row}
 use Rattle.ph_specs.specs.Window.{Cursor, next_cursor, page, has_more}
 use Rattle.ph_engine.specs.Beside.{beside_sink}
 use Rattle.ph_engine.specs.Doing.{Begun, Does, DoneOr, DoneWith, is_page}
-use Rattle.ph_engine.specs.Listing.{ListsRows, FrontListed, PageListed, page_replies, met}
+use Rattle.ph_engine.specs.Listing.{Lists, ListsNear, reached, FrontListed, PageListed, page_replies, met}
 use Rattle.ph_engine.specs.Machine.{is_refusal}
 use Rattle.ph_engine.specs.Refusing.{early_refusal, late_refusal}
 use Rattle.ph_engine.specs.Naming.{place}
@@ -24,8 +25,10 @@ use Rattle.ph_engine.specs.Working.{work, engine_bounds}
 use Rattle.ph_engine.specs.declared.status.Answer.{Answer}
 use Rattle.ph_engine.specs.declared.status.Answer.TheVariants.{Good}
 use Rattle.ph_engine.specs.declared.status.Stop.{Stop}
+use Rattle.ph_engine.specs.declared.status.Stop.TheVariants.{WriteFault, NoMemory}
 use Rattle.ph_engine.specs.declared.cursors.Held.{Held}
-use Rattle.ph_engine.proofs.Commanded.{done-all}
+use Rattle.ph_engine.proofs.Appending.{given_none}
+use Rattle.ph_engine.proofs.Commanded.{Most, done-all}
 use Rattle.ph_engine.proofs.Names.{found-in}
 use Rattle.ph_engine.proofs.Refused.{unrefused, in-range, has-room, has-cursor}
 
@@ -117,16 +120,48 @@ page-stopped kind t cursors name n c sink now_sink v now_v stop h there listed =
 
 -- ---- listings
 
--- a command that lists rows as a window lists them, and is not refused
-pub listing-done : (s : Slot) (command : Command) (rows : List Row) (n : ℕ) (sink now_sink : Taken) (v now_v changes : ℕ) (result : Result Answer Stop) → early_refusal s command ≡ None → ((most : ℕ) (files : Files) (fault : Bool) → late_refusal most s files fault command ≡ None) → ((files : Files) → effect (engine_of s) files command ≡ outcome (engine_of s) files (listing rows)) → ((files : Files) → engine_bounds (engine_of s) files command ≡ work n n 0 0) → is_page command ≡ false → ListsRows rows n sink now_sink v now_v result → DoneOr 0 (engine_of s) command (beside_sink sink v changes) (beside_sink now_sink now_v changes) (engine_of s) result
-listing-done s command rows n sink now_sink v now_v changes (Ok answer) h late e w page listed =
-    done-all 0 (engine_of s) (engine_of s) (engine_of s) command (listing rows) (beside_sink sink v changes) (beside_sink now_sink now_v changes) (Ok answer) (record { files = refl; later = omega arith }) refl tt
-    (λ most files fault. ap (λ r. unless_refused r (engine_of s) files command) (unrefused most s files fault command h (late most files fault)) ∙ e files)
-    (λ most files fault. rw (w files) (record { few_visits = omega (arith, listed.visited); few_changes = omega arith }))
-    (λ most files fault. rw (unrefused most s files fault command h (late most files fault), w files) (record { enough_visits = omega (arith, listed.visited); enough_changes = omega arith }))
-    (rw listed.good (sym (good-rows rows false (length rows)))) listed.told tt tt
-listing-done s command rows n sink now_sink v now_v changes (Err stop) h late e w page listed =
-    done-all 0 (engine_of s) (engine_of s) (engine_of s) command (listing rows) (beside_sink sink v changes) (beside_sink now_sink now_v changes) (Err stop) (record { files = refl; later = omega arith }) tt (rw page refl)
-    (λ most files fault. ap (λ r. unless_refused r (engine_of s) files command) (unrefused most s files fault command h (late most files fault)) ∙ e files)
-    (λ most files fault. rw (w files) (record { few_visits = listed.visited; few_changes = omega arith }))
-    tt tt tt listed.fault listed.front
+-- a command that lists what it found, and is not refused
+module _ (s : Slot) (command : Command) (replies : List Reply) (least most_visits : ℕ) (sink now_sink : Taken) (v now_v changes : ℕ) (h : early_refusal s command ≡ None) (late : (most : ℕ) (files : Files) (fault : Bool) → late_refusal most s files fault command ≡ None) (e : (files : Files) → effect (engine_of s) files command ≡ outcome (engine_of s) files replies) (w : (files : Files) → engine_bounds (engine_of s) files command ≡ work most_visits least 0 0) where
+  does : Does (engine_of s) command (engine_of s) replies
+  does most files fault = ap (λ r. unless_refused r (engine_of s) files command) (unrefused most s files fault command h (late most files fault)) ∙ e files
+
+  most-of : now_v ≤ v + most_visits → Most (engine_of s) command (beside_sink sink v changes) (beside_sink now_sink now_v changes)
+  most-of few most files fault = rw (w files) (record { few_visits = few; few_changes = omega arith })
+
+  pub listing-done : (result : Result Answer Stop) → is_page command ≡ false → is_refusal (replies_text replies) ≡ false → Lists replies least most_visits sink now_sink v now_v result → DoneOr 0 (engine_of s) command (beside_sink sink v changes) (beside_sink now_sink now_v changes) (engine_of s) result
+  listing-done (Ok answer) page good listed =
+      done-all 0 (engine_of s) (engine_of s) (engine_of s) command replies (beside_sink sink v changes) (beside_sink now_sink now_v changes) (Ok answer) (record { files = refl; later = omega arith }) refl tt does (most-of listed.few)
+      (λ most files fault. rw (unrefused most s files fault command h (late most files fault), w files) (record { enough_visits = listed.enough; enough_changes = omega arith }))
+      (rw listed.good (sym good)) listed.told tt tt
+  listing-done (Err stop) page good listed =
+      done-all 0 (engine_of s) (engine_of s) (engine_of s) command replies (beside_sink sink v changes) (beside_sink now_sink now_v changes) (Err stop) (record { files = refl; later = omega arith }) tt (rw page refl) does (most-of listed.visited)
+      tt tt tt listed.fault listed.front
+
+pub rows-good : (rows : List Row) → is_refusal (replies_text (listing rows)) ≡ false
+rows-good rows = good-rows rows false (length rows)
+
+-- ---- rows with their distances
+
+good-hit : (d : ℕ) (r : Row) (text : List ℕ) → is_refusal (reply_text (Reply.HitIs d r) ++ text) ≡ false
+good-hit d r text = refl
+
+pub hits-good : (q : List ℤ) (rows : List Row) → is_refusal (replies_text (hit_listing q rows)) ≡ false
+hits-good q [] = refl
+hits-good q (r ∷ rows) = good-hit (distance r.point q) r (replies_text (hit_listing q rows))
+
+-- the nearest rows, or where memory was missing for them
+pub near-done : (kind : Kind) (t : AnyTable) (cursors : Named Cursor) (q : List ℤ) (n : ℕ) (sink now_sink : Taken) (v now_v changes : ℕ) (result : Result Answer Stop) → early_refusal (slot_of kind t cursors) (Command.Near q n) ≡ None → ListsNear t q n sink now_sink v now_v result → DoneOr 0 (engine_of (slot_of kind t cursors)) (Command.Near q n) (beside_sink sink v changes) (beside_sink now_sink now_v changes) (engine_of (slot_of kind t cursors)) result
+near-done kind t cursors q n sink now_sink v now_v changes (Ok answer) h listed =
+    listing-done (slot_of kind t cursors) (Command.Near q n) (hit_listing q (near q n t.tree.table)) 0 (reached t q n) sink now_sink v now_v changes h (λ most files fault. refl) (λ files. refl) (λ files. refl) (Ok answer) refl (hits-good q (near q n t.tree.table)) listed
+near-done kind t cursors q n sink now_sink v now_v changes (Err WriteFault) h listed =
+    listing-done (slot_of kind t cursors) (Command.Near q n) (hit_listing q (near q n t.tree.table)) 0 (reached t q n) sink now_sink v now_v changes h (λ most files fault. refl) (λ files. refl) (λ files. refl) (Err WriteFault) refl (hits-good q (near q n t.tree.table)) listed
+near-done kind t cursors q n sink now_sink v now_v changes (Err NoMemory) h listed = record {
+  fault = false;
+  filings = inr (omega arith);
+  part = 0;
+  state = λ files k. refl;
+  files = λ files k. ap Some k;
+  told = rw listed.unwritten (given_none sink);
+  wanted = rw h refl;
+  most_work = λ files k. record { few_visits = listed.few; few_changes = omega arith };
+}

@@ -4,7 +4,6 @@ use Rattle.std.proofs.lemmas.Grind.{common_steps}
 use Rattle.std.proofs.Math.Nat.{suc-add}
 use Rattle.ph_io.specs.Giving.{Taken, Given}
 use Rattle.std.specs.Prelude.{Some, slice_get}
-use Rattle.ph_specs.specs.Table.{Row}
 use Rattle.ph_specs.specs.Reply.{Reply, reply_text, replies_text}
 use Rattle.ph_engine.specs.Writing.{WritesFront}
 use Rattle.ph_engine.proofs.Appending.{given_none, given_both}
@@ -64,7 +63,7 @@ pub front_given : (all rest next : List Reply) (r : Reply) (a b c : Taken) → I
 front_given all rest next r a b c h e k =
     let s : all ≡ h.gone ++ r ∷ next = h.split ∙ ap (λ x. h.gone ++ x) e in rw s (front_more a b c h.gone next r h.told k)
 
--- the first of the rows that are left
-pub next-is : (rows new : List Row) (r : Row) → Some r ≡ slice_get rows 0 → new ≡ drop 1 rows → rows ≡ r ∷ new
-next-is [] new r h e = absurd cc
-next-is (x ∷ rows) new r h e = let f : x ≡ r = cc in ap (λ y. y ∷ rows) f ∙ ap (λ ys. r ∷ ys) (sym e)
+-- the first of what is left
+pub next-is : {X : Type 0} (xs new : List X) (x : X) → Some x ≡ slice_get xs 0 → new ≡ drop 1 xs → xs ≡ x ∷ new
+next-is [] new x h e = absurd cc
+next-is (y ∷ xs) new x h e = let f : y ≡ x = cc in ap (λ z. z ∷ xs) f ∙ ap (λ ys. x ∷ ys) (sym e)

@@ -1,13 +1,15 @@
 -- Replies that list rows.
-use Rattle.std.specs.Prelude.{◌≡◌, ◌≤◌, ◌+◌, ℕ, Bool, true, false, List, [], ◌∷◌, ◌++◌, length, ℤ, filter, Result, Ok, Err}
+use Rattle.std.specs.Prelude.{◌≡◌, ◌≤◌, ◌+◌, ℕ, Bool, true, false, List, [], ◌∷◌, ◌++◌, length, map, ℤ, filter, Result, Ok, Err}
 use Rattle.ph_io.specs.Giving.{Taken, Given}
 use Rattle.ph_specs.specs.Boxes.{overlaps, is_inside, covers, overlaps_low, overlaps_high, inside_low, inside_high, covers_low, covers_high}
 use Rattle.ph_specs.specs.Coordinate.{low_corner, high_corner}
+use Rattle.ph_specs.specs.Distance.{near, within}
 use Rattle.ph_specs.specs.Reply.{Reply, replies_text}
 use Rattle.ph_specs.specs.Table.{Row}
-use Rattle.ph_specs.specs.Engine.{listing, row_replies, page_end}
+use Rattle.ph_specs.specs.Engine.{listing, hit_listing, row_replies, page_end}
 use Rattle.ph_specs.specs.Window.{Cursor, window, page, has_more, next_cursor}
-use Rattle.ph_specs.specs.WorkSets.{meets}
+use Rattle.ph_specs.specs.WorkSets.{meets, reach, ball}
+use Rattle.ph_table.specs.Hits.{TableHit}
 use Rattle.ph_window.specs.Page.{IsLast}
 use Rattle.ph_window.specs.declared.page.Tail.{Tail}
 use Rattle.ph_window.specs.declared.page.Tail.TheVariants.{More, End}
@@ -19,17 +21,18 @@ use Rattle.ph_engine.specs.declared.boxes.Question.TheVariants.{Overlap, Inside,
 use Rattle.ph_engine.specs.declared.status.Answer.{Answer}
 use Rattle.ph_engine.specs.declared.status.Answer.TheVariants.{Good}
 use Rattle.ph_engine.specs.declared.status.Stop.{Stop}
-use Rattle.ph_engine.specs.declared.status.Stop.TheVariants.{WriteFault}
+use Rattle.ph_engine.specs.declared.status.Stop.TheVariants.{WriteFault, NoMemory}
 
 -- the nodes that a window meets
 abbrev pub met : AnyTable → List ℤ → List ℤ → ℕ
 met t lo hi = length (meets t.tree.width t.dims t.tree.table lo hi)
 
--- these rows were listed, and so many nodes visited for them
-pub record RowsListed (rows : List Row) (n : ℕ) (sink now_sink : Taken) (visits now_visits : ℕ) (answer : Answer) : Type 0 where
-  pub told : Given sink now_sink (replies_text (listing rows))
+-- these replies were given, and at least and at most so many nodes visited for them
+pub record Listed (replies : List Reply) (least most : ℕ) (sink now_sink : Taken) (visits now_visits : ℕ) (answer : Answer) : Type 0 where
+  pub told : Given sink now_sink (replies_text replies)
   pub good : answer ≡ Good
-  pub visited : now_visits ≡ visits + n
+  pub enough : visits + least ≤ now_visits
+  pub few : now_visits ≤ visits + most
 
 -- a write failed in a reply, for which no more nodes were visited than for the whole
 pub record FrontListed (replies : List Reply) (most : ℕ) (sink now_sink : Taken) (visits now_visits : ℕ) (stop : Stop) : Type 0 where
@@ -37,9 +40,13 @@ pub record FrontListed (replies : List Reply) (most : ℕ) (sink now_sink : Take
   pub fault : stop ≡ WriteFault
   pub visited : now_visits ≤ visits + most
 
+abbrev pub Lists : List Reply → ℕ → ℕ → Taken → Taken → ℕ → ℕ → Result Answer Stop → Type 0
+Lists replies least most sink now_sink visits now_visits (Ok answer) = Listed replies least most sink now_sink visits now_visits answer
+Lists replies least most sink now_sink visits now_visits (Err stop) = FrontListed replies most sink now_sink visits now_visits stop
+
+-- the same of rows, for exactly so many visits
 abbrev pub ListsRows : List Row → ℕ → Taken → Taken → ℕ → ℕ → Result Answer Stop → Type 0
-ListsRows rows n sink now_sink visits now_visits (Ok answer) = RowsListed rows n sink now_sink visits now_visits answer
-ListsRows rows n sink now_sink visits now_visits (Err stop) = FrontListed (listing rows) n sink now_sink visits now_visits stop
+ListsRows rows n sink now_sink visits now_visits result = Lists (listing rows) n n sink now_sink visits now_visits result
 
 -- the rows of a window, with the visits that it takes
 abbrev pub ListsWindow : AnyTable → List ℤ → List ℤ → Taken → Taken → ℕ → ℕ → Result Answer Stop → Type 0
@@ -72,6 +79,34 @@ high_bound Covers w q = covers_high w (low_corner q) (high_corner q)
 abbrev pub ListsBoxes : Question → AnyTable → List ℤ → Taken → Taken → ℕ → ℕ → Result Answer Stop → Type 0
 ListsBoxes question t q sink now_sink visits now_visits result =
     ListsRows (answered question q t.tree.table) (met t (low_bound question t.tree.width q) (high_bound question t.tree.width q)) sink now_sink visits now_visits result
+
+-- ---- distances
+
+abbrev pub hit_said : TableHit → Reply
+hit_said h = Reply.HitIs h.distance h.row
+
+-- the replies that list rows with their distances
+abbrev pub hit_replies : List TableHit → List Reply
+hit_replies hits = map hit_said hits ++ Reply.End (length hits) ∷ []
+
+-- the rows within a radius, with exactly the visits of the ball
+abbrev pub ListsBall : AnyTable → List ℤ → ℕ → Taken → Taken → ℕ → ℕ → Result Answer Stop → Type 0
+ListsBall t q r sink now_sink visits now_visits result =
+    let n = length (ball t.tree.width t.dims t.tree.table q r) in Lists (hit_listing q (within q r t.tree.table)) n n sink now_sink visits now_visits result
+
+-- the nodes that the search for the nearest rows may have to see
+abbrev pub reached : AnyTable → List ℤ → ℕ → ℕ
+reached t q n = length (reach t.tree.width t.dims t.tree.table q n)
+
+-- memory was missing before anything was written
+pub record Unlisted (most : ℕ) (sink now_sink : Taken) (visits now_visits : ℕ) : Type 0 where
+  pub unwritten : now_sink ≡ sink
+  pub few : now_visits ≤ visits + most
+
+-- the nearest rows, or what stands where memory was missing for them
+abbrev pub ListsNear : AnyTable → List ℤ → ℕ → Taken → Taken → ℕ → ℕ → Result Answer Stop → Type 0
+ListsNear t q n sink now_sink visits now_visits (Err NoMemory) = Unlisted (reached t q n) sink now_sink visits now_visits
+ListsNear t q n sink now_sink visits now_visits result = Lists (hit_listing q (near q n t.tree.table)) 0 (reached t q n) sink now_sink visits now_visits result
 
 -- ---- pages
 

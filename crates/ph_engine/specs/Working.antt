@@ -3,7 +3,7 @@ use Rattle.std.specs.Prelude.{◌≤◌, ℕ, ◌+◌, ◌*◌, Bool, not, ◌&&
 use Rattle.ph_specs.specs.Command.{Command}
 use Rattle.ph_specs.specs.Reply.{Reply}
 use Rattle.ph_specs.specs.Table.{has}
-use Rattle.ph_specs.specs.WorkSets.{path, meets, all_nodes}
+use Rattle.ph_specs.specs.WorkSets.{path, meets, reach, ball, all_nodes}
 use Rattle.ph_specs.specs.Coordinate.{low_corner, high_corner}
 use Rattle.ph_specs.specs.Boxes.{overlaps_low, overlaps_high, inside_low, inside_high, covers_low, covers_high}
 use Rattle.ph_specs.specs.Engine.{same_slots}
@@ -36,6 +36,8 @@ bounds s files (Command.Put p v) = work (2 * s.width) 0 2 (one_if (not (has s.ta
 bounds s files (Command.Del p) = work (2 * s.width) 0 2 (one_if (has s.table p))
 bounds s files (Command.Relocate p q) = work (6 * s.width) 0 4 (one_if (has s.table p && not (has s.table q)))
 bounds s files (Command.Window lo hi) = window_bounds s lo hi
+bounds s files (Command.Near q n) = work (length (reach s.width s.dims s.table q n)) 0 0 0
+bounds s files (Command.Within q r) = let n = length (ball s.width s.dims s.table q r) in work n n 0 0
 bounds s files (Command.Overlap q) = window_bounds s (overlaps_low s.width (low_corner q) (high_corner q)) (overlaps_high s.width (low_corner q) (high_corner q))
 bounds s files (Command.Inside q) = window_bounds s (inside_low s.width (low_corner q) (high_corner q)) (inside_high s.width (low_corner q) (high_corner q))
 bounds s files (Command.Covers q) = window_bounds s (covers_low s.width (low_corner q) (high_corner q)) (covers_high s.width (low_corner q) (high_corner q))

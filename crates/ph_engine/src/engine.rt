@@ -69,7 +69,8 @@ impl Engine {
         }
     }
 
-    /// Does a command, and gives its replies to the sink. It may want memory for a row that is new or moves, and for no other command.
+    /// Does a command, and gives its replies to the sink. It may want memory for a row that is new or moves and for the rows that are
+    /// nearest to a point, and for no other command.
     ///
     /// After a write fault the command is done, but a page leaves its cursor as it was; a front of the replies is written.
     /// Without memory nothing is done or written.

@@ -4,6 +4,7 @@
 mod boxes;
 mod commands;
 mod cursors;
+mod distances;
 mod engine;
 mod listing;
 mod output;

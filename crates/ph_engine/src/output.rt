@@ -30,6 +30,7 @@ fn answer_of<const D: usize>(reply: &Reply<D>) -> Answer
         | Reply::Rows(_)
         | Reply::Cleared
         | Reply::RowIs(_)
+        | Reply::HitIs { .. }
         | Reply::End(_)
         | Reply::More(_)
         | Reply::Ready

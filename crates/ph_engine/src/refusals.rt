@@ -30,7 +30,7 @@ fn most_dims(kind: Kind) -> u32
     }
 }
 
-// Whether the command asks about boxes in a slot of points.
+// Whether the command asks about boxes in a slot of points, or about distances in one of boxes.
 pub(crate) fn has_wrong_kind(kind: Kind, cmd: &Command) -> bool
     ensures { result ≡ asks_wrong_kind kind (command_of cmd.now) }
 {
@@ -38,6 +38,7 @@ pub(crate) fn has_wrong_kind(kind: Kind, cmd: &Command) -> bool
         Command::Overlap { .. } | Command::Inside { .. } | Command::Covers { .. } => {
             kind == Kind::Points
         }
+        Command::Near { .. } | Command::Within { .. } => kind == Kind::Boxes,
         _ => false,
     }
 }
@@ -50,6 +51,8 @@ pub(crate) fn is_out_of_range(w: Width, cmd: &Command) -> bool
         Command::Put { at, .. }
         | Command::Get { at }
         | Command::Del { at }
+        | Command::Near { q: at, .. }
+        | Command::Within { q: at, .. }
         | Command::Overlap { bounds: at }
         | Command::Inside { bounds: at }
         | Command::Covers { bounds: at } => !are_in_range(w, at),

@@ -113,6 +113,8 @@ impl Slot {
             Command::Window { lo, hi } => self.tree.list_window(lo, hi, out, text, visits),
             Command::Cursor { name, lo, hi } => tell(out, text, Ok(self.set_cursor(name, lo, hi))),
             Command::Page { name, n } => self.page(name, *n, out, text, visits),
+            Command::Near { q, n } => self.tree.list_near(alloc, q, *n, out, text, visits),
+            Command::Within { q, r } => self.tree.list_ball(q, *r, out, text, visits),
             Command::Overlap { bounds } => {
                 self.tree
                     .list_boxes(Question::Overlap, bounds, out, text, visits)

@@ -2,6 +2,7 @@
 ghost use Rattle.std.specs.Prelude.{◌≡◌, ◌<◌};
 
 mod boxes;
+mod distances;
 
 use crate::engine::Engine;
 use crate::program::top;

@@ -7,7 +7,7 @@ ghost use Rattle.ph_specs.specs.declared.Kind.TheVariants.{Boxes, Points};
 ghost use Rattle.ph_script.specs.Meaning.{numbers_of, reply_of};
 ghost use Rattle.ph_engine.specs.Doing.{Looked, Idled, ServedOr};
 ghost use Rattle.ph_io.specs.Giving.{taken_of};
-ghost use Rattle.ph_engine.specs.Listing.{ListsWindow, ListsBoxes, ListsAnyPage};
+ghost use Rattle.ph_engine.specs.Listing.{ListsWindow, ListsNear, ListsBall, ListsBoxes, ListsAnyPage};
 ghost use Rattle.ph_engine.specs.Slots.{any_table, empty_table, cursor_of, cursor_dims, slot_of, IsCursorIn, IsOfKind};
 ghost use Rattle.ph_engine.specs.Comparing.{IsCompared};
 ghost use Rattle.ph_engine.specs.Statuses.{StopHasCause};
@@ -17,6 +17,7 @@ use crate::commands::{
     are_same, clear_rows, count_rows, cursor_at, del_row, get_row, move_row, put_row,
 };
 use crate::cursors::AnyCursor;
+use crate::distances::{list_ball, list_near};
 use crate::listing::{list_page, list_window};
 use crate::status::{Answer, Stop};
 use ph_coord::Width;
@@ -227,6 +228,39 @@ impl AnyTree {
             (AnyTree::D8(a), AnyTree::D8(b)) => are_same(a, b, visits),
             _ => false,
         }
+    }
+
+    pub(crate) fn list_near<O: Sink, V: Ledger>(
+        &self,
+        alloc: Global,
+        q: &Coords,
+        n: u32,
+        out: &mut O,
+        text: &mut Text,
+        visits: &mut Steps<V>,
+    ) -> Result<Answer, Stop>
+        requires dims { length q.now ≡ (any_table self.now).dims }
+        requires range { list_all (fits (any_table self.now).tree.width) (numbers_of q.now) ≡ true }
+        ensures lists { ListsNear (any_table self.now) (numbers_of q.now) n (taken_of (O.written out.old) (O.amount out.old)) (taken_of (O.written out.new) (O.amount out.new)) visits.old visits.new result }
+        ensures cause { StopHasCause (O.faults out.old) (O.faults out.new) result }
+    {
+        with_tree!(self, tree => list_near(tree, alloc, q, n, out, text, visits))
+    }
+
+    pub(crate) fn list_ball<O: Sink, V: Ledger>(
+        &self,
+        q: &Coords,
+        r: u128,
+        out: &mut O,
+        text: &mut Text,
+        visits: &mut Steps<V>,
+    ) -> Result<Answer, Stop>
+        requires dims { length q.now ≡ (any_table self.now).dims }
+        requires range { list_all (fits (any_table self.now).tree.width) (numbers_of q.now) ≡ true }
+        ensures lists { ListsBall (any_table self.now) (numbers_of q.now) r (taken_of (O.written out.old) (O.amount out.old)) (taken_of (O.written out.new) (O.amount out.new)) visits.old visits.new result }
+        ensures cause { StopHasCause (O.faults out.old) (O.faults out.new) result }
+    {
+        with_tree!(self, tree => list_ball(tree, q, r, out, text, visits))
     }
 
     // Lists the boxes that a question lists, in a tree of boxes.

@@ -70,8 +70,9 @@ fn slots_beside_each_other(rt: HostRuntime) -> Result<(), Fail> {
 
 #[test]
 fn refused_dimensions_and_kinds(rt: HostRuntime) -> Result<(), Fail> {
-    let script = "open points 9\nopen boxes 5\noverlap 1 2\nopen boxes 1\nopen points 8\ncount\n";
-    let output = "error dims\nerror dims\nerror kind\nopened\nopened\ncount 0\n";
+    let script = "open points 9\nopen boxes 5\noverlap 1 2\nopen boxes 1\nnear 0 0 3\n\
+        open points 8\ncount\n";
+    let output = "error dims\nerror dims\nerror kind\nopened\nerror kind\nopened\ncount 0\n";
     check(&rt, rt.alloc(), &run(script, output, Status::Refused))?;
     Ok(())
 }

@@ -1,8 +1,8 @@
 use Rattle.std.proofs.Common.{length, refl, ap, ◌∙◌, arith}
 use Rattle.std.proofs.lemmas.Result.{err_from_is_err_and}
-use Rattle.ph_engine.specs.Slots.{table_at}
+use Rattle.ph_specs.specs.Reply.{Reply}
 use Rattle.ph_engine.proofs.Replies.{none_given, next-is}
-use Rattle.ph_engine.proofs.Listed.{row-given, row-front, none-left, window-said, few-rows}
+use Rattle.ph_engine.proofs.Listed.{item-given, item-front, none-left, items-said, few-rows}
 use Rattle.ph_engine.proofs.listing.list_between.Goals as goal
 
 pub rows-init : goal.rows-init
@@ -18,7 +18,7 @@ rows-preserved g c =
     let e = next-is c.rows.window.rows c.next.new.self.rows c.in-Some.row c.in-Some.ensures.row c.next.ensures.rest in
     record {
       later = omega (arith, c.rows.invariant.later, c.in_ok-say.ensures.cause.later);
-      given = row-given _ _ c.rows.window.rows c.next.new.self.rows c.in-Some.row _ _ _ c.rows.invariant.given e c.in_ok-say.ensures.told;
+      given = item-given Reply.RowIs _ _ c.rows.window.rows c.next.new.self.rows c.in-Some.row _ _ _ c.rows.invariant.given e c.in_ok-say.ensures.told;
       counted = omega (arith, c.rows.invariant.counted, ap (λ rs. length rs) e);
       cost = c.next.ensures.cost ∙ c.rows.invariant.cost;
     }
@@ -36,15 +36,16 @@ returns-in_err-say-clause-lists g c =
     let is = err_from_is_err_and c.from_residual.result c.from_residual.ensures.1 in
     rw (is.1, is.2)
     (record {
-      front = rw (← c.new-window.ensures.rows) (row-front _ _ c.rows.window.rows c.next.new.self.rows c.in-Some.row _ _ _ c.rows.invariant.given e c.in_err-say.ensures.front);
+      front = rw (← c.new-window.ensures.rows) (item-front Reply.RowIs _ _ c.rows.window.rows c.next.new.self.rows c.in-Some.row _ _ _ c.rows.invariant.given e c.in_err-say.ensures.front);
       fault = c.in_err-say.ensures.err;
       visited = omega (arith, c.rows.invariant.cost, c.next.ensures.cost, c.new-window.ensures.visits);
     })
 
 pub returns-clause-lists : goal.returns-clause-lists
 returns-clause-lists g c =
-    let t = table_at g.row.D c.args.tree.now in
     let none = none-left c.rows.window.rows c.in_default.ensures.row in
-    window-said t c.args.lo c.args.hi c.new-window.result.rows c.rows.window.rows c.rows.count c.args.visits.now c.next.new.visits _ _ _ c.say-2.result
-    c.new-window.ensures.rows c.rows.invariant.given none (omega (arith, c.rows.invariant.counted, ap (λ rs. length rs) none)) c.say-2.ensures.answer c.say-2.ensures.told c.say-2.ensures.err c.say-2.ensures.front
-    (omega (arith, c.rows.invariant.cost, c.next.ensures.cost, c.in_default.ensures.end refl, c.new-window.ensures.visits))
+    let n = c.new-window.result.visits in
+    rw (← c.new-window.ensures.rows, ← c.new-window.ensures.visits)
+    (items-said Reply.RowIs c.new-window.result.rows c.rows.window.rows (length c.new-window.result.rows) c.rows.count n n c.args.visits.now c.next.new.visits _ _ _ c.say-2.result
+    c.rows.invariant.given none (omega (arith, c.rows.invariant.counted, ap (λ rs. length rs) none)) c.say-2.ensures.answer c.say-2.ensures.told c.say-2.ensures.err c.say-2.ensures.front
+    (omega (arith, c.rows.invariant.cost, c.next.ensures.cost, c.in_default.ensures.end refl)) (omega (arith, c.rows.invariant.cost, c.next.ensures.cost, c.in_default.ensures.end refl)))

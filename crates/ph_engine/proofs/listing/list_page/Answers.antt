@@ -11,7 +11,7 @@ use Rattle.ph_engine.specs.Listing.{is_more, met}
 use Rattle.ph_engine.specs.Slots.{table_at}
 use Rattle.ph_engine.specs.Writing.{WritesFront}
 use Rattle.ph_engine.proofs.Replies.{none_given}
-use Rattle.ph_engine.proofs.Listed.{row-given, row-front, none-left, page-step, page-rest, page-said, page-cut, more-by}
+use Rattle.ph_engine.proofs.Listed.{item-given, item-front, none-left, page-step, page-rest, page-said, page-cut, more-by}
 use Rattle.ph_engine.proofs.listing.list_page.Goals as goal
 
 pub rows-init : goal.rows-init
@@ -35,7 +35,7 @@ rows-preserved g c =
     let e = page-step old.rows new.rows old.left new.left c.in-Some.row goes.0 goes.1 in
     record {
       later = omega (arith, c.rows.invariant.later, c.in_ok-say.ensures.cause.later);
-      given = λ tail. row-given _ tail (take old.left old.rows) (take new.left new.rows) c.in-Some.row _ _ _ (c.rows.invariant.given tail) e c.in_ok-say.ensures.told;
+      given = λ tail. item-given Reply.RowIs _ tail (take old.left old.rows) (take new.left new.rows) c.in-Some.row _ _ _ (c.rows.invariant.given tail) e c.in_ok-say.ensures.told;
       counted = omega (arith, c.rows.invariant.counted, ap (λ rs. length rs) e);
       behind = sym (page-rest old.rows new.rows old.left new.left c.in-Some.row goes.0 goes.1) ∙ c.rows.invariant.behind;
       lo = ap (λ x. x.lo) goes.2 ∙ c.rows.invariant.lo;
@@ -62,7 +62,7 @@ returns-in_err-say-clause-lists g c =
     rw (is.1, is.2)
     (record {
       front = subst (λ rs. WritesFront (taken_of (g.O.Sink.written c.args.out.now) (g.O.Sink.amount c.args.out.now)) (taken_of (g.O.Sink.written c.say.new.out) (g.O.Sink.amount c.say.new.out)) (replies_text (row_replies rs ++ tail))) whole
-          (row-front _ tail (take old.left old.rows) (take new.left new.rows) c.in-Some.row _ _ _ (c.rows.invariant.given tail) e c.in_err-say.ensures.front);
+          (item-front Reply.RowIs _ tail (take old.left old.rows) (take new.left new.rows) c.in-Some.row _ _ _ (c.rows.invariant.given tail) e c.in_err-say.ensures.front);
       fault = c.in_err-say.ensures.err;
       visited = omega (arith, c.rows.invariant.cost, c.next.ensures.cost, few, c.page-page.ensures.cost);
     })

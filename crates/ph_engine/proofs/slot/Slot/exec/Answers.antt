@@ -5,7 +5,7 @@ use Rattle.ph_script.specs.Meaning.{command_of, reply_of, numbers_of}
 use Rattle.ph_engine.specs.Slots.{any_table, named, slot_of}
 use Rattle.ph_engine.proofs.Commanded.{done-served, done-begun, done-refused}
 use Rattle.ph_engine.proofs.Plain.{plain-put, plain-get, plain-del, plain-move, plain-count, plain-clear}
-use Rattle.ph_engine.proofs.Paged.{listing-done}
+use Rattle.ph_engine.proofs.Paged.{listing-done, rows-good, hits-good, near-done}
 use Rattle.ph_engine.proofs.Refused.{refused-begun, unrefused-arm}
 use Rattle.ph_engine.proofs.Slotted.{slot-keeps, same-frame, put-frame, del-frame, move-frame, clear-frame}
 use Rattle.ph_engine.proofs.slot.Slot.exec.Goals as goal
@@ -104,7 +104,7 @@ returns-in-Window-clause-done g c =
     let t = any_table c.self.inside.tree in
     let cursors = named c.self.inside.cursors.items in
     let unrefused = unrefused-arm (slot_of kind t cursors) c.args.self.now c.args.cmd.now _ c.self.view_is c.in-Window.is c.in_default.ensures in
-    rw (c.in-Window.is, ← c.self.view_is) (listing-done (slot_of kind t cursors) (Asked.Window (numbers_of c.in-Window.lo) (numbers_of c.in-Window.hi)) _ _ _ _ c.args.visits.now c.list_window.new.visits c.args.changes.now c.list_window.result unrefused (λ most files fault. refl) (λ files. refl) (λ files. refl) refl c.list_window.ensures.lists)
+    rw (c.in-Window.is, ← c.self.view_is) (listing-done (slot_of kind t cursors) (Asked.Window (numbers_of c.in-Window.lo) (numbers_of c.in-Window.hi)) _ _ _ _ _ c.args.visits.now c.list_window.new.visits c.args.changes.now unrefused (λ most files fault. refl) (λ files. refl) (λ files. refl) c.list_window.result refl (rows-good _) c.list_window.ensures.lists)
 
 pub returns-in-Cursor-clause-done : goal.returns-in-Cursor-clause-done
 returns-in-Cursor-clause-done g c =
@@ -119,7 +119,7 @@ returns-in-Overlap-clause-done g c =
     let t = any_table c.self.inside.tree in
     let cursors = named c.self.inside.cursors.items in
     let unrefused = unrefused-arm (slot_of kind t cursors) c.args.self.now c.args.cmd.now _ c.self.view_is c.in-Overlap.is c.in_default.ensures in
-    rw (c.in-Overlap.is, ← c.self.view_is) (listing-done (slot_of kind t cursors) (Asked.Overlap (numbers_of c.in-Overlap.bounds)) _ _ _ _ c.args.visits.now c.list_boxes.new.visits c.args.changes.now c.list_boxes.result unrefused (λ most files fault. refl) (λ files. refl) (λ files. refl) refl c.list_boxes.ensures.lists)
+    rw (c.in-Overlap.is, ← c.self.view_is) (listing-done (slot_of kind t cursors) (Asked.Overlap (numbers_of c.in-Overlap.bounds)) _ _ _ _ _ c.args.visits.now c.list_boxes.new.visits c.args.changes.now unrefused (λ most files fault. refl) (λ files. refl) (λ files. refl) c.list_boxes.result refl (rows-good _) c.list_boxes.ensures.lists)
 
 pub returns-in-Inside-clause-done : goal.returns-in-Inside-clause-done
 returns-in-Inside-clause-done g c =
@@ -127,7 +127,7 @@ returns-in-Inside-clause-done g c =
     let t = any_table c.self.inside.tree in
     let cursors = named c.self.inside.cursors.items in
     let unrefused = unrefused-arm (slot_of kind t cursors) c.args.self.now c.args.cmd.now _ c.self.view_is c.in-Inside.is c.in_default.ensures in
-    rw (c.in-Inside.is, ← c.self.view_is) (listing-done (slot_of kind t cursors) (Asked.Inside (numbers_of c.in-Inside.bounds)) _ _ _ _ c.args.visits.now c.list_boxes-in-Inside.new.visits c.args.changes.now c.list_boxes-in-Inside.result unrefused (λ most files fault. refl) (λ files. refl) (λ files. refl) refl c.list_boxes-in-Inside.ensures.lists)
+    rw (c.in-Inside.is, ← c.self.view_is) (listing-done (slot_of kind t cursors) (Asked.Inside (numbers_of c.in-Inside.bounds)) _ _ _ _ _ c.args.visits.now c.list_boxes-in-Inside.new.visits c.args.changes.now unrefused (λ most files fault. refl) (λ files. refl) (λ files. refl) c.list_boxes-in-Inside.result refl (rows-good _) c.list_boxes-in-Inside.ensures.lists)
 
 pub returns-in-Covers-clause-done : goal.returns-in-Covers-clause-done
 returns-in-Covers-clause-done g c =
@@ -135,4 +135,20 @@ returns-in-Covers-clause-done g c =
     let t = any_table c.self.inside.tree in
     let cursors = named c.self.inside.cursors.items in
     let unrefused = unrefused-arm (slot_of kind t cursors) c.args.self.now c.args.cmd.now _ c.self.view_is c.in-Covers.is c.in_default.ensures in
-    rw (c.in-Covers.is, ← c.self.view_is) (listing-done (slot_of kind t cursors) (Asked.Covers (numbers_of c.in-Covers.bounds)) _ _ _ _ c.args.visits.now c.list_boxes-in-Covers.new.visits c.args.changes.now c.list_boxes-in-Covers.result unrefused (λ most files fault. refl) (λ files. refl) (λ files. refl) refl c.list_boxes-in-Covers.ensures.lists)
+    rw (c.in-Covers.is, ← c.self.view_is) (listing-done (slot_of kind t cursors) (Asked.Covers (numbers_of c.in-Covers.bounds)) _ _ _ _ _ c.args.visits.now c.list_boxes-in-Covers.new.visits c.args.changes.now unrefused (λ most files fault. refl) (λ files. refl) (λ files. refl) c.list_boxes-in-Covers.result refl (rows-good _) c.list_boxes-in-Covers.ensures.lists)
+
+pub returns-in-Near-clause-done : goal.returns-in-Near-clause-done
+returns-in-Near-clause-done g c =
+    let kind = c.self.inside.kind in
+    let t = any_table c.self.inside.tree in
+    let cursors = named c.self.inside.cursors.items in
+    let unrefused = unrefused-arm (slot_of kind t cursors) c.args.self.now c.args.cmd.now _ c.self.view_is c.in-Near.is c.in_default.ensures in
+    rw (c.in-Near.is, ← c.self.view_is) (near-done kind t cursors (numbers_of c.in-Near.q) c.in-Near.n _ _ c.args.visits.now c.list_near.new.visits c.args.changes.now c.list_near.result unrefused c.list_near.ensures.lists)
+
+pub returns-in-Within-clause-done : goal.returns-in-Within-clause-done
+returns-in-Within-clause-done g c =
+    let kind = c.self.inside.kind in
+    let t = any_table c.self.inside.tree in
+    let cursors = named c.self.inside.cursors.items in
+    let unrefused = unrefused-arm (slot_of kind t cursors) c.args.self.now c.args.cmd.now _ c.self.view_is c.in-Within.is c.in_default.ensures in
+    rw (c.in-Within.is, ← c.self.view_is) (listing-done (slot_of kind t cursors) (Asked.Within (numbers_of c.in-Within.q) c.in-Within.r) _ _ _ _ _ c.args.visits.now c.list_ball.new.visits c.args.changes.now unrefused (λ most files fault. refl) (λ files. refl) (λ files. refl) c.list_ball.result refl (hits-good (numbers_of c.in-Within.q) _) c.list_ball.ensures.lists)
