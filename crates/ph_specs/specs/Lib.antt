@@ -18,6 +18,7 @@ pub mod EntryEdits
 pub mod Digits
 pub mod Pack
 pub mod Record
+pub mod Layout
 pub mod Snapshot
 pub mod Load
 pub mod SnapshotOf
