@@ -20,6 +20,7 @@ pub fn digits_below(place: u32, word: u64) -> u64
 }
 
 /// The digits above a place, with zeros from the place down.
+#[inline(always)]
 pub fn digits_above(place: u32, word: u64) -> u64
     requires { place < 63 }
     ensures value { result ≡ word / 2 ^ (place + 1) * 2 ^ (place + 1) }
@@ -28,8 +29,9 @@ pub fn digits_above(place: u32, word: u64) -> u64
     word & (u64::MAX << (place + 1))
 }
 
-// The digit of an address at a place, as a digit at a level.
-pub(crate) fn address_digit(addr: u32, place: usize, level: u32) -> u64
+/// The digit of an address at a place, as a digit at a level.
+#[inline(always)]
+pub fn address_digit(addr: u32, place: usize, level: u32) -> u64
     requires place { place < 32 }
     requires level { level ≤ 61 }
     ensures value { result ≡ addr / 2 ^ place % 2 * 2 ^ level }

@@ -1,0 +1,15 @@
+mod Walks
+mod Made
+mod PlaceSteps
+mod Sharing
+mod SlotLists
+mod Stores
+mod FieldReads
+mod Replaced
+mod Codes
+mod PenSteps
+mod RowPlaces
+mod Folds
+mod Tables
+mod Packing
+mod Pieces

@@ -1,0 +1,5 @@
+use Rattle.ph_specs.proofs.laws.WordDigits.{each-fits}
+use Rattle.ph_bits.proofs.pens.are_words.Goals as goal
+
+pub returns : goal.returns
+returns c = each-fits c.args.all.now c.type_inv.all

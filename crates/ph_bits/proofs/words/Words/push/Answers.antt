@@ -1,0 +1,24 @@
+use Rattle.std.proofs.Common.{◌≡◌, ◌<◌, ◌+◌, ◌-◌, sym, ◌∙◌, ap, subst, arith, length, Some}
+use Rattle.std.proofs.lemmas.List.{length-set}
+use Rattle.ph_bits.specs.Block.{Block}
+use Rattle.ph_bits.specs.Slots.{AreWritten}
+use Rattle.ph_bits.proofs.SlotLists.{written-more}
+use Rattle.ph_bits.proofs.words.Words.push.Goals as goal
+
+pub invariant_of-self : goal.invariant_of-self
+invariant_of-self c =
+    let h = c.self.invariant in
+    let p = c.self.inside.places in
+    let n = c.self.inside.len in
+    let e = c.write.ensures in
+    let s : c.self.inside.room - n ≡ c.args.self.now.spare = ap (λ (b : Block). b.spare) c.self.view_is in
+    let l : n < length p.slots = omega (arith, s, c.requires, h.places) in
+    record {
+      start = h.start ∙ sym e.0;
+      right = h.right ∙ sym e.0;
+      whole = h.whole;
+      heap = h.heap;
+      places = ap length e.1 ∙ length-set p.slots n (Some c.args.word) ∙ h.places;
+      small = h.small;
+      written = subst (AreWritten (n + 1)) (sym e.1) (written-more n p.slots c.args.word h.written l);
+    }

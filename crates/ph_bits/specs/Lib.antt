@@ -1,0 +1,10 @@
+pub mod Block
+pub mod Edits
+pub mod Fields
+pub mod Lends
+pub mod LendsSlice
+pub mod Memory
+pub mod Packed
+pub mod Parts
+pub mod Slots
+pub mod Written

@@ -1,0 +1,38 @@
+//! Entries as a record has them.
+
+ghost use Rattle.std.specs.Prelude.{◌≡◌, ℕ, ◌<◌, Some, List, length, map, slice_get};
+ghost use Rattle.ph_specs.specs.Node.{Flat};
+ghost use Rattle.ph_specs.specs.Layout.{unvalued};
+
+use ph_coord::Dims;
+
+/// One entry of a record, as it is read or written. Of the body, the first D numbers are the fields, and
+/// the others are zeros. The rank is the place among the points or among the children.
+#[derive(Clone, Copy)]
+pub struct Packed {
+    pub addr: u32,
+    pub child: bool,
+    pub body: [u64; 16],
+    pub rank: usize,
+}
+
+/// Entries that are to be written.
+pub trait Entries<P: Dims> {
+    ghost use Rattle.ph_bits.specs.Packed.{read_of};
+
+    ghost list: { Self → List Flat };
+
+    fn count(&self) -> usize
+        ensures { result ≡ length (list self.now) };
+
+    /// Entry `i`. Its rank is any number, and so are the numbers behind the fields of its body.
+    fn at(&self, i: usize) -> Packed
+        requires { i < length (list self.now) }
+        ensures entry { slice_get (map unvalued (list self.now)) i ≡ Some (read_of P.D result) };
+
+    /// The value of point entry `i`.
+    fn value(&self, i: usize) -> u64
+        requires within { i < length (list self.now) }
+        requires point { (v : ℕ) × (slice_get (map (λ e. e.value) (list self.now)) i ≡ Some (Some v)) }
+        ensures { (v : ℕ) → slice_get (map (λ e. e.value) (list self.now)) i ≡ Some (Some v) → result ≡ v };
+}

@@ -1,0 +1,80 @@
+//! Fields of binary digits in words.
+
+ghost use Rattle.std.specs.Prelude.{◌≡◌, ◌≤◌, ◌<◌, ◌+◌, ◌*◌, ◌/◌, ◌%◌, ◌^◌, length};
+ghost use Rattle.ph_specs.specs.Digits.{digits_at};
+ghost use Rattle.ph_bits.specs.Fields.{IsPut, ones_in};
+
+use std::cmp::min;
+
+/// The number of the `width` digits that begin at digit `at`.
+///
+/// It reads the words of the first and of the last of these digits, which may be one word, and has no jump that depends on where they lie.
+#[inline(always)]
+pub fn field(words: &[u64], at: u64, width: u32) -> u64
+    requires width { width ≤ 64 }
+    requires inside { at + width ≤ 64 * length words.now }
+    ensures { result ≡ digits_at words.now at width }
+{
+    if width == 0 {
+        return 0;
+    }
+    let place = (at / 64) as usize;
+    let end = (at % 64) as u32 + width - 1;
+    let behind = 63 - end % 64;
+    let first = words[place];
+    let last = words[place + (end / 64) as usize];
+    let all = (last >> behind) + ((first << 1) << (63 - behind));
+    all & (u64::MAX >> (64 - width))
+}
+
+/// Puts `v` into the `width` digits that begin at digit `at`.
+pub fn set_field(words: &mut [u64], at: u64, width: u32, v: u64)
+    requires width { width ≤ 64 }
+    requires inside { at + width ≤ 64 * length words.old }
+    requires value { v < 2 ^ width }
+    ensures { IsPut words.old at width v words.new }
+{
+    if width == 0 {
+        return;
+    }
+    let place = (at / 64) as usize;
+    let room = 64 - (at % 64) as u32;
+    if width <= room {
+        words[place] = with_field(words[place], room - width, width, v);
+    } else {
+        let low = width - room;
+        let behind = 64 - low;
+        words[place] = with_field(words[place], 0, room, v >> low);
+        words[place + 1] = with_field(words[place + 1], behind, low, (v << behind) >> behind);
+    }
+}
+
+// A word with `v` in the `width` digits in front of the last `behind`.
+fn with_field(word: u64, behind: u32, width: u32, v: u64) -> u64
+    requires width { 0 < width }
+    requires inside { behind + width ≤ 64 }
+    requires value { v < 2 ^ width }
+    ensures { result + word / 2 ^ behind % 2 ^ width * 2 ^ behind ≡ word + v * 2 ^ behind }
+{
+    let old = (word << (64 - behind - width)) >> (64 - width);
+    word - (old << behind) + (v << behind)
+}
+
+/// How many of the `n` digits from digit `at` on are ones.
+#[inline(always)]
+pub fn ones_before(words: &[u64], at: u64, n: u64) -> u64
+    requires inside { at + n ≤ 64 * length words.now }
+    ensures { result ≡ ones_in words.now at n }
+{
+    let first = min(64 - at % 64, n);
+    let mut ones = field(words, at, first as u32).count_ones() as u64;
+    let mut place = (at / 64) as usize;
+    let mut left = n - first;
+    while left > 0 {
+        place += 1;
+        let width = min(64, left);
+        ones += (words[place] >> (64 - width)).count_ones() as u64;
+        left -= width;
+    }
+    ones
+}

@@ -1,0 +1,25 @@
+//! The bottom of a packed node: blocks of words, and fields of binary digits in them.
+//!
+//! The digits of each word are counted from its most significant end, so a list of words is a list of digits, and a
+//! field may begin in one word and end in the next.
+#![tactic(auto)]
+
+mod beside;
+mod entries;
+mod fields;
+mod joins;
+mod pens;
+mod places;
+mod rows;
+#[cfg(test)]
+mod tests;
+mod words;
+
+pub use beside::is_row;
+pub use entries::{Entries, Packed};
+pub use fields::{field, ones_before, set_field};
+pub use joins::join_row;
+pub use pens::{Pen, are_words};
+pub use rows::row;
+pub use std::alloc::AllocError as NoMemory;
+pub use words::Words;

@@ -1,0 +1,195 @@
+ghost use Rattle.std.specs.Prelude.{◌+◌, ◌<◌, ◌≤◌, ◌^◌};
+
+use super::*;
+use std::alloc::Global;
+use std::mem::size_of;
+use std::process::Abort;
+
+// Four words without a pattern.
+const WORDS: [u64; 4] = [
+    0x243f_6a88_85a3_08d3,
+    0x1319_8a2e_0370_7344,
+    0xa409_3822_299f_31d0,
+    0x082e_fa98_ec4e_6c89,
+];
+
+// A digit of the words, read by itself.
+fn digit(words: &[u64; 4], place: u64) -> u64
+    requires { place < 256 }
+{
+    let word = words[(place / 64) as usize];
+    (word >> (63 - place % 64) as u32) & 1
+}
+
+// A field that is read digit by digit.
+fn by_digits(words: &[u64; 4], at: u64, width: u32) -> u64
+    requires { at + width ≤ 256 }
+{
+    let mut number = 0;
+    for i in 0..width {
+        number = (number << 1) | digit(words, at + i as u64);
+    }
+    number
+}
+
+#[test]
+fn fields_at_every_place(rt: HostRuntime) {
+    for width in 1..65 {
+        for at in 0..128 {
+            let read = field(&WORDS, at, width);
+            assert_eq!(rt;
+                read,
+                by_digits(&WORDS, at, width),
+                "{width} digits at {at}"
+            );
+            let ones = ones_before(&WORDS, at, width as u64);
+            assert_eq!(rt; ones, read.count_ones() as u64, "{width} digits at {at}");
+        }
+    }
+}
+
+// The first digits of a word as a number.
+fn front(word: u64, width: u32) -> u64
+    requires { (1 ≤ width) × (width ≤ 64) }
+    ensures { result < 2 ^ width }
+{
+    word >> (64 - width)
+}
+
+#[test]
+fn fields_put_at_every_place(rt: HostRuntime) {
+    for width in 1..65 {
+        for at in 0..128 {
+            let v = front(WORDS[0], width);
+            let mut words = WORDS;
+            set_field(&mut words, at, width, v);
+            let end = at + width as u64;
+            assert_eq!(rt; by_digits(&words, at, width), v, "{width} digits at {at}");
+            for place in 0..256 {
+                if place < at || end <= place {
+                    assert_eq!(rt;
+                        digit(&words, place),
+                        digit(&WORDS, place),
+                        "{width} digits at {at}"
+                    );
+                }
+            }
+        }
+    }
+}
+
+#[test]
+fn many_ones(rt: HostRuntime) {
+    let all = [u64::MAX, 0, u64::MAX, u64::MAX];
+    for (at, n, want) in [
+        (0, 0, 0),
+        (0, 256, 192),
+        (63, 2, 1),
+        (64, 64, 0),
+        (1, 254, 190),
+        (128, 128, 128),
+    ] {
+        assert_eq!(rt; ones_before(&all, at, n), want, "{n} digits at {at}");
+    }
+}
+
+// Whether all words are zeros.
+fn are_zeros(words: &[u64]) -> bool {
+    words.iter().all(|word| *word == 0)
+}
+
+// A block of zeros, and what a reset leaves of it.
+fn block_of(rt: &impl Abort, alloc: Global, len: usize) -> Result<(), NoMemory>
+    requires { len < 2 ^ 32 }
+{
+    let mut words = Words::zeroed(alloc, len)?;
+    assert!(rt; words.len() == len);
+    assert!(rt; words.room() == len);
+    assert!(rt; are_zeros(words.as_slice()));
+    if len > 0 {
+        words.set(0, u64::MAX);
+        assert!(rt; words.get(0) == u64::MAX);
+    }
+    words.reset(len);
+    assert!(rt; are_zeros(words.as_slice()));
+    words.reset(0);
+    assert!(rt; words.len() == 0);
+    assert!(rt; words.room() == len);
+    if len > 0 {
+        words.push(9);
+        assert!(rt; words.as_slice() == [9].as_slice());
+    }
+    Ok(())
+}
+
+#[test]
+fn blocks(rt: HostRuntime) -> Result<(), NoMemory> {
+    assert!(rt; size_of::<Words>() == 16);
+    let mut words = Words::zeroed(rt.alloc(), 2)?;
+    set_field(words.as_mut_slice(), 60, 8, 0xab);
+    assert!(rt; words.get(0) == 0xa);
+    assert!(rt; words.get(1) == 0xb000_0000_0000_0000);
+    block_of(&rt, rt.alloc(), 0)?;
+    block_of(&rt, rt.alloc(), 1)?;
+    block_of(&rt, rt.alloc(), 1000)
+}
+
+#[test]
+fn written_fields(rt: HostRuntime) -> Result<(), NoMemory> {
+    let mut words = Words::with_room(rt.alloc(), 4)?;
+    words.push(7);
+    let mut pen = Pen::new();
+    pen.put(&mut words, 4, 0xa);
+    pen.put(&mut words, 0, 0);
+    pen.put(&mut words, 63, 0x7bcd_ef01_2345_6789);
+    pen.put_row(
+        &mut words,
+        12,
+        3,
+        &[0xabc, 0xdef, 0x012, 0, 0, 0, 0, 0, 0, 0, 0, 0, 0, 0, 0, 0],
+    );
+    pen.finish(&mut words);
+    words.push(8);
+    let want = [7, 0xaf79_bde0_2468_acf1, 0x3579_bde0_2400_0000, 8];
+    assert!(rt; words.as_slice() == want.as_slice());
+    Ok(())
+}
+
+#[test]
+fn rows_beside_numbers(rt: HostRuntime) {
+    for width in 1..40 {
+        for at in 0..30 {
+            let body = row(&WORDS, at, width, 3);
+            let numbers = [body[0], body[1], body[2]];
+            let other = [body[0], body[1], body[2] ^ 1];
+            assert!(rt;
+                is_row(&WORDS, at, width, 0, &numbers),
+                "{width} digits at {at}"
+            );
+            assert!(rt;
+                !is_row(&WORDS, at, width, 0, &other),
+                "{width} digits at {at}"
+            );
+            let even = (body[0] | body[1] | body[2]) & 1 == 0;
+            assert!(rt;
+                is_row(&WORDS, at, width, 1, &other) == even,
+                "{width} digits at {at}"
+            );
+        }
+    }
+}
+
+#[test]
+fn rows_behind_digits(rt: HostRuntime) {
+    let mut known = [0xf00, 0x100, 0x3ff];
+    join_row(&[0xabcd_ef00_0000_0000], 0, 8, 0b101, &mut known);
+    assert_eq!(rt; known, [0xfab, 0x0cd, 0x3ef]);
+    let mut wide = [0, 1 << 61, 1];
+    join_row(&WORDS, 64, 60, 0b010, &mut wide);
+    let first = [
+        field(&WORDS, 64, 60),
+        (1 << 61) + (1 << 60) + field(&WORDS, 124, 60),
+        field(&WORDS, 184, 60),
+    ];
+    assert_eq!(rt; wide, first);
+}
