@@ -1,0 +1,26 @@
+//! Cube records of nodes: the kinds and the bodies of all addresses, packed one behind the other, and then the values.
+//!
+//! The kind of an absent address is 0, of a point 1 and of a child 2. So each entry has exactly one digit 1 among the kinds,
+//! and its place is the number of ones in front of its kind. The calls at the root take the number of dimensions as a const
+//! parameter, and those in `by_dims` as an argument.
+#![tactic(auto)]
+
+mod fixed;
+mod known;
+mod parts;
+mod reads;
+mod searches;
+mod writes;
+
+pub use fixed::{
+    address, bits_of, entry, find, find_entry, is_child, next_at_or_after, rank, write,
+};
+
+/// The calls by a number of dimensions that is handed in. All are inlined, so that it is a constant again where the caller
+/// knows it.
+pub mod by_dims {
+    pub use crate::known::{body_at, is_child_at, rank_at};
+    pub use crate::reads::{address, bits_of, entry, find_entry, is_child, rank};
+    pub use crate::searches::{find, next_at_or_after, search};
+    pub use crate::writes::write;
+}

@@ -1,0 +1,17 @@
+use Rattle.std.proofs.Common.{◌≡◌, ◌+◌, ◌*◌, length, take}
+use Rattle.ph_specs.specs.Digits.{number_after}
+use Rattle.ph_specs.specs.Pack.{bodies}
+use Rattle.ph_bits.specs.Block.{IsSamePlaces}
+use Rattle.ph_bits.specs.Written.{IsPen, digits_by, number_by}
+use Rattle.ph_linear.specs.Written.{body_list}
+use Rattle.ph_linear.proofs.writes.put_bodies.Given as goal
+
+abbrev pub invariant-loop-i : goal.invariant-loop-i
+invariant-loop-i g l =
+    record {
+      end : l.i-end ≡ length (g.E.Entries.list l.fn.from);
+      pen : IsPen l.pen;
+      digits : digits_by l.words.words l.pen ≡ digits_by l.fn.words.words l.fn.pen + l.i * (g.P.Dims.D * l.fn.level);
+      number : number_by l.words.words l.pen ≡ number_after (number_by l.fn.words.words l.fn.pen) (bodies l.fn.level (body_list (take l.i (g.E.Entries.list l.fn.from))));
+      places : IsSamePlaces l.fn.words l.words;
+    }

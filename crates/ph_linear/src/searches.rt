@@ -1,0 +1,112 @@
+//! Places of addresses in a linear record, by halving.
+
+ghost use Rattle.std.specs.Prelude.{◌≡◌, ◌+◌, ◌-◌, ◌*◌, ◌/◌, ◌%◌, ◌^◌, ◌<◌, ◌≤◌, ◌==◌, nat_le, None, Some, false, length, position, IfOk, IfErr};
+ghost use Rattle.std.specs.List.{position_or_len};
+ghost use Rattle.ph_specs.specs.Record.{first_in};
+ghost use Rattle.ph_specs.specs.Layout.{IsRecord, entries_as, read_address};
+ghost use Rattle.ph_linear.specs.Linear.{addresses};
+
+use crate::heads::count_in;
+use crate::parts::address_at;
+use ph_bits::field;
+
+/// The place of the entry at an address.
+#[inline(always)]
+pub fn find(words: &[u64], dims: usize, addr: u32) -> Option<usize>
+    requires record { IsRecord false dims words.now }
+    ensures { result ≡ position (λ r. read_address r == addr) (entries_as false dims words.now) }
+{
+    match search(words, dims, addr) {
+        Ok(i) => Some(i),
+        Err(_) => None,
+    }
+}
+
+/// The place of the entry at an address, or else the place that an entry there would have.
+#[inline(always)]
+pub fn search(words: &[u64], dims: usize, addr: u32) -> Result<usize, usize>
+    requires record { IsRecord false dims words.now }
+    ensures found { IfOk result (λ i. Some i ≡ position (λ r. read_address r == addr) (entries_as false dims words.now)) }
+    ensures absent { IfErr result (λ i. None ≡ position (λ r. read_address r == addr) (entries_as false dims words.now)) }
+    ensures place { IfErr result (λ i. i ≡ position_or_len (λ r. nat_le addr (read_address r)) (entries_as false dims words.now)) }
+{
+    let count = count_in(words);
+    let i = place_of(words, dims, count, addr);
+    if i == count {
+        return Err(i as usize);
+    }
+    if address_at(words, dims, count, i) == addr as u64 {
+        Ok(i as usize)
+    } else {
+        Err(i as usize)
+    }
+}
+
+/// The place of the first entry whose address is at least `addr`.
+#[inline(always)]
+pub fn next_at_or_after(words: &[u64], dims: usize, addr: u32) -> Option<usize>
+    requires record { IsRecord false dims words.now }
+    ensures { result ≡ position (λ r. nat_le addr (read_address r)) (entries_as false dims words.now) }
+{
+    let count = count_in(words);
+    let i = place_of(words, dims, count, addr);
+    if i < count { Some(i as usize) } else { None }
+}
+
+// How many addresses are less than `addr`. Halves until the addresses that are left have no more than 64
+// digits, and then reads these at once.
+#[inline(always)]
+fn place_of(words: &[u64], dims: usize, count: u64, addr: u32) -> u64
+    requires record { IsRecord false dims words.now }
+    requires count { count ≡ (first_in words.now).entries }
+    ensures value { result ≡ position_or_len (λ a. nat_le addr a) (addresses dims words.now) }
+    ensures within { result ≤ count }
+{
+    let mut low = 0;
+    let mut high = count;
+    while (high - low) * dims as u64 > 64 {
+        let middle = low + (high - low) / 2;
+        if address_at(words, dims, count, middle) < (addr as u64) {
+            low = middle + 1;
+        } else {
+            high = middle;
+        }
+    }
+    let rest = field(
+        words,
+        64 + count + low * dims as u64,
+        ((high - low) * dims as u64) as u32,
+    );
+    low + less_in(rest, dims, high - low, addr)
+}
+
+// How many of `n` addresses that make a number together are less than `addr`. They are at most 64, and
+// mostly less than 16, so all are counted, without a jump that depends on them.
+#[inline(always)]
+fn less_in(all: u64, dims: usize, n: u64, addr: u32) -> u64
+    requires some { 1 ≤ dims }
+    requires few { dims ≤ 16 }
+    requires inside { n * dims ≤ 64 }
+    requires rise { (i : _) → (j : _) → i ≤ j → j < n → all / 2 ^ (dims * (n - 1 - i)) % 2 ^ dims ≤ all / 2 ^ (dims * (n - 1 - j)) % 2 ^ dims }
+    ensures within { result ≤ n }
+    ensures before { (i : _) → i < result → all / 2 ^ (dims * (n - 1 - i)) % 2 ^ dims < addr }
+    ensures after { (i : _) → result ≤ i → i < n → addr ≤ all / 2 ^ (dims * (n - 1 - i)) % 2 ^ dims }
+{
+    let mut less = 0;
+    for behind in 0..n {
+        if one_of(all, dims, behind) < (addr as u64) {
+            less += 1;
+        }
+    }
+    less
+}
+
+// The address that has so many others behind it.
+#[inline(always)]
+fn one_of(all: u64, dims: usize, behind: u64) -> u64
+    requires few { dims ≤ 16 }
+    requires inside { behind * dims < 64 }
+    ensures { result ≡ all / 2 ^ (dims * behind) % 2 ^ dims }
+{
+    (all >> (dims as u64 * behind)) & ((1 << dims) - 1)
+}

@@ -1,0 +1,16 @@
+use Rattle.std.proofs.Common.{ap, sym, ◌∙◌, take, slice_index_or, arith}
+use Rattle.std.specs.Prelude.{Some}
+use Rattle.ph_specs.specs.Record.{read}
+use Rattle.ph_record_trials.specs.Listed.{body_of}
+use Rattle.ph_record_trials.proofs.Lists.{no_item, length-flats, read-at, kept}
+use Rattle.ph_record_trials.proofs.items.ItemsEntries.at.Goals as goal
+
+pub returns : goal.returns
+returns g c =
+    let d = g.P.Dims.D in
+    let es = c.args.self.now.items.now in
+    let e = slice_index_or es c.args.i no_item in
+    record {
+      entry = read-at d es c.args.i (omega (arith, c.requires, length-flats d es))
+          ∙ ap Some (kept e.value c.is_none.result e.addr (take d (body_of e.fields)) c.is_none.ensures ∙ ap (λ t. read c.is_none.result e.addr (take d t)) (sym c.body_of-body.ensures));
+    }

@@ -1,0 +1,12 @@
+//! Records of at most two dimensions: lists of entries that are written as records and compared with what is read of them.
+#![tactic(auto)]
+
+mod backs;
+mod items;
+mod records;
+#[cfg(test)]
+mod tests;
+
+pub use backs::{is_cube_back, is_linear_back};
+pub use items::{Item, Items};
+pub use records::{cube_of, linear_of};

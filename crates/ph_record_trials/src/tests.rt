@@ -1,0 +1,166 @@
+//! Records by hand, and all small records.
+
+ghost use Rattle.std.specs.Prelude.{◌≤◌};
+
+use crate::{Item, cube_of, is_cube_back, is_linear_back, linear_of};
+use ph_bits::Words;
+use std::alloc::Global;
+
+fn point(addr: u32, fields: (u64, u64), value: u64) -> Item {
+    Item {
+        addr,
+        fields,
+        value: Some(value),
+    }
+}
+
+fn child(addr: u32, fields: (u64, u64)) -> Item {
+    Item {
+        addr,
+        fields,
+        value: None,
+    }
+}
+
+// Whether both records of a list are made, and read as the list.
+fn is_back<const D: usize>(alloc: Global, level: u32, items: &[Item]) -> bool
+    requires some { 1 ≤ D }
+    requires few { D ≤ 2 }
+{
+    let Some(linear) = linear_of::<D>(alloc, level, items) else {
+        return false;
+    };
+    let Some(cube) = cube_of::<D>(alloc, level, items) else {
+        return false;
+    };
+    is_linear_back(linear.as_slice(), D, items) && is_cube_back(cube.as_slice(), D, items)
+}
+
+// The entries that a code in base 3 names: at each address nothing, a point or a child.
+fn items_of(code: u32, level: u32, seed: u64) -> ([Item; 4], usize)
+    requires { level ≤ 3 }
+    ensures { result.1 ≤ 4 }
+{
+    let mut items = [child(0, (0, 0)); 4];
+    let mut count = 0;
+    let mut rest = code;
+    for addr in 0..4u32 {
+        let number = addr as u64 * 3 + seed % 8 * 5 + 1;
+        let fields = (number % (1 << level), (number / 3) % (1 << level));
+        let item = match rest % 3 {
+            1 => Some(point(addr, fields, number * 1000)),
+            2 => Some(child(addr, fields)),
+            _ => None,
+        };
+        rest /= 3;
+        if let Some(item) = item {
+            items[count] = item;
+            count += 1;
+        }
+    }
+    (items, count)
+}
+
+// Whether all lists at a level, of a few bodies each, give records that are read as the lists.
+fn are_all_back<const D: usize>(alloc: Global, level: u32, codes: u32) -> bool
+    requires some { 1 ≤ D }
+    requires few { D ≤ 2 }
+    requires low { level ≤ 3 }
+{
+    for code in 1..codes {
+        for seed in 0..4 {
+            let (items, count) = items_of(code, level, seed);
+            let all = &items[..count];
+            let is_lawful = level > 0 || all.iter().all(|item| item.value.is_some());
+            if is_lawful && !is_back::<D>(alloc, level, all) {
+                return false;
+            }
+        }
+    }
+    true
+}
+
+// Whether a record was made, and has these words.
+fn has_words(record: Option<Words>, want: &[u64]) -> bool {
+    match record {
+        Some(words) => *words.as_slice() == *want,
+        None => false,
+    }
+}
+
+#[test]
+fn records_by_hand(rt: HostRuntime) {
+    let alloc = rt.alloc();
+    let across = linear_of::<2>(alloc, 31, &[point(3, (3, 4), 17)]);
+    assert!(rt; has_words(across, &[0x1f00000001000000, 0x60000000c0000002, 0, 0x11]));
+    let ends = linear_of::<2>(alloc, 0, &[point(0, (0, 0), 1), point(3, (0, 0), 2)]);
+    assert!(rt; has_words(ends, &[0x0000000002000000, 0x0c00000000000000, 1, 2]));
+    let three = [
+        point(0, (0, 0), 1),
+        point(1, (0, 0), 3),
+        point(3, (0, 0), 2),
+    ];
+    let three = cube_of::<2>(alloc, 0, &three);
+    assert!(rt; has_words(three, &[0x0001000003000000, 0x5100000000000000, 1, 3, 2]));
+    let both = [child(0, (2, 0)), point(1, (1, 0), 9)];
+    let linear = linear_of::<1>(alloc, 2, &both);
+    assert!(rt; has_words(linear, &[0x0200000002000001, 0x9900000000000000, 9]));
+    let cube = cube_of::<1>(alloc, 2, &both);
+    assert!(rt; has_words(cube, &[0x0201000002000001, 0x9900000000000000, 9]));
+    let pair = [point(0, (1, 3), 7), child(3, (2, 0))];
+    let pair = linear_of::<2>(alloc, 2, &pair);
+    assert!(rt; has_words(pair, &[0x0200000002000001, 0x4de0000000000000, 7]));
+    let full = [
+        point(0, (1, 0), 5),
+        point(1, (0, 0), 6),
+        child(2, (0, 0)),
+        point(3, (1, 1), 8),
+    ];
+    let full = cube_of::<2>(alloc, 1, &full);
+    assert!(rt; has_words(full, &[0x0101000004000001, 0x5983000000000000, 5, 6, 8]));
+}
+
+#[test]
+fn all_small_records(rt: HostRuntime) {
+    for level in 0..4 {
+        assert!(rt;
+            are_all_back::<1>(rt.alloc(), level, 9),
+            "1 dimension, level {level}"
+        );
+        assert!(rt;
+            are_all_back::<2>(rt.alloc(), level, 81),
+            "2 dimensions, level {level}"
+        );
+    }
+}
+
+// Each read of a layout at a const parameter, of a record of three entries.
+macro_rules! read_three {
+    ($layout:ident, $rt:expr, $words:expr) => {{
+        assert_eq!($rt; $layout::find::<2>($words, 3), Some(2));
+        assert_eq!($rt; $layout::find::<2>($words, 2), None);
+        assert_eq!($rt; $layout::next_at_or_after::<2>($words, 2), Some(2));
+        let entry = $layout::entry::<2>($words, 2);
+        assert_eq!($rt; (entry.addr, entry.child, entry.rank), (3, false, 1));
+        assert_eq!($rt; (entry.body[0], entry.body[1], entry.body[2]), (2, 1, 0));
+        assert!($rt; $layout::find_entry::<2>($words, 1).is_some());
+        assert_eq!($rt; $layout::address::<2>($words, 1), 1);
+        assert!($rt; $layout::is_child::<2>($words, 1));
+        assert_eq!($rt; $layout::rank::<2>($words, 2), 1);
+    }};
+}
+
+#[test]
+fn reads_at_a_const_parameter(rt: HostRuntime) {
+    let three = [point(0, (1, 2), 5), child(1, (3, 0)), point(3, (2, 1), 7)];
+    let Some(linear) = linear_of::<2>(rt.alloc(), 2, &three) else {
+        panic!(rt; "no linear record");
+    };
+    read_three!(ph_linear, rt, linear.as_slice());
+    assert_eq!(rt; ph_linear::bits_of::<2>(3, 2), 21);
+    let Some(cube) = cube_of::<2>(rt.alloc(), 2, &three) else {
+        panic!(rt; "no cube record");
+    };
+    read_three!(ph_cube, rt, cube.as_slice());
+    assert_eq!(rt; ph_cube::bits_of::<2>(3, 2), 24);
+}
