@@ -1,11 +1,11 @@
 -- A sweep before its first step.
-use Rattle.std.proofs.Common.{◌≡◌, ℕ, ◌+◌, ◌-◌, ◌*◌, ◌<◌, ◌≤◌, List, [], ◌∷◌, length, take, map, replicate, sym, ◌∙◌, ap, subst, arith, true, le-leb}
+use Rattle.std.proofs.Common.{◌≡◌, ℕ, ◌+◌, ◌-◌, ◌*◌, ◌≤◌, List, [], ◌∷◌, length, take, map, replicate, sym, ◌∙◌, ap, subst, arith, true, le-leb}
 use Rattle.std.specs.Prelude.{ℤ, Option, nat_le, nat_abs, ◌-ℤ◌}
 use Rattle.std.proofs.lemmas.Int.{ints}
 use Rattle.ph_specs.specs.BallSearch.{ball_listed, ball_opened}
 use Rattle.ph_specs.specs.Coordinate.{offset, coordinate, IsPoint}
 use Rattle.ph_specs.specs.Distance.{distance, within}
-use Rattle.ph_specs.specs.Lawful.{IsBody, put_together}
+use Rattle.ph_specs.specs.Lawful.{IsBody}
 use Rattle.ph_specs.specs.Node.{PlainNode}
 use Rattle.ph_specs.specs.PutTree.{body_above}
 use Rattle.ph_specs.specs.Region.{Region, is_in, least_distance}
@@ -18,8 +18,8 @@ use Rattle.ph_specs.proofs.lemmas.PointDigits.{point-whole}
 use Rattle.ph_specs.proofs.laws.BallSearch.{ball_listed-shape, ball_opened-shape}
 use Rattle.ph_specs.proofs.laws.Bound.{least_distance-point}
 use Rattle.ph_zorder.proofs.Decided.{is_body-point}
-use Rattle.ph_path.specs.Known.{Known, known_at, AreKnown}
-use Rattle.ph_path.proofs.Knowns.{above-from, above-top, joined-body, offsets-point, start-known}
+use Rattle.ph_path.specs.Known.{Known, known_at}
+use Rattle.ph_path.proofs.Knowns.{above-from, above-top, offsets-point, start-known}
 use Rattle.ph_near.specs.BallSphere.{Sphere, sphere_at, IsSphere, center_of}
 
 -- ---- the sphere
@@ -44,12 +44,14 @@ module _ (d w r : ℕ) (q : List ℤ) (s : Sphere) (root : Option PlainNode) (h 
   start-nodes =
       ap (λ t. length (ball_opened s.width d t s.radius root)) (center-is d w r q s h e) ∙ ap (λ s. length (ball_opened s.width d q s.radius root)) e
 
--- an entry that is joined
-pub joined-sphere : (d w r level a : ℕ) (known center body : List ℕ) (seen : Sphere) → sphere_at w known center r ≡ seen → IsSphere d (sphere_at w known center r) → level < seen.width → IsBody d level body → (k : Known) → k ≡ known_at w (put_together level a (body_above level known) body) → IsSphere d (sphere_at k.width k.digits center r)
-joined-sphere d w r level a known center body seen v h l b k e =
-    let o : AreKnown d (known_at w known) = h.known in
-    let j : AreKnown d (known_at w (put_together level a (body_above level known) body)) = record { some = o.some; few = o.few; wide = o.wide; narrow = o.narrow; digits = joined-body d w level a known body (subst (λ s. level < s.width) (sym v) l) o.digits b } in
-    subst (λ k. IsSphere d (sphere_at k.width k.digits center r)) (sym e) (record { known = j; center = h.center })
+-- other digits of the same width
+pub joined-sphere : {d w r : ℕ} {known center digits : List ℕ} → IsSphere d (sphere_at w known center r) → (k : Known) → k.width ≡ w → IsBody d k.width digits → digits ≡ k.digits → IsSphere d (sphere_at k.width k.digits center r)
+joined-sphere {d} {center = center} h k e b f =
+    let o = h.known in
+    record {
+      known = record { some = o.some; few = o.few; wide = omega (arith, e, o.wide); narrow = omega (arith, e, o.narrow); digits = subst (IsBody d k.width) f b };
+      center = subst (λ n. IsBody d n center) (sym e) h.center;
+    }
 
 -- ---- the root
 

@@ -24,6 +24,8 @@ use Rattle.ph_node.specs.declared.reads.WhatOf.TheVariants.{Value, Child}
 use Rattle.ph_node.specs.Merge.{addr_at}
 use Rattle.ph_node.specs.Shown.{what_of}
 use Rattle.ph_node.specs.Split.{body_at}
+use Rattle.ph_node.specs.Spots.{IsSpot}
+use Rattle.ph_node.specs.declared.spots.Spot.{Spot}
 use Rattle.ph_near.specs.declared.waiting.WaitingOf.{WaitingOf}
 use Rattle.ph_near.specs.Waiting.{held_item, item_of, queue_of, IsWaiting, AreWaiting}
 use Rattle.ph_near.specs.Queue.{entry_at, what_item, entry_item}
@@ -38,28 +40,26 @@ held-what : (w level : ℕ) (known : List ℕ) (h : WhatOf PlainNode) → held_i
 held-what w level known (Value v) = refl
 held-what w level known (Child c) = refl
 
--- what is known behind entry i of a node, once it is joined
-module _ (w d i e t : ℕ) (n : PlainNode) (above given known : List ℕ) (l : n.level < w) (h : IsAbove d n.level above) (k : IsBody d w above) (b : IsBody d n.level given) (j : known ≡ put_together e t (body_above e above) given) (f : e ≡ n.level) where
-  joined-is : known ≡ put_together n.level t above given
-  joined-is =
-      j ∙ ap (λ m. put_together m t (body_above m above) given) f
-      ∙ ap (λ u. put_together n.level t u given) (sym (above-zeros n.level above h.zeros))
+-- what is known behind an entry of a node, once it is joined
+module _ (w d : ℕ) (n : PlainNode) (s : Spot) (above known : List ℕ) (l : n.level < w) (h : IsAbove d n.level above) (k : IsBody d w above) (b : IsBody d n.level (body_at (entries n) s.place)) (j : known ≡ put_together n.level s.addr (body_above n.level above) (body_at (entries n) s.place)) where
+  joined-is : known ≡ put_together n.level s.addr above (body_at (entries n) s.place)
+  joined-is = j ∙ ap (λ u. put_together n.level s.addr u (body_at (entries n) s.place)) (sym (above-zeros n.level above h.zeros))
 
   pub joined-body : IsBody d w known
   joined-body =
       subst (IsBody d w) (sym joined-is) (
-        length-put_together n.level t above given (h.long ∙ sym b.0) ∙ h.long,
-        put_together-small w n.level t above given l h.zeros k.1 b.1,
+        length-put_together n.level s.addr above (body_at (entries n) s.place) (h.long ∙ sym b.0) ∙ h.long,
+        put_together-small w n.level s.addr above (body_at (entries n) s.place) l h.zeros k.1 b.1,
       )
 
-  pub joined-item : (x : WaitingOf PlainNode d) → x.known ≡ known → x.level ≡ e - 1 → t ≡ addr_at (entries n) i → given ≡ body_at (entries n) i → what_of x.what ≡ what_at (entries n) i → item_of w x ≡ entry_item w n.level above (entry_at (entries n) i)
-  joined-item x p q a c o =
+  pub joined-item : (x : WaitingOf PlainNode d) (i : ℕ) → x.known ≡ known → x.level ≡ n.level - 1 → IsSpot (entries n) s → what_of x.what ≡ what_at (entries n) s.place → s.place ≡ i → item_of w x ≡ entry_item w n.level above (entry_at (entries n) i)
+  joined-item x i p q a o at =
       held-what w x.level x.known x.what
-      ∙ ap (λ m. what_item w m x.known (what_of x.what)) (q ∙ ap (λ m. m - 1) f)
+      ∙ ap (λ m. what_item w m x.known (what_of x.what)) q
       ∙ ap (λ u. what_item w (n.level - 1) u (what_of x.what)) (p ∙ joined-is)
-      ∙ ap (λ m. what_item w (n.level - 1) (put_together n.level m above given) (what_of x.what)) a
-      ∙ ap (λ u. what_item w (n.level - 1) (put_together n.level (addr_at (entries n) i) above u) (what_of x.what)) c
-      ∙ ap (what_item w (n.level - 1) (put_together n.level (addr_at (entries n) i) above (body_at (entries n) i))) o
+      ∙ ap (λ m. what_item w (n.level - 1) (put_together n.level m above (body_at (entries n) s.place)) (what_of x.what)) a.address
+      ∙ ap (what_item w (n.level - 1) (put_together n.level (addr_at (entries n) s.place) above (body_at (entries n) s.place))) o
+      ∙ ap (λ i. entry_item w n.level above (entry_at (entries n) i)) at
 
 -- ---- all entries
 

@@ -13,7 +13,6 @@ ghost use Rattle.ph_near.specs.Queue.{entry_item, entry_at};
 
 use crate::waiting::Waiting;
 use ph_coord::Width;
-use ph_digits::join;
 use ph_node::{NoMemory, NodeRef, WhatOf};
 use ph_zorder::{offset_distance, offset_least_distance};
 use std::collections::BinaryHeap;
@@ -66,9 +65,10 @@ fn waiting<'t, const D: usize>(
     let _bits = w.bits();
     let level = node.level();
     let below = level.saturating_sub(1);
+    let spot = node.spot(i);
     let mut known = *above;
-    join(&mut known, level, node.address(i), node.body(i));
-    let what = node.what(i);
+    node.join(spot, &mut known);
+    let what = node.what(spot);
     let distance = match what {
         WhatOf::Value(_) => offset_distance(w, &known, q),
         WhatOf::Child(_) => offset_least_distance(w, below, &known, q),

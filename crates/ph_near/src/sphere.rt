@@ -2,12 +2,17 @@
 ghost use Rattle.std.specs.Prelude.{◌≡◌, ◌<◌, ◌≤◌, length, take, map, replicate};
 ghost use Rattle.ph_specs.specs.Coordinate.{offset, IsPoint};
 ghost use Rattle.ph_specs.specs.Distance.{distance};
-ghost use Rattle.ph_specs.specs.Lawful.{IsBody, put_together};
+ghost use Rattle.ph_specs.specs.Lawful.{put_together};
+ghost use Rattle.ph_specs.specs.Node.{entries};
 ghost use Rattle.ph_specs.specs.PutTree.{body_above};
+ghost use Rattle.ph_node.specs.Shown.{shown};
+ghost use Rattle.ph_node.specs.Split.{body_at};
+ghost use Rattle.ph_node.specs.Spots.{IsSpot};
 ghost use Rattle.ph_path.specs.Known.{known_at, point_at};
 ghost use Rattle.ph_near.specs.BallSphere.{sphere_at, reaches};
 
 use ph_coord::{Dims, Width, offsets_of};
+use ph_node::{NodeOf, NodeRefOf, Spot};
 use ph_path::KnownOf;
 use ph_zorder::{offset_distance, offset_least_distance};
 use std::marker::Model;
@@ -54,13 +59,15 @@ impl<P: Dims> SphereOf<P> {
         &self.known
     }
 
-    // Puts the digits of an entry behind those that are known above its level.
-    pub(crate) fn join(&mut self, level: u32, addr: u32, body: &[u64])
-        requires level { level < self.old.width }
-        requires body { IsBody P.D level body.now }
-        ensures { self.new ≡ record self.old { known = put_together level addr (body_above level self.old.known) body.now } }
+    // Puts the digits of an entry behind those that are known above its node's level.
+    pub(crate) fn join(&mut self, node: NodeRefOf<'_, NodeOf<P>>, spot: Spot)
+        requires level { (shown node).level < self.old.width }
+        requires spot { IsSpot (entries (shown node)) spot }
+        ensures { self.new ≡ record self.old { known = put_together (shown node.entry).level spot.addr (body_above (shown node.entry).level self.old.known) (body_at (entries (shown node.entry)) spot.place) } }
     {
-        self.known.join(level, addr, body);
+        self.known.join(node, spot);
+        // A use that makes known that the digits fit the width.
+        let _digits = self.known.digits();
     }
 
     // How far the point with the digits at hand is.

@@ -124,8 +124,9 @@ fn join_entry<'t, P: Dims>(
     requires level { (shown node).level < sphere.old.width }
     ensures { HasJoined sphere.old (shown node.entry) place sphere.new (what_of result) }
 {
-    sphere.join(node.level(), node.address(place), node.body(place));
-    node.what(place)
+    let spot = node.spot(place);
+    sphere.join(node, spot);
+    node.what(spot)
 }
 
 // A frame in front of all entries.

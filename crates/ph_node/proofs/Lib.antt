@@ -1,7 +1,27 @@
 -- Lemmas on nodes.
 pub mod Filled
-mod Items
-mod Keeps
 pub mod Merges
+mod Additions
+mod Assembled
+mod Contents
+mod EditReads
+mod Fitting
+mod Halves
+mod Keeps
+mod Lent
+mod Lifts
+mod Listings
+mod Lists
+mod Made
+mod OldEdits
+mod OldNodes
+mod PairLists
 mod Parts
 mod Places
+mod Reading
+mod Removed
+mod Slotted
+mod Spliced
+mod Standing
+mod ValuePlaces
+mod Valued

@@ -1,17 +1,13 @@
 -- The two entries of a child that splits an entry.
-use Rattle.std.proofs.Common.{◌≡◌, ◌≢◌, ℕ, ◌+◌, ◌<◌, List, [], ◌∷◌, map, cond, nat_lt, take, arith, ap, ◌∙◌, subst}
+use Rattle.std.proofs.Common.{◌≡◌, ◌≢◌, ℕ, ◌+◌, ◌<◌, List, [], ◌∷◌, arith, subst}
 use Rattle.ph_digits.proofs.Cuts.{is_body-below, address-below, other_address, none_from}
-use Rattle.ph_specs.specs.Node.{Entry, What, value, node, node_of}
+use Rattle.ph_specs.specs.Node.{Entry, What}
 use Rattle.ph_specs.specs.Lawful.{IsBody}
-use Rattle.ph_specs.specs.PutTree.{digits_from, split_place, body_address, body_below, body_above}
-use Rattle.ph_specs.specs.EntryEdits.{inserted, parted}
+use Rattle.ph_specs.specs.PutTree.{digits_from, split_place}
+use Rattle.ph_specs.specs.EntryEdits.{inserted}
 use Rattle.ph_specs.proofs.laws.SplitPlace.{split_place-has}
-use Rattle.ph_node.specs.Items.{item_of, what_in}
 use Rattle.ph_node.specs.Kept.{IsKept}
 use Rattle.ph_node.specs.Split.{entry_below}
-use Rattle.ph_node.specs.declared.plain.ItemOf.{ItemOf}
-use Rattle.ph_node.specs.declared.plain.HeldOf.{HeldOf}
-use Rattle.ph_node.proofs.Items.{pair-map}
 use Rattle.ph_node.proofs.Keeps.{IsKeptAt, kept-pair}
 
 -- two bodies below a level, and the greatest place at which they differ
@@ -48,19 +44,3 @@ child-kept dims level place es old new w u k a =
           (below-kept dims level place old w a.old_body)
           (below-kept dims level place new u a.new_body);
     }
-
--- both entries, as they are pushed
-pub both_are : {P : Type 0} (dims : ℕ) (items : List (ItemOf P)) (old new : ItemOf P) (a b : Entry) → items ≡ cond (nat_lt new.addr old.addr) (new ∷ old ∷ []) (old ∷ new ∷ []) → item_of dims old ≡ a → item_of dims new ≡ b → map (item_of dims) items ≡ inserted b (a ∷ [])
-both_are dims items old new a b e f h =
-    ap {B = List Entry} (λ u. map (item_of dims) u) e ∙ pair-map dims old new
-    ∙ ap {B = List Entry} (λ u. inserted u (item_of dims old ∷ [])) h
-    ∙ ap {B = List Entry} (λ u. inserted b (u ∷ [])) f
-
--- what the entry is then
-pub became : {P : Type 0} (dims place : ℕ) (x : ItemOf P) (held : HeldOf P) (old new body : List ℕ) (v : ℕ) (items : List Entry) → held ≡ x.held → take dims body ≡ body_above place new → items ≡ inserted (entry_below place new (value v)) (entry_below place old (what_in held) ∷ []) →
-    ◌≡◌ {A = Entry} (record { addr = x.addr; body = take dims body; what = node (node_of place items) })
-    (parted (item_of dims x) place (body_above place new) (body_address place old) (body_below place old) (entry_below place new (value v)))
-became dims place x held old new body v items h b e =
-    ap {B = Entry} (λ (u : List ℕ). record { addr = x.addr; body = u; what = node (node_of place items) }) b
-    ∙ ap {B = Entry} (λ (u : List Entry). record { addr = x.addr; body = body_above place new; what = node (node_of place u) }) e
-    ∙ ap {B = Entry} (λ (u : HeldOf _). record { addr = x.addr; body = body_above place new; what = node (node_of place (inserted (entry_below place new (value v)) (entry_below place old (what_in u) ∷ []))) }) h

@@ -1,15 +1,11 @@
--- A child in its place, and in an entry.
+-- A child in its place, and the children of a node.
+use Rattle.std.specs.Prelude.{List, [], ◌∷◌}
 use Rattle.ph_specs.specs.Node.{PlainNode}
-use Rattle.ph_node.specs.declared.plain.SlotOf.{SlotOf}
-use Rattle.ph_node.specs.declared.plain.HeldOf.{HeldOf}
-use Rattle.ph_node.specs.declared.plain.HeldOf.TheVariants.{Value, Child}
+use Rattle.ph_node.specs.declared.node.SlotOf.{SlotOf}
 
 abbrev pub in_slot : {P : Type 0} → PlainNode → SlotOf P
 in_slot n = record { node = n }
 
-abbrev pub slot_held : {P : Type 0} → SlotOf P → HeldOf P
-slot_held s = Child s
-
-abbrev pub IsSlot : {P : Type 0} → HeldOf P → Type 0
-IsSlot (Value v) = ⊥
-IsSlot (Child s) = Unit {0}
+abbrev pub nodes_of : {P : Type 0} → List (SlotOf P) → List PlainNode
+nodes_of [] = []
+nodes_of (s ∷ ss) = s.node ∷ nodes_of ss

@@ -7,7 +7,9 @@ ghost use Rattle.ph_node.specs.Bodies.{IsBodyArray};
 ghost use Rattle.ph_node.specs.Places.{place_for};
 
 use crate::NoMemory;
-use crate::plain::{HeldOf, ItemOf, NodeOf};
+use crate::edited::{Edit, Written};
+use crate::node::NodeOf;
+use ph_bits::Packed;
 use ph_coord::Dims;
 use ph_steps::Steps;
 use std::sync::ledger::Ledger;
@@ -31,15 +33,21 @@ impl<P: Dims> NodeOf<P> {
         ensures err { OnErr result (self.new ≡ self.old) }
         ensures spared { OnErr result (changes.new ≡ changes.old) }
     {
-        self.items.insert(
-            i,
-            ItemOf {
-                addr,
-                body,
-                held: HeldOf::Value(v),
-            },
-        )?;
+        let entry = Packed {
+            addr,
+            child: false,
+            body,
+            rank: 0,
+        };
+        let edit = Edit {
+            place: i,
+            less: 0,
+            more: 1,
+            new: Written { entry, value: v },
+        };
+        let words = self.edited(edit, self.children.len())?;
         changes.tick();
+        self.words = words;
         Ok(())
     }
 }

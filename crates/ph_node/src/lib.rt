@@ -8,17 +8,24 @@
 #![tactic(auto)]
 
 mod adds;
+mod assembles;
 mod dissolves;
+mod edited;
 mod edits;
-mod plain;
+mod node;
+mod olds;
+mod pairs;
 mod reads;
+mod records;
 mod removals;
-mod searches;
+mod singles;
 mod splits;
+mod spots;
 #[cfg(test)]
 mod tests;
 
+pub use node::{Node, NodeOf, Slot, SlotOf};
 pub use ph_coord::{Dim, Dims};
-pub use plain::{Node, NodeOf, Slot, SlotOf};
 pub use reads::{Entry, EntryOf, NodeRef, NodeRefOf, What, WhatOf};
+pub use spots::Spot;
 pub use std::alloc::AllocError as NoMemory;

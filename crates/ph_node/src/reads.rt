@@ -1,22 +1,29 @@
 //! What a visit shows of a node.
 
-ghost use Rattle.std.specs.Prelude.{◌≡◌, ◌+◌, ◌^◌, ◌<◌, ◌≤◌, None, Some, nat_le, length, position, slice_get, IfOk, IfErr, MatchOption};
-ghost use Rattle.ph_specs.specs.Node.{entries};
+ghost use Rattle.std.specs.Prelude.{◌≡◌, ◌+◌, ◌^◌, ◌<◌, ◌≤◌, None, Some, nat_le, length, map, take, position, slice_get, IfOk, IfErr, MatchOption};
+ghost use Rattle.ph_specs.specs.Node.{entries, flat};
+ghost use Rattle.ph_specs.specs.Pack.{is_cube, pack};
+ghost use Rattle.ph_specs.proofs.laws.Unpacked.{child_nodes};
 ghost use Rattle.ph_specs.specs.EntryEdits.{has_address, what_at};
-ghost use Rattle.ph_specs.specs.Lawful.{IsBody};
+ghost use Rattle.ph_specs.specs.Lawful.{IsBody, put_together};
 ghost use Rattle.ph_specs.specs.PutTree.{body_above, body_below, same_digits};
 ghost use Rattle.ph_digits.specs.Differences.{IsTopDifference};
+ghost use Rattle.ph_bits.specs.Fields.{cut};
 ghost use Rattle.ph_node.specs.Bodies.{IsBodyArray};
 ghost use Rattle.ph_node.specs.Kept.{IsNodeOf};
-ghost use Rattle.ph_node.specs.Merge.{addr_at};
 ghost use Rattle.ph_node.specs.Places.{place_for};
 ghost use Rattle.ph_node.specs.Shown.{shown, entry_of, what_of};
+ghost use Rattle.ph_node.specs.Slots.{nodes_of};
 ghost use Rattle.ph_node.specs.Split.{body_at};
+ghost use Rattle.ph_node.specs.Spots.{IsSpot};
 
-use crate::plain::{HeldOf, NodeOf};
-use crate::searches::{place_at_or_after, place_of};
+use crate::node::{NodeOf, SlotOf};
+use crate::records;
+use crate::spots::Spot;
+use ph_bits::{is_row, join_row, row};
 use ph_coord::{Dim, Dims};
-use ph_digits::{is_below, is_between, top_difference};
+use ph_digits::top_difference;
+use ph_linear::level_in;
 use ph_steps::Steps;
 use std::sync::ledger::Ledger;
 
@@ -57,121 +64,147 @@ impl<P: Dims> NodeOf<P> {
     {
         visits.tick();
         // A use of a field, which makes known what every node keeps.
-        let _level = self.level;
+        let _len = self.words.len();
         NodeRefOf { node: self }
     }
 }
 
 impl<'t, P: Dims> NodeRefOf<'t, NodeOf<P>> {
     /// The place of the digits by which the node tells its entries apart.
+    #[inline(always)]
     pub fn level(&self) -> u32
         ensures value { result ≡ (shown self.now).level }
         ensures limit { result ≤ 61 }
     {
         let node = self.node;
-        node.level
+        level_in(node.words.as_slice())
     }
 
     /// The number of entries.
+    #[inline(always)]
     pub fn len(&self) -> usize
         ensures { result ≡ length (entries (shown self.now)) }
     {
         let node = self.node;
-        node.items.len()
+        records::count(node.words.as_slice())
     }
 
     /// The place of the entry with an address below 2^D.
+    #[inline(always)]
     pub fn find(&self, addr: u32) -> Option<usize>
         requires { addr < 2 ^ P.D }
         ensures { result ≡ position (has_address addr) (entries (shown self.now)) }
     {
         match self.search(addr) {
-            Ok(i) => Some(i),
+            Ok(spot) => Some(spot.place),
             Err(_) => None,
         }
     }
 
-    /// The place of the entry with an address below 2^D, or else the place that an entry with it would have.
-    pub fn search(&self, addr: u32) -> Result<usize, usize>
+    /// The entry with an address below 2^D, or else the place that an entry with it would have.
+    #[inline(always)]
+    pub fn search(&self, addr: u32) -> Result<Spot, usize>
         requires { addr < 2 ^ P.D }
-        ensures found { IfOk result (λ i. Some i ≡ position (has_address addr) (entries (shown self.now))) }
+        ensures found { IfOk result (λ s. Some s.place ≡ position (has_address addr) (entries (shown self.now))) }
+        ensures spot { IfOk result (λ s. IsSpot (entries (shown self.now)) s) }
         ensures absent { IfErr result (λ i. None ≡ position (has_address addr) (entries (shown self.now))) }
         ensures place { IfErr result (λ i. i ≡ place_for addr (entries (shown self.now))) }
     {
         let node = self.node;
-        place_of(&node.items, addr)
+        match records::search(node.words.as_slice(), P::D, addr) {
+            Ok(place) => Ok(Spot { place, addr }),
+            Err(place) => Err(place),
+        }
     }
 
     /// The place of the first entry whose address is at least `addr`, which is below 2^D.
+    #[inline(always)]
     pub fn next_at_or_after(&self, addr: u32) -> Option<usize>
         requires { addr < 2 ^ P.D }
         ensures { result ≡ position (λ e. nat_le addr e.addr) (entries (shown self.now)) }
     {
         let node = self.node;
-        place_at_or_after(&node.items, addr)
+        records::next_at_or_after(node.words.as_slice(), P::D, addr)
     }
 
-    /// The hypercube address of entry `i`.
-    pub fn address(&self, i: usize) -> u32
+    /// Entry `i`, in the order of the addresses, as it stands in the node.
+    #[inline(always)]
+    pub fn spot(&self, i: usize) -> Spot
         requires { i < length (entries (shown self.now)) }
-        ensures value { result ≡ addr_at (entries (shown self.now)) i }
-        ensures limit { result < 2 ^ P.D }
+        ensures place { result.place ≡ i }
+        ensures spot { IsSpot (entries (shown self.now)) result }
+        ensures limit { result.addr < 2 ^ P.D }
     {
         let node = self.node;
-        let item = &node.items[i];
-        item.addr
-    }
-
-    /// The fields of the body of entry `i`, one for each dimension.
-    pub fn body(&self, i: usize) -> &'t [u64]
-        requires { i < length (entries (shown self.now)) }
-        ensures value { result.now ≡ body_at (entries (shown self.now)) i }
-        ensures body { IsBody P.D (shown self.now).level result.now }
-    {
-        let node = self.node;
-        let item = &node.items[i];
-        &item.body[..P::D]
-    }
-
-    /// What entry `i` holds.
-    pub fn what(&self, i: usize) -> WhatOf<'t, NodeOf<P>>
-        requires { i < length (entries (shown self.now)) }
-        ensures { what_of result ≡ what_at (entries (shown self.now)) i }
-    {
-        let node = self.node;
-        let item = &node.items[i];
-        match &item.held {
-            HeldOf::Value(v) => WhatOf::Value(*v),
-            HeldOf::Child(slot) => WhatOf::Child(&slot.node),
+        Spot {
+            place: i,
+            addr: records::address(node.words.as_slice(), P::D, i),
         }
     }
 
-    /// Whether the body of entry `i` is the digits of these numbers below the node's level.
-    pub fn is_below(&self, i: usize, numbers: &[u64]) -> bool
-        requires within { i < length (entries (shown self.now)) }
-        requires dims { length numbers.now ≡ P.D }
-        ensures { result ≡ same_digits (body_at (entries (shown self.now)) i) (body_below (shown self.now).level numbers.now) }
+    /// What an entry holds.
+    #[inline(always)]
+    pub fn what(&self, spot: Spot) -> WhatOf<'t, NodeOf<P>>
+        requires { IsSpot (entries (shown self.now)) spot }
+        ensures { what_of result ≡ what_at (entries (shown self.now)) spot.place }
     {
-        is_below(self.level(), self.body(i), numbers)
+        let node = self.node;
+        let words = node.words.as_slice();
+        let dims = P::D;
+        let child = records::is_child(words, dims, spot);
+        let rank = records::rank(words, dims, spot, child);
+        if child {
+            let slot = &node.children[rank];
+            WhatOf::Child(&slot.node)
+        } else {
+            WhatOf::Value(records::value(words, dims, rank))
+        }
     }
 
-    /// Whether the body of entry `i` is the digits of these numbers below the node's level and above the place `low`.
-    pub fn is_between(&self, i: usize, low: u32, numbers: &[u64]) -> bool
-        requires within { i < length (entries (shown self.now)) }
+    /// Whether the body of an entry is the digits of these numbers below the node's level.
+    #[inline(always)]
+    pub fn is_below(&self, spot: Spot, numbers: &[u64]) -> bool
+        requires spot { IsSpot (entries (shown self.now)) spot }
+        requires dims { length numbers.now ≡ P.D }
+        ensures { result ≡ same_digits (body_at (entries (shown self.now)) spot.place) (body_below (shown self.now).level numbers.now) }
+    {
+        self.is_body(spot, 0, numbers)
+    }
+
+    /// Whether the body of an entry is the digits of these numbers below the node's level and above the place `low`.
+    #[inline(always)]
+    pub fn is_between(&self, spot: Spot, low: u32, numbers: &[u64]) -> bool
+        requires spot { IsSpot (entries (shown self.now)) spot }
         requires low { low < 63 }
         requires dims { length numbers.now ≡ P.D }
-        ensures { result ≡ same_digits (body_at (entries (shown self.now)) i) (body_above low (body_below (shown self.now).level numbers.now)) }
+        ensures { result ≡ same_digits (body_at (entries (shown self.now)) spot.place) (body_above low (body_below (shown self.now).level numbers.now)) }
     {
-        is_between(self.level(), low, self.body(i), numbers)
+        self.is_body(spot, low + 1, numbers)
     }
 
-    /// The greatest place at which the body of entry `i` and these numbers differ, or None where they are the same.
-    pub fn top_difference(&self, i: usize, numbers: &[u64]) -> Option<u32>
-        requires within { i < length (entries (shown self.now)) }
+    /// The greatest place at which the body of an entry and these numbers differ, or None where they are the same.
+    pub fn top_difference(&self, spot: Spot, numbers: &[u64]) -> Option<u32>
+        requires spot { IsSpot (entries (shown self.now)) spot }
         requires dims { length numbers.now ≡ P.D }
-        ensures { MatchOption result (body_at (entries (shown self.now)) i ≡ numbers.now) (λ place. IsTopDifference (body_at (entries (shown self.now)) i) numbers.now place) }
+        ensures { MatchOption result (body_at (entries (shown self.now)) spot.place ≡ numbers.now) (λ place. IsTopDifference (body_at (entries (shown self.now)) spot.place) numbers.now place) }
     {
-        top_difference(self.body(i), numbers)
+        let body = self.body(spot);
+        top_difference(&body[..P::D], numbers)
+    }
+
+    /// Puts the digits of an entry, its address at the node's level and its body below it, behind those that are known
+    /// above the level. What was known at the level and below it is lost.
+    #[inline(always)]
+    pub fn join(&self, spot: Spot, known: &mut [u64])
+        requires spot { IsSpot (entries (shown self.now)) spot }
+        requires known { IsBody P.D 62 known.old }
+        ensures known { known.new ≡ put_together (shown self.now).level spot.addr (body_above (shown self.now).level known.old) (body_at (entries (shown self.now)) spot.place) }
+        ensures body { IsBody P.D (shown self.now).level (body_at (entries (shown self.now)) spot.place) }
+    {
+        let node = self.node;
+        let words = node.words.as_slice();
+        let at = records::body_at(words, P::D, spot);
+        join_row(words, at, level_in(words), spot.addr, known);
     }
 
     /// Entry `i`, in the order of the addresses.
@@ -181,12 +214,68 @@ impl<'t, P: Dims> NodeRefOf<'t, NodeOf<P>> {
         ensures address { result.addr < 2 ^ P.D }
         ensures body { IsBodyArray P.D (shown self.now).level result.body }
     {
-        let node = self.node;
-        let item = &node.items[i];
+        let spot = self.spot(i);
+        let body = self.body(spot);
         EntryOf {
-            addr: item.addr,
-            body: item.body,
-            what: self.what(i),
+            addr: spot.addr,
+            body,
+            what: self.what(spot),
         }
+    }
+
+    /// The record of the node, which is its block of words.
+    #[inline(always)]
+    pub fn words(&self) -> &'t [u64]
+        ensures { result.now ≡ pack P.D (shown self.now) }
+    {
+        let node = self.node;
+        node.words.as_slice()
+    }
+
+    /// The children, in the order of their addresses.
+    #[inline(always)]
+    pub fn children(&self) -> &'t [SlotOf<P>]
+        ensures { nodes_of result.now ≡ child_nodes (shown self.now).chain }
+    {
+        let node = self.node;
+        &node.children
+    }
+
+    /// Whether the record of the node has the cube layout.
+    #[inline(always)]
+    pub fn is_cube(&self) -> bool
+        ensures { result ≡ is_cube P.D (shown self.now).level (length (flat (shown self.now).chain)) }
+    {
+        let node = self.node;
+        records::has_cube(node.words.as_slice(), P::D)
+    }
+
+    // Whether the body of an entry is the digits of these numbers below the node's level, of which the last `low` count as
+    // zeros.
+    #[inline(always)]
+    fn is_body(&self, spot: Spot, low: u32, numbers: &[u64]) -> bool
+        requires spot { IsSpot (entries (shown self.now)) spot }
+        requires low { low ≤ 63 }
+        requires dims { length numbers.now ≡ P.D }
+        ensures { result ≡ same_digits (body_at (entries (shown self.now)) spot.place) (map (cut (shown self.now).level low) numbers.now) }
+    {
+        let node = self.node;
+        let words = node.words.as_slice();
+        let at = records::body_at(words, P::D, spot);
+        is_row(words, at, level_in(words), low, numbers)
+    }
+
+    // The body of an entry, with zeros behind its fields.
+    #[inline(always)]
+    fn body(&self, spot: Spot) -> [u64; 16]
+        requires { IsSpot (entries (shown self.now)) spot }
+        ensures fields { take P.D result ≡ body_at (entries (shown self.now)) spot.place }
+        ensures body { IsBodyArray P.D (shown self.now).level result }
+    {
+        let node = self.node;
+        let words = node.words.as_slice();
+        let dims = P::D;
+        let at = records::body_at(words, dims, spot);
+        row(words, at, level_in(words), dims)
     }
 }

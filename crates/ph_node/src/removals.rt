@@ -1,77 +1,138 @@
 //! An entry less, and a child of two entries whose place one of them takes. Neither takes memory.
 
-ghost use Rattle.std.specs.Prelude.{◌≡◌, ◌+◌, ◌-◌, ◌<◌, ◌≤◌, Some, length, slice_get};
+ghost use Rattle.std.specs.Prelude.{◌≡◌, ◌+◌, ◌-◌, ◌<◌, ◌≤◌, true, length, vec_len, if◌then◌else◌};
 ghost use Rattle.ph_specs.specs.Node.{node_of, entries};
 ghost use Rattle.ph_specs.specs.EntryEdits.{what_at, without};
-ghost use Rattle.ph_node.specs.Bodies.{IsBodyArray};
-ghost use Rattle.ph_node.specs.Items.{item_of, what_in};
 ghost use Rattle.ph_node.specs.Split.{IsValue, body_at};
-ghost use Rattle.ph_node.specs.Merge.{IsPair, level_held, entries_held, merge_node};
+ghost use Rattle.ph_node.specs.Spots.{IsSpot};
+ghost use Rattle.ph_specs.specs.Pack.{pack};
+ghost use Rattle.ph_bits.specs.Block.{room_of};
+ghost use Rattle.ph_bits.specs.Edits.{edited};
+ghost use Rattle.ph_node.specs.Merge.{IsPair, entries_held, merge_node};
+ghost use Rattle.ph_node.specs.OneEdit.{IsOldEntry, node_at, nodes_held};
+ghost use Rattle.ph_node.specs.Slots.{nodes_of};
 
-use crate::plain::{HeldOf, ItemOf, NodeOf, SlotOf};
+use crate::edited::{Edit, Written};
+use crate::node::{NodeOf, SlotOf};
+use crate::olds::OldEntry;
+use crate::splits::insert_within;
+use crate::spots::Spot;
+use ph_bits::{Packed, Words};
 use ph_coord::Dims;
 use ph_digits::join;
 use ph_steps::Steps;
-use std::mem::replace;
 use std::sync::ledger::Ledger;
 
+// What an edit has that writes no entry.
+const NOTHING: Written = Written {
+    entry: Packed {
+        addr: 0,
+        child: false,
+        body: [0; 16],
+        rank: 0,
+    },
+    value: 0,
+};
+
 impl<P: Dims> NodeOf<P> {
-    /// Lets point entry `i` go. Another entry is left.
-    pub fn drop_entry<C: Ledger>(&mut self, i: usize, changes: &mut Steps<C>)
-        requires within { i < length (entries self.old) }
-        requires point { IsValue (what_at (entries self.old) i) }
+    /// Lets a point entry go. Another entry is left. The record is written into words that the caller hands in, which have
+    /// room for the node's own.
+    pub fn drop_entry<C: Ledger>(&mut self, spot: Spot, spare: Words, changes: &mut Steps<C>)
+        requires spot { IsSpot (entries self.old) spot }
+        requires point { IsValue (what_at (entries self.old) spot.place) }
         requires many { 2 ≤ length (entries self.old) }
-        ensures node { self.new ≡ node_of self.old.level (without (entries self.old) i) }
+        requires room { length (pack P.D self.old) ≤ room_of spare }
+        ensures node { self.new ≡ node_of self.old.level (without (entries self.old) spot.place) }
         ensures cost { changes.new ≡ changes.old + 1 }
     {
+        let edit = Edit {
+            place: spot.place,
+            less: 1,
+            more: 0,
+            new: NOTHING,
+        };
+        let mut words = spare;
+        self.write_edited(edit, &mut words);
         changes.tick();
-        let _gone = self.items.remove(i);
+        self.words = words;
     }
 
-    /// Lets the child of entry `i` and its point entry `j` go. The other of the child's two entries takes the
-    /// child's place, with the digits that the child had in common in front of its own.
-    pub fn merge<C: Ledger>(&mut self, i: usize, j: usize, changes: &mut Steps<C>)
-        requires within { i < length (entries self.old) }
-        requires child { IsPair self.old.level (body_at (entries self.old) i) (what_at (entries self.old) i) }
+    /// Lets the child of an entry and its point entry `j` go. The other of the child's two entries takes the
+    /// child's place, with the digits that the child had in common in front of its own. The record is written into words
+    /// that the caller hands in, which have room for one more than the node's own.
+    pub fn merge<C: Ledger>(&mut self, spot: Spot, j: usize, spare: Words, changes: &mut Steps<C>)
+        requires spot { IsSpot (entries self.old) spot }
+        requires child { IsPair self.old.level (body_at (entries self.old) spot.place) (what_at (entries self.old) spot.place) }
         requires one { j < 2 }
-        requires point { IsValue (what_at (entries_held (what_at (entries self.old) i)) j) }
-        ensures node { self.new ≡ merge_node self.old i j }
+        requires point { IsValue (what_at (entries_held (what_at (entries self.old) spot.place)) j) }
+        requires room { length (pack P.D self.old) + 1 ≤ room_of spare }
+        ensures node { self.new ≡ merge_node self.old spot.place j }
         ensures cost { changes.new ≡ changes.old + 2 }
     {
-        changes.tick();
-        changes.tick();
-        let item = &mut self.items[i];
-        let held = replace(&mut item.held, HeldOf::Value(0));
-        let (level, other) = other_of(held, j);
+        let old = self.old_entry(spot);
+        let child = &self.children[old.front].node;
+        let other = child.entry_beside(j);
+        let mut body = old.body;
         join(
-            &mut item.body[..P::D],
-            level,
+            &mut body[..P::D],
+            child.level(),
             other.addr,
             &other.body[..P::D],
         );
-        item.held = other.held;
+        let entry = Packed {
+            addr: old.addr,
+            child: other.child,
+            body,
+            rank: 0,
+        };
+        let edit = Edit {
+            place: spot.place,
+            less: 1,
+            more: 1,
+            new: Written {
+                entry,
+                value: other.value,
+            },
+        };
+        let mut block = spare;
+        self.write_edited(edit, &mut block);
+        changes.tick();
+        changes.tick();
+        lift_child(&mut self.children, old.front, other.child);
+        self.words = block;
+    }
+
+    // What the one of two entries has that is not entry `j`.
+    fn entry_beside(&self, j: usize) -> OldEntry
+        requires two { length (entries self.now) ≡ 2 }
+        requires one { j < 2 }
+        ensures { IsOldEntry P.D self.now (1 - j) result }
+    {
+        self.old_entry(self.spot(1 - j))
     }
 }
 
-// The level of a child of two entries, and its entry beside entry `j`.
-fn other_of<P: Dims>(held: HeldOf<P>, j: usize) -> (u32, ItemOf<P>)
-    requires two { length (entries_held (what_in held)) ≡ 2 }
-    requires one { j < 2 }
-    ensures level { result.0 ≡ level_held (what_in held) }
-    ensures low { result.0 ≤ 61 }
-    ensures item { slice_get (entries_held (what_in held)) (1 - j) ≡ Some (item_of P.D result.1) }
-    ensures body { IsBodyArray P.D result.0 result.1.body }
+// Lets the node at a place go. Its one child takes the place, where it has one.
+fn lift_child<P: Dims>(children: &mut Vec<SlotOf<P>>, k: usize, child: bool)
+    requires within { k < vec_len children.old }
+    requires one { child ≡ true → length (nodes_held (entries (node_at (nodes_of children.old.items) k))) ≡ 1 }
+    ensures { nodes_of children.new.items ≡ edited k 1 (if child then 1 else 0) (node_at (nodes_held (entries (node_at (nodes_of children.old.items) k))) 0) (nodes_of children.old.items) }
 {
-    match held {
-        HeldOf::Value(_) => unreachable!(),
-        HeldOf::Child(slot) => {
-            let SlotOf { node } = slot;
-            let NodeOf {
-                level,
-                mut items,
-                dims: _,
-            } = node;
-            (level, items.remove(1 - j))
-        }
+    let SlotOf { node } = children.remove(k);
+    if child {
+        insert_within(children, k, only_child(node));
     }
+}
+
+// The child of a node that has one.
+fn only_child<P: Dims>(node: NodeOf<P>) -> SlotOf<P>
+    requires { length (nodes_held (entries node)) ≡ 1 }
+    ensures { result.node ≡ node_at (nodes_held (entries node)) 0 }
+{
+    let NodeOf {
+        words: _,
+        mut children,
+        dims: _,
+    } = node;
+    children.remove(0)
 }

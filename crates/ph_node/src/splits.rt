@@ -1,102 +1,118 @@
 //! An entry that becomes a child of two entries.
 
-ghost use Rattle.std.specs.Prelude.{◌≡◌, ◌≢◌, ◌+◌, ◌<◌, ◌≤◌, ◌++◌, ◌∷◌, [], length, take, OnErr, OnOk, vec_len, vec_capacity, nat_lt, if◌then◌else◌};
+ghost use Rattle.std.specs.Prelude.{◌≡◌, ◌≢◌, ◌+◌, ◌<◌, ◌≤◌, [], true, false, take, drop, if◌then◌else◌, IfOk, OnErr, OnOk, vec_len, vec_capacity};
+ghost use Rattle.std.specs.List.{insert, remove};
+ghost use Rattle.ph_specs.specs.EntryEdits.{what_at};
 ghost use Rattle.ph_specs.specs.Node.{entries};
 ghost use Rattle.ph_specs.specs.PutTree.{split_place};
-ghost use Rattle.ph_specs.specs.EntryEdits.{what_at};
-ghost use Rattle.ph_node.specs.Bodies.{IsBodyArray, IsFilled};
-ghost use Rattle.ph_node.specs.Items.{item_of, what_in};
-ghost use Rattle.ph_node.specs.Split.{IsBelow, body_at, entry_below, split_node};
+ghost use Rattle.ph_node.specs.Bodies.{IsBodyArray};
+ghost use Rattle.ph_node.specs.Split.{IsBelow, body_at, split_node};
+ghost use Rattle.ph_node.specs.Spots.{IsSpot};
 
 use crate::NoMemory;
-use crate::plain::{HeldOf, ItemOf, NodeOf, SlotOf};
+use crate::edited::{Edit, Written};
+use crate::node::{NodeOf, SlotOf};
+use crate::pairs::pair_below;
+use crate::spots::Spot;
+use ph_bits::Packed;
 use ph_coord::Dims;
-use ph_digits::{body_above, body_address, body_below};
+use ph_digits::body_above;
 use ph_steps::Steps;
+use std::alloc::Global;
 use std::marker::PhantomData;
-use std::mem::replace;
 use std::sync::ledger::Ledger;
 
 impl<P: Dims> NodeOf<P> {
-    /// Splits entry `i` at a level: it becomes a child there that holds what the entry held, and a point
+    /// Splits an entry at a level: it becomes a child there that holds what the entry held, and a point
     /// with this body, given by its digits below the node's level. The level is the greatest at which the
     /// two bodies differ. May want memory for the child.
     pub fn split<C: Ledger>(
         &mut self,
-        i: usize,
+        spot: Spot,
         level: u32,
         body: [u64; 16],
         v: u64,
         changes: &mut Steps<C>,
     ) -> Result<(), NoMemory>
-        requires within { i < length (entries self.old) }
+        requires spot { IsSpot (entries self.old) spot }
         requires lower { level < self.old.level }
         requires body { IsBodyArray P.D self.old.level body }
-        requires differ { body_at (entries self.old) i ≢ take P.D body }
-        requires place { split_place self.old.level (body_at (entries self.old) i) (take P.D body) ≡ level }
-        requires above { IsBelow level (what_at (entries self.old) i) }
-        ensures ok { OnOk result (self.new ≡ split_node self.old i level (take P.D body) v) }
+        requires differ { body_at (entries self.old) spot.place ≢ take P.D body }
+        requires place { split_place self.old.level (body_at (entries self.old) spot.place) (take P.D body) ≡ level }
+        requires above { IsBelow level (what_at (entries self.old) spot.place) }
+        ensures ok { OnOk result (self.new ≡ split_node self.old spot.place level (take P.D body) v) }
         ensures cost { OnOk result (changes.new ≡ changes.old + 2) }
         ensures err { OnErr result (self.new ≡ self.old) }
         ensures spared { OnErr result (changes.new ≡ changes.old) }
     {
-        let mut items = Vec::with_capacity(*self.items.allocator(), 2)?;
+        let alloc = self.words.allocator();
+        let old = self.old_entry(spot);
+        let below = pair_below::<P>(alloc, level, old, body, v)?;
+        let entry = Packed {
+            addr: old.addr,
+            child: true,
+            body: body_above(level, body),
+            rank: 0,
+        };
+        let edit = Edit {
+            place: spot.place,
+            less: 1,
+            more: 1,
+            new: Written { entry, value: 0 },
+        };
+        let words = self.edited(edit, self.children.len() + 1 - old.child as usize)?;
+        let mut children = room_for(&mut self.children, old.child, alloc)?;
         changes.tick();
         changes.tick();
-        let item = &mut self.items[i];
-        let held = replace(&mut item.held, HeldOf::Value(0));
-        let old = item_below(level, item.body, held);
-        let new = item_below(level, body, HeldOf::Value(v));
-        push_both(&mut items, old, new);
+        take_child(&mut self.children, old.front, old.child, &mut children);
         let node = NodeOf {
-            level,
-            items,
+            words: below,
+            children,
             dims: PhantomData,
         };
-        item.body = body_above(level, body);
-        item.held = HeldOf::Child(SlotOf { node });
+        insert_within(&mut self.children, old.front, SlotOf { node });
+        self.words = words;
         Ok(())
     }
 }
 
-// The entry of a body below a place.
-fn item_below<P: Dims>(place: u32, body: [u64; 16], held: HeldOf<P>) -> ItemOf<P>
-    requires place { place < 64 }
-    requires few { P.D ≤ 16 }
-    requires filled { IsFilled P.D body }
-    ensures entry { item_of P.D result ≡ entry_below place (take P.D body) (what_in held) }
-    ensures filled { IsFilled P.D result.body }
+// Takes the memory for one child more: a vector with room for the child that goes into the new node, or room among the
+// children where none goes.
+fn room_for<T: Drop>(children: &mut Vec<T>, child: bool, alloc: Global) -> Result<Vec<T>, NoMemory>
+    ensures same { children.new.items ≡ children.old.items }
+    ensures empty { IfOk result (λ v. v.items ≡ []) }
+    ensures room { IfOk result (λ v. child ≡ true → 0 < vec_capacity v) }
+    ensures free { OnOk result (child ≡ false → vec_len children.new < vec_capacity children.new) }
 {
-    ItemOf {
-        addr: body_address(place, &body[..P::D]),
-        body: body_below(place, body),
-        held,
+    if child {
+        return Vec::with_capacity(alloc, 1);
+    }
+    children.reserve(1)?;
+    Ok(Vec::new(alloc))
+}
+
+// Moves the child at a place into an empty vector, where there is one.
+fn take_child<T: Drop>(from: &mut Vec<T>, k: usize, child: bool, to: &mut Vec<T>)
+    requires within { child ≡ true → k < vec_len from.old }
+    requires empty { to.old.items ≡ [] }
+    requires room { child ≡ true → 0 < vec_capacity to.old }
+    requires free { child ≡ false → vec_len from.old < vec_capacity from.old }
+    ensures taken { to.new.items ≡ (if child then take 1 (drop k from.old.items) else []) }
+    ensures left { from.new.items ≡ (if child then remove from.old.items k else from.old.items) }
+    ensures free { vec_len from.new < vec_capacity from.new }
+{
+    if child {
+        to.push_reserved(from.remove(k));
     }
 }
 
-// Puts two entries into room that is there, in the order of their addresses.
-fn push_both<P: Dims>(items: &mut Vec<ItemOf<P>>, old: ItemOf<P>, new: ItemOf<P>)
-    requires empty { items.old.items ≡ [] }
-    requires room { 2 ≤ vec_capacity items.old }
-    ensures { items.new.items ≡ (if nat_lt new.addr old.addr then new ∷ old ∷ [] else old ∷ new ∷ []) }
+// Inserts into room that is there.
+pub(crate) fn insert_within<T: Drop>(v: &mut Vec<T>, k: usize, x: T)
+    requires place { k ≤ vec_len v.old }
+    requires room { vec_len v.old < vec_capacity v.old }
+    ensures { v.new.items ≡ insert v.old.items k x }
 {
-    if new.addr < old.addr {
-        push_within(items, new);
-        push_within(items, old);
-    } else {
-        push_within(items, old);
-        push_within(items, new);
-    }
-}
-
-// Pushes into room that is there.
-fn push_within<T: Drop>(v: &mut Vec<T>, x: T)
-    requires { vec_len v.old < vec_capacity v.old }
-    ensures items { v.new.items ≡ v.old.items ++ x ∷ [] }
-    ensures len { vec_len v.new ≡ vec_len v.old + 1 }
-    ensures capacity { vec_capacity v.old ≤ vec_capacity v.new }
-{
-    match v.push(x) {
+    match v.insert(k, x) {
         Ok(()) => {}
         Err(_) => unreachable!(),
     }

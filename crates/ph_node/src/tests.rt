@@ -2,7 +2,8 @@
 
 ghost use Rattle.std.specs.Prelude.{◌≡◌, ◌<◌};
 
-use crate::{NoMemory, Node, NodeOf, NodeRef, What};
+use crate::{NoMemory, Node, NodeOf, NodeRef, Spot, What};
+use ph_bits::Words;
 use ph_steps::Steps;
 use std::alloc::Global;
 use std::marker::Brand;
@@ -16,7 +17,13 @@ const BESIDE: [u64; 16] = [4, 30, 0, 0, 0, 0, 0, 0, 0, 0, 0, 0, 0, 0, 0, 0];
 
 const NEAR: [u64; 16] = [1, 3, 0, 0, 0, 0, 0, 0, 0, 0, 0, 0, 0, 0, 0, 0];
 
+const ONES: [u64; 16] = [1, 1, 0, 0, 0, 0, 0, 0, 0, 0, 0, 0, 0, 0, 0, 0];
+
 const FAR: [u64; 16] = [17, 3, 0, 0, 0, 0, 0, 0, 0, 0, 0, 0, 0, 0, 0, 0];
+
+const FIRST: Spot = Spot { place: 0, addr: 1 };
+
+const SECOND: Spot = Spot { place: 1, addr: 2 };
 
 // An address, two fields, and a value or none for a child.
 type Seen = (u32, u64, u64, Option<u64>);
@@ -56,9 +63,9 @@ fn outcome<V: Ledger, C: Ledger>(
     let mut changes: Steps<C> = Steps::new(changes);
     let mut node: Node<2> = NodeOf::single(alloc, 5, 2, OLD, 70, &mut changes)?;
     node.add(0, 1, BESIDE, 71, &mut changes)?;
-    node.set_value(0, 72, &mut changes);
-    node.split(1, 3, NEAR, 73, &mut changes)?;
-    node.split(1, 4, FAR, 74, &mut changes)?;
+    node.set_value(FIRST, 72, &mut changes);
+    node.split(SECOND, 3, NEAR, 73, &mut changes)?;
+    node.split(SECOND, 4, FAR, 74, &mut changes)?;
     let root = node.visit(&mut visits);
     assert_eq!(rt; (root.level(), root.len()), (5, 2));
     assert!(rt; is_entry(root, 0, &(1, 4, 30, Some(72))));
@@ -102,17 +109,103 @@ fn removals<V: Ledger, C: Ledger>(
     let mut changes: Steps<C> = Steps::new(changes);
     let mut node: Node<2> = NodeOf::single(alloc, 5, 2, OLD, 70, &mut changes)?;
     node.add(0, 1, BESIDE, 71, &mut changes)?;
-    node.split(1, 3, NEAR, 73, &mut changes)?;
-    node.merge(1, 0, &mut changes);
+    node.split(SECOND, 3, NEAR, 73, &mut changes)?;
+    let spare = Words::with_room(alloc, 8)?;
+    node.merge(SECOND, 0, spare, &mut changes);
     let root = node.visit(&mut visits);
     assert_eq!(rt; (root.level(), root.len()), (5, 2));
     assert!(rt; is_entry(root, 0, &(1, 4, 30, Some(71))));
     assert!(rt; is_entry(root, 1, &(2, 9, 3, Some(70))));
-    node.drop_entry(0, &mut changes);
+    let spare = Words::with_room(alloc, 8)?;
+    node.drop_entry(FIRST, spare, &mut changes);
     let root = node.visit(&mut visits);
     assert_eq!(rt; (root.level(), root.len()), (5, 1));
     assert!(rt; is_entry(root, 0, &(2, 9, 3, Some(70))));
     node.dissolve(&mut changes);
+    Ok(())
+}
+
+fn has_words(words: &[u64], want: &[u64]) -> bool {
+    *words == *want
+}
+
+// The words of nodes, and that a node has nothing beside its words and its children.
+fn layouts<V: Ledger, C: Ledger>(
+    rt: &impl Abort,
+    alloc: Global,
+    visits: Blank,
+    changes: Blank,
+) -> Result<(), NoMemory>
+    requires visits { (visits.name ≡ V.name) × (visits.parts ≡ V.parts) × (0 < visits.parts) }
+    requires changes { (changes.name ≡ C.name) × (changes.parts ≡ C.parts) × (0 < changes.parts) }
+{
+    let mut visits: Steps<V> = Steps::new(visits);
+    let mut changes: Steps<C> = Steps::new(changes);
+    let body = [3, 4, 0, 0, 0, 0, 0, 0, 0, 0, 0, 0, 0, 0, 0, 0];
+    let across: Node<2> = NodeOf::single(alloc, 31, 3, body, 17, &mut changes)?;
+    let words = across.visit(&mut visits).words();
+    assert!(rt; has_words(words, &[0x1f00000001000000, 0x60000000c0000002, 0, 0x11]));
+    let NodeOf {
+        words: _,
+        children: _,
+        dims: _,
+    } = across;
+    let mut node: Node<2> = NodeOf::single(alloc, 31, 3, [0; 16], 1, &mut changes)?;
+    let spot = Spot { place: 0, addr: 3 };
+    node.split(spot, 0, ONES, 2, &mut changes)?;
+    let root = node.visit(&mut visits);
+    assert!(rt; has_words(root.words(), &[0x1f00000001000001, 0xe000000000000000, 0]));
+    let Some(child) = child_at(root, 0) else {
+        panic!(rt; "no child");
+    };
+    let words = child.visit(&mut visits).words();
+    assert!(rt; has_words(words, &[0x0000000002000000, 0x0c00000000000000, 1, 2]));
+    let slot = node.child_mut(spot);
+    slot.node_mut().add(1, 1, [0; 16], 3, &mut changes)?;
+    let Some(child) = child_at(node.visit(&mut visits), 0) else {
+        panic!(rt; "no child");
+    };
+    let words = child.visit(&mut visits).words();
+    assert!(rt; has_words(words, &[0x0001000003000000, 0x5100000000000000, 1, 3, 2]));
+    Ok(())
+}
+
+fn spots<V: Ledger, C: Ledger>(
+    rt: &impl Abort,
+    alloc: Global,
+    visits: Blank,
+    changes: Blank,
+) -> Result<(), NoMemory>
+    requires visits { (visits.name ≡ V.name) × (visits.parts ≡ V.parts) × (0 < visits.parts) }
+    requires changes { (changes.name ≡ C.name) × (changes.parts ≡ C.parts) × (0 < changes.parts) }
+{
+    let mut visits: Steps<V> = Steps::new(visits);
+    let mut changes: Steps<C> = Steps::new(changes);
+    let mut node: Node<2> = NodeOf::single(alloc, 5, 2, OLD, 70, &mut changes)?;
+    node.split(Spot { place: 0, addr: 2 }, 3, NEAR, 73, &mut changes)?;
+    node.add(0, 1, BESIDE, 71, &mut changes)?;
+    let root = node.visit(&mut visits);
+    assert_eq!(rt; (root.words().len(), root.children().len()), (3, 1));
+    assert!(rt; !root.is_cube());
+    assert_eq!(rt; root.search(0).err(), Some(0));
+    assert_eq!(rt; root.search(3).err(), Some(2));
+    let (point, child) = (root.spot(0), root.spot(1));
+    assert_eq!(rt; (point.addr, child.addr), (1, 2));
+    assert!(rt; root.is_below(point, &[4 + 32, 30]));
+    assert!(rt; !root.is_below(point, &[4 + 16, 30]));
+    assert!(rt; root.is_between(child, 3, &[9, 3]));
+    assert!(rt; !root.is_between(child, 3, &[16, 3]));
+    assert_eq!(rt; root.top_difference(point, &[4, 26]), Some(2));
+    assert_eq!(rt; root.top_difference(point, &[4, 30]), None);
+    let mut known = [64, 255];
+    root.join(point, &mut known);
+    assert_eq!(rt; known, [64 + 4, 192 + 32 + 30]);
+    Ok(())
+}
+
+#[test]
+fn words_of_nodes(rt: HostRuntime) -> Result<(), Fail> {
+    layouts::<Brand, Brand>(&rt, rt.alloc(), Blank::new(1), Blank::new(1))?;
     Ok(())
 }
 
@@ -125,5 +218,11 @@ fn splits_and_edits(rt: HostRuntime) -> Result<(), Fail> {
 #[test]
 fn merges_and_drops(rt: HostRuntime) -> Result<(), Fail> {
     removals::<Brand, Brand>(&rt, rt.alloc(), Blank::new(1), Blank::new(1))?;
+    Ok(())
+}
+
+#[test]
+fn spots_and_records(rt: HostRuntime) -> Result<(), Fail> {
+    spots::<Brand, Brand>(&rt, rt.alloc(), Blank::new(1), Blank::new(1))?;
     Ok(())
 }

@@ -131,9 +131,8 @@ pub start-known : (d w : ℕ) → 1 ≤ d → d ≤ 16 → 1 ≤ w → w ≤ 62 
 start-known d w s f l u = record { some = s; few = f; wide = l; narrow = u; digits = zeros-body d w }
 
 module _ (d n w : ℕ) (digits : List ℕ) (e : n ≡ d) (h : AreKnown d (known_at w (take d digits))) where
-  pub body-seen : IsBody (length (take n digits)) 62 (take n digits)
-  body-seen =
-      (refl, subst (λ k. Each (λ x. x < 2 ^ 62) (take k digits)) (sym e) (wider d w 62 (take d digits) h.narrow h.digits).1)
+  pub body-seen : IsBody d 62 (take n digits)
+  body-seen = subst (λ k. IsBody d 62 (take k digits)) (sym e) (wider d w 62 (take d digits) h.narrow h.digits)
 
   pub joined-seen : (seen : Known) (level a : ℕ) (body new others : List ℕ) → known_at w (take d digits) ≡ seen → level < seen.width → IsBody d level body → new ≡ put_together level a (body_above level (take n digits)) body → AreKnown d (known_at w (take d (new ++ others))) × (known_at w (take d (new ++ others)) ≡ known_at seen.width (put_together level a (body_above level seen.digits) body))
   joined-seen seen level a body new others v l k f =

@@ -7,6 +7,8 @@ use Rattle.ph_specs.specs.PutTree.{body_above}
 use Rattle.ph_node.specs.Merge.{addr_at}
 use Rattle.ph_node.specs.Shown.{shown}
 use Rattle.ph_node.specs.Split.{body_at}
+use Rattle.ph_node.specs.Spots.{IsSpot}
+use Rattle.ph_node.specs.declared.spots.Spot.{Spot}
 use Rattle.ph_path.specs.declared.frame.FrameOf.{FrameOf}
 use Rattle.ph_path.specs.Path.{AreOver, IsPath, found_in, found, counted}
 
@@ -37,11 +39,11 @@ drop-at {X = X} es i x g = by_suc es i g ∙ ap {B = List X} (λ n. x ∷ drop n
 pub entry-first : (es : List Entry) (i : ℕ) (x : Entry) → slice_get es i ≡ Some x → chained (drop i es) ≡ in_front x.addr x.body x.what (chained (drop (i + 1) es))
 entry-first es i x g = ap chained (drop-at es i x g)
 
--- an entry by its parts
-pub read-entry : (es : List Entry) (i a : ℕ) (body : List ℕ) (o : What) → i < length es → a ≡ addr_at es i → body ≡ body_at es i → o ≡ what_at es i → slice_get es i ≡ Some (record { addr = a; body = body; what = o })
-read-entry es i a body o l e f g =
-    here es i l ∙ ap {B = Option Entry} (λ a. Some (record { addr = a; body = body_at es i; what = what_at es i })) (sym e)
-    ∙ ap {B = Option Entry} (λ b. Some (record { addr = a; body = b; what = what_at es i })) (sym f) ∙ ap {B = Option Entry} (λ o. Some (record { addr = a; body = body; what = o })) (sym g)
+-- the entry that stands at a spot
+pub read-entry : (es : List Entry) (s : Spot) {i : ℕ} {o : What} → s.place ≡ i → IsSpot es s → o ≡ what_at es s.place → slice_get es i ≡ Some (record { addr = s.addr; body = body_at es s.place; what = o })
+read-entry es s at h e =
+    ap (slice_get es) (sym at) ∙ here es s.place h.within ∙ ap {B = Option Entry} (λ a. Some (record { addr = a; body = body_at es s.place; what = what_at es s.place })) (sym h.address)
+    ∙ ap {B = Option Entry} (λ o. Some (record { addr = s.addr; body = body_at es s.place; what = o })) (sym e)
   where
     here : (es : List Entry) (i : ℕ) → i < length es → slice_get es i ≡ Some (record { addr = addr_at es i; body = body_at es i; what = what_at es i })
     here [] i l = absurd (omega (arith, l))

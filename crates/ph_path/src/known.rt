@@ -2,11 +2,15 @@
 ghost use Rattle.std.specs.Prelude.{◌≡◌, ◌<◌, ◌≤◌, length, take, replicate};
 ghost use Rattle.ph_specs.specs.Coordinate.{IsPoint};
 ghost use Rattle.ph_specs.specs.Lawful.{IsBody, put_together};
+ghost use Rattle.ph_specs.specs.Node.{entries};
 ghost use Rattle.ph_specs.specs.PutTree.{body_above};
+ghost use Rattle.ph_node.specs.Shown.{shown};
+ghost use Rattle.ph_node.specs.Split.{body_at};
+ghost use Rattle.ph_node.specs.Spots.{IsSpot};
 ghost use Rattle.ph_path.specs.Known.{known_at, point_at};
 
 use ph_coord::{Dim, Dims, Point, Width};
-use ph_digits::join;
+use ph_node::{NodeOf, NodeRefOf, Spot};
 use std::marker::{Model, PhantomData};
 
 /// The offsets of a point as far as its digits are known. What is known above a level does not change while digits are joined below
@@ -60,14 +64,14 @@ impl<P: Dims> KnownOf<P> {
         &self.digits[..P::D]
     }
 
-    /// Puts the digits of an entry behind those that are known above its level.
-    pub fn join(&mut self, level: u32, addr: u32, body: &[u64])
-        requires level { level < self.old.width }
-        requires body { IsBody P.D level body.now }
-        ensures { self.new ≡ known_at self.old.width (put_together level addr (body_above level self.old.digits) body.now) }
+    /// Puts the digits of an entry behind those that are known above its node's level.
+    pub fn join(&mut self, node: NodeRefOf<'_, NodeOf<P>>, spot: Spot)
+        requires level { (shown node).level < self.old.width }
+        requires spot { IsSpot (entries (shown node)) spot }
+        ensures { self.new ≡ known_at self.old.width (put_together (shown node.entry).level spot.addr (body_above (shown node.entry).level self.old.digits) (body_at (entries (shown node.entry)) spot.place)) }
     {
         let dims = P::D;
-        join(&mut self.digits[..dims], level, addr, body);
+        node.join(spot, &mut self.digits[..dims]);
     }
 }
 

@@ -1,6 +1,6 @@
 -- Nodes that are compared entry by entry, and whole trees.
-use Rattle.std.proofs.Common.{◌≡◌, ℕ, suc, ◌+◌, ◌<◌, ◌≤◌, List, [], ◌∷◌, ◌++◌, length, take, drop, refl, sym, ◌∙◌, ap, subst, arith, take-append-drop, length-append}
-use Rattle.std.specs.Prelude.{Option, Some, None, replicate, ◌↔◌, IsTrue, Bool}
+use Rattle.std.proofs.Common.{◌≡◌, ℕ, suc, ◌+◌, ◌-◌, ◌<◌, ◌≤◌, List, [], ◌∷◌, ◌++◌, length, take, drop, not, true, false, refl, sym, ◌∙◌, ap, subst, arith, inl, inr, eqb-true, eq-eqb, take-append-drop, length-append}
+use Rattle.std.specs.Prelude.{Option, Some, None, replicate, ◌↔◌, ◌==◌, IsTrue, Bool, slice_get}
 use Rattle.std.specs.Borrow.{Bor}
 use Rattle.std.specs.Option.{option_copied}
 use Rattle.std.proofs.lemmas.List.{take_more, take_more_same}
@@ -8,14 +8,22 @@ use Rattle.std.proofs.lemmas.Option.{get_or_from_slice_get}
 use Rattle.ph_specs.specs.EntryEdits.{what_at}
 use Rattle.ph_specs.specs.Lawful.{IsLawful, IsLawfulFrom, IsLawfulWhat, put_together, rows}
 use Rattle.ph_specs.specs.Node.{Entries, end, point, child, Entry, What, value, node, PlainNode, entries, chained, node_of, nodes, nodes_below}
+use Rattle.ph_specs.specs.PutTree.{same_digits}
 use Rattle.ph_specs.specs.Shape.{shape}
 use Rattle.ph_specs.specs.Table.{Row, IsTable}
 use Rattle.ph_specs.specs.WorkSets.{all_nodes, placed, placed_below}
+use Rattle.ph_specs.proofs.lemmas.PointDigits.{same_digits-true, same_digits-refl}
+use Rattle.ph_specs.proofs.laws.Put.{either}
 use Rattle.ph_specs.proofs.laws.EntryLists.{node_of-entries, chained-listed, entry-lawful}
 use Rattle.ph_specs.proofs.laws.Ranked.{take-all}
 use Rattle.ph_specs.proofs.laws.TableShape.{table-shape}
+use Rattle.ph_node.specs.Bodies.{IsBodyArray}
+use Rattle.ph_node.specs.Shown.{entry_of, what_of}
+use Rattle.ph_node.specs.declared.reads.EntryOf.{EntryOf}
+use Rattle.ph_node.specs.declared.reads.WhatOf.{WhatOf}
+use Rattle.ph_node.specs.declared.reads.WhatOf.TheVariants.{Value, Child}
 use Rattle.ph_tree.specs.Compared.{AreAlike, many_held}
-use Rattle.ph_tree.proofs.Steps.{entry_at, entry_there}
+use Rattle.ph_tree.proofs.Steps.{entry_at, entry_there, addr_got, body_got, what_got}
 
 -- ---- one entry
 
@@ -37,6 +45,65 @@ pub node-same : (a b : PlainNode) (i : ℕ) → a.level ≡ b.level → length (
 node-same a b i e l m t =
     let f : entries a ≡ entries b = sym (take-all i (entries a) l) ∙ t ∙ take-all i (entries b) m in
     sym (node_of-entries a) ∙ ap (λ n. node_of n (entries a)) e ∙ ap (λ es. node_of b.level es) f ∙ node_of-entries b
+
+-- ---- entries as they are read
+
+-- numbers that are the same, by a test for others
+pub body_same : (xs ys : List ℕ) (r : Bool) → r ≡ not (same_digits xs ys) → r ≡ false → xs ≡ ys
+body_same xs ys r h e =
+    elim (either (same_digits xs ys)) [
+      | inl same ↦ same_digits-true xs ys same
+      | inr other ↦ absurd (let no : true ≡ false = sym (h ∙ ap not other) ∙ e in cc)
+    ]
+
+pub body_other : (xs ys : List ℕ) (r : Bool) → r ≡ not (same_digits xs ys) → r ≡ true → xs ≡ ys → ⊥
+body_other xs ys r h e s =
+    let no : true ≡ false = sym e ∙ h ∙ ap not (same_digits-refl xs ys s) in cc
+
+pub never : {A : Type 0} → (A → ⊥) → IsTrue false ↔ A
+never n = (λ f. absurd (let no : false ≡ true = f in cc), λ h. absurd (n h))
+
+module _ (dims : ℕ) {i : ℕ} {xs ys : List Entry} (a b : EntryOf PlainNode) (x : slice_get xs i ≡ Some (entry_of dims a)) (y : slice_get ys i ≡ Some (entry_of dims b)) where
+  pub alike_addr : AreAlike xs ys i → a.addr ≡ b.addr
+  alike_addr h = sym (addr_got xs i (entry_of dims a) x) ∙ h.address ∙ addr_got ys i (entry_of dims b) y
+
+  pub alike_body : (l m : ℕ) → IsBodyArray dims l a.body → IsBodyArray dims m b.body → AreAlike xs ys i → a.body ≡ b.body
+  alike_body l m p q h =
+      let t : take dims a.body ≡ take dims b.body = sym (body_got xs i (entry_of dims a) x) ∙ h.body ∙ body_got ys i (entry_of dims b) y in
+      p.filled ∙ ap (λ u. u ++ replicate (16 - dims) 0) t ∙ sym q.filled
+
+  alike_what : AreAlike xs ys i → what_of a.what ≡ what_of b.what
+  alike_what h = sym (what_got xs i (entry_of dims a) x) ∙ h.what ∙ what_got ys i (entry_of dims b) y
+
+  module _ (e : a.addr ≡ b.addr) (f : a.body ≡ b.body) where
+    are_alike : what_of a.what ≡ what_of b.what → AreAlike xs ys i
+    are_alike w = record {
+      address = addr_got xs i (entry_of dims a) x ∙ e ∙ sym (addr_got ys i (entry_of dims b) y);
+      body = body_got xs i (entry_of dims a) x ∙ ap (take dims) f ∙ sym (body_got ys i (entry_of dims b) y);
+      what = what_got xs i (entry_of dims a) x ∙ w ∙ sym (what_got ys i (entry_of dims b) y);
+    }
+
+    pub alike_values : {u v : ℕ} → a.what ≡ Value u → b.what ≡ Value v → IsTrue (u == v) ↔ AreAlike xs ys i
+    alike_values {u} {v} p q = (
+      λ t. are_alike (ap what_of p ∙ ap value (eqb-true u v t) ∙ sym (ap what_of q)),
+      λ h. let w : value u ≡ value v = sym (ap what_of p) ∙ alike_what h ∙ ap what_of q in let s : u ≡ v = cc in eq-eqb u v s,
+    )
+
+    pub alike_children : {m n : Bor PlainNode} {r : Bool} → a.what ≡ Child m → b.what ≡ Child n → (IsTrue r ↔ (m.now ≡ n.now)) → IsTrue r ↔ AreAlike xs ys i
+    alike_children {m} {n} p q same = (
+      λ t. are_alike (ap what_of p ∙ ap node (same.0 t) ∙ sym (ap what_of q)),
+      λ h. let w : node m.now ≡ node n.now = sym (ap what_of p) ∙ alike_what h ∙ ap what_of q in let s : m.now ≡ n.now = cc in same.1 s,
+    )
+
+  pub mixed : {u : ℕ} {n : Bor PlainNode} → a.what ≡ Value u → b.what ≡ Child n → AreAlike xs ys i → ⊥
+  mixed {u} {n} p q h = let w : value u ≡ node n.now = sym (ap what_of p) ∙ alike_what h ∙ ap what_of q in cc
+
+  pub mixed_other : {m : Bor PlainNode} {v : ℕ} → a.what ≡ Child m → b.what ≡ Value v → AreAlike xs ys i → ⊥
+  mixed_other {m} {v} p q h = let w : node m.now ≡ value v = sym (ap what_of p) ∙ alike_what h ∙ ap what_of q in cc
+
+-- how many nodes are held, by an entry that is read
+pub held-read : (dims i : ℕ) (xs : List Entry) (a : EntryOf PlainNode) (w : WhatOf PlainNode) → slice_get xs i ≡ Some (entry_of dims a) → a.what ≡ w → many_held (what_at xs i) ≡ many_held (what_of w)
+held-read dims i xs a w x is = ap many_held (what_got xs i (entry_of dims a) x) ∙ ap (λ u. many_held (what_of u)) is
 
 -- ---- how many nodes
 

@@ -17,11 +17,13 @@ use Rattle.ph_node.specs.Shown.{shown}
 use Rattle.ph_node.specs.Split.{IsValue, body_at}
 use Rattle.ph_node.specs.Merge.{IsPair, entries_held, addr_at, body_beside, merge_node}
 use Rattle.ph_node.proofs.Merges.{got}
+use Rattle.ph_node.specs.Spots.{IsSpot}
 use Rattle.ph_node.specs.declared.reads.NodeRefOf.{NodeRefOf}
+use Rattle.ph_node.specs.declared.spots.Spot.{Spot}
 use Rattle.ph_tree.specs.declared.step.StepOf.{StepOf}
 use Rattle.ph_tree.specs.declared.step.StepOf.TheVariants.{Absent, Same, Below, Other}
 use Rattle.ph_tree.specs.Step.{IsAt, IsApart, IsStep, IsOwn, IsAmong}
-use Rattle.ph_tree.proofs.Steps.{what_got, body_got, within}
+use Rattle.ph_tree.proofs.Steps.{what_got, body_got, within, spot_at}
 use Rattle.ph_tree.proofs.Walks.{no_entry, not_same, least-address, IsStepAt, step_as, below_digits, way_below}
 
 -- ---- the place of an entry
@@ -43,11 +45,11 @@ place-at dims b least (child a body c chain rest) (suc i) x h g =
     let ih : position_or_len (has_address x.addr) (listed rest) ≡ i = place-at dims b (a + 1) rest i x h.7 g in
     ap (λ t. cond (not t) (1 + position_or_len (has_address x.addr) (listed rest)) 0) (ne_eqb a x.addr (λ e. omega (arith, l, e))) ∙ omega (arith, ih)
 
-pub entry_at : (w dims : ℕ) (p : List ℤ) (t : PlainNode) (i : ℕ) (x : Entry) → IsLawfulFrom dims t.level 0 t.chain → IsAt w p t i x → IsEntryAt w t p i x
-entry_at w dims p t i x ok at =
-    let q : position_or_len (has_address (address w p t.level)) (entries t) ≡ i = subst (λ a. position_or_len (has_address a) (entries t) ≡ i) at.1 (place-at dims t.level 0 t.chain i x ok at.0) in
+pub entry_at : (w dims : ℕ) (p : List ℤ) (t : PlainNode) (spot : Spot) (x : Entry) → IsLawfulFrom dims t.level 0 t.chain → IsAt w p t spot x → IsEntryAt w t p spot.place x
+entry_at w dims p t spot x ok at =
+    let q : position_or_len (has_address (address w p t.level)) (entries t) ≡ spot.place = subst (λ a. position_or_len (has_address a) (entries t) ≡ spot.place) at.1 (place-at dims t.level 0 t.chain spot.place x ok at.0) in
     record {
-      first = rw (q, lt-ltb i (length (entries t)) (within (entries t) i x at.0)) refl;
+      first = rw (q, lt-ltb spot.place (length (entries t)) (within (entries t) spot.place x at.0)) refl;
       is = at.0;
     }
 
@@ -73,22 +75,22 @@ empty (x ∷ es) e = absurd (omega (arith, e))
 -- ---- what is found among the entries
 
 module _ (w dims : ℕ) (p : List ℤ) (t : PlainNode) (ok : IsLawfulFrom dims t.level 0 t.chain) where
-  module _ (i v : ℕ) (s : IsOwn w p t i v) where
+  module _ (spot : Spot) (v : ℕ) (s : IsOwn w p t spot v) where
     pub own_found : find_node w t p ≡ Some v
     own_found =
-        laws.find_node-value w dims t i s.0 v p ok s.1.0 s.1.1 s.2 ∙ ap (λ z. cond z (Some v) None) (same_digits-refl s.0.body (digits_below w t.level p) s.3)
+        laws.find_node-value w dims t spot.place s.0 v p ok s.1.0 s.1.1 s.2 ∙ ap (λ z. cond z (Some v) None) (same_digits-refl s.0.body (digits_below w t.level p) s.3)
 
-    pub own_del : node_of t.level (without (entries t) i) ≡ del_node w t p
+    pub own_del : node_of t.level (without (entries t) spot.place) ≡ del_node w t p
     own_del =
-        sym (del_node-point w t p i s.0 v (entry_at w dims p t i s.0 ok s.1) s.2 (same_digits-refl s.0.body (digits_below w t.level p) s.3))
+        sym (del_node-point w t p spot.place s.0 v (entry_at w dims p t spot s.0 ok s.1) s.2 (same_digits-refl s.0.body (digits_below w t.level p) s.3))
 
-    own_inside : i < length (entries t)
-    own_inside = within (entries t) i s.0 s.1.0
+    own_inside : spot.place < length (entries t)
+    own_inside = within (entries t) spot.place s.0 s.1.0
 
-    own_length : length (entries (del_node w t p)) + 1 ≡ length (entries t)
+    pub own_length : length (entries (del_node w t p)) + 1 ≡ length (entries t)
     own_length =
-        let e : length (entries (del_node w t p)) ≡ length (without (entries t) i) = ap (λ u. length (entries u)) (sym own_del) ∙ length-node t.level (without (entries t) i) in
-        omega (arith, e, length-without (entries t) i own_inside)
+        let e : length (entries (del_node w t p)) ≡ length (without (entries t) spot.place) = ap (λ u. length (entries u)) (sym own_del) ∙ length-node t.level (without (entries t) spot.place) in
+        omega (arith, e, length-without (entries t) spot.place own_inside)
 
     -- where entries are left, there are two
     pub own_many : 1 ≤ length (entries (del_node w t p)) → 2 ≤ length (entries t)
@@ -98,24 +100,24 @@ module _ (w dims : ℕ) (p : List ℤ) (t : PlainNode) (ok : IsLawfulFrom dims t
     pub own_last : length (entries t) ≡ 1 → del_tree w dims (Some t) p ≡ None
     own_last l = del_tree-none w dims t p (empty (entries (del_node w t p)) (omega (arith, l, own_length)))
 
-  other_del_by : (i : ℕ) (x : Entry) (held : What) → IsAt w p t i x → x.what ≡ held → IsApart w p t.level x.body held → del_node w t p ≡ t
-  other_del_by i x (value u) at q a =
-      del_node-other_point w t p i x u (entry_at w dims p t i x ok at) q (not_same x.body (digits_below w t.level p) a)
-  other_del_by i x (node m) at q a =
-      del_node-other_child w t p i x m (entry_at w dims p t i x ok at) q (not_same x.body (digits_between w t.level m.level p) a)
+  other_del_by : (spot : Spot) (x : Entry) (held : What) → IsAt w p t spot x → x.what ≡ held → IsApart w p t.level x.body held → del_node w t p ≡ t
+  other_del_by spot x (value u) at q a =
+      del_node-other_point w t p spot.place x u (entry_at w dims p t spot x ok at) q (not_same x.body (digits_below w t.level p) a)
+  other_del_by spot x (node m) at q a =
+      del_node-other_child w t p spot.place x m (entry_at w dims p t spot x ok at) q (not_same x.body (digits_between w t.level m.level p) a)
 
   -- a node of so many entries in which none is the point keeps so many
   pub none_among : (many : ℕ) → position (has_address (address w p t.level)) (entries t) ≡ None → many ≤ length (entries t) → many ≤ length (entries (del_node w t p))
   none_among many n l =
       let e : length (entries (del_node w t p)) ≡ length (entries t) = ap (λ u. length (entries u)) (del_node-none w t p n) in omega (arith, l, e)
 
-  pub other_among : (i many : ℕ) (x : Entry) (u : ℕ) → IsAt w p t i x → x.what ≡ value u → (x.body ≡ digits_below w t.level p → ⊥) → many ≤ length (entries t) → many ≤ length (entries (del_node w t p))
-  other_among i many x u at q a l =
-      let e : length (entries (del_node w t p)) ≡ length (entries t) = ap (λ u. length (entries u)) (other_del_by i x (value u) at q a) in omega (arith, l, e)
+  pub other_among : (spot : Spot) (many : ℕ) (x : Entry) (u : ℕ) → IsAt w p t spot x → x.what ≡ value u → (x.body ≡ digits_below w t.level p → ⊥) → many ≤ length (entries t) → many ≤ length (entries (del_node w t p))
+  other_among spot many x u at q a l =
+      let e : length (entries (del_node w t p)) ≡ length (entries t) = ap (λ u. length (entries u)) (other_del_by spot x (value u) at q a) in omega (arith, l, e)
 
-  pub child_among : (i many : ℕ) (x : Entry) (m : PlainNode) → IsAt w p t i x → x.what ≡ node m → many ≤ length (entries t) → many ≤ length (entries (del_node w t p))
-  child_among i many x m at q l =
-      omega (arith, l, length-del_node-child w t p i x m (entry_at w dims p t i x ok at) q)
+  pub child_among : (spot : Spot) (many : ℕ) (x : Entry) (m : PlainNode) → IsAt w p t spot x → x.what ≡ node m → many ≤ length (entries t) → many ≤ length (entries (del_node w t p))
+  child_among spot many x m at q l =
+      omega (arith, l, length-del_node-child w t p spot.place x m (entry_at w dims p t spot x ok at) q)
 
   -- one of another number of entries
   pub other_number : (n many : ℕ) → n ≡ length (entries t) → n ≢ many → many ≤ length (entries t) → many ≤ length (entries (del_node w t p))
@@ -132,71 +134,72 @@ pair-other (a ∷ b ∷ []) (suc (suc j)) l m = absurd (omega (arith, m))
 pair-other (a ∷ b ∷ c ∷ es) j l m = absurd (omega (arith, l))
 
 -- all that a merge asks, and what it makes
-pub record Merges (w : ℕ) (p : List ℤ) (t : PlainNode) (i j v : ℕ) : Type 0 where
-  pub inside : i < length (entries t)
-  pub pair : IsPair t.level (body_at (entries t) i) (what_at (entries t) i)
+pub record Merges (w : ℕ) (p : List ℤ) (t : PlainNode) (spot : Spot) (j v : ℕ) : Type 0 where
+  pub there : IsSpot (entries t) spot
+  pub pair : IsPair t.level (body_at (entries t) spot.place) (what_at (entries t) spot.place)
   pub one : j < 2
-  pub point : IsValue (what_at (entries_held (what_at (entries t) i)) j)
-  pub del : merge_node t i j ≡ del_node w t p
+  pub point : IsValue (what_at (entries_held (what_at (entries t) spot.place)) j)
+  pub del : merge_node t spot.place j ≡ del_node w t p
   pub found : find_node w t p ≡ Some v
 
 module _ {dims w o : ℕ} {p : List ℤ} {t : PlainNode} {found : StepOf PlainNode} (k : IsStepAt dims w p t found o) where
-  pub absent_del : {i : ℕ} → found ≡ Absent i → t ≡ del_node w t p
+  pub absent_del : {place : ℕ} → found ≡ Absent place → t ≡ del_node w t p
   absent_del is = sym (del_node-none w t p (step_as k is).0)
 
-  pub other_del : {i : ℕ} → found ≡ Other i → t ≡ del_node w t p
-  other_del {i = i} is =
-      let s = step_as k is in sym (other_del_by w dims p t k.lawful i s.0 s.0.what s.1 refl s.2)
+  pub other_del : {spot : Spot} → found ≡ Other spot → t ≡ del_node w t p
+  other_del {spot = spot} is =
+      let s = step_as k is in sym (other_del_by w dims p t k.lawful spot s.0 s.0.what s.1 refl s.2)
 
-  module _ {i v : ℕ} (is : found ≡ Same i v) where
-    same_own : IsOwn w p t i v
+  module _ {spot : Spot} {v : ℕ} (is : found ≡ Same spot v) where
+    same_own : IsOwn w p t spot v
     same_own = let s = step_as k is in (s.0, s.1, s.2, s.3)
 
-    pub same_del : node_of t.level (without (entries t) i) ≡ del_node w t p
-    same_del = own_del w dims p t k.lawful i v same_own
+    pub same_del : node_of t.level (without (entries t) spot.place) ≡ del_node w t p
+    same_del = own_del w dims p t k.lawful spot v same_own
 
     pub same_many : 1 ≤ length (entries (del_node w t p)) → 2 ≤ length (entries t)
-    same_many = own_many w dims p t k.lawful i v same_own
+    same_many = own_many w dims p t k.lawful spot v same_own
 
-  module _ {i : ℕ} {m : NodeRefOf PlainNode} (is : found ≡ Below i m) where
-    abbrev nearer : IsStep w p t (Below i m) o
+  module _ {spot : Spot} {m : NodeRefOf PlainNode} (is : found ≡ Below spot m) where
+    abbrev nearer : IsStep w p t (Below spot m) o
     nearer = step_as k is
 
-    below_lawful : IsLawfulChild dims t.level nearer.0 (shown m)
-    below_lawful = lawful-child dims t.level 0 t.chain i nearer.0 (shown m) k.lawful nearer.1.0 nearer.2
+    pub below_lawful : IsLawfulChild dims t.level nearer.0 (shown m)
+    below_lawful = lawful-child dims t.level 0 t.chain spot.place nearer.0 (shown m) k.lawful nearer.1.0 nearer.2
 
     -- a child keeps two entries where it has more, or where none is the point
     pub below_left : {n : PlainNode} → shown m ≡ n → IsAmong w p (shown m) 2 None → 2 ≤ length (entries (del_node w n p))
     below_left e h = subst (λ u. 2 ≤ length (entries (del_node w u p))) e (h below_lawful.many)
 
-    pub below_del : {n : PlainNode} → shown m ≡ n → IsAmong w p (shown m) 2 None → with_child t i (del_node w n p) ≡ del_node w t p
+    pub below_del : {n : PlainNode} → shown m ≡ n → IsAmong w p (shown m) 2 None → with_child t spot.place (del_node w n p) ≡ del_node w t p
     below_del e h =
-        subst (λ u. with_child t i (del_node w u p) ≡ del_node w t p) e (sym (del_node-child w t p i nearer.0 (shown m) (entry_at w dims p t i nearer.0 k.lawful nearer.1) nearer.2 (below_digits k is) (h below_lawful.many)))
+        subst (λ u. with_child t spot.place (del_node w u p) ≡ del_node w t p) e (sym (del_node-child w t p spot.place nearer.0 (shown m) (entry_at w dims p t spot nearer.0 k.lawful nearer.1) nearer.2 (below_digits k is) (h below_lawful.many)))
 
-    pub merges : {j v : ℕ} → (length (entries (shown m)) ≡ 2) × IsOwn w p (shown m) j v → Merges w p t i j v
-    merges {j = j} {v = v} (two, y) =
+    pub merges : {own : Spot} {v : ℕ} → (length (entries (shown m)) ≡ 2) × IsOwn w p (shown m) own v → Merges w p t spot own.place v
+    merges {own = own} {v = v} (two, y) =
+        let j : ℕ = own.place in
         let one : j < 2 = omega (arith, two, within (entries (shown m)) j y.0 y.1.0) in
         let z : (z : Entry) × (slice_get (entries (shown m)) (1 - j) ≡ Some z) = pair-other (entries (shown m)) j two one in
-        let held : what_at (entries t) i ≡ node (shown m) = what_got (entries t) i nearer.0 nearer.1.0 ∙ nearer.2 in
-        let front : body_at (entries t) i ≡ nearer.0.body = body_got (entries t) i nearer.0 nearer.1.0 in
+        let held : what_at (entries t) spot.place ≡ node (shown m) = what_got (entries t) spot.place nearer.0 nearer.1.0 ∙ nearer.2 in
+        let front : body_at (entries t) spot.place ≡ nearer.0.body = body_got (entries t) spot.place nearer.0 nearer.1.0 in
         let at : (addr_at (entries (shown m)) (1 - j) ≡ z.0.addr) × (body_at (entries (shown m)) (1 - j) ≡ z.0.body) × (what_at (entries (shown m)) (1 - j) ≡ z.0.what) = got (entries (shown m)) (1 - j) z.0 z.1 in
         record {
-          inside = within (entries t) i nearer.0 nearer.1.0;
-          pair = subst (λ u. IsPair t.level u (what_at (entries t) i)) (sym front) (subst (IsPair t.level nearer.0.body) (sym held) (record { two = two; lower = below_lawful.lower; zeros = below_lawful.zeros }));
+          there = spot_at w p t spot nearer.0 nearer.1;
+          pair = subst (λ u. IsPair t.level u (what_at (entries t) spot.place)) (sym front) (subst (IsPair t.level nearer.0.body) (sym held) (record { two = two; lower = below_lawful.lower; zeros = below_lawful.zeros }));
           one = one;
           point = subst (λ u. IsValue (what_at (entries_held u) j)) (sym held) (subst IsValue (sym (what_got (entries (shown m)) j y.0 y.1.0 ∙ y.2)) tt);
           del =
-              ap (λ u. node_of t.level (merged (entries t) i j (body_beside u (what_at (entries t) i) j))) front
-              ∙ ap (λ u. node_of t.level (merged (entries t) i j (body_beside nearer.0.body u j))) held
-              ∙ ap (λ n. node_of t.level (merged (entries t) i j (put_together (shown m).level n nearer.0.body (body_at (entries (shown m)) (1 - j))))) at.0
-              ∙ ap (λ u. node_of t.level (merged (entries t) i j (put_together (shown m).level z.0.addr nearer.0.body u))) at.1
-              ∙ sym (del_node-pair w t p i nearer.0 (shown m) j y.0 v z.0 (entry_at w dims p t i nearer.0 k.lawful nearer.1) nearer.2 (below_digits k is) (entry_at w dims p (shown m) j y.0 below_lawful.lawful y.1) y.2 (same_digits-refl y.0.body (digits_below w (shown m).level p) y.3) two z.1);
-          found = (way_below k is refl).found ∙ own_found w dims p (shown m) below_lawful.lawful j v y;
+              ap (λ u. node_of t.level (merged (entries t) spot.place j (body_beside u (what_at (entries t) spot.place) j))) front
+              ∙ ap (λ u. node_of t.level (merged (entries t) spot.place j (body_beside nearer.0.body u j))) held
+              ∙ ap (λ n. node_of t.level (merged (entries t) spot.place j (put_together (shown m).level n nearer.0.body (body_at (entries (shown m)) (1 - j))))) at.0
+              ∙ ap (λ u. node_of t.level (merged (entries t) spot.place j (put_together (shown m).level z.0.addr nearer.0.body u))) at.1
+              ∙ sym (del_node-pair w t p spot.place nearer.0 (shown m) j y.0 v z.0 (entry_at w dims p t spot nearer.0 k.lawful nearer.1) nearer.2 (below_digits k is) (entry_at w dims p (shown m) own y.0 below_lawful.lawful y.1) y.2 (same_digits-refl y.0.body (digits_below w (shown m).level p) y.3) two z.1);
+          found = (way_below k is refl).found ∙ own_found w dims p (shown m) below_lawful.lawful own v y;
         }
 
 -- ---- a root
 
-length-count : (e : Entries) → length (listed e) ≡ count e
+pub length-count : (e : Entries) → length (listed e) ≡ count e
 length-count end = refl
 length-count (point a body v rest) = ap suc (length-count rest)
 length-count (child a body c chain rest) = ap suc (length-count rest)
@@ -214,11 +217,11 @@ module _ (w dims : ℕ) (p : List ℤ) (n s : PlainNode) (is : s ≡ n) (t : Opt
   root_kept h u e =
       ap (λ (m : PlainNode). Some m) e ∙ sym (del_tree-some w dims n p (root_left h)) ∙ ap (λ o. del_tree w dims o p) root
 
-  module _ (i v : ℕ) (h : (length (entries s) ≡ 1) × IsOwn w p s i v) where
+  module _ (spot : Spot) (v : ℕ) (h : (length (entries s) ≡ 1) × IsOwn w p s spot v) where
     pub last_found : Some v ≡ find_tree w dims t p
     last_found =
-        sym (own_found w dims p n ok_root.2 i v (subst (λ u. IsOwn w p u i v) is h.1)) ∙ ap (λ o. find_tree w dims o p) root
+        sym (own_found w dims p n ok_root.2 spot v (subst (λ u. IsOwn w p u spot v) is h.1)) ∙ ap (λ o. find_tree w dims o p) root
 
     pub last_gone : None ≡ del_tree w dims t p
     last_gone =
-        sym (own_last w dims p n ok_root.2 i v (subst (λ u. IsOwn w p u i v) is h.1) (subst (λ u. length (entries u) ≡ 1) is h.0)) ∙ ap (λ o. del_tree w dims o p) root
+        sym (own_last w dims p n ok_root.2 spot v (subst (λ u. IsOwn w p u spot v) is h.1) (subst (λ u. length (entries u) ≡ 1) is h.0)) ∙ ap (λ o. del_tree w dims o p) root

@@ -2,9 +2,15 @@
 pub mod Compared
 mod Fewer
 mod Gone
+mod Lengths
 mod Offsets
+mod PutWords
+mod RecordWords
+mod Rooms
 mod Shifted
+mod Sizes
 mod Steps
 mod Trees
 mod Walks
+mod Wanted
 mod Ways

@@ -15,13 +15,14 @@ use Rattle.ph_specs.proofs.laws.Order.{before_trans, before_irrefl}
 use Rattle.ph_specs.proofs.laws.FindTree.{not_same}
 use Rattle.ph_specs.proofs.laws.PutTree.{lawful-put_tree, rows-put_tree}
 use Rattle.ph_specs.proofs.laws.Del.{found-value}
-use Rattle.ph_specs.proofs.laws.DelTree.{lawful-del_tree, rows-del_tree, move-steps, move-taken}
+use Rattle.ph_specs.proofs.laws.DelTree.{lawful-del_tree, rows-del_tree, move-none, move-steps, move-taken}
 use Rattle.ph_specs.proofs.laws.LawfulRows.{rows-table}
 use Rattle.ph_specs.proofs.laws.Paths.{path-few}
 use Rattle.ph_tree.specs.Opened.{opened_in}
 use Rattle.ph_tree.specs.Key.{Key}
 use Rattle.ph_tree.specs.Tree.{TreeTable, tree_table, IsTree}
-use Rattle.ph_tree.specs.Moves.{with_moved}
+use Rattle.ph_tree.specs.Moves.{answer_for, move_answer, with_moved}
+use Rattle.ph_tree.specs.declared.moves.Moved.TheVariants.{Done, Absent, Taken}
 use Rattle.ph_tree.proofs.Trees.{tree_of, IsKeyed, at_width, length-put}
 use Rattle.ph_tree.proofs.Fewer.{length-del}
 use Rattle.ph_tree.proofs.Ways.{path-opened}
@@ -148,6 +149,28 @@ pub stays_there : (s : TreeTable) (from to : List ℤ) (v : ℕ) → Some v ≡ 
 stays_there s from to v f e =
     let same : find s.table to ≡ Some v = sym (f ∙ ap (find s.table) (same_from_test from to e)) in
     ap {B = TreeTable} (λ (r : List Row). record s { table = r }) (sym (move-taken s.width s.table from to (ap (λ o. is_some o) same)))
+
+-- where no row is at the point, nothing moves
+pub none_there : (s : TreeTable) (from to : List ℤ) → find s.table from ≡ None → s ≡ with_moved s from to
+none_there s from to none = ap {B = TreeTable} (λ (r : List Row). record s { table = r }) (sym (move-none s.width s.table from to none))
+
+-- ---- the answer of a move
+
+pub answer_absent : (rs : List Row) (from to : List ℤ) → find rs from ≡ None → Absent ≡ move_answer rs from to
+answer_absent rs from to none = sym (ap (answer_for rs from to) none)
+
+module _ (rs : List Row) (from to : List ℤ) (v : ℕ) (found : find rs from ≡ Some v) where
+  pub answer_same : same_point from to ≡ true → Done ≡ move_answer rs from to
+  answer_same same = sym (ap (answer_for rs from to) found ∙ ap (λ b. cond b Done (cond (is_some (find rs to)) Taken Done)) same)
+
+  answer_other : same_point from to ≡ false → move_answer rs from to ≡ cond (is_some (find rs to)) Taken Done
+  answer_other other = ap (answer_for rs from to) found ∙ ap (λ b. cond b Done (cond (is_some (find rs to)) Taken Done)) other
+
+  pub answer_taken : same_point from to ≡ false → is_some (find rs to) ≡ true → Taken ≡ move_answer rs from to
+  answer_taken other taken = sym (answer_other other ∙ ap (λ b. cond b Taken Done) taken)
+
+  pub answer_done : same_point from to ≡ false → find rs to ≡ None → Done ≡ move_answer rs from to
+  answer_done other free = sym (answer_other other ∙ ap (λ o. cond (is_some o) Taken Done) free)
 
 pub none_of : (o : Option ℕ) (b : Bool) → b ≡ is_some o → b ≡ false → o ≡ None
 none_of None b e f = refl

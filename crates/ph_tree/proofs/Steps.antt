@@ -2,7 +2,6 @@
 use Rattle.std.proofs.Common.{◌≡◌, ◌≢◌, ℕ, zero, suc, ◌+◌, ◌*◌, ◌/◌, ◌^◌, ◌<◌, List, [], ◌∷◌, length, map, Bool, true, false, refl, arith, ap, sym, ◌∙◌, subst, inl, inr}
 use Rattle.std.specs.Prelude.{ℤ, Some, None, slice_get, position, unwrap_or}
 use Rattle.std.proofs.lemmas.Bool.{cases_lt}
-use Rattle.std.proofs.lemmas.List.Quantifiers.{position-Some}
 use Rattle.ph_digits.specs.Differences.{IsTopDifference}
 use Rattle.ph_digits.proofs.Cuts.{none_from}
 use Rattle.ph_specs.specs.Coordinate.{offset}
@@ -21,6 +20,8 @@ use Rattle.ph_specs.proofs.laws.DelEntries.{IsLawfulChild, lawful-child}
 use Rattle.ph_specs.proofs.laws.SplitPlace.{split_place-is, split_place-whole, address-of-body, below-of-body}
 use Rattle.ph_node.specs.Merge.{addr_at}
 use Rattle.ph_node.specs.Split.{IsBelow, body_at, entry_below, split_node}
+use Rattle.ph_node.specs.Spots.{IsSpot}
+use Rattle.ph_node.specs.declared.spots.Spot.{Spot}
 use Rattle.ph_node.proofs.Merges.{above-zeros}
 use Rattle.ph_tree.specs.Step.{IsAt, IsApart, IsApartAt}
 
@@ -38,14 +39,11 @@ entry_there [] i l = absurd (omega (arith, l))
 entry_there (x ∷ xs) zero l = refl
 entry_there (x ∷ xs) (suc i) l = entry_there xs i (omega (arith, l))
 
-pub place_inside : (a i : ℕ) (xs : List Entry) → Some i ≡ position (has_address a) xs → i < length xs
-place_inside a i xs f = (position-Some (has_address a) xs i no_entry (sym f)).0
-
 -- the entry that a search by the point's address comes to
-pub at_entry : (w : ℕ) (p : List ℤ) (t : PlainNode) (level a i : ℕ) → level ≡ t.level → a ≡ address w p level → Some i ≡ position (has_address a) (entries t) → IsAt w p t i (entry_at (entries t) i)
-at_entry w p t level a i l d f =
-    let g = entry_there (entries t) i (place_inside a i (entries t) f) in
-    (g, laws.address-found a i (entries t) (entry_at (entries t) i) (sym f) g ∙ d ∙ ap (address w p) l)
+pub at_entry : (w : ℕ) (p : List ℤ) (t : PlainNode) (level a : ℕ) (spot : Spot) → level ≡ t.level → a ≡ address w p level → Some spot.place ≡ position (has_address a) (entries t) → IsSpot (entries t) spot → IsAt w p t spot (entry_at (entries t) spot.place)
+at_entry w p t level a spot l d f h =
+    let g = entry_there (entries t) spot.place h.within in
+    (g, laws.address-found a spot.place (entries t) (entry_at (entries t) spot.place) (sym f) g ∙ d ∙ ap (address w p) l, h.address)
 
 -- a body beside the digits of a point, by its offsets
 module _ (w level : ℕ) (p : List ℤ) (xs os : List ℕ) (r : Bool) (given : os ≡ map (offset w) p) where
@@ -84,6 +82,18 @@ pub within : (xs : List Entry) (i : ℕ) (e : Entry) → slice_get xs i ≡ Some
 within [] i e h = cc
 within (x ∷ xs) zero e h = omega arith
 within (x ∷ xs) (suc i) e h = omega (arith, within xs i e h)
+
+pub addr_got : (xs : List Entry) (i : ℕ) (e : Entry) → slice_get xs i ≡ Some e → addr_at xs i ≡ e.addr
+addr_got [] i e h = cc
+addr_got (x ∷ xs) zero e h = ap (λ o. (unwrap_or o no_entry).addr) h
+addr_got (x ∷ xs) (suc i) e h = addr_got xs i e h
+
+-- the spot of an entry that is there
+pub spot_at : (w : ℕ) (p : List ℤ) (t : PlainNode) (spot : Spot) (x : Entry) → IsAt w p t spot x → IsSpot (entries t) spot
+spot_at w p t spot x at = record {
+  within = within (entries t) spot.place x at.0;
+  address = at.2 ∙ sym (addr_got (entries t) spot.place x at.0);
+}
 
 same_what : (xs : List Entry) (i : ℕ) (e : Entry) → slice_get xs i ≡ Some e → with_what xs i e.what ≡ xs
 same_what [] i e h = cc
@@ -127,17 +137,17 @@ above-digits l (x ∷ xs) = ap {B = List ℕ} (λ u. x / 2 ^ (l + 1) * 2 ^ (l + 
 above-same : (l : ℕ) (xs ys : List ℕ) → digits_from (l + 1) xs ≡ digits_from (l + 1) ys → body_above l xs ≡ body_above l ys
 above-same l xs ys e = above-digits l xs ∙ ap (λ u. map (λ n. n * 2 ^ (l + 1)) u) e ∙ sym (above-digits l ys)
 
-module _ (w dims : ℕ) (p : List ℤ) (t : PlainNode) (i : ℕ) (x : Entry) (at : IsAt w p t i x) (ok : IsLawfulFrom dims t.level 0 t.chain) (new_body : IsBody dims t.level (digits_below w t.level p)) where
+module _ (w dims : ℕ) (p : List ℤ) (t : PlainNode) (spot : Spot) (x : Entry) (at : IsAt w p t spot x) (ok : IsLawfulFrom dims t.level 0 t.chain) (new_body : IsBody dims t.level (digits_below w t.level p)) where
   abbrev new : List ℕ
   new = digits_below w t.level p
 
   old_body : IsBody dims t.level x.body
-  old_body = lawful-body dims t.level 0 t.chain i x ok at.0
+  old_body = lawful-body dims t.level 0 t.chain spot.place x ok at.0
 
   differs_by : (held : What) → x.what ≡ held → IsApart w p t.level x.body held → x.body ≢ digits_below w t.level p
   differs_by (value u) q a e = a e
   differs_by (node m) q a e =
-      let c : IsLawfulChild dims t.level x m = lawful-child dims t.level 0 t.chain i x m ok at.0 q in
+      let c : IsLawfulChild dims t.level x m = lawful-child dims t.level 0 t.chain spot.place x m ok at.0 q in
       a (above-zeros m.level x.body c.zeros ∙ ap (body_above m.level) e)
 
   pub differs : IsApart w p t.level x.body x.what → x.body ≢ digits_below w t.level p
@@ -157,54 +167,54 @@ module _ (w dims : ℕ) (p : List ℤ) (t : PlainNode) (i : ℕ) (x : Entry) (at
     above_by : (held : What) → x.what ≡ held → IsApart w p t.level x.body held → IsBelow place held
     above_by (value u) q a = tt
     above_by (node m) q a =
-        let c : IsLawfulChild dims t.level x m = lawful-child dims t.level 0 t.chain i x m ok at.0 q in
+        let c : IsLawfulChild dims t.level x m = lawful-child dims t.level 0 t.chain spot.place x m ok at.0 q in
         elim (cases_lt m.level place) [
           | inl l ↦ l
           | inr g ↦ absurd (a (above-zeros m.level x.body c.zeros ∙ above-same m.level x.body new (same_from (place + 1) (m.level + 1) x.body new (omega (arith, g)) top.agree)))
         ]
 
-    pub above : IsApart w p t.level x.body x.what → IsBelow place (what_at (entries t) i)
-    above a = subst (IsBelow place) (sym (what_got (entries t) i x at.0)) (above_by x.what refl a)
+    pub above : IsApart w p t.level x.body x.what → IsBelow place (what_at (entries t) spot.place)
+    above a = subst (IsBelow place) (sym (what_got (entries t) spot.place x at.0)) (above_by x.what refl a)
 
-    put_by : (held : What) → x.what ≡ held → IsApart w p t.level x.body held → (v : ℕ) → put_node w t p v ≡ node_of t.level (split_at (entries t) i place (digits_between w t.level place p) (body_address place x.body) (body_below place x.body) (point_entry (address w p place) (digits_below w place p) v))
-    put_by (value u) q a v = laws.put_node-split_point w dims t i x u place p v ok at.0 at.1 q a split_here
+    put_by : (held : What) → x.what ≡ held → IsApart w p t.level x.body held → (v : ℕ) → put_node w t p v ≡ node_of t.level (split_at (entries t) spot.place place (digits_between w t.level place p) (body_address place x.body) (body_below place x.body) (point_entry (address w p place) (digits_below w place p) v))
+    put_by (value u) q a v = laws.put_node-split_point w dims t spot.place x u place p v ok at.0 at.1 q a split_here
     put_by (node m) q a v =
-        let c : IsLawfulChild dims t.level x m = lawful-child dims t.level 0 t.chain i x m ok at.0 q in
-        laws.put_node-split_child w dims t i x m place p v ok at.0 at.1 q a
+        let c : IsLawfulChild dims t.level x m = lawful-child dims t.level 0 t.chain spot.place x m ok at.0 q in
+        laws.put_node-split_child w dims t spot.place x m place p v ok at.0 at.1 q a
         (split_place-whole w t.level m.level x.body p c.lower c.zeros (none_from dims t.level x.body new old_body new_body) a ∙ split_here)
 
-    pub put_split : IsApart w p t.level x.body x.what → (v : ℕ) → split_node t i place (digits_below w t.level p) v ≡ put_node w t p v
+    pub put_split : IsApart w p t.level x.body x.what → (v : ℕ) → split_node t spot.place place (digits_below w t.level p) v ≡ put_node w t p v
     put_split a v =
-        ap (λ o. node_of t.level (split_at (entries t) i place (digits_between w t.level place p) (body_address place o) (body_below place o) (entry_below place new (value v)))) (body_got (entries t) i x at.0)
-        ∙ ap (λ n. node_of t.level (split_at (entries t) i place (digits_between w t.level place p) (body_address place x.body) (body_below place x.body) (record { addr = n; body = body_below place new; what = value v }))) (address-of-body w t.level place p lower)
-        ∙ ap (λ (u : List ℕ). node_of t.level (split_at (entries t) i place (digits_between w t.level place p) (body_address place x.body) (body_below place x.body) (record { addr = address w p place; body = u; what = value v }))) (below-of-body w t.level place p (omega (arith, lower)))
+        ap (λ o. node_of t.level (split_at (entries t) spot.place place (digits_between w t.level place p) (body_address place o) (body_below place o) (entry_below place new (value v)))) (body_got (entries t) spot.place x at.0)
+        ∙ ap (λ n. node_of t.level (split_at (entries t) spot.place place (digits_between w t.level place p) (body_address place x.body) (body_below place x.body) (record { addr = n; body = body_below place new; what = value v }))) (address-of-body w t.level place p lower)
+        ∙ ap (λ (u : List ℕ). node_of t.level (split_at (entries t) spot.place place (digits_between w t.level place p) (body_address place x.body) (body_below place x.body) (record { addr = address w p place; body = u; what = value v }))) (below-of-body w t.level place p (omega (arith, lower)))
         ∙ sym (put_by x.what refl a v)
 
 -- all that a split asks, and what it makes
-pub record Splits (w dims : ℕ) (p : List ℤ) (t : PlainNode) (i place : ℕ) (body : List ℕ) : Type 0 where
-  pub inside : i < length (entries t)
+pub record Splits (w dims : ℕ) (p : List ℤ) (t : PlainNode) (spot : Spot) (place : ℕ) (body : List ℕ) : Type 0 where
+  pub there : IsSpot (entries t) spot
   pub under : place < t.level
   pub digits : IsBody dims t.level body
-  pub apart : body_at (entries t) i ≢ body
-  pub at_place : split_place t.level (body_at (entries t) i) body ≡ place
-  pub over : IsBelow place (what_at (entries t) i)
-  pub put : (v : ℕ) → split_node t i place body v ≡ put_node w t p v
+  pub apart : body_at (entries t) spot.place ≢ body
+  pub at_place : split_place t.level (body_at (entries t) spot.place) body ≡ place
+  pub over : IsBelow place (what_at (entries t) spot.place)
+  pub put : (v : ℕ) → split_node t spot.place place body v ≡ put_node w t p v
 
-pub splits : {w dims level : ℕ} {p : List ℤ} {t : PlainNode} {i place : ℕ} {body : List ℕ} → IsLawfulFrom dims t.level 0 t.chain → IsApartAt w p t i → level ≡ t.level → IsBody dims level body → body ≡ digits_below w level p → IsTopDifference (body_at (entries t) i) (digits_below w t.level p) place → Splits w dims p t i place body
-splits {w = w} {dims = dims} {p = p} {t = t} {i = i} {place = place} {body = body} ok (x, at, a) l body_ok digits top =
+pub splits : {w dims level : ℕ} {p : List ℤ} {t : PlainNode} {spot : Spot} {place : ℕ} {body : List ℕ} → IsLawfulFrom dims t.level 0 t.chain → IsApartAt w p t spot → level ≡ t.level → IsBody dims level body → body ≡ digits_below w level p → IsTopDifference (body_at (entries t) spot.place) (digits_below w t.level p) place → Splits w dims p t spot place body
+splits {w = w} {dims = dims} {p = p} {t = t} {spot = spot} {place = place} {body = body} ok (x, at, a) l body_ok digits top =
     let k : IsBody dims t.level body = subst (λ n. IsBody dims n body) l body_ok in
     let e : body ≡ digits_below w t.level p = digits ∙ ap (λ n. digits_below w n p) l in
-    let here : body_at (entries t) i ≡ x.body = body_got (entries t) i x at.0 in
+    let here : body_at (entries t) spot.place ≡ x.body = body_got (entries t) spot.place x at.0 in
     let n : IsBody dims t.level (digits_below w t.level p) = subst (IsBody dims t.level) e k in
     let d : IsTopDifference x.body (digits_below w t.level p) place = subst (λ u. IsTopDifference u (digits_below w t.level p) place) here top in
     record {
-      inside = within (entries t) i x at.0;
-      under = lower w dims p t i x at ok n place d;
+      there = spot_at w p t spot x at;
+      under = lower w dims p t spot x at ok n place d;
       digits = k;
-      apart = λ s. differs w dims p t i x at ok n a (sym here ∙ s ∙ e);
-      at_place = ap (λ u. split_place t.level u body) here ∙ ap (split_place t.level x.body) e ∙ split_here w dims p t i x at ok n place d;
-      over = above w dims p t i x at ok n place d a;
-      put = λ v. ap (λ u. split_node t i place u v) e ∙ put_split w dims p t i x at ok n place d a v;
+      apart = λ s. differs w dims p t spot x at ok n a (sym here ∙ s ∙ e);
+      at_place = ap (λ u. split_place t.level u body) here ∙ ap (split_place t.level x.body) e ∙ split_here w dims p t spot x at ok n place d;
+      over = above w dims p t spot x at ok n place d a;
+      put = λ v. ap (λ u. split_node t spot.place place u v) e ∙ put_split w dims p t spot x at ok n place d a v;
     }
 
 -- the digits of a point below a node, as a body of its level
@@ -218,12 +228,12 @@ module _ {w dims level : ℕ} {p : List ℤ} {t : PlainNode} {body : List ℕ} (
   below_is = b.digits ∙ ap (λ n. digits_below w n p) b.level_is
 
   -- they differ from the body of an entry of which the point is no part
-  pub bodies_differ : (i : ℕ) → IsLawfulFrom dims t.level 0 t.chain → IsApartAt w p t i → body_at (entries t) i ≡ body → ⊥
-  bodies_differ i ok (x, at, a) s =
-      differs w dims p t i x at ok (subst (IsBody dims t.level) below_is (subst (λ n. IsBody dims n body) b.level_is b.is_body)) a (sym (body_got (entries t) i x at.0) ∙ s ∙ below_is)
+  pub bodies_differ : (spot : Spot) → IsLawfulFrom dims t.level 0 t.chain → IsApartAt w p t spot → body_at (entries t) spot.place ≡ body → ⊥
+  bodies_differ spot ok (x, at, a) s =
+      differs w dims p t spot x at ok (subst (IsBody dims t.level) below_is (subst (λ n. IsBody dims n body) b.level_is b.is_body)) a (sym (body_got (entries t) spot.place x at.0) ∙ s ∙ below_is)
 
-  pub top_there : (i place : ℕ) → IsTopDifference (body_at (entries t) i) body place → IsTopDifference (body_at (entries t) i) (digits_below w t.level p) place
-  top_there i place top = subst (λ u. IsTopDifference (body_at (entries t) i) u place) below_is top
+  pub top_there : (spot : Spot) (place : ℕ) → IsTopDifference (body_at (entries t) spot.place) body place → IsTopDifference (body_at (entries t) spot.place) (digits_below w t.level p) place
+  top_there spot place top = subst (λ u. IsTopDifference (body_at (entries t) spot.place) u place) below_is top
 
-pub apart_inside : (w : ℕ) (p : List ℤ) (t : PlainNode) (i : ℕ) → IsApartAt w p t i → i < length (entries t)
-apart_inside w p t i (x, at, a) = within (entries t) i x at.0
+pub apart_spot : (w : ℕ) (p : List ℤ) (t : PlainNode) (spot : Spot) → IsApartAt w p t spot → IsSpot (entries t) spot
+apart_spot w p t spot (x, at, a) = spot_at w p t spot x at

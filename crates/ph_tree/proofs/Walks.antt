@@ -1,5 +1,5 @@
 -- A look-up and an edit by the step that they take at a node.
-use Rattle.std.proofs.Common.{length, ◌≡◌, ◌≢◌, ℕ, zero, suc, ◌+◌, ◌<◌, ◌≤◌, List, [], true, false, cond, refl, arith, ap, sym, ◌∙◌, subst, inl, inr, ne_eqb, eq-eqb, add-zero, zero-add}
+use Rattle.std.proofs.Common.{◌≡◌, ◌≢◌, ℕ, zero, suc, ◌+◌, ◌<◌, ◌≤◌, List, [], true, false, cond, refl, arith, ap, sym, ◌∙◌, subst, inl, inr, ne_eqb, eq-eqb, add-zero, zero-add}
 use Rattle.std.specs.Prelude.{Result, Ok, Err, IfOk, IsErrOf, OnOk, OnErr, IsSome, ℤ, Some, None, Option, slice_get, unwrap_or}
 use Rattle.ph_specs.specs.ZOrder.{address}
 use Rattle.ph_specs.specs.Node.{Entries, end, point, child, Entry, What, value, node, PlainNode, entries, listed, node_of}
@@ -12,7 +12,9 @@ use Rattle.ph_specs.proofs.lemmas.PointDigits.{same_digits-true, same_digits-ref
 use Rattle.ph_specs.proofs.laws.EntryEdits as laws
 use Rattle.ph_node.specs.Shown.{shown}
 use Rattle.ph_node.specs.Split.{IsNode, IsValue}
+use Rattle.ph_node.specs.Spots.{IsSpot}
 use Rattle.ph_node.specs.declared.reads.NodeRefOf.{NodeRefOf}
+use Rattle.ph_node.specs.declared.spots.Spot.{Spot}
 use Rattle.ph_table.specs.declared.table.Put.{Put}
 use Rattle.ph_table.specs.declared.table.Put.TheVariants.{New}
 use Rattle.ph_table.specs.Rows.{put_answer}
@@ -20,7 +22,7 @@ use Rattle.ph_tree.specs.declared.step.StepOf.{StepOf}
 use Rattle.ph_tree.specs.declared.step.StepOf.TheVariants.{Absent, Same, Below, Other}
 use Rattle.ph_tree.specs.Opened.{opened_below}
 use Rattle.ph_tree.specs.Step.{IsApart, IsApartAt, IsStep, opened_for}
-use Rattle.ph_tree.proofs.Steps.{what_got, within, put_back, same_node}
+use Rattle.ph_tree.proofs.Steps.{what_got, spot_at, put_back, same_node}
 
 abbrev pub no_entry : Entry
 no_entry = point_entry 0 [] 0
@@ -104,76 +106,76 @@ module _ {dims w o : ℕ} {p : List ℤ} {t : PlainNode} {found : StepOf PlainNo
   absent_opened is =
       opened-absent w t.level t.chain p (laws.absent-by (address w p t.level) (entries t) (step_as is).0) ∙ sym (step_as is).2
 
-  module _ {i v : ℕ} (is : found ≡ Same i v) where
-    abbrev own : IsStep w p t (Same i v) o
+  module _ {spot : Spot} {v : ℕ} (is : found ≡ Same spot v) where
+    abbrev own : IsStep w p t (Same spot v) o
     own = step_as is
 
     pub same_found : find_node w t p ≡ Some v
     same_found =
-        laws.find_node-value w dims t i own.0 v p k.lawful own.1.0 own.1.1 own.2 ∙ ap (λ z. cond z (Some v) None) (same_digits-refl own.0.body (digits_below w t.level p) own.3)
+        laws.find_node-value w dims t spot.place own.0 v p k.lawful own.1.0 own.1.1 own.2 ∙ ap (λ z. cond z (Some v) None) (same_digits-refl own.0.body (digits_below w t.level p) own.3)
 
     pub same_opened : opened_below w t.level t.chain p ≡ o
     same_opened =
-        opened-at w dims t.level 0 t.chain i own.0 p k.lawful own.1.0 own.1.1 ∙ ap (opened_by w p t.level own.0.body) own.2 ∙ sym own.4
+        opened-at w dims t.level 0 t.chain spot.place own.0 p k.lawful own.1.0 own.1.1 ∙ ap (opened_by w p t.level own.0.body) own.2 ∙ sym own.4
 
-    pub same_value : IsValue (what_at (entries t) i)
-    same_value = subst IsValue (sym (what_got (entries t) i own.0 own.1.0 ∙ own.2)) tt
+    pub same_value : IsValue (what_at (entries t) spot.place)
+    same_value = subst IsValue (sym (what_got (entries t) spot.place own.0 own.1.0 ∙ own.2)) tt
 
-    pub same_inside : i < length (entries t)
-    same_inside = within (entries t) i own.0 own.1.0
+    pub same_spot : IsSpot (entries t) spot
+    same_spot = spot_at w p t spot own.0 own.1
 
-    pub same_put : (u : ℕ) → node_of t.level (with_what (entries t) i (value u)) ≡ put_node w t p u
-    same_put u = sym (laws.put_node-value w dims t i own.0 v p u k.lawful own.1.0 own.1.1 own.2 own.3)
+    pub same_put : (u : ℕ) → node_of t.level (with_what (entries t) spot.place (value u)) ≡ put_node w t p u
+    same_put u = sym (laws.put_node-value w dims t spot.place own.0 v p u k.lawful own.1.0 own.1.1 own.2 own.3)
 
-  module _ {i : ℕ} {m : NodeRefOf PlainNode} (is : found ≡ Below i m) where
-    abbrev nearer : IsStep w p t (Below i m) o
+  module _ {spot : Spot} {m : NodeRefOf PlainNode} (is : found ≡ Below spot m) where
+    abbrev nearer : IsStep w p t (Below spot m) o
     nearer = step_as is
 
-    below_what : what_at (entries t) i ≡ node (shown m)
-    below_what = what_got (entries t) i nearer.0 nearer.1.0 ∙ nearer.2
+    below_what : what_at (entries t) spot.place ≡ node (shown m)
+    below_what = what_got (entries t) spot.place nearer.0 nearer.1.0 ∙ nearer.2
 
     pub below_digits : same_digits nearer.0.body (digits_between w t.level (shown m).level p) ≡ true
     below_digits = same_digits-refl nearer.0.body (digits_between w t.level (shown m).level p) nearer.3
 
-    pub below_node : IsNode (what_at (entries t) i)
+    pub below_node : IsNode (what_at (entries t) spot.place)
     below_node = subst IsNode (sym below_what) tt
 
-    pub below_inside : i < length (entries t)
-    below_inside = within (entries t) i nearer.0 nearer.1.0
+    pub below_spot : IsSpot (entries t) spot
+    below_spot = spot_at w p t spot nearer.0 nearer.1
 
     -- the child as it is lent
-    pub below_lent : {n : PlainNode} → node n ≡ what_at (entries t) i → shown m ≡ n
-    below_lent {n = n} h = same_node (shown m) n (what_at (entries t) i) below_what (sym h)
+    pub below_lent : {n : PlainNode} → node n ≡ what_at (entries t) spot.place → shown m ≡ n
+    below_lent {n = n} h = same_node (shown m) n (what_at (entries t) spot.place) below_what (sym h)
 
-    pub way_below : {n : PlainNode} → shown m ≡ n → IsWayBelow dims w p t i n o
+    pub way_below : {n : PlainNode} → shown m ≡ n → IsWayBelow dims w p t spot.place n o
     way_below e =
-        let held : ((shown m).level < t.level) × (2 ≤ count (shown m).chain) × IsLawfulFrom dims (shown m).level 0 (shown m).chain = laws.lawful-child dims t.level 0 t.chain i nearer.0 (shown m) k.lawful nearer.1.0 nearer.2 in
-        subst (λ u. IsWayBelow dims w p t i u o) e
+        let held : ((shown m).level < t.level) × (2 ≤ count (shown m).chain) × IsLawfulFrom dims (shown m).level 0 (shown m).chain = laws.lawful-child dims t.level 0 t.chain spot.place nearer.0 (shown m) k.lawful nearer.1.0 nearer.2 in
+        subst (λ u. IsWayBelow dims w p t spot.place u o) e
         (record {
           lower = held.0;
           lawful = held.2;
-          found = laws.find_node-child w dims t i nearer.0 (shown m) p k.lawful nearer.1.0 nearer.1.1 nearer.2 ∙ ap (λ z. cond z (find_node w (shown m) p) None) below_digits;
+          found = laws.find_node-child w dims t spot.place nearer.0 (shown m) p k.lawful nearer.1.0 nearer.1.1 nearer.2 ∙ ap (λ z. cond z (find_node w (shown m) p) None) below_digits;
           one = nearer.4;
           opened =
-              opened-at w dims t.level 0 t.chain i nearer.0 p k.lawful nearer.1.0 nearer.1.1 ∙ ap (opened_by w p t.level nearer.0.body) nearer.2
+              opened-at w dims t.level 0 t.chain spot.place nearer.0 p k.lawful nearer.1.0 nearer.1.1 ∙ ap (opened_by w p t.level nearer.0.body) nearer.2
               ∙ ap (λ z. 1 + cond z (opened_below w (shown m).level (shown m).chain p) 0) below_digits
               ∙ ap (λ n. n + opened_below w (shown m).level (shown m).chain p) (sym nearer.4);
-          put = λ u. sym (laws.put_node-child w dims t i nearer.0 (shown m) p u k.lawful nearer.1.0 nearer.1.1 nearer.2 nearer.3);
-          back = put_back t i nearer.0 (shown m) nearer.1.0 nearer.2;
+          put = λ u. sym (laws.put_node-child w dims t spot.place nearer.0 (shown m) p u k.lawful nearer.1.0 nearer.1.1 nearer.2 nearer.3);
+          back = put_back t spot.place nearer.0 (shown m) nearer.1.0 nearer.2;
         })
 
-  module _ {i : ℕ} (is : found ≡ Other i) where
-    abbrev other : IsStep w p t (Other i) o
+  module _ {spot : Spot} (is : found ≡ Other spot) where
+    abbrev other : IsStep w p t (Other spot) o
     other = step_as is
 
-    pub other_apart : IsApartAt w p t i
+    pub other_apart : IsApartAt w p t spot
     other_apart = (other.0, other.1, other.2)
 
     found_by : (held : What) → other.0.what ≡ held → IsApart w p t.level other.0.body held → find_node w t p ≡ None
     found_by (value u) q a =
-        laws.find_node-value w dims t i other.0 u p k.lawful other.1.0 other.1.1 q ∙ ap (λ z. cond z (Some u) None) (not_same other.0.body (digits_below w t.level p) a)
+        laws.find_node-value w dims t spot.place other.0 u p k.lawful other.1.0 other.1.1 q ∙ ap (λ z. cond z (Some u) None) (not_same other.0.body (digits_below w t.level p) a)
     found_by (node m) q a =
-        laws.find_node-child w dims t i other.0 m p k.lawful other.1.0 other.1.1 q ∙ ap (λ z. cond z (find_node w m p) None) (not_same other.0.body (digits_between w t.level m.level p) a)
+        laws.find_node-child w dims t spot.place other.0 m p k.lawful other.1.0 other.1.1 q ∙ ap (λ z. cond z (find_node w m p) None) (not_same other.0.body (digits_between w t.level m.level p) a)
 
     pub other_found : find_node w t p ≡ None
     other_found = found_by other.0.what refl other.2
@@ -184,7 +186,7 @@ module _ {dims w o : ℕ} {p : List ℤ} {t : PlainNode} {found : StepOf PlainNo
 
     pub other_opened : opened_below w t.level t.chain p ≡ o
     other_opened =
-        opened-at w dims t.level 0 t.chain i other.0 p k.lawful other.1.0 other.1.1 ∙ opened_as other.0.what other.2 ∙ sym other.3
+        opened-at w dims t.level 0 t.chain spot.place other.0 p k.lawful other.1.0 other.1.1 ∙ opened_as other.0.what other.2 ∙ sym other.3
 
 -- ---- what an answer tells
 
@@ -195,6 +197,10 @@ answered (Err b) x y e h = h
 pub answered_new : {E : Type 0} (r : Result Put E) (y : Option ℕ) → y ≡ None → IfOk r (λ a. a ≡ New) → IfOk r (λ a. a ≡ put_answer y)
 answered_new (Ok a) y e h = h ∙ sym (ap put_answer e)
 answered_new (Err b) y e h = h
+
+pub found_as : {E : Type 0} (r : Result (Option ℕ) E) (x y : Option ℕ) → x ≡ y → IfOk r (λ a. a ≡ x) → IfOk r (λ a. a ≡ y)
+found_as (Ok a) x y e h = h ∙ e
+found_as (Err b) x y e h = h
 
 pub on_ok : {T E P Q : Type 0} (r : Result T E) → (P → Q) → OnOk r P → OnOk r Q
 on_ok (Ok x) f p = f p

@@ -7,21 +7,23 @@ use Rattle.ph_specs.specs.DelTree.{del_node}
 use Rattle.ph_specs.specs.EntryEdits.{has_address}
 use Rattle.ph_node.specs.Places.{place_for}
 use Rattle.ph_node.specs.Shown.{shown}
+use Rattle.ph_node.specs.declared.spots.Spot.{Spot}
 use Rattle.ph_tree.specs.declared.step.StepOf.{StepOf}
 use Rattle.ph_tree.specs.declared.step.StepOf.TheVariants.{Absent, Same, Below, Other}
 
--- entry i stands at the point's address
-abbrev pub IsAt : ℕ → List ℤ → PlainNode → ℕ → Entry → Type 0
-IsAt width p n i x = (slice_get (entries n) i ≡ Some x) × (x.addr ≡ address width p n.level)
+-- an entry stands at a spot, which is the point's address
+abbrev pub IsAt : ℕ → List ℤ → PlainNode → Spot → Entry → Type 0
+IsAt width p n s x =
+    (slice_get (entries n) s.place ≡ Some x) × (x.addr ≡ address width p n.level) × (s.addr ≡ x.addr)
 
 -- what an entry holds, of which the point is not a part
 abbrev pub IsApart : ℕ → List ℤ → ℕ → List ℕ → What → Type 0
 IsApart width p level body (value v) = body ≡ digits_below width level p → ⊥
 IsApart width p level body (node m) = body ≡ digits_between width level m.level p → ⊥
 
--- entry i stands at the point's address, and the point is not a part of it
-abbrev pub IsApartAt : ℕ → List ℤ → PlainNode → ℕ → Type 0
-IsApartAt width p n i = (x : Entry) × IsAt width p n i x × IsApart width p n.level x.body x.what
+-- an entry stands at a spot, which is the point's address, and the point is not a part of it
+abbrev pub IsApartAt : ℕ → List ℤ → PlainNode → Spot → Type 0
+IsApartAt width p n s = (x : Entry) × IsAt width p n s x × IsApart width p n.level x.body x.what
 
 -- how many nodes are opened to see what is held
 abbrev pub opened_for : What → ℕ
@@ -32,19 +34,19 @@ opened_for (node m) = 1
 abbrev pub IsStep : ℕ → List ℤ → PlainNode → StepOf PlainNode → ℕ → Type 0
 IsStep width p n (Absent i) opened =
     (position (has_address (address width p n.level)) (entries n) ≡ None) × (i ≡ place_for (address width p n.level) (entries n)) × (opened ≡ 0)
-IsStep width p n (Same i v) opened =
-    (x : Entry) × IsAt width p n i x × (x.what ≡ value v) × (x.body ≡ digits_below width n.level p) × (opened ≡ 0)
-IsStep width p n (Below i m) opened =
-    (x : Entry) × IsAt width p n i x × (x.what ≡ node (shown m)) × (x.body ≡ digits_between width n.level (shown m).level p) × (opened ≡ 1)
-IsStep width p n (Other i) opened =
-    (x : Entry) × IsAt width p n i x × IsApart width p n.level x.body x.what × (opened ≡ opened_for x.what)
+IsStep width p n (Same s v) opened =
+    (x : Entry) × IsAt width p n s x × (x.what ≡ value v) × (x.body ≡ digits_below width n.level p) × (opened ≡ 0)
+IsStep width p n (Below s m) opened =
+    (x : Entry) × IsAt width p n s x × (x.what ≡ node (shown m)) × (x.body ≡ digits_between width n.level (shown m).level p) × (opened ≡ 1)
+IsStep width p n (Other s) opened =
+    (x : Entry) × IsAt width p n s x × IsApart width p n.level x.body x.what × (opened ≡ opened_for x.what)
 
--- entry i is the point, with this value
-abbrev pub IsOwn : ℕ → List ℤ → PlainNode → ℕ → ℕ → Type 0
-IsOwn width p n i v =
-    (x : Entry) × IsAt width p n i x × (x.what ≡ value v) × (x.body ≡ digits_below width n.level p)
+-- the entry at a spot is the point, with this value
+abbrev pub IsOwn : ℕ → List ℤ → PlainNode → Spot → ℕ → Type 0
+IsOwn width p n s v =
+    (x : Entry) × IsAt width p n s x × (x.what ≡ value v) × (x.body ≡ digits_below width n.level p)
 
 -- what is found in a node of so many entries: which one is the point, and its value. Where nothing is found, so many entries are left without the point
-abbrev pub IsAmong : ℕ → List ℤ → PlainNode → ℕ → Option (ℕ × ℕ) → Type 0
+abbrev pub IsAmong : ℕ → List ℤ → PlainNode → ℕ → Option (Spot × ℕ) → Type 0
 IsAmong width p n many None = many ≤ length (entries n) → many ≤ length (entries (del_node width n p))
 IsAmong width p n many (Some found) = (length (entries n) ≡ many) × IsOwn width p n found.0 found.1

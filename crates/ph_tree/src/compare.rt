@@ -54,10 +54,12 @@ fn is_same_entry<P: Dims, V: Ledger>(
     ensures all { IsTrue result → visits.new ≡ visits.old + many_held (what_at (entries (shown left.entry)) i) + many_held (what_at (entries (shown right.entry)) i) }
     ensures later { visits.old ≤ visits.new }
 {
-    if left.address(i) != right.address(i) || left.body(i) != right.body(i) {
+    let a = left.entry(i);
+    let b = right.entry(i);
+    if a.addr != b.addr || a.body != b.body {
         return false;
     }
-    match (left.what(i), right.what(i)) {
+    match (a.what, b.what) {
         (WhatOf::Value(u), WhatOf::Value(v)) => u == v,
         (WhatOf::Child(a), WhatOf::Child(b)) => is_same_node(a, b, visits),
         _ => false,

@@ -1,16 +1,19 @@
 //! Looking for a point below a node.
 
-ghost use Rattle.std.specs.Prelude.{◌≡◌, ◌<◌, ◌+◌};
-ghost use Rattle.ph_specs.specs.Lawful.{IsLawfulFrom};
-ghost use Rattle.ph_specs.specs.PutTree.{find_node};
+ghost use Rattle.std.specs.Prelude.{◌≡◌, ◌+◌, ◌^◌, ◌<◌, ◌≤◌, None, Some, IfSome, MatchOption};
+ghost use Rattle.ph_specs.specs.Lawful.{IsLawful, IsLawfulFrom};
+ghost use Rattle.ph_specs.specs.PutTree.{find_node, find_tree};
 ghost use Rattle.ph_node.specs.Shown.{shown};
-ghost use Rattle.ph_tree.specs.Opened.{opened_below};
+ghost use Rattle.ph_tree.specs.Opened.{opened_below, opened_in};
+ghost use Rattle.ph_tree.specs.Rooms.{longest, longest_in};
 
 use crate::key::KeyOf;
+use crate::records::record_words;
 use crate::step::{StepOf, step};
 use ph_coord::Dims;
 use ph_node::{NodeOf, NodeRefOf};
 use ph_steps::Steps;
+use std::cmp::max;
 use std::sync::ledger::Ledger;
 
 // The value at a point, in a visited node or below it.
@@ -28,6 +31,66 @@ pub(crate) fn find_in<P: Dims, V: Ledger>(
         StepOf::Absent(_) => None,
         StepOf::Same(_, v) => Some(v),
         StepOf::Below(_, below) => find_in(below, key, visits),
+        StepOf::Other(_) => None,
+    }
+}
+
+// A value that was found, and the most words that the record of a node on the way to it has.
+#[derive(Clone, Copy)]
+pub(crate) struct Found {
+    pub(crate) value: u64,
+    pub(crate) longest: usize,
+}
+
+// The value at a point in a tree, and the longest record on its way.
+pub(crate) fn find_long<P: Dims, V: Ledger>(
+    root: &Option<NodeOf<P>>,
+    key: &KeyOf<P>,
+    visits: &mut Steps<V>,
+) -> Option<Found>
+    requires few { P.D ≤ 16 }
+    requires lawful { IsLawful key.now.width P.D root.now }
+    ensures found { MatchOption result (find_tree key.now.width P.D root.now key.now.point ≡ None) (λ f. find_tree key.now.width P.D root.now key.now.point ≡ Some f.value) }
+    ensures longest { IfSome result (λ f. f.longest ≡ longest_in key.now.width P.D root.now key.now.point) }
+    ensures limit { IfSome result (λ f. f.longest < 2 ^ 31) }
+    ensures cost { visits.new ≡ visits.old + opened_in key.now.width root.now key.now.point }
+{
+    // A use that makes the range of the width known.
+    let _width = key.width();
+    match root {
+        Some(node) => find_long_in(node.visit(visits), key, visits),
+        None => None,
+    }
+}
+
+// The value at a point, in a visited node or below it, and the longest record from the node on.
+fn find_long_in<P: Dims, V: Ledger>(
+    node: NodeRefOf<'_, NodeOf<P>>,
+    key: &KeyOf<P>,
+    visits: &mut Steps<V>,
+) -> Option<Found>
+    requires few { P.D ≤ 16 }
+    requires lawful { IsLawfulFrom P.D (shown node).level 0 (shown node).chain }
+    requires level { (shown node).level < key.now.width }
+    ensures found { MatchOption result (find_node key.now.width (shown node.entry) key.now.point ≡ None) (λ f. find_node key.now.width (shown node.entry) key.now.point ≡ Some f.value) }
+    ensures longest { IfSome result (λ f. f.longest ≡ longest key.now.width P.D (shown node.entry) key.now.point) }
+    ensures limit { IfSome result (λ f. f.longest < 2 ^ 31) }
+    ensures cost { visits.new ≡ visits.old + opened_below key.now.width (shown node.entry).level (shown node.entry).chain key.now.point }
+{
+    let words = record_words(node);
+    match step(node, key, visits) {
+        StepOf::Absent(_) => None,
+        StepOf::Same(_, value) => Some(Found {
+            value,
+            longest: words,
+        }),
+        StepOf::Below(_, below) => match find_long_in(below, key, visits) {
+            Some(found) => Some(Found {
+                value: found.value,
+                longest: max(words, found.longest),
+            }),
+            None => None,
+        },
         StepOf::Other(_) => None,
     }
 }

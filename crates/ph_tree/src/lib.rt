@@ -8,7 +8,10 @@ mod find;
 mod key;
 mod moves;
 mod puts;
+mod records;
 mod removals;
+mod spare;
+mod stats;
 mod step;
 mod tree;
 
@@ -16,4 +19,5 @@ pub use error::PutError;
 pub use moves::Moved;
 pub use ph_node::NoMemory;
 pub use ph_table::Put;
+pub use stats::Stats;
 pub use tree::PhTree;

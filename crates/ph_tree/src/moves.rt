@@ -1,15 +1,19 @@
 //! Moving the value at one point to another.
 
-ghost use Rattle.std.specs.Prelude.{◌≡◌, ◌+◌, ◌*◌, ◌≤◌, None, OnOk, OnErr};
+ghost use Rattle.std.specs.Prelude.{◌≡◌, ◌+◌, ◌*◌, ◌^◌, ◌<◌, ◌≤◌, None, Some, OnOk, OnErr};
 ghost use Rattle.ph_specs.specs.Coordinate.{IsPoint};
 ghost use Rattle.ph_specs.specs.Lawful.{IsLawful};
 ghost use Rattle.ph_specs.specs.PutTree.{find_tree, put_tree};
 ghost use Rattle.ph_specs.specs.DelTree.{del_tree};
 ghost use Rattle.ph_tree.specs.Opened.{opened_in};
+ghost use Rattle.ph_tree.specs.Rooms.{longest_in, more_words};
 
+use crate::find::Found;
 use crate::key::KeyOf;
 use crate::puts::put_in;
 use crate::removals::del_in;
+use crate::spare::Spare;
+use ph_bits::Words;
 use ph_coord::Dims;
 use ph_node::{NoMemory, NodeOf};
 use ph_steps::Steps;
@@ -27,13 +31,15 @@ pub enum Moved {
     Taken,
 }
 
-// Puts a value at one point of a tree, and then takes another point out. All memory is taken by the put.
+// Puts the value at one point of a tree to another, new point, and then takes the first out. All memory is taken before
+// the first change: the block for the removal has room for the longest record on the way of the first point, and for what
+// the put may add to one.
 pub(crate) fn move_in<P: Dims, V: Ledger, C: Ledger>(
     root: &mut Option<NodeOf<P>>,
     alloc: Global,
     from: &KeyOf<P>,
     to: &KeyOf<P>,
-    v: u64,
+    found: Found,
     visits: &mut Steps<V>,
     changes: &mut Steps<C>,
 ) -> Result<(), NoMemory>
@@ -42,21 +48,37 @@ pub(crate) fn move_in<P: Dims, V: Ledger, C: Ledger>(
     requires width { from.now.width ≡ to.now.width }
     requires wide { 1 ≤ to.now.width }
     requires point { IsPoint to.now.width P.D to.now.point }
+    requires place { IsPoint from.now.width P.D from.now.point }
     requires lawful { IsLawful to.now.width P.D root.old }
-    ensures moved { OnOk result (root.new ≡ del_tree from.now.width P.D (put_tree to.now.width P.D root.old to.now.point v) from.now.point) }
+    requires found { find_tree from.now.width P.D root.old from.now.point ≡ Some found.value }
+    requires free { find_tree to.now.width P.D root.old to.now.point ≡ None }
+    requires longest { found.longest ≡ longest_in from.now.width P.D root.old from.now.point }
+    requires short { found.longest < 2 ^ 31 }
+    ensures moved { OnOk result (root.new ≡ del_tree from.now.width P.D (put_tree to.now.width P.D root.old to.now.point found.value) from.now.point) }
     ensures err { OnErr result (root.new ≡ root.old) }
-    ensures visits { visits.new ≤ visits.old + 2 * opened_in to.now.width root.old to.now.point + 2 * opened_in from.now.width (put_tree to.now.width P.D root.old to.now.point v) from.now.point }
+    ensures visits { visits.new ≤ visits.old + 2 * opened_in to.now.width root.old to.now.point + 2 * opened_in from.now.width (put_tree to.now.width P.D root.old to.now.point found.value) from.now.point }
     ensures later { visits.old ≤ visits.new }
     ensures changes { changes.new ≤ changes.old + 4 }
     ensures spared { OnErr result (changes.new ≡ changes.old) }
     ensures kept { changes.old ≤ changes.new }
-    ensures made { find_tree to.now.width P.D root.old to.now.point ≡ None → OnOk result (changes.old + 1 ≤ changes.new) }
+    ensures made { OnOk result (changes.old + 1 ≤ changes.new) }
 {
-    match put_in(root, alloc, to, v, true, visits, changes) {
-        Ok(_) => {
-            let _value = del_in(root, from, visits, changes);
-            Ok(())
-        }
+    let spare = Words::with_room(alloc, found.longest + more_words(to.width(), P::D))?;
+    match put_in(root, alloc, to, found.value, true, visits, changes) {
+        Ok(_) => match del_in(root, from, Spare::Now(spare), visits, changes) {
+            Ok(_) => Ok(()),
+            Err(_) => unreachable!(),
+        },
         Err(_) => Err(NoMemory),
     }
+}
+
+// By how many words a put at a point of a width may let the room grow that a removal wants.
+fn more_words(width: u32, dims: usize) -> usize
+    requires width { width ≤ 62 }
+    requires dims { dims ≤ 16 }
+    ensures value { result ≡ more_words width dims }
+    ensures limit { result ≤ 18 }
+{
+    (1 + dims + dims * width as usize + 63) / 64 + 2
 }

@@ -19,7 +19,7 @@ use crate::error::PutError;
 use crate::key::KeyOf;
 use crate::step::{StepOf, step};
 use ph_coord::Dims;
-use ph_node::{NodeOf, NodeRefOf};
+use ph_node::{NodeOf, NodeRefOf, Spot};
 use ph_steps::Steps;
 use ph_table::Put;
 use std::alloc::Global;
@@ -100,17 +100,17 @@ pub(crate) fn put_at<P: Dims, V: Ledger, C: Ledger>(
     let level = node.level();
     match step(node, key, visits) {
         StepOf::Absent(i) => add_point(cur, i, level, key, v, room, changes),
-        StepOf::Same(i, old) => {
-            cur.set_value(i, v, changes);
+        StepOf::Same(spot, old) => {
+            cur.set_value(spot, v, changes);
             Ok(Put::Old(old))
         }
-        StepOf::Below(i, _) => {
-            let slot = cur.child_mut(i);
+        StepOf::Below(spot, _) => {
+            let slot = cur.child_mut(spot);
             put_at(slot.node_mut(), key, v, room, visits, changes)
         }
-        StepOf::Other(i) => {
-            let place = place_apart(node, i, key);
-            split_entry(cur, i, level, place, key, v, room, changes)
+        StepOf::Other(spot) => {
+            let place = place_apart(node, spot, key);
+            split_entry(cur, spot, level, place, key, v, room, changes)
         }
     }
 }
@@ -149,14 +149,14 @@ fn add_point<P: Dims, C: Ledger>(
 }
 
 // The greatest place at which a point differs from the body of an entry of which it is no part.
-fn place_apart<P: Dims>(node: NodeRefOf<'_, NodeOf<P>>, i: usize, key: &KeyOf<P>) -> u32
+fn place_apart<P: Dims>(node: NodeRefOf<'_, NodeOf<P>>, spot: Spot, key: &KeyOf<P>) -> u32
     requires lawful { IsLawfulFrom P.D (shown node).level 0 (shown node).chain }
     requires level { (shown node).level < key.now.width }
-    requires apart { IsApartAt key.now.width key.now.point (shown node) i }
-    ensures { IsTopDifference (body_at (entries (shown node.entry)) i) (digits_below key.now.width (shown node.entry).level key.now.point) result }
+    requires apart { IsApartAt key.now.width key.now.point (shown node) spot }
+    ensures { IsTopDifference (body_at (entries (shown node.entry)) spot.place) (digits_below key.now.width (shown node.entry).level key.now.point) result }
 {
     let below = key.below(node.level());
-    match node.top_difference(i, &below[..P::D]) {
+    match node.top_difference(spot, &below[..P::D]) {
         Some(place) => place,
         None => unreachable!(),
     }
@@ -166,7 +166,7 @@ fn place_apart<P: Dims>(node: NodeRefOf<'_, NodeOf<P>>, i: usize, key: &KeyOf<P>
 // their digits differ.
 fn split_entry<P: Dims, C: Ledger>(
     cur: &mut NodeOf<P>,
-    i: usize,
+    spot: Spot,
     level: u32,
     place: u32,
     key: &KeyOf<P>,
@@ -177,8 +177,8 @@ fn split_entry<P: Dims, C: Ledger>(
     requires lawful { IsLawfulFrom P.D cur.old.level 0 cur.old.chain }
     requires level { level ≡ cur.old.level }
     requires below { level < key.now.width }
-    requires apart { IsApartAt key.now.width key.now.point cur.old i }
-    requires place { IsTopDifference (body_at (entries cur.old) i) (digits_below key.now.width cur.old.level key.now.point) place }
+    requires apart { IsApartAt key.now.width key.now.point cur.old spot }
+    requires place { IsTopDifference (body_at (entries cur.old) spot.place) (digits_below key.now.width cur.old.level key.now.point) place }
     ensures answer { IfOk result (λ a. a ≡ Put.New) }
     ensures put { OnOk result (cur.new ≡ put_node key.now.width cur.old key.now.point v) }
     ensures err { OnErr result (cur.new ≡ cur.old) }
@@ -192,7 +192,7 @@ fn split_entry<P: Dims, C: Ledger>(
     if !room {
         return Err(PutError::Full);
     }
-    match cur.split(i, place, key.below(level), v, changes) {
+    match cur.split(spot, place, key.below(level), v, changes) {
         Ok(()) => Ok(Put::New),
         Err(_) => Err(PutError::NoMemory),
     }

@@ -7,7 +7,7 @@ ghost use Rattle.ph_tree.specs.Step.{IsStep};
 
 use crate::key::KeyOf;
 use ph_coord::Dims;
-use ph_node::{NodeOf, NodeRefOf, WhatOf};
+use ph_node::{NodeOf, NodeRefOf, Spot, WhatOf};
 use ph_steps::Steps;
 use std::sync::ledger::Ledger;
 
@@ -17,11 +17,11 @@ pub(crate) enum StepOf<'t, N> {
     // No entry, and the place that one would have.
     Absent(usize),
     // The point, as this entry and with this value.
-    Same(usize, u64),
+    Same(Spot, u64),
     // A child, by its entry and as it is visited, that has the point's digits above its level.
-    Below(usize, NodeRefOf<'t, N>),
+    Below(Spot, NodeRefOf<'t, N>),
     // This entry, of which the point is no part.
-    Other(usize),
+    Other(Spot),
 }
 
 // Looks for a point in a node. Visits the child at the point's address, if there is one.
@@ -35,24 +35,24 @@ pub(crate) fn step<'t, P: Dims, V: Ledger>(
     ensures step { IsStep key.now.width key.now.point (shown node.entry) result (visits.new - visits.old) }
     ensures cost { visits.old ≤ visits.new }
 {
-    let i = match node.search(key.address(node.level())) {
-        Ok(i) => i,
-        Err(i) => return StepOf::Absent(i),
+    let spot = match node.search(key.address(node.level())) {
+        Ok(spot) => spot,
+        Err(place) => return StepOf::Absent(place),
     };
-    match node.what(i) {
+    match node.what(spot) {
         WhatOf::Value(v) => {
-            if node.is_below(i, key.offsets()) {
-                StepOf::Same(i, v)
+            if node.is_below(spot, key.offsets()) {
+                StepOf::Same(spot, v)
             } else {
-                StepOf::Other(i)
+                StepOf::Other(spot)
             }
         }
         WhatOf::Child(child) => {
             let below = child.visit(visits);
-            if node.is_between(i, below.level(), key.offsets()) {
-                StepOf::Below(i, below)
+            if node.is_between(spot, below.level(), key.offsets()) {
+                StepOf::Below(spot, below)
             } else {
-                StepOf::Other(i)
+                StepOf::Other(spot)
             }
         }
     }

@@ -12,11 +12,12 @@ ghost use Rattle.ph_tree.specs.Moves.{move_answer, with_moved};
 
 use crate::compare::is_same_node;
 use crate::error::PutError;
-use crate::find::find_in;
+use crate::find::{find_in, find_long};
 use crate::key::KeyOf;
 use crate::moves::{Moved, move_in};
 use crate::puts::put_in;
 use crate::removals::del_in;
+use crate::spare::Spare;
 use ph_coord::{Dim, Point, Width};
 use ph_node::{NoMemory, Node};
 use ph_steps::Steps;
@@ -187,6 +188,8 @@ impl<const D: usize> PhTree<D> {
     /// Takes the row at a point out, and tells its value, or `None` where no row is there.
     ///
     /// A node that would keep one entry goes, and that entry takes its place; only the root may have one.
+    ///
+    /// A row that is there may want memory, for the record of the node that loses an entry. An error leaves all as it was.
     pub fn del<V: Ledger, C: Ledger>(
         &mut self,
         p: &Point<D>,
@@ -194,19 +197,22 @@ impl<const D: usize> PhTree<D> {
         changes: &mut Steps<C>,
     ) -> Result<Option<u64>, NoMemory>
         requires { IsPoint self.old.width D p.now }
-        ensures ok { IsOk result }
         ensures del { OnOk result (self.new ≡ without_row self.old p.now) }
         ensures answer { IfOk result (λ a. a ≡ find self.old.table p.now) }
+        ensures err { OnErr result (self.new ≡ self.old) }
+        ensures absent { find self.old.table p.now ≡ None → IsOk result }
         ensures visits { visits.new ≤ visits.old + 2 * length (path self.old.width D self.old.table p.now) }
         ensures limit { visits.new ≤ visits.old + 2 * self.old.width }
         ensures later { visits.old ≤ visits.new }
         ensures changes { changes.new ≤ changes.old + 2 }
-        ensures spared { find self.old.table p.now ≡ None → changes.new ≡ changes.old }
+        ensures idle { find self.old.table p.now ≡ None → changes.new ≡ changes.old }
+        ensures spared { OnErr result (changes.new ≡ changes.old) }
         ensures kept { changes.old ≤ changes.new }
-        ensures made { IsSome (find self.old.table p.now) → changes.old + 1 ≤ changes.new }
+        ensures made { IsSome (find self.old.table p.now) → OnOk result (changes.old + 1 ≤ changes.new) }
     {
         let key = KeyOf::new(self.width, p.as_slice());
-        match del_in(&mut self.root, &key, visits, changes) {
+        let spare = Spare::Later(self.alloc);
+        match del_in(&mut self.root, &key, spare, visits, changes)? {
             Some(value) => {
                 self.len -= 1;
                 Ok(Some(value))
@@ -218,7 +224,8 @@ impl<const D: usize> PhTree<D> {
     /// Moves the value at one point to another, where no row is at the other. Where both are the same point, nothing
     /// changes.
     ///
-    /// May want memory as a put does. The tree may be full, since a move leaves the number of its rows.
+    /// May want memory as a put and a removal do, and takes it before the first change. The tree may be full, since a move
+    /// leaves the number of its rows.
     pub fn relocate<V: Ledger, C: Ledger>(
         &mut self,
         from: &Point<D>,
@@ -242,7 +249,8 @@ impl<const D: usize> PhTree<D> {
         ensures kept { changes.old ≤ changes.new }
         ensures made { IsSome (find self.old.table from.now) → find self.old.table to.now ≡ None → OnOk result (changes.old + 1 ≤ changes.new) }
     {
-        let Some(value) = self.get(from, visits) else {
+        let old = KeyOf::new(self.width, from.as_slice());
+        let Some(found) = find_long(&self.root, &old, visits) else {
             return Ok(Moved::Absent);
         };
         if from == to {
@@ -251,14 +259,13 @@ impl<const D: usize> PhTree<D> {
         if self.get(to, visits).is_some() {
             return Ok(Moved::Taken);
         }
-        let old = KeyOf::new(self.width, from.as_slice());
         let new = KeyOf::new(self.width, to.as_slice());
         move_in(
             &mut self.root,
             self.alloc,
             &old,
             &new,
-            value,
+            found,
             visits,
             changes,
         )?;

@@ -3,7 +3,7 @@ use Rattle.std.proofs.Common.{◌≡◌, ℕ, ◌^◌, ◌<◌, ◌≤◌, List,
 use Rattle.std.specs.Prelude.{nat_le}
 use Rattle.std.specs.List.{AllByRecursion as Each}
 use Rattle.ph_specs.specs.Coordinate.{at_most}
-use Rattle.ph_specs.specs.Lawful.{IsBody, put_together}
+use Rattle.ph_specs.specs.Lawful.{IsBody}
 use Rattle.ph_specs.specs.Masks.{masks}
 use Rattle.ph_specs.specs.Window.{is_between}
 use Rattle.ph_specs.specs.WindowWalk.{node_region}
@@ -16,8 +16,8 @@ use Rattle.ph_zorder.proofs.Sides.{masks-node}
 use Rattle.ph_path.specs.Known.{point_at}
 use Rattle.ph_window.specs.Bounds.{Bounds, bounds_at, AreBounds, each_between}
 use Rattle.ph_digits.proofs.Joins.{above-long}
-use Rattle.ph_path.specs.Known.{Known, known_at}
-use Rattle.ph_path.proofs.Knowns.{joined-body, wider}
+use Rattle.ph_path.specs.Known.{Known}
+use Rattle.ph_path.proofs.Knowns.{wider}
 use Rattle.ph_window.proofs.MaskDigits.{masks-above}
 
 between-below : (los his ps : List ℕ) → length los ≡ length ps → length his ≡ length ps → each_between los his ps ≡ true → Below los ps × Below ps his
@@ -87,9 +87,15 @@ module _ (d n w : ℕ) (known low high ks : List ℕ) (e : n ≡ d) (h : AreBoun
   pub small-seen : Each (λ x. x < 2 ^ 62) ks
   small-seen = subst (Each (λ x. x < 2 ^ 62)) (sym s) (wider d w 62 known h.narrow h.digits).1
 
--- an entry that is joined
-pub joined-bounds : (d w level a : ℕ) (known low high body : List ℕ) (seen : Bounds) → bounds_at w known low high ≡ seen → AreBounds d (bounds_at w known low high) → level < seen.width → IsBody d level body → (k : Known) → k ≡ known_at w (put_together level a (body_above level known) body) → AreBounds d (bounds_at k.width k.digits low high)
-joined-bounds d w level a known low high body seen v h l b k e =
-    let j : IsBody d w (put_together level a (body_above level known) body) = joined-body d w level a known body (subst (λ s. level < s.width) (sym v) l) h.digits b in
-    subst (λ k. AreBounds d (bounds_at k.width k.digits low high)) (sym e)
-    (record { some = h.some; few = h.few; wide = h.wide; narrow = h.narrow; digits = j; starts = h.starts; ends = h.ends })
+-- other digits of the same width
+pub joined-bounds : {d w : ℕ} {known low high digits : List ℕ} → AreBounds d (bounds_at w known low high) → (k : Known) → k.width ≡ w → IsBody d k.width digits → digits ≡ k.digits → AreBounds d (bounds_at k.width k.digits low high)
+joined-bounds {d} {low = low} {high} h k e b f =
+    record {
+      some = h.some;
+      few = h.few;
+      wide = omega (arith, e, h.wide);
+      narrow = omega (arith, e, h.narrow);
+      digits = subst (IsBody d k.width) f b;
+      starts = subst (λ n. IsBody d n low) (sym e) h.starts;
+      ends = subst (λ n. IsBody d n high) (sym e) h.ends;
+    }

@@ -15,8 +15,12 @@ use Rattle.ph_specs.proofs.lemmas.Joined.{from_place, offsets, offsets-coordinat
 use Rattle.ph_specs.proofs.lemmas.Bounds.{same-in, in-same, small-point, lows-small}
 use Rattle.ph_specs.proofs.laws.EntryLists.{chained-listed, entry-lawful}
 use Rattle.ph_specs.proofs.laws.WindowWalk.{At, listed-window}
+use Rattle.ph_specs.specs.EntryEdits.{what_at}
 use Rattle.ph_specs.specs.PutTree.{body_above}
 use Rattle.ph_node.specs.Shown.{shown}
+use Rattle.ph_node.specs.Split.{body_at}
+use Rattle.ph_node.specs.Spots.{IsSpot}
+use Rattle.ph_node.specs.declared.spots.Spot.{Spot}
 use Rattle.ph_node.specs.declared.reads.NodeRefOf.{NodeRefOf}
 use Rattle.ph_window.specs.Frames.{FrameOf}
 use Rattle.ph_path.specs.Known.{point_at}
@@ -27,7 +31,7 @@ use Rattle.ph_window.specs.Resumed.{IsReady, IsResumed}
 use Rattle.ph_path.specs.Path.{AreOver}
 use Rattle.ph_window.specs.Walk.{path_rows, path_nodes, IsFrame, IsPath}
 use Rattle.ph_path.proofs.Knowns.{above-is, above-from, above-same, joined-body, joined-above, joined-child}
-use Rattle.ph_path.proofs.Paths.{entry-first, found-kept, counted-kept, few-frames, over-less}
+use Rattle.ph_path.proofs.Paths.{read-entry, entry-first, found-kept, counted-kept, few-frames, over-less}
 use Rattle.ph_window.proofs.Lists.{none-rows, open-fits, child-nodes}
 use Rattle.ph_window.proofs.Paths.{frame-kept, way-kept}
 use Rattle.ph_window.proofs.Seeks.{before-position, none-position, at-position, no_entry}
@@ -391,25 +395,18 @@ first-above es a j x p g n =
     strictly : (a x : ℕ) → a ≤ x → (a ≡ x → ⊥) → a < x
     strictly a x l n = grind (arith, l, n)
 
-pub found-first : {d : ℕ} {m : Mark} {b : Bounds} {fs : List (FrameOf PlainNode)} {r : NodeRefOf PlainNode} {k t j : ℕ} {o : Option (ℕ × ℕ)} {p : Option ℕ} {x : Entry} {lower upper : ℕ}
+pub found-first : {d : ℕ} {m : Mark} {b : Bounds} {fs : List (FrameOf PlainNode)} {r : NodeRefOf PlainNode} {k t j : ℕ} {o : Option (ℕ × ℕ)} {p : Option ℕ} {spot : Spot} {held : What} {lower upper : ℕ}
     → IsReady d m b fs (shown r) → k ≡ (shown r).level → o ≡ masks b.width (node_region b.width k (body_above k b.known)) (point_at b.width b.low) (point_at b.width b.high) → o ≡ Some (lower, upper)
-    → t ≡ address m.width (point_at m.width m.digits) k → p ≡ position (λ e. nat_le t e.addr) (entries (shown r)) → p ≡ Some j → slice_get (entries (shown r)) j ≡ Some x
-    → IsFirst d m b (shown r) r j x lower upper
-found-first h e f i g p q s =
-    record { shows = refl; first = first-at h e g p ∙ q; entry = s; masks = masks-at h e f ∙ i }
+    → t ≡ address m.width (point_at m.width m.digits) k → p ≡ position (λ e. nat_le t e.addr) (entries (shown r)) → p ≡ Some j → spot.place ≡ j → IsSpot (entries (shown r)) spot → held ≡ what_at (entries (shown r)) spot.place
+    → IsFirst d m b (shown r) r j (record { addr = spot.addr; body = body_at (entries (shown r)) spot.place; what = held }) lower upper
+found-first {r = r} {spot = spot} h e f i g p q at s w =
+    record { shows = refl; first = first-at h e g p ∙ q; entry = read-entry (entries (shown r)) spot at s w; masks = masks-at h e f ∙ i }
 
 module _ {d : ℕ} {m : Mark} {b : Bounds} {fs : List (FrameOf PlainNode)} {n : PlainNode} (h : IsReady d m b fs n) {r : NodeRefOf PlainNode} {j : ℕ} {x : Entry} {lower upper : ℕ} (q : IsFirst d m b n r j x lower upper) where
   -- an entry that is not at the point's address is behind it
   pub entry-behind : {k t : ℕ} → k ≡ n.level → t ≡ address m.width (point_at m.width m.digits) k → (x.addr ≡ t → ⊥) → address b.width (point_at b.width m.digits) n.level < x.addr
   entry-behind e g f =
       first-above (entries n) (address b.width (point_at b.width m.digits) n.level) j x q.first q.entry (λ s. f (s ∙ sym (address-at h e g)))
-
-  -- the digits as they are joined, at the level and at the address that the code has
-  pub joined-is : {k t : ℕ} {e : Bounds} → k ≡ n.level → x.addr ≡ t → e ≡ record { width = b.width; known = put_together k t (body_above k b.known) x.body; low = b.low; high = b.high } → e ≡ record { width = b.width; known = put_together n.level x.addr (body_above n.level b.known) x.body; low = b.low; high = b.high }
-  joined-is {t = t} l s e = e ∙ ap (λ k. with_joined t k) l ∙ ap (λ a. with_joined a n.level) (sym s)
-    where
-      with_joined : ℕ → ℕ → Bounds
-      with_joined a k = record { width = b.width; known = put_together k a (body_above k b.known) x.body; low = b.low; high = b.high }
 
   -- whether the joined digits come behind the point
   pub behind-is : {e : Bounds} {t : Bool} → e ≡ record { width = b.width; known = put_together n.level x.addr (body_above n.level b.known) x.body; low = b.low; high = b.high } → t ≡ before m.width (point_at m.width m.digits) (point_at m.width e.known) → before b.width (point_at b.width m.digits) (point_at b.width (put_together n.level x.addr (body_above n.level b.known) x.body)) ≡ t

@@ -11,8 +11,7 @@ use Rattle.ph_specs.specs.Node.{Entries, end, point, child, Entry, listed}
 use Rattle.ph_specs.specs.Lawful.{IsLawfulFrom}
 use Rattle.ph_specs.specs.Masks.{fits_masks, IsNextOf}
 use Rattle.ph_specs.proofs.laws.MaskBounds.{fits-between}
-use Rattle.ph_window.specs.Seek.{AreShut, IsPassed, IsNextEntry}
-use Rattle.ph_window.proofs.Matches.{some_of}
+use Rattle.ph_window.specs.Seek.{AreShut, IsPassed}
 
 -- ---- addresses rise
 
@@ -128,14 +127,6 @@ module _ (l u : ℕ) (es : List Entry) (r : Rising 0 es) (p s : ℕ) (x : Entry)
               absurd (let a : (get_or es i no_entry).addr ≡ x.addr = ap (λ t. t.addr) o in omega (arith, y, a, w))
         ]
       ]
-
-pub place-found : (A : Type 0) (l u place : ℕ) {i : ℕ} (es : List Entry) {o : Option ℕ} → o ≡ Some i → MatchOption o A (λ i. IsNextEntry l u es place i) → i < length es
-place-found A l u place {i = i} es e h =
-    let n = some_of A (λ i. IsNextEntry l u es place i) e h in
-    slice_get_within es i n.entry.0 n.entry.1
-
-pub place-within : (a : ℕ) {i : ℕ} (es : List Entry) {o : Option ℕ} → o ≡ position (λ e. nat_le a e.addr) es → o ≡ Some i → i < length es
-place-within a {i = i} es p s = (at-position a es i (sym p ∙ s)).0
 
 -- ---- below the lower mask
 

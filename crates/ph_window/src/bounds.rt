@@ -1,12 +1,16 @@
 //! The window, and the digits that are known where a walk stands.
 ghost use Rattle.std.specs.Prelude.{◌≡◌, ◌<◌, ◌≤◌, ◌&&◌, nat_le, length, take, map, replicate};
 ghost use Rattle.ph_specs.specs.Coordinate.{offset, IsPoint};
-ghost use Rattle.ph_specs.specs.Lawful.{IsBody, put_together};
+ghost use Rattle.ph_specs.specs.Lawful.{put_together};
+ghost use Rattle.ph_specs.specs.Node.{entries};
 ghost use Rattle.ph_specs.specs.Window.{is_between as lies_between};
 ghost use Rattle.ph_specs.specs.Masks.{masks as the_masks};
 ghost use Rattle.ph_specs.specs.WindowWalk.{node_region};
 ghost use Rattle.ph_specs.specs.PutTree.{body_above};
 ghost use Rattle.ph_specs.specs.ZOrder.{before};
+ghost use Rattle.ph_node.specs.Shown.{shown};
+ghost use Rattle.ph_node.specs.Split.{body_at};
+ghost use Rattle.ph_node.specs.Spots.{IsSpot};
 ghost use Rattle.ph_path.specs.Known.{known_at, point_at};
 ghost use Rattle.ph_window.specs.Bounds.{bounds_at, each_between};
 ghost use Rattle.ph_window.specs.Resumed.{IsStand};
@@ -14,6 +18,7 @@ ghost use Rattle.ph_window.specs.Resumed.{IsStand};
 use crate::mark::MarkOf;
 use crate::parting::parting;
 use ph_coord::{Dims, Width, offsets_of};
+use ph_node::{NodeOf, NodeRefOf, Spot};
 use ph_path::KnownOf;
 use ph_zorder::offset_masks;
 use std::marker::Model;
@@ -83,13 +88,15 @@ impl<P: Dims> BoundsOf<P> {
         )
     }
 
-    // Puts the digits of an entry behind those that are known above its level.
-    pub(crate) fn join(&mut self, level: u32, addr: u32, body: &[u64])
-        requires level { level < self.old.width }
-        requires body { IsBody P.D level body.now }
-        ensures { self.new ≡ record self.old { known = put_together level addr (body_above level self.old.known) body.now } }
+    // Puts the digits of an entry behind those that are known above its node's level.
+    pub(crate) fn join(&mut self, node: NodeRefOf<'_, NodeOf<P>>, spot: Spot)
+        requires level { (shown node).level < self.old.width }
+        requires spot { IsSpot (entries (shown node)) spot }
+        ensures { self.new ≡ record self.old { known = put_together (shown node.entry).level spot.addr (body_above (shown node.entry).level self.old.known) (body_at (entries (shown node.entry)) spot.place) } }
     {
-        self.known.join(level, addr, body);
+        self.known.join(node, spot);
+        // A use that makes known that the digits fit the width.
+        let _digits = self.known.digits();
     }
 
     // Whether the point with these digits is in the window.

@@ -42,8 +42,8 @@ pub(crate) fn resume<'t, P: Dims, V: Ledger>(
         place,
         note: Masks { lower, upper },
     };
-    let addr = node.address(place);
-    if addr != address {
+    let spot = node.spot(place);
+    if spot.addr != address {
         path.push(frame);
         return;
     }
@@ -51,8 +51,8 @@ pub(crate) fn resume<'t, P: Dims, V: Ledger>(
         place: place + 1,
         ..frame
     };
-    bounds.join(level, address, node.body(place));
-    match node.what(place) {
+    bounds.join(node, spot);
+    match node.what(spot) {
         WhatOf::Value(_) => {
             if bounds.is_behind(mark) {
                 path.push(frame);

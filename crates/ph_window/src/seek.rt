@@ -4,11 +4,12 @@ ghost use Rattle.ph_specs.specs.Node.{entries};
 ghost use Rattle.ph_specs.specs.Lawful.{IsLawfulFrom};
 ghost use Rattle.ph_specs.specs.Masks.{fits_masks};
 ghost use Rattle.ph_node.specs.Shown.{shown};
+ghost use Rattle.ph_node.specs.Spots.{IsSpot};
 ghost use Rattle.ph_window.specs.Seek.{AreShut, IsNextEntry, IsPassed};
 
 use crate::frame::Masks;
 use ph_coord::Dims;
-use ph_node::NodeOf;
+use ph_node::{NodeOf, Spot};
 use ph_path::FrameOf;
 use ph_zorder::next_address;
 
@@ -19,13 +20,14 @@ pub(crate) fn fits(addr: u32, lower: u32, upper: u32) -> bool
     addr | lower == addr && addr & upper == addr
 }
 
-// The place of the first entry at or behind the frame's place whose address fits.
-pub(crate) fn seek<P: Dims>(frame: FrameOf<'_, NodeOf<P>, Masks>) -> Option<usize>
+// The first entry at or behind the frame's place whose address fits.
+pub(crate) fn seek<P: Dims>(frame: FrameOf<'_, NodeOf<P>, Masks>) -> Option<Spot>
     requires masks { bit_and frame.note.lower frame.note.upper ≡ frame.note.lower }
     requires upper { frame.note.upper < 2 ^ P.D }
     requires lawful { IsLawfulFrom P.D (shown frame.node).level 0 (shown frame.node).chain }
-    ensures found { MatchOption result (AreShut frame.entry.note.lower frame.entry.note.upper (entries (shown frame.entry.node)) frame.entry.place (length (entries (shown frame.entry.node)))) (λ i. IsNextEntry frame.entry.note.lower frame.entry.note.upper (entries (shown frame.entry.node)) frame.entry.place i) }
-    ensures room { IfSome result (λ i. i + 1 < 2 ^ 64) }
+    ensures found { MatchOption result (AreShut frame.entry.note.lower frame.entry.note.upper (entries (shown frame.entry.node)) frame.entry.place (length (entries (shown frame.entry.node)))) (λ s. IsNextEntry frame.entry.note.lower frame.entry.note.upper (entries (shown frame.entry.node)) frame.entry.place s.place) }
+    ensures spot { IfSome result (λ s. IsSpot (entries (shown frame.entry.node)) s) }
+    ensures room { IfSome result (λ s. s.place + 1 < 2 ^ 64) }
 {
     let Some(place) = first_place(frame) else {
         return None;
@@ -48,21 +50,22 @@ fn first_place<P: Dims>(frame: FrameOf<'_, NodeOf<P>, Masks>) -> Option<usize>
 }
 
 // The same, from a place on before which nothing fits.
-fn seek_from<P: Dims>(frame: FrameOf<'_, NodeOf<P>, Masks>, mut place: usize) -> Option<usize>
+fn seek_from<P: Dims>(frame: FrameOf<'_, NodeOf<P>, Masks>, mut place: usize) -> Option<Spot>
     requires masks { bit_and frame.note.lower frame.note.upper ≡ frame.note.lower }
     requires upper { frame.note.upper < 2 ^ P.D }
     requires lawful { IsLawfulFrom P.D (shown frame.node).level 0 (shown frame.node).chain }
     requires passed { IsPassed frame.note.lower frame.note.upper (entries (shown frame.node)) frame.place place }
-    ensures found { MatchOption result (AreShut frame.entry.note.lower frame.entry.note.upper (entries (shown frame.entry.node)) frame.entry.place (length (entries (shown frame.entry.node)))) (λ i. IsNextEntry frame.entry.note.lower frame.entry.note.upper (entries (shown frame.entry.node)) frame.entry.place i) }
-    ensures room { IfSome result (λ i. i + 1 < 2 ^ 64) }
+    ensures found { MatchOption result (AreShut frame.entry.note.lower frame.entry.note.upper (entries (shown frame.entry.node)) frame.entry.place (length (entries (shown frame.entry.node)))) (λ s. IsNextEntry frame.entry.note.lower frame.entry.note.upper (entries (shown frame.entry.node)) frame.entry.place s.place) }
+    ensures spot { IfSome result (λ s. IsSpot (entries (shown frame.entry.node)) s) }
+    ensures room { IfSome result (λ s. s.place + 1 < 2 ^ 64) }
 {
     let node = frame.node;
     while place < node.len() {
-        let addr = node.address(place);
-        if fits(addr, frame.note.lower, frame.note.upper) {
-            return Some(place);
+        let spot = node.spot(place);
+        if fits(spot.addr, frame.note.lower, frame.note.upper) {
+            return Some(spot);
         }
-        let Some(next) = next_address(addr, frame.note.lower, frame.note.upper) else {
+        let Some(next) = next_address(spot.addr, frame.note.lower, frame.note.upper) else {
             return None;
         };
         let Some(found) = node.next_at_or_after(next) else {

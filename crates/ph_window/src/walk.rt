@@ -140,19 +140,17 @@ impl<'t, P: Dims> WalkOf<'t, P> {
             enter(&mut self.path, node, &self.bounds);
             return Step::Moved;
         };
-        let Some(place) = seek(frame) else {
+        let Some(spot) = seek(frame) else {
             self.path.leave();
             return Step::Moved;
         };
         self.path.set_last(FrameOf {
-            place: place + 1,
+            place: spot.place + 1,
             ..frame
         });
         let node = frame.node;
-        let level = node.level();
-        self.bounds
-            .join(level, node.address(place), node.body(place));
-        match node.what(place) {
+        self.bounds.join(node, spot);
+        match node.what(spot) {
             WhatOf::Value(v) => {
                 if self.bounds.is_inside() {
                     Step::Found(v)

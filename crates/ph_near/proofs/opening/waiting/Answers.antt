@@ -1,25 +1,28 @@
-use Rattle.std.proofs.Common.{◌∙◌, arith, refl, sym, ap, map}
+use Rattle.std.proofs.Common.{◌∙◌, ◌-◌, arith, refl, sym, ap, map}
 use Rattle.ph_specs.specs.Coordinate.{coordinate}
 use Rattle.ph_specs.specs.BestFirst.{item_distance}
+use Rattle.ph_specs.specs.Lawful.{IsBody}
 use Rattle.ph_node.specs.Shown.{shown}
 use Rattle.ph_near.specs.Waiting.{held_item}
 use Rattle.ph_near.proofs.Entering.{small-wide, joined-body, joined-item}
-use Rattle.ph_near.proofs.opening.waiting.Goals.{in-Value, in-Child}
+use Rattle.ph_near.proofs.opening.waiting.Given.{Over}
+use Rattle.ph_near.proofs.opening.waiting.Goals.{After-join, in-Value, in-Child}
 use Rattle.ph_near.proofs.opening.waiting.Goals as goal
 
 pub join-requires-clause-known : goal.join-requires-clause-known
 join-requires-clause-known g c =
-    (refl, small-wide c.args.w c.args.above.now (omega (arith, c.bits-bits.ensures.value, c.bits-bits.ensures.limit)) c.requires.known.1)
+    (c.requires.known.0, small-wide c.args.w c.args.above.now (omega (arith, c.bits-bits.ensures.value, c.bits-bits.ensures.limit)) c.requires.known.1)
+
+known : (g : Over) (c : After-join g) → IsBody g.row.D c.args.w c.join.new.known
+known g c = joined-body c.args.w g.row.D (shown c.args.node) c.spot-spot.result c.args.above.now c.join.new.known c.requires.low c.requires.above c.requires.known c.join.ensures.body c.join.ensures.known
 
 pub offset_distance-distance-requires-clause-first :
     goal.offset_distance-distance-requires-clause-first
-offset_distance-distance-requires-clause-first g c =
-    (joined-body c.args.w g.row.D c.args.i c.level-level.result c.address.result (shown c.args.node) c.args.above.now c.body.result.now c.join.new.known c.requires.low c.requires.above c.requires.known c.body.ensures.body c.join.ensures c.level-level.ensures.value).1
+offset_distance-distance-requires-clause-first g c = (known g (goal.at.offset_distance-distance-requires-clause-first g c).After-join).1
 
 pub offset_least_distance-distance-requires-clause-first :
     goal.offset_least_distance-distance-requires-clause-first
-offset_least_distance-distance-requires-clause-first g c =
-    (joined-body c.args.w g.row.D c.args.i c.level-level.result c.address.result (shown c.args.node) c.args.above.now c.body.result.now c.join.new.known c.requires.low c.requires.above c.requires.known c.body.ensures.body c.join.ensures c.level-level.ensures.value).1
+offset_least_distance-distance-requires-clause-first g c = (known g (goal.at.offset_least_distance-distance-requires-clause-first g c).After-join).1
 
 pub returns-clause-waiting : goal.returns-clause-waiting
 returns-clause-waiting g c = record {
@@ -28,11 +31,11 @@ returns-clause-waiting g c = record {
     | in-Child w ↦ w.distance-is ∙ w.offset_least_distance-distance.ensures ∙ ap (λ h. item_distance c.args.w (map (coordinate c.args.w) c.args.q.now) (held_item c.args.w c.saturating_sub-below.result c.join.new.known h)) (sym w.in-Child.is)
   ];
   level = omega (arith, c.saturating_sub-below.ensures, c.level-level.ensures.value, c.requires.low);
-  known = joined-body c.args.w g.row.D c.args.i c.level-level.result c.address.result (shown c.args.node) c.args.above.now c.body.result.now c.join.new.known c.requires.low c.requires.above c.requires.known c.body.ensures.body c.join.ensures c.level-level.ensures.value;
+  known = known g (goal.at.returns-clause-waiting g c).After-join;
 }
 
 pub returns-clause-item : goal.returns-clause-item
 returns-clause-item g c =
-    joined-item c.args.w g.row.D c.args.i c.level-level.result c.address.result (shown c.args.node) c.args.above.now c.body.result.now c.join.new.known c.requires.low c.requires.above c.requires.known c.body.ensures.body c.join.ensures c.level-level.ensures.value
+    joined-item c.args.w g.row.D (shown c.args.node) c.spot-spot.result c.args.above.now c.join.new.known c.requires.low c.requires.above c.requires.known c.join.ensures.body c.join.ensures.known
     (record { distance = c.match-what.distance; known = c.join.new.known; level = c.saturating_sub-below.result; what = c.what-what.result })
-    refl c.saturating_sub-below.ensures c.address.ensures.value c.body.ensures.value c.what-what.ensures
+    c.args.i refl (c.saturating_sub-below.ensures ∙ ap (λ n. n - 1) c.level-level.ensures.value) c.spot-spot.ensures.spot c.what-what.ensures c.spot-spot.ensures.place

@@ -2,13 +2,60 @@ use Rattle.std.proofs.Common.{◌≡◌, ◌+◌, ◌<◌, rules, arith, sym, �
 use Rattle.std.specs.Prelude.{Some}
 use Rattle.ph_specs.specs.Node.{PlainNode, entries, nodes}
 use Rattle.ph_node.specs.Shown.{shown, what_of}
-use Rattle.ph_tree.proofs.Compared.{child-lawful, taken-next, node-same, below-more, below-few, below-all}
+use Rattle.ph_tree.proofs.Steps.{what_got}
+use Rattle.ph_tree.proofs.Compared.{body_same, body_other, never, alike_addr, alike_body, alike_values, alike_children, mixed, mixed_other, held-read, child-lawful, taken-next, node-same, below-more, below-few, below-all}
+use Rattle.ph_tree.proofs.compare.+same.Goals.{is_same_entry-then-a-b-via-then-a-b, is_same_entry-then-a-b-via-else-a-b+then-ne}
 use Rattle.ph_tree.proofs.compare.+same.Goals as goal
 
 pub is_same_entry-is_same_node-requires : goal.is_same_entry-is_same_node-requires
 is_same_entry-is_same_node-requires g t c κs within =
-    let k = child-lawful g.P.Dims.D c.args.i (shown c.args.left) c.in-Child-Child.a.now c.requires.lawful c.requires.left (sym (ap what_of c.in-Child-Child.is-0) ∙ c.what.ensures) in
+    let held = sym (what_got (entries (shown c.args.left)) c.args.i _ c.entry-a.ensures.shows ∙ ap what_of c.in-Child-Child.is-0) in
+    let k = child-lawful g.P.Dims.D c.args.i (shown c.args.left) c.in-Child-Child.a.now c.requires.lawful c.requires.left held in
     (omega (arith, k.0, c.decreases), search (rules, within, k.1))
+
+pub is_same_entry-returns-then-a-b-clause-same : goal.is_same_entry-returns-then-a-b-clause-same
+is_same_entry-returns-then-a-b-clause-same g t c =
+    elim c.then-a-b.branch [
+      | is_same_entry-then-a-b-via-then-a-b w ↦ never (λ h. w.if-a-b.true (alike_addr g.P.Dims.D c.entry-a.result c.entry-b.result c.entry-a.ensures.shows c.entry-b.ensures.shows h))
+      | is_same_entry-then-a-b-via-else-a-b+then-ne w ↦
+          never (λ h. body_other c.entry-a.result.body c.entry-b.result.body w.ne.result w.ne.ensures w.if-ne.true (alike_body g.P.Dims.D c.entry-a.result c.entry-b.result c.entry-a.ensures.shows c.entry-b.ensures.shows _ _ c.entry-a.ensures.body c.entry-b.ensures.body h))
+    ]
+
+pub is_same_entry-returns-in-Value-Value-clause-same : goal.is_same_entry-returns-in-Value-Value-clause-same
+is_same_entry-returns-in-Value-Value-clause-same g t c =
+    let same = body_same c.entry-a.result.body c.entry-b.result.body c.ne.result c.ne.ensures c.if-ne.false in
+    alike_values g.P.Dims.D c.entry-a.result c.entry-b.result c.entry-a.ensures.shows c.entry-b.ensures.shows c.if-a-b.false same c.in-Value-Value.is-0 c.in-Value-Value.is-1
+
+pub is_same_entry-returns-in-Value-Value-clause-all : goal.is_same_entry-returns-in-Value-Value-clause-all
+is_same_entry-returns-in-Value-Value-clause-all g t c same =
+    let x = held-read g.P.Dims.D c.args.i (entries (shown c.args.left)) c.entry-a.result _ c.entry-a.ensures.shows c.in-Value-Value.is-0 in
+    let y = held-read g.P.Dims.D c.args.i (entries (shown c.args.right)) c.entry-b.result _ c.entry-b.ensures.shows c.in-Value-Value.is-1 in
+    omega (arith, x, y)
+
+pub is_same_entry-returns-in-Child-Child-clause-same : goal.is_same_entry-returns-in-Child-Child-clause-same
+is_same_entry-returns-in-Child-Child-clause-same g t c =
+    let same = body_same c.entry-a.result.body c.entry-b.result.body c.ne.result c.ne.ensures c.if-ne.false in
+    alike_children g.P.Dims.D c.entry-a.result c.entry-b.result c.entry-a.ensures.shows c.entry-b.ensures.shows c.if-a-b.false same c.in-Child-Child.is-0 c.in-Child-Child.is-1 c.is_same_node.ensures.same
+
+pub is_same_entry-returns-in-Child-Child-clause-visits : goal.is_same_entry-returns-in-Child-Child-clause-visits
+is_same_entry-returns-in-Child-Child-clause-visits g t c =
+    let x = held-read g.P.Dims.D c.args.i (entries (shown c.args.left)) c.entry-a.result _ c.entry-a.ensures.shows c.in-Child-Child.is-0 in
+    let y = held-read g.P.Dims.D c.args.i (entries (shown c.args.right)) c.entry-b.result _ c.entry-b.ensures.shows c.in-Child-Child.is-1 in
+    omega (arith, x, y, c.is_same_node.ensures.visits)
+
+pub is_same_entry-returns-in-Child-Child-clause-all : goal.is_same_entry-returns-in-Child-Child-clause-all
+is_same_entry-returns-in-Child-Child-clause-all g t c same =
+    let x = held-read g.P.Dims.D c.args.i (entries (shown c.args.left)) c.entry-a.result _ c.entry-a.ensures.shows c.in-Child-Child.is-0 in
+    let y = held-read g.P.Dims.D c.args.i (entries (shown c.args.right)) c.entry-b.result _ c.entry-b.ensures.shows c.in-Child-Child.is-1 in
+    omega (arith, x, y, c.is_same_node.ensures.all same)
+
+pub is_same_entry-returns-in_default-clause-same : goal.is_same_entry-returns-in_default-clause-same
+is_same_entry-returns-in_default-clause-same g t c =
+    never (mixed g.P.Dims.D c.entry-a.result c.entry-b.result c.entry-a.ensures.shows c.entry-b.ensures.shows c.in_default.is-0 c.in_default.is-1)
+
+pub is_same_entry-returns-in_default-2-clause-same : goal.is_same_entry-returns-in_default-2-clause-same
+is_same_entry-returns-in_default-2-clause-same g t c =
+    never (mixed_other g.P.Dims.D c.entry-a.result c.entry-b.result c.entry-a.ensures.shows c.entry-b.ensures.shows c.in_default.is-0 c.in_default.is-1)
 
 pub is_same_node-returns-then-not-is_same_entry-clause-visits : goal.is_same_node-returns-then-not-is_same_entry-clause-visits
 is_same_node-returns-then-not-is_same_entry-clause-visits g t c =

@@ -3,7 +3,7 @@ use Rattle.std.specs.Prelude.{IsSome}
 use Rattle.ph_specs.specs.Node.{node}
 use Rattle.ph_specs.specs.EntryEdits.{with_child}
 use Rattle.ph_table.specs.Rows.{put_answer}
-use Rattle.ph_tree.proofs.Walks.{IsStepAt, step_at, answered, answered_new, on_ok, on_err, always_err, not_none, some_none, absent_found, same_found, same_value, same_inside, same_put, below_node, below_inside, below_lent, way_below, other_found, other_opened}
+use Rattle.ph_tree.proofs.Walks.{IsStepAt, step_at, answered, answered_new, on_ok, on_err, always_err, not_none, some_none, absent_found, same_found, same_value, same_spot, same_put, below_node, below_spot, below_lent, way_below, other_found, other_opened}
 use Rattle.ph_tree.proofs.puts.+put_at.Given.{Over}
 use Rattle.ph_tree.proofs.puts.+put_at.Goals.{After-step}
 use Rattle.ph_tree.proofs.puts.+put_at.Goals as goal
@@ -15,12 +15,12 @@ stepped g t c = step_at c.visit-node.ensures.shows c.requires.lawful c.step.ensu
 pub set_value-requires : goal.set_value-requires
 set_value-requires g t c =
     let k = stepped g t (goal.at.set_value-requires g t c).After-step in
-    record { within = same_inside k c.in-Same.is; point = same_value k c.in-Same.is }
+    record { spot = same_spot k c.in-Same.is; point = same_value k c.in-Same.is }
 
 pub child_mut-slot-requires : goal.child_mut-slot-requires
 child_mut-slot-requires g t c =
     let k = stepped g t (goal.at.child_mut-slot-requires g t c).After-step in
-    record { within = below_inside k c.in-Below.is; child = below_node k c.in-Below.is }
+    record { spot = below_spot k c.in-Below.is; child = below_node k c.in-Below.is }
 
 pub put_at-requires : goal.put_at-requires
 put_at-requires g t c κs within =
@@ -53,7 +53,7 @@ returns-in-Below g t c =
     let k = stepped g t (goal.at.returns-in-Below g t c).After-step in
     let below = way_below k c.in-Below.is (below_lent k c.in-Below.is (ap node c.node_mut.ensures.shows ∙ c.child_mut-slot.ensures.shows)) in
     let put = c.put_at.ensures in
-    let over = with_child c.args.cur.now c.in-Below.i in
+    let over = with_child c.args.cur.now c.in-Below.spot.place in
     record {
       answer = answered c.put_at.result _ _ (sym below.found) put.answer;
       put = on_ok c.put_at.result (λ q. ap over q ∙ below.put c.args.v) put.put;

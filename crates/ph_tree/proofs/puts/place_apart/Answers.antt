@@ -1,6 +1,6 @@
 use Rattle.std.proofs.Common.{length, take, ap, ◌∙◌}
 use Rattle.ph_node.specs.Shown.{shown}
-use Rattle.ph_tree.proofs.Steps.{IsPointBelow, apart_inside, bodies_differ, top_there}
+use Rattle.ph_tree.proofs.Steps.{IsPointBelow, apart_spot, bodies_differ, top_there}
 use Rattle.ph_tree.proofs.puts.place_apart.Given.{Over}
 use Rattle.ph_tree.proofs.puts.place_apart.Goals.{After-top_difference}
 use Rattle.ph_tree.proofs.puts.place_apart.Goals as goal
@@ -12,15 +12,15 @@ digits g c =
 
 pub top_difference-requires : goal.top_difference-requires
 top_difference-requires g c = record {
-  within = apart_inside c.args.key.now.width c.args.key.now.point (shown c.args.node) c.args.i c.requires.apart;
+  spot = apart_spot c.args.key.now.width c.args.key.now.point (shown c.args.node) c.args.spot c.requires.apart;
   dims = ap (λ n. length (take n c.below-below.result)) c.D.ensures ∙ c.below-below.ensures.body.fields.0;
 }
 
 pub unreachable-requires : goal.unreachable-requires
 unreachable-requires g c =
     let same = rw c.D.ensures at c.in-None.ensures in
-    bodies_differ (digits g (goal.at.unreachable-requires g c).After-top_difference) c.args.i c.requires.lawful c.requires.apart same
+    bodies_differ (digits g (goal.at.unreachable-requires g c).After-top_difference) c.args.spot c.requires.lawful c.requires.apart same
 
 pub returns : goal.returns
 returns g c =
-    top_there (digits g (goal.at.returns g c).After-top_difference) c.args.i _ (rw c.D.ensures at c.in-Some.ensures)
+    top_there (digits g (goal.at.returns g c).After-top_difference) c.args.spot _ (rw c.D.ensures at c.in-Some.ensures)

@@ -1,5 +1,6 @@
 use Rattle.std.proofs.Common.{◌∙◌}
 use Rattle.ph_tree.proofs.Gone.{root_left, root_kept, last_found, last_gone}
+use Rattle.ph_tree.proofs.Walks.{on_ok, some_none}
 use Rattle.ph_tree.proofs.removals.del_in.Goals as goal
 
 pub del_at-found-requires-clause-left : goal.del_at-found-requires-clause-left
@@ -17,4 +18,8 @@ returns-in-Some-point_among-clause-del g c =
 
 pub returns-in-None-clause-del : goal.returns-in-None-clause-del
 returns-in-None-clause-del g c =
-    root_kept c.args.key.now.width g.P.Dims.D c.args.key.now.point c.in-Some.node _ c.visit.ensures.shows _ c.in-Some.ensures.value c.requires.lawful c.in-None.ensures _ c.del_at-found.ensures.del
+    on_ok c.del_at-found.result (root_kept c.args.key.now.width g.P.Dims.D c.args.key.now.point c.in-Some.node _ c.visit.ensures.shows _ c.in-Some.ensures.value c.requires.lawful c.in-None.ensures _) c.del_at-found.ensures.del
+
+pub returns-in-Some-point_among-clause-idle : goal.returns-in-Some-point_among-clause-idle
+returns-in-Some-point_among-clause-idle g c none =
+    some_none (last_found c.args.key.now.width g.P.Dims.D c.args.key.now.point c.in-Some.node _ c.visit.ensures.shows _ c.in-Some.ensures.value c.requires.lawful c.in-Some-point_among.field-0-0 c.in-Some-point_among.value c.in-Some-point_among.ensures ∙ none)

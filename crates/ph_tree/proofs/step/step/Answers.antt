@@ -6,25 +6,25 @@ use Rattle.ph_specs.specs.EntryEdits.{has_address}
 use Rattle.ph_node.specs.Places.{place_for}
 use Rattle.ph_node.specs.Shown.{shown, what_of}
 use Rattle.ph_tree.specs.Step.{IsAt, IsApart, opened_for}
-use Rattle.ph_tree.proofs.Steps.{entry_at, place_inside, at_entry, same_below, other_below, same_between, other_between}
+use Rattle.ph_tree.proofs.Steps.{entry_at, at_entry, same_below, other_below, same_between, other_between}
 use Rattle.ph_tree.proofs.step.step.Given.{Over}
 use Rattle.ph_tree.proofs.step.step.Goals.{In-Ok}
 use Rattle.ph_tree.proofs.step.step.Goals as goal
 
 -- the entry that was found stands at the point's address
-at : (g : Over) (c : In-Ok g) → IsAt c.args.key.now.width c.args.key.now.point (shown c.args.node) c.in-Ok.i (entry_at (entries (shown c.args.node)) c.in-Ok.i)
-at g c = at_entry c.args.key.now.width c.args.key.now.point (shown c.args.node) _ _ c.in-Ok.i c.level.ensures.value c.address.ensures.value c.in-Ok.ensures.found
+at : (g : Over) (c : In-Ok g) → IsAt c.args.key.now.width c.args.key.now.point (shown c.args.node) c.in-Ok.spot (entry_at (entries (shown c.args.node)) c.in-Ok.spot.place)
+at g c = at_entry c.args.key.now.width c.args.key.now.point (shown c.args.node) _ _ c.in-Ok.spot c.level.ensures.value c.address.ensures.value c.in-Ok.ensures.found c.in-Ok.ensures.spot
 
 pub what-requires : goal.what-requires
-what-requires g c = place_inside _ c.in-Ok.i (entries (shown c.args.node)) c.in-Ok.ensures.found
+what-requires g c = c.in-Ok.ensures.spot
 
 pub is_below-requires : goal.is_below-requires
 is_below-requires g c =
-    record { within = place_inside _ c.in-Ok.i (entries (shown c.args.node)) c.in-Ok.ensures.found; dims = c.offsets.ensures.dims }
+    record { spot = c.in-Ok.ensures.spot; dims = c.offsets.ensures.dims }
 
 pub is_between-requires : goal.is_between-requires
 is_between-requires g c = record {
-  within = place_inside _ c.in-Ok.i (entries (shown c.args.node)) c.in-Ok.ensures.found;
+  spot = c.in-Ok.ensures.spot;
   low = omega (arith, c.level-in-Child.ensures.limit);
   dims = c.offsets-in-Child.ensures.dims;
 }
@@ -41,7 +41,7 @@ returns-in-Err-clause-step g c =
 pub returns-then-is_below-clause-step : goal.returns-then-is_below-clause-step
 returns-then-is_below-clause-step g c =
     let n = shown c.args.node in
-    let x = entry_at (entries n) c.in-Ok.i in (
+    let x = entry_at (entries n) c.in-Ok.spot.place in (
       x,
       at g (goal.at.returns-then-is_below-clause-step g c).In-Ok,
       sym c.what.ensures ∙ ap (λ u. what_of u) c.in-Value.is,
@@ -52,7 +52,7 @@ returns-then-is_below-clause-step g c =
 pub returns-else-is_below-clause-step : goal.returns-else-is_below-clause-step
 returns-else-is_below-clause-step g c =
     let n = shown c.args.node in
-    let x = entry_at (entries n) c.in-Ok.i in
+    let x = entry_at (entries n) c.in-Ok.spot.place in
     let what = sym c.what.ensures ∙ ap (λ u. what_of u) c.in-Value.is in (
       x,
       at g (goal.at.returns-else-is_below-clause-step g c).In-Ok,
@@ -63,7 +63,7 @@ returns-else-is_below-clause-step g c =
 pub returns-then-is_between-clause-step : goal.returns-then-is_between-clause-step
 returns-then-is_between-clause-step g c =
     let n = shown c.args.node in
-    let x = entry_at (entries n) c.in-Ok.i in (
+    let x = entry_at (entries n) c.in-Ok.spot.place in (
       x,
       at g (goal.at.returns-then-is_between-clause-step g c).In-Ok,
       sym c.what.ensures ∙ ap (λ u. what_of u) c.in-Child.is ∙ ap node (sym c.visit-below.ensures.shows),
@@ -74,7 +74,7 @@ returns-then-is_between-clause-step g c =
 pub returns-else-is_between-clause-step : goal.returns-else-is_between-clause-step
 returns-else-is_between-clause-step g c =
     let n = shown c.args.node in
-    let x = entry_at (entries n) c.in-Ok.i in
+    let x = entry_at (entries n) c.in-Ok.spot.place in
     let what = sym c.what.ensures ∙ ap (λ u. what_of u) c.in-Child.is ∙ ap node (sym c.visit-below.ensures.shows) in (
       x,
       at g (goal.at.returns-else-is_between-clause-step g c).In-Ok,

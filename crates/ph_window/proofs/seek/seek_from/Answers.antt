@@ -3,42 +3,43 @@ use Rattle.ph_specs.specs.Node.{entries}
 use Rattle.ph_node.specs.Shown.{shown}
 use Rattle.ph_specs.specs.Masks.{IsNextOf}
 use Rattle.ph_path.proofs.Paths.{read-entry}
+use Rattle.ph_window.specs.Seek.{AreShut}
 use Rattle.ph_window.proofs.Seeks.{lawful-rising, none-left, past-all, passed-over, farther}
 use Rattle.ph_window.proofs.seek.seek_from.Goals as goal
 
 pub returns-then-fits-clause-found : goal.returns-then-fits-clause-found
 returns-then-fits-clause-found g c =
     let f = c.args.frame in
-    let entry = read-entry (entries (shown f.node)) c.loop-place.place c.address-addr.result _ _ (omega arith) c.address-addr.ensures.value refl refl in
+    let place = c.spot-spot.ensures.place in
     record {
-      behind = c.loop-place.invariant.behind;
-      entry = (_, entry, sym c.fits.ensures ∙ c.if-fits.true);
-      shut = c.loop-place.invariant.shut;
+      behind = omega (arith, place, c.loop-place.invariant.behind);
+      entry = (_, read-entry (entries (shown f.node)) c.spot-spot.result refl c.spot-spot.ensures.spot refl, sym c.fits.ensures ∙ c.if-fits.true);
+      shut = subst (AreShut f.note.lower f.note.upper (entries (shown f.node)) f.place) (sym place) c.loop-place.invariant.shut;
     }
 
 pub returns-in_default-clause-found : goal.returns-in_default-clause-found
 returns-in_default-clause-found g c =
     let f = c.args.frame in
     let d = g.P.Dims.D in
-    none-left f.note.lower f.note.upper (entries (shown f.node)) (lawful-rising d (shown f.node).level 0 (shown f.node).chain c.requires.lawful) f.place c.loop-place.place _ (read-entry (entries (shown f.node)) c.loop-place.place _ _ _ (omega arith) c.address-addr.ensures.value refl refl) (sym c.fits.ensures ∙ c.if-fits.false) c.loop-place.invariant.shut
-    (subst (IsNextOf c.address-addr.result f.note.lower f.note.upper) c.in_default.is c.next_address.ensures)
+    none-left f.note.lower f.note.upper (entries (shown f.node)) (lawful-rising d (shown f.node).level 0 (shown f.node).chain c.requires.lawful) f.place c.loop-place.place _ (read-entry (entries (shown f.node)) c.spot-spot.result c.spot-spot.ensures.place c.spot-spot.ensures.spot refl) (sym c.fits.ensures ∙ c.if-fits.false) c.loop-place.invariant.shut
+    (subst (IsNextOf c.spot-spot.result.addr f.note.lower f.note.upper) c.in_default.is c.next_address.ensures)
 
 pub returns-in_default-next_at_or_after-clause-found : goal.returns-in_default-next_at_or_after-clause-found
 returns-in_default-next_at_or_after-clause-found g c =
     let f = c.args.frame in
     let d = g.P.Dims.D in
-    past-all f.note.lower f.note.upper (entries (shown f.node)) (lawful-rising d (shown f.node).level 0 (shown f.node).chain c.requires.lawful) f.place c.loop-place.place _ (read-entry (entries (shown f.node)) c.loop-place.place _ _ _ (omega arith) c.address-addr.ensures.value refl refl) (sym c.fits.ensures ∙ c.if-fits.false) c.loop-place.invariant.shut
+    past-all f.note.lower f.note.upper (entries (shown f.node)) (lawful-rising d (shown f.node).level 0 (shown f.node).chain c.requires.lawful) f.place c.loop-place.place _ (read-entry (entries (shown f.node)) c.spot-spot.result c.spot-spot.ensures.place c.spot-spot.ensures.spot refl) (sym c.fits.ensures ∙ c.if-fits.false) c.loop-place.invariant.shut
     c.in-Some.next
-    (subst (IsNextOf c.address-addr.result f.note.lower f.note.upper) c.in-Some.is c.next_address.ensures)
+    (subst (IsNextOf c.spot-spot.result.addr f.note.lower f.note.upper) c.in-Some.is c.next_address.ensures)
     (sym c.next_at_or_after.ensures ∙ c.in_default-next_at_or_after.is)
 
 pub loop-place-smaller : goal.loop-place-smaller
 loop-place-smaller g c =
     let f = c.args.frame in
     let d = g.P.Dims.D in
-    let m = farther f.note.lower f.note.upper (entries (shown f.node)) (lawful-rising d (shown f.node).level 0 (shown f.node).chain c.requires.lawful) f.place c.loop-place.place _ (read-entry (entries (shown f.node)) c.loop-place.place _ _ _ (omega arith) c.address-addr.ensures.value refl refl) (sym c.fits.ensures ∙ c.if-fits.false) c.loop-place.invariant.shut
+    let m = farther f.note.lower f.note.upper (entries (shown f.node)) (lawful-rising d (shown f.node).level 0 (shown f.node).chain c.requires.lawful) f.place c.loop-place.place _ (read-entry (entries (shown f.node)) c.spot-spot.result c.spot-spot.ensures.place c.spot-spot.ensures.spot refl) (sym c.fits.ensures ∙ c.if-fits.false) c.loop-place.invariant.shut
     c.in-Some.next c.in-Some-next_at_or_after.found
-    (subst (IsNextOf c.address-addr.result f.note.lower f.note.upper) c.in-Some.is c.next_address.ensures)
+    (subst (IsNextOf c.spot-spot.result.addr f.note.lower f.note.upper) c.in-Some.is c.next_address.ensures)
     (sym c.next_at_or_after.ensures ∙ c.in-Some-next_at_or_after.is) in
     omega (arith, m, c.loop-place-test.true)
 
@@ -46,14 +47,14 @@ pub loop-place-preserved : goal.loop-place-preserved
 loop-place-preserved g c =
     let f = c.args.frame in
     let d = g.P.Dims.D in
-    let m = farther f.note.lower f.note.upper (entries (shown f.node)) (lawful-rising d (shown f.node).level 0 (shown f.node).chain c.requires.lawful) f.place c.loop-place.place _ (read-entry (entries (shown f.node)) c.loop-place.place _ _ _ (omega arith) c.address-addr.ensures.value refl refl) (sym c.fits.ensures ∙ c.if-fits.false) c.loop-place.invariant.shut
+    let m = farther f.note.lower f.note.upper (entries (shown f.node)) (lawful-rising d (shown f.node).level 0 (shown f.node).chain c.requires.lawful) f.place c.loop-place.place _ (read-entry (entries (shown f.node)) c.spot-spot.result c.spot-spot.ensures.place c.spot-spot.ensures.spot refl) (sym c.fits.ensures ∙ c.if-fits.false) c.loop-place.invariant.shut
     c.in-Some.next c.in-Some-next_at_or_after.found
-    (subst (IsNextOf c.address-addr.result f.note.lower f.note.upper) c.in-Some.is c.next_address.ensures)
+    (subst (IsNextOf c.spot-spot.result.addr f.note.lower f.note.upper) c.in-Some.is c.next_address.ensures)
     (sym c.next_at_or_after.ensures ∙ c.in-Some-next_at_or_after.is) in
     record {
       behind = omega (arith, m, c.loop-place.invariant.behind);
-      shut = passed-over f.note.lower f.note.upper (entries (shown f.node)) (lawful-rising d (shown f.node).level 0 (shown f.node).chain c.requires.lawful) f.place c.loop-place.place _ (read-entry (entries (shown f.node)) c.loop-place.place _ _ _ (omega arith) c.address-addr.ensures.value refl refl) (sym c.fits.ensures ∙ c.if-fits.false) c.loop-place.invariant.shut
+      shut = passed-over f.note.lower f.note.upper (entries (shown f.node)) (lawful-rising d (shown f.node).level 0 (shown f.node).chain c.requires.lawful) f.place c.loop-place.place _ (read-entry (entries (shown f.node)) c.spot-spot.result c.spot-spot.ensures.place c.spot-spot.ensures.spot refl) (sym c.fits.ensures ∙ c.if-fits.false) c.loop-place.invariant.shut
           c.in-Some.next c.in-Some-next_at_or_after.found
-          (subst (IsNextOf c.address-addr.result f.note.lower f.note.upper) c.in-Some.is c.next_address.ensures)
+          (subst (IsNextOf c.spot-spot.result.addr f.note.lower f.note.upper) c.in-Some.is c.next_address.ensures)
           (sym c.next_at_or_after.ensures ∙ c.in-Some-next_at_or_after.is);
     }

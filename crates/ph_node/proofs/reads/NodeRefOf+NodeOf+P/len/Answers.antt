@@ -1,6 +1,7 @@
-use Rattle.std.proofs.Common.{sym, ◌∙◌}
-use Rattle.ph_node.proofs.Items.{length_is}
+use Rattle.std.proofs.Common.{sym, ◌∙◌, ap}
+use Rattle.ph_specs.specs.Record.{first_in}
+use Rattle.ph_node.proofs.Listings.{count_is}
 use Rattle.ph_node.proofs.reads.NodeRefOf+NodeOf+P.len.Goals as goal
 
 pub returns : goal.returns
-returns g c = c.len.ensures ∙ c.node.inside.items.ok.0 ∙ sym (length_is _ _ _ _ c.node.view_is)
+returns g c = c.count.ensures ∙ ap (λ ws. (first_in ws).entries) c.as_slice.ensures ∙ sym (count_is _ _ _ _ c.node.view_is c.node.invariant)

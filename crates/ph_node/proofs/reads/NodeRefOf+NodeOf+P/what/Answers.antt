@@ -1,13 +1,40 @@
-use Rattle.std.proofs.Common.{arith, sym, ◌∙◌, ap}
-use Rattle.ph_node.specs.Items.{what_in}
-use Rattle.ph_node.proofs.Items.{length_is, what_is}
+use Rattle.std.proofs.Common.{arith, ap, ◌∙◌}
+use Rattle.ph_specs.specs.Node.{value}
+use Rattle.ph_node.proofs.Listings.{length-nodes, get-nodes}
+use Rattle.ph_node.proofs.Reading.{within-there, spot-there, child-told, point-told}
 use Rattle.ph_node.proofs.reads.NodeRefOf+NodeOf+P.what.Goals as goal
 
-pub index-item-requires : goal.index-item-requires
-index-item-requires g c = omega (arith, c.requires, c.node.inside.items.ok.0, length_is _ _ _ _ c.node.view_is)
+pub is_child-child-requires-clause-within : goal.is_child-child-requires-clause-within
+is_child-child-requires-clause-within g c =
+    within-there _ _ _ _ _ _ c.node.view_is c.node.invariant c.as_slice-words.ensures c.D-dims.ensures c.args.spot.place c.requires.within
 
-pub returns-in-Value : goal.returns-in-Value
-returns-in-Value g c = ap (λ h. what_in h) (sym c.in-Value.is) ∙ sym (what_is _ _ _ _ c.node.view_is c.args.i c.index-item.result.now c.requires c.index-item.ensures)
+pub is_child-child-requires-clause-address : goal.is_child-child-requires-clause-address
+is_child-child-requires-clause-address g c =
+    spot-there _ _ _ _ _ _ c.node.view_is c.node.invariant c.as_slice-words.ensures c.D-dims.ensures c.args.spot c.requires
 
-pub returns-in-Child : goal.returns-in-Child
-returns-in-Child g c = ap (λ h. what_in h) (sym c.in-Child.is) ∙ sym (what_is _ _ _ _ c.node.view_is c.args.i c.index-item.result.now c.requires c.index-item.ensures)
+pub rank-rank-requires-clause-within : goal.rank-rank-requires-clause-within
+rank-rank-requires-clause-within g c =
+    within-there _ _ _ _ _ _ c.node.view_is c.node.invariant c.as_slice-words.ensures c.D-dims.ensures c.args.spot.place c.requires.within
+
+pub rank-rank-requires-clause-address : goal.rank-rank-requires-clause-address
+rank-rank-requires-clause-address g c =
+    spot-there _ _ _ _ _ _ c.node.view_is c.node.invariant c.as_slice-words.ensures c.D-dims.ensures c.args.spot c.requires
+
+pub index-slot-requires : goal.index-slot-requires
+index-slot-requires g c =
+    let p = child-told _ _ _ _ _ _ c.node.view_is c.node.invariant c.as_slice-words.ensures c.D-dims.ensures c.args.spot.place c.requires.within _ _ c.is_child-child.ensures c.if-child.true c.rank-rank.ensures in
+    omega (arith, p.0, length-nodes c.node.inside.children.items, c.node.inside.children.ok.0)
+
+pub value-requires-clause-within : goal.value-requires-clause-within
+value-requires-clause-within g c =
+    (point-told _ _ _ _ _ _ c.node.view_is c.node.invariant c.as_slice-words.ensures c.D-dims.ensures c.args.spot.place c.requires.within _ _ c.is_child-child.ensures c.if-child.false c.rank-rank.ensures).0
+
+pub returns-then-child : goal.returns-then-child
+returns-then-child g c =
+    let p = child-told _ _ _ _ _ _ c.node.view_is c.node.invariant c.as_slice-words.ensures c.D-dims.ensures c.args.spot.place c.requires.within _ _ c.is_child-child.ensures c.if-child.true c.rank-rank.ensures in
+    p.1 c.index-slot.result.now.node (get-nodes c.node.inside.children.items c.rank-rank.result c.index-slot.result.now c.index-slot.ensures)
+
+pub returns-else-child : goal.returns-else-child
+returns-else-child g c =
+    let p = point-told _ _ _ _ _ _ c.node.view_is c.node.invariant c.as_slice-words.ensures c.D-dims.ensures c.args.spot.place c.requires.within _ _ c.is_child-child.ensures c.if-child.false c.rank-rank.ensures in
+    ap value c.value.ensures ∙ p.1

@@ -1,3 +1,6 @@
+use Rattle.ph_specs.specs.Node.{entries}
+use Rattle.ph_node.specs.Shown.{shown}
+use Rattle.ph_node.specs.Split.{body_at}
 use Rattle.ph_path.proofs.Knowns.{body-seen, joined-seen}
 use Rattle.ph_path.proofs.known.KnownOf.join.Goals as goal
 
@@ -7,4 +10,6 @@ join-requires-clause-known g c =
 
 pub invariant_of-self : goal.invariant_of-self
 invariant_of-self g c =
-    (joined-seen g.P.Dims.D c.D-dims.result c.self.inside.width c.self.inside.digits c.D-dims.ensures c.self.invariant c.args.self.now c.args.level c.args.addr c.args.body.now c.join.new.known _ c.self.view_is c.requires.level c.requires.body c.join.ensures).0
+    let d = g.P.Dims.D in
+    let n = shown c.args.node in
+    (joined-seen d c.D-dims.result c.self.inside.width c.self.inside.digits c.D-dims.ensures c.self.invariant c.args.self.now n.level c.args.spot.addr (body_at (entries n) c.args.spot.place) c.join.new.known _ c.self.view_is c.requires.level c.join.ensures.body c.join.ensures.known).0

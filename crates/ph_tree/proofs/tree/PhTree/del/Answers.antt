@@ -1,8 +1,8 @@
 use Rattle.std.proofs.Common.{sym, ◌∙◌, refl, arith}
 use Rattle.ph_specs.specs.Table.{find}
 use Rattle.ph_tree.proofs.Walks.{not_none, some_none}
-use Rattle.ph_tree.proofs.Trees.{IsKeyed, opened_is, opened_few}
-use Rattle.ph_tree.proofs.Fewer.{IsRemoval, removal}
+use Rattle.ph_tree.proofs.Trees.{IsKeyed, found_is, opened_is, opened_few}
+use Rattle.ph_tree.proofs.Fewer.{removal}
 use Rattle.ph_tree.proofs.tree.PhTree.del.Given.{Over}
 use Rattle.ph_tree.proofs.tree.PhTree.del.Goals.{After-del_in}
 use Rattle.ph_tree.proofs.tree.PhTree.del.Goals as goal
@@ -12,50 +12,67 @@ keyed : (g : Over) (c : After-del_in g) → IsKeyed g.row.D c.self.inside.width 
 keyed g c =
     record { seen = c.self.view_is; tree = c.self.invariant; at = c.requires; width = c.new-key.ensures.width; point = c.new-key.ensures.point ∙ c.as_slice.ensures.value }
 
--- what is made is the tree without the row at the point, and what is found is its value
-removed : (g : Over) (c : After-del_in g) → IsRemoval g.row.D c.self.inside.width c.self.inside.max c.self.inside.len c.args.self.now c.args.p.now c.del_in.new.root c.del_in.result
-removed g c = removal (keyed g c) c.del_in.ensures.del c.del_in.ensures.answer
-
 pub overflow_sub-self : goal.overflow_sub-self
-overflow_sub-self g c = (removed g (goal.at.overflow_sub-self g c).After-del_in).some_row _ c.in-Some.is
+overflow_sub-self g c =
+    (removal (keyed g (goal.at.overflow_sub-self g c).After-del_in) c.in_ok-value.ensures.del c.in_ok-value.ensures.answer).some_row _ c.in-Some.is
 
-pub invariant_of-self : goal.invariant_of-self
-invariant_of-self g c = (removed g (goal.at.invariant_of-self g c).After-del_in).fewer _ c.in-Some.is
+pub invariant_of-self-in-Some : goal.invariant_of-self-in-Some
+invariant_of-self-in-Some g c =
+    (removal (keyed g (goal.at.invariant_of-self-in-Some g c).After-del_in) c.in_ok-value.ensures.del c.in_ok-value.ensures.answer).fewer _ c.in-Some.is
 
 pub invariant_of-self-in-None : goal.invariant_of-self-in-None
 invariant_of-self-in-None g c =
-    (removed g (goal.at.invariant_of-self-in-None g c).After-del_in).kept c.in-None.is
+    (removal (keyed g (goal.at.invariant_of-self-in-None g c).After-del_in) c.in_ok-value.ensures.del c.in_ok-value.ensures.answer).kept c.in-None.is
+
+pub returns-in_err-value-clause-absent : goal.returns-in_err-value-clause-absent
+returns-in_err-value-clause-absent g c none =
+    let k = keyed g (goal.at.returns-in_err-value-clause-absent g c).After-del_in in
+    absurd (let no = c.in_err-value.ensures.absent (found_is k ∙ none) in cc)
+
+pub returns-in_err-value-clause-visits : goal.returns-in_err-value-clause-visits
+returns-in_err-value-clause-visits g c =
+    omega (arith, opened_is (keyed g (goal.at.returns-in_err-value-clause-visits g c).After-del_in))
+
+pub returns-in_err-value-clause-limit : goal.returns-in_err-value-clause-limit
+returns-in_err-value-clause-limit g c =
+    omega (arith, opened_few (keyed g (goal.at.returns-in_err-value-clause-limit g c).After-del_in))
 
 pub returns-in-Some : goal.returns-in-Some
 returns-in-Some g c =
-    let at = (goal.at.returns-in-Some g c).After-del_in in
-    let row = removed g at in
+    let k = keyed g (goal.at.returns-in-Some g c).After-del_in in
+    let del = c.in_ok-value.ensures in
+    let row = removal k del.del del.answer in
     record {
-      ok = refl;
       del = row.table;
       answer = sym c.in-Some.is ∙ row.answer;
-      visits = omega (arith, opened_is (keyed g at));
-      limit = omega (arith, opened_few (keyed g at));
-      later = at.del_in.ensures.later;
+      err = tt;
+      absent = λ _. refl;
+      visits = omega (arith, del.visits, opened_is k);
+      limit = omega (arith, del.visits, opened_few k);
+      later = del.later;
       changes = omega arith;
-      spared = λ none. some_none (sym c.in-Some.is ∙ row.answer ∙ none);
-      kept = at.del_in.ensures.kept;
-      made = λ _. at.del_in.ensures.made (rw c.in-Some.is refl);
+      idle = λ none. some_none (sym c.in-Some.is ∙ row.answer ∙ none);
+      spared = tt;
+      kept = del.kept;
+      made = λ _. del.made (rw c.in-Some.is refl);
     }
 
 pub returns-in-None : goal.returns-in-None
 returns-in-None g c =
-    let at = (goal.at.returns-in-None g c).After-del_in in
-    let row = removed g at in
+    let k = keyed g (goal.at.returns-in-None g c).After-del_in in
+    let del = c.in_ok-value.ensures in
+    let row = removal k del.del del.answer in
     record {
-      ok = refl;
       del = row.table;
       answer = sym c.in-None.is ∙ row.answer;
-      visits = omega (arith, opened_is (keyed g at));
-      limit = omega (arith, opened_few (keyed g at));
-      later = at.del_in.ensures.later;
+      err = tt;
+      absent = λ _. refl;
+      visits = omega (arith, del.visits, opened_is k);
+      limit = omega (arith, del.visits, opened_few k);
+      later = del.later;
       changes = omega arith;
-      spared = λ _. c.in-None.ensures.spared refl;
-      kept = at.del_in.ensures.kept;
+      idle = λ none. del.idle (found_is k ∙ none);
+      spared = tt;
+      kept = del.kept;
       made = λ some. absurd (not_none (find c.args.self.now.table c.args.p.now) (sym row.answer ∙ c.in-None.is) some);
     }

@@ -1,14 +1,10 @@
-use Rattle.std.proofs.Common.{◌∙◌, ◌+◌, ap, arith, sym, subst, ℕ, List}
+use Rattle.std.proofs.Common.{◌+◌, ap, arith, refl, sym, subst}
 use Rattle.std.specs.Option.{option_copied}
-use Rattle.ph_specs.specs.Lawful.{put_together}
-use Rattle.ph_specs.specs.PutTree.{body_above}
 use Rattle.ph_node.specs.Shown.{what_of}
-use Rattle.ph_window.specs.Bounds.{Bounds}
 use Rattle.ph_window.specs.Walk.{IsStep}
 use Rattle.ph_path.proofs.Paths.{no-frames, last-frame, read-entry}
-use Rattle.ph_window.proofs.Goes.{ended, root-room, root-walk, root-step, root-visits, top-masks, top-lawful, done-step, done-visits, new-walk, value-found, value-moved, value-visits, enter-room, deep-walk, deep-step, deep-visits}
-use Rattle.ph_window.proofs.Matches.{some_of, none_of}
-use Rattle.ph_window.proofs.Seeks.{place-found}
+use Rattle.ph_window.proofs.Goes.{ended, root-room, root-walk, root-step, root-visits, top-walk, top-masks, top-lawful, done-step, done-visits, new-walk, value-found, value-moved, value-visits, enter-room, deep-walk, deep-step, deep-visits}
+use Rattle.ph_window.proofs.Matches.{none_of}
 use Rattle.ph_window.proofs.walk.WalkOf.step.Goals.{then-is_inside, else-is_inside}
 use Rattle.ph_window.proofs.walk.WalkOf.step.Goals as goal
 
@@ -67,76 +63,59 @@ returns-in_default-seek-clause-cost g c =
     let front = last-frame c.self.inside.path c.last.result c.in-Some.frame c.last.ensures c.in-Some.is in
     ap (λ n. c.args.visits.now + n) (done-visits c.self.invariant c.self.view_is front c.leave.ensures (none_of _ _ c.in_default-seek.is c.seek.ensures.found))
 
-pub address-requires : goal.address-requires
-address-requires g c = place-found _ _ _ _ _ c.in-Some-seek.is c.seek.ensures.found
-
-pub body-requires : goal.body-requires
-body-requires g c = place-found _ _ _ _ _ c.in-Some-seek.is c.seek.ensures.found
-
-pub what-requires : goal.what-requires
-what-requires g c = place-found _ _ _ _ _ c.in-Some-seek.is c.seek.ensures.found
-
 -- ---- an entry that fits
 
--- the bounds with an entry joined at a level
-abbrev with_joined : Bounds → ℕ → List ℕ → ℕ → Bounds
-with_joined b a body level =
-    record { width = b.width; known = put_together level a (body_above level b.known) body; low = b.low; high = b.high }
+pub join-requires-clause-level : goal.join-requires-clause-level
+join-requires-clause-level g c =
+    (top-walk c.self.invariant c.self.view_is (last-frame c.self.inside.path c.last.result c.in-Some.frame c.last.ensures c.in-Some.is)).way.0.level
 
 pub invariant_of-self-in-Value : goal.invariant_of-self-in-Value
 invariant_of-self-in-Value g c =
     let front = last-frame c.self.inside.path c.last.result c.in-Some.frame c.last.ensures c.in-Some.is in
-    let joined = c.join.ensures ∙ ap (with_joined c.self.inside.bounds c.address.result c.body.result.now) c.level-level.ensures.value in
-    let entry = read-entry _ c.in-Some-seek.place _ _ _ (place-found _ _ _ _ _ c.in-Some-seek.is c.seek.ensures.found) c.address.ensures.value c.body.ensures.value c.what.ensures in
-    new-walk c.self.invariant c.self.view_is front entry (some_of _ _ c.in-Some-seek.is c.seek.ensures.found) joined c.set_last.ensures
+    let entry = read-entry _ c.in-Some-seek.spot refl c.in-Some-seek.ensures.spot c.what.ensures in
+    new-walk c.self.invariant c.self.view_is front entry c.in-Some-seek.ensures.found c.join.ensures c.set_last.ensures
 
 pub enter-requires-in-Child : goal.enter-requires-in-Child
 enter-requires-in-Child g c =
     let front = last-frame c.self.inside.path c.last.result c.in-Some.frame c.last.ensures c.in-Some.is in
-    let joined = c.join.ensures ∙ ap (with_joined c.self.inside.bounds c.address.result c.body.result.now) c.level-level.ensures.value in
-    let entry = read-entry _ c.in-Some-seek.place _ _ _ (place-found _ _ _ _ _ c.in-Some-seek.is c.seek.ensures.found) c.address.ensures.value c.body.ensures.value c.what.ensures in
-    (omega arith, enter-room c.self.invariant c.self.view_is front entry (some_of _ _ c.in-Some-seek.is c.seek.ensures.found) joined c.set_last.ensures (ap what_of c.in-Child.is) c.visit-below.result c.visit-below.ensures.shows)
+    let entry = read-entry _ c.in-Some-seek.spot refl c.in-Some-seek.ensures.spot c.what.ensures in
+    (omega arith, enter-room c.self.invariant c.self.view_is front entry c.in-Some-seek.ensures.found c.join.ensures c.set_last.ensures (ap what_of c.in-Child.is) c.visit-below.result c.visit-below.ensures.shows)
 
 pub invariant_of-self-in-Child : goal.invariant_of-self-in-Child
 invariant_of-self-in-Child g c =
     let front = last-frame c.self.inside.path c.last.result c.in-Some.frame c.last.ensures c.in-Some.is in
-    let joined = c.join.ensures ∙ ap (with_joined c.self.inside.bounds c.address.result c.body.result.now) c.level-level.ensures.value in
-    let entry = read-entry _ c.in-Some-seek.place _ _ _ (place-found _ _ _ _ _ c.in-Some-seek.is c.seek.ensures.found) c.address.ensures.value c.body.ensures.value c.what.ensures in
-    deep-walk c.self.invariant c.self.view_is front entry (some_of _ _ c.in-Some-seek.is c.seek.ensures.found) joined c.set_last.ensures (ap what_of c.in-Child.is) c.visit-below.result c.visit-below.ensures.shows c.enter-in-Child.new.path c.enter-in-Child.ensures
+    let entry = read-entry _ c.in-Some-seek.spot refl c.in-Some-seek.ensures.spot c.what.ensures in
+    deep-walk c.self.invariant c.self.view_is front entry c.in-Some-seek.ensures.found c.join.ensures c.set_last.ensures (ap what_of c.in-Child.is) c.visit-below.result c.visit-below.ensures.shows c.enter-in-Child.new.path c.enter-in-Child.ensures
 
 pub returns-after-is_inside-clause-step : goal.returns-after-is_inside-clause-step
 returns-after-is_inside-clause-step g c =
     let front = last-frame c.self.inside.path c.last.result c.in-Some.frame c.last.ensures c.in-Some.is in
-    let joined = c.join.ensures ∙ ap (with_joined c.self.inside.bounds c.address.result c.body.result.now) c.level-level.ensures.value in
-    let entry = read-entry _ c.in-Some-seek.place _ _ _ (place-found _ _ _ _ _ c.in-Some-seek.is c.seek.ensures.found) c.address.ensures.value c.body.ensures.value c.what.ensures in
-    let next = some_of _ _ c.in-Some-seek.is c.seek.ensures.found in
+    let entry = read-entry _ c.in-Some-seek.spot refl c.in-Some-seek.ensures.spot c.what.ensures in
+    let next = c.in-Some-seek.ensures.found in
     elim c.if-is_inside.branch [
       | then-is_inside w ↦
           subst (IsStep c.args.self.now _) (sym w.result-is)
-          (value-found c.self.invariant c.self.view_is front entry next joined c.set_last.ensures (ap what_of c.in-Value.is) c.is_inside.ensures w.if-is_inside.true)
+          (value-found c.self.invariant c.self.view_is front entry next c.join.ensures c.set_last.ensures (ap what_of c.in-Value.is) c.is_inside.ensures w.if-is_inside.true)
       | else-is_inside w ↦
           subst (IsStep c.args.self.now _) (sym w.result-is)
-          (value-moved c.self.invariant c.self.view_is front entry next joined c.set_last.ensures (ap what_of c.in-Value.is) c.is_inside.ensures w.if-is_inside.false)
+          (value-moved c.self.invariant c.self.view_is front entry next c.join.ensures c.set_last.ensures (ap what_of c.in-Value.is) c.is_inside.ensures w.if-is_inside.false)
     ]
 
 pub returns-after-is_inside-clause-cost : goal.returns-after-is_inside-clause-cost
 returns-after-is_inside-clause-cost g c =
     let front = last-frame c.self.inside.path c.last.result c.in-Some.frame c.last.ensures c.in-Some.is in
-    let joined = c.join.ensures ∙ ap (with_joined c.self.inside.bounds c.address.result c.body.result.now) c.level-level.ensures.value in
-    let entry = read-entry _ c.in-Some-seek.place _ _ _ (place-found _ _ _ _ _ c.in-Some-seek.is c.seek.ensures.found) c.address.ensures.value c.body.ensures.value c.what.ensures in
-    ap (λ n. c.args.visits.now + n) (value-visits c.self.invariant c.self.view_is front entry (some_of _ _ c.in-Some-seek.is c.seek.ensures.found) joined c.set_last.ensures (ap what_of c.in-Value.is))
+    let entry = read-entry _ c.in-Some-seek.spot refl c.in-Some-seek.ensures.spot c.what.ensures in
+    ap (λ n. c.args.visits.now + n) (value-visits c.self.invariant c.self.view_is front entry c.in-Some-seek.ensures.found c.join.ensures c.set_last.ensures (ap what_of c.in-Value.is))
 
 pub returns-in-Child-clause-step : goal.returns-in-Child-clause-step
 returns-in-Child-clause-step g c =
     let front = last-frame c.self.inside.path c.last.result c.in-Some.frame c.last.ensures c.in-Some.is in
-    let joined = c.join.ensures ∙ ap (with_joined c.self.inside.bounds c.address.result c.body.result.now) c.level-level.ensures.value in
-    let entry = read-entry _ c.in-Some-seek.place _ _ _ (place-found _ _ _ _ _ c.in-Some-seek.is c.seek.ensures.found) c.address.ensures.value c.body.ensures.value c.what.ensures in
-    deep-step c.self.invariant c.self.view_is front entry (some_of _ _ c.in-Some-seek.is c.seek.ensures.found) joined c.set_last.ensures (ap what_of c.in-Child.is) c.visit-below.result c.visit-below.ensures.shows c.enter-in-Child.new.path c.enter-in-Child.ensures
+    let entry = read-entry _ c.in-Some-seek.spot refl c.in-Some-seek.ensures.spot c.what.ensures in
+    deep-step c.self.invariant c.self.view_is front entry c.in-Some-seek.ensures.found c.join.ensures c.set_last.ensures (ap what_of c.in-Child.is) c.visit-below.result c.visit-below.ensures.shows c.enter-in-Child.new.path c.enter-in-Child.ensures
 
 pub returns-in-Child-clause-cost : goal.returns-in-Child-clause-cost
 returns-in-Child-clause-cost g c =
     let front = last-frame c.self.inside.path c.last.result c.in-Some.frame c.last.ensures c.in-Some.is in
-    let joined = c.join.ensures ∙ ap (with_joined c.self.inside.bounds c.address.result c.body.result.now) c.level-level.ensures.value in
-    let entry = read-entry _ c.in-Some-seek.place _ _ _ (place-found _ _ _ _ _ c.in-Some-seek.is c.seek.ensures.found) c.address.ensures.value c.body.ensures.value c.what.ensures in
-    let visited = deep-visits c.self.invariant c.self.view_is front entry (some_of _ _ c.in-Some-seek.is c.seek.ensures.found) joined c.set_last.ensures (ap what_of c.in-Child.is) c.visit-below.result c.visit-below.ensures.shows c.enter-in-Child.new.path c.enter-in-Child.ensures in
+    let entry = read-entry _ c.in-Some-seek.spot refl c.in-Some-seek.ensures.spot c.what.ensures in
+    let visited = deep-visits c.self.invariant c.self.view_is front entry c.in-Some-seek.ensures.found c.join.ensures c.set_last.ensures (ap what_of c.in-Child.is) c.visit-below.result c.visit-below.ensures.shows c.enter-in-Child.new.path c.enter-in-Child.ensures in
     omega (arith, visited, c.visit-below.ensures.cost)

@@ -1,0 +1,35 @@
+use Rattle.std.proofs.Common.{arith, take}
+use Rattle.ph_node.proofs.Additions.{added, place_within}
+use Rattle.ph_node.proofs.Listings.{length-nodes}
+use Rattle.ph_node.proofs.Lists.{rise_new, points_new, kept_new, seen_new}
+use Rattle.ph_node.proofs.OldNodes.{old}
+use Rattle.ph_node.proofs.node.NodeOf.add.Goals as goal
+
+pub edited-requires-clause-edit : goal.edited-requires-clause-edit
+edited-requires-clause-edit g c =
+    let o = old _ _ _ _ c.self.view_is c.self.invariant in
+    let r = added c.args.addr (take g.P.Dims.D c.args.body) c.args.v _ _ _ _ o c.args.i c.requires.absent c.requires.place c.requires.address c.requires.body.fields in
+    record {
+      within = omega (arith, place_within c.args.addr (take g.P.Dims.D c.args.body) c.args.v _ _ _ _ o c.args.i c.requires.absent c.requires.place c.requires.address c.requires.body.fields);
+      few = omega arith;
+      some = o.kept.some;
+      rise = rise_new _ _ _ _ _ r;
+    }
+
+pub edited-requires-clause-children : goal.edited-requires-clause-children
+edited-requires-clause-children g c =
+    let o = old _ _ _ _ c.self.view_is c.self.invariant in
+    let r = added c.args.addr (take g.P.Dims.D c.args.body) c.args.v _ _ _ _ o c.args.i c.requires.absent c.requires.place c.requires.address c.requires.body.fields in
+    omega (arith, points_new _ _ _ _ _ r, c.len.ensures, length-nodes c.self.inside.children.items, c.self.inside.children.ok.0)
+
+pub invariant_of-self : goal.invariant_of-self
+invariant_of-self g c =
+    let o = old _ _ _ _ c.self.view_is c.self.invariant in
+    let r = added c.args.addr (take g.P.Dims.D c.args.body) c.args.v _ _ _ _ o c.args.i c.requires.absent c.requires.place c.requires.address c.requires.body.fields in
+    kept_new _ _ _ _ _ r _ c.in_ok-words.ensures
+
+pub returns-clause-ok : goal.returns-clause-ok
+returns-clause-ok g c =
+    let o = old _ _ _ _ c.self.view_is c.self.invariant in
+    let r = added c.args.addr (take g.P.Dims.D c.args.body) c.args.v _ _ _ _ o c.args.i c.requires.absent c.requires.place c.requires.address c.requires.body.fields in
+    seen_new _ _ _ _ _ r _ c.in_ok-words.ensures

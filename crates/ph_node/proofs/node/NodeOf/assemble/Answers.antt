@@ -1,0 +1,11 @@
+use Rattle.std.proofs.Common.{◌^◌, ◌<◌, subst, ◌∙◌}
+use Rattle.std.specs.List.{AllByRecursion as Each}
+use Rattle.ph_node.specs.Slots.{nodes_of}
+use Rattle.ph_node.proofs.Assembled.{recorded}
+use Rattle.ph_node.proofs.Listings.{length-nodes}
+use Rattle.ph_node.proofs.node.NodeOf.assemble.Goals as goal
+
+pub invariant_of-result : goal.invariant_of-result
+invariant_of-result g c =
+    recorded g.P.Dims.D c.args.words.words (nodes_of c.args.children.items) c.requires.record (subst (Each (λ x. x < 2 ^ 64)) c.as_slice.ensures c.are_words.ensures)
+    (length-nodes c.args.children.items ∙ c.requires.children)

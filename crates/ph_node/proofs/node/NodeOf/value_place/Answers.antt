@@ -1,0 +1,32 @@
+use Rattle.std.proofs.Common.{◌≡◌, ℕ, List, ap, arith, length}
+use Rattle.ph_specs.specs.Node.{entries}
+use Rattle.ph_specs.specs.Pack.{record_of}
+use Rattle.ph_node.specs.OneEdit.{flats_of}
+use Rattle.ph_node.proofs.Listings.{length-nodes}
+use Rattle.ph_node.proofs.OldEdits.{count_at}
+use Rattle.ph_node.proofs.OldNodes.{old}
+use Rattle.ph_node.proofs.ValuePlaces.{values-fit, values-below}
+use Rattle.ph_node.proofs.node.NodeOf.value_place.Goals as goal
+
+pub overflow_sub-points : goal.overflow_sub-points
+overflow_sub-points g c =
+    let o = old _ _ _ _ c.self.view_is c.self.invariant in
+    omega (arith, c.count.ensures, count_at _ _ _ _ _ o c.as_slice.ensures, o.points, c.len.ensures, length-nodes c.self.inside.children.items, c.self.inside.children.ok.0)
+
+pub overflow_sub-result : goal.overflow_sub-result
+overflow_sub-result g c =
+    let o = old _ _ _ _ c.self.view_is c.self.invariant in
+    let w : length c.self.inside.words.words ≡ length (record_of g.P.Dims.D c.args.self.now.level (flats_of c.args.self.now)) = ap (λ (u : List ℕ). length u) o.words in
+    omega (arith, c.count.ensures, count_at _ _ _ _ _ o c.as_slice.ensures, o.points, c.len.ensures, length-nodes c.self.inside.children.items, c.self.inside.children.ok.0, c.len-len.ensures, w, values-fit g.P.Dims.D c.args.self.now.level (flats_of c.args.self.now))
+
+pub overflow_add-result : goal.overflow_add-result
+overflow_add-result g c =
+    let o = old _ _ _ _ c.self.view_is c.self.invariant in
+    let w : length c.self.inside.words.words ≡ length (record_of g.P.Dims.D c.args.self.now.level (flats_of c.args.self.now)) = ap (λ (u : List ℕ). length u) o.words in
+    omega (arith, c.count.ensures, count_at _ _ _ _ _ o c.as_slice.ensures, o.points, c.len.ensures, length-nodes c.self.inside.children.items, c.self.inside.children.ok.0, c.len-len.ensures, w, values-fit g.P.Dims.D c.args.self.now.level (flats_of c.args.self.now), c.in_front.ensures, values-below (entries c.args.self.now) c.args.spot.place c.requires.spot.within c.requires.point)
+
+pub returns : goal.returns
+returns g c =
+    let o = old _ _ _ _ c.self.view_is c.self.invariant in
+    let w : length c.self.inside.words.words ≡ length (record_of g.P.Dims.D c.args.self.now.level (flats_of c.args.self.now)) = ap (λ (u : List ℕ). length u) o.words in
+    omega (arith, c.count.ensures, count_at _ _ _ _ _ o c.as_slice.ensures, o.points, c.len.ensures, length-nodes c.self.inside.children.items, c.self.inside.children.ok.0, c.len-len.ensures, w, values-fit g.P.Dims.D c.args.self.now.level (flats_of c.args.self.now), c.in_front.ensures)

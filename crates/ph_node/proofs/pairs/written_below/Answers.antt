@@ -1,0 +1,12 @@
+use Rattle.std.proofs.Common.{ℕ, List, ap, ◌∙◌, take}
+use Rattle.std.specs.Prelude.{Some, None, if◌then◌else◌}
+use Rattle.ph_digits.proofs.Cuts.{take-below}
+use Rattle.ph_specs.specs.Node.{Flat}
+use Rattle.ph_specs.specs.PutTree.{body_address}
+use Rattle.ph_node.proofs.pairs.written_below.Goals as goal
+
+pub returns : goal.returns
+returns c =
+    ap {B = Flat} (λ (a : ℕ). record { addr = a; body = take c.args.dims c.body_below.result; value = if c.args.child then None else Some c.args.value }) c.body_address.ensures.value
+    ∙ ap {B = Flat} (λ (b : List ℕ). record { addr = body_address c.args.place (take c.args.dims c.args.body); body = b; value = if c.args.child then None else Some c.args.value })
+    (ap (λ u. take c.args.dims u) c.body_below.ensures ∙ take-below c.args.place c.args.dims c.args.body)

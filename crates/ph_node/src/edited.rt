@@ -1,0 +1,88 @@
+//! Records that differ from an old record in one entry: one more, one less, or one changed.
+
+ghost use Rattle.std.specs.Prelude.{◌≡◌, ◌+◌, ◌^◌, ◌<◌, ◌≤◌, true, false};
+ghost use Rattle.ph_specs.specs.Record.{first_in};
+ghost use Rattle.ph_node.specs.Recorded.{IsSource};
+
+use crate::records;
+use ph_bits::{Entries, Packed};
+use ph_coord::Dims;
+use std::marker::PhantomData;
+
+/// An entry that is written, and its value where it is a point.
+#[derive(Clone, Copy)]
+pub(crate) struct Written {
+    pub(crate) entry: Packed,
+    pub(crate) value: u64,
+}
+
+/// One edit: `less` entries from a place on are left out, and `more` new ones, at most one, are put there.
+#[derive(Clone, Copy)]
+pub(crate) struct Edit {
+    pub(crate) place: usize,
+    pub(crate) less: usize,
+    pub(crate) more: usize,
+    pub(crate) new: Written,
+}
+
+/// The entries of an old record with an edit.
+#[derive(Drop)]
+pub(crate) struct EditedOf<'t, P: Dims> {
+    pub(crate) old: &'t [u64],
+    pub(crate) edit: Edit,
+    pub(crate) dims: PhantomData<P>,
+    ghost source: { IsSource P.D old.now },
+    ghost within: { edit.place + edit.less ≤ (first_in old.now).entries },
+    ghost few: { edit.more ≤ 1 },
+}
+
+impl<'t, P: Dims> Entries<P> for EditedOf<'t, P> {
+    ghost use Rattle.ph_bits.specs.Edits.{edit_of};
+
+    ghost list = { λ s. edit_of P.D s.old.now s.edit.place s.edit.less s.edit.more s.edit.new.entry s.edit.new.value };
+
+    fn count(&self) -> usize {
+        records::count(self.old) - self.edit.less + self.edit.more
+    }
+
+    fn at(&self, i: usize) -> Packed {
+        if is_new(self.edit.place, self.edit.more, i) {
+            return self.edit.new.entry;
+        }
+        let k = old_place(self.edit.place, self.edit.less, self.edit.more, i);
+        records::entry(self.old, P::D, k)
+    }
+
+    fn value(&self, i: usize) -> u64 {
+        if is_new(self.edit.place, self.edit.more, i) {
+            return self.edit.new.value;
+        }
+        let k = old_place(self.edit.place, self.edit.less, self.edit.more, i);
+        let read = records::entry(self.old, P::D, k);
+        records::value(self.old, P::D, read.rank)
+    }
+}
+
+// Whether entry `i` is a new one.
+#[inline(always)]
+fn is_new(place: usize, more: usize, i: usize) -> bool
+    requires { more ≤ 1 }
+    ensures yes { result ≡ true → (place ≤ i) × (i < place + more) }
+    ensures no { result ≡ false → place ≤ i → place + more ≤ i }
+{
+    if i < place {
+        return false;
+    }
+    i - place < more
+}
+
+// The place in the old record of entry `i`, which is not a new one.
+#[inline(always)]
+fn old_place(place: usize, less: usize, more: usize, i: usize) -> usize
+    requires behind { place ≤ i → place + more ≤ i }
+    requires fits { i + less < 2 ^ 32 }
+    ensures front { i < place → result ≡ i }
+    ensures back { place ≤ i → result + more ≡ i + less }
+{
+    if i < place { i } else { i - more + less }
+}

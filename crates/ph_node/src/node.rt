@@ -1,0 +1,71 @@
+//! The node: a block of words that is its record, and its children in the order of their addresses.
+
+use ph_bits::Words;
+use ph_coord::{Dim, Dims};
+use std::marker::{Model, PhantomData};
+
+/// A node: a level from 0 to 61, and entries with rising addresses below 2^D. The fields of an entry's
+/// body are below 2^level.
+///
+/// Level, addresses, bodies and values are one record of words, in the smaller of its two layouts. The children stand
+/// beside it.
+#[cycle(node)]
+#[derive(Drop)]
+pub struct NodeOf<P: Dims> {
+    pub(crate) words: Words,
+    pub(crate) children: Vec<SlotOf<P>>,
+    pub(crate) dims: PhantomData<P>,
+}
+
+/// The place of a child in its node.
+#[cycle(node)]
+#[derive(Drop)]
+pub struct SlotOf<P: Dims> {
+    pub node: NodeOf<P>,
+}
+
+pub type Node<const D: usize> = NodeOf<Dim<D>>;
+
+pub type Slot<const D: usize> = SlotOf<Dim<D>>;
+
+impl<P: Dims> Model for NodeOf<P> {
+    ghost use Rattle.ph_specs.specs.Node.{PlainNode};
+    ghost use Rattle.ph_specs.specs.NodeCode.{coded_node};
+
+    ghost Value = { PlainNode };
+
+    ghost coded = { coded_node };
+
+    ghost use Rattle.ph_specs.specs.Record.{unpacked};
+    ghost use Rattle.ph_specs.specs.NodeSize.{node_size, falls};
+    ghost use Rattle.ph_node.specs.Recorded.{IsRecorded};
+    ghost use Rattle.ph_node.specs.Slots.{nodes_of};
+
+    ghost view = { λ a. unpacked P.D a.words.words (nodes_of a.children.items) };
+
+    ghost invariant = { λ a. IsRecorded P.D a.words.words (nodes_of a.children.items) };
+
+    ghost size = { node_size };
+
+    ghost use Rattle.std.specs.Prelude.{◌+◌};
+    ghost use Rattle.std.proofs.Common.{arith};
+    ghost use Rattle.ph_node.specs.Falls.{most_nodes};
+
+    ghost size_decreases = { λ a h. omega (arith, most_nodes P P.Dims a.children.items, falls P.D a.words.words (nodes_of a.children.items) h.packed.whole) };
+}
+
+impl<P: Dims> SlotOf<P> {
+    ghost use Rattle.std.specs.Prelude.{◌≡◌};
+    ghost use Rattle.std.specs.Borrow.{Lends, sem};
+    ghost use Rattle.ph_node.specs.contracts.node.NodeOf.{the_row as node_row};
+    ghost use Rattle.ph_node.specs.contracts.node.SlotOf.{the_row as slot_row};
+    ghost use Rattle.ph_node.specs.Slots.{in_slot};
+
+    /// Lends the child for writing.
+    pub fn node_mut(&mut self) -> &mut NodeOf<P>
+        ensures* lends { sem 𝓛 (Lends (slot_row P.row P.Dims) (node_row P.row P.Dims) self.entry result in_slot) }
+        ensures shows { result.now ≡ self.old.node }
+    {
+        &mut self.node
+    }
+}

@@ -1,0 +1,133 @@
+//! What edits read of a node, and the record of the node with an edit.
+
+ghost use Rattle.std.specs.Prelude.{◌≡◌, ◌+◌, ◌<◌, ◌≤◌, length, take, if◌then◌else◌, IfOk};
+ghost use Rattle.ph_specs.specs.EntryEdits.{what_at};
+ghost use Rattle.ph_specs.specs.Node.{entries};
+ghost use Rattle.ph_specs.specs.Pack.{values, record_of};
+ghost use Rattle.ph_bits.specs.Block.{room_of};
+ghost use Rattle.ph_bits.specs.Edits.{words_wanted};
+ghost use Rattle.ph_node.specs.OneEdit.{IsEdit, IsOldEntry, before, edit_flats, flats_of};
+ghost use Rattle.ph_node.specs.Split.{IsValue};
+ghost use Rattle.ph_node.specs.Spots.{IsSpot};
+
+use crate::edited::{Edit, EditedOf};
+use crate::node::NodeOf;
+use crate::spots::Spot;
+use crate::{NoMemory, records};
+use ph_bits::{Words, row};
+use ph_coord::Dims;
+use ph_linear::level_in;
+use std::marker::PhantomData;
+
+/// An entry as an edit reads it. A child has the value 0. In front of it stand so many children.
+#[derive(Clone, Copy)]
+pub(crate) struct OldEntry {
+    pub(crate) addr: u32,
+    pub(crate) child: bool,
+    pub(crate) body: [u64; 16],
+    pub(crate) value: u64,
+    pub(crate) front: usize,
+}
+
+impl<P: Dims> NodeOf<P> {
+    /// The place of the digits by which the node tells its entries apart.
+    pub(crate) fn level(&self) -> u32
+        ensures value { result ≡ self.now.level }
+        ensures limit { result ≤ 61 }
+    {
+        level_in(self.words.as_slice())
+    }
+
+    /// Entry `i`, in the order of the addresses, as it stands in the node.
+    pub(crate) fn spot(&self, i: usize) -> Spot
+        requires { i < length (entries self.now) }
+        ensures place { result.place ≡ i }
+        ensures spot { IsSpot (entries self.now) result }
+    {
+        Spot {
+            place: i,
+            addr: records::address(self.words.as_slice(), P::D, i),
+        }
+    }
+
+    /// What an entry has.
+    pub(crate) fn old_entry(&self, spot: Spot) -> OldEntry
+        requires { IsSpot (entries self.now) spot }
+        ensures { IsOldEntry P.D self.now spot.place result }
+    {
+        let words = self.words.as_slice();
+        let dims = P::D;
+        let child = records::is_child(words, dims, spot);
+        let rank = records::rank(words, dims, spot, child);
+        let at = records::body_at(words, dims, spot);
+        let body = row(words, at, level_in(words), dims);
+        if child {
+            return OldEntry {
+                addr: spot.addr,
+                child: true,
+                body,
+                value: 0,
+                front: rank,
+            };
+        }
+        OldEntry {
+            addr: spot.addr,
+            child: false,
+            body,
+            value: records::value(words, dims, rank),
+            front: spot.place - rank,
+        }
+    }
+
+    /// How many children, or points, stand in front of an entry.
+    pub(crate) fn in_front(&self, spot: Spot, children: bool) -> usize
+        requires { IsSpot (entries self.now) spot }
+        ensures { result ≡ (if children then before (entries self.now) spot.place else length (values (take spot.place (flats_of self.now)))) }
+    {
+        records::rank(self.words.as_slice(), P::D, spot, children)
+    }
+
+    /// The place of the value of a point entry among the words.
+    pub(crate) fn value_place(&self, spot: Spot) -> usize
+        requires spot { IsSpot (entries self.now) spot }
+        requires point { IsValue (what_at (entries self.now) spot.place) }
+        ensures { result + length (values (flats_of self.now)) ≡ length (record_of P.D self.now.level (flats_of self.now)) + length (values (take spot.place (flats_of self.now))) }
+    {
+        let len = self.words.len();
+        let points = records::count(self.words.as_slice()) - self.children.len();
+        len - points + self.in_front(spot, false)
+    }
+
+    /// The record of the node with an edit, where it has so many children then, in a new block.
+    pub(crate) fn edited(&self, edit: Edit, children: usize) -> Result<Words, NoMemory>
+        requires edit { IsEdit P.D self.now edit }
+        requires children { length (values (edit_flats P.D self.now edit)) + children ≡ length (edit_flats P.D self.now edit) }
+        ensures { IfOk result (λ w. w.words ≡ record_of P.D self.now.level (edit_flats P.D self.now edit)) }
+    {
+        let words = self.words.as_slice();
+        let n = records::count(words) - edit.less + edit.more;
+        let mut block = records::block::<P>(
+            self.words.allocator(),
+            level_in(words),
+            n,
+            n - children,
+        )?;
+        self.write_edited(edit, &mut block);
+        Ok(block)
+    }
+
+    /// Writes the record of the node with an edit into the room of a block.
+    pub(crate) fn write_edited(&self, edit: Edit, block: &mut Words)
+        requires edit { IsEdit P.D self.now edit }
+        requires room { words_wanted P.D self.now.level (length (edit_flats P.D self.now edit)) (length (values (edit_flats P.D self.now edit))) ≤ room_of block.old }
+        ensures { block.new.words ≡ record_of P.D self.now.level (edit_flats P.D self.now edit) }
+    {
+        let old = self.words.as_slice();
+        let from: EditedOf<'_, P> = EditedOf {
+            old,
+            edit,
+            dims: PhantomData,
+        };
+        records::write::<P, EditedOf<'_, P>>(block, level_in(old), &from);
+    }
+}

@@ -1,0 +1,105 @@
+//! The record of two entries, one of them a point.
+
+ghost use Rattle.std.specs.Prelude.{◌≡◌, ◌≢◌, ◌<◌, ◌≤◌, take, length, if◌then◌else◌, Some, None, IfOk};
+ghost use Rattle.ph_specs.specs.Pack.{record_of};
+ghost use Rattle.ph_specs.specs.PutTree.{body_address};
+ghost use Rattle.ph_node.specs.OneEdit.{written_flat};
+ghost use Rattle.ph_node.specs.Pairs.{below_flat, in_order, pair_flats, flats_in_pair};
+
+use crate::edited::Written;
+use crate::olds::OldEntry;
+use crate::{NoMemory, records};
+use ph_bits::{Entries, Packed, Words};
+use ph_coord::Dims;
+use ph_digits::{body_address, body_below};
+use std::alloc::Global;
+use std::marker::PhantomData;
+
+/// Two entries.
+#[derive(Drop)]
+pub(crate) struct PairOf<P: Dims> {
+    first: Written,
+    second: Written,
+    dims: PhantomData<P>,
+}
+
+impl<P: Dims> Entries<P> for PairOf<P> {
+    ghost use Rattle.ph_node.specs.Pairs.{flats_in_pair};
+
+    ghost list = { λ s. flats_in_pair P.D s };
+
+    fn count(&self) -> usize {
+        2
+    }
+
+    fn at(&self, i: usize) -> Packed {
+        if i == 0 {
+            self.first.entry
+        } else {
+            self.second.entry
+        }
+    }
+
+    fn value(&self, i: usize) -> u64 {
+        if i == 0 {
+            self.first.value
+        } else {
+            self.second.value
+        }
+    }
+}
+
+/// The record of a child at a level, which has an old entry and a point with a body, by their digits below it.
+pub(crate) fn pair_below<P: Dims>(
+    alloc: Global,
+    level: u32,
+    old: OldEntry,
+    body: [u64; 16],
+    v: u64,
+) -> Result<Words, NoMemory>
+    requires few { P.D ≤ 16 }
+    requires low { level ≤ 61 }
+    requires old { length (take P.D old.body) ≡ P.D }
+    requires body { length (take P.D body) ≡ P.D }
+    requires differ { body_address level (take P.D old.body) ≢ body_address level (take P.D body) }
+    ensures { IfOk result (λ w. w.words ≡ record_of P.D level (pair_flats P.D level old body v)) }
+{
+    let pair: PairOf<P> = in_order(
+        written_below(P::D, level, old.child, old.body, old.value),
+        written_below(P::D, level, false, body, v),
+    );
+    let mut words = records::block::<P>(alloc, level, 2, 2 - old.child as usize)?;
+    records::write::<P, PairOf<P>>(&mut words, level, &pair);
+    Ok(words)
+}
+
+// Two entries in the order of their addresses.
+fn in_order<P: Dims>(old: Written, new: Written) -> PairOf<P>
+    ensures { flats_in_pair P.D result ≡ in_order (written_flat P.D old) (written_flat P.D new) }
+{
+    let (first, second) = if new.entry.addr < old.entry.addr {
+        (new, old)
+    } else {
+        (old, new)
+    };
+    PairOf {
+        first,
+        second,
+        dims: PhantomData,
+    }
+}
+
+// The entry of a body below a place.
+fn written_below(dims: usize, place: u32, child: bool, body: [u64; 16], value: u64) -> Written
+    requires place { place < 64 }
+    requires few { dims ≤ 16 }
+    ensures { written_flat dims result ≡ below_flat place (take dims body) (if child then None else Some value) }
+{
+    let entry = Packed {
+        addr: body_address(place, &body[..dims]),
+        child,
+        body: body_below(place, body),
+        rank: 0,
+    };
+    Written { entry, value }
+}

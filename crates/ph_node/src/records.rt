@@ -1,0 +1,224 @@
+//! Records of either layout.
+
+ghost use Rattle.std.specs.Prelude.{◌≡◌, ◌+◌, ◌-◌, ◌*◌, ◌<◌, ◌≤◌, ◌^◌, ◌==◌, nat_le, None, Some, length, map, drop, position, slice_get, slice_index_or, IfOk, IfErr};
+ghost use Rattle.std.specs.List.{position_or_len};
+ghost use Rattle.ph_specs.specs.Layout.{read_address, is_child as read_child_test, AreRising};
+ghost use Rattle.ph_specs.specs.Pack.{is_cube, values, record_of};
+ghost use Rattle.ph_specs.specs.Record.{first_in, has_cube, entries_in, values_in};
+ghost use Rattle.ph_bits.specs.Block.{room_of, IsSamePlaces, empty};
+ghost use Rattle.ph_bits.specs.Edits.{least_digits, words_wanted};
+ghost use Rattle.ph_bits.specs.Packed.{read_of, rank_at, IsBodyAt, IsPadded};
+ghost use Rattle.ph_node.specs.Recorded.{IsLaidOut};
+
+use crate::NoMemory;
+use crate::spots::Spot;
+use ph_bits::{Entries, Packed, Words};
+use ph_coord::Dims;
+use ph_cube::by_dims as cube;
+use ph_linear::{by_dims as linear, count_in};
+use std::alloc::Global;
+use std::cmp::min;
+
+/// The place of the entry at an address, or else the place that an entry there would have.
+#[inline(always)]
+pub(crate) fn search(words: &[u64], dims: usize, addr: u32) -> Result<usize, usize>
+    requires record { IsLaidOut dims words.now }
+    requires address { addr < 2 ^ dims }
+    ensures found { IfOk result (λ i. Some i ≡ position (λ r. read_address r == addr) (entries_in dims words.now)) }
+    ensures absent { IfErr result (λ i. None ≡ position (λ r. read_address r == addr) (entries_in dims words.now)) }
+    ensures place { IfErr result (λ i. i ≡ position_or_len (λ r. nat_le addr (read_address r)) (entries_in dims words.now)) }
+{
+    if has_cube(words, dims) {
+        cube::search(words, dims, addr)
+    } else {
+        linear::search(words, dims, addr)
+    }
+}
+
+/// The place of the first entry whose address is at least `addr`.
+#[inline(always)]
+pub(crate) fn next_at_or_after(words: &[u64], dims: usize, addr: u32) -> Option<usize>
+    requires record { IsLaidOut dims words.now }
+    ensures { result ≡ position (λ r. nat_le addr (read_address r)) (entries_in dims words.now) }
+{
+    if has_cube(words, dims) {
+        cube::next_at_or_after(words, dims, addr)
+    } else {
+        linear::next_at_or_after(words, dims, addr)
+    }
+}
+
+/// Entry `i`.
+#[inline(always)]
+pub(crate) fn entry(words: &[u64], dims: usize, i: usize) -> Packed
+    requires record { IsLaidOut dims words.now }
+    requires within { i < (first_in words.now).entries }
+    ensures entry { slice_get (entries_in dims words.now) i ≡ Some (read_of dims result) }
+    ensures zeros { IsPadded dims result.body }
+    ensures rank { result.rank ≡ rank_at result.child (entries_in dims words.now) i }
+{
+    if has_cube(words, dims) {
+        cube::entry(words, dims, i)
+    } else {
+        linear::entry(words, dims, i)
+    }
+}
+
+/// The address of entry `i`.
+#[inline(always)]
+pub(crate) fn address(words: &[u64], dims: usize, i: usize) -> u32
+    requires record { IsLaidOut dims words.now }
+    requires within { i < (first_in words.now).entries }
+    ensures { slice_get (map read_address (entries_in dims words.now)) i ≡ Some result }
+{
+    if has_cube(words, dims) {
+        cube::address(words, dims, i)
+    } else {
+        linear::address(words, dims, i)
+    }
+}
+
+/// Whether an entry is a child.
+#[inline(always)]
+pub(crate) fn is_child(words: &[u64], dims: usize, spot: Spot) -> bool
+    requires record { IsLaidOut dims words.now }
+    requires within { spot.place < (first_in words.now).entries }
+    requires address { slice_get (map read_address (entries_in dims words.now)) spot.place ≡ Some spot.addr }
+    ensures { slice_get (map read_child_test (entries_in dims words.now)) spot.place ≡ Some result }
+{
+    if has_cube(words, dims) {
+        cube::is_child_at(words, dims, spot.place, spot.addr)
+    } else {
+        linear::is_child(words, dims, spot.place)
+    }
+}
+
+/// How many children, or points, there are in front of an entry.
+#[inline(always)]
+pub(crate) fn rank(words: &[u64], dims: usize, spot: Spot, child: bool) -> usize
+    requires record { IsLaidOut dims words.now }
+    requires within { spot.place < (first_in words.now).entries }
+    requires address { slice_get (map read_address (entries_in dims words.now)) spot.place ≡ Some spot.addr }
+    ensures { result ≡ rank_at child (entries_in dims words.now) spot.place }
+{
+    if has_cube(words, dims) {
+        cube::rank_at(words, dims, spot.place, spot.addr, child)
+    } else {
+        linear::rank_of(words, dims, spot.place, child)
+    }
+}
+
+/// The digit at which the body of an entry begins.
+#[inline(always)]
+pub(crate) fn body_at(words: &[u64], dims: usize, spot: Spot) -> u64
+    requires record { IsLaidOut dims words.now }
+    requires within { spot.place < (first_in words.now).entries }
+    requires address { slice_get (map read_address (entries_in dims words.now)) spot.place ≡ Some spot.addr }
+    ensures { IsBodyAt dims (first_in words.now).level words.now (entries_in dims words.now) spot.place result }
+{
+    if has_cube(words, dims) {
+        cube::body_at(words, dims, spot.place, spot.addr)
+    } else {
+        linear::body_at(words, dims, spot.place)
+    }
+}
+
+/// Whether a record has the cube layout.
+#[inline(always)]
+pub(crate) fn has_cube(words: &[u64], dims: usize) -> bool
+    requires record { IsLaidOut dims words.now }
+    ensures { result ≡ has_cube dims (first_in words.now) }
+{
+    let _ = dims;
+    words[0] >> 48 & 0xFF == 1
+}
+
+/// The value of a point, by its place among the points. The values end the record.
+#[inline(always)]
+pub(crate) fn value(words: &[u64], dims: usize, rank: usize) -> u64
+    requires record { IsLaidOut dims words.now }
+    requires within { rank < length (values_in dims words.now) }
+    ensures { result ≡ slice_index_or (values_in dims words.now) rank 0 }
+{
+    let _ = dims;
+    let points = count(words) - (words[0] & 0xFF_FFFF) as usize;
+    words[words.len() - points + rank]
+}
+
+/// How many entries a record has.
+#[inline(always)]
+pub(crate) fn count(words: &[u64]) -> usize
+    requires { 0 < length words.now }
+    ensures { result ≡ (first_in words.now).entries }
+{
+    count_in(words) as usize
+}
+
+/// How many words the record of `n` entries at a level has, of which some are points.
+pub(crate) fn size(dims: usize, level: u32, n: usize, points: usize) -> usize
+    requires few { dims ≤ 16 }
+    requires low { level ≤ 61 }
+    requires entries { n ≤ 2 ^ dims }
+    requires points { points ≤ n }
+    ensures value { result ≡ words_wanted dims level n points }
+    ensures limit { result < 2 ^ 32 }
+{
+    let digits = least_of(dims, level, n);
+    1 + ((digits + 63) / 64) as usize + points
+}
+
+/// A block that has room for such a record, and no words.
+pub(crate) fn block<P: Dims>(
+    alloc: Global,
+    level: u32,
+    n: usize,
+    points: usize,
+) -> Result<Words, NoMemory>
+    requires few { P.D ≤ 16 }
+    requires low { level ≤ 61 }
+    requires entries { n ≤ 2 ^ P.D }
+    requires points { points ≤ n }
+    ensures { IfOk result (λ w. w ≡ empty alloc (words_wanted P.D level n points)) }
+{
+    Words::with_room(alloc, size(P::D, level, n, points))
+}
+
+// The digits of the tables in the smaller layout.
+fn least_of(dims: usize, level: u32, n: usize) -> u64
+    requires few { dims ≤ 16 }
+    requires low { level ≤ 61 }
+    requires entries { n ≤ 2 ^ dims }
+    ensures value { result ≡ least_digits dims level n }
+    ensures limit { result ≤ 2 ^ 36 }
+{
+    min(
+        cube::bits_of(dims, n as u32, level),
+        linear::bits_of(dims, n as u32, level),
+    )
+}
+
+// Whether the cube is smaller.
+fn wants_cube(dims: usize, level: u32, n: usize) -> bool
+    requires few { dims ≤ 16 }
+    requires low { level ≤ 61 }
+    requires entries { n ≤ 2 ^ dims }
+    ensures { result ≡ is_cube dims level n }
+{
+    cube::bits_of(dims, n as u32, level) < linear::bits_of(dims, n as u32, level)
+}
+
+/// Writes the record of these entries in the smaller layout into the room of a block, whatever it held before.
+pub(crate) fn write<P: Dims, E: Entries<P>>(words: &mut Words, level: u32, from: &E)
+    requires few { P.D ≤ 16 }
+    requires low { level ≤ 61 }
+    requires rise { AreRising P.D level 0 (E.list from.now) }
+    requires room { words_wanted P.D level (length (E.list from.now)) (length (values (E.list from.now))) ≤ room_of words.old }
+    ensures words { words.new.words ≡ record_of P.D level (E.list from.now) }
+    ensures places { IsSamePlaces words.old words.new }
+{
+    if wants_cube(P::D, level, from.count()) {
+        cube::write::<P, E>(words, level, from);
+    } else {
+        linear::write::<P, E>(words, level, from);
+    }
+}

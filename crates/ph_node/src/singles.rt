@@ -1,0 +1,87 @@
+//! A node of one point.
+
+ghost use Rattle.std.specs.Prelude.{◌≡◌, ◌+◌, ◌^◌, ◌<◌, ◌≤◌, [], ◌∷◌, take, OnErr, OnOk, IfOk};
+ghost use Rattle.ph_specs.specs.Node.{node_of};
+ghost use Rattle.ph_specs.specs.EntryEdits.{point_entry};
+ghost use Rattle.ph_node.specs.Bodies.{IsBodyArray};
+
+use crate::node::NodeOf;
+use crate::{NoMemory, records};
+use ph_bits::{Entries, Packed};
+use ph_coord::Dims;
+use ph_steps::Steps;
+use std::alloc::Global;
+use std::marker::PhantomData;
+use std::sync::ledger::Ledger;
+
+// The entries of a record of one point.
+#[derive(Drop)]
+struct OneOf<P: Dims> {
+    addr: u32,
+    body: [u64; 16],
+    value: u64,
+    dims: PhantomData<P>,
+}
+
+impl<P: Dims> Entries<P> for OneOf<P> {
+    ghost use Rattle.std.specs.Prelude.{◌∷◌, []};
+    ghost use Rattle.ph_node.specs.Edits.{point_flat};
+
+    ghost list = { λ s. point_flat s.addr (take P.D s.body) s.value ∷ [] };
+
+    fn count(&self) -> usize {
+        1
+    }
+
+    fn at(&self, i: usize) -> Packed {
+        let _ = i;
+        let body = self.body;
+        Packed {
+            addr: self.addr,
+            child: false,
+            body,
+            rank: 0,
+        }
+    }
+
+    fn value(&self, i: usize) -> u64 {
+        let _ = i;
+        self.value
+    }
+}
+
+impl<P: Dims> NodeOf<P> {
+    /// Makes a node of one point entry.
+    pub fn single<C: Ledger>(
+        alloc: Global,
+        level: u32,
+        addr: u32,
+        body: [u64; 16],
+        v: u64,
+        changes: &mut Steps<C>,
+    ) -> Result<NodeOf<P>, NoMemory>
+        requires some { 1 ≤ P.D }
+        requires few { P.D ≤ 16 }
+        requires low { level ≤ 61 }
+        requires address { addr < 2 ^ P.D }
+        requires body { IsBodyArray P.D level body }
+        ensures ok { IfOk result (λ n. n ≡ node_of level (point_entry addr (take P.D body) v ∷ [])) }
+        ensures cost { OnOk result (changes.new ≡ changes.old + 1) }
+        ensures spared { OnErr result (changes.new ≡ changes.old) }
+    {
+        let mut words = records::block::<P>(alloc, level, 1, 1)?;
+        let from: OneOf<P> = OneOf {
+            addr,
+            body,
+            value: v,
+            dims: PhantomData,
+        };
+        records::write::<P, OneOf<P>>(&mut words, level, &from);
+        changes.tick();
+        Ok(NodeOf {
+            words,
+            children: Vec::new(alloc),
+            dims: PhantomData,
+        })
+    }
+}

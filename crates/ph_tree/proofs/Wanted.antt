@@ -1,0 +1,114 @@
+-- The room that a removal wants, and the longest record on a way, by the step that is taken at a node.
+use Rattle.std.proofs.Common.{length, ◌≡◌, ◌≢◌, ℕ, zero, suc, ◌+◌, ◌≤◌, List, cond, refl, arith, ap, ◌∙◌, ne_eqb, eq-eqb}
+use Rattle.std.specs.Prelude.{◌==◌, max, ℤ, Some, None, slice_get, unwrap_or}
+use Rattle.ph_specs.specs.ZOrder.{address}
+use Rattle.ph_specs.specs.Node.{Entries, end, point, child, Entry, What, value, node, PlainNode, entries, listed}
+use Rattle.ph_specs.specs.Shape.{digits_below, digits_between}
+use Rattle.ph_specs.specs.Lawful.{IsLawfulFrom, count}
+use Rattle.ph_specs.specs.Pack.{pack}
+use Rattle.ph_specs.specs.PutTree.{same_digits}
+use Rattle.ph_specs.specs.DelTree.{del_entries}
+use Rattle.ph_specs.specs.EntryEdits.{point_entry}
+use Rattle.ph_specs.proofs.lemmas.PointDigits.{same_digits-refl}
+use Rattle.ph_node.specs.Shown.{shown}
+use Rattle.ph_node.specs.declared.reads.NodeRefOf.{NodeRefOf}
+use Rattle.ph_node.specs.declared.spots.Spot.{Spot}
+use Rattle.ph_tree.specs.declared.step.StepOf.{StepOf}
+use Rattle.ph_tree.specs.declared.step.StepOf.TheVariants.{Same, Below}
+use Rattle.ph_tree.specs.Rooms.{wanted_below, spare_wanted, longest_below, longest}
+use Rattle.ph_tree.specs.Step.{IsOwn, IsAmong, IsStep}
+use Rattle.ph_tree.proofs.Walks.{no_entry, least-address, IsStepAt, step_as, below_digits}
+use Rattle.ph_tree.proofs.Gone.{length-count, own_length, below_left, below_lawful}
+
+-- ---- a number by the entry at the point's address
+
+module _ (w dims b : ℕ) (p : List ℤ) (of_all : Entries → ℕ) (of_one : List ℕ → What → ℕ) (at_point : (a : ℕ) (body : List ℕ) (v : ℕ) (rest : Entries) → of_all (point a body v rest) ≡ cond (a == address w p b) (of_one body (value v)) (of_all rest)) (at_child : (a : ℕ) (body : List ℕ) (c : ℕ) (chain rest : Entries) → of_all (child a body c chain rest) ≡ cond (a == address w p b) (of_one body (node (record { level = c; chain = chain }))) (of_all rest)) where
+  by-entry : (least : ℕ) (e : Entries) (i : ℕ) (x : Entry) → IsLawfulFrom dims b least e → slice_get (listed e) i ≡ Some x → x.addr ≡ address w p b → of_all e ≡ of_one x.body x.what
+  by-entry least end i x h g a = cc
+  by-entry least (point n body u rest) zero x h g a =
+      let q : point_entry n body u ≡ x = ap (λ o. unwrap_or o no_entry) g in
+      at_point n body u rest ∙ ap (λ t. cond t (of_one body (value u)) (of_all rest)) (eq-eqb n (address w p b) (ap (λ y. y.addr) q ∙ a)) ∙ ap (λ y. of_one y.body y.what) q
+  by-entry least (point n body u rest) (suc i) x h g a =
+      let l : n + 1 ≤ x.addr = least-address dims b (n + 1) rest i x h.3 g in
+      let d : n ≢ address w p b = λ e. omega (arith, l, a, e) in
+      at_point n body u rest ∙ ap (λ t. cond t (of_one body (value u)) (of_all rest)) (ne_eqb n (address w p b) d) ∙ by-entry (n + 1) rest i x h.3 g a
+  by-entry least (child n body c chain rest) zero x h g a =
+      let q : ◌≡◌ {A = Entry} (record { addr = n; body = body; what = node (record { level = c; chain = chain }) }) x = ap (λ o. unwrap_or o no_entry) g in
+      at_child n body c chain rest
+      ∙ ap (λ t. cond t (of_one body (node (record { level = c; chain = chain }))) (of_all rest)) (eq-eqb n (address w p b) (ap (λ y. y.addr) q ∙ a))
+      ∙ ap (λ y. of_one y.body y.what) q
+  by-entry least (child n body c chain rest) (suc i) x h g a =
+      let l : n + 1 ≤ x.addr = least-address dims b (n + 1) rest i x h.7 g in
+      let d : n ≢ address w p b = λ e. omega (arith, l, a, e) in
+      at_child n body c chain rest
+      ∙ ap (λ t. cond t (of_one body (node (record { level = c; chain = chain }))) (of_all rest)) (ne_eqb n (address w p b) d)
+      ∙ by-entry (n + 1) rest i x h.7 g a
+
+-- what is wanted for one entry at the point's address
+abbrev wanted_by : ℕ → ℕ → ℕ → ℕ → List ℤ → List ℕ → What → ℕ
+wanted_by w dims words b p body (value v) = cond (same_digits body (digits_below w b p)) words 0
+wanted_by w dims words b p body (node m) =
+    cond (same_digits body (digits_between w b m.level p)) (cond (count (del_entries w m.level m.chain p) == 1) (words + 1) (spare_wanted w dims m p)) 0
+
+wanted-at : (w dims words b least : ℕ) (e : Entries) (i : ℕ) (x : Entry) (p : List ℤ) → IsLawfulFrom dims b least e → slice_get (listed e) i ≡ Some x → x.addr ≡ address w p b → wanted_below w dims words b e p ≡ wanted_by w dims words b p x.body x.what
+wanted-at w dims words b least e i x p =
+    by-entry w dims b p (λ e. wanted_below w dims words b e p) (wanted_by w dims words b p) (λ a body v rest. refl) (λ a body c chain rest. refl) least e i x
+
+-- the longest record behind one entry at the point's address
+abbrev longest_by : ℕ → ℕ → ℕ → List ℤ → List ℕ → What → ℕ
+longest_by w dims b p body (value v) = 0
+longest_by w dims b p body (node m) = cond (same_digits body (digits_between w b m.level p)) (longest w dims m p) 0
+
+longest-at : (w dims b least : ℕ) (e : Entries) (i : ℕ) (x : Entry) (p : List ℤ) → IsLawfulFrom dims b least e → slice_get (listed e) i ≡ Some x → x.addr ≡ address w p b → longest_below w dims b e p ≡ longest_by w dims b p x.body x.what
+longest-at w dims b least e i x p =
+    by-entry w dims b p (λ e. longest_below w dims b e p) (longest_by w dims b p) (λ a body v rest. refl) (λ a body c chain rest. refl) least e i x
+
+-- ---- steps
+
+many_not_one : (n : ℕ) → 2 ≤ n → n ≢ 1
+many_not_one n l e = omega (arith, l, e)
+
+module _ {dims w o : ℕ} {p : List ℤ} {t : PlainNode} {found : StepOf PlainNode} (k : IsStepAt dims w p t found o) where
+  module _ {spot : Spot} {v : ℕ} (is : found ≡ Same spot v) where
+    abbrev own : IsStep w p t (Same spot v) o
+    own = step_as k is
+
+    -- the node that loses the point is written anew
+    pub same_wanted : spare_wanted w dims t p ≡ length (pack dims t)
+    same_wanted =
+        wanted-at w dims (length (pack dims t)) t.level 0 t.chain spot.place own.0 p k.lawful own.1.0 own.1.1
+        ∙ ap (wanted_by w dims (length (pack dims t)) t.level p own.0.body) own.2
+        ∙ ap (λ z. cond z (length (pack dims t)) 0) (same_digits-refl own.0.body (digits_below w t.level p) own.3)
+
+    pub same_longest : longest w dims t p ≡ length (pack dims t)
+    same_longest =
+        let none : longest_below w dims t.level t.chain p ≡ 0 = longest-at w dims t.level 0 t.chain spot.place own.0 p k.lawful own.1.0 own.1.1 ∙ ap (longest_by w dims t.level p own.0.body) own.2 in
+        omega (arith, none)
+
+  module _ {spot : Spot} {m : NodeRefOf PlainNode} (is : found ≡ Below spot m) where
+    abbrev nearer : IsStep w p t (Below spot m) o
+    nearer = step_as k is
+
+    below_wanted : spare_wanted w dims t p ≡ cond (count (del_entries w (shown m).level (shown m).chain p) == 1) (length (pack dims t) + 1) (spare_wanted w dims (shown m) p)
+    below_wanted =
+        wanted-at w dims (length (pack dims t)) t.level 0 t.chain spot.place nearer.0 p k.lawful nearer.1.0 nearer.1.1
+        ∙ ap (wanted_by w dims (length (pack dims t)) t.level p nearer.0.body) nearer.2
+        ∙ ap (λ z. cond z (cond (count (del_entries w (shown m).level (shown m).chain p) == 1) (length (pack dims t) + 1) (spare_wanted w dims (shown m) p)) 0) (below_digits k is)
+
+    -- a child of two entries that goes leaves a record that may be longer by a word
+    pub merge_wanted : (j : Spot) (v : ℕ) → (length (entries (shown m)) ≡ 2) × IsOwn w p (shown m) j v → spare_wanted w dims t p ≡ length (pack dims t) + 1
+    merge_wanted j v (two, y) =
+        let one : count (del_entries w (shown m).level (shown m).chain p) ≡ 1 = omega (arith, two, own_length w dims p (shown m) (below_lawful k is).lawful j v y, length-count (del_entries w (shown m).level (shown m).chain p)) in
+        below_wanted ∙ ap (λ z. cond z (length (pack dims t) + 1) (spare_wanted w dims (shown m) p)) (eq-eqb (count (del_entries w (shown m).level (shown m).chain p)) 1 one)
+
+    -- a child that keeps two entries wants all the room
+    pub child_wanted : {n : PlainNode} → shown m ≡ n → IsAmong w p (shown m) 2 None → spare_wanted w dims t p ≡ spare_wanted w dims n p
+    child_wanted e h =
+        let many : 2 ≤ count (del_entries w (shown m).level (shown m).chain p) = omega (arith, below_left k is refl h, length-count (del_entries w (shown m).level (shown m).chain p)) in
+        below_wanted
+        ∙ ap (λ z. cond z (length (pack dims t) + 1) (spare_wanted w dims (shown m) p)) (ne_eqb (count (del_entries w (shown m).level (shown m).chain p)) 1 (many_not_one _ many))
+        ∙ ap (λ u. spare_wanted w dims u p) e
+
+    pub below_longest : longest w dims t p ≡ max (length (pack dims t)) (longest w dims (shown m) p)
+    below_longest =
+        ap (max (length (pack dims t))) (longest-at w dims t.level 0 t.chain spot.place nearer.0 p k.lawful nearer.1.0 nearer.1.1 ∙ ap (longest_by w dims t.level p nearer.0.body) nearer.2 ∙ ap (λ z. cond z (longest w dims (shown m) p) 0) (below_digits k is))

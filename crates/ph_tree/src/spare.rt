@@ -1,0 +1,37 @@
+//! Where the block of words that a removal wants comes from.
+
+ghost use Rattle.std.specs.Prelude.{◌^◌, ◌<◌, ◌≤◌, IfOk, IsOk};
+ghost use Rattle.ph_bits.specs.Block.{room_of};
+ghost use Rattle.ph_tree.specs.Spares.{HasRoom};
+
+use ph_bits::Words;
+use ph_node::NoMemory;
+use std::alloc::Global;
+
+// A block for the record that a removal writes.
+#[derive(Drop)]
+pub(crate) enum Spare {
+    // It is taken from here, once the point is found.
+    Later(Global),
+    // It is there.
+    Now(Words),
+}
+
+impl Spare {
+    // A block with room for so many words. One that is there is not taken anew.
+    pub(crate) fn block(self, room: usize) -> Result<Words, NoMemory>
+        requires { room < 2 ^ 32 }
+        ensures room { IfOk result (λ b. room ≤ room_of b) }
+        ensures there { HasRoom self room → IsOk result }
+    {
+        match self {
+            Spare::Later(alloc) => Words::with_room(alloc, room),
+            Spare::Now(words) => {
+                if words.room() < room {
+                    return Err(NoMemory);
+                }
+                Ok(words)
+            }
+        }
+    }
+}
