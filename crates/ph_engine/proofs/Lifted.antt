@@ -178,6 +178,7 @@ on-slot (by.Within q r) n m = refl
 on-slot (by.Overlap bounds) n m = refl
 on-slot (by.Inside bounds) n m = refl
 on-slot (by.Covers bounds) n m = refl
+on-slot by.Stats n m = refl
 on-slot (by.Select which) n m = absurd (n which refl)
 on-slot by.Same n m = absurd (m refl)
 

@@ -67,10 +67,11 @@ pub record Leads (o : Outcome) (now : Engine) (told now_told : Option Files) (re
   pub is : o ≡ outcome now files replies
   pub told_files : StillTells told now_told files
 
--- whether a command takes memory on a slot: a put of a row that is new and has room, a move to another point, and what keeps nodes, rows or
--- bytes in memory while it goes
+-- whether a command takes memory on a slot: a put of a row that is new and has room, a removal of a row that is there, a move to another point,
+-- and what keeps nodes, rows or bytes in memory while it goes
 abbrev pub takes_memory : Slot → Command → Bool
 takes_memory s (Command.Put p v) = not (has s.table p) && nat_lt (length s.table) s.max
+takes_memory s (Command.Del p) = has s.table p
 takes_memory s (Command.Relocate p q) = has s.table p && not (has s.table q)
 takes_memory s (Command.Near q n) = true
 takes_memory s (Command.Load name) = true

@@ -29,6 +29,10 @@ page_bounds s None = no_work
 abbrev pub window_bounds : Slot → List ℤ → List ℤ → Work
 window_bounds s lo hi = let n = length (meets s.width s.dims s.table lo hi) in work n n 0 0
 
+-- the nodes of a slot's tree
+abbrev pub nodes_of : Slot → ℕ
+nodes_of s = length (all_nodes s.width s.dims s.table)
+
 -- the bounds of a command on a slot that does not refuse it
 abbrev pub bounds : Slot → Files → Command → Work
 bounds s files (Command.Get p) = let n = length (path s.width s.dims s.table p) in work n n 0 0
@@ -42,11 +46,8 @@ bounds s files (Command.Overlap q) = window_bounds s (overlaps_low s.width (low_
 bounds s files (Command.Inside q) = window_bounds s (inside_low s.width (low_corner q) (high_corner q)) (inside_high s.width (low_corner q) (high_corner q))
 bounds s files (Command.Covers q) = window_bounds s (covers_low s.width (low_corner q) (high_corner q)) (covers_high s.width (low_corner q) (high_corner q))
 bounds s files (Command.Page name n) = page_bounds s (lookup name s.cursors)
+bounds s files Command.Statistics = let n = nodes_of s in work n n 0 0
 bounds s files _ = no_work
-
--- the nodes of a slot's tree
-abbrev pub nodes_of : Slot → ℕ
-nodes_of s = length (all_nodes s.width s.dims s.table)
 
 -- the bounds of a command of an engine: a comparison visits no more than all nodes of both trees, and these where the slots are the same
 abbrev pub engine_bounds : Engine → Files → Command → Work

@@ -12,7 +12,7 @@ ghost use Rattle.ph_specs.specs.declared.Kind.TheVariants.{Points};
 use ph_coord::{Point, Width};
 use ph_script::{Coord, Coords, Reply};
 use ph_steps::Steps;
-use ph_tree::{Moved, NoMemory, PhTree, Put, PutError};
+use ph_tree::{Moved, NoMemory, PhTree, Put, PutError, Stats};
 use ph_window::Cursor;
 use std::sync::ledger::Ledger;
 
@@ -129,6 +129,29 @@ pub(crate) fn count_rows<const D: usize>(tree: &PhTree<D>) -> Reply<1>
     ensures { Idled (table_at D tree.now) Asked.Count (table_at D tree.now) (reply_of result) }
 {
     Reply::Rows(tree.len())
+}
+
+pub(crate) fn count_nodes<const D: usize, V: Ledger>(
+    tree: &PhTree<D>,
+    visits: &mut Steps<V>,
+) -> Reply<1>
+    requires { D ≤ 16 }
+    ensures { Looked (table_at D tree.now) Asked.Statistics (table_at D tree.now) (reply_of result) visits.old visits.new }
+{
+    let Stats {
+        rows,
+        nodes,
+        linear,
+        cube,
+        words,
+    } = tree.stats(visits);
+    Reply::Stats {
+        rows,
+        nodes,
+        linear,
+        cube,
+        words,
+    }
 }
 
 pub(crate) fn clear_rows<const D: usize>(tree: &mut PhTree<D>) -> Reply<1>

@@ -34,6 +34,7 @@ fn answer_of<const D: usize>(reply: &Reply<D>) -> Answer
         | Reply::End(_)
         | Reply::More(_)
         | Reply::Ready
+        | Reply::Stats { .. }
         | Reply::Using(_)
         | Reply::Same
         | Reply::Differ => Answer::Good,

@@ -63,6 +63,7 @@ pub(crate) fn is_out_of_range(w: Width, cmd: &Command) -> bool
         | Command::Count
         | Command::Clear
         | Command::Page { .. }
+        | Command::Stats
         | Command::Select { .. }
         | Command::Same => false,
     }

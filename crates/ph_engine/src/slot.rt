@@ -127,6 +127,7 @@ impl Slot {
                 self.tree
                     .list_boxes(Question::Covers, bounds, out, text, visits)
             }
+            Command::Stats => tell(out, text, Ok(self.tree.stats(visits))),
             Command::Select { .. } | Command::Same => unreachable!(),
         }
     }

@@ -3,6 +3,7 @@ ghost use Rattle.std.specs.Prelude.{◌≡◌, ◌<◌};
 
 mod boxes;
 mod distances;
+mod sizes;
 
 use crate::engine::Engine;
 use crate::program::top;
@@ -67,7 +68,7 @@ fn check_counted<V: Ledger, C: Ledger>(
     let failing_reads = vec![in alloc; case.failing_read]?;
     let failing_writes = vec![in alloc; case.failing_write]?;
     let mut source = MemorySource::new(script, case.piece, failing_reads);
-    let mut sink = MemorySink::with_room(alloc, 1000, 1000, failing_writes)?;
+    let mut sink = MemorySink::with_room(alloc, 2000, 1000, failing_writes)?;
     let mut engine = Engine::new(alloc);
     let limits = Limits {
         script_bytes: case.script_bytes,

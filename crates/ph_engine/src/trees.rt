@@ -14,7 +14,7 @@ ghost use Rattle.ph_engine.specs.Statuses.{StopHasCause};
 
 use crate::boxes::{Question, list_boxes};
 use crate::commands::{
-    are_same, clear_rows, count_rows, cursor_at, del_row, get_row, move_row, put_row,
+    are_same, clear_rows, count_nodes, count_rows, cursor_at, del_row, get_row, move_row, put_row,
 };
 use crate::cursors::AnyCursor;
 use crate::distances::{list_ball, list_near};
@@ -165,6 +165,12 @@ impl AnyTree {
         ensures { Idled (any_table self.now) Asked.Count (any_table self.now) (reply_of result) }
     {
         with_tree!(self, tree => count_rows(tree))
+    }
+
+    pub(crate) fn stats<V: Ledger>(&self, visits: &mut Steps<V>) -> Reply<1>
+        ensures { Looked (any_table self.now) Asked.Statistics (any_table self.now) (reply_of result) visits.old visits.new }
+    {
+        with_tree!(self, tree => count_nodes(tree, visits))
     }
 
     pub(crate) fn clear(&mut self) -> Reply<1>

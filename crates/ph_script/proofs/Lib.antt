@@ -8,3 +8,4 @@ pub mod Pieces
 mod ReadPlaces
 mod RowTexts
 mod WordCuts
+mod StatsText

@@ -10,10 +10,10 @@ use Rattle.ph_specs.specs.Command.{Command, Place, form, number_fits, name_fits,
 use Rattle.ph_specs.specs.Command.Place.{Coordinate, Below, CursorName, OneOf}
 use Rattle.ph_script.specs.declared.coords.Coord.{Coord}
 use Rattle.ph_script.specs.declared.forms.Verb.{Verb}
-use Rattle.ph_script.specs.declared.forms.Verb.TheVariants.{Open, OpenMax, Put, Get, Del, Relocate, Count, Clear, Window, Cursor, Page, Near, Within, Overlap, Inside, Covers, Select, Same}
+use Rattle.ph_script.specs.declared.forms.Verb.TheVariants.{Open, OpenMax, Put, Get, Del, Relocate, Count, Clear, Window, Cursor, Page, Near, Within, Overlap, Inside, Covers, Stats, Select, Same}
 use Rattle.ph_script.specs.Meaning.{number_of_coord, numbers_of}
 use Rattle.ph_script.specs.Forms.{places_by, command_by}
-use Rattle.ph_script.specs.Parts.{coords_at, counts_at, name_from, second_in, second_from}
+use Rattle.ph_script.specs.Parts.{coords_at, counts_at, name_from, second_from}
 use Rattle.ph_script.specs.Fit.{IsFit, IsNamed}
 use Rattle.ph_script.proofs.KeptNumbers.{keeps-coord, keeps-count}
 
@@ -189,6 +189,7 @@ reads Within dims ws h =
 reads Overlap dims ws h = let p = led-get dims ws h in closing Overlap dims ws p.1 (p.2, refl) (sym (append-nil (numbers_of p.0))) tt
 reads Inside dims ws h = let p = led-get dims ws h in closing Inside dims ws p.1 (p.2, refl) (sym (append-nil (numbers_of p.0))) tt
 reads Covers dims ws h = let p = led-get dims ws h in closing Covers dims ws p.1 (p.2, refl) (sym (append-nil (numbers_of p.0))) tt
+reads Stats dims ws h = closing Stats dims ws (led-none ws h) tt refl tt
 reads Select dims [] h = absurd (let k : false ≡ true = h in cc)
 reads Select dims (w ∷ ws) h =
     let a = led-fixed (codes "a" ∷ codes "b" ∷ []) [] (w ∷ ws) h in

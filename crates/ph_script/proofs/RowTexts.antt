@@ -1,6 +1,6 @@
 -- The line of a row, number by number.
 use Rattle.std.proofs.Common.{◌≡◌, ℕ, List, [], ◌∷◌, ◌++◌, map, flat_map, sym, ap, ◌∙◌, append_assoc}
-use Rattle.std.specs.Prelude.{ℤ, codes, decimal}
+use Rattle.std.specs.Prelude.{ℤ, decimal}
 use Rattle.std.specs.Fmt.{signed_decimal}
 use Rattle.std.specs.List.{join_with_byte}
 use Rattle.std.proofs.lemmas.List.{append-nil}

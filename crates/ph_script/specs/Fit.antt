@@ -6,7 +6,7 @@ use Rattle.ph_script.specs.declared.command.Bad.TheVariants.{Word, Count as BadC
 use Rattle.ph_script.specs.declared.command.Command.{Command}
 use Rattle.ph_script.specs.declared.command.Command.TheVariants as by
 use Rattle.ph_script.specs.declared.forms.Verb.{Verb}
-use Rattle.ph_script.specs.declared.forms.Verb.TheVariants.{Open, OpenMax, Put, Get, Del, Relocate, Count, Clear, Window, Cursor, Page, Near, Within, Overlap, Inside, Covers, Select, Same}
+use Rattle.ph_script.specs.declared.forms.Verb.TheVariants.{Open, OpenMax, Put, Get, Del, Relocate, Count, Clear, Window, Cursor, Page, Near, Within, Overlap, Inside, Covers, Stats, Select, Same}
 use Rattle.ph_specs.specs.Command.{first_word}
 
 abbrev pub IsFit : Verb → ℕ → List Coord → List ℕ → Option (List ℕ) → Type 0
@@ -26,6 +26,7 @@ IsFit Within dims coords counts name = (length coords ≡ dims) × (length count
 IsFit Overlap dims coords counts name = (length coords ≡ dims) × (counts ≡ [])
 IsFit Inside dims coords counts name = (length coords ≡ dims) × (counts ≡ [])
 IsFit Covers dims coords counts name = (length coords ≡ dims) × (counts ≡ [])
+IsFit Stats dims coords counts name = Unit {0}
 IsFit Select dims coords counts name = Unit {0}
 IsFit Same dims coords counts name = Unit {0}
 
@@ -62,6 +63,7 @@ HasDims dims (by.Within q r) = length q ≡ dims
 HasDims dims (by.Overlap bounds) = length bounds ≡ dims
 HasDims dims (by.Inside bounds) = length bounds ≡ dims
 HasDims dims (by.Covers bounds) = length bounds ≡ dims
+HasDims dims by.Stats = Unit {0}
 HasDims dims (by.Select slot) = Unit {0}
 HasDims dims by.Same = Unit {0}
 

@@ -31,6 +31,8 @@ pub enum Command {
     Inside { bounds: Coords },
     /// The boxes that cover it.
     Covers { bounds: Coords },
+    /// The sizes of the tree.
+    Stats,
     /// The other table, or the same again.
     Select { slot: Which },
     /// Whether both tables are the same.

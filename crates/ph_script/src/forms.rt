@@ -29,6 +29,7 @@ pub(crate) enum Verb {
     Overlap,
     Inside,
     Covers,
+    Stats,
     Select,
     Same,
 }
@@ -79,7 +80,7 @@ const RADIUS: u128 = u128::MAX;
 const KINDS: Places = Places::Either(b"points", b"boxes");
 
 // The forms that are answered so far, in the order of the definitions. One more is a row here, a `Verb` and its command.
-static FORMS: [Form; 18] = [
+static FORMS: [Form; 19] = [
     Form {
         word: b"open",
         places: &[KINDS, Places::UpTo(COUNT)],
@@ -164,6 +165,11 @@ static FORMS: [Form; 18] = [
         word: b"covers",
         places: &[Places::Coordinates],
         verb: Verb::Covers,
+    },
+    Form {
+        word: b"stats",
+        places: &[],
+        verb: Verb::Stats,
     },
     Form {
         word: b"use",

@@ -115,6 +115,7 @@ fn command(verb: Verb, dims: usize, parts: &Parts) -> Command
         Verb::Covers => Command::Covers {
             bounds: Coords::new(coords),
         },
+        Verb::Stats => Command::Stats,
         Verb::Select => Command::Select {
             slot: slot_in(parts),
         },

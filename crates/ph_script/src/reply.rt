@@ -23,13 +23,24 @@ pub enum Reply<const D: usize> {
     /// A row that was found; its line begins with `row`.
     RowIs(Row<D>),
     /// A row that was found near a point, with the square of its distance; its line begins with `hit`.
-    HitIs { distance: u128, row: Row<D> },
+    HitIs {
+        distance: u128,
+        row: Row<D>,
+    },
     /// The end of what was found, with the number of rows that the reply has listed.
     End(u128),
     /// The end of a page behind which there are more rows, with the number of rows that it has listed.
     More(u32),
     /// The cursor is there.
     Ready,
+    /// The sizes of a tree: its rows, its nodes, those of each layout, and the words of their records; its line begins with `rows`.
+    Stats {
+        rows: u128,
+        nodes: u128,
+        linear: u128,
+        cube: u128,
+        words: u128,
+    },
     /// The slot that commands are about from now on.
     Using(Which),
     /// Both slots have the same rows, of the same kind and dimensions.

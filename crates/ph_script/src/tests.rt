@@ -84,6 +84,8 @@ fn read_commands_on_slots(rt: HostRuntime) -> Result<(), Fail> {
     let b = Command::Select { slot: Which::B };
     assert_eq!(rt; read_command(b"use b", 2), Ok(Some(b)));
     assert_eq!(rt; read_command(b"same", 2), Ok(Some(Command::Same)));
+    assert_eq!(rt; read_command(b"stats", 2), Ok(Some(Command::Stats)));
+    assert_eq!(rt; read_command(b"stats a", 2), Err(Bad::Count));
     Ok(())
 }
 
@@ -281,6 +283,30 @@ fn texts_of_replies(rt: HostRuntime) -> Result<(), Fail> {
         ),
         (Reply::More(2), "more 2\n"),
         (Reply::Ready, "ready\n"),
+        (
+            Reply::Stats {
+                rows: 3,
+                nodes: 2,
+                linear: 1,
+                cube: 0,
+                words: 8,
+            },
+            "rows 3 nodes 2 linear 1 cube 0 words 8\n",
+        ),
+        (
+            Reply::Stats {
+                rows: u128::MAX,
+                nodes: u128::MAX,
+                linear: u128::MAX,
+                cube: u128::MAX,
+                words: u128::MAX,
+            },
+            "rows 340282366920938463463374607431768211455 \
+            nodes 340282366920938463463374607431768211455 \
+            linear 340282366920938463463374607431768211455 \
+            cube 340282366920938463463374607431768211455 \
+            words 340282366920938463463374607431768211455\n",
+        ),
         (Reply::Using(Which::A), "using a\n"),
         (Reply::Using(Which::B), "using b\n"),
         (Reply::Same, "same\n"),

@@ -1,6 +1,6 @@
 //! The texts of replies.
 ghost use Rattle.std.specs.Prelude.{◌≡◌, ◌≤◌, ◌+◌, ◌∷◌, [], ◌++◌, length, codes, decimal};
-ghost use Rattle.ph_specs.specs.Reply.{reply_text as text_of_reply, row_words, line_of};
+ghost use Rattle.ph_specs.specs.Reply.{reply_text as text_of_reply, row_words, stats_words, line_of};
 ghost use Rattle.ph_script.specs.Meaning.{reply_of};
 ghost use Rattle.ph_script.specs.RowNumbers.{numbers_line};
 
@@ -82,6 +82,13 @@ pub fn write_text<const D: usize>(text: &mut Text, reply: &Reply<D>)
         Reply::End(count) => push_numbered(line, "end", *count),
         Reply::More(count) => push_numbered(line, "more", *count),
         Reply::Ready => line.push_str("ready\n"),
+        Reply::Stats {
+            rows,
+            nodes,
+            linear,
+            cube,
+            words,
+        } => push_stats(line, *rows, *nodes, *linear, *cube, *words),
         Reply::Using(Which::A) => line.push_str("using a\n"),
         Reply::Using(Which::B) => line.push_str("using b\n"),
         Reply::Same => line.push_str("same\n"),
@@ -120,6 +127,31 @@ fn push_number<I: Integer>(line: &mut ArrayString<LONGEST>, number: I)
     line.push_str(" ");
     let mut buffer = Buffer::new();
     line.push_str(buffer.format(number));
+}
+
+// The line of a tree's sizes.
+fn push_stats(
+    line: &mut ArrayString<LONGEST>,
+    rows: u128,
+    nodes: u128,
+    linear: u128,
+    cube: u128,
+    words: u128,
+)
+    requires { line.old.bytes ≡ [] }
+    ensures { line.new.bytes ≡ line_of (stats_words (record { rows = rows; nodes = nodes; linear = linear; cube = cube; words = words })) }
+{
+    line.push_str("rows");
+    push_number(line, rows);
+    line.push_str(" nodes");
+    push_number(line, nodes);
+    line.push_str(" linear");
+    push_number(line, linear);
+    line.push_str(" cube");
+    push_number(line, cube);
+    line.push_str(" words");
+    push_number(line, words);
+    line.push_str("\n");
 }
 
 // The line of a row.

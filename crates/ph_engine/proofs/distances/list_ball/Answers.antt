@@ -1,6 +1,6 @@
 use Rattle.std.proofs.Common.{length, refl, ap, ◌∙◌, arith}
 use Rattle.std.proofs.lemmas.Result.{err_from_is_err_and}
-use Rattle.ph_engine.specs.Listing.{hit_said, hit_replies}
+use Rattle.ph_engine.specs.Listing.{hit_said}
 use Rattle.ph_engine.specs.Slots.{table_at}
 use Rattle.ph_engine.proofs.Hits.{hit-given, hit-front, ball-said, few-hits}
 use Rattle.ph_engine.proofs.Listed.{none-left, items-said}

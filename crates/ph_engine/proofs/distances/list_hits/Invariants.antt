@@ -1,4 +1,4 @@
-use Rattle.std.proofs.Common.{◌≡◌, ◌≤◌, [], ◌∷◌, ◌++◌, length, map, drop}
+use Rattle.std.proofs.Common.{◌≤◌, [], ◌∷◌, ◌++◌, length, map, drop}
 use Rattle.ph_io.specs.Giving.{taken_of}
 use Rattle.ph_specs.specs.Reply.{Reply}
 use Rattle.ph_engine.specs.Listing.{hit_said, hit_replies}

@@ -4,7 +4,7 @@ use Rattle.ph_specs.specs.Command.{Command as Asked}
 use Rattle.ph_script.specs.Meaning.{command_of, reply_of, numbers_of}
 use Rattle.ph_engine.specs.Slots.{any_table, named, slot_of}
 use Rattle.ph_engine.proofs.Commanded.{done-served, done-begun, done-refused}
-use Rattle.ph_engine.proofs.Plain.{plain-put, plain-get, plain-del, plain-move, plain-count, plain-clear}
+use Rattle.ph_engine.proofs.Plain.{plain-put, plain-get, plain-del, plain-move, plain-count, plain-clear, plain-stats}
 use Rattle.ph_engine.proofs.Paged.{listing-done, rows-good, hits-good, near-done}
 use Rattle.ph_engine.proofs.Refused.{refused-begun, unrefused-arm}
 use Rattle.ph_engine.proofs.Slotted.{slot-keeps, same-frame, put-frame, del-frame, move-frame, clear-frame}
@@ -89,6 +89,14 @@ returns-in-Count-clause-done g c =
     let cursors = named c.self.inside.cursors.items in
     let unrefused = unrefused-arm (slot_of kind t cursors) c.args.self.now c.args.cmd.now _ c.self.view_is c.in-Count.is c.in_default.ensures in
     rw (c.in-Count.is, ← c.self.view_is) (done-served {E = ⊥} 0 kind t t cursors _ (Ok c.count.result) _ _ c.tell-in-Count.result (record { files = refl; later = omega arith }) plain-count unrefused (c.count.ensures.served c.args.visits.now c.args.changes.now) c.tell-in-Count.ensures.told)
+
+pub returns-in-Stats-clause-done : goal.returns-in-Stats-clause-done
+returns-in-Stats-clause-done g c =
+    let kind = c.self.inside.kind in
+    let t = any_table c.self.inside.tree in
+    let cursors = named c.self.inside.cursors.items in
+    let unrefused = unrefused-arm (slot_of kind t cursors) c.args.self.now c.args.cmd.now _ c.self.view_is c.in-Stats.is c.in_default.ensures in
+    rw (c.in-Stats.is, ← c.self.view_is) (done-served {E = ⊥} 0 kind t t cursors _ (Ok c.stats.result) _ _ c.tell-in-Stats.result (record { files = refl; later = omega arith }) plain-stats unrefused (c.stats.ensures.served c.args.changes.now) c.tell-in-Stats.ensures.told)
 
 pub returns-in-Clear-clause-done : goal.returns-in-Clear-clause-done
 returns-in-Clear-clause-done g c =

@@ -1,0 +1,59 @@
+//! Scripts about the sizes of a tree.
+use super::{check, run};
+use crate::status::Status;
+use std::alloc::AllocError;
+use std::test::Fail;
+
+#[test]
+fn stats_through_layouts(rt: HostRuntime) -> Result<(), Fail> {
+    let script =
+        "put 0 0 1\nstats\nput 1 1 2\nstats\nput 0 1 3\nstats\ndel 0 1\nstats\ndel 1 1\nstats\n";
+    let output = "new\nrows 1 nodes 1 linear 1 cube 0 words 4\nnew\n\
+        rows 2 nodes 2 linear 2 cube 0 words 7\nnew\nrows 3 nodes 2 linear 1 cube 1 words 8\n\
+        gone 3\nrows 2 nodes 2 linear 2 cube 0 words 7\ngone 2\n\
+        rows 1 nodes 1 linear 1 cube 0 words 4\n";
+    check(&rt, rt.alloc(), &run(script, output, Status::Clean))?;
+    Ok(())
+}
+
+#[test]
+fn deepest_path(rt: HostRuntime) -> Result<(), Fail> {
+    let script = "open points 1\nput 0 1\nput 1 1\nput 2 1\nput 4 1\nput 8 1\nput 16 1\nput 32 1\n\
+        put 64 1\nput 128 1\nput 256 1\nput 512 1\nput 1024 1\nput 2048 1\nput 4096 1\n\
+        put 8192 1\nput 16384 1\nput 32768 1\nput 65536 1\nput 131072 1\nput 262144 1\n\
+        put 524288 1\nput 1048576 1\nput 2097152 1\nput 4194304 1\nput 8388608 1\n\
+        put 16777216 1\nput 33554432 1\nput 67108864 1\nput 134217728 1\nput 268435456 1\n\
+        put 536870912 1\nput 1073741824 1\nstats\nget 0\n";
+    let output =
+        "opened\nnew\nnew\nnew\nnew\nnew\nnew\nnew\nnew\nnew\nnew\nnew\nnew\nnew\nnew\nnew\nnew\n\
+        new\nnew\nnew\nnew\nnew\nnew\nnew\nnew\nnew\nnew\nnew\nnew\nnew\nnew\nnew\nnew\n\
+        rows 32 nodes 32 linear 32 cube 0 words 96\nvalue 1\n";
+    check(&rt, rt.alloc(), &run(script, output, Status::Clean))?;
+    Ok(())
+}
+
+// Each point of zeros and ones.
+#[test]
+fn crowded_cube(rt: HostRuntime) -> Result<(), Fail> {
+    let mut script = String::from_str(rt.alloc(), "open points 8\n")?;
+    let mut output = String::from_str(rt.alloc(), "opened\n")?;
+    for corner in 0..256 {
+        push_put(&mut script, corner)?;
+        output.push_str("new\n")?;
+    }
+    script.push_str("stats\n")?;
+    output.push_str("rows 256 nodes 2 linear 1 cube 1 words 271\n")?;
+    let mut case = run(script.as_str(), output.as_str(), Status::Clean);
+    case.script_bytes = 8000;
+    check(&rt, rt.alloc(), &case)?;
+    Ok(())
+}
+
+// A put at the point whose coordinates are eight binary digits.
+fn push_put(script: &mut String, digits: u32) -> Result<(), AllocError> {
+    script.push_str("put")?;
+    for place in 0..8u32 {
+        script.push_str(if digits >> place & 1 == 1 { " 1" } else { " 0" })?;
+    }
+    script.push_str(" 1\n")
+}
