@@ -3,7 +3,8 @@ use Rattle.std.proofs.Common.{◌≡◌, ℕ, suc, ◌+◌, ◌-◌, ◌*◌, �
 use Rattle.std.proofs.lemmas.Nat.{pow-add, pow_pos, shl_whole, shr_split, shr_below, mod_below, and_mask}
 use Rattle.std.proofs.Math.Nat.{mul-le-mul_left, mod-eq_of_lt, pow-le-pow_right}
 use Rattle.ph_bits.specs.Fields.{number_in}
-use Rattle.ph_specs.proofs.laws.WordDigits.{number-append}
+use Rattle.ph_specs.specs.Digits.{digits_at}
+use Rattle.ph_specs.proofs.laws.WordDigits.{number-append, digits-parts}
 
 -- a word more
 pub number-push : (ws : List ℕ) (x : ℕ) → number_in (ws ++ x ∷ []) ≡ number_in ws * 2 ^ 64 + x
@@ -63,7 +64,7 @@ masked v low l =
 pub masked_below : (v low : ℕ) → low < 64 → bit_and v (1 * 2 ^ low % 2 ^ 64 - 1) < 2 ^ low
 masked_below v low l = subst (λ t. t < 2 ^ low) (sym (masked v low l)) (mod_below v (2 ^ low) (pow_pos low))
 
-pub number_full : (n k room w v : ℕ) → k < 2 ^ (64 - room) → room ≤ 64 → 1 ≤ room → room ≤ w → w ≤ 63
+pub number_full : (n k room w v : ℕ) → k < 2 ^ (64 - room) → room ≤ 64 → 1 ≤ room → room ≤ w → w ≤ 64
     → (n * 2 ^ 64 + (k * 2 ^ room % 2 ^ 64 + v / 2 ^ (w - room))) * 2 ^ (64 - (64 - (w - room))) + bit_and v (1 * 2 ^ (w - room) % 2 ^ 64 - 1) ≡ (n * 2 ^ (64 - room) + k) * 2 ^ w + v
 number_full n k room w v a l o m q =
     let low : ℕ = w - room in
@@ -79,6 +80,37 @@ number_full n k room w v a l o m q =
   where
     sum : (n k v A R L h r : ℕ) → h * L + r ≡ v → (n * (A * R) + (k * R + h)) * L + r ≡ (n * A + k) * (R * L) + v
     sum n k v A R L h r e = omega (arith, e)
+
+-- a whole word more: a shift by `room`, which may be 64, in two
+pub shifted_twice : (k room : ℕ) → k < 2 ^ (64 - room) → 1 ≤ room → room ≤ 64 → k * 2 ^ (room - 1) % 2 ^ 64 * 2 ^ 1 % 2 ^ 64 ≡ k * 2 ^ room % 2 ^ 64
+shifted_twice k room a o l =
+    let e : room - 1 + 1 ≡ room = omega (arith, o) in
+    let p : 2 ^ room ≡ 2 ^ (room - 1) * 2 ^ 1 = ap (λ t. 2 ^ t) (sym e) ∙ pow-add 2 (room - 1) 1 in
+    let q : k * 2 ^ (room - 1) * 2 ^ 1 ≡ k * 2 ^ room = omega (arith, ap (λ t. k * t) p) in
+    ap (λ t. t * 2 ^ 1 % 2 ^ 64) (shifted k room (room - 1) a l (omega arith)) ∙ ap (λ t. t % 2 ^ 64) q
+
+pub fits_word : (k room v : ℕ) → k < 2 ^ (64 - room) → 1 ≤ room → room ≤ 64 → v < 2 ^ 64 → k * 2 ^ (room - 1) % 2 ^ 64 * 2 ^ 1 % 2 ^ 64 + v / 2 ^ (64 - room) < 2 ^ 64
+fits_word k room v a o l b =
+    subst (λ t. t + v / 2 ^ (64 - room) < 2 ^ 64) (sym (shifted_twice k room a o l)) (fits_full k room 64 v a l l b)
+
+pub number_word : (n k room v : ℕ) → k < 2 ^ (64 - room) → 1 ≤ room → room ≤ 64
+    → (n * 2 ^ 64 + (k * 2 ^ (room - 1) % 2 ^ 64 * 2 ^ 1 % 2 ^ 64 + v / 2 ^ (64 - room))) * 2 ^ (64 - room) + bit_and v (1 * 2 ^ (64 - room) % 2 ^ 64 - 1) ≡ (n * 2 ^ (64 - room) + k) * 2 ^ 64 + v
+number_word n k room v a o l =
+    let e : 64 - room ≡ 64 - (64 - (64 - room)) = omega arith in
+    let m : ℕ = bit_and v (1 * 2 ^ (64 - room) % 2 ^ 64 - 1) in
+    ap (λ t. (n * 2 ^ 64 + (t + v / 2 ^ (64 - room))) * 2 ^ (64 - room) + m) (shifted_twice k room a o l)
+    ∙ ap (λ t. (n * 2 ^ 64 + (k * 2 ^ room % 2 ^ 64 + v / 2 ^ (64 - room))) * 2 ^ t + m) e
+    ∙ number_full n k room 64 v a l o l (omega arith)
+
+-- digits that are copied, in two parts
+pub number_copied : (ws : List ℕ) (at m w n r : ℕ) → at + m + w ≤ 64 * length ws → r ≡ n * 2 ^ m + digits_at ws at m → r * 2 ^ w + digits_at ws (at + m) w ≡ n * 2 ^ (m + w) + digits_at ws at (m + w)
+number_copied ws at m w n r l e =
+    let p : n * 2 ^ (m + w) ≡ n * (2 ^ m * 2 ^ w) = ap (λ t. n * t) (pow-add 2 m w) in
+    let q : r * 2 ^ w ≡ (n * 2 ^ m + digits_at ws at m) * 2 ^ w = ap (λ t. t * 2 ^ w) e in
+    sum n (2 ^ m) (2 ^ w) (digits_at ws at m) (digits_at ws (at + m) w) (r * 2 ^ w) (n * 2 ^ (m + w)) (digits_at ws at (m + w)) q p (digits-parts ws at m w l)
+  where
+    sum : (n M W a b r p d : ℕ) → r ≡ (n * M + a) * W → p ≡ n * (M * W) → d ≡ a * W + b → r + b ≡ p + d
+    sum n M W a b r p d e f g = omega (arith, e, f, g)
 
 -- the last word
 pub number_end : (n k room d place : ℕ) → k < 2 ^ (64 - room) → room ≤ 64 → d ≡ 64 * place + (64 - room) → n * 2 ^ 64 + k * 2 ^ room % 2 ^ 64 ≡ (n * 2 ^ (64 - room) + k) * 2 ^ (64 * (place + 1) - d)

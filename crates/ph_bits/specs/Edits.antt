@@ -1,9 +1,11 @@
 -- The entries of a record with their values, and with one edit; and how many words the record of some entries wants.
-use Rattle.std.specs.Prelude.{ℕ, zero, suc, ◌+◌, List, [], ◌∷◌, ◌++◌, Some, None, take, drop, replicate, if◌then◌else◌}
+use Rattle.std.specs.Prelude.{ℕ, zero, suc, ◌+◌, ◌-◌, Bool, List, [], ◌∷◌, ◌++◌, Some, None, take, drop, replicate, if◌then◌else◌}
 use Rattle.ph_specs.specs.Digits.{words_for}
 use Rattle.ph_specs.specs.Node.{Flat}
 use Rattle.ph_specs.specs.Pack.{is_cube, cube_digits, linear_digits}
 use Rattle.ph_specs.specs.Record.{Read, read_point, read_child, entries_in, values_in}
+use Rattle.ph_specs.specs.Layout.{entries_as, values_as}
+use Rattle.ph_bits.specs.declared.edits.Edit.{Edit}
 use Rattle.ph_bits.specs.declared.entries.Packed.{Packed}
 
 -- entries that were read, each point with its value
@@ -30,6 +32,15 @@ new_flat dims p v = record { addr = p.addr; body = take dims p.body; value = if 
 -- the entries of an old record with an edit
 abbrev pub edit_of : ℕ → List ℕ → ℕ → ℕ → ℕ → Packed → ℕ → List Flat
 edit_of dims words place less more p v = edited place less more (new_flat dims p v) (flats_in dims words)
+
+-- the same of a record in a layout that is given
+abbrev pub edited_as : Bool → ℕ → List ℕ → Edit → List Flat
+edited_as cube dims words e =
+    edited e.place e.less e.more (new_flat dims e.entry e.value) (flats (entries_as cube dims words) (values_as cube dims words))
+
+-- how many of n entries there are then
+abbrev pub count_edited : ℕ → Edit → ℕ
+count_edited n e = e.place + e.more + (n - (e.place + e.less))
 
 -- ---- words
 

@@ -5,6 +5,7 @@
 #![tactic(auto)]
 
 mod beside;
+mod edits;
 mod entries;
 mod fields;
 mod joins;
@@ -16,6 +17,7 @@ mod tests;
 mod words;
 
 pub use beside::is_row;
+pub use edits::Edit;
 pub use entries::{Entries, Packed};
 pub use fields::{field, ones_before, set_field};
 pub use joins::join_row;

@@ -2,11 +2,12 @@
 
 ghost use Rattle.std.specs.Prelude.{◌≡◌, ◌+◌, ◌-◌, ◌*◌, ◌^◌, ◌<◌, ◌≤◌, ◌++◌, ℕ, List, length, take, map};
 ghost use Rattle.std.specs.List.{AllByRecursion as Each};
-ghost use Rattle.ph_specs.specs.Digits.{Field, field, number_after, digits_of, words_for, words_of};
+ghost use Rattle.ph_specs.specs.Digits.{Field, field, number_after, digits_of, words_for, words_of, digits_at};
 ghost use Rattle.ph_bits.specs.Block.{room_of, IsSamePlaces};
 ghost use Rattle.ph_bits.specs.Fields.{number_in};
 ghost use Rattle.ph_bits.specs.Written.{IsPen, digits_by, number_by};
 
+use crate::fields::field;
 use crate::words::Words;
 
 /// A writer of fields behind the words of a block.
@@ -70,6 +71,42 @@ impl Pen {
         for i in 0..count {
             self.put(words, width, body[i]);
         }
+    }
+
+    /// Writes `count` digits of other words, from digit `at` on.
+    ///
+    /// Each turn of its loop stores a whole word; what is left of the digits is one field more.
+    pub fn copy(&mut self, words: &mut Words, from: &[u64], at: u64, count: u64)
+        requires pen { IsPen self.old }
+        requires from { at + count ≤ 64 * length from.now }
+        requires near { at + count ≤ 2 ^ 62 }
+        requires inside { digits_by words.old.words self.old + count ≤ 64 * room_of words.old }
+        ensures pen { IsPen self.new }
+        ensures digits { digits_by words.new.words self.new ≡ digits_by words.old.words self.old + count }
+        ensures number { number_by words.new.words self.new ≡ number_by words.old.words self.old * 2 ^ count + digits_at from.now at count }
+        ensures places { IsSamePlaces words.old words.new }
+    {
+        let whole = count / 64;
+        for i in 0..whole {
+            self.put_word(words, field(from, at + 64 * i, 64));
+        }
+        let rest = (count % 64) as u32;
+        self.put(words, rest, field(from, at + 64 * whole, rest));
+    }
+
+    // Writes the 64 digits of `v`.
+    #[inline(always)]
+    fn put_word(&mut self, words: &mut Words, v: u64)
+        requires pen { IsPen self.old }
+        requires inside { digits_by words.old.words self.old + 64 ≤ 64 * room_of words.old }
+        ensures pen { IsPen self.new }
+        ensures digits { digits_by words.new.words self.new ≡ digits_by words.old.words self.old + 64 }
+        ensures number { number_by words.new.words self.new ≡ number_by words.old.words self.old * 2 ^ 64 + v }
+        ensures places { IsSamePlaces words.old words.new }
+    {
+        let low = 64 - self.room;
+        words.push(((self.kept << (self.room - 1)) << 1) + (v >> low));
+        self.kept = v & ((1 << low) - 1);
     }
 
     /// Ends a table of fields that began at a new word: its last word is filled up with zeros.

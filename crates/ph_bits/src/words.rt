@@ -1,6 +1,6 @@
 //! A block of words.
 
-ghost use Rattle.std.specs.Prelude.{◌≡◌, ◌<◌, ◌≤◌, ◌^◌, ◌∷◌, ◌++◌, [], length, replicate, slice_index_or, slice_set, IfOk};
+ghost use Rattle.std.specs.Prelude.{◌≡◌, ◌+◌, ◌<◌, ◌≤◌, ◌^◌, ◌∷◌, ◌++◌, [], length, replicate, slice_index_or, slice_set, IfOk};
 ghost use Rattle.ph_bits.specs.Block.{room_of, zeros, empty, IsSamePlaces};
 
 use crate::NoMemory;
@@ -136,6 +136,17 @@ impl Words {
     {
         self.places.write(self.start, self.len as usize, word);
         self.len += 1;
+    }
+
+    /// Writes words behind the others.
+    pub fn extend(&mut self, more: &[u64])
+        requires { length self.old.words + length more.now ≤ room_of self.old }
+        ensures words { self.new.words ≡ self.old.words ++ more.now }
+        ensures places { IsSamePlaces self.old self.new }
+    {
+        for i in 0..more.len() {
+            self.push(more[i]);
+        }
     }
 
     /// Leaves `len` zeros in place of the words.

@@ -6,3 +6,5 @@ pub mod Entries
 pub mod Bodies
 pub mod Stood
 pub mod Standing
+pub mod EditedPlaces
+pub mod EditedTables

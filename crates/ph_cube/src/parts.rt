@@ -73,7 +73,7 @@ pub(crate) fn body_of(words: &[u64], dims: usize, i: usize, addr: u64) -> u64
 
 // How many of the first `n` kinds are children: each has 1 as its first digit.
 #[inline(always)]
-fn children_before(words: &[u64], n: u64) -> u64
+pub(crate) fn children_before(words: &[u64], n: u64) -> u64
     requires inside { 64 + n * 2 ≤ 64 * length words.now }
     requires few { n ≤ 2 ^ 16 }
     ensures { result ≡ twos_in words.now 64 n }

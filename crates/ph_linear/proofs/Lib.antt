@@ -4,3 +4,8 @@ pub mod Ranks
 pub mod Bodies
 pub mod Halving
 pub mod Writing
+pub mod EditedEntries
+pub mod EditedLists
+pub mod OldTables
+pub mod Segments
+pub mod EditedTables

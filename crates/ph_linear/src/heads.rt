@@ -13,6 +13,15 @@ pub fn count_in(words: &[u64]) -> u64
     (words[0] >> 24) % 0x100_0000
 }
 
+/// How many of them are children.
+#[inline(always)]
+pub fn children_in(words: &[u64]) -> u64
+    requires { 0 < length words.now }
+    ensures { result ≡ (first_in words.now).children }
+{
+    words[0] % 0x100_0000
+}
+
 /// The level of a record.
 #[inline(always)]
 pub fn level_in(words: &[u64]) -> u32

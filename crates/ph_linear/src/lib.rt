@@ -4,6 +4,8 @@
 //! The calls at the root take the number of dimensions as a const parameter, and those in `by_dims` as an argument.
 #![tactic(auto)]
 
+mod copies;
+mod edits;
 mod fixed;
 mod heads;
 mod parts;
@@ -11,15 +13,18 @@ mod reads;
 mod searches;
 mod writes;
 
+pub use copies::Column;
+pub use edits::put_edited_values;
 pub use fixed::{
     address, bits_of, entry, find, find_entry, is_child, next_at_or_after, rank, write,
 };
-pub use heads::{count_in, first_of, level_in};
+pub use heads::{children_in, count_in, first_of, level_in};
 pub use writes::put_values;
 
 /// The calls by a number of dimensions that is handed in. All are inlined, so that it is a constant again where the caller
 /// knows it.
 pub mod by_dims {
+    pub use crate::edits::write_edited;
     pub use crate::parts::rank_of;
     pub use crate::reads::{address, bits_of, body_at, entry, find_entry, is_child, rank};
     pub use crate::searches::{find, next_at_or_after, search};

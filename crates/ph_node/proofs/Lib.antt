@@ -2,6 +2,7 @@
 pub mod Filled
 pub mod Merges
 mod Additions
+mod Addressed
 mod Assembled
 mod Contents
 mod EditReads
@@ -19,6 +20,7 @@ mod PairLists
 mod Parts
 mod Places
 mod Reading
+mod RecordEdits
 mod Removed
 mod Slotted
 mod Spliced

@@ -4,10 +4,10 @@ use Rattle.std.proofs.lemmas.List.{length-map}
 use Rattle.ph_specs.specs.Node.{PlainNode, entries, Flat}
 use Rattle.ph_specs.specs.Pack.{values}
 use Rattle.ph_specs.specs.Record.{first_in}
-use Rattle.ph_bits.specs.Edits.{edited, edit_of, words_wanted}
-use Rattle.ph_node.specs.OneEdit.{IsEdit, edit_flats, written_flat, flat_of, flats_of}
+use Rattle.ph_bits.specs.Edits.{edited, edit_of, new_flat, words_wanted}
+use Rattle.ph_node.specs.OneEdit.{IsEdit, edit_flats, flat_of, flats_of}
 use Rattle.ph_node.specs.Recorded.{IsSource}
-use Rattle.ph_node.specs.declared.edited.Edit.{Edit}
+use Rattle.ph_bits.specs.declared.edits.Edit.{Edit}
 use Rattle.ph_node.proofs.Fitting.{few}
 use Rattle.ph_node.proofs.OldNodes.{IsOld}
 use Rattle.ph_node.proofs.Spliced.{length-edited}
@@ -20,13 +20,13 @@ module _ (d : ℕ) (ws us : List ℕ) (ns : List PlainNode) (t : PlainNode) (o :
   count_at = ap (λ u. (first_in u).entries) f ∙ o.count
 
   module _ (e : Edit) (l : ℕ) (m : l ≡ (first_in us).level) where
-    flats-at : edit_of d us e.place e.less e.more e.new.entry e.new.value ≡ edit_flats d t e
+    flats-at : edit_of d us e.place e.less e.more e.entry e.value ≡ edit_flats d t e
     flats-at =
-        ap (λ u. edit_of d u e.place e.less e.more e.new.entry e.new.value) f
-        ∙ ap (λ fs. edited e.place e.less e.more (written_flat d e.new) fs) o.flats
+        ap (λ u. edit_of d u e.place e.less e.more e.entry e.value) f
+        ∙ ap (λ fs. edited e.place e.less e.more (new_flat d e.entry e.value) fs) o.flats
 
     -- what holds of the node holds of its record
-    pub moved : (P : ℕ → List Flat → Type 0) → P t.level (edit_flats d t e) → P l (edit_of d us e.place e.less e.more e.new.entry e.new.value)
+    pub moved : (P : ℕ → List Flat → Type 0) → P t.level (edit_flats d t e) → P l (edit_of d us e.place e.less e.more e.entry e.value)
     moved P h =
         subst (λ fs. P l fs) (sym flats-at)
         (subst (λ k. P k (edit_flats d t e)) (sym (m ∙ ap (λ u. (first_in u).level) f ∙ o.level)) h)
@@ -35,7 +35,7 @@ module _ (d : ℕ) (ws us : List ℕ) (ns : List PlainNode) (t : PlainNode) (o :
 pub many_new : (d : ℕ) (t : PlainNode) (e : Edit) → IsEdit d t e → length (edit_flats d t e) + e.less ≡ length (entries t) + e.more
 many_new d t e h =
     let a : length (flats_of t) ≡ length (entries t) = length-map (entries t) flat_of in
-    omega (arith, a, length-edited e.place e.less e.more (written_flat d e.new) (flats_of t) (omega (arith, a, h.within)))
+    omega (arith, a, length-edited e.place e.less e.more (new_flat d e.entry e.value) (flats_of t) (omega (arith, a, h.within)))
 
 pub n_new : (d : ℕ) (t : PlainNode) (e : Edit) → IsEdit d t e → (k : ℕ) → k ≡ length (entries t) → k - e.less + e.more ≡ length (edit_flats d t e)
 n_new d t e h k q = omega (arith, q, many_new d t e h, h.within)

@@ -5,9 +5,9 @@ use Rattle.ph_digits.proofs.Cuts.{is_body-below, address-below}
 use Rattle.ph_specs.specs.Layout.{AreRising}
 use Rattle.ph_specs.specs.PutTree.{body_address}
 use Rattle.ph_linear.proofs.Entries.{split}
-use Rattle.ph_node.specs.OneEdit.{held_by, written_flat}
-use Rattle.ph_node.specs.Pairs.{below_flat, in_order, pair_flats, flats_in_pair}
-use Rattle.ph_node.specs.declared.edited.Written.{Written}
+use Rattle.ph_node.specs.OneEdit.{held_by}
+use Rattle.ph_node.specs.Pairs.{below_flat, in_order, pair_flats, flats_in_pair, written_flat}
+use Rattle.ph_node.specs.declared.pairs.Written.{Written}
 use Rattle.ph_node.specs.declared.olds.OldEntry.{OldEntry}
 use Rattle.ph_node.specs.declared.pairs.PairOf.{PairOf}
 

@@ -11,4 +11,5 @@ pub mod Split
 pub mod Merge
 pub mod OneEdit
 pub mod Pairs
+pub mod RecordEdit
 pub mod Spots

@@ -1,15 +1,15 @@
 -- One edit of the entries of a node, and what it reads of an entry.
-use Rattle.std.specs.Prelude.{◌≡◌, ℕ, zero, suc, ◌+◌, ◌≤◌, List, [], ◌∷◌, ◌++◌, length, map, take, if◌then◌else◌, Option, Some, None}
+use Rattle.std.specs.Prelude.{◌≡◌, ℕ, zero, suc, ◌+◌, ◌^◌, ◌<◌, ◌≤◌, List, [], ◌∷◌, ◌++◌, length, map, take, if◌then◌else◌, Option, Some, None}
 use Rattle.ph_specs.specs.EntryEdits.{what_at}
 use Rattle.ph_specs.specs.Lawful.{IsBody}
 use Rattle.ph_specs.specs.Layout.{AreRising}
 use Rattle.ph_specs.specs.Node.{Entry, Flat, PlainNode, What, value, node, node_of, entries}
 use Rattle.ph_bits.specs.Edits.{edited, new_flat}
 use Rattle.ph_bits.specs.Packed.{IsPadded}
+use Rattle.ph_bits.specs.declared.edits.Edit.{Edit}
 use Rattle.ph_node.specs.Merge.{addr_at}
+use Rattle.ph_node.specs.Places.{place_for}
 use Rattle.ph_node.specs.Split.{body_at}
-use Rattle.ph_node.specs.declared.edited.Edit.{Edit}
-use Rattle.ph_node.specs.declared.edited.Written.{Written}
 use Rattle.ph_node.specs.declared.olds.OldEntry.{OldEntry}
 
 -- ---- entries as a record keeps them
@@ -54,18 +54,19 @@ before (e ∷ es) (suc i) = ones_of e.what + before es i
 
 -- ---- an edit
 
-abbrev pub written_flat : ℕ → Written → Flat
-written_flat dims w = new_flat dims w.entry w.value
-
 -- the entries of a node with an edit
 abbrev pub edit_flats : ℕ → PlainNode → Edit → List Flat
-edit_flats dims n e = edited e.place e.less e.more (written_flat dims e.new) (flats_of n)
+edit_flats dims n e = edited e.place e.less e.more (new_flat dims e.entry e.value) (flats_of n)
 
--- they may be those of a node
+-- they may be those of a node, and the edit is of what stands at one address: all that stood there is left out, and a new entry
+-- stands there
 pub record IsEdit (dims : ℕ) (n : PlainNode) (e : Edit) : Type 0 where
   pub within : e.place + e.less ≤ length (entries n)
   pub few : e.more ≤ 1
   pub some : 1 ≤ dims
+  pub address : e.entry.addr < 2 ^ dims
+  pub front : e.place ≡ place_for e.entry.addr (entries n)
+  pub behind : e.place + e.less ≡ place_for (e.entry.addr + 1) (entries n)
   pub rise : AreRising dims n.level 0 (edit_flats dims n e)
 
 -- ---- an entry that was read

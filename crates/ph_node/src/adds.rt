@@ -7,9 +7,8 @@ ghost use Rattle.ph_node.specs.Bodies.{IsBodyArray};
 ghost use Rattle.ph_node.specs.Places.{place_for};
 
 use crate::NoMemory;
-use crate::edited::{Edit, Written};
 use crate::node::NodeOf;
-use ph_bits::Packed;
+use ph_bits::{Edit, Packed};
 use ph_coord::Dims;
 use ph_steps::Steps;
 use std::sync::ledger::Ledger;
@@ -43,7 +42,8 @@ impl<P: Dims> NodeOf<P> {
             place: i,
             less: 0,
             more: 1,
-            new: Written { entry, value: v },
+            entry,
+            value: v,
         };
         let words = self.edited(edit, self.children.len())?;
         changes.tick();

@@ -5,25 +5,9 @@ ghost use Rattle.ph_specs.specs.Record.{first_in};
 ghost use Rattle.ph_node.specs.Recorded.{IsSource};
 
 use crate::records;
-use ph_bits::{Entries, Packed};
+use ph_bits::{Edit, Entries, Packed};
 use ph_coord::Dims;
 use std::marker::PhantomData;
-
-/// An entry that is written, and its value where it is a point.
-#[derive(Clone, Copy)]
-pub(crate) struct Written {
-    pub(crate) entry: Packed,
-    pub(crate) value: u64,
-}
-
-/// One edit: `less` entries from a place on are left out, and `more` new ones, at most one, are put there.
-#[derive(Clone, Copy)]
-pub(crate) struct Edit {
-    pub(crate) place: usize,
-    pub(crate) less: usize,
-    pub(crate) more: usize,
-    pub(crate) new: Written,
-}
 
 /// The entries of an old record with an edit.
 #[derive(Drop)]
@@ -39,7 +23,7 @@ pub(crate) struct EditedOf<'t, P: Dims> {
 impl<'t, P: Dims> Entries<P> for EditedOf<'t, P> {
     ghost use Rattle.ph_bits.specs.Edits.{edit_of};
 
-    ghost list = { λ s. edit_of P.D s.old.now s.edit.place s.edit.less s.edit.more s.edit.new.entry s.edit.new.value };
+    ghost list = { λ s. edit_of P.D s.old.now s.edit.place s.edit.less s.edit.more s.edit.entry s.edit.value };
 
     fn count(&self) -> usize {
         records::count(self.old) - self.edit.less + self.edit.more
@@ -47,7 +31,7 @@ impl<'t, P: Dims> Entries<P> for EditedOf<'t, P> {
 
     fn at(&self, i: usize) -> Packed {
         if is_new(self.edit.place, self.edit.more, i) {
-            return self.edit.new.entry;
+            return self.edit.entry;
         }
         let k = old_place(self.edit.place, self.edit.less, self.edit.more, i);
         records::entry(self.old, P::D, k)
@@ -55,7 +39,7 @@ impl<'t, P: Dims> Entries<P> for EditedOf<'t, P> {
 
     fn value(&self, i: usize) -> u64 {
         if is_new(self.edit.place, self.edit.more, i) {
-            return self.edit.new.value;
+            return self.edit.value;
         }
         let k = old_place(self.edit.place, self.edit.less, self.edit.more, i);
         let read = records::entry(self.old, P::D, k);

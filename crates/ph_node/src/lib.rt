@@ -18,6 +18,7 @@ mod pairs;
 mod reads;
 mod records;
 mod removals;
+mod rewrites;
 mod singles;
 mod splits;
 mod spots;

@@ -10,14 +10,12 @@ ghost use Rattle.ph_node.specs.OneEdit.{IsEdit, IsOldEntry, before, edit_flats, 
 ghost use Rattle.ph_node.specs.Split.{IsValue};
 ghost use Rattle.ph_node.specs.Spots.{IsSpot};
 
-use crate::edited::{Edit, EditedOf};
 use crate::node::NodeOf;
 use crate::spots::Spot;
-use crate::{NoMemory, records};
-use ph_bits::{Words, row};
+use crate::{NoMemory, records, rewrites};
+use ph_bits::{Edit, Words, row};
 use ph_coord::Dims;
 use ph_linear::level_in;
-use std::marker::PhantomData;
 
 /// An entry as an edit reads it. A child has the value 0. In front of it stand so many children.
 #[derive(Clone, Copy)]
@@ -122,12 +120,6 @@ impl<P: Dims> NodeOf<P> {
         requires room { words_wanted P.D self.now.level (length (edit_flats P.D self.now edit)) (length (values (edit_flats P.D self.now edit))) ≤ room_of block.old }
         ensures { block.new.words ≡ record_of P.D self.now.level (edit_flats P.D self.now edit) }
     {
-        let old = self.words.as_slice();
-        let from: EditedOf<'_, P> = EditedOf {
-            old,
-            edit,
-            dims: PhantomData,
-        };
-        records::write::<P, EditedOf<'_, P>>(block, level_in(old), &from);
+        rewrites::write_edited::<P>(block, self.words.as_slice(), &edit);
     }
 }

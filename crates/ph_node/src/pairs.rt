@@ -3,10 +3,8 @@
 ghost use Rattle.std.specs.Prelude.{◌≡◌, ◌≢◌, ◌<◌, ◌≤◌, take, length, if◌then◌else◌, Some, None, IfOk};
 ghost use Rattle.ph_specs.specs.Pack.{record_of};
 ghost use Rattle.ph_specs.specs.PutTree.{body_address};
-ghost use Rattle.ph_node.specs.OneEdit.{written_flat};
-ghost use Rattle.ph_node.specs.Pairs.{below_flat, in_order, pair_flats, flats_in_pair};
+ghost use Rattle.ph_node.specs.Pairs.{below_flat, in_order, pair_flats, flats_in_pair, written_flat};
 
-use crate::edited::Written;
 use crate::olds::OldEntry;
 use crate::{NoMemory, records};
 use ph_bits::{Entries, Packed, Words};
@@ -14,6 +12,13 @@ use ph_coord::Dims;
 use ph_digits::{body_address, body_below};
 use std::alloc::Global;
 use std::marker::PhantomData;
+
+/// An entry that is written, and its value where it is a point.
+#[derive(Clone, Copy)]
+pub(crate) struct Written {
+    entry: Packed,
+    value: u64,
+}
 
 /// Two entries.
 #[derive(Drop)]

@@ -197,8 +197,8 @@ fn least_of(dims: usize, level: u32, n: usize) -> u64
     )
 }
 
-// Whether the cube is smaller.
-fn wants_cube(dims: usize, level: u32, n: usize) -> bool
+/// Whether the cube is smaller.
+pub(crate) fn wants_cube(dims: usize, level: u32, n: usize) -> bool
     requires few { dims ≤ 16 }
     requires low { level ≤ 61 }
     requires entries { n ≤ 2 ^ dims }

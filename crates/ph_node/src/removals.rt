@@ -12,27 +12,15 @@ ghost use Rattle.ph_node.specs.Merge.{IsPair, entries_held, merge_node};
 ghost use Rattle.ph_node.specs.OneEdit.{IsOldEntry, node_at, nodes_held};
 ghost use Rattle.ph_node.specs.Slots.{nodes_of};
 
-use crate::edited::{Edit, Written};
 use crate::node::{NodeOf, SlotOf};
 use crate::olds::OldEntry;
 use crate::splits::insert_within;
 use crate::spots::Spot;
-use ph_bits::{Packed, Words};
+use ph_bits::{Edit, Packed, Words};
 use ph_coord::Dims;
 use ph_digits::join;
 use ph_steps::Steps;
 use std::sync::ledger::Ledger;
-
-// What an edit has that writes no entry.
-const NOTHING: Written = Written {
-    entry: Packed {
-        addr: 0,
-        child: false,
-        body: [0; 16],
-        rank: 0,
-    },
-    value: 0,
-};
 
 impl<P: Dims> NodeOf<P> {
     /// Lets a point entry go. Another entry is left. The record is written into words that the caller hands in, which have
@@ -45,11 +33,18 @@ impl<P: Dims> NodeOf<P> {
         ensures node { self.new ≡ node_of self.old.level (without (entries self.old) spot.place) }
         ensures cost { changes.new ≡ changes.old + 1 }
     {
+        let gone = Packed {
+            addr: spot.addr,
+            child: false,
+            body: [0; 16],
+            rank: 0,
+        };
         let edit = Edit {
             place: spot.place,
             less: 1,
             more: 0,
-            new: NOTHING,
+            entry: gone,
+            value: 0,
         };
         let mut words = spare;
         self.write_edited(edit, &mut words);
@@ -89,10 +84,8 @@ impl<P: Dims> NodeOf<P> {
             place: spot.place,
             less: 1,
             more: 1,
-            new: Written {
-                entry,
-                value: other.value,
-            },
+            entry,
+            value: other.value,
         };
         let mut block = spare;
         self.write_edited(edit, &mut block);

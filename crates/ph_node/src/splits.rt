@@ -10,11 +10,10 @@ ghost use Rattle.ph_node.specs.Split.{IsBelow, body_at, split_node};
 ghost use Rattle.ph_node.specs.Spots.{IsSpot};
 
 use crate::NoMemory;
-use crate::edited::{Edit, Written};
 use crate::node::{NodeOf, SlotOf};
 use crate::pairs::pair_below;
 use crate::spots::Spot;
-use ph_bits::Packed;
+use ph_bits::{Edit, Packed};
 use ph_coord::Dims;
 use ph_digits::body_above;
 use ph_steps::Steps;
@@ -58,7 +57,8 @@ impl<P: Dims> NodeOf<P> {
             place: spot.place,
             less: 1,
             more: 1,
-            new: Written { entry, value: 0 },
+            entry,
+            value: 0,
         };
         let words = self.edited(edit, self.children.len() + 1 - old.child as usize)?;
         let mut children = room_for(&mut self.children, old.child, alloc)?;

@@ -35,4 +35,4 @@ returns-else-width-self-clause-number c =
     let v = c.args.v in
     ap (λ t. t * 2 ^ (64 - (64 - (w - p.room))) + bit_and v (1 * 2 ^ (w - p.room) % 2 ^ 64 - 1))
     (ap number_in c.push.ensures.words ∙ number-push ws (p.kept * 2 ^ p.room % 2 ^ 64 + v / 2 ^ (w - p.room)))
-    ∙ number_full (number_in ws) p.kept p.room w v c.requires.pen.kept c.requires.pen.most c.requires.pen.some c.if-width-self.false c.requires.width
+    ∙ number_full (number_in ws) p.kept p.room w v c.requires.pen.kept c.requires.pen.most c.requires.pen.some c.if-width-self.false (omega (arith, c.requires.width))

@@ -1,5 +1,7 @@
-use Rattle.std.proofs.Common.{arith, take}
+use Rattle.std.proofs.Common.{◌≡◌, ◌+◌, ◌∙◌, arith, take}
+use Rattle.ph_specs.proofs.laws.EntryEdits.{absent-by}
 use Rattle.ph_node.proofs.Additions.{added, place_within}
+use Rattle.ph_node.proofs.Addressed.{place_absent}
 use Rattle.ph_node.proofs.Listings.{length-nodes}
 use Rattle.ph_node.proofs.Lists.{rise_new, points_new, kept_new, seen_new}
 use Rattle.ph_node.proofs.OldNodes.{old}
@@ -13,6 +15,9 @@ edited-requires-clause-edit g c =
       within = omega (arith, place_within c.args.addr (take g.P.Dims.D c.args.body) c.args.v _ _ _ _ o c.args.i c.requires.absent c.requires.place c.requires.address c.requires.body.fields);
       few = omega arith;
       some = o.kept.some;
+      address = c.requires.address;
+      front = c.requires.place;
+      behind = (let z : c.args.i + 0 ≡ c.args.i = omega arith in z) ∙ c.requires.place ∙ place_absent c.args.addr _ (absent-by c.args.addr _ c.requires.absent);
       rise = rise_new _ _ _ _ _ r;
     }
 

@@ -1,4 +1,5 @@
-use Rattle.std.proofs.Common.{arith}
+use Rattle.std.proofs.Common.{arith, sym}
+use Rattle.ph_node.proofs.Addressed.{address_low, front_at, behind_at}
 use Rattle.ph_node.proofs.Lists.{rise_new, kept_new, seen_new}
 use Rattle.ph_node.proofs.OldNodes.{old}
 use Rattle.ph_node.proofs.Removed.{removed, room_removed, length_is}
@@ -11,6 +12,9 @@ write_edited-requires-clause-edit g c =
       within = omega (arith, c.requires.spot.within);
       few = omega arith;
       some = o.kept.some;
+      address = address_low _ _ _ _ o c.args.spot.place c.requires.spot.within _ (sym c.requires.spot.address);
+      front = front_at _ _ _ _ o c.args.spot.place c.requires.spot.within _ (sym c.requires.spot.address);
+      behind = behind_at _ _ _ _ o c.args.spot.place c.requires.spot.within _ (sym c.requires.spot.address);
       rise = rise_new _ _ _ _ _ (removed _ _ _ _ o c.args.spot.place _ c.requires.spot.within c.requires.point c.requires.many);
     }
 

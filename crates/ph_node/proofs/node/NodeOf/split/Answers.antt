@@ -8,6 +8,7 @@ use Rattle.ph_node.specs.OneEdit.{ones_of, before}
 use Rattle.ph_node.specs.Recorded.{IsRecorded}
 use Rattle.ph_node.specs.Slots.{nodes_of}
 use Rattle.ph_node.specs.Split.{body_at, split_node}
+use Rattle.ph_node.proofs.Addressed.{address_low, front_at, behind_at}
 use Rattle.ph_node.proofs.Contents.{count_changed}
 use Rattle.ph_node.proofs.Halves.{addresses_differ, child_new, parent_new, pair_entries, front_within, place_left, kids_are, put_is}
 use Rattle.ph_node.proofs.Listings.{length-nodes}
@@ -29,6 +30,9 @@ edited-requires-clause-edit g c =
       within = omega (arith, q.spot.within);
       few = omega arith;
       some = o.kept.some;
+      address = address_low _ _ _ _ o c.args.spot.place q.spot.within _ c.old_entry-old.ensures.addr;
+      front = front_at _ _ _ _ o c.args.spot.place q.spot.within _ c.old_entry-old.ensures.addr;
+      behind = behind_at _ _ _ _ o c.args.spot.place q.spot.within _ c.old_entry-old.ensures.addr;
       rise = rise_new _ _ _ _ _ (parent_new _ _ _ _ o c.args.spot.place c.old_entry-old.result c.old_entry-old.ensures q.spot.within c.args.level c.args.v c.args.body q.lower q.body q.differ q.place c.body_above.result c.body_above.ensures);
     }
 

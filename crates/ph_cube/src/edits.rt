@@ -1,0 +1,149 @@
+//! Writing a cube record that differs from an old one in what stands at one address.
+
+ghost use Rattle.std.specs.Prelude.{◌≡◌, ◌+◌, ◌*◌, ◌^◌, ◌<◌, ◌≤◌, ◌++◌, true, length, take, replicate, if◌then◌else◌};
+ghost use Rattle.ph_specs.specs.Digits.{number_after, words_for};
+ghost use Rattle.ph_specs.specs.Layout.{IsRecord, AreRising, entries_as, values_as};
+ghost use Rattle.ph_specs.specs.NodeSize.{points_in};
+ghost use Rattle.ph_specs.specs.Pack.{values, cube_digits, cube_table, record_in};
+ghost use Rattle.ph_specs.specs.Record.{first_in};
+ghost use Rattle.ph_bits.specs.Block.{room_of, IsSamePlaces};
+ghost use Rattle.ph_bits.specs.Edits.{edited_as};
+ghost use Rattle.ph_bits.specs.Written.{IsPen, digits_by, number_by};
+ghost use Rattle.ph_cube.specs.Edited.{IsEditAt, entries_below};
+
+use crate::parts::children_before;
+use ph_bits::{Edit, Packed, Pen, Words};
+use ph_linear::{Column, children_in, count_in, first_of, level_in, put_edited_values};
+
+/// Writes the record of the entries of an old record with one edit into the room of a block, whatever the block held before.
+/// The edit is of what stands at an address.
+///
+/// The kinds and the bodies of the other addresses, and the values in front of the edit and behind it, are copied. It takes no memory.
+pub fn write_edited(words: &mut Words, dims: usize, old: &[u64], edit: &Edit, addr: u32)
+    requires record { IsRecord true dims old.now }
+    requires edit { IsEditAt dims old.now edit.now addr }
+    requires entries { AreRising dims (first_in old.now).level 0 (edited_as true dims old.now edit.now) }
+    requires room { 1 + words_for (cube_digits dims (first_in old.now).level) + length (values (edited_as true dims old.now edit.now)) ≤ room_of words.old }
+    ensures words { words.new.words ≡ record_in true dims (first_in old.now).level (edited_as true dims old.now edit.now) }
+    ensures places { IsSamePlaces words.old words.new }
+{
+    words.reset(0);
+    words.push(0);
+    let mut pen = Pen::new();
+    edit_columns(&mut pen, words, dims, old, edit, addr);
+    pen.finish(words);
+    let begun = words.len();
+    edit_values(words, dims, old, edit, addr);
+    let points = words.len() - begun;
+    let count = count_in(old) as usize - edit.less + edit.more;
+    let first = first_of(level_in(old), 1, count, (count - points) as u64);
+    words.set(0, first);
+}
+
+// The columns.
+fn edit_columns(pen: &mut Pen, words: &mut Words, dims: usize, old: &[u64], edit: &Edit, addr: u32)
+    requires pen { IsPen pen.old }
+    requires record { IsRecord true dims old.now }
+    requires edit { IsEditAt dims old.now edit.now addr }
+    requires entries { AreRising dims (first_in old.now).level 0 (edited_as true dims old.now edit.now) }
+    requires inside { digits_by words.old.words pen.old + cube_digits dims (first_in old.now).level ≤ 64 * room_of words.old }
+    ensures pen { IsPen pen.new }
+    ensures digits { digits_by words.new.words pen.new ≡ digits_by words.old.words pen.old + cube_digits dims (first_in old.now).level }
+    ensures number { number_by words.new.words pen.new ≡ number_after (number_by words.old.words pen.old) (cube_table dims (first_in old.now).level (edited_as true dims old.now edit.now)) }
+    ensures places { IsSamePlaces words.old words.new }
+{
+    let count = addresses(dims);
+    let level = level_in(old);
+    let kinds = Column {
+        at: 64,
+        width: 2,
+        count,
+    };
+    let bodies = Column {
+        at: 64 + count * 2,
+        width: dims as u64 * level as u64,
+        count,
+    };
+    let there = at_address(edit, addr);
+    kinds.edit_fields(pen, words, old, &there, new_kind(edit));
+    bodies.edit_rows(pen, words, old, &there, level, dims);
+}
+
+// How many addresses there are.
+fn addresses(dims: usize) -> u64
+    requires { dims ≤ 16 }
+    ensures { result ≡ 2 ^ dims }
+{
+    1 << dims
+}
+
+// The edit as one of columns, which have a body for each address.
+fn at_address(edit: &Edit, addr: u32) -> Edit
+    ensures place { result.place ≡ addr }
+    ensures less { result.less ≡ 1 }
+    ensures more { result.more ≡ 1 }
+    ensures some { 0 < edit.now.more → result.entry.body ≡ edit.now.entry.body }
+    ensures none { edit.now.more ≡ 0 → result.entry.body ≡ replicate 16 0 }
+{
+    let body = if edit.more > 0 {
+        edit.entry.body
+    } else {
+        [0; 16]
+    };
+    Edit {
+        place: addr as usize,
+        less: 1,
+        more: 1,
+        entry: Packed {
+            addr,
+            child: false,
+            body,
+            rank: 0,
+        },
+        value: 0,
+    }
+}
+
+// The kind that stands at the address then.
+fn new_kind(edit: &Edit) -> u64
+    ensures some { 0 < edit.now.more → result ≡ 1 + (if edit.now.entry.child then 1 else 0) }
+    ensures none { edit.now.more ≡ 0 → result ≡ 0 }
+    ensures limit { result ≤ 2 }
+{
+    if edit.more == 0 {
+        return 0;
+    }
+    if edit.entry.child { 2 } else { 1 }
+}
+
+// The values.
+fn edit_values(words: &mut Words, dims: usize, old: &[u64], edit: &Edit, addr: u32)
+    requires record { IsRecord true dims old.now }
+    requires edit { IsEditAt dims old.now edit.now addr }
+    requires room { length words.old.words + length (values (edited_as true dims old.now edit.now)) ≤ room_of words.old }
+    ensures words { words.new.words ≡ words.old.words ++ values (edited_as true dims old.now edit.now) }
+    ensures places { IsSamePlaces words.old words.new }
+{
+    let front = points_before(old, dims, edit.place, addr as u64);
+    let behind = points_before(old, dims, edit.place + edit.less, addr as u64 + 1);
+    put_edited_values(words, dims, values_of(old, dims), front, behind, edit);
+}
+
+// The values of a record.
+fn values_of(old: &[u64], dims: usize) -> &[u64]
+    requires { IsRecord true dims old.now }
+    ensures { result.now ≡ values_as true dims old.now }
+{
+    let points = (count_in(old) - children_in(old)) as usize;
+    &old[old.len() - points..]
+}
+
+// How many of the first `i` entries, which are those in front of an address, are points.
+fn points_before(old: &[u64], dims: usize, i: usize, addr: u64) -> usize
+    requires record { IsRecord true dims old.now }
+    requires limit { addr ≤ 2 ^ dims }
+    requires place { i ≡ entries_below dims old.now addr }
+    ensures { result ≡ points_in (take i (entries_as true dims old.now)) }
+{
+    i - children_before(old, addr) as usize
+}

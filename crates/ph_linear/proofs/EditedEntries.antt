@@ -1,0 +1,69 @@
+-- The entries of a record with one edit: how many they are, and their values.
+use Rattle.std.proofs.Common.{◌≡◌, ℕ, ◌+◌, ◌-◌, ◌^◌, ◌≤◌, ◌<◌, ◌∙◌, ap, arith, List, ◌++◌, length, take, drop, replicate, Bool}
+use Rattle.std.specs.List.{AllByRecursion as Each}
+use Rattle.std.proofs.lemmas.List.{length-append, length-drop, length-replicate, length-take-le}
+use Rattle.ph_specs.specs.Layout.{IsRecord, entries_as, values_as}
+use Rattle.ph_specs.specs.Node.{Flat}
+use Rattle.ph_specs.specs.NodeSize.{points_in}
+use Rattle.ph_specs.specs.Pack.{values}
+use Rattle.ph_specs.specs.Record.{first_in}
+use Rattle.ph_bits.specs.Edits.{edited_as, flats, new_flat, count_edited}
+use Rattle.ph_bits.specs.declared.edits.Edit.{Edit}
+use Rattle.ph_linear.proofs.EditedLists.{edited-parts, values-append, values-front, values-back, points-low}
+use Rattle.ph_linear.proofs.OldTables.{IsTable, table-of}
+
+module _ (cube : Bool) (dims : ℕ) (words : List ℕ) (e : Edit) (r : IsRecord cube dims words) (h : Each (λ x. x < 2 ^ 64) words) (l : e.place + e.less ≤ (first_in words).entries) where
+  abbrev n : ℕ
+  n = (first_in words).entries
+
+  abbrev es : List Flat
+  es = flats (entries_as cube dims words) (values_as cube dims words)
+
+  abbrev front : List Flat
+  front = take e.place (flats (entries_as cube dims words) (values_as cube dims words))
+
+  abbrev gone : List Flat
+  gone = take e.less (drop e.place (flats (entries_as cube dims words) (values_as cube dims words)))
+
+  abbrev back : List Flat
+  back = drop (e.place + e.less) (flats (entries_as cube dims words) (values_as cube dims words))
+
+  abbrev new : List Flat
+  new = replicate e.more (new_flat dims e.entry e.value)
+
+  pub table-old : IsTable cube dims words (flats (entries_as cube dims words) (values_as cube dims words))
+  table-old = table-of cube dims words r h
+
+  pub place-low : e.place ≤ length (flats (entries_as cube dims words) (values_as cube dims words))
+  place-low = omega (arith, l, table-old.many)
+
+  pub parts-new : edited_as cube dims words e ≡ take e.place (flats (entries_as cube dims words) (values_as cube dims words)) ++ (replicate e.more (new_flat dims e.entry e.value) ++ drop (e.place + e.less) (flats (entries_as cube dims words) (values_as cube dims words)))
+  parts-new = edited-parts e.place e.less e.more (new_flat dims e.entry e.value) es place-low
+
+  pub long-front : length front ≡ e.place
+  long-front = length-take-le e.place es place-low
+
+  pub long-gone : length gone ≡ e.less
+  long-gone = length-take-le e.less (drop e.place es) (omega (arith, l, table-old.many, length-drop e.place es))
+
+  pub long-back : length back ≡ n - (e.place + e.less)
+  long-back = length-drop (e.place + e.less) es ∙ ap (λ t. t - (e.place + e.less)) table-old.many
+
+  pub length-new : length (edited_as cube dims words e) ≡ count_edited (first_in words).entries e
+  length-new =
+      ap length parts-new ∙ length-append front (new ++ back) ∙ ap (λ t. length front + t) (length-append new back)
+      ∙ sum (length front) (length new) (length back) e.place e.more (n - (e.place + e.less)) long-front (length-replicate e.more (new_flat dims e.entry e.value)) long-back
+    where
+      sum : (a b c p m k : ℕ) → a ≡ p → b ≡ m → c ≡ k → a + (b + c) ≡ p + m + k
+      sum a b c p m k x y z = omega (arith, x, y, z)
+
+  -- ---- the values
+
+  pub values-edited : values (edited_as cube dims words e) ≡ take (points_in (take e.place (entries_as cube dims words))) (values_as cube dims words) ++ (values (replicate e.more (new_flat dims e.entry e.value)) ++ drop (points_in (take (e.place + e.less) (entries_as cube dims words))) (values_as cube dims words))
+  values-edited =
+      ap values parts-new ∙ values-append front (new ++ back) ∙ ap (λ t. values front ++ t) (values-append new back)
+      ∙ ap (λ t. t ++ (values new ++ values back)) (values-front (entries_as cube dims words) (values_as cube dims words) e.place table-old.points)
+      ∙ ap (λ t. take (points_in (take e.place (entries_as cube dims words))) (values_as cube dims words) ++ (values new ++ t)) (values-back (entries_as cube dims words) (values_as cube dims words) (e.place + e.less) table-old.points)
+
+  pub points-within : (i : ℕ) → points_in (take i (entries_as cube dims words)) ≤ length (values_as cube dims words)
+  points-within i = omega (arith, points-low (entries_as cube dims words) i, table-old.points)

@@ -1,0 +1,70 @@
+//! The record of an old record with one edit.
+
+ghost use Rattle.std.specs.Prelude.{◌≡◌, ◌≤◌, length, true};
+ghost use Rattle.ph_specs.specs.Pack.{is_cube};
+ghost use Rattle.ph_specs.specs.Record.{first_in, has_cube};
+ghost use Rattle.ph_bits.specs.Block.{room_of, IsSamePlaces};
+ghost use Rattle.ph_node.specs.RecordEdit.{IsRecordEdit, with_edit, words_with, record_with};
+
+use crate::edited::EditedOf;
+use crate::records;
+use ph_bits::{Edit, Words};
+use ph_coord::Dims;
+use ph_cube::by_dims as cube;
+use ph_linear::{by_dims as linear, level_in};
+use std::marker::PhantomData;
+
+/// Writes the record of the entries of an old record with one edit, in the smaller layout, into the room of a block, whatever
+/// the block held before. It takes no memory.
+pub(crate) fn write_edited<P: Dims>(words: &mut Words, old: &[u64], edit: &Edit)
+    requires edit { IsRecordEdit P.D old.now edit.now }
+    requires room { words_with P.D old.now edit.now ≤ room_of words.old }
+    ensures words { words.new.words ≡ record_with P.D old.now edit.now }
+    ensures places { IsSamePlaces words.old words.new }
+{
+    let dims = P::D;
+    if keeps_layout(old, dims, edit) {
+        copy_around(words, dims, old, edit);
+    } else {
+        lay_out::<P>(words, old, edit);
+    }
+}
+
+// Whether the record with the edit has the layout of the old one.
+fn keeps_layout(old: &[u64], dims: usize, edit: &Edit) -> bool
+    requires edit { IsRecordEdit dims old.now edit.now }
+    ensures { result ≡ true → is_cube dims (first_in old.now).level (length (with_edit dims old.now edit.now)) ≡ has_cube dims (first_in old.now) }
+{
+    let n = records::count(old) - edit.less + edit.more;
+    records::wants_cube(dims, level_in(old), n) == records::has_cube(old, dims)
+}
+
+// Writes the record in the layout of the old one: what stands around the edit is copied.
+fn copy_around(words: &mut Words, dims: usize, old: &[u64], edit: &Edit)
+    requires edit { IsRecordEdit dims old.now edit.now }
+    requires layout { is_cube dims (first_in old.now).level (length (with_edit dims old.now edit.now)) ≡ has_cube dims (first_in old.now) }
+    requires room { words_with dims old.now edit.now ≤ room_of words.old }
+    ensures words { words.new.words ≡ record_with dims old.now edit.now }
+    ensures places { IsSamePlaces words.old words.new }
+{
+    if records::has_cube(old, dims) {
+        cube::write_edited(words, dims, old, edit, edit.entry.addr);
+    } else {
+        linear::write_edited(words, dims, old, edit);
+    }
+}
+
+// Writes the record in the other layout, entry by entry.
+fn lay_out<P: Dims>(words: &mut Words, old: &[u64], edit: &Edit)
+    requires edit { IsRecordEdit P.D old.now edit.now }
+    requires room { words_with P.D old.now edit.now ≤ room_of words.old }
+    ensures words { words.new.words ≡ record_with P.D old.now edit.now }
+    ensures places { IsSamePlaces words.old words.new }
+{
+    let from: EditedOf<'_, P> = EditedOf {
+        old,
+        edit: *edit,
+        dims: PhantomData,
+    };
+    records::write::<P, EditedOf<'_, P>>(words, level_in(old), &from);
+}
