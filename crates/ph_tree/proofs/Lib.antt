@@ -8,7 +8,7 @@ mod PutWords
 mod RecordWords
 mod Rooms
 mod Shifted
-mod Sizes
+pub mod Sizes
 mod Steps
 mod Trees
 mod Walks

@@ -1,8 +1,9 @@
 //! The tree: a table in nodes.
 
-ghost use Rattle.std.specs.Prelude.{◌≡◌, ◌≢◌, ◌+◌, ◌*◌, ◌<◌, ◌≤◌, ◌↔◌, [], length, None, IfOk, OnOk, OnErr, IsErrOf, IsSome, IsOk, IsTrue};
+ghost use Rattle.std.specs.Prelude.{◌≡◌, ◌≢◌, ◌+◌, ◌-◌, ◌*◌, ◌^◌, ◌<◌, ◌≤◌, ◌↔◌, [], length, None, IfOk, OnOk, OnErr, IsErrOf, IsSome, IsOk, IsTrue, false};
 ghost use Rattle.std.specs.Option.{option_copied};
 ghost use Rattle.ph_specs.specs.Coordinate.{IsPoint};
+ghost use Rattle.ph_specs.specs.Lawful.{IsLawful, rows};
 ghost use Rattle.ph_specs.specs.Table.{IsTable, find};
 ghost use Rattle.ph_specs.specs.Shape.{shape};
 ghost use Rattle.ph_specs.specs.WorkSets.{all_nodes, path};
@@ -25,6 +26,9 @@ use ph_table::Put;
 use std::alloc::Global;
 use std::marker::Model;
 use std::sync::ledger::Ledger;
+
+#[cfg(test)]
+mod tests;
 
 /// A table of at most `max` rows, at points of D dimensions and of one width.
 ///
@@ -70,6 +74,27 @@ impl<const D: usize> PhTree<D> {
         }
     }
 
+    /// The tree of a root, for at most 2^64 - 1 rows. Takes no memory.
+    pub fn adopt(alloc: Global, w: Width, root: Option<Node<D>>, len: u64) -> PhTree<D>
+        requires some { 1 ≤ D }
+        requires few { D ≤ 16 }
+        requires lawful { IsLawful w D root }
+        requires counted { len ≡ length (rows w D root) }
+        ensures table { result.table ≡ rows w D root.entry }
+        ensures width { result.width ≡ w }
+        ensures max { result.max ≡ 2 ^ 64 - 1 }
+    {
+        // A use that makes the range of the width known.
+        let _bits = w.bits();
+        PhTree {
+            alloc,
+            root,
+            width: w,
+            max: u64::MAX,
+            len,
+        }
+    }
+
     /// The number of rows.
     pub fn len(&self) -> u64
         ensures value { result ≡ length self.now.table }
@@ -83,6 +108,19 @@ impl<const D: usize> PhTree<D> {
         ensures { result ≡ self.now.max }
     {
         self.max
+    }
+
+    /// Lets it have at most `max` rows, and tells whether it does: not where it has more.
+    pub fn set_max(&mut self, max: u64) -> bool
+        ensures fits { IsTrue result ↔ (length self.old.table ≤ max) }
+        ensures set { IsTrue result → self.new ≡ record self.old { max = max } }
+        ensures stays { result ≡ false → self.new ≡ self.old }
+    {
+        let fits = self.len <= max;
+        if fits {
+            self.max = max;
+        }
+        fits
     }
 
     /// The width of the coordinates.
