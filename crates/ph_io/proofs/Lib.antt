@@ -1,2 +1,5 @@
 mod Copies
 pub mod Rises
+mod Places
+mod Inserts
+pub mod Appending

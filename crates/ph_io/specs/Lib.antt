@@ -4,5 +4,10 @@ pub mod Counted
 pub mod Counts
 pub mod Feed
 pub mod Giving
+pub mod Opened
 pub mod Pieces
+pub mod Shelf
+pub mod Shelved
 pub mod Store
+pub mod Storing
+pub mod Writing

@@ -87,6 +87,10 @@ impl Sink for MemorySink {
 
     ghost faults = { λ s. s.faults };
 
+    ghost follows_itself = { λ _. tt };
+
+    ghost follows_on = { λ _ _ _ _ _. tt };
+
     /// A failure counts as a write and as a fault, and changes nothing else. Both counts stand
     /// still at 2^64 - 1.
     fn write(&mut self, piece: &[u8]) -> Result<usize, Failed>

@@ -38,11 +38,21 @@ pub trait Sink {
     /// How often a write has failed. A count that stands at 2^64 - 1 may stay there.
     ghost faults: { Self → ℕ };
 
+    /// What stays, and what may change, from a state of the sink to a later one.
+    ghost follows: { Self → Self → Type 0 } = { λ _ _. Unit {0} };
+
     /// Gives some of the bytes of a piece, at least one where there is one. A failure gives none.
     fn write(&mut self, piece: &[u8]) -> Result<usize, Failed>
         ensures bound { WritesAtMost result piece.now }
         ensures some { IfOk result (λ n. 0 < length piece.now → 0 < n) }
         ensures bytes { WriteAppends (written self.old) (written self.new) result piece.now }
         ensures amount { WriteAdds (amount self.old) (amount self.new) result }
-        ensures cause { HasCause (faults self.old) (faults self.new) result };
+        ensures cause { HasCause (faults self.old) (faults self.new) result }
+        ensures follows { follows self.old self.new };
+
+    /// A state follows itself.
+    ghost follows_itself: { (s : Self) → follows s s };
+
+    /// What follows a later state follows the earlier one.
+    ghost follows_on: { (r s t : Self) → follows r s → follows s t → follows r t };
 }

@@ -1,0 +1,331 @@
+//! The trusted edge: the files of a file system.
+ghost use Rattle.std.specs.Prelude.{◌≡◌, ◌≤◌, true, false, None, Err, length, OnOk, OnErr};
+ghost use Rattle.ph_io.specs.Counts.{next_count};
+ghost use Rattle.ph_io.specs.Causes.{Rose};
+ghost use Rattle.ph_io.specs.Shelf.{Map, Draft, Stays, Begins, Grows, Gains, FetchCounts, Counts};
+
+use crate::files::{FetchFault, Files};
+use crate::streams::Failed;
+use arrayvec::ArrayString;
+use std::io::{Read, Write};
+use std::marker::Model;
+use std::{fs, rt};
+
+const PIECE_BYTES: usize = 4096;
+
+/// The files of a runtime, by their paths. Each error of the runtime is a fault.
+///
+/// A file that is begun is written under its name with `.part` added. It is renamed when it is
+/// finished, so that a file of its name stays whole until then. Where it is dropped, its `.part` file
+/// is taken away again if the runtime lets it; whether it did is not told. So a user should know:
+///
+/// - What is not there cannot be told from what cannot be opened, and `Absent` is never answered.
+/// - To save `x` writes over a file `x.part`.
+/// - Where a path may have names of at most 255 bytes, one of more than 250 can be fetched and not
+///   saved.
+/// - A name is a path, and leads wherever the program may read and write, also out of its folder.
+/// - A file that is begun when the program ends leaves its `.part` file.
+///
+/// What the files hold is never known. That a file has the bytes that were appended, and that a
+/// rename puts it in the place of the former one as a whole, is trusted of std and of the operating
+/// system. Nothing is said of a crash.
+#[derive(Drop)]
+pub struct DirFiles<'r, R: rt::Files> {
+    rt: &'r R,
+    file: Option<R::File>,
+    name: ArrayString<255>,
+    faults: u64,
+}
+
+impl<'r, R: rt::Files> Model for DirFiles<'r, R> {
+    ghost use Rattle.std.specs.Prelude.{is_some};
+    ghost use Rattle.ph_io.specs.Opened.{Opened};
+
+    ghost Value = { Opened };
+
+    ghost view = { λ s. record { is_begun = is_some s.file; faults = s.faults } };
+}
+
+impl<'r, R: rt::Files> DirFiles<'r, R> {
+    /// The files of this runtime, with no fault so far. It takes no memory.
+    pub fn new(rt: &'r R) -> DirFiles<'r, R>
+        ensures { result ≡ record { is_begun = false; faults = 0 } }
+    {
+        DirFiles {
+            rt,
+            file: None,
+            name: ArrayString::new(),
+            faults: 0,
+        }
+    }
+
+    /// Counts a fault.
+    fn fault(&mut self) -> Failed
+        ensures is_begun { self.new.is_begun ≡ self.old.is_begun }
+        ensures count { self.new.faults ≡ next_count self.old.faults }
+        ensures later { self.old.faults ≤ self.new.faults }
+        ensures rose { Rose self.old.faults self.new.faults }
+    {
+        self.faults = self.faults.saturating_add(1);
+        Failed
+    }
+
+    /// Takes the `.part` file of the draft away, where the runtime lets it.
+    fn remove_part(&self) {
+        let _removed = fs::remove_file(self.rt, part_of(self.name.as_str()).as_str());
+    }
+
+    /// Drops what is begun.
+    fn drop_draft(&mut self)
+        ensures is_begun { self.new.is_begun ≡ false }
+        ensures faults { self.new.faults ≡ self.old.faults }
+    {
+        if self.file.is_some() {
+            self.file = None;
+            self.remove_part();
+        }
+    }
+}
+
+/// A name with `.part` added.
+fn part_of(name: &str) -> ArrayString<260>
+    requires { length name.now ≤ 255 }
+{
+    let mut path = ArrayString::new();
+    path.push_str(name);
+    path.push_str(".part");
+    path
+}
+
+/// Makes `into` the bytes of an open file, which may be `most`.
+fn read_file<F: Read>(file: &mut F, most: u64, into: &mut Vec<u8>) -> Result<(), FetchFault>
+    ensures { OnOk result (length into.new.items ≤ most) }
+{
+    into.clear();
+    let mut piece = [0u8; PIECE_BYTES];
+    'pieces: loop {
+        let Ok(count) = file.read(&mut piece) else {
+            return Err(FetchFault::Failed);
+        };
+        if count == 0 {
+            return Ok(());
+        }
+        if most - (into.len() as u64) < count as u64 {
+            return Err(FetchFault::Over);
+        }
+        if into.extend_from_slice(&piece[..count]).is_err() {
+            return Err(FetchFault::NoMemory);
+        }
+    }
+}
+
+impl<'r, R: rt::Files> Files for DirFiles<'r, R> {
+    ghost files = { λ _. None };
+
+    ghost draft = { λ _. None };
+
+    ghost is_begun = { λ s. s.is_begun };
+
+    ghost faults = { λ s. s.faults };
+
+    ghost draft_known = { λ _ known. known };
+
+    fn fetch(&mut self, name: &str, most: u64, into: &mut Vec<u8>) -> Result<(), FetchFault>
+        requires { length name.now ≤ 255 }
+        ensures within { OnOk result (length into.new.items ≤ most) }
+        ensures counts { FetchCounts self.old.faults self.new.faults result }
+        ensures is_begun { self.new.is_begun ≡ self.old.is_begun }
+    {
+        let fetched = match fs::open(self.rt, name) {
+            Ok(mut file) => read_file(&mut file, most, into),
+            Err(_) => Err(FetchFault::Failed),
+        };
+        if fetched == Err(FetchFault::Failed) {
+            self.fault();
+        }
+        fetched
+    }
+
+    fn begin(&mut self, name: &str) -> Result<(), Failed>
+        requires { length name.now ≤ 255 }
+        ensures ok { OnOk result (Begins None None name.now) }
+        ensures begun { OnOk result (self.new.is_begun ≡ true) }
+        ensures err { OnErr result (Stays {X = Draft} None None) }
+        ensures none { OnErr result (self.new.is_begun ≡ false) }
+        ensures counts { Counts self.old.faults self.new.faults result }
+    {
+        self.drop_draft();
+        self.name.clear();
+        self.name.push_str(name);
+        match fs::create(self.rt, part_of(name).as_str()) {
+            Ok(file) => {
+                self.file = Some(file);
+                Ok(())
+            }
+            Err(_) => Err(self.fault()),
+        }
+    }
+
+    fn append(&mut self, piece: &[u8]) -> Result<(), Failed>
+        requires { self.old.is_begun ≡ true }
+        ensures ok { OnOk result (Grows None None piece.now) }
+        ensures begun { OnOk result (self.new.is_begun ≡ true) }
+        ensures err { OnErr result (Stays {X = Draft} None None) }
+        ensures none { OnErr result (self.new.is_begun ≡ false) }
+        ensures counts { Counts self.old.faults self.new.faults result }
+    {
+        if let Some(file) = &mut self.file {
+            if file.write_all(piece).is_ok() {
+                return Ok(());
+            }
+        }
+        self.drop_draft();
+        Err(self.fault())
+    }
+
+    fn finish(&mut self) -> Result<(), Failed>
+        requires { self.old.is_begun ≡ true }
+        ensures ok { OnOk result (Gains None None None) }
+        ensures err { OnErr result (Stays {X = Map} None None) }
+        ensures none { self.new.is_begun ≡ false }
+        ensures counts { Counts self.old.faults self.new.faults result }
+    {
+        self.file = None;
+        let name = self.name.as_str();
+        if fs::rename(self.rt, part_of(name).as_str(), name).is_ok() {
+            return Ok(());
+        }
+        self.remove_part();
+        Err(self.fault())
+    }
+}
+
+#[cfg(test)]
+mod tests {
+    use super::*;
+    use std::os::unix::fs::symlink;
+    use std::test::Fail;
+
+    fn fetch_from<F: Files>(
+        files: &mut F,
+        name: &str,
+        most: u64,
+        into: &mut Vec<u8>,
+    ) -> Result<(), FetchFault> {
+        if name.len() > 255 {
+            return Err(FetchFault::NoMemory);
+        }
+        files.fetch(name, most, into)
+    }
+
+    fn begin_in<F: Files>(files: &mut F, name: &str) -> Result<(), Failed> {
+        if name.len() > 255 {
+            return Ok(());
+        }
+        files.begin(name)
+    }
+
+    // Saves a piece twice.
+    fn save_to<F: Files>(files: &mut F, name: &str, piece: &[u8]) -> Result<(), Failed> {
+        if name.len() > 255 {
+            return Ok(());
+        }
+        files.begin(name)?;
+        files.append(piece)?;
+        files.append(piece)?;
+        files.finish()
+    }
+
+    #[test]
+    fn saves_and_fetches(rt: HostRuntime) -> Result<(), Fail> {
+        let mut files = DirFiles::new(&rt);
+        let mut into = Vec::new(rt.alloc());
+        let absent = fetch_from(&mut files, "e.pht", 9, &mut into);
+        assert_eq!(rt; absent, Err(FetchFault::Failed));
+        assert_eq!(rt; files.faults, 1);
+        assert_eq!(rt; save_to(&mut files, "e.pht", b"PHT1"), Ok(()));
+        assert_eq!(rt; fs::exists(&rt, "e.pht.part")?, false);
+        for (most, answer) in [(9, Ok(())), (7, Err(FetchFault::Over)), (8, Ok(()))] {
+            assert_eq!(rt; fetch_from(&mut files, "e.pht", most, &mut into), answer);
+        }
+        assert_eq!(rt; into.as_slice(), b"PHT1PHT1".as_slice());
+        assert_eq!(rt; save_to(&mut files, "e.pht", b"ab"), Ok(()));
+        assert_eq!(rt; fetch_from(&mut files, "e.pht", 8, &mut into), Ok(()));
+        assert_eq!(rt; into.as_slice(), b"abab".as_slice());
+        assert_eq!(rt; files.faults, 1);
+        fs::remove_file(&rt, "e.pht")?;
+        Ok(())
+    }
+
+    #[test]
+    fn keeps_the_former_file_where_a_save_fails(rt: HostRuntime) -> Result<(), Fail> {
+        let mut files = DirFiles::new(&rt);
+        let mut into = Vec::new(rt.alloc());
+        fs::write(&rt, "former.pht", "old")?;
+        // What is written there meets a full disk.
+        symlink(&rt, "/dev/full", "former.pht.part")?;
+        assert_eq!(rt; save_to(&mut files, "former.pht", b"ab"), Err(Failed));
+        assert_eq!(rt; fs::exists(&rt, "former.pht.part")?, false);
+        // No file can be begun in place of a folder.
+        fs::create_dir(&rt, "former.pht.part")?;
+        assert_eq!(rt; save_to(&mut files, "former.pht", b"ab"), Err(Failed));
+        assert_eq!(rt; files.faults, 2);
+        assert_eq!(rt; fetch_from(&mut files, "former.pht", 3, &mut into), Ok(()));
+        assert_eq!(rt; into.as_slice(), b"old".as_slice());
+        fs::remove_dir(&rt, "former.pht.part")?;
+        fs::remove_file(&rt, "former.pht")?;
+        Ok(())
+    }
+
+    #[test]
+    fn fails_for_a_folder(rt: HostRuntime) -> Result<(), Fail> {
+        let mut files = DirFiles::new(&rt);
+        let mut into = Vec::new(rt.alloc());
+        fs::create_dir(&rt, "folder.pht")?;
+        fs::write(&rt, "folder.pht/inner", "old")?;
+        let folder = fetch_from(&mut files, "folder.pht", 9, &mut into);
+        assert_eq!(rt; folder, Err(FetchFault::Failed));
+        assert_eq!(rt; save_to(&mut files, "folder.pht", b"ab"), Err(Failed));
+        assert_eq!(rt; fs::exists(&rt, "folder.pht.part")?, false);
+        assert_eq!(rt; files.faults, 2);
+        assert_eq!(rt;
+            fetch_from(&mut files, "folder.pht/inner", 3, &mut into),
+            Ok(())
+        );
+        assert_eq!(rt; into.as_slice(), b"old".as_slice());
+        fs::remove_dir_all(&rt, "folder.pht")?;
+        Ok(())
+    }
+
+    #[test]
+    fn drops_a_file_that_is_begun(rt: HostRuntime) -> Result<(), Fail> {
+        let mut files = DirFiles::new(&rt);
+        assert_eq!(rt; begin_in(&mut files, "a"), Ok(()));
+        assert_eq!(rt; fs::exists(&rt, "a.part")?, true);
+        assert_eq!(rt; begin_in(&mut files, "b"), Ok(()));
+        assert_eq!(rt; fs::exists(&rt, "a.part")?, false);
+        assert_eq!(rt; begin_in(&mut files, "absent/c"), Err(Failed));
+        assert_eq!(rt; fs::exists(&rt, "b.part")?, false);
+        assert_eq!(rt; files.faults, 1);
+        Ok(())
+    }
+
+    #[test]
+    fn saves_names_of_at_most_250_bytes(rt: HostRuntime) -> Result<(), Fail> {
+        let mut files = DirFiles::new(&rt);
+        let mut into = Vec::new(rt.alloc());
+        let longest = "n".repeat(rt.alloc(), 250)?;
+        assert_eq!(rt; save_to(&mut files, longest.as_str(), b"ab"), Ok(()));
+        let longer = "n".repeat(rt.alloc(), 251)?;
+        assert_eq!(rt; save_to(&mut files, longer.as_str(), b"ab"), Err(Failed));
+        fs::write(&rt, longer.as_str(), "abc")?;
+        assert_eq!(rt;
+            fetch_from(&mut files, longer.as_str(), 9, &mut into),
+            Ok(())
+        );
+        assert_eq!(rt; into.as_slice(), b"abc".as_slice());
+        fs::remove_file(&rt, longest.as_str())?;
+        fs::remove_file(&rt, longer.as_str())?;
+        Ok(())
+    }
+}
