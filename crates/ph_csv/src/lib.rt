@@ -1,0 +1,16 @@
+//! Rows as records of comma-separated fields.
+#![tactic(auto)]
+
+mod fault;
+mod fields;
+mod line;
+mod records;
+mod row;
+mod rows;
+#[cfg(test)]
+mod tests;
+
+pub use fault::CsvFault;
+pub use line::write_row;
+pub use rows::read_rows;
+pub use std::alloc::AllocError as NoMemory;

@@ -1,0 +1,237 @@
+//! Texts whose rows and faults are known.
+ghost use Rattle.std.specs.Prelude.{◌≤◌};
+
+use crate::{CsvFault, read_rows, write_row};
+use ph_coord::{Kind, Point, Row, Width};
+use std::alloc::Global;
+use std::test::Fail;
+
+const FAR: &[u8] = b"340282366920938463463374607431768211456,1,2\n";
+
+fn read<const D: usize>(
+    alloc: Global,
+    text: &[u8],
+    kind: Kind,
+    header: bool,
+) -> Result<Vec<Row<D>>, CsvFault>
+    requires { D ≤ 16 }
+{
+    match Width::new(32) {
+        Some(w) => read_rows(alloc, text, w, kind, header),
+        None => Err(CsvFault::NoMemory),
+    }
+}
+
+fn row<const D: usize>(coords: [i64; D], value: u64) -> Row<D> {
+    Row {
+        point: Point::new(coords),
+        value,
+    }
+}
+
+// How many rows there are.
+fn count<const D: usize>(
+    alloc: Global,
+    text: &[u8],
+    kind: Kind,
+    header: bool,
+) -> Result<usize, CsvFault>
+    requires { D ≤ 16 }
+{
+    let rows: Vec<Row<D>> = read(alloc, text, kind, header)?;
+    Ok(rows.len())
+}
+
+// Each text has the rows of the plain one.
+#[test]
+fn texts_of_the_same_rows(rt: HostRuntime) -> Result<(), Fail> {
+    let plain = b"3,-4,17\n-2147483648,2147483647,18446744073709551615\n";
+    let rows: Vec<Row<2>> = read(rt.alloc(), plain, Kind::Points, false)?;
+    assert_eq!(rt; rows.len(), 2);
+    assert_eq!(rt; rows[0], row([3, -4], 17));
+    assert_eq!(rt; rows[1], row([-2147483648, 2147483647], u64::MAX));
+    let others: [&[u8]; 7] = [
+        // No line feed at the end.
+        b"3,-4,17\n-2147483648,2147483647,18446744073709551615",
+        b"3,-4,17\r\n-2147483648,2147483647,18446744073709551615\r\n",
+        // A carriage return alone ends a record too.
+        b"3,-4,17\r-2147483648,2147483647,18446744073709551615\r",
+        b"\"3\",-4,\"17\"\n-2147483648,\"2147483647\",18446744073709551615\n",
+        b"\n3,-4,17\n\n\r\n-2147483648,2147483647,18446744073709551615\n\n",
+        b"\xef\xbb\xbf3,-4,17\n-2147483648,2147483647,18446744073709551615\n",
+        b"+3,-04,0017\n-2147483648,+2147483647,018446744073709551615\n",
+    ];
+    for text in others {
+        let same: Vec<Row<2>> = read(rt.alloc(), text, Kind::Points, false)?;
+        assert_eq!(rt; same.as_slice(), rows.as_slice());
+    }
+    Ok(())
+}
+
+// A header is passed over whatever it has, and is a record with a number.
+#[test]
+fn headers(rt: HostRuntime) -> Result<(), Fail> {
+    let cases: [(&[u8], Result<usize, CsvFault>); 10] = [
+        (b"", Ok(0)),
+        (b"\n\r\n", Ok(0)),
+        (b"lat,lon,id", Ok(0)),
+        (b"1,2,3\n", Ok(0)),
+        (b"lat,lon,id\n4737,854,1\n5151,-13,2\n", Ok(2)),
+        (b"one field\n4737,854,1\n", Ok(1)),
+        (b"\xff\xfe\n4737,854,1\n", Ok(1)),
+        // The header has a line feed in quotes.
+        (b"\"lat\n\",lon,id\n4737,854,1\n", Ok(1)),
+        (b"\nlat,lon,id\n4737,854\n", Err(CsvFault::Fields(2))),
+        (b"lat,lon,id\n1,1,1\n\nx,1,1\n", Err(CsvFault::Number(3))),
+    ];
+    for (text, answer) in cases {
+        let answered = count::<2>(rt.alloc(), text, Kind::Points, true);
+        assert_eq!(rt; answered, answer);
+    }
+    Ok(())
+}
+
+#[test]
+fn faults_of_points(rt: HostRuntime) -> Result<(), Fail> {
+    let cases: [(&[u8], CsvFault); 22] = [
+        (b"1,2\n", CsvFault::Fields(1)),
+        (b"1,2,3,4\n", CsvFault::Fields(1)),
+        (b"1,2,3\n1,2,3,\n", CsvFault::Fields(2)),
+        (b"\"\"\n", CsvFault::Fields(1)),
+        (b"1,2,3\n\n\n1;2;3\n", CsvFault::Fields(2)),
+        (b"x,2,3\n", CsvFault::Number(1)),
+        (b"lat,lon,id\n4737,854,1\n", CsvFault::Number(1)),
+        (b"1,2,3\n1,2,\"3\"\"\"", CsvFault::Number(2)),
+        (b"1,,3\n", CsvFault::Number(1)),
+        (b"1, 2,3\n", CsvFault::Number(1)),
+        (b"1,2.0,3\n", CsvFault::Number(1)),
+        (b"1,\xff,3\n", CsvFault::Number(1)),
+        // A line feed in quotes belongs to the field.
+        (b"1,\"2\n\",3\n", CsvFault::Number(1)),
+        (b"1,2,-1\n", CsvFault::Number(1)),
+        (b"1,2,18446744073709551616\n", CsvFault::Number(1)),
+        // A byte order mark behind the first byte is no number's.
+        (b"1,2,3\n\xef\xbb\xbf1,2,3\n", CsvFault::Number(2)),
+        (b"2147483648,2,3\n", CsvFault::Range(1)),
+        (b"1,2,3\n1,-2147483649,3\n", CsvFault::Range(2)),
+        (b"-9223372036854775808,2,3\n", CsvFault::Range(1)),
+        (b"1,9223372036854775808,3\n", CsvFault::Range(1)),
+        (b"-9223372036854775809,2,3\n", CsvFault::Range(1)),
+        (FAR, CsvFault::Range(1)),
+    ];
+    for (text, fault) in cases {
+        let answered = count::<2>(rt.alloc(), text, Kind::Points, false);
+        assert_eq!(rt; answered, Err(fault));
+    }
+    Ok(())
+}
+
+// Of two faults the one of the earlier record is told, and in one record the one that is tried first.
+#[test]
+fn faults_together(rt: HostRuntime) -> Result<(), Fail> {
+    let cases: [(&[u8], CsvFault); 8] = [
+        (b"1,x\n", CsvFault::Fields(1)),
+        (b"5,2147483648,1,x\n", CsvFault::Fields(1)),
+        (b"2147483648,x,1\n", CsvFault::Number(1)),
+        (b"1,2147483648,-1\n", CsvFault::Number(1)),
+        (b"5,-2147483649,1\n", CsvFault::Range(1)),
+        (b"5,4,1\n1,x\n", CsvFault::Reversed(1)),
+        (b"4,5,1\n9,2147483648,1\nx,1,1\n", CsvFault::Range(2)),
+        (b"1,5,7\n9,2,8\n", CsvFault::Reversed(2)),
+    ];
+    for (text, fault) in cases {
+        let answered = count::<2>(rt.alloc(), text, Kind::Boxes, false);
+        assert_eq!(rt; answered, Err(fault));
+    }
+    Ok(())
+}
+
+#[test]
+fn boxes(rt: HostRuntime) -> Result<(), Fail> {
+    let touching = count::<4>(rt.alloc(), b"1,2,1,2,9\n-5,-5,5,5,9\n", Kind::Boxes, false);
+    assert_eq!(rt; touching, Ok(2));
+    let reversed = count::<4>(rt.alloc(), b"1,2,1,1,9\n", Kind::Boxes, false);
+    assert_eq!(rt; reversed, Err(CsvFault::Reversed(1)));
+    // No odd number of coordinates is a box.
+    let odd = count::<3>(rt.alloc(), b"1,2,3,9\n", Kind::Boxes, false);
+    assert_eq!(rt; odd, Err(CsvFault::Reversed(1)));
+    Ok(())
+}
+
+#[test]
+fn widths(rt: HostRuntime) -> Result<(), Fail> {
+    let cases: [(u32, &[u8], Result<usize, CsvFault>); 5] = [
+        (1, b"-1,0,0\n", Ok(1)),
+        (1, b"1,0,0\n", Err(CsvFault::Range(1))),
+        (62, b"-2305843009213693952,2305843009213693951,0\n", Ok(1)),
+        (62, b"2305843009213693952,0,0\n", Err(CsvFault::Range(1))),
+        (62, b"0,-2305843009213693953,0\n", Err(CsvFault::Range(1))),
+    ];
+    for (bits, text, answer) in cases {
+        let w = Width::new(bits).ok_or("no width")?;
+        let rows: Result<Vec<Row<2>>, CsvFault> = read_rows(
+            rt.alloc(),
+            text,
+            w,
+            Kind::Points,
+            false,
+        );
+        let answered = match rows {
+            Ok(rows) => Ok(rows.len()),
+            Err(fault) => Err(fault),
+        };
+        assert_eq!(rt; answered, answer);
+    }
+    Ok(())
+}
+
+#[test]
+fn lines(rt: HostRuntime) -> Result<(), Fail> {
+    let mut text = Vec::new(rt.alloc());
+    write_row(&row([4737, -854], 1), &mut text)?;
+    write_row(&row([0], u64::MAX), &mut text)?;
+    assert_eq!(rt;
+        text.as_slice(),
+        b"4737,-854,1\n0,18446744073709551615\n".as_slice()
+    );
+    text.clear();
+    write_row(&row([i64::MIN; 16], u64::MAX), &mut text)?;
+    assert_eq!(rt; text.len(), 357);
+    Ok(())
+}
+
+// A text that is longer than what the reader of records holds at a time.
+#[test]
+fn many_records(rt: HostRuntime) -> Result<(), Fail> {
+    let mut text = Vec::new(rt.alloc());
+    for i in 0..4000u32 {
+        write_row(&row([i64::from(i), -1], 1 << 63), &mut text)?;
+    }
+    let rows: Vec<Row<2>> = read(rt.alloc(), &text, Kind::Points, false)?;
+    assert_eq!(rt; rows.len(), 4000);
+    for (i, row) in rows.iter().enumerate() {
+        assert_eq!(rt; row.point.as_slice(), [i as i64, -1].as_slice());
+    }
+    text.extend_from_slice(b"1,2\n")?;
+    assert_eq!(rt;
+        count::<2>(rt.alloc(), &text, Kind::Points, true),
+        Err(CsvFault::Fields(4001))
+    );
+    Ok(())
+}
+
+#[test]
+fn messages(rt: HostRuntime) -> Result<(), Fail> {
+    let cases = [
+        (CsvFault::Fields(1), "Fields"),
+        (CsvFault::Number(2), "Number"),
+        (CsvFault::Range(3), "Range"),
+        (CsvFault::Reversed(4), "Reversed"),
+        (CsvFault::NoMemory, "NoMemory"),
+    ];
+    for (fault, message) in cases {
+        let text = format!(in rt.alloc(); "{fault}")?;
+        assert_eq!(rt; text.as_str(), message);
+    }
+    Ok(())
+}
