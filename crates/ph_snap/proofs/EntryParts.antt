@@ -1,0 +1,68 @@
+-- Entries by their parts, and the places of their children.
+use Rattle.std.proofs.Common.{◌≡◌, ℕ, zero, suc, ◌+◌, refl, sym, ◌∙◌, ap, arith, List, [], ◌∷◌, ◌++◌, map, take, drop, length, ◌≤◌, Bool, true, false, append_assoc}
+use Rattle.std.specs.Prelude.{Option, Some, None, slice_get}
+use Rattle.std.specs.List.{list_all}
+use Rattle.std.specs.Prelude.{◌&&◌}
+use Rattle.std.proofs.lemmas.List.{take-append-drop}
+use Rattle.ph_specs.specs.Lawful.{put_together}
+use Rattle.ph_specs.specs.Load.{Place, under, places_under}
+use Rattle.ph_specs.specs.Record.{Read, read_point, read_child, read}
+use Rattle.ph_specs.specs.Layout.{read_address, is_child}
+use Rattle.ph_bits.specs.Packed.{read_body}
+
+pub read-whole : (es : List Read) (i a : ℕ) (c : Bool) (b : List ℕ) → slice_get (map read_address es) i ≡ Some a → slice_get (map is_child es) i ≡ Some c → slice_get (map read_body es) i ≡ Some b → slice_get es i ≡ Some (read c a b)
+read-whole [] i a c b e f g = absurd (let h : ◌≡◌ {A = Option ℕ} None (Some a) = e in cc)
+read-whole (r ∷ es) (suc i) a c b e f g = read-whole es i a c b e f g
+read-whole (read_point x y ∷ es) zero a true b e f g = absurd (let h : Some false ≡ Some true = f in cc)
+read-whole (read_point x y ∷ es) zero a false b e f g =
+    let h : x ≡ a = (let k : Some x ≡ Some a = e in cc) in
+    let j : y ≡ b = (let k : Some y ≡ Some b = g in cc) in
+    ap (λ t. Some (read_point t y)) h ∙ ap (λ t. Some (read_point a t)) j
+read-whole (read_child x y ∷ es) zero a false b e f g = absurd (let h : Some true ≡ Some false = f in cc)
+read-whole (read_child x y ∷ es) zero a true b e f g =
+    let h : x ≡ a = (let k : Some x ≡ Some a = e in cc) in
+    let j : y ≡ b = (let k : Some y ≡ Some b = g in cc) in
+    ap (λ t. Some (read_child t y)) h ∙ ap (λ t. Some (read_child a t)) j
+
+pub drop-get : {X : Type 0} (xs : List X) (i : ℕ) (x : X) → slice_get xs i ≡ Some x → drop i xs ≡ x ∷ drop (i + 1) xs
+drop-get {X} [] i x e = absurd (let h : ◌≡◌ {A = Option X} None (Some x) = e in cc)
+drop-get {X} (y ∷ xs) zero x e = let h : y ≡ x = (let k : Some y ≡ Some x = e in cc) in ap (λ t. t ∷ xs) h
+drop-get {X} (y ∷ xs) (suc i) x e = let a : suc i + 1 ≡ suc (i + 1) = omega arith in drop-get xs i x e ∙ ap (λ n. x ∷ drop n (y ∷ xs)) (sym a)
+
+pub take-get : {X : Type 0} (xs : List X) (i : ℕ) (x : X) → slice_get xs i ≡ Some x → take (i + 1) xs ≡ take i xs ++ x ∷ []
+take-get {X} [] i x e = absurd (let h : ◌≡◌ {A = Option X} None (Some x) = e in cc)
+take-get {X} (y ∷ xs) zero x e = let h : y ≡ x = (let k : Some y ≡ Some x = e in cc) in ap (λ t. t ∷ []) h
+take-get {X} (y ∷ xs) (suc i) x e =
+    let a : suc i + 1 ≡ suc (i + 1) = omega arith in
+    ap (λ n. take n (y ∷ xs)) a ∙ ap (λ t. y ∷ t) (take-get xs i x e)
+
+pub all-next : {X : Type 0} (p : X → Bool) (xs : List X) (i : ℕ) (x : X) → slice_get xs i ≡ Some x → list_all p (drop i xs) ≡ (p x && list_all p (drop (i + 1) xs))
+all-next p xs i x e = ap (list_all p) (drop-get xs i x e)
+
+module _ (level : ℕ) (above : List ℕ) where
+  pub under-append : (xs ys : List Read) → places_under level above (xs ++ ys) ≡ places_under level above xs ++ places_under level above ys
+  under-append [] ys = refl
+  under-append (read_point a b ∷ xs) ys = under-append xs ys
+  under-append (read_child a b ∷ xs) ys =
+      ap {B = List Place} (λ t. under level (put_together level a above b) ∷ t) (under-append xs ys)
+
+  pub under-more : (es : List Read) (i : ℕ) (r : Read) → slice_get es i ≡ Some r → places_under level above (take (i + 1) es) ≡ places_under level above (take i es) ++ places_under level above (r ∷ [])
+  under-more es i r e =
+      ap (places_under level above) (take-get es i r e) ∙ under-append (take i es) (r ∷ [])
+
+  -- the places in front of one and behind it
+  pub under-split : (es : List Read) (i : ℕ) (q : Place) → places_under level above (take (i + 1) es) ≡ places_under level above (take i es) ++ q ∷ [] → places_under level above es ≡ places_under level above (take i es) ++ q ∷ places_under level above (drop (i + 1) es)
+  under-split es i q e =
+      let front : List Place = places_under level above (take i es) in
+      let back : List Place = places_under level above (drop (i + 1) es) in
+      ap (places_under level above) (sym (take-append-drop (i + 1) es))
+      ∙ under-append (take (i + 1) es) (drop (i + 1) es)
+      ∙ ap (λ t. t ++ back) e
+      ∙ append_assoc front (q ∷ []) back
+
+-- nothing is left
+pub drop-all : {X : Type 0} (p : X → Bool) (xs : List X) (i : ℕ) → length xs ≤ i → list_all p (drop i xs) ≡ true
+drop-all p [] zero l = refl
+drop-all p [] (suc i) l = refl
+drop-all p (x ∷ xs) zero l = absurd (omega arith)
+drop-all p (x ∷ xs) (suc i) l = drop-all p xs i (omega arith)

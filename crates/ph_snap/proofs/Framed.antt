@@ -1,0 +1,136 @@
+-- Words whose first word keeps its rules, and those whose tables keep theirs too.
+use Rattle.std.proofs.Common.{◌≡◌, ℕ, ◌+◌, ◌%◌, ◌^◌, ◌<◌, ◌≤◌, refl, sym, ◌∙◌, ap, subst, arith, List, length, Bool, true, eqb-true}
+use Rattle.std.specs.Prelude.{◌&&◌, ◌||◌, ◌==◌, nat_le, nat_lt}
+use Rattle.std.proofs.lemmas.Bool.Decides.{nat_tests}
+use Rattle.ph_specs.specs.Record.{First, first_in, has_cube, record_words, tables_of, table_number, table_digits, padding}
+use Rattle.ph_specs.specs.Pack.{layout}
+use Rattle.ph_specs.specs.Load.{Place as Stand, root, under, known, level_fits, least_entries, first_fits, has_zeros_from}
+use Rattle.ph_specs.proofs.lemmas.Tests.{and-parts}
+use Rattle.ph_specs.proofs.laws.RecordAgain.{IsFirst, first-facts}
+use Rattle.std.proofs.Common.{false}
+use Rattle.ph_specs.specs.Layout.{IsRecord, entries_as}
+use Rattle.ph_specs.specs.Record.{entries_in}
+use Rattle.ph_linear.proofs.Ranks.{many}
+use Rattle.ph_cube.proofs.Ranks.{length-entries}
+use Rattle.ph_node.specs.Recorded.{IsLaidOut}
+use Rattle.ph_snap.specs.declared.form.Form.{Form}
+use Rattle.ph_snap.specs.declared.places.Place.{Place}
+use Rattle.ph_snap.specs.declared.places.Place.TheVariants.{Root, Under}
+use Rattle.ph_snap.specs.Forms.{IsForm}
+use Rattle.ph_snap.specs.Frames.{IsFramed}
+use Rattle.ph_snap.specs.Standing.{place_of, ceiling, IsStanding}
+use Rattle.ph_specs.specs.Digits.{words_for}
+use Rattle.ph_specs.specs.Layout.{digits_as}
+use Rattle.ph_specs.specs.Load.{next_first, next_record}
+use Rattle.ph_snap.specs.declared.first.First.{First as First'}
+use Rattle.ph_snap.specs.Frames.{said_by}
+use Rattle.ph_snap.proofs.RecordFaults.{level-below, next-first, words-many}
+
+some-entries : (p : Stand) → 1 ≤ least_entries p
+some-entries root = omega arith
+some-entries (under l d) = omega arith
+
+pub under-ceiling : (width dims : ℕ) (p : Place) → IsStanding width dims p → ceiling width (place_of dims p) ≤ width
+under-ceiling width dims Root h = omega arith
+under-ceiling width dims (Under l k) h = omega (arith, h.0)
+
+no-children : (level children : ℕ) → (nat_lt 0 level || (children == 0)) ≡ true → level ≡ 0 → children ≡ 0
+no-children level children h e = grind (arith, nat_tests)
+
+bottom : (width dims : ℕ) (p : Stand) (f : First) → first_fits width dims p f ≡ true → f.level ≡ 0 → f.children ≡ 0
+bottom width dims p f h =
+    let t1 : Bool = level_fits width p f.level && (nat_le (least_entries p) f.entries && nat_le f.entries (2 ^ dims)) in
+    let t2 : Bool = t1 && (nat_le f.children f.entries && (nat_lt 0 f.level || (f.children == 0))) in
+    let t3 : Bool = t2 && (f.layout == layout (has_cube dims f)) in
+    let a : (t3 ≡ true) × (has_zeros_from f.level (known dims p) ≡ true) = and-parts t3 _ h in
+    let b : (t2 ≡ true) × ((f.layout == layout (has_cube dims f)) ≡ true) = and-parts t2 _ a.0 in
+    let c : (t1 ≡ true) × ((nat_le f.children f.entries && (nat_lt 0 f.level || (f.children == 0))) ≡ true) = and-parts t1 _ b.0 in
+    let g : (nat_le f.children f.entries ≡ true) × ((nat_lt 0 f.level || (f.children == 0)) ≡ true) = and-parts (nat_le f.children f.entries) _ c.1 in
+    no-children f.level f.children g.1
+
+module _ (form : Form) (place : Place) (k : IsForm form) (s : IsStanding form.width form.dims place) where
+  abbrev p : Stand
+  p = place_of form.dims place
+
+  module _ (f : First) (h : first_fits form.width form.dims (place_of form.dims place) f ≡ true) where
+    pub low : f.level < ceiling form.width (place_of form.dims place)
+    low =
+        level-below form.width p f.level k.narrow (first-facts form.width form.dims p f h).at_level
+
+    pub lower : f.level ≤ 61
+    lower = omega (arith, low, under-ceiling form.width form.dims place s, k.wide)
+
+    pub at_most : f.entries ≤ 2 ^ form.dims
+    at_most = (first-facts form.width form.dims p f h).most
+
+    pub few : f.children ≤ f.entries
+    few = (first-facts form.width form.dims p f h).few
+
+    pub clear : has_zeros_from f.level (known form.dims (place_of form.dims place)) ≡ true
+    clear = (first-facts form.width form.dims p f h).zeros
+
+  pub framed : (words : List ℕ) → first_fits form.width form.dims (place_of form.dims place) (first_in words) ≡ true → length words ≡ record_words form.dims (first_in words) → IsFramed form.dims words
+  framed words h l =
+      let f : First = first_in words in
+      let i : IsFirst form.width form.dims p (first_in words) = first-facts form.width form.dims p f h in
+      record {
+        some = k.some;
+        few = k.few;
+        low = lower f h;
+        least = omega (arith, i.least, some-entries p);
+        most = i.most;
+        kids = i.few;
+        bottom = bottom form.width form.dims p f h;
+        told = i.in_layout;
+        long = l;
+      }
+
+pub laid : (dims : ℕ) (words : List ℕ) → IsFramed dims words → (tables_of dims (first_in words) words).is_lawful ≡ true → (table_number dims (first_in words) words % 2 ^ padding (table_digits dims (first_in words)) == 0) ≡ true → IsLaidOut dims words
+laid dims words h t e =
+    record {
+      tables = record {
+        some = h.some;
+        few = h.few;
+        low = h.low;
+        least = h.least;
+        most = h.most;
+        kids = h.kids;
+        bottom = h.bottom;
+        long = h.long;
+        tables = t;
+        padded = eqb-true (table_number dims (first_in words) words % 2 ^ padding (table_digits dims (first_in words))) 0 e;
+      };
+      told = h.told;
+    }
+
+-- it has as many entries as its first word says
+pub laid-many : (dims : ℕ) (words : List ℕ) → IsLaidOut dims words → length (entries_in dims words) ≡ (first_in words).entries
+laid-many dims words h = by (has_cube dims (first_in words)) refl
+  where
+    by : (t : Bool) → t ≡ has_cube dims (first_in words) → length (entries_as (has_cube dims (first_in words)) dims words) ≡ (first_in words).entries
+    by true e = ap (λ t. length (entries_as t dims words)) (sym e) ∙ length-entries dims words (subst (λ t. IsRecord t dims words) (sym e) h.tables)
+    by false e = ap (λ t. length (entries_as t dims words)) (sym e) ∙ many dims words
+
+-- its tables are there whole
+pub long-as : (dims : ℕ) (words : List ℕ) (t : Bool) → has_cube dims (first_in words) ≡ t → IsFramed dims words → 1 + words_for (digits_as t dims (first_in words)) ≤ length words
+long-as dims words t e h =
+    subst (λ s. 1 + words_for (digits_as s dims (first_in words)) ≤ length words) e (omega (arith, h.long))
+
+-- the words of a record whose first word fits
+module _ (form : Form) (place : Place) (k : IsForm form) (s : IsStanding form.width form.dims place) (rest words : List ℕ) (first : First') (f : said_by first ≡ next_first rest) (w : words ≡ next_record form.dims rest) (h : true ≡ first_fits form.width form.dims (place_of form.dims place) (said_by first)) where
+  pub same-first : said_by first ≡ first_in words
+  same-first = f ∙ sym (next-first form.dims rest) ∙ ap first_in (sym w)
+
+  same-fits : first_fits form.width form.dims (place_of form.dims place) (first_in words) ≡ true
+  same-fits =
+      sym (h ∙ ap (first_fits form.width form.dims (place_of form.dims place)) same-first)
+
+  pub is-framed : IsFramed form.dims words
+  is-framed =
+      framed form place k s words same-fits (ap length w ∙ words-many form.dims rest ∙ ap (record_words form.dims) (sym (next-first form.dims rest) ∙ ap first_in (sym w)))
+
+  pub is-clear : has_zeros_from (first_in words).level (known form.dims (place_of form.dims place)) ≡ true
+  is-clear = clear form place k s (first_in words) same-fits
+
+  pub is-low : (first_in words).level < ceiling form.width (place_of form.dims place)
+  is-low = low form place k s (first_in words) same-fits

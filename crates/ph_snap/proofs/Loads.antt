@@ -1,0 +1,90 @@
+-- A record that was read, and the records of its children behind it.
+use Rattle.std.proofs.Common.{◌≡◌, ℕ, ◌+◌, ◌*◌, ◌≤◌, sym, ◌∙◌, ap, subst, arith, List, [], ◌∷◌, ◌++◌, length, take, drop}
+use Rattle.std.specs.Prelude.{None}
+use Rattle.std.proofs.lemmas.List.{length-drop, drop-drop}
+use Rattle.ph_specs.specs.declared.Kind.{Kind}
+use Rattle.ph_specs.specs.KindRows.{IsBytes}
+use Rattle.ph_specs.specs.Node.{PlainNode}
+use Rattle.ph_specs.specs.Record.{First, Read, first_in, record_words, entries_in, unpacked}
+use Rattle.ph_specs.specs.Load.{Place, known, next_first, next_record, record_fault, places_under, places_of}
+use Rattle.ph_specs.proofs.lemmas.FoundTree.{Passed, next-passed}
+use Rattle.ph_specs.proofs.laws.RecordAgain.{entries-count}
+use Rattle.ph_snap.specs.Faults.{HaveFault, HaveNone}
+use Rattle.ph_snap.specs.Reads.{ReadAs}
+use Rattle.ph_snap.specs.declared.fault.LoadFault.{LoadFault}
+use Rattle.ph_snap.proofs.EntryParts.{under-split}
+use Rattle.ph_snap.proofs.NodeReads.{read-node}
+use Rattle.ph_snap.proofs.RecordFaults.{next-first, fits-whole, words-many, kids-places, kids-count, none-node, fault-below}
+use Rattle.ph_snap.proofs.Sizes.{AreCounted, unpacked-counts}
+use Rattle.ph_snap.proofs.Stepping.{bytes-drop, take-whole}
+
+entries-many : (kind : Kind) (width dims : ℕ) (p : Place) (words : List ℕ) → Passed kind width dims p words → length (entries_in dims words) ≡ (first_in words).entries
+entries-many kind width dims p [] h = absurd (omega (arith, h.long))
+entries-many kind width dims p (w ∷ rest) h =
+    (entries-count kind width dims p w rest h.long h.small h.first h.rest).0
+
+module _ (kind : Kind) (width dims : ℕ) (bytes : List ℕ) (p : Place) (at : ℕ) (words : List ℕ) (b : IsBytes bytes) (l : at ≤ length bytes) (none : record_fault kind width dims p at (drop at bytes) ≡ None) (w : words ≡ next_record dims (drop at bytes)) where
+  abbrev rest : List ℕ
+  rest = drop at bytes
+
+  abbrev es : List Read
+  es = entries_in dims words
+
+  -- the places of the children among the first entries
+  abbrev stands : ℕ → List Place
+  stands i = places_under (first_in words).level (known dims p) (take i (entries_in dims words))
+
+  is-passed : Passed kind width dims p words
+  is-passed =
+      subst (Passed kind width dims p) (sym w) (next-passed kind width dims p at rest (bytes-drop bytes at b) none).0
+
+  size : length words ≡ record_words dims (next_first (drop at bytes))
+  size = ap length w ∙ words-many dims rest
+
+  pub inside : at + 8 * length words ≤ length bytes
+  inside =
+      omega (arith, size, fits-whole kind width dims p at rest none, length-drop at bytes)
+
+  pub many : length (entries_in dims words) ≡ (first_in words).entries
+  many = entries-many kind width dims p words is-passed
+
+  all-of : places_of dims p (next_record dims (drop at bytes)) ≡ places_under (first_in words).level (known dims p) (entries_in dims words)
+  all-of = ap (places_of dims p) (sym w)
+
+  whole : (i : ℕ) → (first_in words).entries ≤ i → places_under (first_in words).level (known dims p) (take i (entries_in dims words)) ≡ places_of dims p (next_record dims (drop at bytes))
+  whole i h =
+      ap (places_under (first_in words).level (known dims p)) (take-whole es i (omega (arith, h, many))) ∙ sym all-of
+
+  -- as many as there are children
+  pub stands-many : (i : ℕ) → (first_in words).entries ≤ i → length (places_under (first_in words).level (known dims p) (take i (entries_in dims words))) ≡ (first_in words).children
+  stands-many i h =
+      ap (λ es. length (places_under (first_in words).level (known dims p) es)) (take-whole es i (omega (arith, h, many)))
+      ∙ kids-places (first_in words).level (known dims p) es
+      ∙ kids-count kind width dims p words is-passed
+
+  pub all-none : (i end : ℕ) → (first_in words).entries ≤ i → HaveNone kind width dims (places_under (first_in words).level (known dims p) (take i (entries_in dims words))) (at + 8 * length words) bytes end → HaveNone kind width dims (p ∷ []) at bytes end
+  all-none i end h k =
+      none-node kind width dims bytes p at end none
+      (subst (λ t. HaveNone kind width dims (places_of dims p (next_record dims (drop at bytes))) (at + 8 * t) bytes end) size (subst (λ t. HaveNone kind width dims t (at + 8 * length words) bytes end) (whole i h) k))
+
+  pub child-fault : (i mid : ℕ) (q : Place) (f : LoadFault) → places_under (first_in words).level (known dims p) (take (i + 1) (entries_in dims words)) ≡ places_under (first_in words).level (known dims p) (take i (entries_in dims words)) ++ q ∷ [] → HaveNone kind width dims (places_under (first_in words).level (known dims p) (take i (entries_in dims words))) (at + 8 * length words) bytes mid → HaveFault kind width dims (q ∷ []) mid bytes f → HaveFault kind width dims (p ∷ []) at bytes f
+  child-fault i mid q f e k h =
+      fault-below kind width dims bytes p at mid (stands i) _ q f none
+      (all-of ∙ under-split (first_in words).level (known dims p) es i q e)
+      (subst (λ t. HaveNone kind width dims (stands i) (at + 8 * t) bytes mid) size k)
+      h
+
+  pub read-all : (end : ℕ) (cs : List PlainNode) → length cs ≡ (first_in words).children → at + 8 * length words ≤ end → ReadAs dims (drop (at + 8 * length words) bytes) cs (drop end bytes) → ReadAs dims (drop at bytes) (unpacked dims words cs ∷ []) (drop end bytes)
+  read-all end cs m e r =
+      let n : ℕ = 8 * record_words dims (next_first (drop at bytes)) in
+      let left : drop (at + 8 * length words) bytes ≡ drop (8 * record_words dims (next_first (drop at bytes))) (drop at bytes) = ap (λ t. drop (at + 8 * t) bytes) size ∙ sym (drop-drop n at bytes) in
+      let c : length cs ≡ (next_first (drop at bytes)).children = m ∙ ap (λ t. (first_in t).children) w ∙ ap (λ (f : First). f.children) (next-first dims rest) in
+      subst (λ t. ReadAs dims (drop at bytes) (unpacked dims t cs ∷ []) (drop end bytes)) (sym w)
+      (read-node dims rest (drop end bytes) cs
+      (omega (arith, fits-whole kind width dims p at rest none))
+      (omega (arith, length-drop end bytes, length-drop n rest, length-drop at bytes, e, size))
+      c
+      (subst (λ t. ReadAs dims t cs (drop end bytes)) left r))
+
+  pub counts : (cs : List PlainNode) → length cs ≡ (first_in words).children → AreCounted dims words cs
+  counts cs m = unpacked-counts kind width dims p words cs is-passed m

@@ -1,0 +1,11 @@
+-- Trees that there are.
+use Rattle.std.specs.Prelude.{◌≡◌, ◌≤◌, ◌%◌}
+use Rattle.ph_specs.specs.declared.Kind.TheVariants.{Boxes}
+use Rattle.ph_snap.specs.declared.form.Form.{Form}
+
+pub record IsForm (f : Form) : Type 0 where
+  pub some : 1 ≤ f.dims
+  pub few : f.dims ≤ 16
+  pub narrow : 1 ≤ f.width
+  pub wide : f.width ≤ 62
+  pub even : f.kind ≡ Boxes → f.dims % 2 ≡ 0

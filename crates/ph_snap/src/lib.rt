@@ -1,0 +1,26 @@
+//! Snapshots: trees as bytes.
+#![tactic(auto)]
+
+mod block;
+mod boxes;
+mod entries;
+mod fault;
+mod first;
+mod form;
+mod header;
+#[cfg(test)]
+mod load_tests;
+mod loading;
+mod nodes;
+mod places;
+mod records;
+mod saves;
+mod tables;
+#[cfg(test)]
+mod tests;
+
+pub use fault::LoadFault;
+pub use header::{Header, read_header};
+pub use loading::load;
+pub use saves::save;
+pub use std::alloc::AllocError as NoMemory;

@@ -1,0 +1,100 @@
+//! The tree of a snapshot.
+
+ghost use Rattle.std.specs.Prelude.{◌≡◌, ◌+◌, ◌*◌, ◌-◌, ◌^◌, ◌≤◌, true, None, Some, Ok, length, drop, slice_index, IfOk, IfErr};
+ghost use Rattle.ph_specs.specs.Load.{load_fault, body_fault, dims_fit};
+ghost use Rattle.ph_specs.specs.NodeSize.{node_size};
+ghost use Rattle.ph_specs.specs.SavedTable.{first_node, read_nodes, read_snapshot};
+ghost use Rattle.ph_specs.specs.Snapshot.{kind_byte};
+ghost use Rattle.ph_specs.specs.SnapshotOf.{IsSnapshotOf};
+ghost use Rattle.ph_specs.specs.WorkSets.{all_nodes};
+ghost use Rattle.ph_snap.specs.Faults.{IsLoadFault};
+ghost use Rattle.ph_snap.specs.Forms.{IsForm};
+ghost use Rattle.ph_snap.specs.Reads.{points};
+
+use crate::fault::LoadFault;
+use crate::form::Form;
+use crate::header::read_header;
+use crate::nodes::{Loaded, load_node};
+use crate::places::Place;
+use ph_coord::{Dim, Dims, Kind, Width};
+use ph_node::NodeOf;
+use ph_steps::Steps;
+use ph_tree::PhTree;
+use std::alloc::Global;
+use std::sync::ledger::Ledger;
+
+/// The tree of which the bytes are the snapshot, for at most 2^64 - 1 rows, or the first fault of the bytes.
+///
+/// It takes memory for the tree alone: no sorting, and no tree is built up by puts. The depth of its calls is at most the
+/// width. Each node that is made counts as a change.
+pub fn load<const D: usize, C: Ledger>(
+    alloc: Global,
+    bytes: &[u8],
+    kind: Kind,
+    w: Width,
+    changes: &mut Steps<C>,
+) -> Result<PhTree<D>, LoadFault>
+    requires width { w ≡ 32 }
+    requires dims { dims_fit 8 (kind_byte kind) D ≡ true }
+    ensures snapshot { IfOk result (λ t. IsSnapshotOf kind D bytes.now t.table) }
+    ensures read { IfOk result (λ t. read_snapshot kind D bytes.now ≡ Ok t.table) }
+    ensures width { IfOk result (λ t. t.width ≡ w) }
+    ensures max { IfOk result (λ t. t.max ≡ 2 ^ 64 - 1) }
+    ensures fault { IfErr result (λ e. IsLoadFault (load_fault kind D bytes.now) e) }
+    ensures changes { 16 * changes.new ≤ 16 * changes.old + length bytes.now }
+    ensures nodes { IfOk result (λ t. changes.new ≡ changes.old + length (all_nodes 32 D t.table)) }
+    ensures kept { changes.old ≤ changes.new }
+{
+    let header = match read_header(bytes) {
+        Ok(header) => header,
+        Err(fault) => return Err(fault),
+    };
+    if header.kind != kind || header.dims as usize != D {
+        return Err(LoadFault::Dims);
+    }
+    if !header.root {
+        if bytes.len() > 8 {
+            return Err(LoadFault::Extra(8));
+        }
+        return Ok(PhTree::adopt(alloc, w, None, 0));
+    }
+    let form = Form {
+        kind,
+        dims: D,
+        width: w.bits(),
+    };
+    match load_root::<Dim<D>, C>(alloc, bytes, &form, changes) {
+        Ok(root) => Ok(PhTree::adopt(alloc, w, Some(root.node), root.rows)),
+        Err(fault) => Err(fault),
+    }
+}
+
+// The root whose records stand behind the header.
+fn load_root<P: Dims, C: Ledger>(
+    alloc: Global,
+    bytes: &[u8],
+    form: &Form,
+    changes: &mut Steps<C>,
+) -> Result<Loaded<NodeOf<P>>, LoadFault>
+    requires form { IsForm form.now }
+    requires dims { form.now.dims ≡ P.D }
+    requires width { form.now.width ≡ 32 }
+    requires long { 8 ≤ length bytes.now }
+    ensures none { IfOk result (λ r. body_fault form.now.kind 32 form.now.dims 1 bytes.now ≡ None) }
+    ensures tree { IfOk result (λ r. Some r.node ≡ first_node (read_nodes (length bytes.now) form.now.dims 1 (drop 8 bytes.now)).0) }
+    ensures rows { IfOk result (λ r. r.rows ≡ points r.node) }
+    ensures nodes { IfOk result (λ r. changes.new ≡ changes.old + node_size r.node) }
+    ensures err { IfErr result (λ f. IsLoadFault (body_fault form.now.kind 32 form.now.dims 1 bytes.now) f) }
+    ensures limit { 16 * changes.new ≤ 16 * changes.old + length bytes.now }
+    ensures kept { changes.old ≤ changes.new }
+{
+    match load_node::<P, C>(alloc, bytes, 8, form, &Place::Root, changes) {
+        Ok(root) => {
+            if root.end < bytes.len() {
+                return Err(LoadFault::Extra(root.end as u64));
+            }
+            Ok(root)
+        }
+        Err(fault) => Err(fault),
+    }
+}

@@ -1,0 +1,82 @@
+//! The nodes of records.
+
+ghost use Rattle.std.specs.Prelude.{◌≡◌, ◌+◌, ◌*◌, ◌≤◌, [], ◌∷◌, drop, length, IfOk, IfErr};
+ghost use Rattle.ph_specs.specs.NodeSize.{node_size};
+ghost use Rattle.ph_snap.specs.Faults.{HaveFault, HaveNone};
+ghost use Rattle.ph_snap.specs.Forms.{IsForm};
+ghost use Rattle.ph_snap.specs.Standing.{place_of, IsStanding};
+ghost use Rattle.ph_snap.specs.Reads.{ReadAs, points};
+
+use crate::boxes::place_under;
+use crate::fault::LoadFault;
+use crate::form::Form;
+use crate::places::Place;
+use crate::records::read_record;
+use ph_linear::{children_in, count_in};
+use ph_node::{Dims, NodeOf, SlotOf};
+use ph_steps::Steps;
+use std::alloc::Global;
+use std::sync::ledger::Ledger;
+
+/// A node with all that is below it, the place behind its records, and how many rows it has.
+#[derive(Drop)]
+pub(crate) struct Loaded<N> {
+    pub(crate) node: N,
+    pub(crate) end: usize,
+    pub(crate) rows: u64,
+}
+
+/// The node whose records begin at a place of the bytes, with all that is below it, or the first fault of these records. The
+/// depth of the calls is at most that of the tree. A node is made when its record and all those in front of it were looked at.
+pub(crate) fn load_node<P: Dims, C: Ledger>(
+    alloc: Global,
+    bytes: &[u8],
+    at: usize,
+    form: &Form,
+    place: &Place,
+    changes: &mut Steps<C>,
+) -> Result<Loaded<NodeOf<P>>, LoadFault>
+    requires form { IsForm form.now }
+    requires dims { form.now.dims ≡ P.D }
+    requires standing { IsStanding form.now.width form.now.dims place.now }
+    requires at { at ≤ length bytes.now }
+    ensures none { IfOk result (λ r. HaveNone form.now.kind form.now.width form.now.dims (place_of form.now.dims place.now ∷ []) at bytes.now r.end) }
+    ensures node { IfOk result (λ r. ReadAs form.now.dims (drop at bytes.now) (r.node ∷ []) (drop r.end bytes.now)) }
+    ensures within { IfOk result (λ r. r.end ≤ length bytes.now) }
+    ensures rows { IfOk result (λ r. r.rows ≡ points r.node) }
+    ensures few { IfOk result (λ r. at + 8 * points r.node ≤ r.end) }
+    ensures nodes { IfOk result (λ r. changes.new ≡ changes.old + node_size r.node) }
+    ensures cost { IfOk result (λ r. at + 16 * node_size r.node ≤ r.end) }
+    ensures err { IfErr result (λ f. HaveFault form.now.kind form.now.width form.now.dims (place_of form.now.dims place.now ∷ []) at bytes.now f) }
+    ensures limit { at + 16 * changes.new ≤ 16 * changes.old + length bytes.now }
+    ensures kept { changes.old ≤ changes.new }
+{
+    let words = match read_record(alloc, bytes, at, form, place) {
+        Ok(words) => words,
+        Err(fault) => return Err(fault),
+    };
+    let count = count_in(words.as_slice());
+    let below = children_in(words.as_slice());
+    let mut end = at + 8 * words.len();
+    let mut rows = count - below;
+    let Ok(mut children) = Vec::with_capacity(alloc, below as usize) else {
+        return Err(LoadFault::NoMemory);
+    };
+    'entries: for i in 0..count as usize {
+        let Some(under) = place_under(words.as_slice(), form, place, i) else {
+            continue;
+        };
+        match load_node::<P, C>(alloc, bytes, end, form, &under, changes) {
+            Ok(child) => {
+                end = child.end;
+                rows += child.rows;
+                if children.push(SlotOf { node: child.node }).is_err() {
+                    return Err(LoadFault::NoMemory);
+                }
+            }
+            Err(fault) => return Err(fault),
+        }
+    }
+    let node = NodeOf::assemble(words, children, changes);
+    Ok(Loaded { node, end, rows })
+}
