@@ -7,13 +7,13 @@ use Rattle.std.proofs.lemmas.List.{append-nil, map-append}
 use Rattle.std.proofs.lemmas.Bool.{and_parts}
 use Rattle.ph_specs.specs.Lines.{number}
 use Rattle.ph_specs.specs.Command.{Command, Place, form, number_fits, name_fits, numbers, texts, coordinates, count, value, radius, fixed, read_form, Reading}
-use Rattle.ph_specs.specs.Command.Place.{Coordinate, Below, CursorName, OneOf}
+use Rattle.ph_specs.specs.Command.Place.{Coordinate, Below, CursorName, FileName, OneOf}
 use Rattle.ph_script.specs.declared.coords.Coord.{Coord}
 use Rattle.ph_script.specs.declared.forms.Verb.{Verb}
-use Rattle.ph_script.specs.declared.forms.Verb.TheVariants.{Open, OpenMax, Put, Get, Del, Relocate, Count, Clear, Window, Cursor, Page, Near, Within, Overlap, Inside, Covers, Stats, Select, Same}
+use Rattle.ph_script.specs.declared.forms.Verb.TheVariants.{Open, OpenMax, Put, Get, Del, Relocate, Count, Clear, Window, Cursor, Page, Near, Within, Overlap, Inside, Covers, Save, Load, Stats, Select, Same}
 use Rattle.ph_script.specs.Meaning.{number_of_coord, numbers_of}
 use Rattle.ph_script.specs.Forms.{places_by, command_by}
-use Rattle.ph_script.specs.Parts.{coords_at, counts_at, name_from, second_from}
+use Rattle.ph_script.specs.Parts.{coords_at, counts_at, name_from, file_from, second_from}
 use Rattle.ph_script.specs.Fit.{IsFit, IsNamed}
 use Rattle.ph_script.proofs.KeptNumbers.{keeps-coord, keeps-count}
 
@@ -50,6 +50,9 @@ led-fixed words behind (w ∷ ws) h = record { left = ws; fits = h; coords = ref
 
 led-name : {behind : List Place} {ws : List (List ℕ)} {cs : List Coord} {ns : List ℕ} {zs : List ℤ} (word : List ℕ) → Led behind ws [] cs ns zs → Led (CursorName ∷ behind) (word ∷ ws) [] cs ns zs
 led-name word l = record { left = l.left; fits = l.fits; coords = l.coords; counts = l.counts; same = l.same }
+
+led-file : {behind : List Place} {ws : List (List ℕ)} {cs : List Coord} {ns : List ℕ} {zs : List ℤ} (word : List ℕ) → Led behind ws [] cs ns zs → Led (FileName ∷ behind) (word ∷ ws) [] cs ns zs
+led-file word l = record { left = l.left; fits = l.fits; coords = l.coords; counts = l.counts; same = l.same }
 
 -- no number changes the name
 unnamed : (got : Option (List ℕ)) (dims : ℕ) (behind : List Place) (ws : List (List ℕ)) → ((vs : List (List ℕ)) → name_from got behind vs ≡ got) → name_from got (coordinates dims ++ behind) ws ≡ got
@@ -98,11 +101,11 @@ led-point (suc dims) behind ws h =
 
 -- the parts in the places of each form are what it asks
 pub record Reads (verb : Verb) (dims : ℕ) (ws : List (List ℕ)) : Type 0 where
-  pub fit : IsFit verb dims (coords_at (places_by verb dims) ws) (counts_at (places_by verb dims) ws) (name_from None (places_by verb dims) ws)
+  pub fit : IsFit verb dims (coords_at (places_by verb dims) ws) (counts_at (places_by verb dims) ws) (name_from None (places_by verb dims) ws) (file_from None (places_by verb dims) ws)
   pub same : numbers (places_by verb dims) ws ≡ numbers_of (coords_at (places_by verb dims) ws) ++ map pos (counts_at (places_by verb dims) ws)
-  pub named : IsNamed verb (name_from None (places_by verb dims) ws) (second_from false (places_by verb dims) ws) (texts (places_by verb dims) ws)
+  pub named : IsNamed verb (name_from None (places_by verb dims) ws) (file_from None (places_by verb dims) ws) (second_from false (places_by verb dims) ws) (texts (places_by verb dims) ws)
 
-closing : (verb : Verb) (dims : ℕ) (ws : List (List ℕ)) {cs : List Coord} {ns : List ℕ} {zs : List ℤ} → Led (places_by verb dims) ws [] cs ns zs → IsFit verb dims cs ns (name_from None (places_by verb dims) ws) → zs ≡ numbers_of cs ++ map pos ns → IsNamed verb (name_from None (places_by verb dims) ws) (second_from false (places_by verb dims) ws) (texts (places_by verb dims) ws) → Reads verb dims ws
+closing : (verb : Verb) (dims : ℕ) (ws : List (List ℕ)) {cs : List Coord} {ns : List ℕ} {zs : List ℤ} → Led (places_by verb dims) ws [] cs ns zs → IsFit verb dims cs ns (name_from None (places_by verb dims) ws) (file_from None (places_by verb dims) ws) → zs ≡ numbers_of cs ++ map pos ns → IsNamed verb (name_from None (places_by verb dims) ws) (file_from None (places_by verb dims) ws) (second_from false (places_by verb dims) ws) (texts (places_by verb dims) ws) → Reads verb dims ws
 closing verb dims ws {cs} {ns} {zs} l f e named =
     let a : coords_at (places_by verb dims) ws ≡ cs = l.coords ∙ append-nil cs in
     let b : counts_at (places_by verb dims) ws ≡ ns = l.counts ∙ append-nil ns in
@@ -189,6 +192,10 @@ reads Within dims ws h =
 reads Overlap dims ws h = let p = led-get dims ws h in closing Overlap dims ws p.1 (p.2, refl) (sym (append-nil (numbers_of p.0))) tt
 reads Inside dims ws h = let p = led-get dims ws h in closing Inside dims ws p.1 (p.2, refl) (sym (append-nil (numbers_of p.0))) tt
 reads Covers dims ws h = let p = led-get dims ws h in closing Covers dims ws p.1 (p.2, refl) (sym (append-nil (numbers_of p.0))) tt
+reads Save dims [] h = absurd (let k : false ≡ true = h in cc)
+reads Save dims (w ∷ ws) h = closing Save dims (w ∷ ws) (led-file w (led-none ws h)) refl refl refl
+reads Load dims [] h = absurd (let k : false ≡ true = h in cc)
+reads Load dims (w ∷ ws) h = closing Load dims (w ∷ ws) (led-file w (led-none ws h)) refl refl refl
 reads Stats dims ws h = closing Stats dims ws (led-none ws h) tt refl tt
 reads Select dims [] h = absurd (let k : false ≡ true = h in cc)
 reads Select dims (w ∷ ws) h =
@@ -197,20 +204,20 @@ reads Select dims (w ∷ ws) h =
 reads Same dims ws h = closing Same dims ws (led-none ws h) tt refl tt
 
 -- the same of places and parts that are these
-pub fit-of : (verb : Verb) (dims : ℕ) (places : List Place) (ws : List (List ℕ)) (cs : List Coord) (ns : List ℕ) (name : Option (List ℕ)) → places ≡ places_by verb dims → pointwise number_fits places ws ≡ true → cs ≡ coords_at places ws → ns ≡ counts_at places ws → name ≡ name_from None places ws → IsFit verb dims cs ns name
-fit-of verb dims places ws cs ns name e h a b n = rw (a, b, n, e) (reads verb dims ws (rw e at h)).fit
+pub fit-of : (verb : Verb) (dims : ℕ) (places : List Place) (ws : List (List ℕ)) (cs : List Coord) (ns : List ℕ) (name file : Option (List ℕ)) → places ≡ places_by verb dims → pointwise number_fits places ws ≡ true → cs ≡ coords_at places ws → ns ≡ counts_at places ws → name ≡ name_from None places ws → file ≡ file_from None places ws → IsFit verb dims cs ns name file
+fit-of verb dims places ws cs ns name file e h a b n f = rw (a, b, n, f, e) (reads verb dims ws (rw e at h)).fit
 
 pub same-of : (verb : Verb) (dims : ℕ) (places : List Place) (ws : List (List ℕ)) (cs : List Coord) (ns : List ℕ) → places ≡ places_by verb dims → pointwise number_fits places ws ≡ true → cs ≡ coords_at places ws → ns ≡ counts_at places ws → numbers places ws ≡ numbers_of cs ++ map pos ns
 same-of verb dims places ws cs ns e h a b = rw (a, b, e) (reads verb dims ws (rw e at h)).same
 
-named-of : (verb : Verb) (dims : ℕ) (places : List Place) (ws : List (List ℕ)) (name : Option (List ℕ)) (second : Bool) → places ≡ places_by verb dims → pointwise number_fits places ws ≡ true → name ≡ name_from None places ws → second ≡ second_from false places ws → IsNamed verb name second (texts places ws)
-named-of verb dims places ws name second e h n s = rw (n, s, e) (reads verb dims ws (rw e at h)).named
+named-of : (verb : Verb) (dims : ℕ) (places : List Place) (ws : List (List ℕ)) (name file : Option (List ℕ)) (second : Bool) → places ≡ places_by verb dims → pointwise number_fits places ws ≡ true → name ≡ name_from None places ws → file ≡ file_from None places ws → second ≡ second_from false places ws → IsNamed verb name file second (texts places ws)
+named-of verb dims places ws name file second e h n f s = rw (n, f, s, e) (reads verb dims ws (rw e at h)).named
 
 -- the command of a form, where all its numbers and names fit
-pub does : (word : List ℕ) (verb : Verb) (dims : ℕ) (places read : List Place) (ws : List (List ℕ)) (cs : List Coord) (ns : List ℕ) (name : Option (List ℕ)) (second : Bool) (made : Command) → places ≡ places_by verb dims → read ≡ places → pointwise number_fits read ws ≡ true → pointwise name_fits read ws ≡ true → cs ≡ coords_at read ws → ns ≡ counts_at read ws → name ≡ name_from None read ws → second ≡ second_from false read ws → ((t : List (List ℕ)) → IsNamed verb name second t → made ≡ command_by verb dims (numbers_of cs ++ map pos ns) t) → read_form (form word places (command_by verb dims)) ws ≡ Reading.Do made
-does word verb dims places read ws cs ns name second made row e h k a b n s makes =
+pub does : (word : List ℕ) (verb : Verb) (dims : ℕ) (places read : List Place) (ws : List (List ℕ)) (cs : List Coord) (ns : List ℕ) (name file : Option (List ℕ)) (second : Bool) (made : Command) → places ≡ places_by verb dims → read ≡ places → pointwise number_fits read ws ≡ true → pointwise name_fits read ws ≡ true → cs ≡ coords_at read ws → ns ≡ counts_at read ws → name ≡ name_from None read ws → file ≡ file_from None read ws → second ≡ second_from false read ws → ((t : List (List ℕ)) → IsNamed verb name file second t → made ≡ command_by verb dims (numbers_of cs ++ map pos ns) t) → read_form (form word places (command_by verb dims)) ws ≡ Reading.Do made
+does word verb dims places read ws cs ns name file second made row e h k a b n f s makes =
     let fits : pointwise number_fits places ws ≡ true = rw e at h in
     let names : pointwise name_fits places ws ≡ true = rw e at k in
     let same = same-of verb dims places ws cs ns row fits (rw e at a) (rw e at b) in
-    let named = named-of verb dims places ws name second row fits (rw e at n) (rw e at s) in
+    let named = named-of verb dims places ws name file second row fits (rw e at n) (rw e at f) (rw e at s) in
     rw (fits, names) (ap Reading.Do (ap (λ n. command_by verb dims n (texts places ws)) same ∙ sym (makes (texts places ws) named)))

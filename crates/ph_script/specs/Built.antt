@@ -1,8 +1,8 @@
 -- The forms that the program answers so far. Any other first word is no command.
 use Rattle.std.specs.Prelude.{ℕ, ◌-◌, ◌^◌, List, [], ◌∷◌, ◌++◌, take, drop, codes}
-use Rattle.ph_specs.specs.Command.Command.{Begin, Put, Get, Del, Relocate, Count, Clear, Window, Cursor, Page, Near, Within, Overlap, Inside, Covers, Statistics, Select, Compare}
+use Rattle.ph_specs.specs.Command.Command.{Begin, Put, Get, Del, Relocate, Count, Clear, Window, Cursor, Page, Near, Within, Overlap, Inside, Covers, Save, Load, Statistics, Select, Compare}
 use Rattle.ph_specs.specs.Command.{Form, form, Reading, count, value, fixed, radius, coordinates, number_at, first_word, kind_of, slot_of, read_words_by, reading_by}
-use Rattle.ph_specs.specs.Command.Place.{CursorName, OneOf}
+use Rattle.ph_specs.specs.Command.Place.{CursorName, FileName, OneOf}
 
 abbrev pub built_forms : ℕ → List Form
 built_forms dims =
@@ -22,6 +22,8 @@ built_forms dims =
     ∷ form (codes "overlap") (coordinates dims) (λ n t. Overlap n)
     ∷ form (codes "inside") (coordinates dims) (λ n t. Inside n)
     ∷ form (codes "covers") (coordinates dims) (λ n t. Covers n)
+    ∷ form (codes "save") (FileName ∷ []) (λ n t. Save (first_word t))
+    ∷ form (codes "load") (FileName ∷ []) (λ n t. Load (first_word t))
     ∷ form (codes "stats") [] (λ n t. Statistics)
     ∷ form (codes "use") (OneOf (codes "a" ∷ codes "b" ∷ []) ∷ []) (λ n t. Select (slot_of t))
     ∷ form (codes "same") [] (λ n t. Compare)

@@ -6,38 +6,42 @@ use Rattle.ph_script.specs.declared.command.Bad.TheVariants.{Word, Count as BadC
 use Rattle.ph_script.specs.declared.command.Command.{Command}
 use Rattle.ph_script.specs.declared.command.Command.TheVariants as by
 use Rattle.ph_script.specs.declared.forms.Verb.{Verb}
-use Rattle.ph_script.specs.declared.forms.Verb.TheVariants.{Open, OpenMax, Put, Get, Del, Relocate, Count, Clear, Window, Cursor, Page, Near, Within, Overlap, Inside, Covers, Stats, Select, Same}
+use Rattle.ph_script.specs.declared.forms.Verb.TheVariants.{Open, OpenMax, Put, Get, Del, Relocate, Count, Clear, Window, Cursor, Page, Near, Within, Overlap, Inside, Covers, Save, Load, Stats, Select, Same}
 use Rattle.ph_specs.specs.Command.{first_word}
 
-abbrev pub IsFit : Verb → ℕ → List Coord → List ℕ → Option (List ℕ) → Type 0
-IsFit Open dims coords counts name = (coords ≡ []) × (length counts ≡ 1) × (slice_index counts 0 < 2 ^ 32)
-IsFit OpenMax dims coords counts name = (coords ≡ []) × (length counts ≡ 2) × (slice_index counts 0 < 2 ^ 32) × (slice_index counts 1 < 2 ^ 64)
-IsFit Put dims coords counts name = (length coords ≡ dims) × (length counts ≡ 1) × (slice_index counts 0 < 2 ^ 64)
-IsFit Get dims coords counts name = (length coords ≡ dims) × (counts ≡ [])
-IsFit Del dims coords counts name = (length coords ≡ dims) × (counts ≡ [])
-IsFit Relocate dims coords counts name = (length coords ≡ dims + dims) × (counts ≡ [])
-IsFit Count dims coords counts name = Unit {0}
-IsFit Clear dims coords counts name = Unit {0}
-IsFit Window dims coords counts name = (length coords ≡ dims + dims) × (counts ≡ [])
-IsFit Cursor dims coords counts name = (length coords ≡ dims + dims) × (counts ≡ []) × IsSome name
-IsFit Page dims coords counts name = (coords ≡ []) × (length counts ≡ 1) × (slice_index counts 0 < 2 ^ 32) × IsSome name
-IsFit Near dims coords counts name = (length coords ≡ dims) × (length counts ≡ 1) × (slice_index counts 0 < 2 ^ 32)
-IsFit Within dims coords counts name = (length coords ≡ dims) × (length counts ≡ 1)
-IsFit Overlap dims coords counts name = (length coords ≡ dims) × (counts ≡ [])
-IsFit Inside dims coords counts name = (length coords ≡ dims) × (counts ≡ [])
-IsFit Covers dims coords counts name = (length coords ≡ dims) × (counts ≡ [])
-IsFit Stats dims coords counts name = Unit {0}
-IsFit Select dims coords counts name = Unit {0}
-IsFit Same dims coords counts name = Unit {0}
+abbrev pub IsFit : Verb → ℕ → List Coord → List ℕ → Option (List ℕ) → Option (List ℕ) → Type 0
+IsFit Open dims coords counts name file = (coords ≡ []) × (length counts ≡ 1) × (slice_index counts 0 < 2 ^ 32)
+IsFit OpenMax dims coords counts name file = (coords ≡ []) × (length counts ≡ 2) × (slice_index counts 0 < 2 ^ 32) × (slice_index counts 1 < 2 ^ 64)
+IsFit Put dims coords counts name file = (length coords ≡ dims) × (length counts ≡ 1) × (slice_index counts 0 < 2 ^ 64)
+IsFit Get dims coords counts name file = (length coords ≡ dims) × (counts ≡ [])
+IsFit Del dims coords counts name file = (length coords ≡ dims) × (counts ≡ [])
+IsFit Relocate dims coords counts name file = (length coords ≡ dims + dims) × (counts ≡ [])
+IsFit Count dims coords counts name file = Unit {0}
+IsFit Clear dims coords counts name file = Unit {0}
+IsFit Window dims coords counts name file = (length coords ≡ dims + dims) × (counts ≡ [])
+IsFit Cursor dims coords counts name file = (length coords ≡ dims + dims) × (counts ≡ []) × IsSome name
+IsFit Page dims coords counts name file = (coords ≡ []) × (length counts ≡ 1) × (slice_index counts 0 < 2 ^ 32) × IsSome name
+IsFit Near dims coords counts name file = (length coords ≡ dims) × (length counts ≡ 1) × (slice_index counts 0 < 2 ^ 32)
+IsFit Within dims coords counts name file = (length coords ≡ dims) × (length counts ≡ 1)
+IsFit Overlap dims coords counts name file = (length coords ≡ dims) × (counts ≡ [])
+IsFit Inside dims coords counts name file = (length coords ≡ dims) × (counts ≡ [])
+IsFit Covers dims coords counts name file = (length coords ≡ dims) × (counts ≡ [])
+IsFit Save dims coords counts name file = IsSome file
+IsFit Load dims coords counts name file = IsSome file
+IsFit Stats dims coords counts name file = Unit {0}
+IsFit Select dims coords counts name file = Unit {0}
+IsFit Same dims coords counts name file = Unit {0}
 
--- the first of a command's words that are no numbers tells its name, or which of two words it has
-abbrev pub IsNamed : Verb → Option (List ℕ) → Bool → List (List ℕ) → Type 0
-IsNamed Open name second texts = second ≡ bytes_eq (first_word texts) (codes "boxes")
-IsNamed OpenMax name second texts = second ≡ bytes_eq (first_word texts) (codes "boxes")
-IsNamed Cursor name second texts = name ≡ Some (first_word texts)
-IsNamed Page name second texts = name ≡ Some (first_word texts)
-IsNamed Select name second texts = second ≡ bytes_eq (first_word texts) (codes "b")
-IsNamed _ name second texts = Unit {0}
+-- the first of a command's words that are no numbers tells its name, its file's name, or which of two words it has
+abbrev pub IsNamed : Verb → Option (List ℕ) → Option (List ℕ) → Bool → List (List ℕ) → Type 0
+IsNamed Open name file second texts = second ≡ bytes_eq (first_word texts) (codes "boxes")
+IsNamed OpenMax name file second texts = second ≡ bytes_eq (first_word texts) (codes "boxes")
+IsNamed Cursor name file second texts = name ≡ Some (first_word texts)
+IsNamed Page name file second texts = name ≡ Some (first_word texts)
+IsNamed Save name file second texts = file ≡ Some (first_word texts)
+IsNamed Load name file second texts = file ≡ Some (first_word texts)
+IsNamed Select name file second texts = second ≡ bytes_eq (first_word texts) (codes "b")
+IsNamed _ name file second texts = Unit {0}
 
 -- the fault of words in places, by whether all numbers and all names fit
 abbrev pub IsFault : Bad → Bool → Bool → Type 0
@@ -63,6 +67,8 @@ HasDims dims (by.Within q r) = length q ≡ dims
 HasDims dims (by.Overlap bounds) = length bounds ≡ dims
 HasDims dims (by.Inside bounds) = length bounds ≡ dims
 HasDims dims (by.Covers bounds) = length bounds ≡ dims
+HasDims dims (by.Save file) = Unit {0}
+HasDims dims (by.Load file) = Unit {0}
 HasDims dims by.Stats = Unit {0}
 HasDims dims (by.Select slot) = Unit {0}
 HasDims dims by.Same = Unit {0}

@@ -1,16 +1,16 @@
 -- The forms of the code's table in the definitions, and the search among forms.
 use Rattle.std.specs.Prelude.{◌≡◌, ℕ, ◌+◌, ◌-◌, ◌^◌, ◌==◌, Bool, true, if◌then◌else◌, List, [], ◌∷◌, ◌++◌, length, replicate, take, drop, codes, bytes_eq, ℤ}
 use Rattle.ph_specs.specs.Command.{Command as Asked, Place as Asks, Form as Spelling, form, count, value, radius, fixed, coordinates, number_at, first_word, kind_of, slot_of}
-use Rattle.ph_specs.specs.Command.Command.{Begin as AskBegin, Put as AskPut, Get as AskGet, Del as AskDel, Relocate as AskRelocate, Count as AskCount, Clear as AskClear, Window as AskWindow, Cursor as AskCursor, Page as AskPage, Near as AskNear, Within as AskWithin, Overlap as AskOverlap, Inside as AskInside, Covers as AskCovers, Statistics as AskStatistics, Select as AskSelect, Compare as AskCompare}
-use Rattle.ph_specs.specs.Command.Place.{Coordinate as AsksCoordinate, Below, CursorName, OneOf}
+use Rattle.ph_specs.specs.Command.Command.{Begin as AskBegin, Put as AskPut, Get as AskGet, Del as AskDel, Relocate as AskRelocate, Count as AskCount, Clear as AskClear, Window as AskWindow, Cursor as AskCursor, Page as AskPage, Near as AskNear, Within as AskWithin, Overlap as AskOverlap, Inside as AskInside, Covers as AskCovers, Save as AskSave, Load as AskLoad, Statistics as AskStatistics, Select as AskSelect, Compare as AskCompare}
+use Rattle.ph_specs.specs.Command.Place.{Coordinate as AsksCoordinate, Below, CursorName, FileName as AsksFileName, OneOf}
 use Rattle.ph_script.specs.declared.command.Bad.{Bad}
 use Rattle.ph_script.specs.declared.command.Bad.TheVariants.{Word, Count as BadCount}
 use Rattle.ph_script.specs.declared.forms.Verb.{Verb}
-use Rattle.ph_script.specs.declared.forms.Verb.TheVariants.{Open, OpenMax, Put, Get, Del, Relocate, Count, Clear, Window, Cursor, Page, Near, Within, Overlap, Inside, Covers, Stats, Select, Same}
+use Rattle.ph_script.specs.declared.forms.Verb.TheVariants.{Open, OpenMax, Put, Get, Del, Relocate, Count, Clear, Window, Cursor, Page, Near, Within, Overlap, Inside, Covers, Save, Load, Stats, Select, Same}
 use Rattle.ph_script.specs.declared.forms.Places.{Places}
-use Rattle.ph_script.specs.declared.forms.Places.TheVariants.{Coordinates, UpTo as AllUpTo, Name as AllName, Fixed as AllFixed, Either as AllEither}
+use Rattle.ph_script.specs.declared.forms.Places.TheVariants.{Coordinates, UpTo as AllUpTo, Name as AllName, FileName as AllFileName, Fixed as AllFixed, Either as AllEither}
 use Rattle.ph_script.specs.declared.forms.Place.{Place}
-use Rattle.ph_script.specs.declared.forms.Place.TheVariants.{Coordinate, UpTo, Name, Fixed, Either}
+use Rattle.ph_script.specs.declared.forms.Place.TheVariants.{Coordinate, UpTo, Name, FileName, Fixed, Either}
 use Rattle.ph_script.specs.declared.forms.Form.{Form}
 use Rattle.ph_script.specs.declared.spread.Spread.{Spread}
 
@@ -18,6 +18,7 @@ abbrev pub place_of : Place → Asks
 place_of Coordinate = AsksCoordinate
 place_of (UpTo most) = Below (most + 1)
 place_of Name = CursorName
+place_of FileName = AsksFileName
 place_of (Fixed word) = fixed word.now
 place_of (Either first second) = OneOf (first.now ∷ second.now ∷ [])
 
@@ -25,6 +26,7 @@ abbrev pub group_of : ℕ → Places → List Asks
 group_of dims Coordinates = coordinates dims
 group_of dims (AllUpTo most) = Below (most + 1) ∷ []
 group_of dims AllName = CursorName ∷ []
+group_of dims AllFileName = AsksFileName ∷ []
 group_of dims (AllFixed word) = fixed word.now ∷ []
 group_of dims (AllEither first second) = OneOf (first.now ∷ second.now ∷ []) ∷ []
 
@@ -56,6 +58,8 @@ places_by Within dims = coordinates dims ++ radius ∷ []
 places_by Overlap dims = coordinates dims
 places_by Inside dims = coordinates dims
 places_by Covers dims = coordinates dims
+places_by Save dims = AsksFileName ∷ []
+places_by Load dims = AsksFileName ∷ []
 places_by Stats dims = []
 places_by Select dims = OneOf (codes "a" ∷ codes "b" ∷ []) ∷ []
 places_by Same dims = []
@@ -77,6 +81,8 @@ command_by Within dims = λ n t. AskWithin (take dims n) (number_at n dims)
 command_by Overlap dims = λ n t. AskOverlap n
 command_by Inside dims = λ n t. AskInside n
 command_by Covers dims = λ n t. AskCovers n
+command_by Save dims = λ n t. AskSave (first_word t)
+command_by Load dims = λ n t. AskLoad (first_word t)
 command_by Stats dims = λ n t. AskStatistics
 command_by Select dims = λ n t. AskSelect (slot_of t)
 command_by Same dims = λ n t. AskCompare

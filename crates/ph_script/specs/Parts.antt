@@ -5,7 +5,7 @@ use Rattle.ph_coord.specs.declared.number.Number.{Number}
 use Rattle.ph_coord.specs.declared.number.Number.TheVariants.{Whole, Wide, Not}
 use Rattle.ph_coord.specs.Spelling.{number_of}
 use Rattle.ph_specs.specs.Command.{Place}
-use Rattle.ph_specs.specs.Command.Place.{Coordinate, Below, CursorName, OneOf}
+use Rattle.ph_specs.specs.Command.Place.{Coordinate, Below, CursorName, FileName, OneOf}
 use Rattle.ph_specs.specs.declared.Kind.{Kind}
 use Rattle.ph_specs.specs.declared.Kind.TheVariants.{Points, Boxes}
 use Rattle.ph_specs.specs.declared.Which.{Which}
@@ -55,6 +55,16 @@ abbrev pub name_from : Option (List ℕ) → List Place → List (List ℕ) → 
 name_from got [] ws = got
 name_from got (place ∷ places) [] = got
 name_from got (place ∷ places) (word ∷ ws) = name_from (named got place word) places ws
+
+-- the file's name, in the same way
+abbrev pub filed : Option (List ℕ) → Place → List ℕ → Option (List ℕ)
+filed got FileName word = Some word
+filed got _ word = got
+
+abbrev pub file_from : Option (List ℕ) → List Place → List (List ℕ) → Option (List ℕ)
+file_from got [] ws = got
+file_from got (place ∷ places) [] = got
+file_from got (place ∷ places) (word ∷ ws) = file_from (filed got place word) places ws
 
 -- whether the last word in a place for one of two words is the second: with one word in its place, and with all
 abbrev pub second_in : Bool → Place → List ℕ → Bool

@@ -1,5 +1,6 @@
 //! Commands, and what is wrong with a line that is none.
 use crate::coords::Coords;
+use crate::file_name::FileName;
 use crate::name::Name;
 use ph_coord::Kind;
 use ph_specs::Which;
@@ -31,6 +32,10 @@ pub enum Command {
     Inside { bounds: Coords },
     /// The boxes that cover it.
     Covers { bounds: Coords },
+    /// The rows of the table, into a file.
+    Save { file: FileName },
+    /// The rows of a saved table, in place of those of the table.
+    Load { file: FileName },
     /// The sizes of the tree.
     Stats,
     /// The other table, or the same again.

@@ -29,6 +29,8 @@ pub(crate) enum Verb {
     Overlap,
     Inside,
     Covers,
+    Save,
+    Load,
     Stats,
     Select,
     Same,
@@ -43,6 +45,8 @@ pub(crate) enum Places {
     UpTo(u128),
     /// A cursor's name.
     Name,
+    /// A file's name.
+    FileName,
     /// This word.
     Fixed(&'static [u8]),
     /// One of two words.
@@ -57,6 +61,8 @@ pub(crate) enum Place {
     UpTo(u128),
     /// A cursor's name.
     Name,
+    /// A file's name.
+    FileName,
     /// This word.
     Fixed(&'static [u8]),
     /// One of two words.
@@ -80,7 +86,7 @@ const RADIUS: u128 = u128::MAX;
 const KINDS: Places = Places::Either(b"points", b"boxes");
 
 // The forms that are answered so far, in the order of the definitions. One more is a row here, a `Verb` and its command.
-static FORMS: [Form; 19] = [
+static FORMS: [Form; 21] = [
     Form {
         word: b"open",
         places: &[KINDS, Places::UpTo(COUNT)],
@@ -167,6 +173,16 @@ static FORMS: [Form; 19] = [
         verb: Verb::Covers,
     },
     Form {
+        word: b"save",
+        places: &[Places::FileName],
+        verb: Verb::Save,
+    },
+    Form {
+        word: b"load",
+        places: &[Places::FileName],
+        verb: Verb::Load,
+    },
+    Form {
         word: b"stats",
         places: &[],
         verb: Verb::Stats,
@@ -197,7 +213,11 @@ impl Places {
     {
         match self {
             Places::Coordinates => dims,
-            Places::UpTo(_) | Places::Name | Places::Fixed(_) | Places::Either(..) => 1,
+            Places::UpTo(_)
+            | Places::Name
+            | Places::FileName
+            | Places::Fixed(_)
+            | Places::Either(..) => 1,
         }
     }
 
@@ -209,6 +229,7 @@ impl Places {
             Places::Coordinates => Place::Coordinate,
             Places::UpTo(most) => Place::UpTo(most),
             Places::Name => Place::Name,
+            Places::FileName => Place::FileName,
             Places::Fixed(word) => Place::Fixed(word),
             Places::Either(first, second) => Place::Either(first, second),
         }

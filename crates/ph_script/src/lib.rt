@@ -3,6 +3,7 @@
 
 mod command;
 mod coords;
+mod file_name;
 mod forms;
 mod lines;
 mod name;
@@ -19,6 +20,7 @@ mod words;
 
 pub use command::{Bad, Command};
 pub use coords::{Coord, Coords};
+pub use file_name::FileName;
 pub use lines::{Line, Lines, NoMemory};
 pub use name::Name;
 pub use ph_specs::Which;

@@ -6,10 +6,11 @@ ghost use Rattle.arrayvec.specs.ArrayVec.{array_vec_len};
 ghost use Rattle.ph_specs.specs.Lines.{words};
 ghost use Rattle.ph_specs.specs.Command.{number_fits, name_fits};
 ghost use Rattle.ph_script.specs.Forms.{place_of, spread_of};
-ghost use Rattle.ph_script.specs.Parts.{coords_in, counts_in, coords_at, counts_at, coords_room, counts_room, named, name_from, second_in, second_from};
+ghost use Rattle.ph_script.specs.Parts.{coords_in, counts_in, coords_at, counts_at, coords_room, counts_room, named, name_from, filed, file_from, second_in, second_from};
 ghost use Rattle.ph_script.specs.Fit.{IsFault};
 
 use crate::command::Bad;
+use crate::file_name::FileName;
 use crate::forms::Place;
 use crate::name::Name;
 use crate::numbers::{read_coord, read_count};
@@ -27,6 +28,7 @@ fn read_word(place: Place, word: &[u8], parts: &mut Parts) -> Result<(), Bad>
     ensures coords { number_fits (place_of place) word.now ≡ true → parts.new.coords.items ≡ parts.old.coords.items ++ coords_in (place_of place) word.now }
     ensures counts { number_fits (place_of place) word.now ≡ true → parts.new.counts.items ≡ parts.old.counts.items ++ counts_in (place_of place) word.now }
     ensures name { name_fits (place_of place) word.now ≡ true → parts.new.name ≡ named parts.old.name (place_of place) word.now }
+    ensures file { name_fits (place_of place) word.now ≡ true → parts.new.file ≡ filed parts.old.file (place_of place) word.now }
     ensures second { number_fits (place_of place) word.now ≡ true → parts.new.is_second ≡ second_in parts.old.is_second (place_of place) word.now }
 {
     match place {
@@ -48,6 +50,12 @@ fn read_word(place: Place, word: &[u8], parts: &mut Parts) -> Result<(), Bad>
             };
             parts.name = Some(name);
         }
+        Place::FileName => {
+            let Some(file) = FileName::from_bytes(word) else {
+                return Err(Bad::Name);
+            };
+            parts.file = Some(file);
+        }
         Place::Fixed(fixed) => {
             if word != fixed {
                 return Err(Bad::Name);
@@ -68,7 +76,7 @@ fn read_word(place: Place, word: &[u8], parts: &mut Parts) -> Result<(), Bad>
 ///
 /// A wrong number is told before a wrong name, wherever they stand.
 pub(crate) fn read_places(mut places: Spread, text: &[u8], parts: &mut Parts) -> Result<(), Bad>
-    requires empty { (parts.old.coords.items ≡ []) × (parts.old.counts.items ≡ []) × (parts.old.name ≡ None) × (parts.old.is_second ≡ false) }
+    requires empty { (parts.old.coords.items ≡ []) × (parts.old.counts.items ≡ []) × (parts.old.name ≡ None) × (parts.old.file ≡ None) × (parts.old.is_second ≡ false) }
     requires size { length (words text.now) ≡ length (spread_of places) }
     requires coords { sum_by coords_room (spread_of places) ≤ MOST_COORDINATES }
     requires counts { sum_by counts_room (spread_of places) ≤ 2 }
@@ -78,6 +86,7 @@ pub(crate) fn read_places(mut places: Spread, text: &[u8], parts: &mut Parts) ->
         × (parts.new.coords.items ≡ coords_at (spread_of places) (words text.now))
         × (parts.new.counts.items ≡ counts_at (spread_of places) (words text.now))
         × (parts.new.name ≡ name_from None (spread_of places) (words text.now))
+        × (parts.new.file ≡ file_from None (spread_of places) (words text.now))
         × (parts.new.is_second ≡ second_from false (spread_of places) (words text.now)))
         (λ b. IsFault b (pointwise number_fits (spread_of places) (words text.now)) (pointwise name_fits (spread_of places) (words text.now))) }
 {

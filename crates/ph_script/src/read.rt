@@ -10,6 +10,7 @@ ghost use Rattle.ph_script.specs.Fit.{IsFit, IsNamed, HasDims, ReadsDims};
 
 use crate::command::{Bad, Command};
 use crate::coords::Coords;
+use crate::file_name::FileName;
 use crate::forms::{Form, Verb, find_form};
 use crate::name::Name;
 use crate::parts::Parts;
@@ -43,8 +44,8 @@ fn read_form(form: &Form, dims: usize, text: &[u8]) -> Result<Option<Command>, B
 // The command of a form and of the parts that its places have.
 fn command(verb: Verb, dims: usize, parts: &Parts) -> Command
     requires limit { dims ≤ 16 }
-    requires fit { IsFit verb dims parts.now.coords.items parts.now.counts.items parts.now.name }
-    ensures meaning { (texts : List (List ℕ)) → IsNamed verb parts.now.name parts.now.is_second texts → command_of result ≡ command_by verb dims (numbers_of parts.now.coords.items ++ map pos parts.now.counts.items) texts }
+    requires fit { IsFit verb dims parts.now.coords.items parts.now.counts.items parts.now.name parts.now.file }
+    ensures meaning { (texts : List (List ℕ)) → IsNamed verb parts.now.name parts.now.file parts.now.is_second texts → command_of result ≡ command_by verb dims (numbers_of parts.now.coords.items ++ map pos parts.now.counts.items) texts }
     ensures dims { HasDims dims result }
 {
     let coords = parts.coords.as_slice();
@@ -115,6 +116,12 @@ fn command(verb: Verb, dims: usize, parts: &Parts) -> Command
         Verb::Covers => Command::Covers {
             bounds: Coords::new(coords),
         },
+        Verb::Save => Command::Save {
+            file: file_in(parts),
+        },
+        Verb::Load => Command::Load {
+            file: file_in(parts),
+        },
         Verb::Stats => Command::Stats,
         Verb::Select => Command::Select {
             slot: slot_in(parts),
@@ -129,6 +136,16 @@ fn name_in(parts: &Parts) -> Name
 {
     match parts.name {
         Some(name) => name,
+        None => unreachable!(),
+    }
+}
+
+fn file_in(parts: &Parts) -> FileName
+    requires { IsSome parts.now.file }
+    ensures { parts.now.file ≡ Some result }
+{
+    match &parts.file {
+        Some(file) => file.copied(),
         None => unreachable!(),
     }
 }

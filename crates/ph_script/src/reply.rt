@@ -33,6 +33,10 @@ pub enum Reply<const D: usize> {
     More(u32),
     /// The cursor is there.
     Ready,
+    /// The number of bytes that were written.
+    Saved(u128),
+    /// The number of rows that were read.
+    Loaded(u64),
     /// The sizes of a tree: its rows, its nodes, those of each layout, and the words of their records; its line begins with `rows`.
     Stats {
         rows: u128,
@@ -61,5 +65,19 @@ pub enum Reply<const D: usize> {
     ErrorCursor,
     /// There are as many cursors as may be.
     ErrorCursors,
+    /// No file has the name, it is too long, or it could not be read or written.
+    ErrorFile,
     ErrorFull,
+    /// A file that does not begin as a saved table does.
+    BadMagic,
+    /// The place of a byte in the head of a saved table that cannot be there.
+    BadHeader(u64),
+    /// A saved table of another kind or of other dimensions.
+    BadDims,
+    /// The place of the record in which a saved table ends too early.
+    BadShort(u64),
+    /// The place of a record of a saved table that cannot be there.
+    BadNode(u64),
+    /// The place of the first byte behind a saved table.
+    BadExtra(u64),
 }

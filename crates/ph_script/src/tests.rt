@@ -1,6 +1,6 @@
 use crate::{
-    Bad, Command, Coord, Coords, Line, Lines, Name, Reply, Text, Which, read_command, reply_text,
-    write_text,
+    Bad, Command, Coord, Coords, FileName, Line, Lines, Name, Reply, Text, Which, read_command,
+    reply_text, write_text,
 };
 use ph_coord::{Kind, Point, Row, Width};
 use std::test::Fail;
@@ -90,6 +90,17 @@ fn read_commands_on_slots(rt: HostRuntime) -> Result<(), Fail> {
 }
 
 #[test]
+fn read_commands_on_files(rt: HostRuntime) -> Result<(), Fail> {
+    let file = FileName::new("a/b.pht!~").ok_or("no name")?;
+    let save = Command::Save { file };
+    assert_eq!(rt; read_command(b"save a/b.pht!~", 2), Ok(Some(save)));
+    let file = FileName::new("table").ok_or("no name")?;
+    let load = Command::Load { file };
+    assert_eq!(rt; read_command(b" load\ttable ", 2), Ok(Some(load)));
+    Ok(())
+}
+
+#[test]
 fn read_commands_on_windows(rt: HostRuntime) -> Result<(), Fail> {
     let lo = Coords::from_slice(&[Coord::Whole(-1), Coord::Whole(0)]).ok_or("too many")?;
     let hi = Coords::from_slice(&[Coord::Whole(3), Coord::Far]).ok_or("too many")?;
@@ -133,6 +144,25 @@ fn names(rt: HostRuntime) -> Result<(), Fail> {
     assert!(rt; name == Name::new("a-").ok_or("no name")?);
     assert!(rt; name < Name::new("a0").ok_or("no name")?);
     assert!(rt; Name::new("a").ok_or("no name")? < name);
+    Ok(())
+}
+
+#[test]
+fn file_names(rt: HostRuntime) -> Result<(), Fail> {
+    let longest = [b'~'; 255];
+    let line = [b"load ".as_slice(), &longest].concat(rt.alloc())?;
+    let file = FileName::new(str::from_utf8(&longest)?).ok_or("no name")?;
+    assert_eq!(rt; file.as_str().len(), 255);
+    let load = Command::Load { file };
+    assert_eq!(rt; read_command(&line, 2), Ok(Some(load)));
+    let line = [b"load ".as_slice(), &[b'!'; 256]].concat(rt.alloc())?;
+    assert_eq!(rt; read_command(&line, 2), Err(Bad::Name));
+    for text in ["", "a b", "a\u{7f}", "\u{e9}", "a\n"] {
+        assert!(rt; FileName::new(text).is_none());
+    }
+    let name = FileName::new("a-").ok_or("no name")?;
+    assert!(rt; name == name.clone()?);
+    assert!(rt; name != FileName::new("a").ok_or("no name")?);
     Ok(())
 }
 
@@ -197,6 +227,10 @@ fn refused_names(rt: HostRuntime) -> Result<(), Fail> {
             Bad::Number,
         ),
         (b"overlap 1", Bad::Count),
+        (b"save", Bad::Count),
+        (b"load a b", Bad::Count),
+        (b"save a\x7f", Bad::Name),
+        (b"load \xc3\xa9", Bad::Name),
         (b"inside 1 x", Bad::Number),
         (b"use", Bad::Count),
         (b"use c", Bad::Name),
@@ -283,6 +317,8 @@ fn texts_of_replies(rt: HostRuntime) -> Result<(), Fail> {
         ),
         (Reply::More(2), "more 2\n"),
         (Reply::Ready, "ready\n"),
+        (Reply::Saved(40), "saved 40\n"),
+        (Reply::Loaded(2), "loaded 2\n"),
         (
             Reply::Stats {
                 rows: 3,
@@ -322,7 +358,14 @@ fn texts_of_replies(rt: HostRuntime) -> Result<(), Fail> {
         (Reply::ErrorReversed, "error reversed\n"),
         (Reply::ErrorCursor, "error cursor\n"),
         (Reply::ErrorCursors, "error cursors\n"),
+        (Reply::ErrorFile, "error file\n"),
         (Reply::ErrorFull, "error full\n"),
+        (Reply::BadMagic, "bad magic\n"),
+        (Reply::BadHeader(4), "bad header 4\n"),
+        (Reply::BadDims, "bad dims\n"),
+        (Reply::BadShort(8), "bad short 8\n"),
+        (Reply::BadNode(32), "bad node 32\n"),
+        (Reply::BadExtra(64), "bad extra 64\n"),
     ];
     for (reply, text) in cases {
         assert_eq!(rt; reply_text(&reply).as_str(), text);

@@ -82,6 +82,8 @@ pub fn write_text<const D: usize>(text: &mut Text, reply: &Reply<D>)
         Reply::End(count) => push_numbered(line, "end", *count),
         Reply::More(count) => push_numbered(line, "more", *count),
         Reply::Ready => line.push_str("ready\n"),
+        Reply::Saved(count) => push_numbered(line, "saved", *count),
+        Reply::Loaded(count) => push_numbered(line, "loaded", *count),
         Reply::Stats {
             rows,
             nodes,
@@ -104,7 +106,14 @@ pub fn write_text<const D: usize>(text: &mut Text, reply: &Reply<D>)
         Reply::ErrorReversed => line.push_str("error reversed\n"),
         Reply::ErrorCursor => line.push_str("error cursor\n"),
         Reply::ErrorCursors => line.push_str("error cursors\n"),
+        Reply::ErrorFile => line.push_str("error file\n"),
         Reply::ErrorFull => line.push_str("error full\n"),
+        Reply::BadMagic => line.push_str("bad magic\n"),
+        Reply::BadHeader(at) => push_numbered(line, "bad header", *at),
+        Reply::BadDims => line.push_str("bad dims\n"),
+        Reply::BadShort(at) => push_numbered(line, "bad short", *at),
+        Reply::BadNode(at) => push_numbered(line, "bad node", *at),
+        Reply::BadExtra(at) => push_numbered(line, "bad extra", *at),
     }
 }
 
