@@ -19,15 +19,17 @@ use Rattle.ph_engine.specs.Machine.{Machine, Turn, Work, turn, is_refusal, one_i
 use Rattle.ph_engine.specs.Costs.{Spent, Worked}
 use Rattle.ph_engine.specs.Working.{no_work, work_of, IsAtMost, IsAtLeast}
 use Rattle.ph_engine.specs.Answering.{Said, SaysOr}
-use Rattle.ph_engine.specs.BuiltMachine.{Whole, whole, told_files, reading_in, built_step, cut_by, starved_by, wants_by, work_by, built_machine}
-use Rattle.ph_engine.specs.Beside.{Beside, AreTold, StillTells, Tells}
-use Rattle.ph_engine.specs.Doing.{Done, DoneOr, Knows, Leads, cut_engine, starved_engine, refuses}
-use Rattle.ph_engine.specs.Writing.{WritesFront}
+use Rattle.ph_engine.specs.BuiltMachine.{Whole, whole, told_files, reading_in, built_step, cut_by, starved_by, wants_by, uses_by, work_by, built_machine}
+use Rattle.ph_engine.specs.Beside.{Beside, AreTold, StillTells, Filings}
+use Rattle.ph_engine.specs.Doing.{Done, DoneOr, Knows, Leads, uses_files, cut_engine, starved_engine, refuses}
+use Rattle.ph_io.specs.Writing.{WritesFront}
 use Rattle.ph_engine.specs.Showing.{IsShort}
 use Rattle.ph_engine.specs.declared.status.Answer.{Answer}
 use Rattle.ph_engine.specs.declared.status.Stop.{Stop}
 use Rattle.ph_engine.specs.declared.status.Stop.TheVariants.{WriteFault, NoMemory}
-use Rattle.ph_engine.proofs.Appending.{given_none}
+use Rattle.ph_io.proofs.Appending.{given_none}
+use Rattle.ph_engine.proofs.Machines.{or_false}
+use Rattle.ph_engine.proofs.Sums.{no-filings}
 
 -- a line that is shown as text is short enough to be read
 pub shown-short : (bytes : List ℕ) (line : Line) → IsLine bytes line → IsShort line
@@ -50,14 +52,14 @@ known command told files e = rw e refl
 
 -- ---- the work of one line
 
-one-spent : (m : Machine Whole) (s : Whole) (t : Turn) (b now_b : Beside) (w : Work) → m.work s t ≡ w → Tells b.filings now_b.filings (one_if t.fault) → IsAtMost w b.visits now_b.visits b.changes now_b.changes → Spent m s (t ∷ []) b now_b
+one-spent : (m : Machine Whole) (s : Whole) (t : Turn) (b now_b : Beside) (w : Work) → m.work s t ≡ w → Filings (m.uses s t) (one_if t.fault) b.filings now_b.filings → IsAtMost w b.visits now_b.visits b.changes now_b.changes → Spent m s (t ∷ []) b now_b
 one-spent m s t b now_b w e f h = record {
-  filings = let z : one_if t.fault + 0 ≡ one_if t.fault = omega arith in rw z f;
+  filings = let z : one_if t.fault + 0 ≡ one_if t.fault = omega arith in rw (z, or_false (m.uses s t)) f;
   most_visits = omega (arith, h.few_visits, ap (λ x. x.most_visits) e);
   most_changes = omega (arith, h.few_changes, ap (λ x. x.most_changes) e);
 }
 
-one-worked : (m : Machine Whole) (s : Whole) (t : Turn) (b now_b : Beside) (w : Work) → m.work s t ≡ w → Tells b.filings now_b.filings (one_if t.fault) → IsAtMost w b.visits now_b.visits b.changes now_b.changes → IsAtLeast w b.visits now_b.visits b.changes now_b.changes → Worked m s (t ∷ []) b now_b
+one-worked : (m : Machine Whole) (s : Whole) (t : Turn) (b now_b : Beside) (w : Work) → m.work s t ≡ w → Filings (m.uses s t) (one_if t.fault) b.filings now_b.filings → IsAtMost w b.visits now_b.visits b.changes now_b.changes → IsAtLeast w b.visits now_b.visits b.changes now_b.changes → Worked m s (t ∷ []) b now_b
 one-worked m s t b now_b w e f h l = record {
   spent = one-spent m s t b now_b w e f h;
   least_visits = omega (arith, l.enough_visits, ap (λ x. x.least_visits) e);
@@ -67,16 +69,20 @@ one-worked m s t b now_b w e f h l = record {
 -- what stands beside is as it was, but for what the sink took
 pub record IsQuiet (b now_b : Beside) : Type 0 where
   pub files : now_b.files ≡ b.files
-  pub filings : b.filings ≤ now_b.filings
+  pub filings : now_b.filings ≡ b.filings
   pub visits : now_b.visits ≡ b.visits
   pub changes : now_b.changes ≡ b.changes
 
 -- the work of a line that is no command
-quiet-work : (most : ℕ) (s : Whole) (line : List ℕ) (reading : Reading) (b now_b : Beside) → IsQuiet b now_b → reading_in s (turn line false) ≡ reading → ((most : ℕ) → work_by most s false reading ≡ no_work) → Worked (built_machine most) s (turn line false ∷ []) b now_b
-quiet-work most s line reading b now_b q h w =
-    one-worked (built_machine most) s (turn line false) b now_b no_work (ap (work_by most s false) h ∙ w most) (inr (omega (arith, q.filings)))
+quiet-work : (most : ℕ) (s : Whole) (line : List ℕ) (reading : Reading) (b now_b : Beside) → IsQuiet b now_b → reading_in s (turn line false) ≡ reading → uses_by reading ≡ false → ((most : ℕ) → work_by most s false reading ≡ no_work) → Worked (built_machine most) s (turn line false ∷ []) b now_b
+quiet-work most s line reading b now_b q h u w =
+    one-worked (built_machine most) s (turn line false) b now_b no_work (ap (work_by most s false) h ∙ w most) (rw (h, u, q.filings) (no-filings b.filings))
     (record { few_visits = omega (arith, q.visits); few_changes = omega (arith, q.changes) })
     (record { enough_visits = omega (arith, q.visits); enough_changes = omega (arith, q.changes) })
+
+-- the faults of a line that is a command
+filed : (most : ℕ) (s : Whole) (t : Turn) (command : Command) (b now_b : Beside) (fault : Bool) → reading_in s t ≡ Do command → Filings (uses_files command) (one_if fault) b.filings now_b.filings → Filings ((built_machine most).uses s t) (one_if fault) b.filings now_b.filings
+filed most s t command b now_b fault h f = rw h f
 
 -- ---- lines
 
@@ -88,7 +94,7 @@ said-nothing most s line b h =
       told = rw o (given_none b.sink);
       state = rw o refl;
       refusal = rw o refl;
-      worked = quiet-work most s line Nothing b b (record { files = refl; filings = omega arith; visits = refl; changes = refl }) h (λ _. refl);
+      worked = quiet-work most s line Nothing b b (record { files = refl; filings = refl; visits = refl; changes = refl }) h refl (λ _. refl);
     }
 
 -- a command
@@ -101,7 +107,7 @@ said-done most e now files line command b now_b answer refused told d h r =
       state = rw o (ap (whole now) (sym (told-behind b.files now_b.files files l.files told l.told_files)));
       refusal = rw o (r ∙ d.refusal);
       worked =
-          one-worked (built_machine most) (whole e files) (turn line d.fault) b now_b (work_of most e files d.fault command) (ap (work_by most (whole e files) d.fault) h) d.filings
+          one-worked (built_machine most) (whole e files) (turn line d.fault) b now_b (work_of most e files d.fault command) (ap (work_by most (whole e files) d.fault) h) (filed most (whole e files) (turn line d.fault) command b now_b d.fault h d.filings)
           (d.most_work files (known command b.files files told)) (d.least_work files (known command b.files files told));
     }
 
@@ -117,7 +123,7 @@ said-stopped most e now files line command b now_b WriteFault told h d =
         short = rw o d.short;
         told = rw o d.told;
         state = ap (λ x. whole x (told_files now_b.files)) d.state ∙ ap (whole (cut_engine e command d.after)) (sym (told-behind b.files now_b.files files l.files told l.told_files)) ∙ sym c;
-        spent = one-spent (built_machine most) (whole e files) (turn line d.fault) b now_b (work_of most e files d.fault command) (ap (work_by most (whole e files) d.fault) (h d.fault)) d.filings (d.most_work files (known command b.files files told));
+        spent = one-spent (built_machine most) (whole e files) (turn line d.fault) b now_b (work_of most e files d.fault command) (ap (work_by most (whole e files) d.fault) (h d.fault)) (filed most (whole e files) (turn line d.fault) command b now_b d.fault (h d.fault) d.filings) (d.most_work files (known command b.files files told));
       };
     }
 said-stopped most e now files line command b now_b NoMemory told h d =
@@ -129,7 +135,7 @@ said-stopped most e now files line command b now_b NoMemory told h d =
         part = d.part;
         state = ap (λ x. whole x (told_files now_b.files)) (d.state files (known command b.files files told)) ∙ ap (whole (starved_engine e files command d.part)) (sym same) ∙ sym (ap (starved_by (whole e files) d.part) (h d.fault));
         wanted = ap (wants_by (whole e files)) (h d.fault) ∙ d.wanted;
-        spent = one-spent (built_machine most) (whole e files) (turn line d.fault) b now_b (work_of most e files d.fault command) (ap (work_by most (whole e files) d.fault) (h d.fault)) d.filings (d.most_work files (known command b.files files told));
+        spent = one-spent (built_machine most) (whole e files) (turn line d.fault) b now_b (work_of most e files d.fault command) (ap (work_by most (whole e files) d.fault) (h d.fault)) (filed most (whole e files) (turn line d.fault) command b now_b d.fault (h d.fault) d.filings) (d.most_work files (known command b.files files told));
       };
     }
 
@@ -143,7 +149,7 @@ said-refused most e files line reply b now_b (Ok refused) told q h k f =
         told = rw (o, one-text reply) k.0;
         state = rw o (ap (λ x. whole e (told_files x)) (q.files ∙ told));
         refusal = rw (o, one-text reply) k.1;
-        worked = quiet-work most (whole e files) line (Refused reply) b now_b q h (λ _. refl);
+        worked = quiet-work most (whole e files) line (Refused reply) b now_b q h refl (λ _. refl);
       };
     }
 said-refused most e files line reply b now_b (Err WriteFault) told q h k f =
@@ -155,7 +161,7 @@ said-refused most e files line reply b now_b (Err WriteFault) told q h k f =
         short = rw (o, one-text reply) f.1.short;
         told = rw (o, one-text reply) f.1.told;
         state = ap (λ x. whole e (told_files x)) (q.files ∙ told) ∙ sym (ap (cut_by most (whole e files) false) h);
-        spent = (quiet-work most (whole e files) line (Refused reply) b now_b q h (λ _. refl)).spent;
+        spent = (quiet-work most (whole e files) line (Refused reply) b now_b q h refl (λ _. refl)).spent;
       };
     }
 said-refused most e files line reply b now_b (Err NoMemory) told q h k f = absurd (let clash : NoMemory ≡ WriteFault = f.0 in cc)
@@ -178,6 +184,12 @@ done-told most e now command b now_b (Err WriteFault) h d =
     let l = d.does (told_files b.files) (known command b.files (told_files b.files) (told-is b.files h)) in tells b.files now_b.files l.files h l.told_files
 done-told most e now command b now_b (Err NoMemory) h d =
     tells b.files now_b.files (told_files b.files) h (d.files (told_files b.files) (let t : b.files ≡ Some (told_files b.files) = told-is b.files h in rw t refl))
+
+-- whatever it did, the count of their faults did not fall
+pub done-later : (most : ℕ) (e now : Engine) (command : Command) (b now_b : Beside) (result : Result Answer Stop) → DoneOr most e command b now_b now result → b.filings ≤ now_b.filings
+done-later most e now command b now_b (Ok answer) d = d.filings.later
+done-later most e now command b now_b (Err WriteFault) d = d.filings.later
+done-later most e now command b now_b (Err NoMemory) d = d.filings.later
 
 -- what a line that is shown was read as
 pub text-reading : (e : Engine) (dims : ℕ) (bytes : List ℕ) (line : Line) (t : Bor (List ℕ)) (reading : Reading) → dims ≡ (current e).dims → line ≡ Text t → IsLine bytes line → reading ≡ built_words dims (words t.now) → built_reading (current e).dims bytes ≡ reading

@@ -16,35 +16,39 @@ use Rattle.ph_specs.specs.Window.{Cursor}
 use Rattle.ph_script.specs.declared.reply.Reply.{Reply as Told}
 use Rattle.ph_script.specs.Meaning.{reply_of}
 use Rattle.ph_engine.specs.Machine.{is_refusal}
-use Rattle.ph_engine.specs.Beside.{Beside, beside_sink, IsTold, StillTells}
+use Rattle.ph_engine.specs.Beside.{Beside, beside_sink, IsTold, StillTells, Filings}
 use Rattle.ph_engine.specs.Comparing.{Compares}
 use Rattle.ph_engine.specs.Working.{work_of, nodes_of, IsAtMost, IsAtLeast}
-use Rattle.ph_engine.specs.Doing.{Does, DoneOr, Begun, Knows, Unserved, ServedOr, is_page, cut_engine, refuses}
+use Rattle.ph_engine.specs.Doing.{Does, DoneOr, Begun, Knows, Unserved, ServedOr, uses_files, is_page, cut_engine, refuses}
 use Rattle.ph_engine.specs.Slots.{AnyTable, slot_of, engine_of}
 use Rattle.ph_engine.specs.Telling.{Tells, ToldOr}
-use Rattle.ph_engine.specs.Writing.{WritesFront}
+use Rattle.ph_io.specs.Writing.{WritesFront}
 use Rattle.ph_engine.specs.declared.status.Answer.{Answer}
 use Rattle.ph_engine.specs.declared.status.Stop.{Stop}
 use Rattle.ph_engine.specs.declared.status.Stop.TheVariants.{WriteFault, NoMemory}
 use Rattle.ph_engine.specs.Refusing.{early_refusal}
-use Rattle.ph_engine.proofs.Appending.{given_none}
+use Rattle.ph_io.proofs.Appending.{given_none}
 use Rattle.ph_engine.proofs.Plain.{IsPlain, does-at, most-at, least-at, wants-at}
 
 known-told : (command : Asked) (told now_told : Option Files) (files : Files) → now_told ≡ told → Knows command told files → StillTells told now_told files
 known-told command None now_told files e k = tt
 known-told command (Some told) now_told files e k = e ∙ ap Some k
 
-told-told : (told now_told : Option Files) (files : Files) → now_told ≡ told → IsTold told files → StillTells told now_told files
+pub told-told : (told now_told : Option Files) (files : Files) → now_told ≡ told → IsTold told files → StillTells told now_told files
 told-told None now_told files e k = tt
 told-told (Some told) now_told files e k = e ∙ ap Some k
 
-one-text : (r : Reply) → replies_text (r ∷ []) ≡ reply_text r
+pub one-text : (r : Reply) → replies_text (r ∷ []) ≡ reply_text r
 one-text r = append-nil (reply_text r)
 
 -- the files are left as they were
 pub record LeavesFiles (b now_b : Beside) : Type 0 where
   pub files : now_b.files ≡ b.files
-  pub later : b.filings ≤ now_b.filings
+  pub filings : now_b.filings ≡ b.filings
+
+-- and did not fail in the command
+pub no-faults : (command : Asked) (b now_b : Beside) → LeavesFiles b now_b → Filings (uses_files command) 0 b.filings now_b.filings
+no-faults command b now_b l = record { told = inr (omega (arith, l.filings)); later = omega (arith, l.filings); quiet = λ _. l.filings }
 
 -- with whatever files, the counters rose as far as the bounds let them, and as far as they must
 abbrev pub Most : Engine → Asked → Beside → Beside → Type 0
@@ -58,7 +62,7 @@ Least e command b now_b = (most : ℕ) (files : Files) (fault : Bool) → IsAtLe
 pub done-all : (most : ℕ) (e after now : Engine) (command : Asked) (replies : List Reply) (b now_b : Beside) (result : Result Answer Stop) → LeavesFiles b now_b → OnOk result (now ≡ after) → OnErr result (now ≡ cut_engine e command after) → Does e command after replies → Most e command b now_b → OnOk result (Least e command b now_b) → IfOk result (λ answer. refuses answer ≡ is_refusal (replies_text replies)) → OnOk result (Given b.sink now_b.sink (replies_text replies)) → IfErr result (λ stop. stop ≡ WriteFault) → OnErr result (WritesFront b.sink now_b.sink (replies_text replies)) → DoneOr most e command b now_b now result
 done-all most e after now command replies b now_b (Ok answer) l x w d u v a t s f = record {
   fault = false;
-  filings = inr (omega (arith, l.later));
+  filings = no-faults command b now_b l;
   replies = replies;
   does = λ files k. record { files = files; is = rw x (d most files false); told_files = known-told command b.files now_b.files files l.files k };
   told = t;
@@ -68,7 +72,7 @@ done-all most e after now command replies b now_b (Ok answer) l x w d u v a t s 
 }
 done-all most e after now command replies b now_b (Err WriteFault) l x w d u v a t s f = record {
   fault = false;
-  filings = inr (omega (arith, l.later));
+  filings = no-faults command b now_b l;
   replies = replies;
   after = after;
   does = λ files k. record { files = files; is = d most files false; told_files = known-told command b.files now_b.files files l.files k };
@@ -88,24 +92,24 @@ done-said most e now command reply b now_b (Err stop) l p d u v t =
     done-all most e now now command (reply_of reply ∷ []) b now_b (Err stop) l tt p d u tt tt tt t.0 (rw (one-text (reply_of reply)) t.1)
 
 -- a command that makes a slot another one
-pub done-begun : {D : ℕ} (most : ℕ) (s now : Slot) (command : Asked) (reply : Told D) (sink now_sink : Taken) (visits changes : ℕ) (result : Result Answer Stop) → engine_of now ≡ cut_engine (engine_of s) command (engine_of now) → Begun s command now (reply_of reply) → Tells sink now_sink reply result → DoneOr most (engine_of s) command (beside_sink sink visits changes) (beside_sink now_sink visits changes) (engine_of now) result
-done-begun most s now command reply sink now_sink visits changes result p h t =
-    done-said most (engine_of s) (engine_of now) command reply _ _ result (record { files = refl; later = omega arith }) p h.does (h.most visits changes) (h.least visits changes) t
+pub done-begun : {D : ℕ} (most : ℕ) (s now : Slot) (command : Asked) (reply : Told D) (sink now_sink : Taken) (files : Option Files) (filings visits changes : ℕ) (result : Result Answer Stop) → engine_of now ≡ cut_engine (engine_of s) command (engine_of now) → Begun s command now (reply_of reply) → Tells sink now_sink reply result → DoneOr most (engine_of s) command (beside_sink sink files filings visits changes) (beside_sink now_sink files filings visits changes) (engine_of now) result
+done-begun most s now command reply sink now_sink files filings visits changes result p h t =
+    done-said most (engine_of s) (engine_of now) command reply _ _ result (record { files = refl; filings = refl }) p h.does (h.most visits changes) (h.least visits changes) t
 
 -- a command that is refused, a page too
 cut-same : (e : Engine) (page : Bool) → e ≡ (if page then e else e)
 cut-same e true = refl
 cut-same e false = refl
 
-pub done-refused : {D : ℕ} (most : ℕ) (s : Slot) (command : Asked) (reply : Told D) (sink now_sink : Taken) (visits changes : ℕ) (result : Result Answer Stop) → Begun s command s (reply_of reply) → Tells sink now_sink reply result → DoneOr most (engine_of s) command (beside_sink sink visits changes) (beside_sink now_sink visits changes) (engine_of s) result
-done-refused most s command reply sink now_sink visits changes result h t =
-    done-begun most s s command reply sink now_sink visits changes result (cut-same (engine_of s) (is_page command)) h t
+pub done-refused : {D : ℕ} (most : ℕ) (s : Slot) (command : Asked) (reply : Told D) (sink now_sink : Taken) (files : Option Files) (filings visits changes : ℕ) (result : Result Answer Stop) → Begun s command s (reply_of reply) → Tells sink now_sink reply result → DoneOr most (engine_of s) command (beside_sink sink files filings visits changes) (beside_sink now_sink files filings visits changes) (engine_of s) result
+done-refused most s command reply sink now_sink files filings visits changes result h t =
+    done-begun most s s command reply sink now_sink files filings visits changes result (cut-same (engine_of s) (is_page command)) h t
 
 -- a command for which memory was missing
 undone : (most : ℕ) (kind : Kind) (t now : AnyTable) (cursors : Named Cursor) (command : Asked) (b now_b : Beside) → LeavesFiles b now_b → IsPlain command → early_refusal (slot_of kind t cursors) command ≡ None → now_b.sink ≡ b.sink → Unserved t command now b.visits now_b.visits b.changes now_b.changes → DoneOr most (engine_of (slot_of kind t cursors)) command b now_b (engine_of (slot_of kind now cursors)) (Err NoMemory)
 undone most kind t now cursors command b now_b l p u sink h = record {
   fault = false;
-  filings = inr (omega (arith, l.later));
+  filings = no-faults command b now_b l;
   part = 0;
   state = λ files k. rw (p.no_import (slot_of kind t cursors) files) (ap (λ x. engine_of (slot_of kind x cursors)) h.stays);
   files = λ files k. told-told b.files now_b.files files l.files k;
@@ -130,9 +134,9 @@ select-unrefused most e files fault which = let k = kind-of-select (current e).k
 compare-unrefused : (most : ℕ) (e : Engine) (files : Files) (fault : Bool) → refusal most e files fault Asked.Compare ≡ None
 compare-unrefused most e files fault = let k = kind-of-compare (current e).kind in rw (k.0, k.1) refl
 
-pub select-done : {D : ℕ} (e now : Engine) (which : Which) (reply : Told D) (sink now_sink : Taken) (visits changes : ℕ) (result : Result Answer Stop) → now ≡ record e { current = which } → reply_of reply ≡ Reply.Using which → Tells sink now_sink reply result → DoneOr 0 e (Asked.Select which) (beside_sink sink visits changes) (beside_sink now_sink visits changes) now result
-select-done e now which reply sink now_sink visits changes result is said told =
-    done-said 0 e now (Asked.Select which) reply (beside_sink sink visits changes) (beside_sink now_sink visits changes) result (record { files = refl; later = omega arith }) refl
+pub select-done : {D : ℕ} (most : ℕ) (e now : Engine) (which : Which) (reply : Told D) (sink now_sink : Taken) (files : Option Files) (filings visits changes : ℕ) (result : Result Answer Stop) → now ≡ record e { current = which } → reply_of reply ≡ Reply.Using which → Tells sink now_sink reply result → DoneOr most e (Asked.Select which) (beside_sink sink files filings visits changes) (beside_sink now_sink files filings visits changes) now result
+select-done most e now which reply sink now_sink files filings visits changes result is said told =
+    done-said most e now (Asked.Select which) reply (beside_sink sink files filings visits changes) (beside_sink now_sink files filings visits changes) result (record { files = refl; filings = refl }) refl
     (λ most files fault. ap (λ r. unless_refused r e files (Asked.Select which)) (select-unrefused most e files fault which) ∙ (λ i. outcome (sym is i) files (sym said i ∷ [])))
     (λ most files fault. record { few_visits = omega arith; few_changes = omega arith })
     (λ most files fault. rw (select-unrefused most e files fault which) (record { enough_visits = omega arith; enough_changes = omega arith })) told
@@ -141,10 +145,10 @@ least-of-same : (test : Bool) (n v now_v : ℕ) → v ≤ now_v → (test ≡ tr
 least-of-same true n v now_v l h = let e = h refl in omega (arith, e)
 least-of-same false n v now_v l h = omega (arith, l)
 
-pub compare-done : {D : ℕ} (e : Engine) (reply : Told D) (sink now_sink : Taken) (visits now_visits changes : ℕ) (result : Result Answer Stop) → Compares e visits now_visits (reply_of reply) → Tells sink now_sink reply result → DoneOr 0 e Asked.Compare (beside_sink sink visits changes) (beside_sink now_sink now_visits changes) e result
-compare-done e reply sink now_sink visits now_visits changes result h told =
+pub compare-done : {D : ℕ} (most : ℕ) (e : Engine) (reply : Told D) (sink now_sink : Taken) (files : Option Files) (filings visits now_visits changes : ℕ) (result : Result Answer Stop) → Compares e visits now_visits (reply_of reply) → Tells sink now_sink reply result → DoneOr most e Asked.Compare (beside_sink sink files filings visits changes) (beside_sink now_sink files filings now_visits changes) e result
+compare-done most e reply sink now_sink files filings visits now_visits changes result h told =
     let n = nodes_of e.a + nodes_of e.b in
-    done-said 0 e e Asked.Compare reply (beside_sink sink visits changes) (beside_sink now_sink now_visits changes) result (record { files = refl; later = omega arith }) refl
+    done-said most e e Asked.Compare reply (beside_sink sink files filings visits changes) (beside_sink now_sink files filings now_visits changes) result (record { files = refl; filings = refl }) refl
     (λ most files fault. ap (λ r. unless_refused r e files Asked.Compare) (compare-unrefused most e files fault) ∙ ap (λ r. outcome e files (r ∷ [])) (sym (h.2 ∙ ap (λ t. if t then Reply.Same else Reply.Differ) h.1.same)))
     (λ most files fault. record { few_visits = h.1.few; few_changes = omega arith })
     (λ most files fault. rw (compare-unrefused most e files fault) (record { enough_visits = least-of-same (same_slots e.a e.b) n visits now_visits h.1.later h.1.all; enough_changes = omega arith })) told

@@ -43,7 +43,7 @@ as-defined file_bytes most left now_left b now_b s now status h =
       told = rw (← same, ← answers-run file_bytes s a.turns) a.told;
       engine = rw (← same) (ap (λ x. x.engine) (a.state ∙ after-run file_bytes s a.turns));
       files = rw (← same) (ap (λ x. x.files) (a.state ∙ after-run file_bytes s a.turns));
-      filings = a.worked.spent.filings;
+      filings = a.worked.spent.filings.told;
     }
 
 pub outcome-defined : (file_bytes most : ℕ) (left now_left : Option (List ℕ)) (b now_b : Beside) (s now : Whole) (status : Status) → IsRead status → Left (built_machine file_bytes) most left now_left b now_b s now status → RunsAsDefined file_bytes left now_left b now_b s now

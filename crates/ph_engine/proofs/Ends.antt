@@ -40,14 +40,15 @@ complete m most left now_left b now_b s now reads now_reads writes now_writes Me
 complete m most left now_left b now_b s now reads now_reads writes now_writes TooLong h c r w a = absurd (omega (arith, h.over, few_taken left now_left h.bytes most h.consumed a))
 
 -- a run, where its files were told
-pub run_ends : (limits : Limits) (before now : Seen) (status : Status) → ServesScript limits.script_bytes before.left before.at now.left now.at status → HasCauses before.reads now.reads before.writes now.writes status → RunEnds limits before now status
-run_ends limits before now status h c = record {
+pub run_ends : (limits : Limits) (before now : Seen) (status : Status) → ServesScript limits.file_bytes limits.script_bytes before.left before.at now.left now.at status → HasCauses before.reads now.reads before.writes now.writes status → before.at.beside.filings ≤ now.at.beside.filings → RunEnds limits before now status
+run_ends limits before now status h c f = record {
   outcome = h;
-  defined = λ told read. outcome-defined 0 limits.script_bytes before.left now.left before.at.beside now.at.beside (whole_of before.at) (whole_of now.at) status read (h told);
+  defined = λ told read. outcome-defined limits.file_bytes limits.script_bytes before.left now.left before.at.beside now.at.beside (whole_of before.at) (whole_of now.at) status read (h told);
   read_cause = c.read;
   write_cause = c.write;
   is_run = c.is_run;
-  complete = λ told. complete (built_machine 0) limits.script_bytes before.left now.left before.at.beside now.at.beside (whole_of before.at) (whole_of now.at) before.reads now.reads before.writes now.writes status (h told) c;
+  filings = f;
+  complete = λ told. complete (built_machine limits.file_bytes) limits.script_bytes before.left now.left before.at.beside now.at.beside (whole_of before.at) (whole_of now.at) before.reads now.reads before.writes now.writes status (h told) c;
 }
 
 -- ---- words

@@ -12,7 +12,7 @@ use Rattle.ph_engine.specs.Feeding.{Fed, Cut, Starved, FedOr, Feeds, AtEnd, Ends
 use Rattle.ph_engine.specs.Statuses.{read_status, stop_status}
 use Rattle.ph_engine.specs.declared.status.Stop.{Stop}
 use Rattle.ph_engine.specs.declared.status.Stop.TheVariants.{WriteFault, NoMemory}
-use Rattle.ph_engine.proofs.Appending.{given_none, given_both}
+use Rattle.ph_io.proofs.Appending.{given_none, given_both}
 use Rattle.ph_engine.proofs.Cuts.{lines-unbroken, ended-append, all-append, take-front, take-none, take-empty}
 use Rattle.ph_engine.proofs.Machines.{answers-append, after-append, refused-append, lines-append, or_false}
 use Rattle.ph_engine.proofs.Sums.{spent_both, worked_both, worked_none}

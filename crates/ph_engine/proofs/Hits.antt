@@ -11,7 +11,7 @@ use Rattle.ph_specs.specs.WorkSets.{ball}
 use Rattle.ph_table.specs.Hits.{TableHit, hits_of}
 use Rattle.ph_engine.specs.Listing.{hit_said, hit_replies, Lists, ListsNear, ListsBall, reached}
 use Rattle.ph_engine.specs.Slots.{AnyTable}
-use Rattle.ph_engine.specs.Writing.{WritesFront}
+use Rattle.ph_io.specs.Writing.{WritesFront}
 use Rattle.ph_engine.specs.declared.status.Answer.{Answer}
 use Rattle.ph_engine.specs.declared.status.Stop.{Stop}
 use Rattle.ph_engine.specs.declared.status.Stop.TheVariants.{WriteFault, NoMemory}

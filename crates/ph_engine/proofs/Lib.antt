@@ -1,4 +1,3 @@
-pub mod Appending
 pub mod Names
 pub mod Replies
 pub mod Listed
@@ -18,6 +17,9 @@ pub mod Defined
 pub mod Refused
 pub mod Plain
 pub mod Commanded
+pub mod Drafts
+pub mod Filed
+pub mod Loads
 pub mod Ends
 pub mod Slotted
 pub mod Paged

@@ -17,7 +17,7 @@ use Rattle.ph_engine.specs.Doing.{refuses}
 use Rattle.ph_engine.specs.Listing.{PageListed, Lists, met, page_replies, is_more}
 use Rattle.ph_engine.specs.Machine.{is_refusal}
 use Rattle.ph_engine.specs.Slots.{AnyTable}
-use Rattle.ph_engine.specs.Writing.{WritesFront}
+use Rattle.ph_io.specs.Writing.{WritesFront}
 use Rattle.ph_engine.specs.declared.status.Answer.{Answer}
 use Rattle.ph_engine.specs.declared.status.Answer.TheVariants.{Good, Refused}
 use Rattle.ph_engine.specs.declared.status.Stop.{Stop}

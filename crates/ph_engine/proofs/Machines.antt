@@ -1,7 +1,7 @@
 -- A machine over lines in two parts.
 use Rattle.std.proofs.Common.{◌≡◌, ◌+◌, ℕ, arith, Bool, true, false, ◌||◌, List, [], ◌∷◌, ◌++◌, refl, ap, sym, ◌∙◌, append_assoc}
 use Rattle.std.proofs.lemmas.List.{map-append}
-use Rattle.ph_engine.specs.Machine.{Machine, Turn, Work, answers, after, is_refusal, some_refused, total, lines_of, faults_in}
+use Rattle.ph_engine.specs.Machine.{Machine, Turn, Work, answers, after, is_refusal, some_refused, some_uses, total, lines_of, faults_in}
 
 pub answers-append : {S : Type 0} (m : Machine S) (s : S) (xs ys : List Turn) → answers m s (xs ++ ys) ≡ answers m s xs ++ answers m (after m s xs) ys
 answers-append m s [] ys = refl
@@ -21,6 +21,10 @@ refused-append m s [] ys = refl
 refused-append m s (t ∷ xs) ys =
     ap (λ r. is_refusal (m.answer s t) || r) (refused-append m (m.next s t) xs ys)
     ∙ or_assoc (is_refusal (m.answer s t)) (some_refused m (m.next s t) xs) (some_refused m (after m (m.next s t) xs) ys)
+
+pub uses-append : {S : Type 0} (m : Machine S) (s : S) (xs ys : List Turn) → some_uses m s (xs ++ ys) ≡ (some_uses m s xs || some_uses m (after m s xs) ys)
+uses-append m s [] ys = refl
+uses-append m s (t ∷ xs) ys = ap (λ r. m.uses s t || r) (uses-append m (m.next s t) xs ys) ∙ or_assoc (m.uses s t) (some_uses m (m.next s t) xs) (some_uses m (after m (m.next s t) xs) ys)
 
 pub total-append : {S : Type 0} (bound : Work → ℕ) (m : Machine S) (s : S) (xs ys : List Turn) → total bound m s (xs ++ ys) ≡ total bound m s xs + total bound m (after m s xs) ys
 total-append bound m s [] ys = omega arith

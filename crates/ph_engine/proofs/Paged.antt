@@ -1,6 +1,6 @@
 -- What the commands that list rows do, and those of cursors.
 use Rattle.std.proofs.Common.{◌≡◌, ◌<◌, ◌≤◌, ◌+◌, ℕ, Bool, true, false, List, [], ◌∷◌, ◌++◌, length, get_or, refl, ap, sym, ◌∙◌, subst, arith, inr}
-use Rattle.std.specs.Prelude.{ℤ, Some, None, Result, Ok, Err, ◌&&◌, not, nat_le, MatchResult}
+use Rattle.std.specs.Prelude.{ℤ, Option, Some, None, Result, Ok, Err, ◌&&◌, not, nat_le, MatchResult}
 use Rattle.std.specs.List.{list_all}
 use Rattle.std.proofs.lemmas.Grind.{common_steps}
 use Rattle.ph_io.specs.Giving.{Taken}
@@ -27,8 +27,8 @@ use Rattle.ph_engine.specs.declared.status.Answer.TheVariants.{Good}
 use Rattle.ph_engine.specs.declared.status.Stop.{Stop}
 use Rattle.ph_engine.specs.declared.status.Stop.TheVariants.{WriteFault, NoMemory}
 use Rattle.ph_engine.specs.declared.cursors.Held.{Held}
-use Rattle.ph_engine.proofs.Appending.{given_none}
-use Rattle.ph_engine.proofs.Commanded.{Most, done-all}
+use Rattle.ph_io.proofs.Appending.{given_none}
+use Rattle.ph_engine.proofs.Commanded.{Most, done-all, no-faults, told-told}
 use Rattle.ph_engine.proofs.Names.{found-in}
 use Rattle.ph_engine.proofs.Refused.{unrefused, in-range, has-room, has-cursor}
 
@@ -106,7 +106,7 @@ page-done kind t cursors after name n c behind sink now_sink v now_v h there e l
     let command = Command.Page name n in
     let rows = page t.tree.width c n t.tree.table in
     record {
-      done = λ changes. done-all 0 (engine_of s) (engine_of (slot_of kind t after)) (engine_of (slot_of kind t after)) command (page_replies t c n) (beside_sink sink v changes) (beside_sink now_sink now_v changes) (Ok Good) (record { files = refl; later = omega arith }) refl tt (page-does kind t cursors after name n c h there (e ∙ ap (λ x. enter name x cursors) listed.next)) (λ most files fault. rw there (record { few_visits = listed.visited; few_changes = omega arith })) (λ most files fault. rw (unrefused most s files fault command h refl, there) (record { enough_visits = omega (arith, listed.grows); enough_changes = omega arith })) (sym (good-rows rows (has_more t.tree.width c n t.tree.table) (length rows))) listed.told tt tt;
+      done = λ most files filings changes. done-all most (engine_of s) (engine_of (slot_of kind t after)) (engine_of (slot_of kind t after)) command (page_replies t c n) (beside_sink sink files filings v changes) (beside_sink now_sink files filings now_v changes) (Ok Good) (record { files = refl; filings = refl }) refl tt (page-does kind t cursors after name n c h there (e ∙ ap (λ x. enter name x cursors) listed.next)) (λ most files fault. rw there (record { few_visits = listed.visited; few_changes = omega arith })) (λ most files fault. rw (unrefused most s files fault command h refl, there) (record { enough_visits = omega (arith, listed.grows); enough_changes = omega arith })) (sym (good-rows rows (has_more t.tree.width c n t.tree.table) (length rows))) listed.told tt tt;
     }
 
 -- a page in which a write failed
@@ -115,26 +115,26 @@ page-stopped kind t cursors name n c sink now_sink v now_v stop h there listed =
     let s = slot_of kind t cursors in
     let after = enter name (next_cursor t.tree.width c n t.tree.table) cursors in
     record {
-      done = λ changes. done-all 0 (engine_of s) (engine_of (slot_of kind t after)) (engine_of s) (Command.Page name n) (page_replies t c n) (beside_sink sink v changes) (beside_sink now_sink now_v changes) (Err stop) (record { files = refl; later = omega arith }) tt refl (page-does kind t cursors after name n c h there refl) (λ most files fault. rw there (record { few_visits = listed.visited; few_changes = omega arith })) tt tt tt listed.fault listed.front;
+      done = λ most files filings changes. done-all most (engine_of s) (engine_of (slot_of kind t after)) (engine_of s) (Command.Page name n) (page_replies t c n) (beside_sink sink files filings v changes) (beside_sink now_sink files filings now_v changes) (Err stop) (record { files = refl; filings = refl }) tt refl (page-does kind t cursors after name n c h there refl) (λ most files fault. rw there (record { few_visits = listed.visited; few_changes = omega arith })) tt tt tt listed.fault listed.front;
     }
 
 -- ---- listings
 
 -- a command that lists what it found, and is not refused
-module _ (s : Slot) (command : Command) (replies : List Reply) (least most_visits : ℕ) (sink now_sink : Taken) (v now_v changes : ℕ) (h : early_refusal s command ≡ None) (late : (most : ℕ) (files : Files) (fault : Bool) → late_refusal most s files fault command ≡ None) (e : (files : Files) → effect (engine_of s) files command ≡ outcome (engine_of s) files replies) (w : (files : Files) → engine_bounds (engine_of s) files command ≡ work most_visits least 0 0) where
+module _ (s : Slot) (command : Command) (replies : List Reply) (least most_visits : ℕ) (sink now_sink : Taken) (files : Option Files) (filings v now_v changes : ℕ) (h : early_refusal s command ≡ None) (late : (most : ℕ) (files : Files) (fault : Bool) → late_refusal most s files fault command ≡ None) (e : (files : Files) → effect (engine_of s) files command ≡ outcome (engine_of s) files replies) (w : (files : Files) → engine_bounds (engine_of s) files command ≡ work most_visits least 0 0) where
   does : Does (engine_of s) command (engine_of s) replies
   does most files fault = ap (λ r. unless_refused r (engine_of s) files command) (unrefused most s files fault command h (late most files fault)) ∙ e files
 
-  most-of : now_v ≤ v + most_visits → Most (engine_of s) command (beside_sink sink v changes) (beside_sink now_sink now_v changes)
+  most-of : now_v ≤ v + most_visits → Most (engine_of s) command (beside_sink sink files filings v changes) (beside_sink now_sink files filings now_v changes)
   most-of few most files fault = rw (w files) (record { few_visits = few; few_changes = omega arith })
 
-  pub listing-done : (result : Result Answer Stop) → is_page command ≡ false → is_refusal (replies_text replies) ≡ false → Lists replies least most_visits sink now_sink v now_v result → DoneOr 0 (engine_of s) command (beside_sink sink v changes) (beside_sink now_sink now_v changes) (engine_of s) result
-  listing-done (Ok answer) page good listed =
-      done-all 0 (engine_of s) (engine_of s) (engine_of s) command replies (beside_sink sink v changes) (beside_sink now_sink now_v changes) (Ok answer) (record { files = refl; later = omega arith }) refl tt does (most-of listed.few)
+  pub listing-done : (most : ℕ) (result : Result Answer Stop) → is_page command ≡ false → is_refusal (replies_text replies) ≡ false → Lists replies least most_visits sink now_sink v now_v result → DoneOr most (engine_of s) command (beside_sink sink files filings v changes) (beside_sink now_sink files filings now_v changes) (engine_of s) result
+  listing-done most (Ok answer) page good listed =
+      done-all most (engine_of s) (engine_of s) (engine_of s) command replies (beside_sink sink files filings v changes) (beside_sink now_sink files filings now_v changes) (Ok answer) (record { files = refl; filings = refl }) refl tt does (most-of listed.few)
       (λ most files fault. rw (unrefused most s files fault command h (late most files fault), w files) (record { enough_visits = listed.enough; enough_changes = omega arith }))
       (rw listed.good (sym good)) listed.told tt tt
-  listing-done (Err stop) page good listed =
-      done-all 0 (engine_of s) (engine_of s) (engine_of s) command replies (beside_sink sink v changes) (beside_sink now_sink now_v changes) (Err stop) (record { files = refl; later = omega arith }) tt (rw page refl) does (most-of listed.visited)
+  listing-done most (Err stop) page good listed =
+      done-all most (engine_of s) (engine_of s) (engine_of s) command replies (beside_sink sink files filings v changes) (beside_sink now_sink files filings now_v changes) (Err stop) (record { files = refl; filings = refl }) tt (rw page refl) does (most-of listed.visited)
       tt tt tt listed.fault listed.front
 
 pub rows-good : (rows : List Row) → is_refusal (replies_text (listing rows)) ≡ false
@@ -150,17 +150,17 @@ hits-good q [] = refl
 hits-good q (r ∷ rows) = good-hit (distance r.point q) r (replies_text (hit_listing q rows))
 
 -- the nearest rows, or where memory was missing for them
-pub near-done : (kind : Kind) (t : AnyTable) (cursors : Named Cursor) (q : List ℤ) (n : ℕ) (sink now_sink : Taken) (v now_v changes : ℕ) (result : Result Answer Stop) → early_refusal (slot_of kind t cursors) (Command.Near q n) ≡ None → ListsNear t q n sink now_sink v now_v result → DoneOr 0 (engine_of (slot_of kind t cursors)) (Command.Near q n) (beside_sink sink v changes) (beside_sink now_sink now_v changes) (engine_of (slot_of kind t cursors)) result
-near-done kind t cursors q n sink now_sink v now_v changes (Ok answer) h listed =
-    listing-done (slot_of kind t cursors) (Command.Near q n) (hit_listing q (near q n t.tree.table)) 0 (reached t q n) sink now_sink v now_v changes h (λ most files fault. refl) (λ files. refl) (λ files. refl) (Ok answer) refl (hits-good q (near q n t.tree.table)) listed
-near-done kind t cursors q n sink now_sink v now_v changes (Err WriteFault) h listed =
-    listing-done (slot_of kind t cursors) (Command.Near q n) (hit_listing q (near q n t.tree.table)) 0 (reached t q n) sink now_sink v now_v changes h (λ most files fault. refl) (λ files. refl) (λ files. refl) (Err WriteFault) refl (hits-good q (near q n t.tree.table)) listed
-near-done kind t cursors q n sink now_sink v now_v changes (Err NoMemory) h listed = record {
+pub near-done : (most : ℕ) (kind : Kind) (t : AnyTable) (cursors : Named Cursor) (q : List ℤ) (n : ℕ) (sink now_sink : Taken) (files : Option Files) (filings v now_v changes : ℕ) (result : Result Answer Stop) → early_refusal (slot_of kind t cursors) (Command.Near q n) ≡ None → ListsNear t q n sink now_sink v now_v result → DoneOr most (engine_of (slot_of kind t cursors)) (Command.Near q n) (beside_sink sink files filings v changes) (beside_sink now_sink files filings now_v changes) (engine_of (slot_of kind t cursors)) result
+near-done most kind t cursors q n sink now_sink files filings v now_v changes (Ok answer) h listed =
+    listing-done (slot_of kind t cursors) (Command.Near q n) (hit_listing q (near q n t.tree.table)) 0 (reached t q n) sink now_sink files filings v now_v changes h (λ most files fault. refl) (λ files. refl) (λ files. refl) most (Ok answer) refl (hits-good q (near q n t.tree.table)) listed
+near-done most kind t cursors q n sink now_sink files filings v now_v changes (Err WriteFault) h listed =
+    listing-done (slot_of kind t cursors) (Command.Near q n) (hit_listing q (near q n t.tree.table)) 0 (reached t q n) sink now_sink files filings v now_v changes h (λ most files fault. refl) (λ files. refl) (λ files. refl) most (Err WriteFault) refl (hits-good q (near q n t.tree.table)) listed
+near-done most kind t cursors q n sink now_sink files filings v now_v changes (Err NoMemory) h listed = record {
   fault = false;
-  filings = inr (omega arith);
+  filings = no-faults (Command.Near q n) (beside_sink sink files filings v changes) (beside_sink now_sink files filings now_v changes) (record { files = refl; filings = refl });
   part = 0;
   state = λ files k. refl;
-  files = λ files k. ap Some k;
+  files = λ known k. told-told files files known refl k;
   told = rw listed.unwritten (given_none sink);
   wanted = rw h refl;
   most_work = λ files k. record { few_visits = listed.few; few_changes = omega arith };

@@ -5,8 +5,8 @@ use Rattle.std.proofs.Math.Nat.{suc-add}
 use Rattle.ph_io.specs.Giving.{Taken, Given}
 use Rattle.std.specs.Prelude.{Some, slice_get}
 use Rattle.ph_specs.specs.Reply.{Reply, reply_text, replies_text}
-use Rattle.ph_engine.specs.Writing.{WritesFront}
-use Rattle.ph_engine.proofs.Appending.{given_none, given_both}
+use Rattle.ph_io.specs.Writing.{WritesFront}
+use Rattle.ph_io.proofs.Appending.{given_none, given_both}
 
 pub texts-append : (rs ss : List Reply) → replies_text (rs ++ ss) ≡ replies_text rs ++ replies_text ss
 texts-append [] ss = refl

@@ -18,7 +18,7 @@ use Rattle.ph_engine.specs.declared.status.Status.TheVariants as by
 use Rattle.ph_engine.specs.declared.status.Status.TheVariants.{Clean, Refused, Usage, ReadFault, TooLong}
 use Rattle.ph_engine.specs.declared.status.Stop.{Stop}
 use Rattle.ph_engine.specs.declared.status.Stop.TheVariants.{WriteFault, NoMemory}
-use Rattle.ph_engine.proofs.Appending.{given_none, given_both, consumes_none, consumes_both, consumes_kept, take_within, length_more}
+use Rattle.ph_io.proofs.Appending.{given_none, given_both, consumes_none, consumes_both, consumes_kept, take_within, length_more}
 use Rattle.ph_engine.proofs.Cuts.{lines-ended, whole-ended, whole-unbroken, all-append, take-empty}
 use Rattle.ph_engine.proofs.Machines.{answers-append, after-append, refused-append, lines-append}
 use Rattle.ph_engine.proofs.Sums.{spent_both, worked_both, worked_none}

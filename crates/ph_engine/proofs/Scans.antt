@@ -4,7 +4,7 @@ use Rattle.std.specs.Prelude.{◌==◌, nat_lt}
 use Rattle.std.proofs.lemmas.List.Sums.{fails_before_first, passes_at_first}
 use Rattle.ph_script.specs.Shown.{is_feed, feed_at, before_feed, unended}
 use Rattle.ph_engine.specs.Machine.{KEPT, KEPT-is}
-use Rattle.ph_engine.proofs.Appending.{take_plus}
+use Rattle.ph_io.proofs.Appending.{take_plus}
 use Rattle.std.proofs.lemmas.List.{take-append-drop}
 use Rattle.std.proofs.lemmas.Bool.Decides.{nat_tests}
 use Rattle.ph_specs.specs.Lines.{LF}

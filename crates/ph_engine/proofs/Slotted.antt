@@ -20,6 +20,7 @@ use Rattle.ph_specs.specs.Window.{Cursor}
 use Rattle.ph_specs.specs.Engine.{unless_refused}
 use Rattle.ph_script.specs.declared.reply.Reply.{Reply as Told}
 use Rattle.ph_engine.specs.Doing.{ServedOr}
+use Rattle.ph_engine.specs.Filing.{SameFrame}
 use Rattle.ph_engine.specs.Slots.{AnyTable, slot_of, engine_of, cursor_of, cursor_dims, named, entered, AreBoxes, IsOfKind, IsCursorIn, IsSlot}
 use Rattle.ph_engine.specs.Refusing.{early_refusal}
 use Rattle.ph_engine.specs.declared.cursors.Held.{Held}
@@ -59,11 +60,6 @@ second-box true false h = absurd cc
 second-box false b h = absurd cc
 
 -- ---- a table of the same width, number of dimensions and kind
-
-pub record SameFrame (kind : Kind) (t now : AnyTable) : Type 0 where
-  pub width : now.tree.width ≡ t.tree.width
-  pub dims : now.dims ≡ t.dims
-  pub of_kind : IsOfKind kind t → IsOfKind kind now
 
 -- refused or not, a command on points leaves the width and the dimensions, and where a slot of the kind does not refuse it, the kind
 pub record KeepsFrame (kind : Kind) (t : AnyTable) (command : Command) : Type 0 where

@@ -1,5 +1,5 @@
 -- What stands beside an engine while it does commands: a sink, files, and the counters of the tree's work.
-use Rattle.std.specs.Prelude.{◌≡◌, ◌⊎◌, ◌≤◌, ℕ, ◌+◌, ◌-◌, ◌^◌, List, [], Option, Some, None}
+use Rattle.std.specs.Prelude.{◌≡◌, ◌⊎◌, ◌≤◌, ℕ, ◌+◌, ◌-◌, ◌^◌, Bool, false, List, Option, Some, None}
 use Rattle.ph_io.specs.Giving.{Taken, taken_of}
 use Rattle.ph_specs.specs.State.{Files}
 
@@ -11,12 +11,12 @@ pub record Beside : Type 0 where
   pub visits : ℕ
   pub changes : ℕ
 
--- beside the engine of the code, which has no files
-abbrev pub beside_sink : Taken → ℕ → ℕ → Beside
-beside_sink sink visits changes = record { sink = sink; files = Some []; filings = 0; visits = visits; changes = changes }
+abbrev pub beside_sink : Taken → Option Files → ℕ → ℕ → ℕ → Beside
+beside_sink sink files filings visits changes = record { sink = sink; files = files; filings = filings; visits = visits; changes = changes }
 
-abbrev pub beside : Option (List ℕ) → Option ℕ → ℕ → ℕ → Beside
-beside written amount visits changes = beside_sink (taken_of written amount) visits changes
+-- beside the engine of the code
+abbrev pub beside : Option (List ℕ) → Option ℕ → Option Files → ℕ → ℕ → ℕ → Beside
+beside written amount files filings visits changes = beside_sink (taken_of written amount) files filings visits changes
 
 -- some files are told
 abbrev pub AreTold : Option Files → Type 0
@@ -36,3 +36,9 @@ StillTells (Some told) now files = now ≡ Some files
 -- so many faults of the files are told by their count, which may stand at 2^64 - 1
 abbrev pub Tells : ℕ → ℕ → ℕ → Type 0
 Tells before now n = (2 ^ 64 - 1 ≤ now) ⊎ (before + n ≤ now)
+
+-- The count tells so many faults. It never falls, and stays where no file was asked for.
+pub record Filings (uses : Bool) (faults before now : ℕ) : Type 0 where
+  pub told : Tells before now faults
+  pub later : before ≤ now
+  pub quiet : uses ≡ false → now ≡ before

@@ -6,7 +6,7 @@ use Rattle.ph_specs.specs.Reply.{replies_text}
 use Rattle.ph_specs.specs.State.{Engine, Files, Outcome, current}
 use Rattle.ph_specs.specs.Engine.{act, step_by, run_by}
 use Rattle.ph_script.specs.Built.{built_forms, built_reading}
-use Rattle.ph_engine.specs.Doing.{wants_memory, cut_engine, starved_engine}
+use Rattle.ph_engine.specs.Doing.{wants_memory, uses_files, cut_engine, starved_engine}
 use Rattle.ph_engine.specs.Machine.{Machine, Turn, Work}
 use Rattle.ph_engine.specs.Working.{no_work, work_of}
 
@@ -43,6 +43,10 @@ abbrev pub wants_by : Whole → Reading → Bool
 wants_by s (Do command) = wants_memory (current s.engine) command
 wants_by s _ = false
 
+abbrev pub uses_by : Reading → Bool
+uses_by (Do command) = uses_files command
+uses_by _ = false
+
 abbrev pub work_by : ℕ → Whole → Bool → Reading → Work
 work_by most s fault (Do command) = work_of most s.engine s.files fault command
 work_by most s fault _ = no_work
@@ -55,6 +59,7 @@ built_machine most = record {
   cut = λ s t. cut_by most s t.fault (reading_in s t);
   starved = λ s t part. starved_by s part (reading_in s t);
   wants = λ s t. wants_by s (reading_in s t);
+  uses = λ s t. uses_by (reading_in s t);
   work = λ s t. work_by most s t.fault (reading_in s t);
 }
 

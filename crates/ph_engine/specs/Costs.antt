@@ -1,11 +1,11 @@
 -- What lines cost: faults of the files, and the work that is counted.
 use Rattle.std.specs.Prelude.{◌≤◌, ◌+◌, List}
-use Rattle.ph_engine.specs.Beside.{Beside, Tells}
-use Rattle.ph_engine.specs.Machine.{Machine, Turn, total, faults_in}
+use Rattle.ph_engine.specs.Beside.{Beside, Filings}
+use Rattle.ph_engine.specs.Machine.{Machine, Turn, some_uses, total, faults_in}
 
 -- The files failed in no more of the lines than their count tells, and no more work was done than the lines may do.
 pub record Spent {S : Type 0} (m : Machine S) (s : S) (turns : List Turn) (b now_b : Beside) : Type 0 where
-  pub filings : Tells b.filings now_b.filings (faults_in turns)
+  pub filings : Filings (some_uses m s turns) (faults_in turns) b.filings now_b.filings
   pub most_visits : now_b.visits ≤ b.visits + total (λ w. w.most_visits) m s turns
   pub most_changes : now_b.changes ≤ b.changes + total (λ w. w.most_changes) m s turns
 

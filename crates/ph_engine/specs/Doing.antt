@@ -13,7 +13,7 @@ use Rattle.ph_specs.specs.Named.{Named}
 use Rattle.ph_specs.specs.Window.{Cursor}
 use Rattle.ph_script.specs.declared.reply.Reply.{Reply as Told}
 use Rattle.ph_script.specs.Meaning.{reply_of}
-use Rattle.ph_engine.specs.Beside.{Beside, beside_sink, IsTold, StillTells, Tells}
+use Rattle.ph_engine.specs.Beside.{Beside, beside_sink, IsTold, StillTells, Filings}
 use Rattle.ph_engine.specs.Machine.{is_refusal, one_if}
 use Rattle.ph_engine.specs.Refusing.{early_refusal}
 use Rattle.ph_engine.specs.Working.{work_of, IsAtMost, IsAtLeast}
@@ -49,6 +49,14 @@ abbrev pub fetches : Command → Bool
 fetches (Command.Load name) = true
 fetches (Command.Import name header) = true
 fetches _ = false
+
+-- whether it asks for a file
+abbrev pub uses_files : Command → Bool
+uses_files (Command.Save name) = true
+uses_files (Command.Load name) = true
+uses_files (Command.Import name header) = true
+uses_files (Command.Export name) = true
+uses_files _ = false
 
 -- whether a command knows the current slot alone
 abbrev pub is_on_slot : Command → Bool
@@ -145,7 +153,7 @@ refuses Refused = true
 -- The command was done, and its replies written. The files failed in it or not.
 pub record Done (most : ℕ) (e : Engine) (command : Command) (b now_b : Beside) (now : Engine) (answer : Answer) : Type 0 where
   pub fault : Bool
-  pub filings : Tells b.filings now_b.filings (one_if fault)
+  pub filings : Filings (uses_files command) (one_if fault) b.filings now_b.filings
   pub replies : List Reply
   pub does : (files : Files) → Knows command b.files files → Leads (act most e files fault command) now b.files now_b.files replies
   pub told : Given b.sink now_b.sink (replies_text replies)
@@ -156,7 +164,7 @@ pub record Done (most : ℕ) (e : Engine) (command : Command) (b now_b : Beside)
 -- The command was done, and a front of its replies written.
 pub record DoneInPart (most : ℕ) (e : Engine) (command : Command) (b now_b : Beside) (now : Engine) : Type 0 where
   pub fault : Bool
-  pub filings : Tells b.filings now_b.filings (one_if fault)
+  pub filings : Filings (uses_files command) (one_if fault) b.filings now_b.filings
   pub replies : List Reply
   pub after : Engine
   pub does : (files : Files) → Knows command b.files files → Leads (act most e files fault command) after b.files now_b.files replies
@@ -169,7 +177,7 @@ pub record DoneInPart (most : ℕ) (e : Engine) (command : Command) (b now_b : B
 -- Memory was missing, in a command that may want it. Nothing was written, and the files are as before.
 pub record Undone (most : ℕ) (e : Engine) (command : Command) (b now_b : Beside) (now : Engine) : Type 0 where
   pub fault : Bool
-  pub filings : Tells b.filings now_b.filings (one_if fault)
+  pub filings : Filings (uses_files command) (one_if fault) b.filings now_b.filings
   pub part : ℕ
   pub state : (files : Files) → Knows command b.files files → now ≡ starved_engine e files command part
   pub files : (files : Files) → IsTold b.files files → StillTells b.files now_b.files files
@@ -182,6 +190,6 @@ DoneOr most e command b now_b now (Ok answer) = Done most e command b now_b now 
 DoneOr most e command b now_b now (Err WriteFault) = DoneInPart most e command b now_b now
 DoneOr most e command b now_b now (Err NoMemory) = Undone most e command b now_b now
 
--- the same of a slot, of a command that counts no changes
+-- the same of a slot, of a command that asks for no file and counts no changes
 pub record DoneWith (s : Slot) (command : Command) (sink now_sink : Taken) (visits now_visits : ℕ) (now : Slot) (result : Result Answer Stop) : Type 0 where
-  pub done : (changes : ℕ) → DoneOr 0 (engine_of s) command (beside_sink sink visits changes) (beside_sink now_sink now_visits changes) (engine_of now) result
+  pub done : (most : ℕ) (files : Option Files) (filings changes : ℕ) → DoneOr most (engine_of s) command (beside_sink sink files filings visits changes) (beside_sink now_sink files filings now_visits changes) (engine_of now) result

@@ -1,5 +1,5 @@
 -- How a call of the program ends, by what its words ask for.
-use Rattle.std.specs.Prelude.{◌≡◌, ◌⊎◌, ℕ, List}
+use Rattle.std.specs.Prelude.{◌≡◌, ◌≤◌, ◌⊎◌, ℕ, List}
 use Rattle.ph_io.specs.Causes.{Rose}
 use Rattle.ph_io.specs.Giving.{Given}
 use Rattle.ph_specs.specs.Program.{Task, task, usage_line}
@@ -22,14 +22,15 @@ abbrev pub asks : List (List ℕ) → Task
 asks words = built_task (task words)
 
 -- A run of a script. Where the files were told, it ends in one of the ways of a run over them; one that is read to its end is
--- the run of the definition. A fault is answered only where its count rose. A script that is short enough, with no fault, is
+-- the run of the definition. A fault is answered only where its count rose, and no count of faults of the files falls. A script that is short enough, with no fault, is
 -- read to its end unless memory is missing.
 pub record RunEnds (limits : Limits) (before now : Seen) (status : Status) : Type 0 where
-  pub outcome : ServesScript limits.script_bytes before.left before.at now.left now.at status
-  pub defined : IsKnown before.at → IsRead status → RunsAsDefined 0 before.left now.left before.at.beside now.at.beside (whole_of before.at) (whole_of now.at)
+  pub outcome : ServesScript limits.file_bytes limits.script_bytes before.left before.at now.left now.at status
+  pub defined : IsKnown before.at → IsRead status → RunsAsDefined limits.file_bytes before.left now.left before.at.beside now.at.beside (whole_of before.at) (whole_of now.at)
   pub read_cause : status ≡ ReadFault → Rose before.reads now.reads
   pub write_cause : status ≡ WriteFault → Rose before.writes now.writes
   pub is_run : status ≡ Usage → ⊥
+  pub filings : before.at.beside.filings ≤ now.at.beside.filings
   pub complete : IsKnown before.at → (Rose before.reads now.reads → ⊥) → (Rose before.writes now.writes → ⊥) → HasAtMost limits.script_bytes before.left → IsRead status ⊎ (status ≡ Memory)
 
 -- what is seen after no more than bytes were given to the sink

@@ -7,7 +7,6 @@ pub mod Answering
 pub mod Feeding
 pub mod Outcomes
 pub mod Statuses
-pub mod Writing
 pub mod Telling
 pub mod Naming
 pub mod Slots
@@ -15,6 +14,9 @@ pub mod Comparing
 pub mod Refusing
 pub mod Listing
 pub mod Doing
+pub mod Drafting
+pub mod DraftLaws
+pub mod Filing
 pub mod BuiltMachine
 pub mod ByDefinition
 pub mod Showing

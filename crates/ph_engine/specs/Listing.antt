@@ -14,7 +14,7 @@ use Rattle.ph_window.specs.Page.{IsLast}
 use Rattle.ph_window.specs.declared.page.Tail.{Tail}
 use Rattle.ph_window.specs.declared.page.Tail.TheVariants.{More, End}
 use Rattle.ph_engine.specs.Slots.{AnyTable, cursor_of, cursor_dims}
-use Rattle.ph_engine.specs.Writing.{WritesFront}
+use Rattle.ph_io.specs.Writing.{WritesFront}
 use Rattle.ph_engine.specs.declared.cursors.AnyCursor.{AnyCursor}
 use Rattle.ph_engine.specs.declared.boxes.Question.{Question}
 use Rattle.ph_engine.specs.declared.boxes.Question.TheVariants.{Overlap, Inside, Covers}

@@ -18,14 +18,15 @@ pub record Work : Type 0 where
   pub least_changes : ℕ
 
 -- The bytes of the answer to a line in a state, and the state behind it. The state where a write of the answer failed, and
--- that in which memory is missing, behind so many parts of what the line asks for. Whether the line may want memory, and
--- its work.
+-- that in which memory is missing, behind so many parts of what the line asks for. Whether the line may want memory, whether
+-- it asks for a file, and its work.
 pub record Machine (S : Type 0) : Type 0 where
   pub answer : S → Turn → List ℕ
   pub next : S → Turn → S
   pub cut : S → Turn → S
   pub starved : S → Turn → ℕ → S
   pub wants : S → Turn → Bool
+  pub uses : S → Turn → Bool
   pub work : S → Turn → Work
 
 -- whether an answer is a refusal
@@ -45,6 +46,11 @@ after m s (t ∷ ts) = after m (m.next s t) ts
 abbrev pub some_refused : {S : Type 0} → Machine S → S → List Turn → Bool
 some_refused m s [] = false
 some_refused m s (t ∷ ts) = is_refusal (m.answer s t) || some_refused m (m.next s t) ts
+
+-- whether some line asks for a file
+abbrev pub some_uses : {S : Type 0} → Machine S → S → List Turn → Bool
+some_uses m s [] = false
+some_uses m s (t ∷ ts) = m.uses s t || some_uses m (m.next s t) ts
 
 -- a bound summed over lines
 abbrev pub total : {S : Type 0} → (Work → ℕ) → Machine S → S → List Turn → ℕ

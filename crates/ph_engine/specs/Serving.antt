@@ -1,4 +1,5 @@
--- What the code that answers a script leaves, where the files are told: by the machine of the commands that are built.
+-- What the code that answers a script leaves, where the files are told: by the machine of the commands that are built, with files of at most
+-- so many bytes.
 use Rattle.std.specs.Prelude.{ℕ, Bool, List, Option, Result}
 use Rattle.ph_script.specs.declared.lines.Line.{Line}
 use Rattle.ph_script.specs.Shown.{IsLine}
@@ -11,19 +12,19 @@ use Rattle.ph_engine.specs.declared.status.Status.{Status}
 use Rattle.ph_engine.specs.declared.status.Stop.{Stop}
 
 -- a line that is shown
-abbrev pub ServesLine : Standing → Line → Standing → Result Bool Stop → Type 0
-ServesLine st line now result =
-    IsKnown st → IsKnown now × ((bytes : List ℕ) → IsLine bytes line → SaysOr (built_machine 0) (whole_of st) bytes st.beside now.beside (whole_of now) result)
+abbrev pub ServesLine : ℕ → Standing → Line → Standing → Result Bool Stop → Type 0
+ServesLine file_bytes st line now result =
+    IsKnown st → IsKnown now × ((bytes : List ℕ) → IsLine bytes line → SaysOr (built_machine file_bytes) (whole_of st) bytes st.beside now.beside (whole_of now) result)
 
 -- a piece of a script, by the kept bytes of the unended line before and behind it
-abbrev pub ServesPiece : Standing → List ℕ → List ℕ → Standing → List ℕ → Result Bool Stop → Type 0
-ServesPiece st line piece now kept result =
-    IsKnown st → IsKnown now × Feeds (built_machine 0) (whole_of st) line piece st.beside now.beside (whole_of now) kept result
+abbrev pub ServesPiece : ℕ → Standing → List ℕ → List ℕ → Standing → List ℕ → Result Bool Stop → Type 0
+ServesPiece file_bytes st line piece now kept result =
+    IsKnown st → IsKnown now × Feeds (built_machine file_bytes) (whole_of st) line piece st.beside now.beside (whole_of now) kept result
 
 -- the end of a script
-abbrev pub ServesEnd : Standing → List ℕ → Bool → Standing → Status → Type 0
-ServesEnd st line refused now status = IsKnown st → Ends (built_machine 0) (whole_of st) line refused st.beside now.beside (whole_of now) status
+abbrev pub ServesEnd : ℕ → Standing → List ℕ → Bool → Standing → Status → Type 0
+ServesEnd file_bytes st line refused now status = IsKnown st → Ends (built_machine file_bytes) (whole_of st) line refused st.beside now.beside (whole_of now) status
 
 -- a script of at most so many bytes
-abbrev pub ServesScript : ℕ → Option (List ℕ) → Standing → Option (List ℕ) → Standing → Status → Type 0
-ServesScript most left st now_left now status = IsKnown st → Outcome (built_machine 0) most left now_left st.beside now.beside (whole_of st) (whole_of now) status
+abbrev pub ServesScript : ℕ → ℕ → Option (List ℕ) → Standing → Option (List ℕ) → Standing → Status → Type 0
+ServesScript file_bytes most left st now_left now status = IsKnown st → Outcome (built_machine file_bytes) most left now_left st.beside now.beside (whole_of st) (whole_of now) status

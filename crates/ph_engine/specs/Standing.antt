@@ -1,6 +1,6 @@
 -- An engine with what stands beside it, and the part of it that the definition of a run speaks of.
 use Rattle.std.specs.Prelude.{ℕ, List, Option}
-use Rattle.ph_specs.specs.State.{Engine}
+use Rattle.ph_specs.specs.State.{Engine, Files}
 use Rattle.ph_engine.specs.Beside.{Beside, beside, AreTold}
 use Rattle.ph_engine.specs.BuiltMachine.{Whole, whole, told_files}
 
@@ -8,8 +8,8 @@ pub record Standing : Type 0 where
   pub engine : Engine
   pub beside : Beside
 
-abbrev pub standing : Option (List ℕ) → Option ℕ → ℕ → ℕ → Engine → Standing
-standing written amount visits changes engine = record { engine = engine; beside = beside written amount visits changes }
+abbrev pub standing : Option (List ℕ) → Option ℕ → Option Files → ℕ → ℕ → ℕ → Engine → Standing
+standing written amount files filings visits changes engine = record { engine = engine; beside = beside written amount files filings visits changes }
 
 -- the engine, and the files as they are told
 abbrev pub whole_of : Standing → Whole

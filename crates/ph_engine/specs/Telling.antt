@@ -6,7 +6,7 @@ use Rattle.ph_script.specs.declared.reply.Reply.{Reply}
 use Rattle.ph_script.specs.Meaning.{reply_of}
 use Rattle.ph_engine.specs.Doing.{refuses}
 use Rattle.ph_engine.specs.Machine.{is_refusal}
-use Rattle.ph_engine.specs.Writing.{WritesFront}
+use Rattle.ph_io.specs.Writing.{WritesFront}
 use Rattle.ph_engine.specs.declared.status.Answer.{Answer}
 use Rattle.ph_engine.specs.declared.status.Stop.{Stop}
 use Rattle.ph_engine.specs.declared.status.Stop.TheVariants.{WriteFault, NoMemory}

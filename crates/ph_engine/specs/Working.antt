@@ -1,5 +1,5 @@
 -- The work of a command: bounds of the nodes that it visits and of the changes that it makes.
-use Rattle.std.specs.Prelude.{◌≤◌, ℕ, ◌+◌, ◌*◌, Bool, not, ◌&&◌, if◌then◌else◌, List, length, ℤ, Option, Some, None}
+use Rattle.std.specs.Prelude.{◌≤◌, ℕ, ◌+◌, ◌*◌, ◌/◌, Bool, not, ◌&&◌, if◌then◌else◌, List, length, ℤ, Option, Some, None}
 use Rattle.ph_specs.specs.Command.{Command}
 use Rattle.ph_specs.specs.Reply.{Reply}
 use Rattle.ph_specs.specs.Table.{has}
@@ -9,7 +9,7 @@ use Rattle.ph_specs.specs.Boxes.{overlaps_low, overlaps_high, inside_low, inside
 use Rattle.ph_specs.specs.Engine.{same_slots}
 use Rattle.ph_specs.specs.Named.{lookup}
 use Rattle.ph_specs.specs.Window.{Cursor}
-use Rattle.ph_specs.specs.Refusals.{refusal}
+use Rattle.ph_specs.specs.Refusals.{refusal, bytes_of}
 use Rattle.ph_specs.specs.State.{Slot, Engine, Files, current}
 use Rattle.ph_engine.specs.Machine.{Work, one_if}
 
@@ -46,6 +46,8 @@ bounds s files (Command.Overlap q) = window_bounds s (overlaps_low s.width (low_
 bounds s files (Command.Inside q) = window_bounds s (inside_low s.width (low_corner q) (high_corner q)) (inside_high s.width (low_corner q) (high_corner q))
 bounds s files (Command.Covers q) = window_bounds s (covers_low s.width (low_corner q) (high_corner q)) (covers_high s.width (low_corner q) (high_corner q))
 bounds s files (Command.Page name n) = page_bounds s (lookup name s.cursors)
+bounds s files (Command.Save name) = let n = nodes_of s in work n n 0 0
+bounds s files (Command.Load name) = work 0 0 (length (bytes_of (lookup name files)) / 16) 0
 bounds s files Command.Statistics = let n = nodes_of s in work n n 0 0
 bounds s files _ = no_work
 

@@ -1,5 +1,5 @@
 //! The state of the program, and what a command does to it.
-ghost use Rattle.std.specs.Prelude.{◌≡◌, ◌≤◌};
+ghost use Rattle.std.specs.Prelude.{◌≡◌, ◌<◌, ◌≤◌, ◌^◌};
 ghost use Rattle.ph_specs.specs.Reply.{Reply as Replied};
 ghost use Rattle.ph_specs.specs.State.{new_engine, current, slot_at};
 ghost use Rattle.ph_script.specs.Meaning.{command_of, reply_of};
@@ -11,8 +11,8 @@ ghost use Rattle.ph_engine.specs.Statuses.{StopHasCause};
 
 use crate::output::tell;
 use crate::slot::Slot;
-use crate::status::{Answer, Stop};
-use ph_io::Sink;
+use crate::status::{Answer, Limits, Stop};
+use ph_io::{Files, Sink};
 use ph_script::{Command, Reply, Text, Which};
 use ph_steps::Steps;
 use std::alloc::Global;
@@ -69,46 +69,65 @@ impl Engine {
         }
     }
 
-    /// Does a command, and gives its replies to the sink. It may want memory for a row that is new or moves and for the rows that are
-    /// nearest to a point, and for no other command.
+    /// Does a command, and gives its replies to the sink. It may want memory for a row that is new or moves, for the rows that are
+    /// nearest to a point, and for a file that is read with its table, and for no other command.
     ///
     /// After a write fault the command is done, but a page leaves its cursor as it was; a front of the replies is written.
     /// Without memory nothing is done or written.
-    pub fn exec<O: Sink, V: Ledger, C: Ledger>(
+    pub fn exec<O: Sink, F: Files, V: Ledger, C: Ledger>(
         &mut self,
         alloc: Global,
         cmd: &Command,
         out: &mut O,
+        files: &mut F,
+        limits: &Limits,
         visits: &mut Steps<V>,
         changes: &mut Steps<C>,
     ) -> Result<Answer, Stop>
-        requires { HasDims (current self.old).dims cmd.now }
-        ensures done { DoneOr 0 self.old (command_of cmd.now) (beside (O.written out.old) (O.amount out.old) visits.old changes.old) (beside (O.written out.new) (O.amount out.new) visits.new changes.new) self.new result }
+        requires dims { HasDims (current self.old).dims cmd.now }
+        requires file { limits.now.file_bytes < 2 ^ 63 }
+        ensures done { DoneOr limits.now.file_bytes self.old (command_of cmd.now) (beside (O.written out.old) (O.amount out.old) (F.files files.old) (F.faults files.old) visits.old changes.old) (beside (O.written out.new) (O.amount out.new) (F.files files.new) (F.faults files.new) visits.new changes.new) self.new result }
         ensures cause { StopHasCause (O.faults out.old) (O.faults out.new) result }
     {
-        self.exec_by(alloc, cmd, out, &mut Text::new(), visits, changes)
+        self.exec_by(
+            alloc,
+            cmd,
+            out,
+            files,
+            limits,
+            &mut Text::new(),
+            visits,
+            changes,
+        )
     }
 
     // The same by way of a text, which is filled with the reply.
-    pub(crate) fn exec_by<O: Sink, V: Ledger, C: Ledger>(
+    pub(crate) fn exec_by<O: Sink, F: Files, V: Ledger, C: Ledger>(
         &mut self,
         alloc: Global,
         cmd: &Command,
         out: &mut O,
+        files: &mut F,
+        limits: &Limits,
         text: &mut Text,
         visits: &mut Steps<V>,
         changes: &mut Steps<C>,
     ) -> Result<Answer, Stop>
-        requires { HasDims (current self.old).dims cmd.now }
-        ensures done { DoneOr 0 self.old (command_of cmd.now) (beside (O.written out.old) (O.amount out.old) visits.old changes.old) (beside (O.written out.new) (O.amount out.new) visits.new changes.new) self.new result }
+        requires dims { HasDims (current self.old).dims cmd.now }
+        requires file { limits.now.file_bytes < 2 ^ 63 }
+        ensures done { DoneOr limits.now.file_bytes self.old (command_of cmd.now) (beside (O.written out.old) (O.amount out.old) (F.files files.old) (F.faults files.old) visits.old changes.old) (beside (O.written out.new) (O.amount out.new) (F.files files.new) (F.faults files.new) visits.new changes.new) self.new result }
         ensures cause { StopHasCause (O.faults out.old) (O.faults out.new) result }
     {
         match cmd {
             Command::Select { slot } => tell(out, text, Ok(self.select(*slot))),
             Command::Same => tell(out, text, Ok(self.compare(visits))),
             _ => match self.current {
-                Which::A => self.a.exec(alloc, cmd, out, text, visits, changes),
-                Which::B => self.b.exec(alloc, cmd, out, text, visits, changes),
+                Which::A => self
+                    .a
+                    .exec(alloc, cmd, out, files, limits, text, visits, changes),
+                Which::B => self
+                    .b
+                    .exec(alloc, cmd, out, files, limits, text, visits, changes),
             },
         }
     }

@@ -6,6 +6,8 @@ mod commands;
 mod cursors;
 mod distances;
 mod engine;
+mod file_sink;
+mod filing;
 mod listing;
 mod output;
 mod program;

@@ -1,6 +1,5 @@
 //! Replies, and the sink that takes their texts.
 ghost use Rattle.std.specs.Prelude.{◌≡◌, ◌≤◌, IfOk, IfErr, OnOk, OnErr};
-ghost use Rattle.ph_io.specs.Causes.{HasCause};
 ghost use Rattle.ph_io.specs.Giving.{Given, taken_of};
 ghost use Rattle.ph_specs.specs.Reply.{reply_text as text_of};
 ghost use Rattle.ph_script.specs.Meaning.{reply_of};
@@ -8,10 +7,10 @@ ghost use Rattle.ph_engine.specs.Machine.{is_refusal};
 ghost use Rattle.ph_engine.specs.Doing.{refuses};
 ghost use Rattle.ph_engine.specs.Statuses.{StopHasCause};
 ghost use Rattle.ph_engine.specs.Telling.{ToldOr};
-ghost use Rattle.ph_engine.specs.Writing.{WritesFront};
+ghost use Rattle.ph_io.specs.Writing.{WritesFront};
 
 use crate::status::{Answer, Stop};
-use ph_io::{Failed, Sink};
+use ph_io::{Failed, Sink, write_piece};
 use ph_script::{Reply, Text, write_text};
 use ph_tree::NoMemory;
 
@@ -34,6 +33,8 @@ fn answer_of<const D: usize>(reply: &Reply<D>) -> Answer
         | Reply::End(_)
         | Reply::More(_)
         | Reply::Ready
+        | Reply::Saved(_)
+        | Reply::Loaded(_)
         | Reply::Stats { .. }
         | Reply::Using(_)
         | Reply::Same
@@ -49,7 +50,14 @@ fn answer_of<const D: usize>(reply: &Reply<D>) -> Answer
         | Reply::ErrorReversed
         | Reply::ErrorCursor
         | Reply::ErrorCursors
-        | Reply::ErrorFull => Answer::Refused,
+        | Reply::ErrorFile
+        | Reply::ErrorFull
+        | Reply::BadMagic
+        | Reply::BadHeader(_)
+        | Reply::BadDims
+        | Reply::BadShort(_)
+        | Reply::BadNode(_)
+        | Reply::BadExtra(_) => Answer::Refused,
     }
 }
 
@@ -86,20 +94,4 @@ pub(crate) fn tell<O: Sink>(
         Ok(reply) => say(out, text, &reply),
         Err(NoMemory) => Err(Stop::NoMemory),
     }
-}
-
-// Gives a piece to the sink, by as many writes as it takes.
-pub(crate) fn write_piece<O: Sink>(out: &mut O, piece: &[u8]) -> Result<(), Failed>
-    ensures told { OnOk result (Given (taken_of (O.written out.old) (O.amount out.old)) (taken_of (O.written out.new) (O.amount out.new)) piece.now) }
-    ensures front { OnErr result (WritesFront (taken_of (O.written out.old) (O.amount out.old)) (taken_of (O.written out.new) (O.amount out.new)) piece.now) }
-    ensures cause { HasCause (O.faults out.old) (O.faults out.new) result }
-{
-    let mut at = 0;
-    while at < piece.len() {
-        match out.write(&piece[at..]) {
-            Ok(count) => at += count,
-            Err(Failed) => return Err(Failed),
-        }
-    }
-    Ok(())
 }

@@ -6,10 +6,9 @@ ghost use Rattle.ph_engine.specs.Seen.{seen};
 ghost use Rattle.ph_engine.specs.Statuses.{IsRun};
 
 use crate::engine::Engine;
-use crate::output::write_piece;
 use crate::run::run;
 use crate::status::{Limits, Status};
-use ph_io::{Failed, Sink, Source};
+use ph_io::{Failed, Files, Sink, Source, write_piece};
 use ph_steps::Steps;
 use std::alloc::Global;
 use std::sync::ledger::Ledger;
@@ -19,27 +18,29 @@ const USAGE: &str = "usage: phq run | phq check FILE | phq soak N START\n";
 /// Does all that the program does, by the words behind its name.
 ///
 /// With the one word `run` it reads a script from the source and gives the replies to its lines to the sink, in their
-/// order. Any other words get the usage line. A run takes two buffers of about 4,096 bytes before its first
-/// read, and memory for new rows; it takes none for a line or a reply. The counters rise by the visits and the changes of
-/// the tree's nodes.
-pub fn top<S: Source, O: Sink, V: Ledger, C: Ledger>(
+/// order. Tables are saved to the files and loaded from them. Any other words get the usage line, and touch nothing else. A run takes
+/// two buffers of about 4,096 bytes before its first read, and memory for new rows and for a table that is loaded; it takes none for a
+/// line or a reply. The counters rise by the visits and the changes of the tree's nodes.
+pub fn top<S: Source, O: Sink, F: Files, V: Ledger, C: Ledger>(
     alloc: Global,
     words: &[String],
     src: &mut S,
     out: &mut O,
+    files: &mut F,
     eng: &mut Engine,
     limits: &Limits,
     visits: &mut Steps<V>,
     changes: &mut Steps<C>,
 ) -> Status
-    requires { limits.now.script_bytes < 2 ^ 63 }
+    requires script { limits.now.script_bytes < 2 ^ 63 }
+    requires file { limits.now.file_bytes < 2 ^ 63 }
 
-    ensures run { asks (map string_bytes words.now) ≡ Task.Run → RunEnds limits.now (seen (S.left src.old) (S.faults src.old) (O.written out.old) (O.amount out.old) (O.faults out.old) visits.old changes.old eng.old) (seen (S.left src.new) (S.faults src.new) (O.written out.new) (O.amount out.new) (O.faults out.new) visits.new changes.new eng.new) result }
-    ensures usage { asks (map string_bytes words.now) ≡ Task.Usage → UsageEnds (seen (S.left src.old) (S.faults src.old) (O.written out.old) (O.amount out.old) (O.faults out.old) visits.old changes.old eng.old) (seen (S.left src.new) (S.faults src.new) (O.written out.new) (O.amount out.new) (O.faults out.new) visits.new changes.new eng.new) result }
+    ensures run { asks (map string_bytes words.now) ≡ Task.Run → RunEnds limits.now (seen (S.left src.old) (S.faults src.old) (O.written out.old) (O.amount out.old) (O.faults out.old) (F.files files.old) (F.faults files.old) visits.old changes.old eng.old) (seen (S.left src.new) (S.faults src.new) (O.written out.new) (O.amount out.new) (O.faults out.new) (F.files files.new) (F.faults files.new) visits.new changes.new eng.new) result }
+    ensures usage { asks (map string_bytes words.now) ≡ Task.Usage → UsageEnds (seen (S.left src.old) (S.faults src.old) (O.written out.old) (O.amount out.old) (O.faults out.old) (F.files files.old) (F.faults files.old) visits.old changes.old eng.old) (seen (S.left src.new) (S.faults src.new) (O.written out.new) (O.amount out.new) (O.faults out.new) (F.files files.new) (F.faults files.new) visits.new changes.new eng.new) result }
     ensures source { asks (map string_bytes words.now) ≢ Task.Run → src.new ≡ src.old }
 {
     if is_run(words) {
-        return run(alloc, src, out, eng, limits.script_bytes, visits, changes);
+        return run(alloc, src, out, files, eng, limits, visits, changes);
     }
     match write_piece(out, USAGE.as_bytes()) {
         Ok(()) => Status::Usage,

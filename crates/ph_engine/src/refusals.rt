@@ -63,6 +63,8 @@ pub(crate) fn is_out_of_range(w: Width, cmd: &Command) -> bool
         | Command::Count
         | Command::Clear
         | Command::Page { .. }
+        | Command::Save { .. }
+        | Command::Load { .. }
         | Command::Stats
         | Command::Select { .. }
         | Command::Same => false,

@@ -6,7 +6,7 @@ ghost use Rattle.ph_io.specs.Giving.{Given, taken_of};
 ghost use Rattle.ph_specs.specs.Reply.{reply_text as text_of};
 ghost use Rattle.ph_script.specs.Meaning.{reply_of, bad_reply as reply_to};
 ghost use Rattle.ph_engine.specs.Machine.{is_refusal};
-ghost use Rattle.ph_engine.specs.Writing.{WritesFront};
+ghost use Rattle.ph_io.specs.Writing.{WritesFront};
 ghost use Rattle.ph_engine.specs.Doing.{refuses};
 ghost use Rattle.ph_engine.specs.Serving.{ServesLine, ServesPiece, ServesEnd, ServesScript};
 ghost use Rattle.ph_engine.specs.Showing.{IsShort};
@@ -15,8 +15,8 @@ ghost use Rattle.ph_engine.specs.Statuses.{StopHasCause, HasCauses, stop_status,
 
 use crate::engine::Engine;
 use crate::output::say;
-use crate::status::{Answer, Status, Stop};
-use ph_io::{Failed, Sink, Source};
+use crate::status::{Answer, Limits, Status, Stop};
+use ph_io::{Failed, Files, Sink, Source};
 use ph_script::{Bad, Line, Lines, Reply, Text, read_command};
 use ph_steps::Steps;
 use std::alloc::Global;
@@ -24,18 +24,21 @@ use std::sync::ledger::Ledger;
 
 const PIECE_BYTES: usize = 4096;
 
-// Runs a script of at most `most` bytes. Both buffers are taken before the first read.
-pub(crate) fn run<S: Source, O: Sink, V: Ledger, C: Ledger>(
+// Runs a script of at most so many bytes. Both buffers are taken before the first read.
+pub(crate) fn run<S: Source, O: Sink, F: Files, V: Ledger, C: Ledger>(
     alloc: Global,
     src: &mut S,
     out: &mut O,
+    files: &mut F,
     eng: &mut Engine,
-    most: u64,
+    limits: &Limits,
     visits: &mut Steps<V>,
     changes: &mut Steps<C>,
 ) -> Status
-    requires { most < 2 ^ 63 }
-    ensures outcome { ServesScript most (S.left src.old) (standing (O.written out.old) (O.amount out.old) visits.old changes.old eng.old) (S.left src.new) (standing (O.written out.new) (O.amount out.new) visits.new changes.new eng.new) result }
+    requires script { limits.now.script_bytes < 2 ^ 63 }
+    requires file { limits.now.file_bytes < 2 ^ 63 }
+    ensures outcome { ServesScript limits.now.file_bytes limits.now.script_bytes (S.left src.old) (standing (O.written out.old) (O.amount out.old) (F.files files.old) (F.faults files.old) visits.old changes.old eng.old) (S.left src.new) (standing (O.written out.new) (O.amount out.new) (F.files files.new) (F.faults files.new) visits.new changes.new eng.new) result }
+    ensures filings { F.faults files.old ≤ F.faults files.new }
     ensures causes { HasCauses (S.faults src.old) (S.faults src.new) (O.faults out.old) (O.faults out.new) result }
 {
     let Ok(mut lines) = Lines::new(alloc) else {
@@ -48,8 +51,9 @@ pub(crate) fn run<S: Source, O: Sink, V: Ledger, C: Ledger>(
         alloc,
         src,
         out,
+        files,
         eng,
-        most,
+        limits,
         &mut lines,
         piece.as_mut_slice(),
         &mut Text::new(),
@@ -58,39 +62,46 @@ pub(crate) fn run<S: Source, O: Sink, V: Ledger, C: Ledger>(
     )
 }
 
-fn run_pieces<S: Source, O: Sink, V: Ledger, C: Ledger>(
+fn run_pieces<S: Source, O: Sink, F: Files, V: Ledger, C: Ledger>(
     alloc: Global,
     src: &mut S,
     out: &mut O,
+    files: &mut F,
     eng: &mut Engine,
-    most: u64,
+    limits: &Limits,
     lines: &mut Lines,
     piece: &mut [u8],
     text: &mut Text,
     visits: &mut Steps<V>,
     changes: &mut Steps<C>,
 ) -> Status
-    requires most { most < 2 ^ 63 }
+    requires script { limits.now.script_bytes < 2 ^ 63 }
+    requires file { limits.now.file_bytes < 2 ^ 63 }
     requires lines { lines.old ≡ [] }
     requires room { 0 < length piece.old }
-    ensures outcome { ServesScript most (S.left src.old) (standing (O.written out.old) (O.amount out.old) visits.old changes.old eng.old) (S.left src.new) (standing (O.written out.new) (O.amount out.new) visits.new changes.new eng.new) result }
+    ensures outcome { ServesScript limits.now.file_bytes limits.now.script_bytes (S.left src.old) (standing (O.written out.old) (O.amount out.old) (F.files files.old) (F.faults files.old) visits.old changes.old eng.old) (S.left src.new) (standing (O.written out.new) (O.amount out.new) (F.files files.new) (F.faults files.new) visits.new changes.new eng.new) result }
+    ensures filings { F.faults files.old ≤ F.faults files.new }
     ensures causes { HasCauses (S.faults src.old) (S.faults src.new) (O.faults out.old) (O.faults out.new) result }
 {
     let mut taken = 0u64;
     let mut refused = false;
     'pieces: loop {
-        let Ok(count) = fill(src, piece, most + 1 - taken) else {
+        let Ok(count) = fill(src, piece, limits.script_bytes + 1 - taken) else {
             return Status::ReadFault;
         };
         if count == 0 {
-            return finish(alloc, out, text, eng, lines, refused, visits, changes);
+            return finish(
+                alloc, out, text, files, eng, limits, lines, refused, visits, changes,
+            );
         }
-        let fresh = (most - taken).min(count as u64) as usize;
+        let fresh = (limits.script_bytes - taken).min(count as u64) as usize;
         match feed(
             alloc,
             out,
             text,
+            files,
             eng,
+            limits,
             lines,
             &piece[..fresh],
             visits,
@@ -124,23 +135,27 @@ fn fill<S: Source>(src: &mut S, piece: &mut [u8], most: u64) -> Result<usize, Fa
 }
 
 // Answers the lines that a piece ends, and tells whether one was refused.
-fn feed<O: Sink, V: Ledger, C: Ledger>(
+fn feed<O: Sink, F: Files, V: Ledger, C: Ledger>(
     alloc: Global,
     out: &mut O,
     text: &mut Text,
+    files: &mut F,
     eng: &mut Engine,
+    limits: &Limits,
     lines: &mut Lines,
     piece: &[u8],
     visits: &mut Steps<V>,
     changes: &mut Steps<C>,
 ) -> Result<bool, Stop>
-    ensures fed { ServesPiece (standing (O.written out.old) (O.amount out.old) visits.old changes.old eng.old) lines.old piece.now (standing (O.written out.new) (O.amount out.new) visits.new changes.new eng.new) lines.new result }
+    requires { limits.now.file_bytes < 2 ^ 63 }
+    ensures fed { ServesPiece limits.now.file_bytes (standing (O.written out.old) (O.amount out.old) (F.files files.old) (F.faults files.old) visits.old changes.old eng.old) lines.old piece.now (standing (O.written out.new) (O.amount out.new) (F.files files.new) (F.faults files.new) visits.new changes.new eng.new) lines.new result }
+    ensures filings { F.faults files.old ≤ F.faults files.new }
     ensures cause { StopHasCause (O.faults out.old) (O.faults out.new) result }
 {
     let mut refused = false;
     let mut at = 0;
     'lines: while let Some(line) = lines.next_line(piece, &mut at) {
-        match answer(alloc, out, text, eng, line, visits, changes) {
+        match answer(alloc, out, text, files, eng, limits, line, visits, changes) {
             Ok(some) => refused = either(refused, some),
             Err(stop) => return Err(stop),
         }
@@ -149,41 +164,49 @@ fn feed<O: Sink, V: Ledger, C: Ledger>(
 }
 
 // Answers the line that the end of the script ends, if there is one.
-fn finish<O: Sink, V: Ledger, C: Ledger>(
+fn finish<O: Sink, F: Files, V: Ledger, C: Ledger>(
     alloc: Global,
     out: &mut O,
     text: &mut Text,
+    files: &mut F,
     eng: &mut Engine,
+    limits: &Limits,
     lines: &mut Lines,
     refused: bool,
     visits: &mut Steps<V>,
     changes: &mut Steps<C>,
 ) -> Status
-    ensures ends { ServesEnd (standing (O.written out.old) (O.amount out.old) visits.old changes.old eng.old) lines.old refused (standing (O.written out.new) (O.amount out.new) visits.new changes.new eng.new) result }
+    requires { limits.now.file_bytes < 2 ^ 63 }
+    ensures ends { ServesEnd limits.now.file_bytes (standing (O.written out.old) (O.amount out.old) (F.files files.old) (F.faults files.old) visits.old changes.old eng.old) lines.old refused (standing (O.written out.new) (O.amount out.new) (F.files files.new) (F.faults files.new) visits.new changes.new eng.new) result }
+    ensures filings { F.faults files.old ≤ F.faults files.new }
     ensures cause { result ≡ Status.WriteFault → Rose (O.faults out.old) (O.faults out.new) }
     ensures read { (result ≡ Status.ReadFault → ⊥) × (result ≡ Status.Usage → ⊥) }
 {
     let Some(line) = lines.last() else {
         return read_status(refused);
     };
-    match answer(alloc, out, text, eng, line, visits, changes) {
+    match answer(alloc, out, text, files, eng, limits, line, visits, changes) {
         Ok(last) => read_status(either(refused, last)),
         Err(stop) => stopped(stop),
     }
 }
 
 // Answers a line, and tells whether it was refused.
-fn answer<O: Sink, V: Ledger, C: Ledger>(
+fn answer<O: Sink, F: Files, V: Ledger, C: Ledger>(
     alloc: Global,
     out: &mut O,
     text: &mut Text,
+    files: &mut F,
     eng: &mut Engine,
+    limits: &Limits,
     line: Line<'_>,
     visits: &mut Steps<V>,
     changes: &mut Steps<C>,
 ) -> Result<bool, Stop>
-    requires { IsShort line }
-    ensures answered { ServesLine (standing (O.written out.old) (O.amount out.old) visits.old changes.old eng.old) line.entry (standing (O.written out.new) (O.amount out.new) visits.new changes.new eng.new) result }
+    requires short { IsShort line }
+    requires file { limits.now.file_bytes < 2 ^ 63 }
+    ensures answered { ServesLine limits.now.file_bytes (standing (O.written out.old) (O.amount out.old) (F.files files.old) (F.faults files.old) visits.old changes.old eng.old) line.entry (standing (O.written out.new) (O.amount out.new) (F.files files.new) (F.faults files.new) visits.new changes.new eng.new) result }
+    ensures filings { F.faults files.old ≤ F.faults files.new }
     ensures cause { StopHasCause (O.faults out.old) (O.faults out.new) result }
 {
     let Line::Text(bytes) = line else {
@@ -191,7 +214,9 @@ fn answer<O: Sink, V: Ledger, C: Ledger>(
     };
     match read_command(bytes, eng.dims()) {
         Ok(None) => Ok(false),
-        Ok(Some(command)) => match eng.exec_by(alloc, &command, out, text, visits, changes) {
+        Ok(Some(command)) => match eng.exec_by(
+            alloc, &command, out, files, limits, text, visits, changes,
+        ) {
             Ok(answer) => Ok(is_refused(answer)),
             Err(stop) => Err(stop),
         },

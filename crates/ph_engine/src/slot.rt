@@ -1,5 +1,5 @@
 //! A table with what belongs to it, and what a command does to it.
-ghost use Rattle.std.specs.Prelude.{◌≡◌, ◌≤◌, ◌-◌, ◌^◌, None, true, false, not, ◌&&◌, nat_le, length, option_map};
+ghost use Rattle.std.specs.Prelude.{◌≡◌, ◌<◌, ◌≤◌, ◌-◌, ◌^◌, None, true, false, not, ◌&&◌, nat_le, length, option_map};
 ghost use Rattle.ph_specs.specs.declared.Kind.TheVariants.{Points};
 ghost use Rattle.ph_specs.specs.Command.Command.{Begin as AskBegin, Cursor as AskCursor, Page as AskPage};
 ghost use Rattle.ph_specs.specs.Named.{has_name};
@@ -18,13 +18,14 @@ ghost use Rattle.ph_engine.specs.Statuses.{StopHasCause};
 
 use crate::boxes::Question;
 use crate::cursors::{CURSORS, Held, enter, place_of};
+use crate::filing::{load_table, save_table};
 use crate::output::tell;
 use crate::refusals::{has_wrong_dims, has_wrong_kind, is_out_of_range, is_reversed};
-use crate::status::{Answer, Stop};
-use crate::trees::AnyTree;
+use crate::status::{Answer, Limits, Stop};
+use crate::trees::{AnyTree, width};
 use arrayvec::ArrayVec;
-use ph_coord::{Kind, Width};
-use ph_io::Sink;
+use ph_coord::Kind;
+use ph_io::{Files, Sink};
 use ph_script::{Command, Coords, Name, Reply, Text};
 use ph_steps::Steps;
 use std::alloc::Global;
@@ -79,18 +80,21 @@ impl Slot {
     }
 
     // Does a command that is about this slot alone, as in an engine whose other slot is new.
-    pub(crate) fn exec<O: Sink, V: Ledger, C: Ledger>(
+    pub(crate) fn exec<O: Sink, F: Files, V: Ledger, C: Ledger>(
         &mut self,
         alloc: Global,
         cmd: &Command,
         out: &mut O,
+        files: &mut F,
+        limits: &Limits,
         text: &mut Text,
         visits: &mut Steps<V>,
         changes: &mut Steps<C>,
     ) -> Result<Answer, Stop>
         requires dims { HasDims self.old.dims cmd.now }
+        requires file { limits.now.file_bytes < 2 ^ 63 }
         requires slot { is_on_slot (command_of cmd.now) ≡ true }
-        ensures done { DoneOr 0 (engine_of self.old) (command_of cmd.now) (beside (O.written out.old) (O.amount out.old) visits.old changes.old) (beside (O.written out.new) (O.amount out.new) visits.new changes.new) (engine_of self.new) result }
+        ensures done { DoneOr limits.now.file_bytes (engine_of self.old) (command_of cmd.now) (beside (O.written out.old) (O.amount out.old) (F.files files.old) (F.faults files.old) visits.old changes.old) (beside (O.written out.new) (O.amount out.new) (F.files files.new) (F.faults files.new) visits.new changes.new) (engine_of self.new) result }
         ensures cause { StopHasCause (O.faults out.old) (O.faults out.new) result }
     {
         if let Some(reply) = self.refusal(cmd) {
@@ -126,6 +130,22 @@ impl Slot {
             Command::Covers { bounds } => {
                 self.tree
                     .list_boxes(Question::Covers, bounds, out, text, visits)
+            }
+            Command::Save { file } => {
+                let reply = save_table(&self.tree, self.kind, file, files, visits);
+                tell(out, text, Ok(reply))
+            }
+            Command::Load { file } => {
+                let outcome = load_table(
+                    &mut self.tree,
+                    self.kind,
+                    alloc,
+                    file,
+                    files,
+                    limits,
+                    changes,
+                );
+                tell(out, text, outcome)
             }
             Command::Stats => tell(out, text, Ok(self.tree.stats(visits))),
             Command::Select { .. } | Command::Same => unreachable!(),
@@ -270,16 +290,6 @@ fn tree_dims(kind: Kind, k: u32) -> u32
     match kind {
         Kind::Points => k,
         Kind::Boxes => 2 * k,
-    }
-}
-
-// The width of all coordinates.
-fn width() -> Width
-    ensures { result ≡ 32 }
-{
-    match Width::new(32) {
-        Some(w) => w,
-        None => unreachable!(),
     }
 }
 

@@ -24,6 +24,8 @@ pub enum Status {
 pub struct Limits {
     /// The bytes of a script, at most; below `2^63`.
     pub script_bytes: u64,
+    /// The bytes of a file that is read, at most; below `2^63`.
+    pub file_bytes: u64,
 }
 
 /// How a command is answered.

@@ -3,12 +3,13 @@ ghost use Rattle.std.specs.Prelude.{◌≡◌, ◌<◌};
 
 mod boxes;
 mod distances;
+mod files;
 mod sizes;
 
 use crate::engine::Engine;
 use crate::program::top;
 use crate::status::{Limits, Status};
-use ph_io::{MemorySink, MemorySource};
+use ph_io::{MemoryFiles, MemorySink, MemorySource};
 use ph_steps::Steps;
 use std::alloc::{AllocError, Global};
 use std::marker::Brand;
@@ -24,6 +25,7 @@ struct Case<'a> {
     failing_read: u64,
     failing_write: u64,
     script_bytes: u64,
+    file_bytes: u64,
     output: &'a str,
     status: Status,
 }
@@ -37,19 +39,32 @@ fn run<'a>(script: &'a str, output: &'a str, status: Status) -> Case<'a> {
         failing_read: 0,
         failing_write: 0,
         script_bytes: 4096,
+        file_bytes: 4096,
         output,
         status,
     }
 }
 
+// Checks a case over no files.
 fn check(rt: &impl Abort, alloc: Global, case: &Case<'_>) -> Result<(), AllocError> {
-    check_counted::<Brand, Brand>(rt, alloc, case, Blank::new(1), Blank::new(1))
+    let mut files = MemoryFiles::new(alloc, 0, 0, Vec::new(alloc))?;
+    check_over(rt, alloc, case, &mut files)
+}
+
+fn check_over(
+    rt: &impl Abort,
+    alloc: Global,
+    case: &Case<'_>,
+    files: &mut MemoryFiles,
+) -> Result<(), AllocError> {
+    check_counted::<Brand, Brand>(rt, alloc, case, files, Blank::new(1), Blank::new(1))
 }
 
 fn check_counted<V: Ledger, C: Ledger>(
     rt: &impl Abort,
     alloc: Global,
     case: &Case<'_>,
+    files: &mut MemoryFiles,
     visits: Blank,
     changes: Blank,
 ) -> Result<(), AllocError>
@@ -63,7 +78,8 @@ fn check_counted<V: Ledger, C: Ledger>(
         words.push(String::from_str(alloc, word)?)?;
     }
     assert!(rt; 0 < case.piece);
-    assert!(rt; case.script_bytes < 0x8000_0000_0000_0000);
+    assert!(rt; case.script_bytes < 1 << 63);
+    assert!(rt; case.file_bytes < 1 << 63);
     let script = Vec::from_slice(alloc, case.script.as_bytes())?;
     let failing_reads = vec![in alloc; case.failing_read]?;
     let failing_writes = vec![in alloc; case.failing_write]?;
@@ -72,12 +88,14 @@ fn check_counted<V: Ledger, C: Ledger>(
     let mut engine = Engine::new(alloc);
     let limits = Limits {
         script_bytes: case.script_bytes,
+        file_bytes: case.file_bytes,
     };
     let status = top(
         alloc,
         words.as_slice(),
         &mut source,
         &mut sink,
+        files,
         &mut engine,
         &limits,
         &mut visits,

@@ -1,14 +1,21 @@
 //! A tree of any number of dimensions that a slot can have, with the commands about its rows.
-ghost use Rattle.std.specs.Prelude.{◌≡◌, ◌≤◌, None, true, [], length};
+ghost use Rattle.std.specs.Prelude.{◌≡◌, ◌≤◌, ◌+◌, ◌*◌, ◌↔◌, None, Ok, true, false, [], length, IsTrue, IfOk, IfErr, OnOk};
 ghost use Rattle.std.specs.List.{list_all};
 ghost use Rattle.ph_specs.specs.Coordinate.{fits};
 ghost use Rattle.ph_specs.specs.Command.{Command as Asked};
+ghost use Rattle.ph_specs.specs.KindRows.{rows_fit};
+ghost use Rattle.ph_specs.specs.Load.{dims_fit, load_fault};
+ghost use Rattle.ph_specs.specs.SavedTable.{read_snapshot};
+ghost use Rattle.ph_specs.specs.Snapshot.{snap, kind_byte};
+ghost use Rattle.ph_specs.specs.WorkSets.{all_nodes};
 ghost use Rattle.ph_specs.specs.declared.Kind.TheVariants.{Boxes, Points};
 ghost use Rattle.ph_script.specs.Meaning.{numbers_of, reply_of};
+ghost use Rattle.ph_snap.specs.Faults.{IsLoadFault};
 ghost use Rattle.ph_engine.specs.Doing.{Looked, Idled, ServedOr};
+ghost use Rattle.ph_engine.specs.Filing.{EnteredOr};
 ghost use Rattle.ph_io.specs.Giving.{taken_of};
 ghost use Rattle.ph_engine.specs.Listing.{ListsWindow, ListsNear, ListsBall, ListsBoxes, ListsAnyPage};
-ghost use Rattle.ph_engine.specs.Slots.{any_table, empty_table, cursor_of, cursor_dims, slot_of, IsCursorIn, IsOfKind};
+ghost use Rattle.ph_engine.specs.Slots.{any_table, table_at, empty_table, cursor_of, cursor_dims, slot_of, IsCursorIn, IsOfKind};
 ghost use Rattle.ph_engine.specs.Comparing.{IsCompared};
 ghost use Rattle.ph_engine.specs.Statuses.{StopHasCause};
 
@@ -18,11 +25,13 @@ use crate::commands::{
 };
 use crate::cursors::AnyCursor;
 use crate::distances::{list_ball, list_near};
+use crate::filing::save_tree;
 use crate::listing::{list_page, list_window};
 use crate::status::{Answer, Stop};
-use ph_coord::Width;
-use ph_io::Sink;
-use ph_script::{Coords, Reply, Text};
+use ph_coord::{Kind, Width};
+use ph_io::{Failed, Files, Sink};
+use ph_script::{Coords, FileName, Reply, Text};
+use ph_snap::{LoadFault, load};
 use ph_steps::Steps;
 use ph_tree::{NoMemory, PhTree};
 use std::alloc::Global;
@@ -179,6 +188,77 @@ impl AnyTree {
         with_tree!(self, tree => clear_rows(tree))
     }
 
+    pub(crate) fn len(&self) -> u64
+        ensures { result ≡ length (any_table self.now).tree.table }
+    {
+        with_tree!(self, tree => tree.len())
+    }
+
+    pub(crate) fn max(&self) -> u64
+        ensures { result ≡ (any_table self.now).tree.max }
+    {
+        with_tree!(self, tree => tree.max())
+    }
+
+    // Lets it have at most so many rows, and tells whether it does.
+    pub(crate) fn set_max(&mut self, max: u64) -> bool
+        ensures fits { IsTrue result ↔ (length (any_table self.old).tree.table ≤ max) }
+        ensures set { IsTrue result → any_table self.new ≡ table_at (any_table self.old).dims (record ((any_table self.old).tree) { max = max }) }
+        ensures stays { result ≡ false → any_table self.new ≡ any_table self.old }
+    {
+        with_tree!(self, tree => tree.set_max(max))
+    }
+
+    // Writes its snapshot to a file of this name, and tells how many bytes it has.
+    pub(crate) fn save<F: Files, V: Ledger>(
+        &self,
+        kind: Kind,
+        file: &FileName,
+        files: &mut F,
+        visits: &mut Steps<V>,
+    ) -> Result<u128, Failed>
+        requires width { (any_table self.now).tree.width ≡ 32 }
+        requires dims { dims_fit 8 (kind_byte kind) (any_table self.now).dims ≡ true }
+        ensures entered { EnteredOr (F.files files.old) (F.files files.new) (F.faults files.old) (F.faults files.new) file.now (snap kind (any_table self.now).dims (any_table self.now).tree.table) result }
+        ensures kept { visits.old ≤ visits.new }
+        ensures few { visits.new ≤ visits.old + length (all_nodes 32 (any_table self.now).dims (any_table self.now).tree.table) }
+        ensures all { OnOk result (visits.new ≡ visits.old + length (all_nodes 32 (any_table self.now).dims (any_table self.now).tree.table)) }
+    {
+        with_tree!(self, tree => save_tree(tree, kind, file, files, visits))
+    }
+
+    // The tree of so many dimensions of which the bytes are the snapshot, for any number of rows.
+    pub(crate) fn load<C: Ledger>(
+        alloc: Global,
+        bytes: &[u8],
+        kind: Kind,
+        dims: u32,
+        changes: &mut Steps<C>,
+    ) -> Result<AnyTree, LoadFault>
+        requires some { 1 ≤ dims }
+        requires limit { dims ≤ 8 }
+        requires fit { dims_fit 8 (kind_byte kind) dims ≡ true }
+        ensures dims { IfOk result (λ t. (any_table t).dims ≡ dims) }
+        ensures width { IfOk result (λ t. (any_table t).tree.width ≡ 32) }
+        ensures rows { IfOk result (λ t. rows_fit kind (any_table t).tree.table ≡ true) }
+        ensures read { IfOk result (λ t. read_snapshot kind dims bytes.now ≡ Ok (any_table t).tree.table) }
+        ensures fault { IfErr result (λ e. IsLoadFault (load_fault kind dims bytes.now) e) }
+        ensures kept { changes.old ≤ changes.new }
+        ensures few { 16 * changes.new ≤ 16 * changes.old + length bytes.now }
+    {
+        match dims {
+            1 => load(alloc, bytes, kind, width(), changes).map(AnyTree::D1),
+            2 => load(alloc, bytes, kind, width(), changes).map(AnyTree::D2),
+            3 => load(alloc, bytes, kind, width(), changes).map(AnyTree::D3),
+            4 => load(alloc, bytes, kind, width(), changes).map(AnyTree::D4),
+            5 => load(alloc, bytes, kind, width(), changes).map(AnyTree::D5),
+            6 => load(alloc, bytes, kind, width(), changes).map(AnyTree::D6),
+            7 => load(alloc, bytes, kind, width(), changes).map(AnyTree::D7),
+            8 => load(alloc, bytes, kind, width(), changes).map(AnyTree::D8),
+            _ => unreachable!(),
+        }
+    }
+
     // A cursor between two corners, with no row listed.
     pub(crate) fn cursor(&self, lo: &Coords, hi: &Coords) -> AnyCursor
         requires lo { length lo.now ≡ (any_table self.now).dims }
@@ -306,5 +386,15 @@ impl AnyTree {
         ensures cause { StopHasCause (O.faults out.old) (O.faults out.new) result }
     {
         with_cursor!(self, cursor, tree, at => list_page(tree, at, n, out, text, visits))
+    }
+}
+
+// The width of all coordinates.
+pub(crate) fn width() -> Width
+    ensures { result ≡ 32 }
+{
+    match Width::new(32) {
+        Some(w) => w,
+        None => unreachable!(),
     }
 }

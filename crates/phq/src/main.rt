@@ -4,7 +4,7 @@
 ghost use Rattle.std.specs.Prelude.{◌≡◌, ◌<◌};
 
 use ph_engine::{Engine, Limits, top};
-use ph_io::{StdSink, StdSource};
+use ph_io::{DirFiles, StdSink, StdSource};
 use ph_steps::Steps;
 use std::env;
 use std::marker::Brand;
@@ -12,7 +12,8 @@ use std::process::ExitCode;
 use std::sync::ledger::{Blank, Ledger};
 
 const LIMITS: Limits = Limits {
-    script_bytes: 0x1_0000_0000,
+    script_bytes: 1 << 32,
+    file_bytes: 1 << 30,
 };
 
 // The status where the words of the command line can't be had. `top` never answers it.
@@ -41,6 +42,7 @@ fn serve<V: Ledger, C: Ledger>(rt: HostRuntime, visits: Blank, changes: Blank) -
         words.as_slice(),
         &mut StdSource::new(rt.stdin()),
         &mut StdSink::new(rt.stdout()),
+        &mut DirFiles::new(&rt),
         &mut Engine::new(rt.alloc()),
         &LIMITS,
         &mut visits,

@@ -9,7 +9,7 @@ use Rattle.ph_specs.specs.Window.{page, has_more, last_listed}
 use Rattle.ph_window.specs.declared.page.Tail.TheVariants.{More}
 use Rattle.ph_engine.specs.Listing.{is_more, met}
 use Rattle.ph_engine.specs.Slots.{table_at}
-use Rattle.ph_engine.specs.Writing.{WritesFront}
+use Rattle.ph_io.specs.Writing.{WritesFront}
 use Rattle.ph_engine.proofs.Replies.{none_given}
 use Rattle.ph_engine.proofs.Listed.{item-given, item-front, none-left, page-step, page-rest, page-said, page-cut, more-by}
 use Rattle.ph_engine.proofs.listing.list_page.Goals as goal

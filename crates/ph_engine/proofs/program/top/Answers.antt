@@ -3,7 +3,7 @@ use Rattle.ph_engine.proofs.Ends.{run_ends, asks_run}
 use Rattle.ph_engine.proofs.program.top.Goals as goal
 
 pub returns-then-is_run-clause-run : goal.returns-then-is_run-clause-run
-returns-then-is_run-clause-run g c asked = run_ends c.args.limits.now _ _ c.run.result c.run.ensures.outcome c.run.ensures.causes
+returns-then-is_run-clause-run g c asked = run_ends c.args.limits.now _ _ c.run.result c.run.ensures.outcome c.run.ensures.causes c.run.ensures.filings
 
 pub returns-in-Ok-clause-run : goal.returns-in-Ok-clause-run
 returns-in-Ok-clause-run g c asked = let t = c.is_run.ensures.1 (asks_run _ asked) in cc

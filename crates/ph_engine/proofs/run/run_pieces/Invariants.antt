@@ -6,14 +6,15 @@ use Rattle.ph_engine.proofs.run.run_pieces.Given as goal
 
 abbrev pub invariant-pieces : goal.invariant-pieces
 invariant-pieces g l =
-    let st = (standing (g.O.Sink.written l.initial.out) (g.O.Sink.amount l.initial.out) l.initial.visits l.initial.changes l.initial.eng) in
-    let now = (standing (g.O.Sink.written l.out) (g.O.Sink.amount l.out) l.visits l.changes l.eng) in
+    let st = (standing (g.O.Sink.written l.initial.out) (g.O.Sink.amount l.initial.out) (g.F.Files.files l.initial.files) (g.F.Files.faults l.initial.files) l.initial.visits l.initial.changes l.initial.eng) in
+    let now = (standing (g.O.Sink.written l.out) (g.O.Sink.amount l.out) (g.F.Files.files l.files) (g.F.Files.faults l.files) l.visits l.changes l.eng) in
     record {
-      within : l.taken ≤ l.most;
+      within : l.taken ≤ l.limits.script_bytes;
       reads : g.S.Source.faults l.initial.src ≤ g.S.Source.faults l.src;
       writes : g.O.Sink.faults l.initial.out ≤ g.O.Sink.faults l.out;
-      reached : IsKnown st → IsKnown now × Reached (built_machine 0) (g.S.Source.left l.initial.src) (g.S.Source.left l.src) st.beside now.beside (whole_of st) (whole_of now) l.lines l.refused l.taken;
+      filings : g.F.Files.faults l.initial.files ≤ g.F.Files.faults l.files;
+      reached : IsKnown st → IsKnown now × Reached (built_machine l.limits.file_bytes) (g.S.Source.left l.initial.src) (g.S.Source.left l.src) st.beside now.beside (whole_of st) (whole_of now) l.lines l.refused l.taken;
     }
 
 abbrev pub decreases-pieces : goal.decreases-pieces
-decreases-pieces g l = l.most + 1 - l.taken
+decreases-pieces g l = l.limits.script_bytes + 1 - l.taken

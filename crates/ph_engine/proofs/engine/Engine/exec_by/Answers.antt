@@ -5,16 +5,16 @@ use Rattle.ph_engine.proofs.engine.Engine.exec_by.Goals as goal
 
 pub returns-in-Select-clause-done : goal.returns-in-Select-clause-done
 returns-in-Select-clause-done g c =
-    rw c.in-Select.is (select-done c.args.self.now c.select.new.self c.in-Select.slot c.select.result _ _ c.args.visits.now c.args.changes.now c.tell.result c.select.ensures.engine c.select.ensures.reply c.tell.ensures.told)
+    rw c.in-Select.is (select-done c.args.limits.now.file_bytes c.args.self.now c.select.new.self c.in-Select.slot c.select.result _ _ (g.F.Files.files c.args.files.now) (g.F.Files.faults c.args.files.now) c.args.visits.now c.args.changes.now c.tell.result c.select.ensures.engine c.select.ensures.reply c.tell.ensures.told)
 
 pub returns-in-Same-clause-done : goal.returns-in-Same-clause-done
 returns-in-Same-clause-done g c =
-    rw c.in-Same.is (compare-done c.args.self.now c.compare.result _ _ c.args.visits.now c.compare.new.visits c.args.changes.now c.tell-in-Same.result c.compare.ensures c.tell-in-Same.ensures.told)
+    rw c.in-Same.is (compare-done c.args.limits.now.file_bytes c.args.self.now c.compare.result _ _ (g.F.Files.files c.args.files.now) (g.F.Files.faults c.args.files.now) c.args.visits.now c.compare.new.visits c.args.changes.now c.tell-in-Same.result c.compare.ensures c.tell-in-Same.ensures.told)
 
 pub returns-in-A-clause-done : goal.returns-in-A-clause-done
 returns-in-A-clause-done g c =
-    done-at-a 0 c.args.self.now c.self.inside.a c.self.inside.b c.exec.new.self c.self.inside.current (command_of c.args.cmd.now) _ _ c.exec.result c.self.view_is c.in-A.is (on-slot c.args.cmd.now c.in_default.not-Select c.in_default.not-Same) c.exec.ensures.done
+    done-at-a c.args.limits.now.file_bytes c.args.self.now c.self.inside.a c.self.inside.b c.exec.new.self c.self.inside.current (command_of c.args.cmd.now) _ _ c.exec.result c.self.view_is c.in-A.is (on-slot c.args.cmd.now c.in_default.not-Select c.in_default.not-Same) c.exec.ensures.done
 
 pub returns-in-B-clause-done : goal.returns-in-B-clause-done
 returns-in-B-clause-done g c =
-    done-at-b 0 c.args.self.now c.self.inside.a c.self.inside.b c.exec-in-B.new.self c.self.inside.current (command_of c.args.cmd.now) _ _ c.exec-in-B.result c.self.view_is c.in-B.is (on-slot c.args.cmd.now c.in_default.not-Select c.in_default.not-Same) c.exec-in-B.ensures.done
+    done-at-b c.args.limits.now.file_bytes c.args.self.now c.self.inside.a c.self.inside.b c.exec-in-B.new.self c.self.inside.current (command_of c.args.cmd.now) _ _ c.exec-in-B.result c.self.view_is c.in-B.is (on-slot c.args.cmd.now c.in_default.not-Select c.in_default.not-Same) c.exec-in-B.ensures.done

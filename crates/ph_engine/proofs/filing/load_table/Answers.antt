@@ -1,0 +1,30 @@
+use Rattle.std.proofs.Common.{refl}
+use Rattle.ph_engine.specs.Slots.{any_table}
+use Rattle.ph_engine.proofs.Filed.{read-filed-or, unfetched-filed-or}
+use Rattle.ph_engine.proofs.Loads.{same-frame-still}
+use Rattle.ph_engine.proofs.filing.load_table.Goals as goal
+
+pub returns-in-Ok-clause-loaded : goal.returns-in-Ok-clause-loaded
+returns-in-Ok-clause-loaded g c =
+    let t = any_table c.args.tree.now in
+    let e = c.in-Ok.ensures in
+    let slice = c.as_slice.ensures.value in
+    let loads = c.load_bytes.ensures in
+    record {
+      filed = λ visits cursors.
+          read-filed-or c.args.limits.now.file_bytes c.args.kind t cursors c.args.file.now c.as_slice.result.now (g.F.Files.faults c.args.files.now) (g.F.Files.faults c.fetch.new.self) visits c.args.changes.now c.load_bytes.new.changes
+          (g.F.Files.files c.args.files.now) (g.F.Files.files c.fetch.new.self) (any_table c.load_bytes.new.tree) c.load_bytes.result (rw (slice, ← c.as_str.ensures.value) e.fetches) (rw slice e.within) e.files e.counts loads.loads loads.kept loads.few;
+    }
+
+pub returns : goal.returns
+returns g c =
+    let e = c.in-Err.ensures in
+    let t = any_table c.args.tree.now in
+    record {
+      frame = same-frame-still c.args.kind t;
+      loaded = record {
+        filed = λ visits cursors.
+            unfetched-filed-or c.args.limits.now.file_bytes c.args.kind t cursors c.args.file.now c.fetch.new.into.items (g.F.Files.faults c.args.files.now) (g.F.Files.faults c.fetch.new.self) visits c.args.changes.now c.args.changes.now
+            (g.F.Files.files c.args.files.now) (g.F.Files.files c.fetch.new.self) c.in-Err.fault c.fetch_reply.result c.fetch_reply.ensures (rw (← c.as_str.ensures.value) e.fetches) e.counts e.files refl;
+      };
+    }

@@ -1,0 +1,108 @@
+-- What commands on files do, before their replies are told.
+use Rattle.std.specs.Prelude.{◌≡◌, ◌≤◌, ℕ, Bool, true, nat_lt, if◌then◌else◌, List, [], ◌∷◌, length, Option, Some, None, option_map, Result, Ok, Err}
+use Rattle.ph_io.specs.declared.files.FetchFault.{FetchFault}
+use Rattle.ph_io.specs.declared.files.FetchFault.TheVariants as unread
+use Rattle.ph_io.specs.declared.streams.Failed.{Failed}
+use Rattle.ph_specs.specs.Command.{Command}
+use Rattle.ph_specs.specs.Reply.{Reply}
+use Rattle.ph_specs.specs.declared.Kind.{Kind}
+use Rattle.ph_specs.specs.Load.{Fault}
+use Rattle.ph_specs.specs.Named.{Named, enter}
+use Rattle.ph_specs.specs.SavedTable.{fault_reply, read_snapshot}
+use Rattle.ph_specs.specs.State.{Engine, Files, current}
+use Rattle.ph_specs.specs.Table.{Row}
+use Rattle.ph_specs.specs.Window.{Cursor}
+use Rattle.ph_specs.specs.Engine.{act}
+use Rattle.ph_script.specs.declared.reply.Reply.{Reply as Told}
+use Rattle.ph_script.specs.Meaning.{reply_of}
+use Rattle.ph_snap.specs.Faults.{IsLoadFault}
+use Rattle.ph_snap.specs.declared.fault.LoadFault.{LoadFault}
+use Rattle.ph_snap.specs.declared.fault.LoadFault.TheVariants as by
+use Rattle.ph_engine.specs.Beside.{Filings, IsTold, StillTells}
+use Rattle.ph_engine.specs.Doing.{Knows, Leads, uses_files, wants_memory, starved_engine}
+use Rattle.ph_engine.specs.Drafting.{Unfilled}
+use Rattle.ph_engine.specs.Machine.{one_if}
+use Rattle.ph_engine.specs.Slots.{AnyTable, table_at, slot_of, engine_of, IsOfKind}
+use Rattle.ph_engine.specs.Working.{work_of, IsAtMost, IsAtLeast}
+
+-- A command has this reply and leads to this engine. The files failed in it or not.
+pub record Filed (most : ℕ) (e : Engine) (command : Command) (told now_told : Option Files) (filings now_filings visits now_visits changes now_changes : ℕ) (now : Engine) (reply : Reply) : Type 0 where
+  pub fault : Bool
+  pub counted : Filings (uses_files command) (one_if fault) filings now_filings
+  pub does : (files : Files) → Knows command told files → Leads (act most e files fault command) now told now_told (reply ∷ [])
+  pub most_work : (files : Files) → Knows command told files → IsAtMost (work_of most e files fault command) visits now_visits changes now_changes
+  pub least_work : (files : Files) → Knows command told files → IsAtLeast (work_of most e files fault command) visits now_visits changes now_changes
+
+-- Memory was missing for it, which may want it. The files are as before.
+pub record Unfiled (most : ℕ) (e : Engine) (command : Command) (told now_told : Option Files) (filings now_filings visits now_visits changes now_changes : ℕ) (now : Engine) : Type 0 where
+  pub fault : Bool
+  pub counted : Filings (uses_files command) (one_if fault) filings now_filings
+  pub part : ℕ
+  pub state : (files : Files) → Knows command told files → now ≡ starved_engine e files command part
+  pub kept : (files : Files) → IsTold told files → StillTells told now_told files
+  pub wanted : wants_memory (current e) command ≡ true
+  pub most_work : (files : Files) → Knows command told files → IsAtMost (work_of most e files fault command) visits now_visits changes now_changes
+
+abbrev pub FiledOr : {D : ℕ} {E : Type 0} → ℕ → Engine → Command → Option Files → Option Files → ℕ → ℕ → ℕ → ℕ → ℕ → ℕ → Engine → Result (Told D) E → Type 0
+FiledOr most e command told now_told filings now_filings visits now_visits changes now_changes now (Ok reply) =
+    Filed most e command told now_told filings now_filings visits now_visits changes now_changes now (reply_of reply)
+FiledOr most e command told now_told filings now_filings visits now_visits changes now_changes now (Err error) =
+    Unfiled most e command told now_told filings now_filings visits now_visits changes now_changes now
+
+-- ---- a file that is written
+
+-- the bytes are a file under the name, and nothing failed
+pub record Entered (told now_told : Option Files) (before now : ℕ) (name bytes : List ℕ) (count : ℕ) : Type 0 where
+  pub counted : count ≡ length bytes
+  pub later : before ≤ now
+  pub entered : (files : Files) → told ≡ Some files → now_told ≡ Some (enter name bytes files)
+
+abbrev pub EnteredOr : Option Files → Option Files → ℕ → ℕ → List ℕ → List ℕ → Result ℕ Failed → Type 0
+EnteredOr told now_told before now name bytes (Ok count) = Entered told now_told before now name bytes count
+EnteredOr told now_told before now name bytes (Err _) = Unfilled told now_told before now
+
+-- a save of a table, whatever cursors stand beside it
+pub record TableSaved (kind : Kind) (t : AnyTable) (name : List ℕ) (told now_told : Option Files) (before now visits now_visits : ℕ) (reply : Reply) : Type 0 where
+  pub filed : (most changes : ℕ) (cursors : Named Cursor) → let e = engine_of (slot_of kind t cursors) in Filed most e (Command.Save name) told now_told before now visits now_visits changes changes e reply
+
+-- ---- a file that is read
+
+-- what a table becomes by the rows that were read, or by their fault, and the reply
+abbrev pub loaded_table : AnyTable → List Row → AnyTable
+loaded_table t rows = if nat_lt t.tree.max (length rows) then t else table_at t.dims (record (t.tree) { table = rows })
+
+abbrev pub loaded_reply : ℕ → List Row → Reply
+loaded_reply max rows = if nat_lt max (length rows) then Reply.ErrorFull else Reply.Loaded (length rows)
+
+abbrev pub read_table : AnyTable → Result (List Row) Reply → AnyTable
+read_table t (Ok rows) = loaded_table t rows
+read_table t (Err fault) = t
+
+abbrev pub read_reply : ℕ → Result (List Row) Reply → Reply
+read_reply max (Ok rows) = loaded_reply max rows
+read_reply max (Err fault) = fault
+
+-- the bytes were read, or memory was missing for their table
+abbrev pub LoadsOr : {D : ℕ} {E : Type 0} → Kind → AnyTable → List ℕ → AnyTable → Result (Told D) E → Type 0
+LoadsOr kind t bytes now (Ok reply) = let read = read_snapshot kind t.dims bytes in (now ≡ read_table t read) × (reply_of reply ≡ read_reply t.tree.max read)
+LoadsOr kind t bytes now (Err error) = now ≡ t
+
+-- a table of the same width, number of dimensions and kind
+pub record SameFrame (kind : Kind) (t now : AnyTable) : Type 0 where
+  pub width : now.tree.width ≡ t.tree.width
+  pub dims : now.dims ≡ t.dims
+  pub of_kind : IsOfKind kind t → IsOfKind kind now
+
+-- a load of a table, whatever cursors stand beside it
+pub record TableLoaded {D : ℕ} {E : Type 0} (most : ℕ) (kind : Kind) (t : AnyTable) (name : List ℕ) (told now_told : Option Files) (before now_count changes now_changes : ℕ) (now : AnyTable) (result : Result (Told D) E) : Type 0 where
+  pub filed : (visits : ℕ) (cursors : Named Cursor) → FiledOr most (engine_of (slot_of kind t cursors)) (Command.Load name) told now_told before now_count visits visits changes now_changes (engine_of (slot_of kind now cursors)) result
+
+-- a reply tells the first fault of bytes, or memory was missing for them
+abbrev pub TellsFault : {D : ℕ} {E : Type 0} → LoadFault → Result (Told D) E → Type 0
+TellsFault fault (Ok reply) = (first : Option Fault) → IsLoadFault first fault → option_map fault_reply first ≡ Some (reply_of reply)
+TellsFault fault (Err error) = fault ≡ by.NoMemory
+
+-- a reply tells that no file was read, or memory was missing for its bytes
+abbrev pub TellsUnfetched : {D : ℕ} {E : Type 0} → FetchFault → Result (Told D) E → Type 0
+TellsUnfetched fault (Ok reply) = (fault ≡ unread.NoMemory → ⊥) × (reply_of reply ≡ Reply.ErrorFile)
+TellsUnfetched fault (Err error) = fault ≡ unread.NoMemory

@@ -1,0 +1,70 @@
+//! A sink that appends to the file that is begun.
+ghost use Rattle.std.specs.Prelude.{◌≡◌, ◌<◌, ◌+◌, true, None, length, IfOk};
+ghost use Rattle.std.specs.Io.{WritesAtMost};
+ghost use Rattle.std.specs.Io.KnownBytes.{WriteAppends};
+ghost use Rattle.ph_io.specs.Amounts.{WriteAdds};
+ghost use Rattle.ph_io.specs.Causes.{HasCause};
+ghost use Rattle.ph_engine.specs.Drafting.{draft_bytes, drafted, Follows};
+ghost use Rattle.ph_engine.specs.DraftLaws.{follows_itself, follows_on};
+
+use ph_io::{Failed, Files, Sink};
+
+// Appends each write to the file that is begun. After one that failed none is made, and each counts as late.
+#[derive(Drop)]
+pub(crate) struct FileSink<'f, F: Files> {
+    pub(crate) files: &'f mut F,
+    pub(crate) late: u64,
+    pub(crate) works: bool,
+    ghost begun: { works ≡ true → F.is_begun files.now ≡ true },
+}
+
+impl<'f, F: Files> FileSink<'f, F> {
+    pub(crate) fn new(files: &'f mut F) -> FileSink<'f, F>
+        requires { F.is_begun files.old ≡ true }
+        ensures same_reference { result.files.ghost_name ≡ files.entry.ghost_name }
+        ensures files { result.files.now ≡ files.old }
+        ensures late { result.late ≡ 0 }
+        ensures works { result.works ≡ true }
+    {
+        FileSink {
+            files,
+            late: 0,
+            works: true,
+        }
+    }
+}
+
+impl<'f, F: Files> Sink for FileSink<'f, F> {
+    ghost written = { λ s. draft_bytes (F.draft s.files.now) };
+
+    ghost amount = { λ _. None };
+
+    ghost faults = { λ s. F.faults s.files.now + s.late };
+
+    ghost follows = { λ a b. Follows (drafted a.files.ghost_name (F.files a.files.now) (F.draft a.files.now) (F.faults a.files.now) a.late a.works) (drafted b.files.ghost_name (F.files b.files.now) (F.draft b.files.now) (F.faults b.files.now) b.late b.works) };
+
+    ghost follows_itself = { λ s. follows_itself (drafted s.files.ghost_name (F.files s.files.now) (F.draft s.files.now) (F.faults s.files.now) s.late s.works) };
+
+    ghost follows_on = { λ a b c. follows_on (drafted a.files.ghost_name (F.files a.files.now) (F.draft a.files.now) (F.faults a.files.now) a.late a.works) (drafted b.files.ghost_name (F.files b.files.now) (F.draft b.files.now) (F.faults b.files.now) b.late b.works) (drafted c.files.ghost_name (F.files c.files.now) (F.draft c.files.now) (F.faults c.files.now) c.late c.works) };
+
+    fn write(&mut self, piece: &[u8]) -> Result<usize, Failed>
+        ensures bound { WritesAtMost result piece.now }
+        ensures some { IfOk result (λ n. 0 < length piece.now → 0 < n) }
+        ensures bytes { WriteAppends (draft_bytes (F.draft self.old.files.now)) (draft_bytes (F.draft self.new.files.now)) result piece.now }
+        ensures amount { WriteAdds None None result }
+        ensures cause { HasCause (F.faults self.old.files.now + self.old.late) (F.faults self.new.files.now + self.new.late) result }
+        ensures follows { Follows (drafted self.old.files.ghost_name (F.files self.old.files.now) (F.draft self.old.files.now) (F.faults self.old.files.now) self.old.late self.old.works) (drafted self.new.files.ghost_name (F.files self.new.files.now) (F.draft self.new.files.now) (F.faults self.new.files.now) self.new.late self.new.works) }
+    {
+        if !self.works {
+            self.late = self.late.saturating_add(1);
+            return Err(Failed);
+        }
+        match self.files.append(piece) {
+            Ok(()) => Ok(piece.len()),
+            Err(Failed) => {
+                self.works = false;
+                Err(Failed)
+            }
+        }
+    }
+}

@@ -1,0 +1,165 @@
+//! Commands on files: a table as a snapshot, and back.
+ghost use Rattle.std.specs.Prelude.{◌≡◌, ◌≤◌, ◌+◌, ◌*◌, true, length, IfOk, OnOk};
+ghost use Rattle.ph_specs.specs.Load.{dims_fit};
+ghost use Rattle.ph_specs.specs.Snapshot.{snap, kind_byte};
+ghost use Rattle.ph_specs.specs.WorkSets.{all_nodes};
+ghost use Rattle.ph_script.specs.Meaning.{reply_of};
+ghost use Rattle.ph_engine.specs.Drafting.{FilledOr};
+ghost use Rattle.ph_engine.specs.Filing.{EnteredOr, LoadsOr, SameFrame, TableLoaded, TableSaved, TellsFault, TellsUnfetched, loaded_reply, loaded_table};
+ghost use Rattle.ph_engine.specs.Slots.{IsOfKind, any_table};
+
+use crate::file_sink::FileSink;
+use crate::status::Limits;
+use crate::trees::AnyTree;
+use ph_coord::Kind;
+use ph_io::{Failed, FetchFault, Files};
+use ph_script::{FileName, Reply};
+use ph_snap::{LoadFault, save};
+use ph_steps::Steps;
+use ph_tree::{NoMemory, PhTree};
+use std::alloc::Global;
+use std::sync::ledger::Ledger;
+
+// Saves the rows of a tree under a name, in place of a file that has it.
+pub(crate) fn save_table<F: Files, V: Ledger>(
+    tree: &AnyTree,
+    kind: Kind,
+    file: &FileName,
+    files: &mut F,
+    visits: &mut Steps<V>,
+) -> Reply<1>
+    requires width { (any_table tree.now).tree.width ≡ 32 }
+    requires of_kind { IsOfKind kind (any_table tree.now) }
+    ensures { TableSaved kind (any_table tree.now) file.now (F.files files.old) (F.files files.new) (F.faults files.old) (F.faults files.new) visits.old visits.new (reply_of result) }
+{
+    match tree.save(kind, file, files, visits) {
+        Ok(count) => Reply::Saved(count),
+        Err(Failed) => Reply::ErrorFile,
+    }
+}
+
+// Writes the snapshot of a tree to a file of this name, and tells how many bytes it has. Where the files fail, one of the name stays as it was.
+pub(crate) fn save_tree<const D: usize, F: Files, V: Ledger>(
+    tree: &PhTree<D>,
+    kind: Kind,
+    file: &FileName,
+    files: &mut F,
+    visits: &mut Steps<V>,
+) -> Result<u128, Failed>
+    requires width { tree.now.width ≡ 32 }
+    requires dims { dims_fit 8 (kind_byte kind) D ≡ true }
+    ensures entered { EnteredOr (F.files files.old) (F.files files.new) (F.faults files.old) (F.faults files.new) file.now (snap kind D tree.now.table) result }
+    ensures kept { visits.old ≤ visits.new }
+    ensures few { visits.new ≤ visits.old + length (all_nodes 32 D tree.now.table) }
+    ensures all { OnOk result (visits.new ≡ visits.old + length (all_nodes 32 D tree.now.table)) }
+{
+    files.begin(file.as_str())?;
+    let count = append_tree(tree, kind, files, visits)?;
+    files.finish()?;
+    Ok(count)
+}
+
+// Appends the snapshot of a tree to the file that is begun.
+fn append_tree<const D: usize, F: Files, V: Ledger>(
+    tree: &PhTree<D>,
+    kind: Kind,
+    files: &mut F,
+    visits: &mut Steps<V>,
+) -> Result<u128, Failed>
+    requires width { tree.now.width ≡ 32 }
+    requires dims { dims_fit 8 (kind_byte kind) D ≡ true }
+    requires begun { F.is_begun files.old ≡ true }
+    ensures filled { FilledOr (F.files files.old) (F.files files.new) (F.draft files.old) (F.draft files.new) (F.faults files.old) (F.faults files.new) (F.is_begun files.new) (snap kind D tree.now.table) result }
+    ensures count { IfOk result (λ n. n ≡ length (snap kind D tree.now.table)) }
+    ensures kept { visits.old ≤ visits.new }
+    ensures few { visits.new ≤ visits.old + length (all_nodes 32 D tree.now.table) }
+    ensures all { OnOk result (visits.new ≡ visits.old + length (all_nodes 32 D tree.now.table)) }
+{
+    let mut sink = FileSink::new(files);
+    match save(tree, kind, &mut sink, visits) {
+        Ok(count) => { if sink.works { Ok(count) } else { Err(Failed) } }
+        Err(Failed) => Err(Failed),
+    }
+}
+
+// Puts the rows of a snapshot in place of those of a tree, once all of them are there.
+pub(crate) fn load_table<F: Files, C: Ledger>(
+    tree: &mut AnyTree,
+    kind: Kind,
+    alloc: Global,
+    file: &FileName,
+    files: &mut F,
+    limits: &Limits,
+    changes: &mut Steps<C>,
+) -> Result<Reply<1>, NoMemory>
+    requires width { (any_table tree.old).tree.width ≡ 32 }
+    requires of_kind { IsOfKind kind (any_table tree.old) }
+    ensures frame { SameFrame kind (any_table tree.old) (any_table tree.new) }
+    ensures loaded { TableLoaded limits.now.file_bytes kind (any_table tree.old) file.now (F.files files.old) (F.files files.new) (F.faults files.old) (F.faults files.new) changes.old changes.new (any_table tree.new) result }
+{
+    let mut bytes = Vec::new(alloc);
+    match files.fetch(file.as_str(), limits.file_bytes, &mut bytes) {
+        Ok(()) => load_bytes(tree, kind, alloc, bytes.as_slice(), changes),
+        Err(fault) => fetch_reply(fault),
+    }
+}
+
+// What is replied where a file could not be read.
+fn fetch_reply(fault: FetchFault) -> Result<Reply<1>, NoMemory>
+    ensures { TellsUnfetched fault result }
+{
+    match fault {
+        FetchFault::Failed | FetchFault::Absent | FetchFault::Over => Ok(Reply::ErrorFile),
+        FetchFault::NoMemory => Err(NoMemory),
+    }
+}
+
+fn load_bytes<C: Ledger>(
+    tree: &mut AnyTree,
+    kind: Kind,
+    alloc: Global,
+    bytes: &[u8],
+    changes: &mut Steps<C>,
+) -> Result<Reply<1>, NoMemory>
+    requires width { (any_table tree.old).tree.width ≡ 32 }
+    requires of_kind { IsOfKind kind (any_table tree.old) }
+    ensures loads { LoadsOr kind (any_table tree.old) bytes.now (any_table tree.new) result }
+    ensures frame { SameFrame kind (any_table tree.old) (any_table tree.new) }
+    ensures kept { changes.old ≤ changes.new }
+    ensures few { 16 * changes.new ≤ 16 * changes.old + length bytes.now }
+{
+    match AnyTree::load(alloc, bytes, kind, tree.dims(), changes) {
+        Ok(loaded) => Ok(replace(tree, loaded)),
+        Err(fault) => fault_reply(fault),
+    }
+}
+
+// Puts a tree in place of another one, if it may have so many rows.
+fn replace(tree: &mut AnyTree, mut loaded: AnyTree) -> Reply<1>
+    requires width { (any_table loaded).tree.width ≡ (any_table tree.old).tree.width }
+    requires dims { (any_table loaded).dims ≡ (any_table tree.old).dims }
+    ensures table { any_table tree.new ≡ loaded_table (any_table tree.old) (any_table loaded).tree.table }
+    ensures reply { reply_of result ≡ loaded_reply (any_table tree.old).tree.max (any_table loaded).tree.table }
+{
+    if !loaded.set_max(tree.max()) {
+        return Reply::ErrorFull;
+    }
+    let rows = loaded.len();
+    *tree = loaded;
+    Reply::Loaded(rows)
+}
+
+// What is replied to a fault of bytes.
+fn fault_reply(fault: LoadFault) -> Result<Reply<1>, NoMemory>
+    ensures { TellsFault fault result }
+{
+    match fault {
+        LoadFault::Magic => Ok(Reply::BadMagic),
+        LoadFault::Header(at) => Ok(Reply::BadHeader(at)),
+        LoadFault::Dims => Ok(Reply::BadDims),
+        LoadFault::Short(at) => Ok(Reply::BadShort(at)),
+        LoadFault::Node(at) => Ok(Reply::BadNode(at)),
+        LoadFault::Extra(at) => Ok(Reply::BadExtra(at)),
+        LoadFault::NoMemory => Err(NoMemory),
+    }
+}
