@@ -77,7 +77,7 @@ impl<P: Dims> NodeOf<P> {
 }
 
 // Takes the memory for one child more: a vector with room for the child that goes into the new node, or room among the
-// children where none goes.
+// children where none goes. Most nodes have few children, so they grow by a quarter and not twofold.
 fn room_for<T: Drop>(children: &mut Vec<T>, child: bool, alloc: Global) -> Result<Vec<T>, NoMemory>
     ensures same { children.new.items ≡ children.old.items }
     ensures empty { IfOk result (λ v. v.items ≡ []) }
@@ -87,7 +87,7 @@ fn room_for<T: Drop>(children: &mut Vec<T>, child: bool, alloc: Global) -> Resul
     if child {
         return Vec::with_capacity(alloc, 1);
     }
-    children.reserve(1)?;
+    children.reserve_exact(1 + children.len() / 4)?;
     Ok(Vec::new(alloc))
 }
 
