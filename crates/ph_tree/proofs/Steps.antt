@@ -1,6 +1,9 @@
 -- What one node says of a point, and what an edit makes of it, by the laws of the definitions.
-use Rattle.std.proofs.Common.{◌≡◌, ◌≢◌, ℕ, zero, suc, ◌+◌, ◌*◌, ◌/◌, ◌^◌, ◌<◌, List, [], ◌∷◌, length, map, Bool, true, false, refl, arith, ap, sym, ◌∙◌, subst, inl, inr}
+use Rattle.std.proofs.Common.{◌≡◌, ◌≢◌, ℕ, zero, suc, ◌+◌, ◌*◌, ◌/◌, ◌%◌, ◌^◌, ◌<◌, List, [], ◌∷◌, length, map, Bool, true, false, refl, arith, ap, sym, ◌∙◌, subst, inl, inr}
 use Rattle.std.specs.Prelude.{ℤ, Some, None, slice_get, position, unwrap_or}
+use Rattle.std.proofs.Math.Nat.{mod-lt, mod-eq_of_lt, div-eq_of_lt}
+use Rattle.std.proofs.lemmas.Nat.{pow_pos}
+use Rattle.std.specs.List.{AllByRecursion as Each}
 use Rattle.std.proofs.lemmas.Bool.{cases_lt}
 use Rattle.ph_digits.specs.Differences.{IsTopDifference}
 use Rattle.ph_digits.proofs.Cuts.{none_from}
@@ -8,7 +11,7 @@ use Rattle.ph_specs.specs.Coordinate.{offset}
 use Rattle.ph_specs.specs.ZOrder.{address}
 use Rattle.ph_specs.specs.Node.{Entries, end, point, child, Entry, What, value, node, PlainNode, entries, listed, node_of}
 use Rattle.ph_specs.specs.Shape.{digits_below, digits_between}
-use Rattle.ph_specs.specs.Lawful.{IsBody, IsLawfulFrom}
+use Rattle.ph_specs.specs.Lawful.{IsBody, HasZerosFrom, IsLawfulFrom}
 use Rattle.ph_specs.specs.PutTree.{same_digits, digits_from, split_place, body_address, body_below, body_above, put_node}
 use Rattle.ph_specs.specs.EntryEdits.{has_address, point_entry, inserted, holding, with_what, with_child, what_at, split_at}
 use Rattle.ph_specs.proofs.lemmas.PointDigits.{same_digits-true, same_digits-false}
@@ -65,6 +68,18 @@ module _ (w level : ℕ) (p : List ℤ) (xs os : List ℕ) (r : Bool) (given : o
   pub other_between : (low b : ℕ) → low ≡ b → r ≡ same_digits xs (body_above low (body_below level os)) → r ≡ false → xs ≡ digits_between w level b p → ⊥
   other_between low b d f t s =
       same_digits-false xs (body_above low (body_below level os)) (sym f ∙ t) (s ∙ sym (between_point low b d))
+
+-- Fields below a level that have zeros from the place under it down are zeros, and so is what numbers have between the two.
+pub gapless : (level low : ℕ) (xs os : List ℕ) → low + 1 ≡ level → Each (λ x. x < 2 ^ level) xs → HasZerosFrom low xs → length os ≡ length xs → xs ≡ body_above low (body_below level os)
+gapless level low [] [] e b z l = refl
+gapless level low [] (o ∷ os) e b z l = absurd (omega (arith, l))
+gapless level low (x ∷ xs) [] e b z l = absurd (omega (arith, l))
+gapless level low (x ∷ xs) (o ∷ os) e b z l =
+    let n : ℕ = 2 ^ (low + 1) in
+    let h : x ≡ 0 = sym (mod-eq_of_lt (subst (λ k. x < 2 ^ k) (sym e) b.0)) ∙ z.0 in
+    let k : o % 2 ^ level / n ≡ 0 = div-eq_of_lt (subst (λ i. o % 2 ^ level < 2 ^ i) (sym e) (mod-lt o (pow_pos level))) in
+    let nought : 0 ≡ 0 * n = omega arith in
+    ap (λ y. y ∷ xs) (h ∙ nought ∙ ap (λ q. q * n) (sym k)) ∙ ap (λ ys. o % 2 ^ level / n * n ∷ ys) (gapless level low xs os e b.1 z.1 (omega (arith, l)))
 
 -- ---- an entry of a lawful node
 

@@ -1,8 +1,13 @@
 //! One step of a look-up or of an edit: what a node says of a point.
 
-ghost use Rattle.std.specs.Prelude.{◌<◌, ◌-◌, ◌≤◌};
-ghost use Rattle.ph_specs.specs.Lawful.{IsLawfulFrom};
+ghost use Rattle.std.specs.Prelude.{◌≡◌, ◌<◌, ◌-◌, ◌≤◌, map};
+ghost use Rattle.ph_specs.specs.Coordinate.{offset};
+ghost use Rattle.ph_specs.specs.Lawful.{HasZerosFrom, IsBody, IsLawfulFrom};
+ghost use Rattle.ph_specs.specs.Node.{entries};
+ghost use Rattle.ph_specs.specs.PutTree.{body_above, body_below, same_digits};
 ghost use Rattle.ph_node.specs.Shown.{shown};
+ghost use Rattle.ph_node.specs.Split.{body_at};
+ghost use Rattle.ph_node.specs.Spots.{IsSpot};
 ghost use Rattle.ph_tree.specs.Step.{IsStep};
 
 use crate::key::KeyOf;
@@ -24,7 +29,9 @@ pub(crate) enum StepOf<'t, N> {
     Other(Spot),
 }
 
-// Looks for a point in a node. Visits the child at the point's address, if there is one.
+// Looks for a point in a node. Visits the child at the point's address, if there is one. What a caller does not use of the
+// step is not worked out.
+#[inline(always)]
 pub(crate) fn step<'t, P: Dims, V: Ledger>(
     node: NodeRefOf<'t, NodeOf<P>>,
     key: &KeyOf<P>,
@@ -49,11 +56,28 @@ pub(crate) fn step<'t, P: Dims, V: Ledger>(
         }
         WhatOf::Child(child) => {
             let below = child.visit(visits);
-            if node.is_between(spot, below.level(), key.offsets()) {
+            if is_joined(node, spot, below.level(), key) {
                 StepOf::Below(spot, below)
             } else {
                 StepOf::Other(spot)
             }
         }
     }
+}
+
+// Whether a point has the digits of a child's entry between the levels of both nodes. Mostly there are none between.
+#[inline(always)]
+fn is_joined<P: Dims>(node: NodeRefOf<'_, NodeOf<P>>, spot: Spot, low: u32, key: &KeyOf<P>) -> bool
+    requires spot { IsSpot (entries (shown node)) spot }
+    requires low { low < (shown node).level }
+    requires body { IsBody P.D (shown node).level (body_at (entries (shown node)) spot.place) }
+    requires zeros { HasZerosFrom low (body_at (entries (shown node)) spot.place) }
+    ensures { result ≡ same_digits (body_at (entries (shown node.entry)) spot.place) (body_above low (body_below (shown node.entry).level (map (offset key.now.width) key.now.point))) }
+{
+    let offsets = key.offsets();
+    let level = node.level();
+    if low + 1 == level {
+        return true;
+    }
+    node.is_between(spot, low, offsets)
 }

@@ -1,12 +1,13 @@
-use Rattle.std.proofs.Common.{◌≡◌, arith, sym, ap, ◌∙◌, subst}
+use Rattle.std.proofs.Common.{◌≡◌, arith, refl, sym, ap, ◌∙◌, subst}
 use Rattle.std.specs.Prelude.{position}
 use Rattle.ph_specs.specs.Node.{node, entries}
 use Rattle.ph_specs.specs.ZOrder.{address}
 use Rattle.ph_specs.specs.EntryEdits.{has_address}
 use Rattle.ph_node.specs.Places.{place_for}
 use Rattle.ph_node.specs.Shown.{shown, what_of}
+use Rattle.ph_specs.proofs.laws.DelEntries.{lawful-child}
 use Rattle.ph_tree.specs.Step.{IsAt, IsApart, opened_for}
-use Rattle.ph_tree.proofs.Steps.{entry_at, at_entry, same_below, other_below, same_between, other_between}
+use Rattle.ph_tree.proofs.Steps.{entry_at, entry_there, at_entry, same_below, other_below, same_between, other_between}
 use Rattle.ph_tree.proofs.step.step.Given.{Over}
 use Rattle.ph_tree.proofs.step.step.Goals.{In-Ok}
 use Rattle.ph_tree.proofs.step.step.Goals as goal
@@ -22,12 +23,17 @@ pub is_below-requires : goal.is_below-requires
 is_below-requires g c =
     record { spot = c.in-Ok.ensures.spot; dims = c.offsets.ensures.dims }
 
-pub is_between-requires : goal.is_between-requires
-is_between-requires g c = record {
-  spot = c.in-Ok.ensures.spot;
-  low = omega (arith, c.level-in-Child.ensures.limit);
-  dims = c.offsets-in-Child.ensures.dims;
-}
+pub is_joined-requires : goal.is_joined-requires
+is_joined-requires g c =
+    let n = shown c.args.node in
+    let found = entry_at (entries n) c.in-Ok.spot.place in
+    let below = lawful-child g.P.Dims.D n.level 0 n.chain c.in-Ok.spot.place found (shown c.visit-below.result) c.requires.lawful (entry_there (entries n) c.in-Ok.spot.place c.in-Ok.ensures.spot.within) (sym c.what.ensures ∙ ap (λ u. what_of u) c.in-Child.is ∙ ap node (sym c.visit-below.ensures.shows)) in
+    record {
+      spot = c.in-Ok.ensures.spot;
+      low = omega (arith, below.lower, c.level-in-Child.ensures.value);
+      body = below.body;
+      zeros = rw c.level-in-Child.ensures.value below.zeros;
+    }
 
 pub returns-in-Err-clause-step : goal.returns-in-Err-clause-step
 returns-in-Err-clause-step g c =
@@ -60,24 +66,24 @@ returns-else-is_below-clause-step g c =
       omega (arith, ap opened_for what),
     )
 
-pub returns-then-is_between-clause-step : goal.returns-then-is_between-clause-step
-returns-then-is_between-clause-step g c =
+pub returns-then-is_joined-clause-step : goal.returns-then-is_joined-clause-step
+returns-then-is_joined-clause-step g c =
     let n = shown c.args.node in
     let x = entry_at (entries n) c.in-Ok.spot.place in (
       x,
-      at g (goal.at.returns-then-is_between-clause-step g c).In-Ok,
+      at g (goal.at.returns-then-is_joined-clause-step g c).In-Ok,
       sym c.what.ensures ∙ ap (λ u. what_of u) c.in-Child.is ∙ ap node (sym c.visit-below.ensures.shows),
-      same_between c.args.key.now.width n.level c.args.key.now.point x.body _ _ c.offsets-in-Child.ensures.value _ _ c.level-in-Child.ensures.value c.is_between.ensures c.if-is_between.true,
+      same_between c.args.key.now.width n.level c.args.key.now.point x.body _ _ refl _ _ c.level-in-Child.ensures.value c.is_joined.ensures c.if-is_joined.true,
       omega (arith, c.visit-below.ensures.cost),
     )
 
-pub returns-else-is_between-clause-step : goal.returns-else-is_between-clause-step
-returns-else-is_between-clause-step g c =
+pub returns-else-is_joined-clause-step : goal.returns-else-is_joined-clause-step
+returns-else-is_joined-clause-step g c =
     let n = shown c.args.node in
     let x = entry_at (entries n) c.in-Ok.spot.place in
     let what = sym c.what.ensures ∙ ap (λ u. what_of u) c.in-Child.is ∙ ap node (sym c.visit-below.ensures.shows) in (
       x,
-      at g (goal.at.returns-else-is_between-clause-step g c).In-Ok,
-      subst (IsApart c.args.key.now.width c.args.key.now.point n.level x.body) (sym what) (other_between c.args.key.now.width n.level c.args.key.now.point x.body _ _ c.offsets-in-Child.ensures.value _ _ c.level-in-Child.ensures.value c.is_between.ensures c.if-is_between.false),
+      at g (goal.at.returns-else-is_joined-clause-step g c).In-Ok,
+      subst (IsApart c.args.key.now.width c.args.key.now.point n.level x.body) (sym what) (other_between c.args.key.now.width n.level c.args.key.now.point x.body _ _ refl _ _ c.level-in-Child.ensures.value c.is_joined.ensures c.if-is_joined.false),
       omega (arith, ap opened_for what, c.visit-below.ensures.cost),
     )
