@@ -8,8 +8,6 @@ mod fault;
 mod first;
 mod form;
 mod header;
-#[cfg(test)]
-mod load_tests;
 mod loading;
 mod nodes;
 mod places;

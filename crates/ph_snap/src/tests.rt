@@ -3,6 +3,10 @@
 ghost use Rattle.std.specs.Prelude.{◌≡◌, ◌<◌};
 ghost use Rattle.ph_specs.specs.Coordinate.{IsPoint};
 
+mod digits;
+mod loads;
+mod plain;
+
 use crate::{Header, LoadFault, read_header, save};
 use ph_coord::{Point, Width};
 use ph_io::{Failed, MemorySink, NoMemory};
@@ -15,21 +19,32 @@ use std::process::Abort;
 use std::sync::ledger::{Blank, Ledger};
 use std::test::Fail;
 
-pub(crate) const EMPTY: [u8; 8] = *b"PHT1\0\x02\0\0";
+const EMPTY: [u8; 8] = *b"PHT1\0\x02\0\0";
 
-pub(crate) const ONE_ROW: [u8; 40] = *b"PHT1\0\x02\x01\0\
+const ONE_ROW: [u8; 40] = *b"PHT1\0\x02\x01\0\
 \x1f\0\0\0\x01\0\0\0\
 \x60\0\0\0\xc0\0\0\x02\
 \0\0\0\0\0\0\0\0\
 \0\0\0\0\0\0\0\x11";
 
-pub(crate) const TWO_ROWS: [u8; 64] = *b"PHT1\0\x02\x01\0\
+const TWO_ROWS: [u8; 64] = *b"PHT1\0\x02\x01\0\
 \x1f\0\0\0\x01\0\0\x01\
 \xe0\0\0\0\0\0\0\0\
 \0\0\0\0\0\0\0\0\
 \0\0\0\0\x02\0\0\0\
 \x0c\0\0\0\0\0\0\0\
 \0\0\0\0\0\0\0\x01\
+\0\0\0\0\0\0\0\x02";
+
+// Three rows that have a cube.
+const THREE_ROWS: [u8; 72] = *b"PHT1\0\x02\x01\0\
+\x1f\0\0\0\x01\0\0\x01\
+\xe0\0\0\0\0\0\0\0\
+\0\0\0\0\0\0\0\0\
+\0\x01\0\0\x03\0\0\0\
+\x51\0\0\0\0\0\0\0\
+\0\0\0\0\0\0\0\x01\
+\0\0\0\0\0\0\0\x03\
 \0\0\0\0\0\0\0\x02";
 
 fn point(rt: &impl Abort, coords: [i64; 2]) -> Point<2>
@@ -93,13 +108,15 @@ fn saves<V: Ledger, C: Ledger>(
 {
     let mut visits: Steps<V> = Steps::new(visits);
     let mut changes: Steps<C> = Steps::new(changes);
-    let rows = [([0, 0], 1), ([1, 1], 2)];
+    let rows = [([0, 0], 1), ([1, 1], 2), ([0, 1], 3)];
     let empty = tree_of(rt, alloc, &[], &mut visits, &mut changes);
     let one = tree_of(rt, alloc, &[([3, 4], 17)], &mut visits, &mut changes);
-    let two = tree_of(rt, alloc, &rows, &mut visits, &mut changes);
+    let two = tree_of(rt, alloc, &rows[..2], &mut visits, &mut changes);
+    let three = tree_of(rt, alloc, &rows, &mut visits, &mut changes);
     is_saved_as(rt, alloc, &empty, &EMPTY, &mut visits)?;
     is_saved_as(rt, alloc, &one, &ONE_ROW, &mut visits)?;
     is_saved_as(rt, alloc, &two, &TWO_ROWS, &mut visits)?;
+    is_saved_as(rt, alloc, &three, &THREE_ROWS, &mut visits)?;
     let fails = vec![in alloc; 2u64]?;
     let mut sink = MemorySink::with_room(alloc, 100, 40, fails)?;
     let size = save(&two, Kind::Points, &mut sink, &mut visits);

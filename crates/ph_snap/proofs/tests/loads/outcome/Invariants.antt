@@ -1,4 +1,4 @@
-use Rattle.ph_snap.proofs.load_tests.outcome.Given as goal
+use Rattle.ph_snap.proofs.tests.loads.outcome.Given as goal
 
 abbrev pub ghosts-outcome_by-V-Ledger : goal.ghosts-outcome_by-V-Ledger
 ghosts-outcome_by-V-Ledger g a = record { name = a.visits.name; parts = a.visits.parts }

@@ -1,0 +1,262 @@
+//! Trees of bytes from outside, and the first faults of bytes that were altered.
+
+ghost use Rattle.std.specs.Prelude.{◌≡◌, ◌<◌, true, length};
+ghost use Rattle.ph_specs.specs.Load.{dims_fit};
+ghost use Rattle.ph_specs.specs.Snapshot.{kind_byte};
+
+use super::plain::plain_fault;
+use super::{EMPTY, ONE_ROW, THREE_ROWS, TWO_ROWS};
+use crate::{LoadFault, load};
+use ph_coord::{Kind, Point, Width};
+use ph_steps::Steps;
+use std::alloc::{AllocError, Global};
+use std::marker::Brand;
+use std::process::Abort;
+use std::sync::ledger::{Blank, Ledger};
+use std::test::Fail;
+
+// Nodes of both layouts, with points and children: a root, and under it a node at level 2 and one at level 1, each with a
+// child at level 0.
+const NODES: [u8; 176] = *b"PHT1\0\x02\x01\0\
+\x1f\0\0\0\x02\0\0\x02\
+\xcc\0\0\0\0\0\0\0\
+\0\0\0\0\0\0\0\0\
+\0\0\0\0\0\0\0\0\
+\x02\0\0\0\x02\0\0\x01\
+\x4d\xe0\0\0\0\0\0\0\
+\0\0\0\0\0\0\0\x07\
+\0\0\0\0\x02\0\0\0\
+\x0c\0\0\0\0\0\0\0\
+\0\0\0\0\0\0\0\x01\
+\0\0\0\0\0\0\0\x02\
+\x01\x01\0\0\x04\0\0\x01\
+\x59\x83\0\0\0\0\0\0\
+\0\0\0\0\0\0\0\x05\
+\0\0\0\0\0\0\0\x06\
+\0\0\0\0\0\0\0\x08\
+\0\x01\0\0\x03\0\0\0\
+\x51\0\0\0\0\0\0\0\
+\0\0\0\0\0\0\0\x01\
+\0\0\0\0\0\0\0\x03\
+\0\0\0\0\0\0\0\x02";
+
+// The box of two dimensions from 1, 2 to 3, 4.
+const ONE_BOX: [u8; 48] = *b"PHT1\x01\x04\x01\0\
+\x1f\0\0\0\x01\0\0\0\
+\x78\0\0\0\x10\0\0\0\
+\x40\0\0\0\xc0\0\0\x02\
+\0\0\0\0\0\0\0\0\
+\0\0\0\0\0\0\0\x05";
+
+// What becomes of bytes: the value at a point, or the fault.
+fn outcome_by<V: Ledger, C: Ledger>(
+    rt: &impl Abort,
+    alloc: Global,
+    bytes: &[u8],
+    at: [i64; 2],
+    visits: Blank,
+    changes: Blank,
+) -> Result<Option<u64>, LoadFault>
+    requires visits { (visits.name ≡ V.name) × (visits.parts ≡ V.parts) × (0 < visits.parts) }
+    requires changes { (changes.name ≡ C.name) × (changes.parts ≡ C.parts) × (0 < changes.parts) }
+{
+    let mut visits: Steps<V> = Steps::new(visits);
+    let mut changes: Steps<C> = Steps::new(changes);
+    let Some(width) = Width::new(32) else {
+        panic!(rt; "no width");
+    };
+    let Some(point) = Point::from_slice(width, &at) else {
+        panic!(rt; "no point");
+    };
+    match load::<2, C>(alloc, bytes, Kind::Points, width, &mut changes) {
+        Ok(tree) => Ok(tree.get(&point, &mut visits)),
+        Err(fault) => Err(fault),
+    }
+}
+
+fn outcome(
+    rt: &impl Abort,
+    alloc: Global,
+    bytes: &[u8],
+    at: [i64; 2],
+) -> Result<Option<u64>, LoadFault> {
+    outcome_by::<Brand, Brand>(rt, alloc, bytes, at, Blank::new(1), Blank::new(1))
+}
+
+#[test]
+fn rows_of_trees(rt: HostRuntime) {
+    let alloc = rt.alloc();
+    assert_eq!(rt; outcome(&rt, alloc, &EMPTY, [0, 0]), Ok(None));
+    assert_eq!(rt; outcome(&rt, alloc, &ONE_ROW, [3, 4]), Ok(Some(17)));
+    assert_eq!(rt; outcome(&rt, alloc, &ONE_ROW, [4, 3]), Ok(None));
+    assert_eq!(rt; outcome(&rt, alloc, &TWO_ROWS, [0, 0]), Ok(Some(1)));
+    assert_eq!(rt; outcome(&rt, alloc, &TWO_ROWS, [1, 1]), Ok(Some(2)));
+    // With other digits in its addresses it is another tree.
+    let mut moved = TWO_ROWS;
+    moved[40] = 0x08;
+    assert_eq!(rt; outcome(&rt, alloc, &moved, [1, 0]), Ok(Some(2)));
+    assert_eq!(rt; outcome(&rt, alloc, &moved, [1, 1]), Ok(None));
+}
+
+#[test]
+fn bytes_that_end_early_or_late(rt: HostRuntime) {
+    let alloc = rt.alloc();
+    for (len, fault) in [
+        (3, LoadFault::Magic),
+        (4, LoadFault::Header(4)),
+        (8, LoadFault::Short(8)),
+        (12, LoadFault::Short(8)),
+        (32, LoadFault::Short(32)),
+        (40, LoadFault::Short(32)),
+        (63, LoadFault::Short(32)),
+    ] {
+        assert!(rt; len < TWO_ROWS.len());
+        assert_eq!(rt; outcome(&rt, alloc, &TWO_ROWS[..len], [0, 0]), Err(fault));
+    }
+    let mut longer = [0; 65];
+    longer[..64].copy_from_slice(&TWO_ROWS);
+    assert_eq!(rt;
+        outcome(&rt, alloc, &longer, [0, 0]),
+        Err(LoadFault::Extra(64))
+    );
+}
+
+#[test]
+fn altered_bytes(rt: HostRuntime) {
+    let alloc = rt.alloc();
+    for (at, byte, fault) in [
+        (3, 0x32, LoadFault::Magic),
+        (4, 0x02, LoadFault::Header(4)),
+        (4, 0x01, LoadFault::Dims),
+        (5, 0x00, LoadFault::Header(5)),
+        (5, 0x09, LoadFault::Header(5)),
+        (5, 0x03, LoadFault::Dims),
+        (6, 0x02, LoadFault::Header(6)),
+        (6, 0x00, LoadFault::Extra(8)),
+        (7, 0x01, LoadFault::Header(7)),
+        // level 30, a cube where linear is smaller, no entries, a point where a child is announced, padding
+        (8, 0x1e, LoadFault::Node(8)),
+        (9, 0x01, LoadFault::Node(8)),
+        (12, 0x00, LoadFault::Node(8)),
+        (16, 0x60, LoadFault::Node(8)),
+        (31, 0x01, LoadFault::Node(8)),
+        // a digit that is known at the child's level
+        (24, 0x80, LoadFault::Node(32)),
+        // not below its parent, a cube, one entry, a child at level 0, addresses 0 and 0
+        (32, 0x1f, LoadFault::Node(32)),
+        (33, 0x01, LoadFault::Node(32)),
+        (36, 0x01, LoadFault::Node(32)),
+        (39, 0x01, LoadFault::Node(32)),
+        (40, 0x00, LoadFault::Node(32)),
+    ] {
+        let mut bytes = TWO_ROWS;
+        assert!(rt; at < bytes.len());
+        bytes[at] = byte;
+        assert_eq!(rt; outcome(&rt, alloc, &bytes, [0, 0]), Err(fault));
+    }
+}
+
+// Loads bytes, and looks at them by the rules.
+fn assert_same_fault<const D: usize, C: Ledger>(
+    rt: &impl Abort,
+    alloc: Global,
+    bytes: &[u8],
+    kind: Kind,
+    changes: &mut Steps<C>,
+)
+    requires dims { dims_fit 8 (kind_byte kind) D ≡ true }
+{
+    let Some(width) = Width::new(32) else {
+        panic!(rt; "no width");
+    };
+    let fault = match load::<D, C>(alloc, bytes, kind, width, changes) {
+        Ok(_) => None,
+        Err(fault) => Some(fault),
+    };
+    assert_eq!(rt;
+        fault,
+        plain_fault(alloc, bytes, kind, D as u8),
+        "{bytes:?}"
+    );
+}
+
+// Each front of a snapshot, and the snapshot with a byte behind it.
+fn compare_fronts<const D: usize, C: Ledger>(
+    rt: &impl Abort,
+    alloc: Global,
+    snapshot: &[u8],
+    kind: Kind,
+    changes: &mut Steps<C>,
+) -> Result<(), AllocError>
+    requires dims { dims_fit 8 (kind_byte kind) D ≡ true }
+{
+    let mut longer = Vec::from_slice(alloc, snapshot)?;
+    longer.push(0)?;
+    for len in 0..=longer.len() {
+        assert_same_fault::<D, C>(rt, alloc, &longer[..len], kind, changes);
+    }
+    Ok(())
+}
+
+// A snapshot with other bytes in place of one.
+fn compare_bytes<const D: usize, C: Ledger>(
+    rt: &impl Abort,
+    alloc: Global,
+    snapshot: &[u8],
+    at: usize,
+    kind: Kind,
+    changes: &mut Steps<C>,
+) -> Result<(), AllocError>
+    requires dims { dims_fit 8 (kind_byte kind) D ≡ true }
+    requires at { at < length snapshot.now }
+{
+    for byte in [0, u8::MAX, snapshot[at].wrapping_add(1)] {
+        let mut altered = Vec::from_slice(alloc, snapshot)?;
+        altered[at] = byte;
+        assert_same_fault::<D, C>(rt, alloc, &altered, kind, changes);
+    }
+    Ok(())
+}
+
+fn compare_altered<const D: usize, C: Ledger>(
+    rt: &impl Abort,
+    alloc: Global,
+    snapshot: &[u8],
+    kind: Kind,
+    changes: &mut Steps<C>,
+) -> Result<(), AllocError>
+    requires dims { dims_fit 8 (kind_byte kind) D ≡ true }
+{
+    compare_fronts::<D, C>(rt, alloc, snapshot, kind, changes)?;
+    for at in 0..snapshot.len() {
+        compare_bytes::<D, C>(rt, alloc, snapshot, at, kind, changes)?;
+    }
+    Ok(())
+}
+
+fn compare_all<C: Ledger>(rt: &impl Abort, alloc: Global, changes: Blank) -> Result<(), AllocError>
+    requires { (changes.name ≡ C.name) × (changes.parts ≡ C.parts) × (0 < changes.parts) }
+{
+    let mut changes: Steps<C> = Steps::new(changes);
+    for snapshot in [
+        EMPTY.as_slice(),
+        ONE_ROW.as_slice(),
+        TWO_ROWS.as_slice(),
+        THREE_ROWS.as_slice(),
+        NODES.as_slice(),
+    ] {
+        compare_altered::<2, C>(rt, alloc, snapshot, Kind::Points, &mut changes)?;
+        let mut boxes = Vec::from_slice(alloc, snapshot)?;
+        assert!(rt; boxes.len() > 4);
+        boxes[4] = 1;
+        compare_altered::<2, C>(rt, alloc, &boxes, Kind::Boxes, &mut changes)?;
+    }
+    compare_altered::<4, C>(rt, alloc, &ONE_BOX, Kind::Boxes, &mut changes)
+}
+
+// A load answers what the rules say of fronts of snapshots, and of snapshots with one byte altered.
+#[test]
+fn altered_snapshots(rt: HostRuntime) -> Result<(), Fail> {
+    compare_all::<Brand>(&rt, rt.alloc(), Blank::new(1))?;
+    Ok(())
+}
