@@ -16,6 +16,8 @@ mod nearest_rows;
 mod orders;
 #[cfg(test)]
 mod pair;
+#[cfg(test)]
+mod records;
 mod same;
 #[cfg(test)]
 mod windows;

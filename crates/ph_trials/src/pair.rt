@@ -4,6 +4,7 @@ ghost use Rattle.std.specs.Prelude.{◌≡◌, ◌<◌, ◌≤◌};
 ghost use Rattle.ph_specs.specs.Coordinate.{IsPoint};
 
 use crate::is_shape;
+use crate::records::are_written_anew;
 use ph_coord::{Point, Width};
 use ph_steps::Steps;
 use ph_table::Table;
@@ -151,7 +152,7 @@ impl<const D: usize> Pair<D> {
         Ok(Moved::Done)
     }
 
-    // The tree is to be the shape of the table's rows.
+    // The tree is to be the shape of the table's rows, and the records of its nodes those of their entries.
     pub(crate) fn compare<V: Ledger, C: Ledger>(
         &self,
         rt: &impl Abort,
@@ -165,6 +166,9 @@ impl<const D: usize> Pair<D> {
         assert_eq!(rt; self.tree.len(), rows.len() as u64);
         let root = self.tree.root();
         assert!(rt; is_shape(alloc, root, self.table.width(), rows, &mut counters.visits)?);
+        if let Some(node) = root {
+            assert!(rt; are_written_anew(alloc, node, &mut counters.visits)?);
+        }
         Ok(())
     }
 }
