@@ -6,7 +6,7 @@ use Rattle.ph_specs.specs.Command.{coordinates, count, value, radius}
 use Rattle.ph_specs.specs.Command.Place.{Coordinate}
 use Rattle.ph_script.specs.declared.forms.Form.{Form}
 use Rattle.ph_script.specs.declared.forms.Verb.{Verb}
-use Rattle.ph_script.specs.declared.forms.Verb.TheVariants.{Open, OpenMax, Put, Get, Del, Relocate, Count, Clear, Window, Cursor, Page, Near, Within, Overlap, Inside, Covers, Save, Load, Stats, Select, Same}
+use Rattle.ph_script.specs.declared.forms.Verb.TheVariants.{Open, OpenMax, Put, Get, Del, Relocate, Count, Clear, Window, Cursor, Page, Near, Within, Overlap, Inside, Covers, Save, Load, Import, ImportHeader, Export, Stats, Select, Same}
 use Rattle.ph_script.specs.Forms.{places_of, places_by, IsRow}
 
 point-size : (dims : ℕ) → length (coordinates dims) ≡ dims
@@ -40,6 +40,9 @@ few-places Inside dims h = few-point dims h
 few-places Covers dims h = few-point dims h
 few-places Save dims h = omega arith
 few-places Load dims h = omega arith
+few-places Import dims h = omega arith
+few-places ImportHeader dims h = omega arith
+few-places Export dims h = omega arith
 few-places Stats dims h = omega arith
 few-places Select dims h = omega arith
 few-places Same dims h = omega arith

@@ -1,4 +1,6 @@
 -- `Pieces` has the laws that callers cite; the others are steps of this crate's proofs.
+mod FaultText
+mod Draws
 mod FileNameBytes
 mod FormSizes
 mod KeptNumbers

@@ -11,8 +11,7 @@ use Rattle.std.proofs.lemmas.List.Sums.{fails_before_first}
 use Rattle.std.proofs.lemmas.List.Splits.{slice_split_first, slice_split_none, length-slice_split}
 use Rattle.std.proofs.Math.Seq.{take-append-add, drop-append-add}
 use Rattle.ph_specs.specs.Lines.{lines, whole_lines, lines_among, ended_among, words}
-use Rattle.ph_script.specs.Built.{built_reading, built_forms}
-use Rattle.ph_specs.specs.Command.{Reading, reading_by, Form, read_words_by}
+use Rattle.ph_specs.specs.Command.{Reading, reading, reading_by, Form, forms, read_words_by}
 use Rattle.ph_specs.specs.Reply.{Reply as Answer}
 use Rattle.ph_specs.proofs.laws.Put.{either}
 use Rattle.ph_script.specs.declared.lines.Line.{Line}
@@ -120,9 +119,9 @@ reading-long : (known : List Form) (line : List ℕ) → 4096 < length line → 
 reading-long known line h = rw (lt-ltb 4096 (length line) h) refl
 
 -- the reading of a line is that of how it is shown, and a text that is shown is short enough to be read
-pub line-reading : (dims : ℕ) (line : List ℕ) (shown : Line) → IsLine line shown → built_reading dims line ≡ reading_of_line dims shown
-line-reading dims line (Text text) h = reading-short (built_forms dims) line h.0 ∙ ap (λ xs. read_words_by (built_forms dims) (words xs)) (sym h.1)
-line-reading dims line Long h = reading-long (built_forms dims) line h
+pub line-reading : (dims : ℕ) (line : List ℕ) (shown : Line) → IsLine line shown → reading dims line ≡ reading_of_line dims shown
+line-reading dims line (Text text) h = reading-short (forms dims) line h.0 ∙ ap (λ xs. read_words_by (forms dims) (words xs)) (sym h.1)
+line-reading dims line Long h = reading-long (forms dims) line h
 
 strip-limit : (line : List ℕ) → length (strip_carriage_return line) ≤ length line
 strip-limit line =

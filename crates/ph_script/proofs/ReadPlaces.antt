@@ -10,7 +10,7 @@ use Rattle.ph_specs.specs.Command.{Command, Place, form, number_fits, name_fits,
 use Rattle.ph_specs.specs.Command.Place.{Coordinate, Below, CursorName, FileName, OneOf}
 use Rattle.ph_script.specs.declared.coords.Coord.{Coord}
 use Rattle.ph_script.specs.declared.forms.Verb.{Verb}
-use Rattle.ph_script.specs.declared.forms.Verb.TheVariants.{Open, OpenMax, Put, Get, Del, Relocate, Count, Clear, Window, Cursor, Page, Near, Within, Overlap, Inside, Covers, Save, Load, Stats, Select, Same}
+use Rattle.ph_script.specs.declared.forms.Verb.TheVariants.{Open, OpenMax, Put, Get, Del, Relocate, Count, Clear, Window, Cursor, Page, Near, Within, Overlap, Inside, Covers, Save, Load, Import, ImportHeader, Export, Stats, Select, Same}
 use Rattle.ph_script.specs.Meaning.{number_of_coord, numbers_of}
 use Rattle.ph_script.specs.Forms.{places_by, command_by}
 use Rattle.ph_script.specs.Parts.{coords_at, counts_at, name_from, file_from, second_from}
@@ -66,6 +66,11 @@ unnamed-corners got dims ws = unnamed got dims (coordinates dims) ws (λ vs. sub
 unnamed-count : (got : Option (List ℕ)) (limit : ℕ) (ws : List (List ℕ)) → name_from got (Below limit ∷ []) ws ≡ got
 unnamed-count got limit [] = refl
 unnamed-count got limit (w ∷ ws) = refl
+
+-- no fixed word changes the file's name
+unfiled-fixed : (got : Option (List ℕ)) (words : List (List ℕ)) (ws : List (List ℕ)) → file_from got (OneOf words ∷ []) ws ≡ got
+unfiled-fixed got words [] = refl
+unfiled-fixed got words (w ∷ ws) = refl
 
 -- no number and no fixed word tells which of two words it was
 unsaid-count : (got : Bool) (limit : ℕ) (behind : List Place) (ws : List (List ℕ)) → ((vs : List (List ℕ)) → second_from got behind vs ≡ got) → second_from got (Below limit ∷ behind) ws ≡ got
@@ -196,6 +201,14 @@ reads Save dims [] h = absurd (let k : false ≡ true = h in cc)
 reads Save dims (w ∷ ws) h = closing Save dims (w ∷ ws) (led-file w (led-none ws h)) refl refl refl
 reads Load dims [] h = absurd (let k : false ≡ true = h in cc)
 reads Load dims (w ∷ ws) h = closing Load dims (w ∷ ws) (led-file w (led-none ws h)) refl refl refl
+reads Import dims [] h = absurd (let k : false ≡ true = h in cc)
+reads Import dims (w ∷ ws) h = closing Import dims (w ∷ ws) (led-file w (led-none ws h)) refl refl refl
+reads ImportHeader dims [] h = absurd (let k : false ≡ true = h in cc)
+reads ImportHeader dims (w ∷ ws) h =
+    let f = unfiled-fixed (Some w) (codes "header" ∷ []) ws in
+    closing ImportHeader dims (w ∷ ws) (led-file w (led-fixed (codes "header" ∷ []) [] ws h)) (rw f refl) refl f
+reads Export dims [] h = absurd (let k : false ≡ true = h in cc)
+reads Export dims (w ∷ ws) h = closing Export dims (w ∷ ws) (led-file w (led-none ws h)) refl refl refl
 reads Stats dims ws h = closing Stats dims ws (led-none ws h) tt refl tt
 reads Select dims [] h = absurd (let k : false ≡ true = h in cc)
 reads Select dims (w ∷ ws) h =

@@ -6,7 +6,7 @@ use Rattle.ph_script.specs.declared.command.Bad.TheVariants.{Word, Count as BadC
 use Rattle.ph_script.specs.declared.command.Command.{Command}
 use Rattle.ph_script.specs.declared.command.Command.TheVariants as by
 use Rattle.ph_script.specs.declared.forms.Verb.{Verb}
-use Rattle.ph_script.specs.declared.forms.Verb.TheVariants.{Open, OpenMax, Put, Get, Del, Relocate, Count, Clear, Window, Cursor, Page, Near, Within, Overlap, Inside, Covers, Save, Load, Stats, Select, Same}
+use Rattle.ph_script.specs.declared.forms.Verb.TheVariants.{Open, OpenMax, Put, Get, Del, Relocate, Count, Clear, Window, Cursor, Page, Near, Within, Overlap, Inside, Covers, Save, Load, Import, ImportHeader, Export, Stats, Select, Same}
 use Rattle.ph_specs.specs.Command.{first_word}
 
 abbrev pub IsFit : Verb → ℕ → List Coord → List ℕ → Option (List ℕ) → Option (List ℕ) → Type 0
@@ -28,6 +28,9 @@ IsFit Inside dims coords counts name file = (length coords ≡ dims) × (counts 
 IsFit Covers dims coords counts name file = (length coords ≡ dims) × (counts ≡ [])
 IsFit Save dims coords counts name file = IsSome file
 IsFit Load dims coords counts name file = IsSome file
+IsFit Import dims coords counts name file = IsSome file
+IsFit ImportHeader dims coords counts name file = IsSome file
+IsFit Export dims coords counts name file = IsSome file
 IsFit Stats dims coords counts name file = Unit {0}
 IsFit Select dims coords counts name file = Unit {0}
 IsFit Same dims coords counts name file = Unit {0}
@@ -40,6 +43,9 @@ IsNamed Cursor name file second texts = name ≡ Some (first_word texts)
 IsNamed Page name file second texts = name ≡ Some (first_word texts)
 IsNamed Save name file second texts = file ≡ Some (first_word texts)
 IsNamed Load name file second texts = file ≡ Some (first_word texts)
+IsNamed Import name file second texts = file ≡ Some (first_word texts)
+IsNamed ImportHeader name file second texts = file ≡ Some (first_word texts)
+IsNamed Export name file second texts = file ≡ Some (first_word texts)
 IsNamed Select name file second texts = second ≡ bytes_eq (first_word texts) (codes "b")
 IsNamed _ name file second texts = Unit {0}
 
@@ -69,6 +75,8 @@ HasDims dims (by.Inside bounds) = length bounds ≡ dims
 HasDims dims (by.Covers bounds) = length bounds ≡ dims
 HasDims dims (by.Save file) = Unit {0}
 HasDims dims (by.Load file) = Unit {0}
+HasDims dims (by.Import file header) = Unit {0}
+HasDims dims (by.Export file) = Unit {0}
 HasDims dims by.Stats = Unit {0}
 HasDims dims (by.Select slot) = Unit {0}
 HasDims dims by.Same = Unit {0}

@@ -1,12 +1,12 @@
 -- The forms of the code's table in the definitions, and the search among forms.
-use Rattle.std.specs.Prelude.{◌≡◌, ℕ, ◌+◌, ◌-◌, ◌^◌, ◌==◌, Bool, true, if◌then◌else◌, List, [], ◌∷◌, ◌++◌, length, replicate, take, drop, codes, bytes_eq, ℤ}
+use Rattle.std.specs.Prelude.{◌≡◌, ℕ, ◌+◌, ◌-◌, ◌^◌, ◌==◌, Bool, true, false, if◌then◌else◌, List, [], ◌∷◌, ◌++◌, length, replicate, take, drop, codes, bytes_eq, ℤ}
 use Rattle.ph_specs.specs.Command.{Command as Asked, Place as Asks, Form as Spelling, form, count, value, radius, fixed, coordinates, number_at, first_word, kind_of, slot_of}
-use Rattle.ph_specs.specs.Command.Command.{Begin as AskBegin, Put as AskPut, Get as AskGet, Del as AskDel, Relocate as AskRelocate, Count as AskCount, Clear as AskClear, Window as AskWindow, Cursor as AskCursor, Page as AskPage, Near as AskNear, Within as AskWithin, Overlap as AskOverlap, Inside as AskInside, Covers as AskCovers, Save as AskSave, Load as AskLoad, Statistics as AskStatistics, Select as AskSelect, Compare as AskCompare}
+use Rattle.ph_specs.specs.Command.Command.{Begin as AskBegin, Put as AskPut, Get as AskGet, Del as AskDel, Relocate as AskRelocate, Count as AskCount, Clear as AskClear, Window as AskWindow, Cursor as AskCursor, Page as AskPage, Near as AskNear, Within as AskWithin, Overlap as AskOverlap, Inside as AskInside, Covers as AskCovers, Save as AskSave, Load as AskLoad, Import as AskImport, Export as AskExport, Statistics as AskStatistics, Select as AskSelect, Compare as AskCompare}
 use Rattle.ph_specs.specs.Command.Place.{Coordinate as AsksCoordinate, Below, CursorName, FileName as AsksFileName, OneOf}
 use Rattle.ph_script.specs.declared.command.Bad.{Bad}
 use Rattle.ph_script.specs.declared.command.Bad.TheVariants.{Word, Count as BadCount}
 use Rattle.ph_script.specs.declared.forms.Verb.{Verb}
-use Rattle.ph_script.specs.declared.forms.Verb.TheVariants.{Open, OpenMax, Put, Get, Del, Relocate, Count, Clear, Window, Cursor, Page, Near, Within, Overlap, Inside, Covers, Save, Load, Stats, Select, Same}
+use Rattle.ph_script.specs.declared.forms.Verb.TheVariants.{Open, OpenMax, Put, Get, Del, Relocate, Count, Clear, Window, Cursor, Page, Near, Within, Overlap, Inside, Covers, Save, Load, Import, ImportHeader, Export, Stats, Select, Same}
 use Rattle.ph_script.specs.declared.forms.Places.{Places}
 use Rattle.ph_script.specs.declared.forms.Places.TheVariants.{Coordinates, UpTo as AllUpTo, Name as AllName, FileName as AllFileName, Fixed as AllFixed, Either as AllEither}
 use Rattle.ph_script.specs.declared.forms.Place.{Place}
@@ -60,6 +60,9 @@ places_by Inside dims = coordinates dims
 places_by Covers dims = coordinates dims
 places_by Save dims = AsksFileName ∷ []
 places_by Load dims = AsksFileName ∷ []
+places_by Import dims = AsksFileName ∷ []
+places_by ImportHeader dims = AsksFileName ∷ fixed (codes "header") ∷ []
+places_by Export dims = AsksFileName ∷ []
 places_by Stats dims = []
 places_by Select dims = OneOf (codes "a" ∷ codes "b" ∷ []) ∷ []
 places_by Same dims = []
@@ -83,6 +86,9 @@ command_by Inside dims = λ n t. AskInside n
 command_by Covers dims = λ n t. AskCovers n
 command_by Save dims = λ n t. AskSave (first_word t)
 command_by Load dims = λ n t. AskLoad (first_word t)
+command_by Import dims = λ n t. AskImport (first_word t) false
+command_by ImportHeader dims = λ n t. AskImport (first_word t) true
+command_by Export dims = λ n t. AskExport (first_word t)
 command_by Stats dims = λ n t. AskStatistics
 command_by Select dims = λ n t. AskSelect (slot_of t)
 command_by Same dims = λ n t. AskCompare

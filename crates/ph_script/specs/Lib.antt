@@ -1,4 +1,3 @@
-pub mod Built
 pub mod Meaning
 pub mod Forms
 pub mod Parts

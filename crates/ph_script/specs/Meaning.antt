@@ -1,16 +1,16 @@
 -- What the commands and replies of the code are in the definitions.
 use Rattle.std.specs.Prelude.{ℕ, ◌^◌, List, map, ℤ, pos, Option, Some, None, Result, Ok, Err}
 use Rattle.ph_specs.specs.Command.{Command as Asked, Reading}
-use Rattle.ph_specs.specs.Command.Command.{Begin as AskBegin, Put as AskPut, Get as AskGet, Del as AskDel, Relocate as AskRelocate, Count as AskCount, Clear as AskClear, Window as AskWindow, Cursor as AskCursor, Page as AskPage, Near as AskNear, Within as AskWithin, Overlap as AskOverlap, Inside as AskInside, Covers as AskCovers, Save as AskSave, Load as AskLoad, Statistics as AskStatistics, Select as AskSelect, Compare as AskCompare}
+use Rattle.ph_specs.specs.Command.Command.{Begin as AskBegin, Put as AskPut, Get as AskGet, Del as AskDel, Relocate as AskRelocate, Count as AskCount, Clear as AskClear, Window as AskWindow, Cursor as AskCursor, Page as AskPage, Near as AskNear, Within as AskWithin, Overlap as AskOverlap, Inside as AskInside, Covers as AskCovers, Save as AskSave, Load as AskLoad, Import as AskImport, Export as AskExport, Statistics as AskStatistics, Select as AskSelect, Compare as AskCompare}
 use Rattle.ph_specs.specs.Reply.{Reply as Answer}
 use Rattle.ph_script.specs.declared.coords.Coord.{Coord}
 use Rattle.ph_script.specs.declared.coords.Coord.TheVariants.{Whole, Far}
 use Rattle.ph_script.specs.declared.command.Command.{Command}
-use Rattle.ph_script.specs.declared.command.Command.TheVariants.{Begin, Put, Get, Del, Relocate, Count, Clear, Window, Cursor, Page, Near, Within, Overlap, Inside, Covers, Save, Load, Stats, Select, Same as SameSlots}
+use Rattle.ph_script.specs.declared.command.Command.TheVariants.{Begin, Put, Get, Del, Relocate, Count, Clear, Window, Cursor, Page, Near, Within, Overlap, Inside, Covers, Save, Load, Import, Export, Stats, Select, Same as SameSlots}
 use Rattle.ph_script.specs.declared.command.Bad.{Bad}
 use Rattle.ph_script.specs.declared.command.Bad.TheVariants.{Word, Count as BadCount, Number, Name}
 use Rattle.ph_script.specs.declared.reply.Reply.{Reply}
-use Rattle.ph_script.specs.declared.reply.Reply.TheVariants.{Opened, New, Old, Value, Absent, Gone, Moved, Taken, Rows, Cleared, RowIs, HitIs, End, More, Ready, Saved, Loaded, Stats as StatsReply, Using, Same, Differ, ErrorLong, ErrorWord, ErrorCount, ErrorNumber, ErrorName, ErrorDims, ErrorKind, ErrorRange, ErrorReversed, ErrorCursor, ErrorCursors, ErrorFile, ErrorFull, BadMagic, BadHeader, BadDims, BadShort, BadNode, BadExtra}
+use Rattle.ph_script.specs.declared.reply.Reply.TheVariants.{Opened, New, Old, Value, Absent, Gone, Moved, Taken, Rows, Cleared, RowIs, HitIs, End, More, Ready, Saved, Loaded, Imported, Exported, Stats as StatsReply, Using, Same, Differ, ErrorLong, ErrorWord, ErrorCount, ErrorNumber, ErrorName, ErrorDims, ErrorKind, ErrorRange, ErrorReversed, ErrorCursor, ErrorCursors, ErrorFile, ErrorFull, BadMagic, BadHeader, BadDims, BadShort, BadNode, BadExtra, BadFields, BadNumber, BadRange, BadReversed}
 
 -- a coordinate; one that is far stands for each number outside of 64 bits
 abbrev pub number_of_coord : Coord → ℤ
@@ -38,6 +38,8 @@ command_of (Inside bounds) = AskInside (numbers_of bounds)
 command_of (Covers bounds) = AskCovers (numbers_of bounds)
 command_of (Save file) = AskSave file
 command_of (Load file) = AskLoad file
+command_of (Import file header) = AskImport file header
+command_of (Export file) = AskExport file
 command_of Stats = AskStatistics
 command_of (Select slot) = AskSelect slot
 command_of SameSlots = AskCompare
@@ -72,6 +74,8 @@ reply_of (More n) = Answer.More n
 reply_of Ready = Answer.Ready
 reply_of (Saved n) = Answer.Saved n
 reply_of (Loaded n) = Answer.Loaded n
+reply_of (Imported n) = Answer.Imported n
+reply_of (Exported n) = Answer.Exported n
 reply_of (StatsReply rows nodes linear cube words) = Answer.StatsAre (record { rows = rows; nodes = nodes; linear = linear; cube = cube; words = words })
 reply_of (Using slot) = Answer.Using slot
 reply_of Same = Answer.Same
@@ -95,3 +99,7 @@ reply_of BadDims = Answer.BadDims
 reply_of (BadShort at) = Answer.BadShort at
 reply_of (BadNode at) = Answer.BadNode at
 reply_of (BadExtra at) = Answer.BadExtra at
+reply_of (BadFields n) = Answer.BadFields n
+reply_of (BadNumber n) = Answer.BadNumber n
+reply_of (BadRange n) = Answer.BadRange n
+reply_of (BadReversed n) = Answer.BadReversed n

@@ -36,6 +36,10 @@ pub enum Command {
     Save { file: FileName },
     /// The rows of a saved table, in place of those of the table.
     Load { file: FileName },
+    /// The rows of a file of records, beside those of the table. Its first record may be a header.
+    Import { file: FileName, header: bool },
+    /// The rows of the table, as records into a file.
+    Export { file: FileName },
     /// The sizes of the tree.
     Stats,
     /// The other table, or the same again.

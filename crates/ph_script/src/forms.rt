@@ -1,7 +1,7 @@
 //! The forms of the commands, and the search for the form of a line.
 ghost use Rattle.std.specs.Prelude.{◌≡◌, ◌≤◌, ◌+◌, ◌++◌, ℕ, false, length, map, replicate, MatchResult};
 ghost use Rattle.std.specs.List.{AllByRecursion};
-ghost use Rattle.ph_script.specs.Built.{built_forms};
+ghost use Rattle.ph_specs.specs.Command.{forms as all_forms};
 ghost use Rattle.ph_script.specs.Forms.{place_of, group_of, places_of, form_of, IsRow, picked};
 ghost use Rattle.ph_script.specs.Forms.Picked.{The, Wrong};
 
@@ -31,6 +31,9 @@ pub(crate) enum Verb {
     Covers,
     Save,
     Load,
+    Import,
+    ImportHeader,
+    Export,
     Stats,
     Select,
     Same,
@@ -85,8 +88,8 @@ const RADIUS: u128 = u128::MAX;
 
 const KINDS: Places = Places::Either(b"points", b"boxes");
 
-// The forms that are answered so far, in the order of the definitions. One more is a row here, a `Verb` and its command.
-static FORMS: [Form; 21] = [
+// The forms of all commands, in the order of the definitions. One more is a row here, a `Verb` and its command.
+static FORMS: [Form; 24] = [
     Form {
         word: b"open",
         places: &[KINDS, Places::UpTo(COUNT)],
@@ -183,6 +186,21 @@ static FORMS: [Form; 21] = [
         verb: Verb::Load,
     },
     Form {
+        word: b"import",
+        places: &[Places::FileName],
+        verb: Verb::Import,
+    },
+    Form {
+        word: b"import",
+        places: &[Places::FileName, Places::Fixed(b"header")],
+        verb: Verb::ImportHeader,
+    },
+    Form {
+        word: b"export",
+        places: &[Places::FileName],
+        verb: Verb::Export,
+    },
+    Form {
         word: b"stats",
         places: &[],
         verb: Verb::Stats,
@@ -200,7 +218,7 @@ static FORMS: [Form; 21] = [
 ];
 
 fn forms() -> &'static [Form]
-    ensures built { (dims : ℕ) → map (form_of dims) result.now ≡ built_forms dims }
+    ensures all { (dims : ℕ) → map (form_of dims) result.now ≡ all_forms dims }
     ensures rows { AllByRecursion IsRow result.now }
 {
     &FORMS
@@ -252,8 +270,8 @@ fn size(places: &[Places], dims: usize) -> usize
 pub(crate) fn find_form(word: &[u8], count: usize, dims: usize) -> Result<&'static Form, Bad>
     requires { dims ≤ 16 }
     ensures found { MatchResult result
-        (λ f. (picked false word.now count (built_forms dims) ≡ The (form_of dims f.now)) × (length (places_of dims f.now.places.now) ≡ count) × IsRow f.now)
-        (λ b. picked false word.now count (built_forms dims) ≡ Wrong b) }
+        (λ f. (picked false word.now count (all_forms dims) ≡ The (form_of dims f.now)) × (length (places_of dims f.now.places.now) ≡ count) × IsRow f.now)
+        (λ b. picked false word.now count (all_forms dims) ≡ Wrong b) }
 {
     let mut known = false;
     for form in forms() {

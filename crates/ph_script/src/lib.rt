@@ -1,10 +1,11 @@
-//! The script language: lines, the commands that they spell, and the texts of replies.
+//! The script language: lines, the commands that they spell, and the texts of replies; and commands that are drawn.
 #![tactic(auto)]
 
 mod command;
 mod coords;
 mod file_name;
 mod forms;
+mod generator;
 mod lines;
 mod name;
 mod numbers;
@@ -21,6 +22,7 @@ mod words;
 pub use command::{Bad, Command};
 pub use coords::{Coord, Coords};
 pub use file_name::FileName;
+pub use generator::Gen;
 pub use lines::{Line, Lines, NoMemory};
 pub use name::Name;
 pub use ph_specs::Which;

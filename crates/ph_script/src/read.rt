@@ -1,8 +1,7 @@
 //! The reading of a line.
 ghost use Rattle.std.specs.Prelude.{◌≡◌, ◌≤◌, ◌++◌, ℕ, List, length, map, pos, Some, IsSome};
 ghost use Rattle.ph_specs.specs.Lines.{words};
-ghost use Rattle.ph_specs.specs.Command.{read_form as by_form, Reading};
-ghost use Rattle.ph_script.specs.Built.{built_words};
+ghost use Rattle.ph_specs.specs.Command.{read_form as by_form, read_words, Reading};
 ghost use Rattle.ph_script.specs.Forms.{places_of, form_of, IsRow, command_by};
 ghost use Rattle.ph_script.specs.Parts.{kind_by, slot_by};
 ghost use Rattle.ph_script.specs.Meaning.{reading_of, command_of, numbers_of};
@@ -122,6 +121,17 @@ fn command(verb: Verb, dims: usize, parts: &Parts) -> Command
         Verb::Load => Command::Load {
             file: file_in(parts),
         },
+        Verb::Import => Command::Import {
+            file: file_in(parts),
+            header: false,
+        },
+        Verb::ImportHeader => Command::Import {
+            file: file_in(parts),
+            header: true,
+        },
+        Verb::Export => Command::Export {
+            file: file_in(parts),
+        },
         Verb::Stats => Command::Stats,
         Verb::Select => Command::Select {
             slot: slot_in(parts),
@@ -175,7 +185,7 @@ fn slot_in(parts: &Parts) -> Which
 pub fn read_command(line: &[u8], dims: u32) -> Result<Option<Command>, Bad>
     requires dims { (1 ≤ dims) × (dims ≤ 16) }
     requires limit { length line.now ≤ 4096 }
-    ensures meaning { reading_of result ≡ built_words dims (words line.now) }
+    ensures meaning { reading_of result ≡ read_words dims (words line.now) }
     ensures dims { ReadsDims dims result }
 {
     let Some((word, rest)) = next_word(line) else {

@@ -37,6 +37,10 @@ pub enum Reply<const D: usize> {
     Saved(u128),
     /// The number of rows that were read.
     Loaded(u64),
+    /// The number of rows that were read from records.
+    Imported(u64),
+    /// The number of rows that were written as records.
+    Exported(u64),
     /// The sizes of a tree: its rows, its nodes, those of each layout, and the words of their records; its line begins with `rows`.
     Stats {
         rows: u128,
@@ -80,4 +84,12 @@ pub enum Reply<const D: usize> {
     BadNode(u64),
     /// The place of the first byte behind a saved table.
     BadExtra(u64),
+    /// The number of a record that has not as many fields as a row has numbers. Records are counted from 1, a header too.
+    BadFields(u64),
+    /// The number of a record with a field that is no number, or a value that is none of 64 bits.
+    BadNumber(u64),
+    /// The number of a record with a coordinate out of range.
+    BadRange(u64),
+    /// The number of a record of a box with a low bound above its high one.
+    BadReversed(u64),
 }

@@ -1,6 +1,6 @@
 use crate::{
-    Bad, Command, Coord, Coords, FileName, Line, Lines, Name, Reply, Text, Which, read_command,
-    reply_text, write_text,
+    Bad, Command, Coord, Coords, FileName, Gen, Line, Lines, Name, Reply, Text, Which,
+    read_command, reply_text, write_text,
 };
 use ph_coord::{Kind, Point, Row, Width};
 use std::test::Fail;
@@ -97,6 +97,17 @@ fn read_commands_on_files(rt: HostRuntime) -> Result<(), Fail> {
     let file = FileName::new("table").ok_or("no name")?;
     let load = Command::Load { file };
     assert_eq!(rt; read_command(b" load\ttable ", 2), Ok(Some(load)));
+    for (line, header) in [
+        (b"import rows.csv".as_slice(), false),
+        (b"import rows.csv header", true),
+    ] {
+        let file = FileName::new("rows.csv").ok_or("no name")?;
+        let import = Command::Import { file, header };
+        assert_eq!(rt; read_command(line, 2), Ok(Some(import)));
+    }
+    let file = FileName::new("header").ok_or("no name")?;
+    let export = Command::Export { file };
+    assert_eq!(rt; read_command(b"export header", 2), Ok(Some(export)));
     Ok(())
 }
 
@@ -166,6 +177,24 @@ fn file_names(rt: HostRuntime) -> Result<(), Fail> {
     Ok(())
 }
 
+// A start counts modulo 2^31.
+#[test]
+fn drawn_commands(rt: HostRuntime) -> Result<(), Fail> {
+    for start in [7, 2147483655] {
+        let mut drawn = Gen::new(3, start);
+        let at = Coords::from_slice(&[Coord::Whole(-178), Coord::Whole(-140)]).ok_or("too many")?;
+        assert_eq!(rt; drawn.next(), Some(Command::Del { at }));
+        let at = Coords::from_slice(&[Coord::Whole(37), Coord::Whole(34)]).ok_or("too many")?;
+        assert_eq!(rt; drawn.next(), Some(Command::Get { at }));
+        let at = Coords::from_slice(&[Coord::Whole(-95), Coord::Whole(205)]).ok_or("too many")?;
+        let put = Command::Put { at, value: 25363 };
+        assert_eq!(rt; drawn.next(), Some(put));
+        assert_eq!(rt; drawn.next(), None);
+        assert_eq!(rt; drawn.next(), None);
+    }
+    Ok(())
+}
+
 #[test]
 fn lines_without_commands(rt: HostRuntime) -> Result<(), Fail> {
     for line in [b"".as_slice(), b" \t ", b"#", b"# put 1 2", b"  #put 1 2 3"] {
@@ -229,6 +258,9 @@ fn refused_names(rt: HostRuntime) -> Result<(), Fail> {
         (b"overlap 1", Bad::Count),
         (b"save", Bad::Count),
         (b"load a b", Bad::Count),
+        (b"import a header b", Bad::Count),
+        (b"export a header", Bad::Count),
+        (b"import a headers", Bad::Name),
         (b"save a\x7f", Bad::Name),
         (b"load \xc3\xa9", Bad::Name),
         (b"inside 1 x", Bad::Number),
@@ -319,6 +351,8 @@ fn texts_of_replies(rt: HostRuntime) -> Result<(), Fail> {
         (Reply::Ready, "ready\n"),
         (Reply::Saved(40), "saved 40\n"),
         (Reply::Loaded(2), "loaded 2\n"),
+        (Reply::Imported(6), "imported 6\n"),
+        (Reply::Exported(6), "exported 6\n"),
         (
             Reply::Stats {
                 rows: 3,
@@ -366,6 +400,13 @@ fn texts_of_replies(rt: HostRuntime) -> Result<(), Fail> {
         (Reply::BadShort(8), "bad short 8\n"),
         (Reply::BadNode(32), "bad node 32\n"),
         (Reply::BadExtra(64), "bad extra 64\n"),
+        (Reply::BadFields(1), "bad record 1 fields\n"),
+        (Reply::BadNumber(1), "bad record 1 number\n"),
+        (
+            Reply::BadRange(18446744073709551615),
+            "bad record 18446744073709551615 range\n",
+        ),
+        (Reply::BadReversed(2), "bad record 2 reversed\n"),
     ];
     for (reply, text) in cases {
         assert_eq!(rt; reply_text(&reply).as_str(), text);

@@ -84,6 +84,8 @@ pub fn write_text<const D: usize>(text: &mut Text, reply: &Reply<D>)
         Reply::Ready => line.push_str("ready\n"),
         Reply::Saved(count) => push_numbered(line, "saved", *count),
         Reply::Loaded(count) => push_numbered(line, "loaded", *count),
+        Reply::Imported(count) => push_numbered(line, "imported", *count),
+        Reply::Exported(count) => push_numbered(line, "exported", *count),
         Reply::Stats {
             rows,
             nodes,
@@ -114,6 +116,10 @@ pub fn write_text<const D: usize>(text: &mut Text, reply: &Reply<D>)
         Reply::BadShort(at) => push_numbered(line, "bad short", *at),
         Reply::BadNode(at) => push_numbered(line, "bad node", *at),
         Reply::BadExtra(at) => push_numbered(line, "bad extra", *at),
+        Reply::BadFields(number) => push_record(line, *number, "fields"),
+        Reply::BadNumber(number) => push_record(line, *number, "number"),
+        Reply::BadRange(number) => push_record(line, *number, "range"),
+        Reply::BadReversed(number) => push_record(line, *number, "reversed"),
     }
 }
 
@@ -124,6 +130,19 @@ fn push_numbered<I: Integer>(line: &mut ArrayString<LONGEST>, word: &str, number
 {
     line.push_str(word);
     push_number(line, number);
+    line.push_str("\n");
+}
+
+// The line of a faulty record, by its number and a word for the fault.
+fn push_record(line: &mut ArrayString<LONGEST>, number: u64, fault: &str)
+    requires empty { line.old.bytes ≡ [] }
+    requires room { length fault.now ≤ 16 }
+    ensures { line.new.bytes ≡ line_of (codes "bad" ∷ codes "record" ∷ decimal number ∷ fault.now ∷ []) }
+{
+    line.push_str("bad record");
+    push_number(line, number);
+    line.push_str(" ");
+    line.push_str(fault);
     line.push_str("\n");
 }
 

@@ -6,7 +6,7 @@ use Rattle.ph_script.proofs.forms.find_form.Goals as goal
 
 pub loop-form-init : goal.loop-form-init
 loop-form-init c = record {
-  value = ap (λ fs. picked false c.args.word.now c.args.count fs) (c.forms-form-items.ensures.built c.args.dims);
+  value = ap (λ fs. picked false c.args.word.now c.args.count fs) (c.forms-form-items.ensures.all c.args.dims);
   rows = c.forms-form-items.ensures.rows;
 }
 
