@@ -1,16 +1,15 @@
 -- What the answer to one line is, by what the line was read as.
-use Rattle.std.proofs.Common.{◌≡◌, ◌≤◌, ◌+◌, ℕ, inr, arith, Bool, false, List, [], ◌∷◌, ◌++◌, take, refl, ap, sym, ◌∙◌, append-nil, subst}
+use Rattle.std.proofs.Common.{◌≡◌, ◌≤◌, ◌+◌, ℕ, arith, Bool, false, List, [], ◌∷◌, ◌++◌, take, refl, ap, sym, ◌∙◌, append-nil, subst}
 use Rattle.std.specs.Prelude.{Some, None, Ok, Err, Result, IfOk, IfErr}
 use denote.Ref.{Bor}
 use Rattle.ph_specs.specs.Lines.{words}
 use Rattle.std.specs.declared.option.Option.{Option}
 use Rattle.ph_io.specs.Giving.{Given}
-use Rattle.ph_specs.specs.Command.{Command, Reading}
+use Rattle.ph_specs.specs.Command.{Command, Reading, reading, read_words}
 use Rattle.ph_specs.specs.Command.Reading.{Nothing, Refused, Do}
 use Rattle.ph_specs.specs.Reply.{Reply, reply_text, replies_text}
 use Rattle.ph_specs.specs.State.{Engine, Files, current, outcome}
 use Rattle.ph_specs.specs.Engine.{act, act_on}
-use Rattle.ph_script.specs.Built.{built_reading, built_words}
 use Rattle.ph_script.specs.declared.lines.Line.{Line}
 use Rattle.ph_script.specs.declared.lines.Line.TheVariants.{Text, Long}
 use Rattle.ph_script.specs.Shown.{IsLine}
@@ -19,7 +18,7 @@ use Rattle.ph_engine.specs.Machine.{Machine, Turn, Work, turn, is_refusal, one_i
 use Rattle.ph_engine.specs.Costs.{Spent, Worked}
 use Rattle.ph_engine.specs.Working.{no_work, work_of, IsAtMost, IsAtLeast}
 use Rattle.ph_engine.specs.Answering.{Said, SaysOr}
-use Rattle.ph_engine.specs.BuiltMachine.{Whole, whole, told_files, reading_in, built_step, cut_by, starved_by, wants_by, uses_by, work_by, built_machine}
+use Rattle.ph_engine.specs.ScriptMachine.{Whole, whole, told_files, reading_in, script_step, cut_by, starved_by, wants_by, uses_by, work_by, script_machine}
 use Rattle.ph_engine.specs.Beside.{Beside, AreTold, StillTells, Filings}
 use Rattle.ph_engine.specs.Doing.{Done, DoneOr, Knows, Leads, uses_files, cut_engine, starved_engine, refuses}
 use Rattle.ph_io.specs.Writing.{WritesFront}
@@ -37,7 +36,7 @@ shown-short bytes (Text text) h = text-limit bytes text.now h.0 h.1
 shown-short bytes Long h = tt
 
 -- what a line does, by its reading
-step-is : (most : ℕ) (s : Whole) (t : Turn) (reading : Reading) → reading_in s t ≡ reading → built_step most s t ≡ act_on most s.engine s.files t.fault reading
+step-is : (most : ℕ) (s : Whole) (t : Turn) (reading : Reading) → reading_in s t ≡ reading → script_step most s t ≡ act_on most s.engine s.files t.fault reading
 step-is most s t reading h = ap (act_on most s.engine s.files t.fault) h
 
 one-text : (r : Reply) → replies_text (r ∷ []) ≡ reply_text r
@@ -74,22 +73,22 @@ pub record IsQuiet (b now_b : Beside) : Type 0 where
   pub changes : now_b.changes ≡ b.changes
 
 -- the work of a line that is no command
-quiet-work : (most : ℕ) (s : Whole) (line : List ℕ) (reading : Reading) (b now_b : Beside) → IsQuiet b now_b → reading_in s (turn line false) ≡ reading → uses_by reading ≡ false → ((most : ℕ) → work_by most s false reading ≡ no_work) → Worked (built_machine most) s (turn line false ∷ []) b now_b
+quiet-work : (most : ℕ) (s : Whole) (line : List ℕ) (reading : Reading) (b now_b : Beside) → IsQuiet b now_b → reading_in s (turn line false) ≡ reading → uses_by reading ≡ false → ((most : ℕ) → work_by most s false reading ≡ no_work) → Worked (script_machine most) s (turn line false ∷ []) b now_b
 quiet-work most s line reading b now_b q h u w =
-    one-worked (built_machine most) s (turn line false) b now_b no_work (ap (work_by most s false) h ∙ w most) (rw (h, u, q.filings) (no-filings b.filings))
+    one-worked (script_machine most) s (turn line false) b now_b no_work (ap (work_by most s false) h ∙ w most) (rw (h, u, q.filings) (no-filings b.filings))
     (record { few_visits = omega (arith, q.visits); few_changes = omega (arith, q.changes) })
     (record { enough_visits = omega (arith, q.visits); enough_changes = omega (arith, q.changes) })
 
 -- the faults of a line that is a command
-filed : (most : ℕ) (s : Whole) (t : Turn) (command : Command) (b now_b : Beside) (fault : Bool) → reading_in s t ≡ Do command → Filings (uses_files command) (one_if fault) b.filings now_b.filings → Filings ((built_machine most).uses s t) (one_if fault) b.filings now_b.filings
+filed : (most : ℕ) (s : Whole) (t : Turn) (command : Command) (b now_b : Beside) (fault : Bool) → reading_in s t ≡ Do command → Filings (uses_files command) (one_if fault) b.filings now_b.filings → Filings ((script_machine most).uses s t) (one_if fault) b.filings now_b.filings
 filed most s t command b now_b fault h f = rw h f
 
 -- ---- lines
 
 -- no command
-pub said-nothing : (most : ℕ) (s : Whole) (line : List ℕ) (b : Beside) → reading_in s (turn line false) ≡ Nothing → Said (built_machine most) s (turn line false) b b s false
+pub said-nothing : (most : ℕ) (s : Whole) (line : List ℕ) (b : Beside) → reading_in s (turn line false) ≡ Nothing → Said (script_machine most) s (turn line false) b b s false
 said-nothing most s line b h =
-    let o : built_step most s (turn line false) ≡ outcome s.engine s.files [] = step-is most s (turn line false) Nothing h in
+    let o : script_step most s (turn line false) ≡ outcome s.engine s.files [] = step-is most s (turn line false) Nothing h in
     record {
       told = rw o (given_none b.sink);
       state = rw o refl;
@@ -98,23 +97,23 @@ said-nothing most s line b h =
     }
 
 -- a command
-pub said-done : (most : ℕ) (e now : Engine) (files : Files) (line : List ℕ) (command : Command) (b now_b : Beside) (answer : Answer) (refused : Bool) → b.files ≡ Some files → (d : Done most e command b now_b now answer) → reading_in (whole e files) (turn line d.fault) ≡ Do command → refused ≡ refuses answer → Said (built_machine most) (whole e files) (turn line d.fault) b now_b (whole now (told_files now_b.files)) refused
+pub said-done : (most : ℕ) (e now : Engine) (files : Files) (line : List ℕ) (command : Command) (b now_b : Beside) (answer : Answer) (refused : Bool) → b.files ≡ Some files → (d : Done most e command b now_b now answer) → reading_in (whole e files) (turn line d.fault) ≡ Do command → refused ≡ refuses answer → Said (script_machine most) (whole e files) (turn line d.fault) b now_b (whole now (told_files now_b.files)) refused
 said-done most e now files line command b now_b answer refused told d h r =
     let l : Leads (act most e files d.fault command) now b.files now_b.files d.replies = d.does files (known command b.files files told) in
-    let o : built_step most (whole e files) (turn line d.fault) ≡ outcome now l.files d.replies = step-is most (whole e files) (turn line d.fault) (Do command) h ∙ l.is in
+    let o : script_step most (whole e files) (turn line d.fault) ≡ outcome now l.files d.replies = step-is most (whole e files) (turn line d.fault) (Do command) h ∙ l.is in
     record {
       told = rw o d.told;
       state = rw o (ap (whole now) (sym (told-behind b.files now_b.files files l.files told l.told_files)));
       refusal = rw o (r ∙ d.refusal);
       worked =
-          one-worked (built_machine most) (whole e files) (turn line d.fault) b now_b (work_of most e files d.fault command) (ap (work_by most (whole e files) d.fault) h) (filed most (whole e files) (turn line d.fault) command b now_b d.fault h d.filings)
+          one-worked (script_machine most) (whole e files) (turn line d.fault) b now_b (work_of most e files d.fault command) (ap (work_by most (whole e files) d.fault) h) (filed most (whole e files) (turn line d.fault) command b now_b d.fault h d.filings)
           (d.most_work files (known command b.files files told)) (d.least_work files (known command b.files files told));
     }
 
-pub said-stopped : (most : ℕ) (e now : Engine) (files : Files) (line : List ℕ) (command : Command) (b now_b : Beside) (stop : Stop) → b.files ≡ Some files → ((fault : Bool) → reading_in (whole e files) (turn line fault) ≡ Do command) → DoneOr most e command b now_b now (Err stop) → SaysOr (built_machine most) (whole e files) line b now_b (whole now (told_files now_b.files)) (Err stop)
+pub said-stopped : (most : ℕ) (e now : Engine) (files : Files) (line : List ℕ) (command : Command) (b now_b : Beside) (stop : Stop) → b.files ≡ Some files → ((fault : Bool) → reading_in (whole e files) (turn line fault) ≡ Do command) → DoneOr most e command b now_b now (Err stop) → SaysOr (script_machine most) (whole e files) line b now_b (whole now (told_files now_b.files)) (Err stop)
 said-stopped most e now files line command b now_b WriteFault told h d =
     let l : Leads (act most e files d.fault command) d.after b.files now_b.files d.replies = d.does files (known command b.files files told) in
-    let o : built_step most (whole e files) (turn line d.fault) ≡ outcome d.after l.files d.replies = step-is most (whole e files) (turn line d.fault) (Do command) (h d.fault) ∙ l.is in
+    let o : script_step most (whole e files) (turn line d.fault) ≡ outcome d.after l.files d.replies = step-is most (whole e files) (turn line d.fault) (Do command) (h d.fault) ∙ l.is in
     let c : cut_by most (whole e files) d.fault (reading_in (whole e files) (turn line d.fault)) ≡ whole (cut_engine e command d.after) l.files = ap (cut_by most (whole e files) d.fault) (h d.fault) ∙ ap (λ x. whole (cut_engine e command x.engine) x.files) l.is in
     record {
       fault = d.fault;
@@ -123,7 +122,7 @@ said-stopped most e now files line command b now_b WriteFault told h d =
         short = rw o d.short;
         told = rw o d.told;
         state = ap (λ x. whole x (told_files now_b.files)) d.state ∙ ap (whole (cut_engine e command d.after)) (sym (told-behind b.files now_b.files files l.files told l.told_files)) ∙ sym c;
-        spent = one-spent (built_machine most) (whole e files) (turn line d.fault) b now_b (work_of most e files d.fault command) (ap (work_by most (whole e files) d.fault) (h d.fault)) (filed most (whole e files) (turn line d.fault) command b now_b d.fault (h d.fault) d.filings) (d.most_work files (known command b.files files told));
+        spent = one-spent (script_machine most) (whole e files) (turn line d.fault) b now_b (work_of most e files d.fault command) (ap (work_by most (whole e files) d.fault) (h d.fault)) (filed most (whole e files) (turn line d.fault) command b now_b d.fault (h d.fault) d.filings) (d.most_work files (known command b.files files told));
       };
     }
 said-stopped most e now files line command b now_b NoMemory told h d =
@@ -135,14 +134,14 @@ said-stopped most e now files line command b now_b NoMemory told h d =
         part = d.part;
         state = ap (λ x. whole x (told_files now_b.files)) (d.state files (known command b.files files told)) ∙ ap (whole (starved_engine e files command d.part)) (sym same) ∙ sym (ap (starved_by (whole e files) d.part) (h d.fault));
         wanted = ap (wants_by (whole e files)) (h d.fault) ∙ d.wanted;
-        spent = one-spent (built_machine most) (whole e files) (turn line d.fault) b now_b (work_of most e files d.fault command) (ap (work_by most (whole e files) d.fault) (h d.fault)) (filed most (whole e files) (turn line d.fault) command b now_b d.fault (h d.fault) d.filings) (d.most_work files (known command b.files files told));
+        spent = one-spent (script_machine most) (whole e files) (turn line d.fault) b now_b (work_of most e files d.fault command) (ap (work_by most (whole e files) d.fault) (h d.fault)) (filed most (whole e files) (turn line d.fault) command b now_b d.fault (h d.fault) d.filings) (d.most_work files (known command b.files files told));
       };
     }
 
 -- a line that is refused
-pub said-refused : (most : ℕ) (e : Engine) (files : Files) (line : List ℕ) (reply : Reply) (b now_b : Beside) (result : Result Bool Stop) → b.files ≡ Some files → IsQuiet b now_b → reading_in (whole e files) (turn line false) ≡ Refused reply → IfOk result (λ refused. Given b.sink now_b.sink (reply_text reply) × (refused ≡ is_refusal (reply_text reply))) → IfErr result (λ stop. (stop ≡ WriteFault) × WritesFront b.sink now_b.sink (reply_text reply)) → SaysOr (built_machine most) (whole e files) line b now_b (whole e (told_files now_b.files)) result
+pub said-refused : (most : ℕ) (e : Engine) (files : Files) (line : List ℕ) (reply : Reply) (b now_b : Beside) (result : Result Bool Stop) → b.files ≡ Some files → IsQuiet b now_b → reading_in (whole e files) (turn line false) ≡ Refused reply → IfOk result (λ refused. Given b.sink now_b.sink (reply_text reply) × (refused ≡ is_refusal (reply_text reply))) → IfErr result (λ stop. (stop ≡ WriteFault) × WritesFront b.sink now_b.sink (reply_text reply)) → SaysOr (script_machine most) (whole e files) line b now_b (whole e (told_files now_b.files)) result
 said-refused most e files line reply b now_b (Ok refused) told q h k f =
-    let o : built_step most (whole e files) (turn line false) ≡ outcome e files (reply ∷ []) = step-is most (whole e files) (turn line false) (Refused reply) h in
+    let o : script_step most (whole e files) (turn line false) ≡ outcome e files (reply ∷ []) = step-is most (whole e files) (turn line false) (Refused reply) h in
     record {
       fault = false;
       said = record {
@@ -153,7 +152,7 @@ said-refused most e files line reply b now_b (Ok refused) told q h k f =
       };
     }
 said-refused most e files line reply b now_b (Err WriteFault) told q h k f =
-    let o : built_step most (whole e files) (turn line false) ≡ outcome e files (reply ∷ []) = step-is most (whole e files) (turn line false) (Refused reply) h in
+    let o : script_step most (whole e files) (turn line false) ≡ outcome e files (reply ∷ []) = step-is most (whole e files) (turn line false) (Refused reply) h in
     record {
       fault = false;
       said = record {
@@ -192,11 +191,11 @@ done-later most e now command b now_b (Err WriteFault) d = d.filings.later
 done-later most e now command b now_b (Err NoMemory) d = d.filings.later
 
 -- what a line that is shown was read as
-pub text-reading : (e : Engine) (dims : ℕ) (bytes : List ℕ) (line : Line) (t : Bor (List ℕ)) (reading : Reading) → dims ≡ (current e).dims → line ≡ Text t → IsLine bytes line → reading ≡ built_words dims (words t.now) → built_reading (current e).dims bytes ≡ reading
-text-reading e dims bytes line t reading d i h r =
+pub text-reading : (e : Engine) (dims : ℕ) (bytes : List ℕ) (line : Line) (t : Bor (List ℕ)) (was : Reading) → dims ≡ (current e).dims → line ≡ Text t → IsLine bytes line → was ≡ read_words dims (words t.now) → reading (current e).dims bytes ≡ was
+text-reading e dims bytes line t was d i h r =
     rw (← d) (line-reading dims bytes (Text t) (rw i at h) ∙ sym r)
 
-pub long-reading : (e : Engine) (bytes : List ℕ) (line : Line) → line ≡ Long → IsLine bytes line → built_reading (current e).dims bytes ≡ Refused Reply.ErrorLong
+pub long-reading : (e : Engine) (bytes : List ℕ) (line : Line) → line ≡ Long → IsLine bytes line → reading (current e).dims bytes ≡ Refused Reply.ErrorLong
 long-reading e bytes line i h = line-reading (current e).dims bytes Long (rw i at h)
 
 -- a line that is shown by its kept bytes and a part behind them

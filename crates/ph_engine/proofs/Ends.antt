@@ -1,20 +1,15 @@
 -- How a call of the program ends.
-use Rattle.std.proofs.Common.{◌≡◌, ◌≤◌, ℕ, inl, inr, arith, Bool, true, false, List, [], ◌∷◌, length, refl, ap}
-use Rattle.std.specs.Prelude.{◌⊎◌, Some, None, codes, bytes_eq, if◌then◌else◌, ◌^◌, ◌&&◌}
+use Rattle.std.proofs.Common.{◌≡◌, ◌≤◌, ℕ, inl, inr, arith, List, length, refl}
+use Rattle.std.specs.Prelude.{◌⊎◌, Some, None}
 use Rattle.std.specs.declared.option.Option.{Option}
 use Rattle.std.specs.Io.KnownBytes.{Consumes}
 use Rattle.std.proofs.lemmas.Grind.{common_steps}
-use Rattle.std.proofs.lemmas.Slice.Eq.{bytes_eq-Decides}
 use Rattle.ph_io.specs.Causes.{Rose}
-use Rattle.ph_specs.specs.Command.{is_number_below}
-use Rattle.ph_specs.specs.Lines.{number, is_file_name}
-use Rattle.ph_specs.specs.Program.{number_of_word}
-use Rattle.ph_specs.specs.Program.Task.{Run, Check, Soak, Usage as NoForm}
 use Rattle.ph_engine.specs.Beside.{Beside}
-use Rattle.ph_engine.specs.BuiltMachine.{built_machine}
-use Rattle.ph_engine.specs.Ending.{asks, built_task, RunEnds}
+use Rattle.ph_engine.specs.ScriptMachine.{script_machine}
+use Rattle.ph_engine.specs.Ending.{RunEnds}
 use Rattle.ph_engine.specs.Outcomes.{Outcome}
-use Rattle.ph_engine.specs.Statuses.{IsRead, IsRun, HasAtMost, HasCauses}
+use Rattle.ph_engine.specs.Statuses.{IsRead, HasAtMost, HasCauses}
 use Rattle.ph_engine.specs.declared.status.Status.{Status}
 use Rattle.ph_engine.specs.declared.status.Status.TheVariants.{Clean, Refused, Usage, ReadFault, WriteFault, Memory, TooLong}
 use Rattle.ph_engine.specs.declared.status.Limits.{Limits}
@@ -48,28 +43,5 @@ run_ends limits before now status h c f = record {
   write_cause = c.write;
   is_run = c.is_run;
   filings = f;
-  complete = λ told. complete (built_machine limits.file_bytes) limits.script_bytes before.left now.left before.at.beside now.at.beside (whole_of before.at) (whole_of now.at) before.reads now.reads before.writes now.writes status (h told) c;
+  complete = λ told. complete (script_machine limits.file_bytes) limits.script_bytes before.left now.left before.at.beside now.at.beside (whole_of before.at) (whole_of now.at) before.reads now.reads before.writes now.writes status (h told) c;
 }
-
--- ---- words
-
-one_word : (b : Bool) → built_task (if b then Run else NoForm) ≡ Run → b ≡ true
-one_word true h = refl
-one_word false h = cc
-
-two_words : (b c : Bool) (file : List ℕ) → built_task (if b then (if c then Check file else NoForm) else NoForm) ≡ Run → ⊥
-two_words true true file h = cc
-two_words true false file h = cc
-two_words false c file h = cc
-
-three_words : (b c : Bool) (n start : ℕ) → built_task (if b then (if c then Soak n start else NoForm) else NoForm) ≡ Run → ⊥
-three_words true true n start h = cc
-three_words true false n start h = cc
-three_words false c n start h = cc
-
-pub asks_run : (words : List (List ℕ)) → asks words ≡ Run → IsRun words
-asks_run [] h = cc
-asks_run (w ∷ []) h = ap (λ x. x ∷ []) ((bytes_eq-Decides w (codes "run")).0 (one_word (bytes_eq w (codes "run")) h))
-asks_run (w ∷ v ∷ []) h = absurd (two_words (bytes_eq w (codes "check")) (is_file_name v) v h)
-asks_run (w ∷ v ∷ u ∷ []) h = absurd (three_words (bytes_eq w (codes "soak")) (is_number_below (2 ^ 32) (number v) && is_number_below (2 ^ 64) (number u)) (number_of_word v) (number_of_word u) h)
-asks_run (w ∷ v ∷ u ∷ t ∷ ws) h = cc

@@ -1,36 +1,36 @@
 -- What commands on files do, and what they have done once their replies were given to a sink.
-use Rattle.std.proofs.Common.{◌≡◌, ◌≤◌, ◌+◌, ◌*◌, ℕ, inl, inr, arith, Bool, true, false, List, [], ◌∷◌, length, refl, ap, sym, ◌∙◌, subst}
-use Rattle.std.specs.Prelude.{◌⊎◌, ◌<◌, ◌-◌, ◌^◌, ◌||◌, Some, None, is_none, nat_lt, nat_le, if◌then◌else◌, Result, Ok, Err, option_map}
+use Rattle.std.proofs.Common.{◌≡◌, ◌≤◌, ◌+◌, ◌*◌, ℕ, inl, inr, arith, Bool, true, false, List, [], ◌∷◌, length, refl, ap, sym, ◌∙◌}
+use Rattle.std.specs.Prelude.{◌⊎◌, ◌<◌, ◌-◌, ◌^◌, ◌||◌, Some, None, is_none, nat_lt, if◌then◌else◌, Result, Ok, Err}
 use Rattle.std.specs.declared.option.Option.{Option}
 use Rattle.std.proofs.lemmas.Bool.{cases_lt, le-leb, lt-leb}
 use Rattle.ph_io.specs.Causes.{Rose}
-use Rattle.ph_io.specs.Giving.{Taken, Given}
+use Rattle.ph_io.specs.Giving.{Taken}
 use Rattle.ph_io.specs.Shelf.{Stays, Fetches, FetchCounts}
 use Rattle.ph_io.specs.declared.files.FetchFault.{FetchFault}
 use Rattle.ph_io.specs.declared.files.FetchFault.TheVariants as by
 use Rattle.ph_io.proofs.Appending.{given_none}
 use Rattle.ph_specs.specs.Command.{Command}
 use Rattle.ph_specs.specs.Named.{Named, lookup, enter}
-use Rattle.ph_specs.specs.Reply.{Reply, reply_text, replies_text}
-use Rattle.ph_specs.specs.Refusals.{refusal, fetch, short_enough, bytes_of, refuse_if, refuse_if_bad, table_read, read_length}
+use Rattle.ph_specs.specs.Reply.{Reply}
+use Rattle.ph_specs.specs.Refusals.{refusal, fetch, short_enough, bytes_of, refuse_if, refuse_if_bad, has_file_fault, is_full, table_read, read_length}
 use Rattle.ph_specs.specs.SavedTable.{read_snapshot}
 use Rattle.ph_specs.specs.Snapshot.{snap}
-use Rattle.ph_specs.specs.State.{Slot, Engine, Files, current, outcome}
+use Rattle.ph_specs.specs.State.{Slot, Engine, Files, outcome}
 use Rattle.ph_specs.specs.Table.{Row}
 use Rattle.ph_specs.specs.Window.{Cursor}
 use Rattle.ph_specs.specs.WorkSets.{all_nodes}
-use Rattle.ph_specs.specs.Engine.{act, unless_refused, load_outcome}
+use Rattle.ph_specs.specs.Engine.{act, effect, unless_refused, load_outcome}
 use Rattle.ph_specs.specs.declared.Kind.{Kind}
 use Rattle.ph_specs.specs.declared.Kind.TheVariants.{Points, Boxes}
 use Rattle.ph_script.specs.declared.reply.Reply.{Reply as Told}
 use Rattle.ph_script.specs.Meaning.{reply_of}
-use Rattle.ph_engine.specs.Beside.{Beside, beside_sink, Filings, Tells, IsTold, StillTells}
-use Rattle.ph_engine.specs.Doing.{DoneOr, Knows, Leads, is_page, cut_engine}
+use Rattle.ph_engine.specs.Beside.{beside_sink, Filings, Tells, IsTold, StillTells}
+use Rattle.ph_engine.specs.Doing.{DoneOr, Knows, Leads, fetches, imported, is_page, cut_engine, starved_engine, takes_memory, uses_files}
 use Rattle.ph_engine.specs.Drafting.{Unfilled}
 use Rattle.ph_engine.specs.Filing.{Filed, Unfiled, FiledOr, Entered, LoadsOr, TellsUnfetched, read_table, read_reply}
 use Rattle.ph_engine.specs.Refusing.{or_else, early_refusal, late_refusal}
 use Rattle.ph_engine.specs.Slots.{AnyTable, slot_of, engine_of}
-use Rattle.ph_engine.specs.Working.{work_of, least_unless, IsAtMost, IsAtLeast}
+use Rattle.ph_engine.specs.Working.{work, work_of, engine_bounds, least_unless, IsAtMost, IsAtLeast}
 use Rattle.ph_engine.specs.Telling.{Tells as Says, ToldOr}
 use Rattle.ph_engine.specs.declared.status.Answer.{Answer}
 use Rattle.ph_engine.specs.declared.status.Stop.{Stop}
@@ -90,10 +90,10 @@ tells-one : (before now : ℕ) → Rose before now → (before < 2 ^ 64 - 1) ⊎
 tells-one before now r (inl h) = inr (omega (arith, r, h))
 tells-one before now r (inr h) = inl (omega (arith, r, h))
 
-failed-once : (before now : ℕ) → before ≤ now → Rose before now → Filings true 1 before now
+pub failed-once : (before now : ℕ) → before ≤ now → Rose before now → Filings true 1 before now
 failed-once before now l r = record { told = tells-one before now r (cases_lt before (2 ^ 64 - 1)); later = l; quiet = λ no. absurd (let clash : true ≡ false = no in cc) }
 
-failed-never : (before now : ℕ) → before ≤ now → Filings true 0 before now
+pub failed-never : (before now : ℕ) → before ≤ now → Filings true 0 before now
 failed-never before now l = record { told = inr (omega (arith, l)); later = l; quiet = λ no. absurd (let clash : true ≡ false = no in cc) }
 
 -- files that stay where they are told
@@ -105,73 +105,240 @@ still-told : (told now_told : Option Files) (files : Files) → Stays told now_t
 still-told None now_told files s k = tt
 still-told (Some old) now_told files s k = s ∙ ap Some k
 
+-- ---- commands that write a file
+
+-- A command makes a file of these bytes and has this reply, is refused only where the files fail, and visits all nodes.
+pub record IsStore (command : Command) (name : List ℕ) (bytes : Slot → List ℕ) (reply : Slot → Reply) : Type 0 where
+  pub uses : uses_files command ≡ true
+  pub early : (s : Slot) → early_refusal s command ≡ None
+  pub late : (most : ℕ) (s : Slot) (files : Files) (fault : Bool) → late_refusal most s files fault command ≡ refuse_if fault Reply.ErrorFile None
+  pub makes : (s : Slot) (files : Files) → effect (engine_of s) files command ≡ outcome (engine_of s) (enter name (bytes s) files) (reply s ∷ [])
+  pub costs : (s : Slot) (files : Files) → engine_bounds (engine_of s) files command ≡ (let n = length (all_nodes s.width s.dims s.table) in work n n 0 0)
+
+module _ (command : Command) (name : List ℕ) (bytes : Slot → List ℕ) (reply : Slot → Reply) (k : IsStore command name bytes reply) where
+  store-refusal : (most : ℕ) (s : Slot) (files : Files) (fault : Bool) → refusal most (engine_of s) files fault command ≡ refuse_if fault Reply.ErrorFile None
+  store-refusal most s files fault = refusal-parts most (engine_of s) files fault command ∙ ap (λ r. or_else r (late_refusal most s files fault command)) (k.early s) ∙ k.late most s files fault
+
+  store-does : (most : ℕ) (s : Slot) (files : Files) → act most (engine_of s) files false command ≡ outcome (engine_of s) (enter name (bytes s) files) (reply s ∷ [])
+  store-does most s files = ap (λ r. unless_refused r (engine_of s) files command) (store-refusal most s files false) ∙ k.makes s files
+
+  store-fails : (most : ℕ) (s : Slot) (files : Files) → act most (engine_of s) files true command ≡ outcome (engine_of s) files (Reply.ErrorFile ∷ [])
+  store-fails most s files = ap (λ r. unless_refused r (engine_of s) files command) (store-refusal most s files true)
+
+  -- the files that it leads to: those that are told now, where some were told
+  entered-leads : (most : ℕ) (s : Slot) (told now_told : Option Files) → ((files : Files) → told ≡ Some files → now_told ≡ Some (enter name (bytes s) files)) → (files : Files) → Knows command told files → Leads (act most (engine_of s) files false command) (engine_of s) told now_told (reply s ∷ [])
+  entered-leads most s None now_told h files x = record { files = enter name (bytes s) files; is = store-does most s files; told_files = tt }
+  entered-leads most s (Some old) now_told h files x = record { files = enter name (bytes s) files; is = store-does most s files; told_files = h files (ap Some x) }
+
+  unfilled-leads : (most : ℕ) (s : Slot) (told now_told : Option Files) → Stays told now_told → (files : Files) → Knows command told files → Leads (act most (engine_of s) files true command) (engine_of s) told now_told (Reply.ErrorFile ∷ [])
+  unfilled-leads most s None now_told h files x = record { files = files; is = store-fails most s files; told_files = tt }
+  unfilled-leads most s (Some old) now_told h files x = record { files = files; is = store-fails most s files; told_files = h ∙ ap Some x }
+
+  module _ (most : ℕ) (s : Slot) (told now_told : Option Files) (f now_f v now_v c : ℕ) where
+    store-most : (files : Files) (fault : Bool) → now_v ≤ v + length (all_nodes s.width s.dims s.table) → IsAtMost (work_of most (engine_of s) files fault command) v now_v c c
+    store-most files fault few = rw (k.costs s files) (record { few_visits = few; few_changes = omega arith })
+
+    pub stored-filed : now_v ≡ v + length (all_nodes s.width s.dims s.table) → Entered told now_told f now_f name (bytes s) (length (bytes s)) → Filed most (engine_of s) command told now_told f now_f v now_v c c (engine_of s) (reply s)
+    stored-filed all h = record {
+      fault = false;
+      counted = rw k.uses (failed-never f now_f h.later);
+      does = entered-leads most s told now_told h.entered;
+      most_work = λ files x. store-most files false (omega (arith, all));
+      least_work = λ files x. rw (k.costs s files, store-refusal most s files false) (record { enough_visits = omega (arith, all); enough_changes = omega arith });
+    }
+
+    pub unstored-filed : v ≤ now_v → now_v ≤ v + length (all_nodes s.width s.dims s.table) → Unfilled told now_told f now_f → Filed most (engine_of s) command told now_told f now_f v now_v c c (engine_of s) Reply.ErrorFile
+    unstored-filed later few h = record {
+      fault = true;
+      counted = rw k.uses (failed-once f now_f h.later h.rose);
+      does = unfilled-leads most s told now_told h.stays;
+      most_work = λ files x. store-most files true few;
+      least_work = λ files x. rw (k.costs s files, store-refusal most s files true) (record { enough_visits = omega (arith, later); enough_changes = omega arith });
+    }
+
+    pub starved-store : takes_memory s command ≡ true → ((files : Files) → imported s files command ≡ None) → now_v ≤ v + length (all_nodes s.width s.dims s.table) → f ≤ now_f → Stays told now_told → Unfiled most (engine_of s) command told now_told f now_f v now_v c c (engine_of s)
+    starved-store takes none few later stays = record {
+      fault = false;
+      counted = rw k.uses (failed-never f now_f later);
+      part = 0;
+      state = λ files x. rw (none files) refl;
+      kept = λ files x. still-told told now_told files stays x;
+      wanted = rw (k.early s) takes;
+      most_work = λ files x. store-most files false few;
+    }
+
 -- ---- save
 
-save-early : (s : Slot) (name : List ℕ) → early_refusal s (Command.Save name) ≡ None
-save-early s name = by-kind s.kind s.width s.dims s.max s.table s.cursors
+store-save : (name : List ℕ) → IsStore (Command.Save name) name (λ s. snap s.kind s.dims s.table) (λ s. Reply.Saved (length (snap s.kind s.dims s.table)))
+store-save name = record {
+  uses = refl;
+  early = λ s. by-kind s.kind s.width s.dims s.max s.table s.cursors;
+  late = λ most s files fault. refl;
+  makes = λ s files. refl;
+  costs = λ s files. refl;
+}
   where
     by-kind : (kind : Kind) (width dims max : ℕ) (table : List Row) (cursors : Named Cursor) → early_refusal (record { kind = kind; dims = dims; width = width; max = max; table = table; cursors = cursors }) (Command.Save name) ≡ None
     by-kind Points width dims max table cursors = refl
     by-kind Boxes width dims max table cursors = refl
 
-save-refusal : (most : ℕ) (s : Slot) (files : Files) (fault : Bool) (name : List ℕ) → refusal most (engine_of s) files fault (Command.Save name) ≡ refuse_if fault Reply.ErrorFile None
-save-refusal most s files fault name = refusal-parts most (engine_of s) files fault (Command.Save name) ∙ ap (λ r. or_else r (late_refusal most s files fault (Command.Save name))) (save-early s name)
-
-save-does : (most : ℕ) (s : Slot) (files : Files) (name : List ℕ) → act most (engine_of s) files false (Command.Save name) ≡ outcome (engine_of s) (enter name (snap s.kind s.dims s.table) files) (Reply.Saved (length (snap s.kind s.dims s.table)) ∷ [])
-save-does most s files name = ap (λ r. unless_refused r (engine_of s) files (Command.Save name)) (save-refusal most s files false name)
-
-save-fails : (most : ℕ) (s : Slot) (files : Files) (name : List ℕ) → act most (engine_of s) files true (Command.Save name) ≡ outcome (engine_of s) files (Reply.ErrorFile ∷ [])
-save-fails most s files name = ap (λ r. unless_refused r (engine_of s) files (Command.Save name)) (save-refusal most s files true name)
-
--- the files that a save leads to: those that are told now, where some were told
-pub entered-leads : (most : ℕ) (s : Slot) (name : List ℕ) (told now_told : Option Files) → ((files : Files) → told ≡ Some files → now_told ≡ Some (enter name (snap s.kind s.dims s.table) files)) → (files : Files) → Knows (Command.Save name) told files → Leads (act most (engine_of s) files false (Command.Save name)) (engine_of s) told now_told (Reply.Saved (length (snap s.kind s.dims s.table)) ∷ [])
-entered-leads most s name None now_told h files k = record { files = enter name (snap s.kind s.dims s.table) files; is = save-does most s files name; told_files = tt }
-entered-leads most s name (Some old) now_told h files k = record { files = enter name (snap s.kind s.dims s.table) files; is = save-does most s files name; told_files = h files (ap Some k) }
-
-unfilled-leads : (most : ℕ) (s : Slot) (name : List ℕ) (told now_told : Option Files) → Stays told now_told → (files : Files) → Knows (Command.Save name) told files → Leads (act most (engine_of s) files true (Command.Save name)) (engine_of s) told now_told (Reply.ErrorFile ∷ [])
-unfilled-leads most s name None now_told h files k = record { files = files; is = save-fails most s files name; told_files = tt }
-unfilled-leads most s name (Some old) now_told h files k = record { files = files; is = save-fails most s files name; told_files = h ∙ ap Some k }
-
 module _ (most : ℕ) (s : Slot) (name : List ℕ) (told now_told : Option Files) (f now_f v now_v c : ℕ) where
   pub saved-filed : (count : ℕ) → now_v ≡ v + length (all_nodes s.width s.dims s.table) → Entered told now_told f now_f name (snap s.kind s.dims s.table) count → Filed most (engine_of s) (Command.Save name) told now_told f now_f v now_v c c (engine_of s) (Reply.Saved count)
-  saved-filed count all h = record {
-    fault = false;
-    counted = failed-never f now_f h.later;
-    does = λ files k. rw h.counted (entered-leads most s name told now_told h.entered files k);
-    most_work = λ files k. record { few_visits = omega (arith, all); few_changes = omega arith };
-    least_work = λ files k. rw (save-refusal most s files false name) (record { enough_visits = omega (arith, all); enough_changes = omega arith });
-  }
+  saved-filed count all h = rw h.counted (stored-filed (Command.Save name) name _ _ (store-save name) most s told now_told f now_f v now_v c all (record { counted = refl; later = h.later; entered = h.entered }))
 
   pub unsaved-filed : v ≤ now_v → now_v ≤ v + length (all_nodes s.width s.dims s.table) → Unfilled told now_told f now_f → Filed most (engine_of s) (Command.Save name) told now_told f now_f v now_v c c (engine_of s) Reply.ErrorFile
-  unsaved-filed later few h = record {
-    fault = true;
-    counted = failed-once f now_f h.later h.rose;
-    does = unfilled-leads most s name told now_told h.stays;
-    most_work = λ files k. record { few_visits = few; few_changes = omega arith };
-    least_work = λ files k. rw (save-refusal most s files true name) (record { enough_visits = omega (arith, later); enough_changes = omega arith });
-  }
+  unsaved-filed later few h = unstored-filed (Command.Save name) name _ _ (store-save name) most s told now_told f now_f v now_v c later few h
+
+-- ---- commands that read a file
+
+-- A command reads a file, is refused for no cause before that, and may do nothing. Where memory is missing for the file, the engine stays.
+pub record IsFetch (command : Command) (name : List ℕ) : Type 0 where
+  pub reads : fetches command ≡ true
+  pub uses : uses_files command ≡ true
+  pub early : (s : Slot) → early_refusal s command ≡ None
+  pub faulty : (most : ℕ) (files : Files) (fault : Bool) → has_file_fault most files fault command ≡ (fault || is_none (fetch most files name))
+  pub takes : (s : Slot) → takes_memory s command ≡ true
+  pub none_in : (s : Slot) (files : Files) → starved_engine (engine_of s) files command 0 ≡ engine_of s
+  pub least_visits : (s : Slot) (files : Files) → (engine_bounds (engine_of s) files command).least_visits ≡ 0
+  pub least_changes : (s : Slot) (files : Files) → (engine_bounds (engine_of s) files command).least_changes ≡ 0
+
+-- what was fetched
+pub fetched : (most : ℕ) (files : Files) (name bytes : List ℕ) → lookup name files ≡ Some bytes → length bytes ≤ most → fetch most files name ≡ Some bytes
+fetched most files name bytes l h = ap (short_enough most) l ∙ ap (λ b. if b then Some bytes else None) (le-leb (length bytes) most h)
+
+pub unfetched : (most : ℕ) (files : Files) (name bytes : List ℕ) (fault : FetchFault) → (fault ≡ by.NoMemory → ⊥) → (fault ≡ by.Failed → ⊥) → Fetches (Some files) name most bytes (Err fault) → is_none (fetch most files name) ≡ true
+unfetched most files name bytes by.Failed n m h = absurd (m refl)
+unfetched most files name bytes by.Absent n m h = ap (λ x. is_none (short_enough most x)) h
+unfetched most files name bytes by.NoMemory n m h = absurd (n refl)
+unfetched most files name bytes by.Over n m h = ap (λ x. is_none (short_enough most x)) h.1 ∙ ap (λ b. is_none (if b then Some h.0 else None)) (lt-leb (length h.0) most h.2)
+
+none-least : (r : Option Reply) (n : ℕ) → n ≡ 0 → least_unless r n ≡ 0
+none-least (Some r) n h = refl
+none-least None n h = h
+
+module _ (command : Command) (name : List ℕ) (k : IsFetch command name) where
+  unknown : (files : Files) → Knows command None files → ⊥
+  unknown files h = let clash : true ≡ false = sym k.reads ∙ h in cc
+
+  -- what it is refused for behind a file that could not be read
+  abbrev rest_refusal : Slot → Files → Option Reply
+  rest_refusal s files = refuse_if_bad (table_read s files command) (refuse_if (is_full s files command) Reply.ErrorFull None)
+
+  fetch-refusal : (most : ℕ) (s : Slot) (files : Files) (fault : Bool) → refusal most (engine_of s) files fault command ≡ refuse_if (fault || is_none (fetch most files name)) Reply.ErrorFile (rest_refusal s files)
+  fetch-refusal most s files fault =
+      refusal-parts most (engine_of s) files fault command ∙ ap (λ r. or_else r (late_refusal most s files fault command)) (k.early s)
+      ∙ ap (λ b. refuse_if b Reply.ErrorFile (rest_refusal s files)) (k.faulty most files fault)
+
+  none-fetched : (most : ℕ) (s : Slot) (files : Files) (fault : Bool) → (fault || is_none (fetch most files name)) ≡ true → act most (engine_of s) files fault command ≡ outcome (engine_of s) files (Reply.ErrorFile ∷ [])
+  none-fetched most s files fault h =
+      ap (λ r. unless_refused r (engine_of s) files command) (fetch-refusal most s files fault ∙ ap (λ b. refuse_if b Reply.ErrorFile (rest_refusal s files)) h)
+
+  pub fetched-act : (most : ℕ) (s : Slot) (files : Files) (bytes : List ℕ) → lookup name files ≡ Some bytes → length bytes ≤ most → act most (engine_of s) files false command ≡ unless_refused (rest_refusal s files) (engine_of s) files command
+  fetched-act most s files bytes l h =
+      ap (λ r. unless_refused r (engine_of s) files command)
+      (fetch-refusal most s files false ∙ ap (λ x. refuse_if (is_none x) Reply.ErrorFile (rest_refusal s files)) (fetched most files name bytes l h))
+
+  unread : (most : ℕ) (s : Slot) (told now_told : Option Files) (files : Files) (fault : Bool) → Stays told now_told → Knows command told files → (fault || is_none (fetch most files name)) ≡ true → Leads (act most (engine_of s) files fault command) (engine_of s) told now_told (Reply.ErrorFile ∷ [])
+  unread most s None now_told files fault st x h = absurd (unknown files x)
+  unread most s (Some old) now_told files fault st x h = record { files = files; is = none-fetched most s files fault h; told_files = st ∙ ap Some x }
+
+  not-there : (most : ℕ) (bytes : List ℕ) (told : Option Files) (files : Files) (fault : FetchFault) → (fault ≡ by.NoMemory → ⊥) → (fault ≡ by.Failed → ⊥) → Fetches told name most bytes (Err fault) → Knows command told files → (false || is_none (fetch most files name)) ≡ true
+  not-there most bytes None files fault n m g x = absurd (unknown files x)
+  not-there most bytes (Some old) files fault n m g x = ap (λ y. is_none (fetch most y name)) (sym x) ∙ unfetched most old name bytes fault n m g
+
+  module _ (most : ℕ) (s : Slot) (bytes : List ℕ) (f now_f v now_v c now_c : ℕ) where
+    fetch-least : (files : Files) (fault : Bool) → v ≤ now_v → c ≤ now_c → IsAtLeast (work_of most (engine_of s) files fault command) v now_v c now_c
+    fetch-least files fault h i =
+        let r = refusal most (engine_of s) files fault command in
+        record {
+          enough_visits = rw (none-least r (engine_bounds (engine_of s) files command).least_visits (k.least_visits s files)) (omega (arith, h));
+          enough_changes = rw (none-least r (engine_bounds (engine_of s) files command).least_changes (k.least_changes s files)) (omega (arith, i));
+        }
+
+    fetch-idle : (files : Files) (fault : Bool) → now_v ≡ v → now_c ≡ c → IsAtMost (work_of most (engine_of s) files fault command) v now_v c now_c
+    fetch-idle files fault h i = record { few_visits = omega (arith, h); few_changes = omega (arith, i) }
+
+    -- a file was read, and what was to be done with its bytes is done
+    pub fetched-filed : (told now_told : Option Files) (now : Engine) (reply : Reply) → Fetches told name most bytes (Ok tt) → Stays told now_told → now_f ≡ f → ((files : Files) → lookup name files ≡ Some bytes → act most (engine_of s) files false command ≡ outcome now files (reply ∷ [])) → ((files : Files) → lookup name files ≡ Some bytes → IsAtMost (work_of most (engine_of s) files false command) v now_v c now_c) → v ≤ now_v → c ≤ now_c → Filed most (engine_of s) command told now_told f now_f v now_v c now_c now reply
+    fetched-filed None now_told now reply g st e does few h i = record {
+      fault = false;
+      counted = rw k.uses (failed-never f now_f (omega (arith, e)));
+      does = λ files x. absurd (unknown files x);
+      most_work = λ files x. absurd (unknown files x);
+      least_work = λ files x. absurd (unknown files x);
+    }
+    fetched-filed (Some old) now_told now reply g st e does few h i = record {
+      fault = false;
+      counted = rw k.uses (failed-never f now_f (omega (arith, e)));
+      does = λ files x. record { files = files; is = does files (ap (lookup name) (sym x) ∙ g); told_files = st ∙ ap Some x };
+      most_work = λ files x. few files (ap (lookup name) (sym x) ∙ g);
+      least_work = λ files x. fetch-least files false h i;
+    }
+
+    -- no file could be read
+    unfetched-filed : (told now_told : Option Files) (fault : FetchFault) → (fault ≡ by.NoMemory → ⊥) → Fetches told name most bytes (Err fault) → FetchCounts f now_f (Err fault) → Stays told now_told → now_v ≡ v → now_c ≡ c → Filed most (engine_of s) command told now_told f now_f v now_v c now_c (engine_of s) Reply.ErrorFile
+    unfetched-filed told now_told by.Failed n g counts st h i = record {
+      fault = true;
+      counted = rw k.uses (failed-once f now_f counts.0 counts.1);
+      does = λ files x. unread most s told now_told files true st x refl;
+      most_work = λ files x. fetch-idle files true h i;
+      least_work = λ files x. fetch-least files true (omega (arith, h)) (omega (arith, i));
+    }
+    unfetched-filed told now_told by.Absent n g counts st h i = record {
+      fault = false;
+      counted = rw k.uses (failed-never f now_f (omega (arith, counts)));
+      does = λ files x. unread most s told now_told files false st x (not-there most bytes told files by.Absent n (λ no. cc) g x);
+      most_work = λ files x. fetch-idle files false h i;
+      least_work = λ files x. fetch-least files false (omega (arith, h)) (omega (arith, i));
+    }
+    unfetched-filed told now_told by.Over n g counts st h i = record {
+      fault = false;
+      counted = rw k.uses (failed-never f now_f (omega (arith, counts)));
+      does = λ files x. unread most s told now_told files false st x (not-there most bytes told files by.Over n (λ no. cc) g x);
+      most_work = λ files x. fetch-idle files false h i;
+      least_work = λ files x. fetch-least files false (omega (arith, h)) (omega (arith, i));
+    }
+    unfetched-filed told now_told by.NoMemory n g counts st h i = absurd (n refl)
+
+    starved : (told now_told : Option Files) (now : Engine) (part : ℕ) → Stays told now_told → now_f ≡ f → ((files : Files) → Knows command told files → now ≡ starved_engine (engine_of s) files command part) → ((files : Files) → Knows command told files → IsAtMost (work_of most (engine_of s) files false command) v now_v c now_c) → Unfiled most (engine_of s) command told now_told f now_f v now_v c now_c now
+    starved told now_told now part st e is few = record {
+      fault = false;
+      counted = rw k.uses (failed-never f now_f (omega (arith, e)));
+      part = part;
+      state = is;
+      kept = λ files x. still-told told now_told files st x;
+      wanted = rw (k.early s) (k.takes s);
+      most_work = few;
+    }
+
+    pub unfetched-filed-or : {D : ℕ} {E : Type 0} (told now_told : Option Files) (fault : FetchFault) (result : Result (Told D) E) → TellsUnfetched fault result → Fetches told name most bytes (Err fault) → FetchCounts f now_f (Err fault) → Stays told now_told → now_v ≡ v → now_c ≡ c → FiledOr most (engine_of s) command told now_told f now_f v now_v c now_c (engine_of s) result
+    unfetched-filed-or told now_told fault (Ok reply) t g counts st h i = rw t.1 (unfetched-filed told now_told fault t.0 g counts st h i)
+    unfetched-filed-or told now_told fault (Err error) t g counts st h i =
+        starved told now_told (engine_of s) 0 st (rw t at counts) (λ files x. sym (k.none_in s files)) (λ files x. fetch-idle files false h i)
+
+    -- memory was missing behind a file that was read
+    pub fetched-starved : (told now_told : Option Files) (now : Engine) (part : ℕ) → Fetches told name most bytes (Ok tt) → Stays told now_told → now_f ≡ f → ((files : Files) → lookup name files ≡ Some bytes → now ≡ starved_engine (engine_of s) files command part) → ((files : Files) → lookup name files ≡ Some bytes → IsAtMost (work_of most (engine_of s) files false command) v now_v c now_c) → Unfiled most (engine_of s) command told now_told f now_f v now_v c now_c now
+    fetched-starved None now_told now part g st e is few = starved None now_told now part st e (λ files x. absurd (unknown files x)) (λ files x. absurd (unknown files x))
+    fetched-starved (Some old) now_told now part g st e is few =
+        starved (Some old) now_told now part st e (λ files x. is files (ap (lookup name) (sym x) ∙ g)) (λ files x. few files (ap (lookup name) (sym x) ∙ g))
 
 -- ---- load
 
-load-early : (s : Slot) (name : List ℕ) → early_refusal s (Command.Load name) ≡ None
-load-early s name = by-kind s.kind s.width s.dims s.max s.table s.cursors
+pub fetch-load : (name : List ℕ) → IsFetch (Command.Load name) name
+fetch-load name = record {
+  reads = refl;
+  uses = refl;
+  early = λ s. by-kind s.kind s.width s.dims s.max s.table s.cursors;
+  faulty = λ most files fault. refl;
+  takes = λ s. refl;
+  none_in = λ s files. refl;
+  least_visits = λ s files. refl;
+  least_changes = λ s files. refl;
+}
   where
     by-kind : (kind : Kind) (width dims max : ℕ) (table : List Row) (cursors : Named Cursor) → early_refusal (record { kind = kind; dims = dims; width = width; max = max; table = table; cursors = cursors }) (Command.Load name) ≡ None
     by-kind Points width dims max table cursors = refl
     by-kind Boxes width dims max table cursors = refl
-
--- the refusals of a load, by what was fetched and by what it was read as
-abbrev load_refusal : ℕ → Bool → Option (List ℕ) → Result (List Row) Reply → Option Reply
-load_refusal max fault fetched read = refuse_if (fault || is_none fetched) Reply.ErrorFile (refuse_if_bad read (refuse_if (nat_lt max (read_length read)) Reply.ErrorFull None))
-
-load-refusal : (most : ℕ) (s : Slot) (files : Files) (fault : Bool) (name : List ℕ) → refusal most (engine_of s) files fault (Command.Load name) ≡ load_refusal s.max fault (fetch most files name) (table_read s files (Command.Load name))
-load-refusal most s files fault name = refusal-parts most (engine_of s) files fault (Command.Load name) ∙ ap (λ r. or_else r (late_refusal most s files fault (Command.Load name))) (load-early s name)
-
--- a load that fetched no file
-none-fetched : (most : ℕ) (s : Slot) (files : Files) (fault : Bool) (name : List ℕ) → (fault || is_none (fetch most files name)) ≡ true → act most (engine_of s) files fault (Command.Load name) ≡ outcome (engine_of s) files (Reply.ErrorFile ∷ [])
-none-fetched most s files fault name h =
-    ap (λ r. unless_refused r (engine_of s) files (Command.Load name))
-    (load-refusal most s files fault name ∙ ap (λ b. refuse_if b Reply.ErrorFile (refuse_if_bad (table_read s files (Command.Load name)) (refuse_if (nat_lt s.max (read_length (table_read s files (Command.Load name)))) Reply.ErrorFull None))) h)
 
 -- what a load does with what it has read
 by-read : (kind : Kind) (t : AnyTable) (cursors : Named Cursor) (files : Files) (name : List ℕ) (read : Result (List Row) Reply) → table_read (slot_of kind t cursors) files (Command.Load name) ≡ read → unless_refused (refuse_if_bad read (refuse_if (nat_lt t.tree.max (read_length read)) Reply.ErrorFull None)) (engine_of (slot_of kind t cursors)) files (Command.Load name) ≡ outcome (engine_of (slot_of kind (read_table t read) cursors)) files (read_reply t.tree.max read ∷ [])
@@ -182,122 +349,25 @@ by-read kind t cursors files name (Ok rows) h =
       | false ↦ ap (load_outcome (engine_of (slot_of kind t cursors)) files) h
     ]
 
-load-does : (most : ℕ) (kind : Kind) (t : AnyTable) (cursors : Named Cursor) (files : Files) (name bytes : List ℕ) → fetch most files name ≡ Some bytes → lookup name files ≡ Some bytes → let read = read_snapshot kind t.dims bytes in act most (engine_of (slot_of kind t cursors)) files false (Command.Load name) ≡ outcome (engine_of (slot_of kind (read_table t read) cursors)) files (read_reply t.tree.max read ∷ [])
-load-does most kind t cursors files name bytes f l =
+load-does : (most : ℕ) (kind : Kind) (t : AnyTable) (cursors : Named Cursor) (files : Files) (name bytes : List ℕ) → length bytes ≤ most → lookup name files ≡ Some bytes → let read = read_snapshot kind t.dims bytes in act most (engine_of (slot_of kind t cursors)) files false (Command.Load name) ≡ outcome (engine_of (slot_of kind (read_table t read) cursors)) files (read_reply t.tree.max read ∷ [])
+load-does most kind t cursors files name bytes short l =
     let s = slot_of kind t cursors in
     let read = table_read s files (Command.Load name) in
     let is : read ≡ read_snapshot kind t.dims bytes = ap (λ x. read_snapshot kind t.dims (bytes_of x)) l in
-    ap (λ r. unless_refused r (engine_of s) files (Command.Load name)) (load-refusal most s files false name ∙ ap (λ x. load_refusal s.max false x read) f)
+    fetched-act (Command.Load name) name (fetch-load name) most s files bytes l short
     ∙ by-read kind t cursors files name read refl
     ∙ ap (λ x. outcome (engine_of (slot_of kind (read_table t x) cursors)) files (read_reply t.tree.max x ∷ [])) is
 
--- what was fetched
-fetched : (most : ℕ) (files : Files) (name bytes : List ℕ) → lookup name files ≡ Some bytes → length bytes ≤ most → fetch most files name ≡ Some bytes
-fetched most files name bytes l h = ap (short_enough most) l ∙ ap (λ b. if b then Some bytes else None) (le-leb (length bytes) most h)
-
-unfetched : (most : ℕ) (files : Files) (name bytes : List ℕ) (fault : FetchFault) → (fault ≡ by.NoMemory → ⊥) → (fault ≡ by.Failed → ⊥) → Fetches (Some files) name most bytes (Err fault) → is_none (fetch most files name) ≡ true
-unfetched most files name bytes by.Failed n m h = absurd (m refl)
-unfetched most files name bytes by.Absent n m h = ap (λ x. is_none (short_enough most x)) h
-unfetched most files name bytes by.NoMemory n m h = absurd (n refl)
-unfetched most files name bytes by.Over n m h = ap (λ x. is_none (short_enough most x)) h.1 ∙ ap (λ b. is_none (if b then Some h.0 else None)) (lt-leb (length h.0) most h.2)
-
-unknown : (name : List ℕ) (files : Files) → Knows (Command.Load name) None files → ⊥
-unknown name files k = let clash : true ≡ false = k in cc
-
--- a load in which no file was read
-unread : (most : ℕ) (s : Slot) (name : List ℕ) (told now_told : Option Files) (files : Files) (fault : Bool) → Stays told now_told → Knows (Command.Load name) told files → (fault || is_none (fetch most files name)) ≡ true → Leads (act most (engine_of s) files fault (Command.Load name)) (engine_of s) told now_told (Reply.ErrorFile ∷ [])
-unread most s name None now_told files fault st k h = absurd (unknown name files k)
-unread most s name (Some old) now_told files fault st k h = record { files = files; is = none-fetched most s files fault name h; told_files = st ∙ ap Some k }
-
-not-there : (most : ℕ) (name bytes : List ℕ) (told : Option Files) (files : Files) (fault : FetchFault) → (fault ≡ by.NoMemory → ⊥) → (fault ≡ by.Failed → ⊥) → Fetches told name most bytes (Err fault) → Knows (Command.Load name) told files → (false || is_none (fetch most files name)) ≡ true
-not-there most name bytes None files fault n m g k = absurd (unknown name files k)
-not-there most name bytes (Some old) files fault n m g k = ap (λ x. is_none (fetch most x name)) (sym k) ∙ unfetched most old name bytes fault n m g
-
-none-least : (r : Option Reply) → least_unless r 0 ≡ 0
-none-least (Some r) = refl
-none-least None = refl
-
 module _ (most : ℕ) (kind : Kind) (t : AnyTable) (cursors : Named Cursor) (name bytes : List ℕ) (f now_f v c now_c : ℕ) where
-  load-least : (files : Files) (fault : Bool) → c ≤ now_c → IsAtLeast (work_of most (engine_of (slot_of kind t cursors)) files fault (Command.Load name)) v v c now_c
-  load-least files fault h = rw (none-least (refusal most (engine_of (slot_of kind t cursors)) files fault (Command.Load name))) (record { enough_visits = omega arith; enough_changes = omega (arith, h) })
-
-  load-most : (files : Files) (fault : Bool) → lookup name files ≡ Some bytes → 16 * now_c ≤ 16 * c + length bytes → IsAtMost (work_of most (engine_of (slot_of kind t cursors)) files fault (Command.Load name)) v v c now_c
-  load-most files fault l h = rw l (record { few_visits = omega arith; few_changes = omega (arith, h) })
-
-  load-idle : (files : Files) (fault : Bool) → now_c ≡ c → IsAtMost (work_of most (engine_of (slot_of kind t cursors)) files fault (Command.Load name)) v v c now_c
-  load-idle files fault h = record { few_visits = omega arith; few_changes = omega (arith, h) }
-
-  -- a file was read, and its table is there or its fault is told
-  read-filed : (told now_told : Option Files) (now : AnyTable) (reply : Reply) → Fetches told name most bytes (Ok tt) → length bytes ≤ most → Stays told now_told → now_f ≡ f → now ≡ read_table t (read_snapshot kind t.dims bytes) → reply ≡ read_reply t.tree.max (read_snapshot kind t.dims bytes) → c ≤ now_c → 16 * now_c ≤ 16 * c + length bytes → Filed most (engine_of (slot_of kind t cursors)) (Command.Load name) told now_told f now_f v v c now_c (engine_of (slot_of kind now cursors)) reply
-  read-filed None now_told now reply g short s e is said later few = record {
-    fault = false;
-    counted = failed-never f now_f (omega (arith, e));
-    does = λ files k. absurd (unknown name files k);
-    most_work = λ files k. absurd (unknown name files k);
-    least_work = λ files k. load-least files false later;
-  }
-  read-filed (Some old) now_told now reply g short s e is said later few = record {
-    fault = false;
-    counted = failed-never f now_f (omega (arith, e));
-    does = λ files k.
-        let l : lookup name files ≡ Some bytes = ap (lookup name) (sym k) ∙ g in
-        record {
-          files = files;
-          is = load-does most kind t cursors files name bytes (fetched most files name bytes l short) l ∙ (λ i. outcome (engine_of (slot_of kind (sym is i) cursors)) files (sym said i ∷ []));
-          told_files = s ∙ ap Some k;
-        };
-    most_work = λ files k. load-most files false (ap (lookup name) (sym k) ∙ g) few;
-    least_work = λ files k. load-least files false later;
-  }
-
-  -- no file could be read
-  pub unfetched-filed : (told now_told : Option Files) (fault : FetchFault) → (fault ≡ by.NoMemory → ⊥) → Fetches told name most bytes (Err fault) → FetchCounts f now_f (Err fault) → Stays told now_told → now_c ≡ c → Filed most (engine_of (slot_of kind t cursors)) (Command.Load name) told now_told f now_f v v c now_c (engine_of (slot_of kind t cursors)) Reply.ErrorFile
-  unfetched-filed told now_told by.Failed n g counts s e = record {
-    fault = true;
-    counted = failed-once f now_f counts.0 counts.1;
-    does = λ files k. unread most (slot_of kind t cursors) name told now_told files true s k refl;
-    most_work = λ files k. load-idle files true e;
-    least_work = λ files k. load-least files true (omega (arith, e));
-  }
-  unfetched-filed told now_told by.Absent n g counts s e = record {
-    fault = false;
-    counted = failed-never f now_f (omega (arith, counts));
-    does = λ files k. unread most (slot_of kind t cursors) name told now_told files false s k (not-there most name bytes told files by.Absent n (λ no. cc) g k);
-    most_work = λ files k. load-idle files false e;
-    least_work = λ files k. load-least files false (omega (arith, e));
-  }
-  unfetched-filed told now_told by.Over n g counts s e = record {
-    fault = false;
-    counted = failed-never f now_f (omega (arith, counts));
-    does = λ files k. unread most (slot_of kind t cursors) name told now_told files false s k (not-there most name bytes told files by.Over n (λ no. cc) g k);
-    most_work = λ files k. load-idle files false e;
-    least_work = λ files k. load-least files false (omega (arith, e));
-  }
-  unfetched-filed told now_told by.NoMemory n g counts s e = absurd (n refl)
-
-  -- memory was missing for its bytes, or for its table
-  starved-filed : (told now_told : Option Files) (now : AnyTable) → Stays told now_told → now_f ≡ f → now ≡ t → ((files : Files) → Knows (Command.Load name) told files → IsAtMost (work_of most (engine_of (slot_of kind t cursors)) files false (Command.Load name)) v v c now_c) → Unfiled most (engine_of (slot_of kind t cursors)) (Command.Load name) told now_told f now_f v v c now_c (engine_of (slot_of kind now cursors))
-  starved-filed told now_told now s e is work = record {
-    fault = false;
-    counted = failed-never f now_f (omega (arith, e));
-    part = 0;
-    state = λ files k. ap (λ x. engine_of (slot_of kind x cursors)) is;
-    kept = λ files k. still-told told now_told files s k;
-    wanted = rw (load-early (slot_of kind t cursors) name) refl;
-    most_work = work;
-  }
-
-  pub unfetched-starved : (told now_told : Option Files) → Stays told now_told → now_f ≡ f → now_c ≡ c → Unfiled most (engine_of (slot_of kind t cursors)) (Command.Load name) told now_told f now_f v v c now_c (engine_of (slot_of kind t cursors))
-  unfetched-starved told now_told s e same = starved-filed told now_told t s e refl (λ files k. load-idle files false same)
-
-  pub unfetched-filed-or : {D : ℕ} {E : Type 0} (told now_told : Option Files) (fault : FetchFault) (result : Result (Told D) E) → TellsUnfetched fault result → Fetches told name most bytes (Err fault) → FetchCounts f now_f (Err fault) → Stays told now_told → now_c ≡ c → FiledOr most (engine_of (slot_of kind t cursors)) (Command.Load name) told now_told f now_f v v c now_c (engine_of (slot_of kind t cursors)) result
-  unfetched-filed-or told now_told fault (Ok reply) h g counts s same = rw h.1 (unfetched-filed told now_told fault h.0 g counts s same)
-  unfetched-filed-or told now_told fault (Err error) h g counts s same = unfetched-starved told now_told s (rw h at counts) same
-
-  read-work : (told : Option Files) → Fetches told name most bytes (Ok tt) → 16 * now_c ≤ 16 * c + length bytes → (files : Files) → Knows (Command.Load name) told files → IsAtMost (work_of most (engine_of (slot_of kind t cursors)) files false (Command.Load name)) v v c now_c
-  read-work None g few files k = absurd (unknown name files k)
-  read-work (Some old) g few files k = load-most files false (ap (lookup name) (sym k) ∙ g) few
+  load-most : 16 * now_c ≤ 16 * c + length bytes → (files : Files) → lookup name files ≡ Some bytes → IsAtMost (work_of most (engine_of (slot_of kind t cursors)) files false (Command.Load name)) v v c now_c
+  load-most few files l = rw l (record { few_visits = omega arith; few_changes = omega (arith, few) })
 
   pub read-filed-or : {D : ℕ} {E : Type 0} (told now_told : Option Files) (now : AnyTable) (result : Result (Told D) E) → Fetches told name most bytes (Ok tt) → length bytes ≤ most → Stays told now_told → now_f ≡ f → LoadsOr kind t bytes now result → c ≤ now_c → 16 * now_c ≤ 16 * c + length bytes → FiledOr most (engine_of (slot_of kind t cursors)) (Command.Load name) told now_told f now_f v v c now_c (engine_of (slot_of kind now cursors)) result
-  read-filed-or told now_told now (Ok reply) g short s e h later few = read-filed told now_told now (reply_of reply) g short s e h.0 h.1 later few
-  read-filed-or told now_told now (Err error) g short s e h later few = starved-filed told now_told now s e h (read-work told g few)
+  read-filed-or told now_told now (Ok reply) g short st e h later few =
+      fetched-filed (Command.Load name) name (fetch-load name) most (slot_of kind t cursors) bytes f now_f v v c now_c told now_told (engine_of (slot_of kind now cursors)) (reply_of reply) g st e
+      (λ files l. load-does most kind t cursors files name bytes short l ∙ (λ i. outcome (engine_of (slot_of kind (sym h.0 i) cursors)) files (sym h.1 i ∷ [])))
+      (load-most few) (omega arith) later
+  read-filed-or told now_told now (Err error) g short st e h later few =
+      fetched-starved (Command.Load name) name (fetch-load name) most (slot_of kind t cursors) bytes f now_f v v c now_c told now_told (engine_of (slot_of kind now cursors)) 0 g st e
+      (λ files l. ap (λ x. engine_of (slot_of kind x cursors)) h)
+      (load-most few)

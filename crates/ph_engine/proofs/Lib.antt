@@ -1,5 +1,6 @@
 pub mod Names
 pub mod Replies
+pub mod SizeLines
 pub mod Listed
 pub mod Hits
 pub mod Asked
@@ -20,7 +21,12 @@ pub mod Commanded
 pub mod Drafts
 pub mod Filed
 pub mod Loads
+pub mod OwnDims
+pub mod Checked
+pub mod Soaks
+pub mod Whole
 pub mod Ends
 pub mod Slotted
+pub mod Recorded
 pub mod Paged
 pub mod Lifted

@@ -1,10 +1,9 @@
 -- Tables that are read from bytes.
-use Rattle.std.proofs.Common.{◌≡◌, ◌≤◌, ℕ, Bool, true, false, List, [], ◌∷◌, length, refl, ap, sym, ◌∙◌, subst, arith}
+use Rattle.std.proofs.Common.{◌≡◌, ℕ, true, false, List, [], ◌∷◌, length, refl, ap, sym, ◌∙◌}
 use Rattle.std.specs.Prelude.{Option, Some, None, option_map, Result, Ok, Err, nat_lt, if◌then◌else◌}
-use Rattle.std.specs.List.{list_all}
 use Rattle.std.proofs.lemmas.Bool.{and_parts}
 use Rattle.ph_specs.specs.Coordinate.{is_box}
-use Rattle.ph_specs.specs.KindRows.{row_fits, rows_fit}
+use Rattle.ph_specs.specs.KindRows.{rows_fit}
 use Rattle.ph_specs.specs.Load.{Fault, dims_fit, load_fault}
 use Rattle.ph_specs.specs.Reply.{Reply}
 use Rattle.ph_specs.specs.SavedTable.{fault_reply, read_unless, read_snapshot}

@@ -31,7 +31,7 @@ use Rattle.ph_engine.proofs.Names.{true-is, is-true, sorted-entered, length-ente
 
 -- ---- rows that are boxes
 
-boxes-put : (w : ℕ) (rows : List Row) (p : List ℤ) (v : ℕ) → IsBox p → AreBoxes rows → AreBoxes (put w rows p v)
+pub boxes-put : (w : ℕ) (rows : List Row) (p : List ℤ) (v : ℕ) → IsBox p → AreBoxes rows → AreBoxes (put w rows p v)
 boxes-put w [] p v b h = (b, tt)
 boxes-put w (r ∷ rows) p v b h =
     elim (same_point r.point p) as (λ t. AreBoxes (if t then row p v ∷ rows else (if before w p r.point then row p v ∷ r ∷ rows else r ∷ put w rows p v))) [
@@ -66,7 +66,7 @@ pub record KeepsFrame (kind : Kind) (t : AnyTable) (command : Command) : Type 0 
   pub same : (r : Option Reply) → let s = current (unless_refused r (engine_of (slot_of Points t [])) [] command).engine in (s.width ≡ t.tree.width) × (s.dims ≡ t.dims)
   pub boxes : (r : Option Reply) → kind ≡ Boxes → AreBoxes t.tree.table → AreBoxes (current (unless_refused r (engine_of (slot_of Points t [])) [] command).engine).table
 
-of-kind-still : (kind : Kind) (t now : AnyTable) → now.dims ≡ t.dims → (kind ≡ Boxes → AreBoxes t.tree.table → AreBoxes now.tree.table) → IsOfKind kind t → IsOfKind kind now
+pub of-kind-still : (kind : Kind) (t now : AnyTable) → now.dims ≡ t.dims → (kind ≡ Boxes → AreBoxes t.tree.table → AreBoxes now.tree.table) → IsOfKind kind t → IsOfKind kind now
 of-kind-still Points t now d b h = h
 of-kind-still Boxes t now d b h = (rw d h.0, b refl h.1)
 

@@ -5,17 +5,17 @@ use Rattle.ph_io.specs.Giving.{Given}
 use Rattle.ph_specs.specs.Lines.{lines}
 use Rattle.ph_specs.specs.Engine.{written}
 use Rattle.ph_engine.specs.Beside.{Beside, Tells}
-use Rattle.ph_engine.specs.BuiltMachine.{Whole, built_run}
+use Rattle.ph_engine.specs.ScriptMachine.{Whole, script_run}
 use Rattle.ph_engine.specs.Machine.{faults_of}
 
--- What was written, and the state behind it, are those of a run of the commands that are built over all lines of the
+-- What was written, and the state behind it, are those of a run over all lines of the
 -- source. The files failed in no more of the lines than their count tells.
 pub record RunsAsDefined (most : ℕ) (left now_left : Option (List ℕ)) (b now_b : Beside) (s now : Whole) : Type 0 where
   pub bytes : List ℕ
   pub consumed : Consumes left now_left bytes
   pub ended : IsAtEnd now_left
   pub faults : List Bool
-  pub told : Given b.sink now_b.sink (written (built_run most s faults (lines bytes)))
-  pub engine : now.engine ≡ (built_run most s faults (lines bytes)).engine
-  pub files : now.files ≡ (built_run most s faults (lines bytes)).files
+  pub told : Given b.sink now_b.sink (written (script_run most s faults (lines bytes)))
+  pub engine : now.engine ≡ (script_run most s faults (lines bytes)).engine
+  pub files : now.files ≡ (script_run most s faults (lines bytes)).files
   pub filings : Tells b.filings now_b.filings (faults_of faults)

@@ -5,7 +5,7 @@ use Rattle.ph_io.specs.Causes.{Rose}
 use Rattle.ph_io.specs.Shelf.{Stays}
 use Rattle.ph_engine.specs.Drafting.{Drafted, Follows}
 
-stays_itself : {X : Type 0} (a : Option X) → Stays a a
+pub stays_itself : {X : Type 0} (a : Option X) → Stays a a
 stays_itself None = tt
 stays_itself (Some x) = refl
 

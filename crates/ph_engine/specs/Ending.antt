@@ -1,25 +1,17 @@
 -- How a call of the program ends, by what its words ask for.
-use Rattle.std.specs.Prelude.{◌≡◌, ◌≤◌, ◌⊎◌, ℕ, List}
+use Rattle.std.specs.Prelude.{◌≡◌, ◌≤◌, ◌⊎◌}
 use Rattle.ph_io.specs.Causes.{Rose}
-use Rattle.ph_io.specs.Giving.{Given}
-use Rattle.ph_specs.specs.Program.{Task, task, usage_line}
-use Rattle.ph_specs.specs.Program.Task.{Run, Usage as NoForm}
+use Rattle.ph_io.specs.Giving.{Given, Taken}
+use Rattle.ph_io.specs.Writing.{WritesFront}
+use Rattle.ph_specs.specs.Program.{usage_line}
 use Rattle.ph_engine.specs.ByDefinition.{RunsAsDefined}
 use Rattle.ph_engine.specs.Seen.{Seen}
 use Rattle.ph_engine.specs.Serving.{ServesScript}
 use Rattle.ph_engine.specs.Standing.{IsKnown, whole_of}
-use Rattle.ph_engine.specs.Statuses.{IsRead, HasAtMost, UsageCut}
+use Rattle.ph_engine.specs.Statuses.{IsRead, HasAtMost, HasWriteCause}
 use Rattle.ph_engine.specs.declared.status.Limits.{Limits}
 use Rattle.ph_engine.specs.declared.status.Status.{Status}
 use Rattle.ph_engine.specs.declared.status.Status.TheVariants.{Usage, ReadFault, WriteFault, Memory}
-
--- what words ask for that is built: any other words are of no form yet
-abbrev pub built_task : Task → Task
-built_task Run = Run
-built_task _ = NoForm
-
-abbrev pub asks : List (List ℕ) → Task
-asks words = built_task (task words)
 
 -- A run of a script. Where the files were told, it ends in one of the ways of a run over them; one that is read to its end is
 -- the run of the definition. A fault is answered only where its count rose, and no count of faults of the files falls. A script that is short enough, with no fault, is
@@ -38,10 +30,14 @@ abbrev pub after_writes : Seen → Seen → Seen
 after_writes before now =
     record before { writes = now.writes; at = record (before.at) { beside = record (before.at.beside) { sink = now.at.beside.sink } } }
 
+-- the usage line was given to a sink, or a front of it
+pub record TellsUsage (sink now_sink : Taken) (status : Status) : Type 0 where
+  pub ends : (status ≡ Usage) ⊎ (status ≡ WriteFault)
+  pub told : status ≡ Usage → Given sink now_sink usage_line
+  pub cut : status ≡ WriteFault → WritesFront sink now_sink usage_line
+
 -- The usage line. Nothing but the sink is touched.
 pub record UsageEnds (before now : Seen) (status : Status) : Type 0 where
-  pub ends : (status ≡ Usage) ⊎ (status ≡ WriteFault)
-  pub told : status ≡ Usage → Given before.at.beside.sink now.at.beside.sink usage_line
-  pub cut : status ≡ WriteFault → UsageCut before.at.beside.sink now.at.beside.sink
-  pub write_cause : status ≡ WriteFault → Rose before.writes now.writes
+  pub line : TellsUsage before.at.beside.sink now.at.beside.sink status
+  pub cause : HasWriteCause before.writes now.writes status
   pub untouched : now ≡ after_writes before now

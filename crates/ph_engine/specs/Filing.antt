@@ -1,5 +1,5 @@
 -- What commands on files do, before their replies are told.
-use Rattle.std.specs.Prelude.{◌≡◌, ◌≤◌, ℕ, Bool, true, nat_lt, if◌then◌else◌, List, [], ◌∷◌, length, Option, Some, None, option_map, Result, Ok, Err}
+use Rattle.std.specs.Prelude.{◌≡◌, ◌≤◌, ℕ, Bool, true, nat_lt, if◌then◌else◌, List, [], ◌∷◌, length, Option, Some, option_map, Result, Ok, Err}
 use Rattle.ph_io.specs.declared.files.FetchFault.{FetchFault}
 use Rattle.ph_io.specs.declared.files.FetchFault.TheVariants as unread
 use Rattle.ph_io.specs.declared.streams.Failed.{Failed}

@@ -17,10 +17,14 @@ pub mod Doing
 pub mod Drafting
 pub mod DraftLaws
 pub mod Filing
-pub mod BuiltMachine
+pub mod Recording
+pub mod ScriptMachine
 pub mod ByDefinition
 pub mod Showing
 pub mod Standing
 pub mod Serving
 pub mod Seen
+pub mod Asking
+pub mod Soaking
 pub mod Ending
+pub mod Checking

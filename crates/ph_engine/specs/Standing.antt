@@ -2,7 +2,7 @@
 use Rattle.std.specs.Prelude.{ℕ, List, Option}
 use Rattle.ph_specs.specs.State.{Engine, Files}
 use Rattle.ph_engine.specs.Beside.{Beside, beside, AreTold}
-use Rattle.ph_engine.specs.BuiltMachine.{Whole, whole, told_files}
+use Rattle.ph_engine.specs.ScriptMachine.{Whole, whole, told_files}
 
 pub record Standing : Type 0 where
   pub engine : Engine

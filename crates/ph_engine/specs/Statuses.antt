@@ -1,7 +1,5 @@
 -- What a status says.
-use Rattle.std.specs.Prelude.{◌≤◌, ◌≡◌, ◌⊎◌, ◌<◌, ℕ, List, [], ◌∷◌, length, take, codes, Bool, if◌then◌else◌, Option, Some, None, Result, IsErrOf}
-use Rattle.ph_io.specs.Giving.{Taken, Given}
-use Rattle.ph_specs.specs.Program.{usage_line}
+use Rattle.std.specs.Prelude.{◌≤◌, ◌≡◌, ◌⊎◌, ℕ, List, length, Bool, if◌then◌else◌, Option, Some, None, Result, IsErrOf}
 use Rattle.ph_engine.specs.declared.status.Status.{Status}
 use Rattle.ph_engine.specs.declared.status.Status.TheVariants.{Clean, Refused, Usage, ReadFault, WriteFault, Memory}
 use Rattle.ph_engine.specs.declared.status.Stop.{Stop}
@@ -15,10 +13,6 @@ IsRead status = (status ≡ Clean) ⊎ (status ≡ Refused)
 abbrev pub read_status : Bool → Status
 read_status refused = if refused then Refused else Clean
 
--- the words ask for a run
-abbrev pub IsRun : List (List ℕ) → Type 0
-IsRun words = words ≡ codes "run" ∷ []
-
 abbrev pub stop_status : Stop → Status
 stop_status stop.WriteFault = WriteFault
 stop_status stop.NoMemory = Memory
@@ -27,6 +21,11 @@ stop_status stop.NoMemory = Memory
 pub record StopHasCause {T : Type 0} (before now : ℕ) (result : Result T Stop) : Type 0 where
   pub later : before ≤ now
   pub write : IsErrOf result stop.WriteFault → Rose before now
+
+-- the same by a status
+pub record HasWriteCause (before now : ℕ) (status : Status) : Type 0 where
+  pub later : before ≤ now
+  pub write : status ≡ WriteFault → Rose before now
 
 -- a fault is answered only where its count rose, and a run never answers that it is none
 pub record HasCauses (reads now_reads writes now_writes : ℕ) (status : Status) : Type 0 where
@@ -38,9 +37,3 @@ pub record HasCauses (reads now_reads writes now_writes : ℕ) (status : Status)
 abbrev pub HasAtMost : ℕ → Option (List ℕ) → Type 0
 HasAtMost most None = ⊥
 HasAtMost most (Some bytes) = length bytes ≤ most
-
--- a front of the usage line was written
-pub record UsageCut (old new : Taken) : Type 0 where
-  pub count : ℕ
-  pub short : count < length usage_line
-  pub told : Given old new (take count usage_line)

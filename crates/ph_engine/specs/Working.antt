@@ -9,7 +9,7 @@ use Rattle.ph_specs.specs.Boxes.{overlaps_low, overlaps_high, inside_low, inside
 use Rattle.ph_specs.specs.Engine.{same_slots}
 use Rattle.ph_specs.specs.Named.{lookup}
 use Rattle.ph_specs.specs.Window.{Cursor}
-use Rattle.ph_specs.specs.Refusals.{refusal, bytes_of}
+use Rattle.ph_specs.specs.Refusals.{refusal, bytes_of, read_length, import_rows}
 use Rattle.ph_specs.specs.State.{Slot, Engine, Files, current}
 use Rattle.ph_engine.specs.Machine.{Work, one_if}
 
@@ -48,6 +48,8 @@ bounds s files (Command.Covers q) = window_bounds s (covers_low s.width (low_cor
 bounds s files (Command.Page name n) = page_bounds s (lookup name s.cursors)
 bounds s files (Command.Save name) = let n = nodes_of s in work n n 0 0
 bounds s files (Command.Load name) = work 0 0 (length (bytes_of (lookup name files)) / 16) 0
+bounds s files (Command.Import name header) = let n = read_length (import_rows s files name header) in work (4 * s.width * n) 0 (2 * n) 0
+bounds s files (Command.Export name) = let n = nodes_of s in work n n 0 0
 bounds s files Command.Statistics = let n = nodes_of s in work n n 0 0
 bounds s files _ = no_work
 

@@ -1,5 +1,6 @@
 //! The state of the program, and what a command does to it.
-ghost use Rattle.std.specs.Prelude.{◌≡◌, ◌<◌, ◌≤◌, ◌^◌};
+ghost use Rattle.std.specs.Prelude.{◌≡◌, ◌<◌, ◌≤◌, ◌^◌, []};
+ghost use Rattle.ph_specs.specs.Program.{opened};
 ghost use Rattle.ph_specs.specs.Reply.{Reply as Replied};
 ghost use Rattle.ph_specs.specs.State.{new_engine, current, slot_at};
 ghost use Rattle.ph_script.specs.Meaning.{command_of, reply_of};
@@ -55,6 +56,14 @@ impl Engine {
             Which::A => &self.a,
             Which::B => &self.b,
         }
+    }
+
+    // Makes slot `a` the current one, and a new table of points of two dimensions. It takes no memory.
+    pub(crate) fn open_points(&mut self, alloc: Global)
+        ensures { self.new ≡ opened self.old [] }
+    {
+        self.a = Slot::new(alloc);
+        self.current = Which::A;
     }
 
     /// The number of dimensions of the current slot's points: 1 to 8. A box has its two corners.

@@ -105,7 +105,7 @@ pub(crate) fn load_table<F: Files, C: Ledger>(
 }
 
 // What is replied where a file could not be read.
-fn fetch_reply(fault: FetchFault) -> Result<Reply<1>, NoMemory>
+pub(crate) fn fetch_reply(fault: FetchFault) -> Result<Reply<1>, NoMemory>
     ensures { TellsUnfetched fault result }
 {
     match fault {
@@ -150,7 +150,7 @@ fn replace(tree: &mut AnyTree, mut loaded: AnyTree) -> Reply<1>
 }
 
 // What is replied to a fault of bytes.
-fn fault_reply(fault: LoadFault) -> Result<Reply<1>, NoMemory>
+pub(crate) fn fault_reply(fault: LoadFault) -> Result<Reply<1>, NoMemory>
     ensures { TellsFault fault result }
 {
     match fault {

@@ -2,6 +2,7 @@
 #![tactic(auto)]
 
 mod boxes;
+mod checking;
 mod commands;
 mod cursors;
 mod distances;
@@ -11,10 +12,14 @@ mod filing;
 mod listing;
 mod output;
 mod program;
+mod records;
 mod refusals;
 mod run;
+mod sizes;
 mod slot;
+mod soaking;
 mod status;
+mod task;
 #[cfg(test)]
 mod tests;
 mod trees;

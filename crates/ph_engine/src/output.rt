@@ -35,6 +35,8 @@ fn answer_of<const D: usize>(reply: &Reply<D>) -> Answer
         | Reply::Ready
         | Reply::Saved(_)
         | Reply::Loaded(_)
+        | Reply::Imported(_)
+        | Reply::Exported(_)
         | Reply::Stats { .. }
         | Reply::Using(_)
         | Reply::Same
@@ -57,7 +59,11 @@ fn answer_of<const D: usize>(reply: &Reply<D>) -> Answer
         | Reply::BadDims
         | Reply::BadShort(_)
         | Reply::BadNode(_)
-        | Reply::BadExtra(_) => Answer::Refused,
+        | Reply::BadExtra(_)
+        | Reply::BadFields(_)
+        | Reply::BadNumber(_)
+        | Reply::BadRange(_)
+        | Reply::BadReversed(_) => Answer::Refused,
     }
 }
 

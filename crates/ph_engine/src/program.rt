@@ -1,13 +1,19 @@
 //! The program as one call.
-ghost use Rattle.std.specs.Prelude.{◌≡◌, ◌≢◌, ◌<◌, ◌^◌, ◌↔◌, IsTrue, map, string_bytes};
-ghost use Rattle.ph_specs.specs.Program.{Task};
-ghost use Rattle.ph_engine.specs.Ending.{asks, RunEnds, UsageEnds};
+ghost use Rattle.std.specs.Prelude.{◌≡◌, ◌≢◌, ◌<◌, ◌^◌, ℕ, List, map, string_bytes};
+ghost use Rattle.ph_specs.specs.Program.{Task as Asked, task};
+ghost use Rattle.ph_engine.specs.Checking.{CheckEnds};
+ghost use Rattle.ph_engine.specs.Ending.{RunEnds, UsageEnds, TellsUsage};
 ghost use Rattle.ph_engine.specs.Seen.{seen};
-ghost use Rattle.ph_engine.specs.Statuses.{IsRun};
+ghost use Rattle.ph_engine.specs.Soaking.{SoakEnds};
+ghost use Rattle.ph_engine.specs.Statuses.{HasWriteCause};
+ghost use Rattle.ph_io.specs.Giving.{taken_of};
 
+use crate::checking::check;
 use crate::engine::Engine;
 use crate::run::run;
+use crate::soaking::soak;
 use crate::status::{Limits, Status};
+use crate::task::{Task, task_of};
 use ph_io::{Failed, Files, Sink, Source, write_piece};
 use ph_steps::Steps;
 use std::alloc::Global;
@@ -18,9 +24,14 @@ const USAGE: &str = "usage: phq run | phq check FILE | phq soak N START\n";
 /// Does all that the program does, by the words behind its name.
 ///
 /// With the one word `run` it reads a script from the source and gives the replies to its lines to the sink, in their
-/// order. Tables are saved to the files and loaded from them. Any other words get the usage line, and touch nothing else. A run takes
-/// two buffers of about 4,096 bytes before its first read, and memory for new rows and for a table that is loaded; it takes none for a
-/// line or a reply. The counters rise by the visits and the changes of the tree's nodes.
+/// order. Tables go to the files and come from them, as snapshots and as comma-separated rows. With `check` and the name of a file it tells
+/// whether the file is a snapshot, by one line. With `soak`, a count and a start it makes slot a current and new, does so many drawn
+/// commands in it and tells the sizes of its tree, by one line. Any other words get the usage line, and touch nothing else. Only a run reads
+/// the source.
+///
+/// A run takes two buffers of about 4,096 bytes before its first read, and memory for new rows, for a file that is read and for
+/// the rows in it; it takes none for a line or a reply. A check takes memory for the bytes of the file and for its table. The
+/// counters rise by the visits and the changes of the tree's nodes.
 pub fn top<S: Source, O: Sink, F: Files, V: Ledger, C: Ledger>(
     alloc: Global,
     words: &[String],
@@ -35,24 +46,27 @@ pub fn top<S: Source, O: Sink, F: Files, V: Ledger, C: Ledger>(
     requires script { limits.now.script_bytes < 2 ^ 63 }
     requires file { limits.now.file_bytes < 2 ^ 63 }
 
-    ensures run { asks (map string_bytes words.now) ≡ Task.Run → RunEnds limits.now (seen (S.left src.old) (S.faults src.old) (O.written out.old) (O.amount out.old) (O.faults out.old) (F.files files.old) (F.faults files.old) visits.old changes.old eng.old) (seen (S.left src.new) (S.faults src.new) (O.written out.new) (O.amount out.new) (O.faults out.new) (F.files files.new) (F.faults files.new) visits.new changes.new eng.new) result }
-    ensures usage { asks (map string_bytes words.now) ≡ Task.Usage → UsageEnds (seen (S.left src.old) (S.faults src.old) (O.written out.old) (O.amount out.old) (O.faults out.old) (F.files files.old) (F.faults files.old) visits.old changes.old eng.old) (seen (S.left src.new) (S.faults src.new) (O.written out.new) (O.amount out.new) (O.faults out.new) (F.files files.new) (F.faults files.new) visits.new changes.new eng.new) result }
-    ensures source { asks (map string_bytes words.now) ≢ Task.Run → src.new ≡ src.old }
+    ensures run { task (map string_bytes words.now) ≡ Asked.Run → RunEnds limits.now (seen (S.left src.old) (S.faults src.old) (O.written out.old) (O.amount out.old) (O.faults out.old) (F.files files.old) (F.faults files.old) visits.old changes.old eng.old) (seen (S.left src.new) (S.faults src.new) (O.written out.new) (O.amount out.new) (O.faults out.new) (F.files files.new) (F.faults files.new) visits.new changes.new eng.new) result }
+    ensures check { (file : List ℕ) → task (map string_bytes words.now) ≡ Asked.Check file → CheckEnds limits.now.file_bytes file (seen (S.left src.old) (S.faults src.old) (O.written out.old) (O.amount out.old) (O.faults out.old) (F.files files.old) (F.faults files.old) visits.old changes.old eng.old) (seen (S.left src.new) (S.faults src.new) (O.written out.new) (O.amount out.new) (O.faults out.new) (F.files files.new) (F.faults files.new) visits.new changes.new eng.new) result }
+    ensures soak { (n start : ℕ) → task (map string_bytes words.now) ≡ Asked.Soak n start → SoakEnds limits.now.file_bytes n start (seen (S.left src.old) (S.faults src.old) (O.written out.old) (O.amount out.old) (O.faults out.old) (F.files files.old) (F.faults files.old) visits.old changes.old eng.old) (seen (S.left src.new) (S.faults src.new) (O.written out.new) (O.amount out.new) (O.faults out.new) (F.files files.new) (F.faults files.new) visits.new changes.new eng.new) result }
+    ensures usage { task (map string_bytes words.now) ≡ Asked.Usage → UsageEnds (seen (S.left src.old) (S.faults src.old) (O.written out.old) (O.amount out.old) (O.faults out.old) (F.files files.old) (F.faults files.old) visits.old changes.old eng.old) (seen (S.left src.new) (S.faults src.new) (O.written out.new) (O.amount out.new) (O.faults out.new) (F.files files.new) (F.faults files.new) visits.new changes.new eng.new) result }
+    ensures source { task (map string_bytes words.now) ≢ Asked.Run → src.new ≡ src.old }
 {
-    if is_run(words) {
-        return run(alloc, src, out, files, eng, limits, visits, changes);
-    }
-    match write_piece(out, USAGE.as_bytes()) {
-        Ok(()) => Status::Usage,
-        Err(Failed) => Status::WriteFault,
+    match task_of(words) {
+        Task::Run => run(alloc, src, out, files, eng, limits, visits, changes),
+        Task::Check(file) => check(alloc, &file, out, files, limits, visits, changes),
+        Task::Soak { n, start } => soak(alloc, n, start, out, eng, limits, visits, changes),
+        Task::Usage => tell_usage(out),
     }
 }
 
-fn is_run(words: &[String]) -> bool
-    ensures { IsTrue result ↔ IsRun (map string_bytes words.now) }
+// Writes the usage line.
+fn tell_usage<O: Sink>(out: &mut O) -> Status
+    ensures told { TellsUsage (taken_of (O.written out.old) (O.amount out.old)) (taken_of (O.written out.new) (O.amount out.new)) result }
+    ensures cause { HasWriteCause (O.faults out.old) (O.faults out.new) result }
 {
-    match words {
-        [word] => word.as_str() == "run",
-        _ => false,
+    match write_piece(out, USAGE.as_bytes()) {
+        Ok(()) => Status::Usage,
+        Err(Failed) => Status::WriteFault,
     }
 }

@@ -65,6 +65,8 @@ pub(crate) fn is_out_of_range(w: Width, cmd: &Command) -> bool
         | Command::Page { .. }
         | Command::Save { .. }
         | Command::Load { .. }
+        | Command::Import { .. }
+        | Command::Export { .. }
         | Command::Stats
         | Command::Select { .. }
         | Command::Same => false,

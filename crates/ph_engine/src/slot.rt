@@ -1,13 +1,15 @@
 //! A table with what belongs to it, and what a command does to it.
-ghost use Rattle.std.specs.Prelude.{◌≡◌, ◌<◌, ◌≤◌, ◌-◌, ◌^◌, None, true, false, not, ◌&&◌, nat_le, length, option_map};
+ghost use Rattle.std.specs.Prelude.{◌≡◌, ◌<◌, ◌≤◌, ◌+◌, ◌-◌, ◌^◌, None, true, false, not, ◌&&◌, nat_le, length, option_map};
 ghost use Rattle.ph_specs.specs.declared.Kind.TheVariants.{Points};
 ghost use Rattle.ph_specs.specs.Command.Command.{Begin as AskBegin, Cursor as AskCursor, Page as AskPage};
 ghost use Rattle.ph_specs.specs.Named.{has_name};
 ghost use Rattle.ph_specs.specs.Refusals.{has_wrong_dims, lacks_cursor, has_too_many_cursors};
 ghost use Rattle.ph_specs.specs.Engine.{opened_dims};
 ghost use Rattle.ph_specs.specs.State.{empty_slot};
+ghost use Rattle.ph_specs.specs.Stats.{stats};
 ghost use Rattle.ph_script.specs.Meaning.{command_of, numbers_of, reply_of};
 ghost use Rattle.ph_script.specs.Fit.{HasDims};
+ghost use Rattle.ph_tree.specs.Stats.{stats_of};
 ghost use Rattle.ph_io.specs.Giving.{taken_of};
 ghost use Rattle.ph_engine.specs.Beside.{beside};
 ghost use Rattle.ph_engine.specs.Comparing.{IsCompared};
@@ -15,11 +17,13 @@ ghost use Rattle.ph_engine.specs.Doing.{Begun, DoneWith, DoneOr, is_on_slot};
 ghost use Rattle.ph_engine.specs.Refusing.{early_refusal, cursor_refusal};
 ghost use Rattle.ph_engine.specs.Slots.{engine_of};
 ghost use Rattle.ph_engine.specs.Statuses.{StopHasCause};
+ghost use Rattle.ph_engine.specs.Working.{nodes_of};
 
 use crate::boxes::Question;
 use crate::cursors::{CURSORS, Held, enter, place_of};
 use crate::filing::{load_table, save_table};
 use crate::output::tell;
+use crate::records::{export_table, import_table};
 use crate::refusals::{has_wrong_dims, has_wrong_kind, is_out_of_range, is_reversed};
 use crate::status::{Answer, Limits, Stop};
 use crate::trees::{AnyTree, width};
@@ -28,6 +32,7 @@ use ph_coord::Kind;
 use ph_io::{Files, Sink};
 use ph_script::{Command, Coords, Name, Reply, Text};
 use ph_steps::Steps;
+use ph_tree::Stats;
 use std::alloc::Global;
 use std::marker::Model;
 use std::sync::ledger::Ledger;
@@ -77,6 +82,14 @@ impl Slot {
         ensures { IsCompared self.now other.now visits.old visits.new result }
     {
         self.kind == other.kind && self.tree.is_same(&other.tree, visits)
+    }
+
+    // The sizes of its tree. Each node is visited once.
+    pub(crate) fn sizes<V: Ledger>(&self, visits: &mut Steps<V>) -> Stats
+        ensures sizes { stats_of result ≡ stats self.now.width self.now.dims self.now.table }
+        ensures visits { visits.new ≡ visits.old + nodes_of self.now }
+    {
+        self.tree.sizes(visits)
     }
 
     // Does a command that is about this slot alone, as in an engine whose other slot is new.
@@ -148,6 +161,24 @@ impl Slot {
                 tell(out, text, outcome)
             }
             Command::Stats => tell(out, text, Ok(self.tree.stats(visits))),
+            Command::Import { file, header } => {
+                let outcome = import_table(
+                    &mut self.tree,
+                    self.kind,
+                    alloc,
+                    file,
+                    *header,
+                    files,
+                    limits,
+                    visits,
+                    changes,
+                );
+                tell(out, text, outcome)
+            }
+            Command::Export { file } => {
+                let outcome = export_table(&self.tree, alloc, file, files, visits);
+                tell(out, text, outcome)
+            }
             Command::Select { .. } | Command::Same => unreachable!(),
         }
     }

@@ -2,9 +2,12 @@
 ghost use Rattle.std.specs.Prelude.{◌≡◌, ◌<◌};
 
 mod boxes;
+mod checks;
 mod distances;
 mod files;
+mod records;
 mod sizes;
+mod soaks;
 
 use crate::engine::Engine;
 use crate::program::top;

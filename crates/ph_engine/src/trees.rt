@@ -3,16 +3,22 @@ ghost use Rattle.std.specs.Prelude.{◌≡◌, ◌≤◌, ◌+◌, ◌*◌, ◌�
 ghost use Rattle.std.specs.List.{list_all};
 ghost use Rattle.ph_specs.specs.Coordinate.{fits};
 ghost use Rattle.ph_specs.specs.Command.{Command as Asked};
+ghost use Rattle.ph_specs.specs.Csv.{csv_rows, csv_text};
+ghost use Rattle.ph_specs.specs.Refusals.{read_length};
 ghost use Rattle.ph_specs.specs.KindRows.{rows_fit};
 ghost use Rattle.ph_specs.specs.Load.{dims_fit, load_fault};
 ghost use Rattle.ph_specs.specs.SavedTable.{read_snapshot};
 ghost use Rattle.ph_specs.specs.Snapshot.{snap, kind_byte};
+ghost use Rattle.ph_specs.specs.SnapshotOf.{IsSnapshotOf};
+ghost use Rattle.ph_specs.specs.Stats.{stats};
 ghost use Rattle.ph_specs.specs.WorkSets.{all_nodes};
 ghost use Rattle.ph_specs.specs.declared.Kind.TheVariants.{Boxes, Points};
 ghost use Rattle.ph_script.specs.Meaning.{numbers_of, reply_of};
 ghost use Rattle.ph_snap.specs.Faults.{IsLoadFault};
+ghost use Rattle.ph_tree.specs.Stats.{stats_of};
 ghost use Rattle.ph_engine.specs.Doing.{Looked, Idled, ServedOr};
-ghost use Rattle.ph_engine.specs.Filing.{EnteredOr};
+ghost use Rattle.ph_engine.specs.Filing.{EnteredOr, SameFrame};
+ghost use Rattle.ph_engine.specs.Recording.{ExportedOr, ImportsOr};
 ghost use Rattle.ph_io.specs.Giving.{taken_of};
 ghost use Rattle.ph_engine.specs.Listing.{ListsWindow, ListsNear, ListsBall, ListsBoxes, ListsAnyPage};
 ghost use Rattle.ph_engine.specs.Slots.{any_table, table_at, empty_table, cursor_of, cursor_dims, slot_of, IsCursorIn, IsOfKind};
@@ -27,13 +33,14 @@ use crate::cursors::AnyCursor;
 use crate::distances::{list_ball, list_near};
 use crate::filing::save_tree;
 use crate::listing::{list_page, list_window};
+use crate::records::{ExportFault, export_tree, import_text};
 use crate::status::{Answer, Stop};
 use ph_coord::{Kind, Width};
 use ph_io::{Failed, Files, Sink};
 use ph_script::{Coords, FileName, Reply, Text};
 use ph_snap::{LoadFault, load};
 use ph_steps::Steps;
-use ph_tree::{NoMemory, PhTree};
+use ph_tree::{NoMemory, PhTree, Stats};
 use std::alloc::Global;
 use std::sync::ledger::Ledger;
 
@@ -182,6 +189,14 @@ impl AnyTree {
         with_tree!(self, tree => count_nodes(tree, visits))
     }
 
+    // Its sizes. Each node is visited once.
+    pub(crate) fn sizes<V: Ledger>(&self, visits: &mut Steps<V>) -> Stats
+        ensures sizes { stats_of result ≡ stats (any_table self.now).tree.width (any_table self.now).dims (any_table self.now).tree.table }
+        ensures visits { visits.new ≡ visits.old + length (all_nodes (any_table self.now).tree.width (any_table self.now).dims (any_table self.now).tree.table) }
+    {
+        with_tree!(self, tree => tree.stats(visits))
+    }
+
     pub(crate) fn clear(&mut self) -> Reply<1>
         ensures { Idled (any_table self.old) Asked.Clear (any_table self.new) (reply_of result) }
     {
@@ -227,6 +242,42 @@ impl AnyTree {
         with_tree!(self, tree => save_tree(tree, kind, file, files, visits))
     }
 
+    // Puts the rows of a text into it, once all of them are read and it has room for them.
+    pub(crate) fn import<V: Ledger, C: Ledger>(
+        &mut self,
+        alloc: Global,
+        text: &[u8],
+        kind: Kind,
+        header: bool,
+        visits: &mut Steps<V>,
+        changes: &mut Steps<C>,
+    ) -> Result<Reply<1>, NoMemory>
+        ensures imports { ImportsOr (any_table self.old) (csv_rows (any_table self.old).tree.width (any_table self.old).dims kind header text.now) (any_table self.new) result }
+        ensures frame { SameFrame kind (any_table self.old) (any_table self.new) }
+        ensures later { visits.old ≤ visits.new }
+        ensures few { visits.new ≤ visits.old + 4 * (any_table self.old).tree.width * read_length (csv_rows (any_table self.old).tree.width (any_table self.old).dims kind header text.now) }
+        ensures kept { changes.old ≤ changes.new }
+        ensures changes { changes.new ≤ changes.old + 2 * read_length (csv_rows (any_table self.old).tree.width (any_table self.old).dims kind header text.now) }
+    {
+        with_tree!(self, tree => import_text(tree, alloc, text, kind, header, visits, changes))
+    }
+
+    // Writes its rows to a file of this name.
+    pub(crate) fn export<F: Files, V: Ledger>(
+        &self,
+        alloc: Global,
+        file: &FileName,
+        files: &mut F,
+        visits: &mut Steps<V>,
+    ) -> Result<(), ExportFault>
+        ensures exported { ExportedOr (F.files files.old) (F.files files.new) (F.faults files.old) (F.faults files.new) file.now (csv_text (any_table self.now).tree.table) result }
+        ensures later { visits.old ≤ visits.new }
+        ensures few { visits.new ≤ visits.old + length (all_nodes (any_table self.now).tree.width (any_table self.now).dims (any_table self.now).tree.table) }
+        ensures all { OnOk result (visits.new ≡ visits.old + length (all_nodes (any_table self.now).tree.width (any_table self.now).dims (any_table self.now).tree.table)) }
+    {
+        with_tree!(self, tree => export_tree(tree, alloc, file, files, visits))
+    }
+
     // The tree of so many dimensions of which the bytes are the snapshot, for any number of rows.
     pub(crate) fn load<C: Ledger>(
         alloc: Global,
@@ -242,6 +293,8 @@ impl AnyTree {
         ensures width { IfOk result (λ t. (any_table t).tree.width ≡ 32) }
         ensures rows { IfOk result (λ t. rows_fit kind (any_table t).tree.table ≡ true) }
         ensures read { IfOk result (λ t. read_snapshot kind dims bytes.now ≡ Ok (any_table t).tree.table) }
+        ensures snapshot { IfOk result (λ t. IsSnapshotOf kind dims bytes.now (any_table t).tree.table) }
+        ensures nodes { IfOk result (λ t. changes.new ≡ changes.old + length (all_nodes 32 dims (any_table t).tree.table)) }
         ensures fault { IfErr result (λ e. IsLoadFault (load_fault kind dims bytes.now) e) }
         ensures kept { changes.old ≤ changes.new }
         ensures few { 16 * changes.new ≤ 16 * changes.old + length bytes.now }

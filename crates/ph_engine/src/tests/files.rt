@@ -10,14 +10,14 @@ use std::test::Fail;
 const EMPTY: &[u8] = b"PHT1\x00\x02\x00\x00";
 
 // The row (3, 4) with 17.
-const ONE: &[u8] = b"PHT1\x00\x02\x01\x00\
+pub(super) const ONE: &[u8] = b"PHT1\x00\x02\x01\x00\
     \x1f\x00\x00\x00\x01\x00\x00\x00\
     \x60\x00\x00\x00\xc0\x00\x00\x02\
     \x00\x00\x00\x00\x00\x00\x00\x00\
     \x00\x00\x00\x00\x00\x00\x00\x11";
 
 // The rows (0, 0) with 1 and (1, 1) with 2.
-const TWO: &[u8] = b"PHT1\x00\x02\x01\x00\
+pub(super) const TWO: &[u8] = b"PHT1\x00\x02\x01\x00\
     \x1f\x00\x00\x00\x01\x00\x00\x01\
     \xe0\x00\x00\x00\x00\x00\x00\x00\
     \x00\x00\x00\x00\x00\x00\x00\x00\
@@ -38,14 +38,19 @@ const THREE: &[u8] = b"PHT1\x00\x02\x01\x00\
     \x00\x00\x00\x00\x00\x00\x00\x02";
 
 // Of boxes, one whose low bound, 7, is above its high one, 3.
-const REVERSED: &[u8] = b"PHT1\x01\x02\x01\x00\
+pub(super) const REVERSED: &[u8] = b"PHT1\x01\x02\x01\x00\
     \x1f\x00\x00\x00\x01\x00\x00\x00\
     \x60\x00\x00\x01\xc0\x00\x00\x01\
     \x80\x00\x00\x00\x00\x00\x00\x00\
     \x00\x00\x00\x00\x00\x00\x00\x01";
 
 // The same bytes but for one.
-fn altered(alloc: Global, bytes: &[u8], at: usize, byte: u8) -> Result<Vec<u8>, AllocError> {
+pub(super) fn altered(
+    alloc: Global,
+    bytes: &[u8],
+    at: usize,
+    byte: u8,
+) -> Result<Vec<u8>, AllocError> {
     let mut altered = Vec::from_slice(alloc, bytes)?;
     for (i, old) in altered.as_mut_slice().iter_mut().enumerate() {
         if i == at {
@@ -56,11 +61,11 @@ fn altered(alloc: Global, bytes: &[u8], at: usize, byte: u8) -> Result<Vec<u8>, 
 }
 
 // Room for a few files, of whose calls one fails; none where its number is 0.
-fn files_failing(alloc: Global, call: u64) -> Result<MemoryFiles, AllocError> {
+pub(super) fn files_failing(alloc: Global, call: u64) -> Result<MemoryFiles, AllocError> {
     MemoryFiles::new(alloc, 6, 4096, vec![in alloc; call]?)
 }
 
-fn preset(rt: &impl Abort, files: &mut MemoryFiles, name: &str, bytes: &[u8]) {
+pub(super) fn preset(rt: &impl Abort, files: &mut MemoryFiles, name: &str, bytes: &[u8]) {
     assert!(rt; name.len() <= 255);
     assert!(rt; files.preset(name, bytes));
 }

@@ -1,6 +1,7 @@
 use Rattle.std.proofs.Common.{refl}
-use Rattle.ph_engine.specs.Slots.{any_table}
-use Rattle.ph_engine.proofs.Filed.{read-filed-or, unfetched-filed-or}
+use Rattle.ph_specs.specs.Command.{Command}
+use Rattle.ph_engine.specs.Slots.{any_table, slot_of}
+use Rattle.ph_engine.proofs.Filed.{fetch-load, read-filed-or, unfetched-filed-or}
 use Rattle.ph_engine.proofs.Loads.{same-frame-still}
 use Rattle.ph_engine.proofs.filing.load_table.Goals as goal
 
@@ -24,7 +25,7 @@ returns g c =
       frame = same-frame-still c.args.kind t;
       loaded = record {
         filed = λ visits cursors.
-            unfetched-filed-or c.args.limits.now.file_bytes c.args.kind t cursors c.args.file.now c.fetch.new.into.items (g.F.Files.faults c.args.files.now) (g.F.Files.faults c.fetch.new.self) visits c.args.changes.now c.args.changes.now
-            (g.F.Files.files c.args.files.now) (g.F.Files.files c.fetch.new.self) c.in-Err.fault c.fetch_reply.result c.fetch_reply.ensures (rw (← c.as_str.ensures.value) e.fetches) e.counts e.files refl;
+            unfetched-filed-or (Command.Load c.args.file.now) c.args.file.now (fetch-load c.args.file.now) c.args.limits.now.file_bytes (slot_of c.args.kind t cursors) c.fetch.new.into.items (g.F.Files.faults c.args.files.now) (g.F.Files.faults c.fetch.new.self) visits visits c.args.changes.now c.args.changes.now
+            (g.F.Files.files c.args.files.now) (g.F.Files.files c.fetch.new.self) c.in-Err.fault c.fetch_reply.result c.fetch_reply.ensures (rw (← c.as_str.ensures.value) e.fetches) e.counts e.files refl refl;
       };
     }

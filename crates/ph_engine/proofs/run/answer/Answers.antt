@@ -1,4 +1,4 @@
-use Rattle.std.proofs.Common.{false, refl, arith}
+use Rattle.std.proofs.Common.{false, refl}
 use Rattle.ph_specs.specs.Reply.{Reply}
 use Rattle.ph_script.specs.Meaning.{command_of, bad_reply}
 use Rattle.ph_engine.proofs.Answered.{said-nothing, said-done, said-refused, said-stopped, done-told, done-later, told-is, text-reading, long-reading}

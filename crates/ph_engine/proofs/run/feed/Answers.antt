@@ -2,7 +2,7 @@ use Rattle.std.proofs.Common.{◌≡◌, ℕ, List, ◌∷◌, [], ◌++◌, tak
 use Rattle.ph_specs.specs.Lines.{LF}
 use Rattle.ph_script.specs.Shown.{before_feed}
 use Rattle.ph_engine.specs.Machine.{KEPT}
-use Rattle.ph_engine.specs.BuiltMachine.{built_machine}
+use Rattle.ph_engine.specs.ScriptMachine.{script_machine}
 use Rattle.ph_engine.proofs.Feeds.{fed-none, line-said, line-stopped, then-fed, then-stopped, then-part}
 use Rattle.ph_engine.proofs.Scans.{feed-unbroken, none-unbroken, feed-next, feed-within, whole, unended-feed, unended-none}
 use Rattle.ph_engine.proofs.Answered.{shown-behind}
@@ -24,9 +24,9 @@ lines-preserved g c =
             λ unended k u.
                 let before = fed.1 unended k u in
                 let answered = λ (now : List ℕ) (kept : c.lines.lines ≡ take KEPT now). line.1 (now ++ before_feed (drop c.lines.at c.args.piece.now)) (shown-behind now (before_feed (drop c.lines.at c.args.piece.now)) c.lines.lines c.in-Some.line kept given.1) in
-                then-fed (built_machine c.args.limits.now.file_bytes) _ unended (take c.lines.at c.args.piece.now) (before_feed (drop c.lines.at c.args.piece.now) ++ LF ∷ []) (take c.next_line.new.at c.args.piece.now)
+                then-fed (script_machine c.args.limits.now.file_bytes) _ unended (take c.lines.at c.args.piece.now) (before_feed (drop c.lines.at c.args.piece.now) ++ LF ∷ []) (take c.next_line.new.at c.args.piece.now)
                 c.lines.lines c.next_line.follows.lender-at-none _ _ _ _ _ c.lines.refused c.in-Ok.some c.either-refused.result before
-                (λ now kept free. rw empty (line-said (built_machine c.args.limits.now.file_bytes) _ now (before_feed (drop c.lines.at c.args.piece.now)) (answered now kept).fault _ _ _ c.in-Ok.some free (feed-unbroken (drop c.lines.at c.args.piece.now) given.0)
+                (λ now kept free. rw empty (line-said (script_machine c.args.limits.now.file_bytes) _ now (before_feed (drop c.lines.at c.args.piece.now)) (answered now kept).fault _ _ _ c.in-Ok.some free (feed-unbroken (drop c.lines.at c.args.piece.now) given.0)
                 (answered now kept).said))
                 (feed-next c.args.piece.now c.lines.at c.next_line.new.at given.0 place) c.either-refused.ensures,
           );
@@ -42,9 +42,9 @@ returns-in-Err-clause-fed g c told =
       λ unended k u.
           let before = fed.1 unended k u in
           let answered = λ (now : List ℕ) (kept : c.lines.lines ≡ take KEPT now). line.1 (now ++ before_feed (drop c.lines.at c.args.piece.now)) (shown-behind now (before_feed (drop c.lines.at c.args.piece.now)) c.lines.lines c.in-Some.line kept given.1) in
-          then-stopped (built_machine c.args.limits.now.file_bytes) _ unended (take c.lines.at c.args.piece.now) (before_feed (drop c.lines.at c.args.piece.now) ++ LF ∷ []) (drop c.next_line.new.at c.args.piece.now) c.args.piece.now
+          then-stopped (script_machine c.args.limits.now.file_bytes) _ unended (take c.lines.at c.args.piece.now) (before_feed (drop c.lines.at c.args.piece.now) ++ LF ∷ []) (drop c.next_line.new.at c.args.piece.now) c.args.piece.now
           c.lines.lines c.next_line.follows.lender-at-none _ _ _ _ _ c.lines.refused c.in-Err.stop before
-          (λ now kept free. line-stopped (built_machine c.args.limits.now.file_bytes) _ now (before_feed (drop c.lines.at c.args.piece.now)) c.next_line.follows.lender-at-none (answered now kept).fault _ _ _ c.in-Err.stop free (feed-unbroken (drop c.lines.at c.args.piece.now) given.0)
+          (λ now kept free. line-stopped (script_machine c.args.limits.now.file_bytes) _ now (before_feed (drop c.lines.at c.args.piece.now)) c.next_line.follows.lender-at-none (answered now kept).fault _ _ _ c.in-Err.stop free (feed-unbroken (drop c.lines.at c.args.piece.now) given.0)
           (answered now kept).said)
           (ap (λ t. t ++ drop c.next_line.new.at c.args.piece.now) (feed-next c.args.piece.now c.lines.at c.next_line.new.at given.0 place) ∙ whole c.args.piece.now c.next_line.new.at),
     )
@@ -56,7 +56,7 @@ returns-clause-fed g c told =
       λ unended k u.
           let given = c.in_default.ensures.given in
           let rests = c.next_line.follows.holds-at-none ∙ unended-none c.lines.lines (drop c.lines.at c.args.piece.now) given in
-          then-part (built_machine c.args.limits.now.file_bytes) _ unended (take c.lines.at c.args.piece.now) (drop c.lines.at c.args.piece.now) c.args.piece.now
+          then-part (script_machine c.args.limits.now.file_bytes) _ unended (take c.lines.at c.args.piece.now) (drop c.lines.at c.args.piece.now) c.args.piece.now
           c.lines.lines c.next_line.follows.lender-at-none _ _ _ c.lines.refused (fed.1 unended k u)
           (none-unbroken (drop c.lines.at c.args.piece.now) given) rests (whole c.args.piece.now c.lines.at),
     )
@@ -66,5 +66,5 @@ lines-init g c = record {
   within = omega arith;
   later = omega arith;
   filings = omega arith;
-  fed = λ told. (told, λ unended k u. fed-none (built_machine c.args.limits.now.file_bytes) _ unended c.args.lines.now _ k u);
+  fed = λ told. (told, λ unended k u. fed-none (script_machine c.args.limits.now.file_bytes) _ unended c.args.lines.now _ k u);
 }

@@ -1,4 +1,4 @@
-use Rattle.std.proofs.Common.{refl, sym, arith}
+use Rattle.std.proofs.Common.{refl, sym}
 use Rattle.std.specs.Prelude.{Ok}
 use Rattle.ph_specs.specs.Command.{Command as Asked}
 use Rattle.ph_script.specs.Meaning.{command_of, reply_of, numbers_of}
@@ -182,3 +182,24 @@ returns-in-Load-clause-done g c =
     let t = any_table c.self.inside.tree in
     let cursors = named c.self.inside.cursors.items in
     rw (c.in-Load.is, ← c.self.view_is) (done-filed c.args.limits.now.file_bytes (engine_of (slot_of kind t cursors)) (engine_of (slot_of kind (any_table c.load_table-outcome.new.tree) cursors)) (Asked.Load c.in-Load.file) _ _ _ _ c.args.visits.now c.args.visits.now c.args.changes.now c.load_table-outcome.new.changes _ _ c.load_table-outcome.result c.tell-in-Load.result refl (c.load_table-outcome.ensures.loaded.filed c.args.visits.now cursors) c.tell-in-Load.ensures.told)
+
+pub invariant_of-self-in-Import-1 : goal.invariant_of-self-in-Import-1
+invariant_of-self-in-Import-1 g c =
+    let kind = c.self.inside.kind in
+    let t = any_table c.self.inside.tree in
+    slot-keeps kind t (any_table c.import_table-outcome.new.tree) c.self.inside.cursors.items c.import_table-outcome.ensures.frame c.self.invariant
+
+pub returns-in-Import-clause-done : goal.returns-in-Import-clause-done
+returns-in-Import-clause-done g c =
+    let kind = c.self.inside.kind in
+    let t = any_table c.self.inside.tree in
+    let cursors = named c.self.inside.cursors.items in
+    rw (c.in-Import.is, ← c.self.view_is) (done-filed c.args.limits.now.file_bytes (engine_of (slot_of kind t cursors)) (engine_of (slot_of kind (any_table c.import_table-outcome.new.tree) cursors)) (Asked.Import c.in-Import.file c.in-Import.header) _ _ _ _ c.args.visits.now c.import_table-outcome.new.visits c.args.changes.now c.import_table-outcome.new.changes _ _ c.import_table-outcome.result c.tell-in-Import.result refl (c.import_table-outcome.ensures.imported.filed cursors) c.tell-in-Import.ensures.told)
+
+pub returns-in-Export-clause-done : goal.returns-in-Export-clause-done
+returns-in-Export-clause-done g c =
+    let kind = c.self.inside.kind in
+    let t = any_table c.self.inside.tree in
+    let cursors = named c.self.inside.cursors.items in
+    let e = engine_of (slot_of kind t cursors) in
+    rw (c.in-Export.is, ← c.self.view_is) (done-filed c.args.limits.now.file_bytes e e (Asked.Export c.in-Export.file) _ _ _ _ c.args.visits.now c.export_table-outcome.new.visits c.args.changes.now c.args.changes.now _ _ c.export_table-outcome.result c.tell-in-Export.result refl (c.export_table-outcome.ensures.filed c.args.limits.now.file_bytes c.args.changes.now kind cursors) c.tell-in-Export.ensures.told)

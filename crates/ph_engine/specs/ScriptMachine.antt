@@ -1,11 +1,10 @@
--- The machine that answers the commands that are built, by the definition of a script's lines.
+-- The machine that answers the lines of a script, by the definition of a script's lines.
 use Rattle.std.specs.Prelude.{ℕ, Bool, false, List, [], Option, Some, None}
-use Rattle.ph_specs.specs.Command.{Reading}
+use Rattle.ph_specs.specs.Command.{Reading, reading}
 use Rattle.ph_specs.specs.Command.Reading.{Do}
 use Rattle.ph_specs.specs.Reply.{replies_text}
 use Rattle.ph_specs.specs.State.{Engine, Files, Outcome, current}
-use Rattle.ph_specs.specs.Engine.{act, step_by, run_by}
-use Rattle.ph_script.specs.Built.{built_forms, built_reading}
+use Rattle.ph_specs.specs.Engine.{act, step, run}
 use Rattle.ph_engine.specs.Doing.{wants_memory, uses_files, cut_engine, starved_engine}
 use Rattle.ph_engine.specs.Machine.{Machine, Turn, Work}
 use Rattle.ph_engine.specs.Working.{no_work, work_of}
@@ -25,10 +24,10 @@ told_files (Some files) = files
 
 -- what a line is, and what it does
 abbrev pub reading_in : Whole → Turn → Reading
-reading_in s t = built_reading (current s.engine).dims t.line
+reading_in s t = reading (current s.engine).dims t.line
 
-abbrev pub built_step : ℕ → Whole → Turn → Outcome
-built_step most s t = step_by built_forms most s.engine s.files t.fault t.line
+abbrev pub script_step : ℕ → Whole → Turn → Outcome
+script_step most s t = step most s.engine s.files t.fault t.line
 
 -- where a write of its answer failed, and where memory is missing
 abbrev pub cut_by : ℕ → Whole → Bool → Reading → Whole
@@ -52,10 +51,10 @@ work_by most s fault (Do command) = work_of most s.engine s.files fault command
 work_by most s fault _ = no_work
 
 -- over files of at most so many bytes
-abbrev pub built_machine : ℕ → Machine Whole
-built_machine most = record {
-  answer = λ s t. replies_text (built_step most s t).replies;
-  next = λ s t. let o = built_step most s t in whole o.engine o.files;
+abbrev pub script_machine : ℕ → Machine Whole
+script_machine most = record {
+  answer = λ s t. replies_text (script_step most s t).replies;
+  next = λ s t. let o = script_step most s t in whole o.engine o.files;
   cut = λ s t. cut_by most s t.fault (reading_in s t);
   starved = λ s t part. starved_by s part (reading_in s t);
   wants = λ s t. wants_by s (reading_in s t);
@@ -63,6 +62,6 @@ built_machine most = record {
   work = λ s t. work_by most s t.fault (reading_in s t);
 }
 
--- what the lines of a script do, by all forms that are built, where the files fail in these lines
-abbrev pub built_run : ℕ → Whole → List Bool → List (List ℕ) → Outcome
-built_run most s faults lines = run_by built_forms most s.engine s.files faults lines
+-- what the lines of a script do, where the files fail in these lines
+abbrev pub script_run : ℕ → Whole → List Bool → List (List ℕ) → Outcome
+script_run most s faults lines = run most s.engine s.files faults lines

@@ -1,0 +1,282 @@
+-- Bytes that were checked, and files.
+use Rattle.std.proofs.Common.{◌≡◌, ◌≤◌, ◌+◌, ◌*◌, ℕ, inl, inr, arith, Bool, true, false, List, length, refl, ap, sym, ◌∙◌, subst}
+use Rattle.std.specs.Prelude.{◌⊎◌, ◌/◌, slice_index, Some, None, is_none, option_map, Result, Ok, Err}
+use Rattle.std.specs.declared.option.Option.{Option}
+use Rattle.ph_io.specs.Giving.{Taken, Given}
+use Rattle.ph_io.specs.Shelf.{Stays, Fetches, FetchCounts}
+use Rattle.ph_io.specs.Writing.{WritesFront}
+use Rattle.ph_io.specs.declared.files.FetchFault.{FetchFault}
+use Rattle.ph_io.specs.declared.files.FetchFault.TheVariants as unread
+use Rattle.ph_specs.specs.declared.Kind.{Kind}
+use Rattle.ph_specs.specs.Load.{Fault, bad_magic, bad_header, bad_dims, bad_short, bad_node, bad_extra, load_fault}
+use Rattle.ph_specs.specs.Named.{lookup}
+use Rattle.ph_specs.specs.Program.{check_line, checked_words, named_kind, words_of_snapshot, words_of_file, words_unless}
+use Rattle.ph_specs.specs.Refusals.{fetch, bytes_of}
+use Rattle.ph_specs.specs.Reply.{Reply, line_of, reply_text, reply_words}
+use Rattle.ph_specs.specs.SavedTable.{fault_reply, read_unless, rows_saved}
+use Rattle.ph_specs.specs.State.{Files}
+use Rattle.ph_specs.specs.Stats.{stats}
+use Rattle.ph_specs.specs.WorkSets.{all_nodes}
+use Rattle.ph_specs.proofs.laws.Snapshots.{none-from_snapshot, read-from_snapshot}
+use Rattle.ph_script.specs.declared.reply.Reply.{Reply as Told}
+use Rattle.ph_script.specs.Meaning.{reply_of}
+use Rattle.ph_snap.specs.Faults.{IsLoadFault}
+use Rattle.ph_snap.specs.declared.fault.LoadFault.{LoadFault}
+use Rattle.ph_engine.specs.Beside.{AreTold, Filings}
+use Rattle.ph_engine.specs.Checking.{FileHasSizes, HasSizes, IsSavedAs, LineGiven, CheckDone, bytes_checked, nodes_saved, nodes_unless, status_of}
+use Rattle.ph_engine.specs.Filing.{TellsFault, TellsUnfetched}
+use Rattle.ph_engine.specs.Machine.{is_refusal, one_if}
+use Rattle.ph_engine.specs.ScriptMachine.{told_files}
+use Rattle.ph_engine.specs.Slots.{AnyTable}
+use Rattle.ph_engine.specs.Statuses.{IsRead}
+use Rattle.ph_engine.specs.Telling.{ToldOr}
+use Rattle.ph_engine.specs.declared.status.Answer.{Answer}
+use Rattle.ph_engine.specs.declared.status.Answer.TheVariants as answer
+use Rattle.ph_engine.specs.declared.status.Status.TheVariants.{Clean, Refused, WriteFault, Memory}
+use Rattle.ph_engine.specs.declared.status.Stop.{Stop}
+use Rattle.ph_engine.specs.declared.status.Stop.TheVariants as stop
+use Rattle.ph_engine.proofs.OwnDims.{own-dims}
+use Rattle.ph_engine.proofs.Filed.{fetched, unfetched, failed-once, failed-never}
+
+-- ---- bytes
+
+module _ (bytes : List ℕ) (kind : Kind) (t : AnyTable) (h : IsSavedAs bytes kind t) where
+  no-fault : load_fault kind t.dims bytes ≡ None
+  no-fault = none-from_snapshot kind t.dims bytes t.tree.table h.snapshot
+
+  rows-by : (first : Option Fault) → first ≡ None → read_unless first t.dims bytes ≡ Ok t.tree.table → rows_saved t.dims bytes ≡ t.tree.table
+  rows-by None n r = cc
+  rows-by (Some fault) n r = absurd (let clash : Some fault ≡ None = n in cc)
+
+  rows-are : rows_saved t.dims bytes ≡ t.tree.table
+  rows-are = rows-by (load_fault kind t.dims bytes) no-fault (read-from_snapshot kind t.dims bytes t.tree.table h.snapshot)
+
+  pub words-are : words_of_snapshot bytes ≡ checked_words kind t.dims (stats 32 t.dims t.tree.table)
+  words-are =
+      ap (λ k. words_unless (load_fault k (slice_index bytes 5) bytes) k (slice_index bytes 5) bytes) h.kind_is
+      ∙ ap (λ d. words_unless (load_fault kind d bytes) kind d bytes) h.dims_are
+      ∙ ap (λ o. words_unless o kind t.dims bytes) no-fault
+      ∙ ap (λ r. checked_words kind t.dims (stats 32 t.dims r)) rows-are
+
+  pub nodes-are : nodes_saved bytes ≡ length (all_nodes 32 t.dims t.tree.table)
+  nodes-are =
+      ap (λ k. nodes_unless (load_fault k (slice_index bytes 5) bytes) (slice_index bytes 5) bytes) h.kind_is
+      ∙ ap (λ d. nodes_unless (load_fault kind d bytes) d bytes) h.dims_are
+      ∙ ap (λ o. nodes_unless o t.dims bytes) no-fault
+      ∙ ap (λ r. length (all_nodes 32 t.dims r)) rows-are
+
+  -- a text that was composed as its line
+  pub sizes-given : (sink now_sink : Taken) (said line : List ℕ) (result : Result Answer Stop) → said ≡ line → line ≡ line_of (checked_words kind t.dims (stats 32 t.dims t.tree.table)) → LineGiven sink now_sink said result → LineGiven sink now_sink (line_of (words_of_snapshot bytes)) result
+  sizes-given sink now_sink said line result s l g = subst (λ x. LineGiven sink now_sink x result) (s ∙ l ∙ ap line_of (sym words-are)) g
+
+  pub has-sizes : HasSizes bytes (line_of (words_of_snapshot bytes))
+  has-sizes = record { kind = kind; dims = t.dims; rows = t.tree.table; snapshot = h.snapshot; said = ap line_of words-are }
+
+-- ---- a reply in place of the sizes
+
+-- the line is that of the reply, if there is one
+abbrev IsReplyTo : {D : ℕ} {E : Type 0} → List ℕ → Result (Told D) E → Type 0
+IsReplyTo line (Ok reply) = line ≡ reply_text (reply_of reply)
+IsReplyTo line (Err error) = Unit {0}
+
+module _ (sink now_sink : Taken) where
+  pub reply-given : {D : ℕ} {E : Type 0} (line : List ℕ) (reply : Result (Told D) E) (result : Result Answer Stop) → IsReplyTo line reply → ToldOr sink now_sink reply result → LineGiven sink now_sink line result
+  reply-given line (Ok reply) (Ok answer) e t = rw e t
+  reply-given line (Ok reply) (Err stop.WriteFault) e t = rw e t.1
+  reply-given line (Ok reply) (Err stop.NoMemory) e t = absurd (let clash : stop.NoMemory ≡ stop.WriteFault = t.0 in cc)
+  reply-given line (Err error) (Ok answer) e t = absurd t
+  reply-given line (Err error) (Err stop.WriteFault) e t = absurd (let clash : stop.WriteFault ≡ stop.NoMemory = t.0 in cc)
+  reply-given line (Err error) (Err stop.NoMemory) e t = t.1
+
+  -- a refusal is not answered as good
+  never-good : {P : Type 0} (line : List ℕ) (result : Result Answer Stop) → is_refusal line ≡ true → LineGiven sink now_sink line result → result ≡ Ok answer.Good → P
+  never-good line (Ok answer.Good) r g e = absurd (let clash : false ≡ true = g.1 ∙ r in cc)
+  never-good line (Ok answer.Refused) r g e = cc
+  never-good line (Err why) r g e = cc
+
+-- ---- the fault of bytes
+
+words-of_fault : (first : Option Fault) (kind : Kind) (dims : ℕ) (bytes : List ℕ) (reply : Reply) → option_map fault_reply first ≡ Some reply → words_unless first kind dims bytes ≡ reply_words reply
+words-of_fault None kind dims bytes reply h = absurd (let clash : None ≡ Some reply = h in cc)
+words-of_fault (Some fault) kind dims bytes reply h = let same : fault_reply fault ≡ reply = cc in ap reply_words same
+
+fault-refused : (first : Option Fault) (reply : Reply) → option_map fault_reply first ≡ Some reply → is_refusal (reply_text reply) ≡ true
+fault-refused None reply h = absurd (let clash : None ≡ Some reply = h in cc)
+fault-refused (Some bad_magic) reply h = let same : Reply.BadMagic ≡ reply = cc in rw (← same) refl
+fault-refused (Some (bad_header at)) reply h = let same : Reply.BadHeader at ≡ reply = cc in rw (← same) refl
+fault-refused (Some bad_dims) reply h = let same : Reply.BadDims ≡ reply = cc in rw (← same) refl
+fault-refused (Some (bad_short at)) reply h = let same : Reply.BadShort at ≡ reply = cc in rw (← same) refl
+fault-refused (Some (bad_node at)) reply h = let same : Reply.BadNode at ≡ reply = cc in rw (← same) refl
+fault-refused (Some (bad_extra at)) reply h = let same : Reply.BadExtra at ≡ reply = cc in rw (← same) refl
+
+module _ (bytes : List ℕ) (fault : LoadFault) (f : IsLoadFault (load_fault (named_kind bytes) (slice_index bytes 5) bytes) fault) (sink now_sink : Taken) where
+  fault-line : {D : ℕ} {E : Type 0} (reply : Result (Told D) E) → TellsFault fault reply → IsReplyTo (line_of (words_of_snapshot bytes)) reply
+  fault-line (Ok reply) h =
+      let first = load_fault (named_kind bytes) (slice_index bytes 5) bytes in
+      ap line_of (words-of_fault first (named_kind bytes) (slice_index bytes 5) bytes (reply_of reply) (h first f))
+  fault-line (Err error) h = tt
+
+  pub fault-given : {D : ℕ} {E : Type 0} (reply : Result (Told D) E) (result : Result Answer Stop) → TellsFault fault reply → ToldOr sink now_sink reply result → LineGiven sink now_sink (line_of (words_of_snapshot bytes)) result
+  fault-given reply result h t = reply-given sink now_sink (line_of (words_of_snapshot bytes)) reply result (fault-line reply h) t
+
+  pub fault-sizes : {P : Type 0} {D : ℕ} {E : Type 0} (reply : Result (Told D) E) (result : Result Answer Stop) → TellsFault fault reply → ToldOr sink now_sink reply result → result ≡ Ok answer.Good → P
+  fault-sizes {D = D} {E = E} (Ok reply) result h t e =
+      let first = load_fault (named_kind bytes) (slice_index bytes 5) bytes in
+      let told : Result (Told D) E = Ok reply in
+      never-good sink now_sink (reply_text (reply_of reply)) result (fault-refused first (reply_of reply) (h first f)) (reply-given sink now_sink (reply_text (reply_of reply)) told result refl t) e
+  fault-sizes (Err error) (Ok answer) h t e = absurd t
+  fault-sizes (Err error) (Err why) h t e = cc
+
+-- ---- the statuses
+
+module _ (sink now_sink : Taken) (line : List ℕ) where
+  ends-of : (result : Result Answer Stop) → (status_of result ≡ Clean) ⊎ ((status_of result ≡ Refused) ⊎ ((status_of result ≡ WriteFault) ⊎ (status_of result ≡ Memory)))
+  ends-of (Ok answer.Good) = inl refl
+  ends-of (Ok answer.Refused) = inr (inl refl)
+  ends-of (Err stop.WriteFault) = inr (inr (inl refl))
+  ends-of (Err stop.NoMemory) = inr (inr (inr refl))
+
+  whole-of : (result : Result Answer Stop) → LineGiven sink now_sink line result → IsRead (status_of result) → Given sink now_sink line
+  whole-of (Ok answer) g r = g.0
+  whole-of (Err stop.WriteFault) g (inl e) = absurd (let clash : WriteFault ≡ Clean = e in cc)
+  whole-of (Err stop.WriteFault) g (inr e) = absurd (let clash : WriteFault ≡ Refused = e in cc)
+  whole-of (Err stop.NoMemory) g (inl e) = absurd (let clash : Memory ≡ Clean = e in cc)
+  whole-of (Err stop.NoMemory) g (inr e) = absurd (let clash : Memory ≡ Refused = e in cc)
+
+  refused-of : (result : Result Answer Stop) → LineGiven sink now_sink line result → status_of result ≡ Refused → is_refusal line ≡ true
+  refused-of (Ok answer.Good) g e = absurd (let clash : Clean ≡ Refused = e in cc)
+  refused-of (Ok answer.Refused) g e = sym g.1
+  refused-of (Err stop.WriteFault) g e = absurd (let clash : WriteFault ≡ Refused = e in cc)
+  refused-of (Err stop.NoMemory) g e = absurd (let clash : Memory ≡ Refused = e in cc)
+
+  good-of : (result : Result Answer Stop) → status_of result ≡ Clean → result ≡ Ok answer.Good
+  good-of (Ok answer.Good) e = refl
+  good-of (Ok answer.Refused) e = absurd (let clash : Refused ≡ Clean = e in cc)
+  good-of (Err stop.WriteFault) e = absurd (let clash : WriteFault ≡ Clean = e in cc)
+  good-of (Err stop.NoMemory) e = absurd (let clash : Memory ≡ Clean = e in cc)
+
+  clean-of : (result : Result Answer Stop) → LineGiven sink now_sink line result → status_of result ≡ Clean → is_refusal line ≡ false
+  clean-of result g e = sym (subst (LineGiven sink now_sink line) (good-of result e) g).1
+
+  cut-of : (result : Result Answer Stop) → LineGiven sink now_sink line result → status_of result ≡ WriteFault → WritesFront sink now_sink line
+  cut-of (Ok answer.Good) g e = absurd (let clash : Clean ≡ WriteFault = e in cc)
+  cut-of (Ok answer.Refused) g e = absurd (let clash : Refused ≡ WriteFault = e in cc)
+  cut-of (Err stop.WriteFault) g e = g
+  cut-of (Err stop.NoMemory) g e = absurd (let clash : Memory ≡ WriteFault = e in cc)
+
+  unwritten-of : (result : Result Answer Stop) → LineGiven sink now_sink line result → status_of result ≡ Memory → now_sink ≡ sink
+  unwritten-of (Ok answer.Good) g e = absurd (let clash : Clean ≡ Memory = e in cc)
+  unwritten-of (Ok answer.Refused) g e = absurd (let clash : Refused ≡ Memory = e in cc)
+  unwritten-of (Err stop.WriteFault) g e = absurd (let clash : WriteFault ≡ Memory = e in cc)
+  unwritten-of (Err stop.NoMemory) g e = g
+
+-- ---- a file
+
+record IsBounded (most : ℕ) (file : List ℕ) (told : Option Files) (visits now_visits changes now_changes : ℕ) : Type 0 where
+  kept_visits : visits ≤ now_visits
+  kept_changes : changes ≤ now_changes
+  most_visits : AreTold told → now_visits ≤ visits + nodes_saved (bytes_checked most (told_files told) file)
+  most_changes : AreTold told → now_changes ≤ changes + length (bytes_checked most (told_files told) file) / 16
+  few_visits : now_visits ≤ visits + most / 16
+  few_changes : now_changes ≤ changes + most / 16
+
+no-work : (most : ℕ) (file : List ℕ) (told : Option Files) (v c : ℕ) → IsBounded most file told v v c c
+no-work most file told v c = record {
+  kept_visits = omega arith;
+  kept_changes = omega arith;
+  most_visits = λ t. omega arith;
+  most_changes = λ t. omega arith;
+  few_visits = omega arith;
+  few_changes = omega arith;
+}
+
+module _ (most : ℕ) (file : List ℕ) (told now_told : Option Files) (f now_f : ℕ) (sink now_sink : Taken) where
+  -- by the line, which is that of the definition where the files were told
+  done-by : (v now_v c now_c : ℕ) (fault : Bool) (line : List ℕ) (result : Result Answer Stop) → Filings true (one_if fault) f now_f → Stays told now_told → (AreTold told → check_line most (told_files told) fault file ≡ line) → LineGiven sink now_sink line result → (AreTold told → result ≡ Ok answer.Good → FileHasSizes (told_files told) file line) → IsBounded most file told v now_v c now_c → CheckDone most file told now_told f now_f sink now_sink v now_v c now_c (status_of result)
+  done-by v now_v c now_c fault line result n k is g sizes b = record {
+    fault = fault;
+    counted = n;
+    kept = k;
+    ends = ends-of sink now_sink line result;
+    whole = λ t r. subst (Given sink now_sink) (sym (is t)) (whole-of sink now_sink line result g r);
+    refusals = λ t e. ap is_refusal (is t) ∙ refused-of sink now_sink line result g e;
+    cleans = λ t e. ap is_refusal (is t) ∙ clean-of sink now_sink line result g e;
+    cut = λ t e. subst (WritesFront sink now_sink) (sym (is t)) (cut-of sink now_sink line result g e);
+    unwritten = unwritten-of sink now_sink line result g;
+    saved = λ t e. subst (FileHasSizes (told_files told) file) (sym (is t)) (sizes t (good-of sink now_sink line result e));
+    own_dims = λ t. own-dims most (told_files told) fault file;
+    kept_visits = b.kept_visits;
+    kept_changes = b.kept_changes;
+    most_visits = b.most_visits;
+    most_changes = b.most_changes;
+    few_visits = b.few_visits;
+    few_changes = b.few_changes;
+  }
+
+  -- a reply in place of the sizes: no file was read
+  unread-by : {D : ℕ} {E : Type 0} (v c : ℕ) (fault : Bool) (reply : Result (Told D) E) (result : Result Answer Stop) → Filings true (one_if fault) f now_f → Stays told now_told → (AreTold told → check_line most (told_files told) fault file ≡ reply_text Reply.ErrorFile) → IsReplyTo (reply_text Reply.ErrorFile) reply → ToldOr sink now_sink reply result → CheckDone most file told now_told f now_f sink now_sink v v c c (status_of result)
+  unread-by v c fault reply result n k is r t =
+      let given : LineGiven sink now_sink (reply_text Reply.ErrorFile) result = reply-given sink now_sink (reply_text Reply.ErrorFile) reply result r t in
+      done-by v v c c fault (reply_text Reply.ErrorFile) result n k is given (λ _. never-good sink now_sink (reply_text Reply.ErrorFile) result refl given) (no-work most file told v c)
+
+  -- memory was missing
+  starved-by : (v c : ℕ) → now_f ≡ f → Stays told now_told → now_sink ≡ sink → CheckDone most file told now_told f now_f sink now_sink v v c c Memory
+  starved-by v c n k s =
+      done-by v v c c false (check_line most (told_files told) false file) (Err stop.NoMemory) (failed-never f now_f (omega (arith, n))) k (λ t. refl) s
+      (λ t e. cc) (no-work most file told v c)
+
+-- the line for a file that was not there, or too long
+unread-line : (most : ℕ) (file bytes : List ℕ) (told : Option Files) (fault : FetchFault) → (fault ≡ unread.NoMemory → ⊥) → (fault ≡ unread.Failed → ⊥) → Fetches told file most bytes (Err fault) → AreTold told → check_line most (told_files told) false file ≡ reply_text Reply.ErrorFile
+unread-line most file bytes None fault n m g t = absurd t
+unread-line most file bytes (Some files) fault n m g t = ap (λ o. line_of (words_of_file o)) (none-of (fetch most files file) (unfetched most files file bytes fault n m g))
+  where
+    none-of : (o : Option (List ℕ)) → is_none o ≡ true → o ≡ None
+    none-of None h = refl
+    none-of (Some b) h = absurd (let clash : false ≡ true = h in cc)
+
+module _ {D : ℕ} {E : Type 0} (most : ℕ) (file bytes : List ℕ) (told now_told : Option Files) (f now_f : ℕ) (sink now_sink : Taken) (v c : ℕ) (reply : Result (Told D) E) (result : Result Answer Stop) where
+  error-line : (reply : Result (Told D) E) (fault : FetchFault) → TellsUnfetched fault reply → IsReplyTo (reply_text Reply.ErrorFile) reply
+  error-line (Ok r) fault h = ap reply_text (sym h.1)
+  error-line (Err error) fault h = tt
+
+  starved-told : (reply : Result (Told D) E) (result : Result Answer Stop) → TellsUnfetched unread.NoMemory reply → ToldOr sink now_sink reply result → now_f ≡ f → Stays told now_told → CheckDone most file told now_told f now_f sink now_sink v v c c (status_of result)
+  starved-told (Ok r) result h t n k = absurd (h.0 refl)
+  starved-told (Err error) (Ok answer) h t n k = absurd t
+  starved-told (Err error) (Err stop.WriteFault) h t n k = absurd (let clash : stop.WriteFault ≡ stop.NoMemory = t.0 in cc)
+  starved-told (Err error) (Err stop.NoMemory) h t n k = starved-by most file told now_told f now_f sink now_sink v c n k t.1
+
+  -- no file was read
+  pub unfetched-done : (fault : FetchFault) → TellsUnfetched fault reply → Fetches told file most bytes (Err fault) → FetchCounts f now_f (Err fault) → Stays told now_told → ToldOr sink now_sink reply result → CheckDone most file told now_told f now_f sink now_sink v v c c (status_of result)
+  unfetched-done unread.Failed h g n k t =
+      unread-by most file told now_told f now_f sink now_sink v c true reply result (failed-once f now_f n.0 n.1) k (λ _. refl) (error-line reply unread.Failed h) t
+  unfetched-done unread.Absent h g n k t =
+      unread-by most file told now_told f now_f sink now_sink v c false reply result (failed-never f now_f (omega (arith, n))) k (unread-line most file bytes told unread.Absent (λ e. cc) (λ e. cc) g) (error-line reply unread.Absent h) t
+  unfetched-done unread.Over h g n k t =
+      unread-by most file told now_told f now_f sink now_sink v c false reply result (failed-never f now_f (omega (arith, n))) k (unread-line most file bytes told unread.Over (λ e. cc) (λ e. cc) g) (error-line reply unread.Over h) t
+  unfetched-done unread.NoMemory h g n k t = starved-told reply result h t n k
+
+-- where the files were told, the bytes that were fetched are those of the file
+module _ (most : ℕ) (file bytes : List ℕ) where
+  read-fetched : (told : Option Files) → Fetches told file most bytes (Ok tt) → length bytes ≤ most → AreTold told → fetch most (told_files told) file ≡ Some bytes
+  read-fetched None g short t = absurd t
+  read-fetched (Some files) g short t = fetched most files file bytes g short
+
+  read-found : (told : Option Files) → Fetches told file most bytes (Ok tt) → AreTold told → lookup file (told_files told) ≡ Some bytes
+  read-found None g t = absurd t
+  read-found (Some files) g t = g
+
+-- a file was read, and its bytes were checked
+pub fetched-done : (most : ℕ) (file bytes : List ℕ) (told now_told : Option Files) (f now_f : ℕ) (sink now_sink : Taken) (v now_v c now_c : ℕ) (result : Result Answer Stop) → Fetches told file most bytes (Ok tt) → length bytes ≤ most → now_f ≡ f → Stays told now_told → LineGiven sink now_sink (line_of (words_of_snapshot bytes)) result → (result ≡ Ok answer.Good → HasSizes bytes (line_of (words_of_snapshot bytes))) → v ≤ now_v → now_v ≤ v + nodes_saved bytes → 16 * now_v ≤ 16 * v + length bytes → c ≤ now_c → 16 * now_c ≤ 16 * c + length bytes → CheckDone most file told now_told f now_f sink now_sink v now_v c now_c (status_of result)
+fetched-done most file bytes told now_told f now_f sink now_sink v now_v c now_c result g short n k line sizes kept_v most_v few_v kept_c few_c =
+    let is : AreTold told → fetch most (told_files told) file ≡ Some bytes = read-fetched most file bytes told g short in
+    done-by most file told now_told f now_f sink now_sink v now_v c now_c false (line_of (words_of_snapshot bytes)) result
+    (failed-never f now_f (omega (arith, n))) k (λ t. ap (λ o. line_of (words_of_file o)) (is t)) line
+    (λ t e. record { bytes = bytes; found = read-found most file bytes told g t; sizes = sizes e })
+    (record {
+      kept_visits = kept_v;
+      kept_changes = kept_c;
+      most_visits = λ t. subst (λ o. now_v ≤ v + nodes_saved (bytes_of o)) (sym (is t)) most_v;
+      most_changes = λ t. subst (λ o. now_c ≤ c + length (bytes_of o) / 16) (sym (is t)) (omega (arith, few_c));
+      few_visits = omega (arith, few_v, short);
+      few_changes = omega (arith, few_c, short);
+    })

@@ -1,0 +1,147 @@
+-- What imports and exports do.
+use Rattle.std.proofs.Common.{◌≡◌, ◌≤◌, ◌+◌, ◌*◌, ℕ, zero, suc, Bool, true, false, List, [], ◌∷◌, length, take, refl, ap, sym, ◌∙◌}
+use Rattle.std.specs.Prelude.{Some, None, nat_lt, if◌then◌else◌, Result, Ok, Err, Option}
+use Rattle.ph_csv.specs.Faults.{IsFault}
+use Rattle.ph_csv.specs.declared.fault.CsvFault.{CsvFault}
+use Rattle.ph_io.specs.Shelf.{Stays, Fetches}
+use Rattle.ph_specs.specs.Command.{Command}
+use Rattle.ph_specs.specs.Csv.{csv_rows, csv_text}
+use Rattle.ph_specs.specs.Engine.{act, unless_refused, import_outcome}
+use Rattle.ph_specs.specs.Named.{Named, lookup}
+use Rattle.ph_specs.specs.Refusals.{bytes_of, import_rows, put_all_read, read_length, refuse_if, refuse_if_bad}
+use Rattle.ph_specs.specs.Reply.{Reply}
+use Rattle.ph_specs.specs.Sets.{put_all}
+use Rattle.ph_specs.specs.State.{Slot, Files, outcome}
+use Rattle.ph_specs.specs.Table.{Row, put}
+use Rattle.ph_specs.specs.Window.{Cursor}
+use Rattle.ph_specs.specs.WorkSets.{all_nodes}
+use Rattle.ph_specs.specs.declared.Kind.{Kind}
+use Rattle.ph_specs.specs.declared.Kind.TheVariants.{Points, Boxes}
+use Rattle.ph_script.specs.declared.reply.Reply.{Reply as Told}
+use Rattle.ph_script.specs.Meaning.{reply_of}
+use Rattle.ph_engine.specs.Doing.{rows_of, with_first}
+use Rattle.ph_engine.specs.Drafting.{Unfilled}
+use Rattle.ph_engine.specs.Filing.{Entered, Filed, FiledOr, Unfiled, SameFrame}
+use Rattle.ph_engine.specs.Recording.{ImportsOr, TellsRecord, Unwritten, imported_table, imported_reply, is_overfull, table_with, table_with_first}
+use Rattle.ph_engine.specs.Refusing.{early_refusal}
+use Rattle.ph_engine.specs.Slots.{AnyTable, AreBoxes, slot_of, engine_of}
+use Rattle.ph_engine.specs.Working.{work_of, IsAtMost}
+use Rattle.ph_engine.proofs.Filed.{IsFetch, IsStore, fetched-act, fetched-filed, fetched-starved, stored-filed, unstored-filed, starved-store}
+use Rattle.ph_engine.proofs.Slotted.{boxes-put, of-kind-still}
+
+-- ---- import
+
+some-first : (kind : Kind) (t : AnyTable) (cursors : Named Cursor) (part : ℕ) (read : Result (List Row) Reply) → engine_of (slot_of kind (table_with_first t part read) cursors) ≡ with_first (engine_of (slot_of kind t cursors)) part (rows_of read)
+some-first kind t cursors part (Ok rows) = refl
+some-first kind t cursors part (Err fault) = refl
+
+none-first : (s : Slot) (read : Result (List Row) Reply) → with_first (engine_of s) 0 (rows_of read) ≡ engine_of s
+none-first s (Ok rows) = refl
+none-first s (Err fault) = refl
+
+pub fetch-import : (name : List ℕ) (header : Bool) → IsFetch (Command.Import name header) name
+fetch-import name header = record {
+  reads = refl;
+  uses = refl;
+  early = λ s. by-kind s.kind s.width s.dims s.max s.table s.cursors;
+  faulty = λ most files fault. refl;
+  takes = λ s. refl;
+  none_in = λ s files. none-first s (import_rows s files name header);
+  least_visits = λ s files. refl;
+  least_changes = λ s files. refl;
+}
+  where
+    by-kind : (kind : Kind) (width dims max : ℕ) (table : List Row) (cursors : Named Cursor) → early_refusal (record { kind = kind; dims = dims; width = width; max = max; table = table; cursors = cursors }) (Command.Import name header) ≡ None
+    by-kind Points width dims max table cursors = refl
+    by-kind Boxes width dims max table cursors = refl
+
+-- what an import does with what it has read
+by-read : (kind : Kind) (t : AnyTable) (cursors : Named Cursor) (files : Files) (name : List ℕ) (header : Bool) (read : Result (List Row) Reply) → import_rows (slot_of kind t cursors) files name header ≡ read → let table = put_all_read t.tree.width t.tree.table read in unless_refused (refuse_if_bad table (refuse_if (nat_lt t.tree.max (read_length table)) Reply.ErrorFull None)) (engine_of (slot_of kind t cursors)) files (Command.Import name header) ≡ outcome (engine_of (slot_of kind (imported_table t read) cursors)) files (imported_reply t read ∷ [])
+by-read kind t cursors files name header (Err fault) h = refl
+by-read kind t cursors files name header (Ok rows) h =
+    elim (is_overfull t rows) as (λ b. unless_refused (refuse_if b Reply.ErrorFull None) (engine_of (slot_of kind t cursors)) files (Command.Import name header) ≡ outcome (engine_of (slot_of kind (if b then t else table_with t rows) cursors)) files ((if b then Reply.ErrorFull else Reply.Imported (length rows)) ∷ [])) [
+      | true ↦ refl
+      | false ↦ ap (import_outcome (engine_of (slot_of kind t cursors)) files) h
+    ]
+
+-- the rows of a file are those of its bytes
+read-is : (kind : Kind) (t : AnyTable) (cursors : Named Cursor) (files : Files) (name bytes : List ℕ) (header : Bool) → lookup name files ≡ Some bytes → import_rows (slot_of kind t cursors) files name header ≡ csv_rows t.tree.width t.dims kind header bytes
+read-is kind t cursors files name bytes header l = ap (λ x. csv_rows t.tree.width t.dims kind header (bytes_of x)) l
+
+import-does : (most : ℕ) (kind : Kind) (t : AnyTable) (cursors : Named Cursor) (files : Files) (name bytes : List ℕ) (header : Bool) → length bytes ≤ most → lookup name files ≡ Some bytes → let read = csv_rows t.tree.width t.dims kind header bytes in act most (engine_of (slot_of kind t cursors)) files false (Command.Import name header) ≡ outcome (engine_of (slot_of kind (imported_table t read) cursors)) files (imported_reply t read ∷ [])
+import-does most kind t cursors files name bytes header short l =
+    let s = slot_of kind t cursors in
+    fetched-act (Command.Import name header) name (fetch-import name header) most s files bytes l short
+    ∙ by-read kind t cursors files name header (import_rows s files name header) refl
+    ∙ ap (λ x. outcome (engine_of (slot_of kind (imported_table t x) cursors)) files (imported_reply t x ∷ [])) (read-is kind t cursors files name bytes header l)
+
+module _ (most : ℕ) (kind : Kind) (t : AnyTable) (cursors : Named Cursor) (name bytes : List ℕ) (header : Bool) (f now_f v now_v c now_c : ℕ) where
+  import-most : now_v ≤ v + 4 * t.tree.width * read_length (csv_rows t.tree.width t.dims kind header bytes) → now_c ≤ c + 2 * read_length (csv_rows t.tree.width t.dims kind header bytes) → (files : Files) → lookup name files ≡ Some bytes → IsAtMost (work_of most (engine_of (slot_of kind t cursors)) files false (Command.Import name header)) v now_v c now_c
+  import-most few less files l = rw l (record { few_visits = few; few_changes = less })
+
+  pub imported-filed-or : {D : ℕ} {E : Type 0} (told now_told : Option Files) (now : AnyTable) (result : Result (Told D) E) → Fetches told name most bytes (Ok tt) → length bytes ≤ most → Stays told now_told → now_f ≡ f → ImportsOr t (csv_rows t.tree.width t.dims kind header bytes) now result → v ≤ now_v → now_v ≤ v + 4 * t.tree.width * read_length (csv_rows t.tree.width t.dims kind header bytes) → c ≤ now_c → now_c ≤ c + 2 * read_length (csv_rows t.tree.width t.dims kind header bytes) → FiledOr most (engine_of (slot_of kind t cursors)) (Command.Import name header) told now_told f now_f v now_v c now_c (engine_of (slot_of kind now cursors)) result
+  imported-filed-or told now_told now (Ok reply) g short st e h later few kept less =
+      fetched-filed (Command.Import name header) name (fetch-import name header) most (slot_of kind t cursors) bytes f now_f v now_v c now_c told now_told (engine_of (slot_of kind now cursors)) (reply_of reply) g st e
+      (λ files l. import-does most kind t cursors files name bytes header short l ∙ (λ i. outcome (engine_of (slot_of kind (sym h.0 i) cursors)) files (sym h.1 i ∷ [])))
+      (import-most few less) later kept
+  imported-filed-or told now_told now (Err error) g short st e h later few kept less =
+      fetched-starved (Command.Import name header) name (fetch-import name header) most (slot_of kind t cursors) bytes f now_f v now_v c now_c told now_told (engine_of (slot_of kind now cursors)) h.0 g st e
+      (λ files l.
+      ap (λ x. engine_of (slot_of kind x cursors)) h.1
+      ∙ ap (λ read. engine_of (slot_of kind (table_with_first t h.0 read) cursors)) (sym (read-is kind t cursors files name bytes header l))
+      ∙ some-first kind t cursors h.0 (import_rows (slot_of kind t cursors) files name header))
+      (import-most few less)
+
+-- a text without rows
+pub imports-none : {D : ℕ} {E : Type 0} (t : AnyTable) (read : Result (List Row) Reply) (fault : CsvFault) (result : Result (Told D) E) → IsFault read fault → TellsRecord fault result → ImportsOr t read t result
+imports-none t read fault (Ok reply) f h = let is : read ≡ Err (reply_of reply) = h read f in (ap (imported_table t) (sym is), ap (imported_reply t) (sym is))
+imports-none t (Ok rows) fault (Err error) f h = (0, refl)
+imports-none t (Err fault) by (Err error) f h = (0, refl)
+
+-- ---- rows of a kind
+
+boxes-put-all : (w : ℕ) (rows table : List Row) → AreBoxes table → AreBoxes rows → AreBoxes (put_all w table rows)
+boxes-put-all w [] table h k = h
+boxes-put-all w (r ∷ rows) table h k = boxes-put-all w rows (put w table r.point r.value) (boxes-put w table r.point r.value k.0 h) k.1
+
+boxes-take : (n : ℕ) (rows : List Row) → AreBoxes rows → AreBoxes (take n rows)
+boxes-take zero rows h = tt
+boxes-take (suc n) [] h = h
+boxes-take (suc n) (r ∷ rows) h = (h.0, boxes-take n rows h.1)
+
+frame-with : (kind : Kind) (t : AnyTable) (rows : List Row) → (kind ≡ Boxes → AreBoxes rows) → SameFrame kind t (table_with t rows)
+frame-with kind t rows h = record { width = refl; dims = refl; of_kind = of-kind-still kind t (table_with t rows) refl (λ e b. boxes-put-all t.tree.width rows t.tree.table b (h e)) }
+
+frame-still : (kind : Kind) (t : AnyTable) → SameFrame kind t t
+frame-still kind t = record { width = refl; dims = refl; of_kind = λ k. k }
+
+-- an import keeps the frame of a table, where the rows that it reads are of the kind
+pub rows-frame : {D : ℕ} {E : Type 0} (kind : Kind) (t now : AnyTable) (rows : List Row) (result : Result (Told D) E) → (kind ≡ Boxes → AreBoxes rows) → ImportsOr t (Ok rows) now result → SameFrame kind t now
+rows-frame kind t now rows (Ok reply) b h =
+    rw h.0 (elim (is_overfull t rows) as (λ full. SameFrame kind t (if full then t else table_with t rows)) [ true ↦ frame-still kind t | false ↦ frame-with kind t rows b ])
+rows-frame kind t now rows (Err error) b h = rw h.1 (frame-with kind t (take h.0 rows) (λ e. boxes-take h.0 rows (b e)))
+
+-- ---- export
+
+store-export : (name : List ℕ) → IsStore (Command.Export name) name (λ s. csv_text s.table) (λ s. Reply.Exported (length s.table))
+store-export name = record {
+  uses = refl;
+  early = λ s. by-kind s.kind s.width s.dims s.max s.table s.cursors;
+  late = λ most s files fault. refl;
+  makes = λ s files. refl;
+  costs = λ s files. refl;
+}
+  where
+    by-kind : (kind : Kind) (width dims max : ℕ) (table : List Row) (cursors : Named Cursor) → early_refusal (record { kind = kind; dims = dims; width = width; max = max; table = table; cursors = cursors }) (Command.Export name) ≡ None
+    by-kind Points width dims max table cursors = refl
+    by-kind Boxes width dims max table cursors = refl
+
+module _ (most : ℕ) (s : Slot) (name : List ℕ) (told now_told : Option Files) (f now_f v now_v c : ℕ) where
+  pub exported-filed : (count : ℕ) → count ≡ length s.table → now_v ≡ v + length (all_nodes s.width s.dims s.table) → Entered told now_told f now_f name (csv_text s.table) (length (csv_text s.table)) → Filed most (engine_of s) (Command.Export name) told now_told f now_f v now_v c c (engine_of s) (Reply.Exported count)
+  exported-filed count n all h = rw n (stored-filed (Command.Export name) name _ _ (store-export name) most s told now_told f now_f v now_v c all h)
+
+  pub unexported-filed : v ≤ now_v → now_v ≤ v + length (all_nodes s.width s.dims s.table) → Unfilled told now_told f now_f → Filed most (engine_of s) (Command.Export name) told now_told f now_f v now_v c c (engine_of s) Reply.ErrorFile
+  unexported-filed later few h = unstored-filed (Command.Export name) name _ _ (store-export name) most s told now_told f now_f v now_v c later few h
+
+  pub export-starved : now_v ≤ v + length (all_nodes s.width s.dims s.table) → Unwritten told now_told f now_f → Unfiled most (engine_of s) (Command.Export name) told now_told f now_f v now_v c c (engine_of s)
+  export-starved few h = starved-store (Command.Export name) name _ _ (store-export name) most s told now_told f now_f v now_v c refl (λ files. refl) few h.later h.stays

@@ -1,0 +1,302 @@
+-- A run of generated commands, one more at a time, from what each of them answers.
+use Rattle.std.proofs.Common.{◌≡◌, ◌≤◌, ◌<◌, ◌+◌, ◌-◌, ◌%◌, ◌^◌, ℕ, zero, suc, inl, inr, arith, Bool, true, false, List, [], ◌∷◌, ◌++◌, length, take, refl, ap, sym, ◌∙◌, append_assoc, append-nil}
+use Rattle.std.proofs.lemmas.Grind.{common_steps}
+use Rattle.std.specs.Prelude.{Option, Some, None, nat_le, ◌&&◌, slice_index_or, codes, decimal, pos, ◌+ℤ◌}
+use Rattle.std.specs.List.{list_all}
+use Rattle.std.proofs.lemmas.Bool.Decides.{nat_tests}
+use Rattle.ph_io.specs.Giving.{Taken, Given, Grew}
+use Rattle.ph_io.specs.Writing.{WritesFront}
+use Rattle.ph_io.proofs.Appending.{given_none, given_both}
+use Rattle.ph_specs.specs.declared.Which.{Which}
+use Rattle.ph_specs.specs.declared.Which.TheVariants.{A, B}
+use Rattle.ph_specs.specs.Command.{Command}
+use Rattle.ph_specs.specs.Generator.{generate, generate_from, next_state, draw_of, command_of_draws, small_coordinate}
+use Rattle.ph_specs.specs.Program.{act_all, counted, opened, soak_line}
+use Rattle.ph_specs.specs.Reply.{Reply, replies_text, line_of, stats_words}
+use Rattle.ph_specs.specs.Refusals.{refusal}
+use Rattle.ph_specs.specs.State.{Slot, Engine, Files, outcome, current, with_table}
+use Rattle.ph_specs.specs.Stats.{Stats, stats}
+use Rattle.ph_specs.specs.Table.{Row, put, del, move}
+use Rattle.ph_specs.specs.Engine.{act, after, effect, unless_refused}
+use Rattle.ph_engine.specs.Beside.{Beside, beside, Tells}
+use Rattle.ph_engine.specs.Doing.{Done, Undone, Leads, Knows, fetches, starved_engine}
+use Rattle.ph_engine.specs.Machine.{Work, one_if}
+use Rattle.ph_engine.specs.Soaking.{is_drawn, AreDrawn, sum_work, visits_most, Soaked, SoakedInPart, SoakDone}
+use Rattle.ph_engine.specs.Working.{work_of, nodes_of, IsAtMost, IsAtLeast}
+use Rattle.ph_engine.specs.declared.status.Answer.{Answer}
+use Rattle.ph_engine.specs.declared.status.Status.TheVariants.{Clean, WriteFault}
+use Rattle.ph_engine.proofs.Replies.{texts-append}
+
+-- ---- the commands that are drawn
+
+both-first : (a b : Bool) → (a && b) ≡ true → a ≡ true
+both-first true b h = refl
+both-first false b h = h
+
+both-rest : (a b : Bool) → (a && b) ≡ true → b ≡ true
+both-rest true b h = h
+both-rest false b h = absurd cc
+
+some-drawn : (commands : List Command) (i : ℕ) (default : Command) → AreDrawn commands → is_drawn default ≡ true → is_drawn (slice_index_or commands i default) ≡ true
+some-drawn [] i default h k = k
+some-drawn (c ∷ commands) zero default h k = both-first (is_drawn c) (list_all is_drawn commands) h
+some-drawn (c ∷ commands) (suc i) default h k = some-drawn commands i default (both-rest (is_drawn c) (list_all is_drawn commands) h) k
+
+both : (a b : Bool) → a ≡ true → b ≡ true → (a && b) ≡ true
+both true b h k = k
+both false b h k = absurd cc
+
+draws-drawn : (t u v r : ℕ) → is_drawn (command_of_draws t u v r) ≡ true
+draws-drawn t u v r =
+    let x = small_coordinate u in
+    let y = small_coordinate v in
+    let p = x ∷ y ∷ [] in
+    let put = Command.Put p r in
+    some-drawn (put ∷ put ∷ put ∷ Command.Get p ∷ Command.Del p ∷ Command.Relocate p (y ∷ x ∷ []) ∷ Command.Window p ((x +ℤ pos 7) ∷ (y +ℤ pos 7) ∷ []) ∷ Command.Near p 4 ∷ []) (t % 8) put refl refl
+
+pub all_drawn : (n state : ℕ) → AreDrawn (generate_from n state)
+all_drawn zero state = refl
+all_drawn (suc n) state =
+    let t = next_state state in
+    let u = next_state t in
+    let v = next_state u in
+    let r = next_state v in
+    both (is_drawn (command_of_draws (draw_of t) (draw_of u) (draw_of v) (draw_of r))) (list_all is_drawn (generate_from n r)) (draws-drawn (draw_of t) (draw_of u) (draw_of v) (draw_of r)) (all_drawn n r)
+
+-- they read no file
+drawn-fetches : (command : Command) → is_drawn command ≡ true → fetches command ≡ false
+drawn-fetches (Command.Load name) h = absurd cc
+drawn-fetches (Command.Import name header) h = absurd cc
+drawn-fetches command h = refl
+
+drawn-starved : (e : Engine) (files : Files) (command : Command) (part : ℕ) → is_drawn command ≡ true → starved_engine e files command part ≡ e
+drawn-starved e files (Command.Import name header) part h = absurd cc
+drawn-starved e files command part h = refl
+
+-- they leave the files
+effect-files : (e : Engine) (files : Files) (command : Command) → is_drawn command ≡ true → (effect e files command).files ≡ files
+effect-files e files (Command.Put p v) h = refl
+effect-files e files (Command.Get p) h = refl
+effect-files e files (Command.Del p) h = refl
+effect-files e files (Command.Relocate p q) h = refl
+effect-files e files (Command.Window lo hi) h = refl
+effect-files e files (Command.Near q n) h = refl
+effect-files e files command h = absurd cc
+
+unless-files : (r : Option Reply) (e : Engine) (files : Files) (command : Command) → (effect e files command).files ≡ files → (unless_refused r e files command).files ≡ files
+unless-files (Some r) e files command h = refl
+unless-files None e files command h = h
+
+drawn-files : (most : ℕ) (e : Engine) (files : Files) (command : Command) → is_drawn command ≡ true → (act most e files false command).files ≡ files
+drawn-files most e files command h = unless-files (refusal most e files false command) e files command (effect-files e files command h)
+
+-- and the number of dimensions
+table-dims : (which : Which) (a b : Slot) (table : List Row) → let e : Engine = record { a = a; b = b; current = which } in (current (with_table e table)).dims ≡ (current e).dims
+table-dims A a b table = refl
+table-dims B a b table = refl
+
+effect-dims : (e : Engine) (files : Files) (command : Command) → is_drawn command ≡ true → (current (effect e files command).engine).dims ≡ (current e).dims
+effect-dims e files (Command.Put p v) h = let s = current e in table-dims e.current e.a e.b (put s.width s.table p v)
+effect-dims e files (Command.Get p) h = refl
+effect-dims e files (Command.Del p) h = table-dims e.current e.a e.b (del (current e).table p)
+effect-dims e files (Command.Relocate p q) h = let s = current e in table-dims e.current e.a e.b (move s.width s.table p q)
+effect-dims e files (Command.Window lo hi) h = refl
+effect-dims e files (Command.Near q n) h = refl
+effect-dims e files command h = absurd cc
+
+unless-dims : (r : Option Reply) (e : Engine) (files : Files) (command : Command) → (current (effect e files command).engine).dims ≡ (current e).dims → (current (unless_refused r e files command).engine).dims ≡ (current e).dims
+unless-dims (Some r) e files command h = refl
+unless-dims None e files command h = h
+
+drawn-dims : (most : ℕ) (e : Engine) (files : Files) (command : Command) → is_drawn command ≡ true → (current (act most e files false command).engine).dims ≡ (current e).dims
+drawn-dims most e files command h = unless-dims (refusal most e files false command) e files command (effect-dims e files command h)
+
+-- ---- the fold over commands
+
+act_all-append : (most : ℕ) (e : Engine) (files : Files) (xs ys : List Command) → act_all most e files (xs ++ ys) ≡ after (act_all most e files xs).replies (act_all most (act_all most e files xs).engine (act_all most e files xs).files ys)
+act_all-append most e files [] ys = refl
+act_all-append most e files (c ∷ xs) ys =
+    let o = act most e files false c in
+    let rest = act_all most o.engine o.files xs in
+    let last = act_all most rest.engine rest.files ys in
+    ap (after o.replies) (act_all-append most o.engine o.files xs ys) ∙ ap (outcome last.engine last.files) (sym (append_assoc o.replies rest.replies last.replies))
+
+sum-append : (bound : Work → ℕ) (most : ℕ) (e : Engine) (files : Files) (xs ys : List Command) → sum_work bound most e files (xs ++ ys) ≡ sum_work bound most e files xs + sum_work bound most (act_all most e files xs).engine (act_all most e files xs).files ys
+sum-append bound most e files [] ys = omega arith
+sum-append bound most e files (c ∷ xs) ys = let o = act most e files false c in omega (arith, sum-append bound most o.engine o.files xs ys)
+
+-- the same of a command and those behind it, in the state that the first commands lead to
+sum-behind : (bound : Work → ℕ) (most : ℕ) (e now : Engine) (files : Files) (xs : List Command) (c : Command) (ys : List Command) → now ≡ (act_all most e files xs).engine → files ≡ (act_all most e files xs).files → sum_work bound most e files xs + bound (work_of most now files false c) ≤ sum_work bound most e files (xs ++ c ∷ ys)
+sum-behind bound most e now files xs c ys l k =
+    let before = act_all most e files xs in
+    let s : bound (work_of most now files false c) ≡ bound (work_of most before.engine before.files false c) =
+    ap (λ x. bound (work_of most x files false c)) l ∙ ap (λ x. bound (work_of most before.engine x false c)) k in
+    omega (arith, sum-append bound most e files xs (c ∷ ys), s)
+
+sum-more : (bound : Work → ℕ) (most : ℕ) (e now : Engine) (files : Files) (xs : List Command) (c : Command) → now ≡ (act_all most e files xs).engine → files ≡ (act_all most e files xs).files → sum_work bound most e files (xs ++ c ∷ []) ≡ sum_work bound most e files xs + bound (work_of most now files false c)
+sum-more bound most e now files xs c l k =
+    let before = act_all most e files xs in
+    let s : bound (work_of most now files false c) ≡ bound (work_of most before.engine before.files false c) =
+    ap (λ x. bound (work_of most x files false c)) l ∙ ap (λ x. bound (work_of most before.engine x false c)) k in
+    omega (arith, sum-append bound most e files xs (c ∷ []), s)
+
+-- ---- commands that were done
+
+soaked-none : (most : ℕ) (e : Engine) (files : Files) (b : Beside) → Soaked most e files [] b b e
+soaked-none most e files b = record {
+  led = refl;
+  kept = refl;
+  told = given_none b.sink;
+  most_visits = omega arith;
+  most_changes = omega arith;
+  least_visits = omega arith;
+  least_changes = omega arith;
+}
+
+no-fault : (fault : Bool) → Tells 0 0 (one_if fault) → fault ≡ false
+no-fault false h = refl
+no-fault true (inl h) = absurd (omega (arith, h))
+no-fault true (inr h) = absurd (omega (arith, h))
+
+-- files that are not told are known well enough
+drawn-knows : (command : Command) (told : Option Files) (files : Files) → is_drawn command ≡ true → told ≡ None → Knows command told files
+drawn-knows command told files h n = rw n (drawn-fetches command h)
+
+soaked-more : (most : ℕ) (e now next : Engine) (files : Files) (commands : List Command) (command : Command) (start b now_b : Beside) (answer : Answer) → is_drawn command ≡ true → b.files ≡ None → b.filings ≡ 0 → now_b.filings ≡ 0 → Soaked most e files commands start b now → Done most now command b now_b next answer → Soaked most e files (commands ++ command ∷ []) start now_b next
+soaked-more most e now next files commands command start b now_b answer drawn untold none stand h d =
+    let knows = drawn-knows command b.files files drawn untold in
+    let f : d.fault ≡ false = no-fault d.fault (let t : Tells b.filings now_b.filings (one_if d.fault) = d.filings.told in rw (none, stand) at t) in
+    let l : Leads (act most now files d.fault command) next b.files now_b.files d.replies = d.does files knows in
+    let led : act most now files false command ≡ outcome next l.files d.replies = ap (λ x. act most now files x command) (sym f) ∙ l.is in
+    let same : files ≡ l.files = sym (drawn-files most now files command drawn) ∙ ap (λ x. x.files) led in
+    let before = act_all most e files commands in
+    let o : act most before.engine before.files false command ≡ outcome next files d.replies =
+    ap (λ x. act most x before.files false command) (sym h.led) ∙ ap (λ x. act most now x false command) (sym h.kept) ∙ led ∙ ap (λ x. outcome next x d.replies) (sym same) in
+    let all : act_all most e files (commands ++ command ∷ []) ≡ outcome next files (before.replies ++ (d.replies ++ [])) =
+    act_all-append most e files commands (command ∷ []) ∙ ap (λ x. after before.replies (after x.replies (outcome x.engine x.files []))) o in
+    let most_done : IsAtMost (work_of most now files false command) b.visits now_b.visits b.changes now_b.changes = (let w = d.most_work files knows in rw f at w) in
+    let least_done : IsAtLeast (work_of most now files false command) b.visits now_b.visits b.changes now_b.changes = (let w = d.least_work files knows in rw f at w) in
+    record {
+      led = ap (λ x. x.engine) (sym all);
+      kept = ap (λ x. x.files) (sym all);
+      told = let g : Given start.sink now_b.sink (replies_text before.replies ++ replies_text d.replies) = given_both start.sink b.sink now_b.sink _ _ h.told d.told in
+          let t : replies_text (act_all most e files (commands ++ command ∷ [])).replies ≡ replies_text before.replies ++ replies_text d.replies =
+          ap (λ x. replies_text x.replies) all ∙ texts-append before.replies (d.replies ++ []) ∙ ap (λ x. replies_text before.replies ++ replies_text x) (append-nil d.replies) in
+          rw t g;
+      most_visits = omega (arith, h.most_visits, most_done.few_visits, sum-more (λ w. w.most_visits) most e now files commands command h.led h.kept);
+      most_changes = omega (arith, h.most_changes, most_done.few_changes, sum-more (λ w. w.most_changes) most e now files commands command h.led h.kept);
+      least_visits = omega (arith, h.least_visits, least_done.enough_visits, sum-more (λ w. w.least_visits) most e now files commands command h.led h.kept);
+      least_changes = omega (arith, h.least_changes, least_done.enough_changes, sum-more (λ w. w.least_changes) most e now files commands command h.led h.kept);
+    }
+
+-- ---- while commands are left
+
+-- Of all commands some first were done, and the rest is left.
+pub record SoakedSoFar (most : ℕ) (e : Engine) (all : List Command) (b now_b : Beside) (now : Engine) (rest : List Command) : Type 0 where
+  pub finished : List Command
+  pub cut : finished ++ rest ≡ all
+  pub drawn : AreDrawn rest
+  pub dims : (current now).dims ≡ 2
+  pub soaked : (files : Files) → Soaked most e files finished b now_b now
+
+pub soak_begun : (most : ℕ) (e : Engine) (all : List Command) (b : Beside) → AreDrawn all → (current e).dims ≡ 2 → SoakedSoFar most e all b b e all
+soak_begun most e all b drawn dims = record { finished = []; cut = refl; drawn = drawn; dims = dims; soaked = λ files. soaked-none most e files b }
+
+pub soak_next : (most : ℕ) (e now next : Engine) (all : List Command) (command : Command) (rest : List Command) (start b now_b : Beside) (answer : Answer) → b.files ≡ None → b.filings ≡ 0 → now_b.filings ≡ 0 → SoakedSoFar most e all start b now (command ∷ rest) → Done most now command b now_b next answer → SoakedSoFar most e all start now_b next rest
+soak_next most e now next all command rest start b now_b answer untold none stand h d =
+    let drawn = both-first (is_drawn command) (list_all is_drawn rest) h.drawn in
+    let soaked = λ (files : Files). soaked-more most e now next files h.finished command start b now_b answer drawn untold none stand (h.soaked files) d in
+    let l : Leads (act most now [] d.fault command) next b.files now_b.files d.replies = d.does [] (drawn-knows command b.files [] drawn untold) in
+    let f : d.fault ≡ false = no-fault d.fault (let t : Tells b.filings now_b.filings (one_if d.fault) = d.filings.told in rw (none, stand) at t) in
+    record {
+      finished = h.finished ++ command ∷ [];
+      cut = append_assoc h.finished (command ∷ []) rest ∙ h.cut;
+      drawn = both-rest (is_drawn command) (list_all is_drawn rest) h.drawn;
+      dims = sym (ap (λ x. (current x.engine).dims) (ap (λ x. act most now [] x command) (sym f) ∙ l.is)) ∙ drawn-dims most now [] command drawn ∙ h.dims;
+      soaked = soaked;
+    }
+
+pub soak_starved : (most : ℕ) (e now next : Engine) (all : List Command) (command : Command) (rest : List Command) (start b now_b : Beside) → b.files ≡ None → SoakedSoFar most e all start b now (command ∷ rest) → Undone most now command b now_b next → SoakedInPart most e all start now_b next
+soak_starved most e now next all command rest start b now_b untold h d =
+    let drawn = both-first (is_drawn command) (list_all is_drawn rest) h.drawn in
+    let knows = λ (files : Files). drawn-knows command b.files files drawn untold in
+    let stays : next ≡ now = d.state [] (knows []) ∙ drawn-starved now [] command d.part drawn in
+    let front : take (length h.finished) all ≡ h.finished = ap (take (length h.finished)) (sym h.cut) ∙ take-front h.finished (command ∷ rest) in
+    record {
+      count = length h.finished;
+      led = λ files. stays ∙ (h.soaked files).led ∙ ap (λ x. (act_all most e files x).engine) (sym front);
+      most_visits = λ files.
+          let s = h.soaked files in
+          let w = d.most_work files (knows files) in
+          let behind = sum-behind (λ w. w.most_visits) most e now files h.finished command rest s.led s.kept in
+          omega (arith, s.most_visits, w.few_visits, behind, ap (sum_work (λ w. w.most_visits) most e files) h.cut);
+      most_changes = λ files.
+          let s = h.soaked files in
+          let w = d.most_work files (knows files) in
+          let behind = sum-behind (λ w. w.most_changes) most e now files h.finished command rest s.led s.kept in
+          omega (arith, s.most_changes, w.few_changes, behind, ap (sum_work (λ w. w.most_changes) most e files) h.cut);
+    }
+  where
+    take-front : (xs ys : List Command) → take (length xs) (xs ++ ys) ≡ xs
+    take-front xs ys = grind (arith, common_steps)
+
+-- ---- the line
+
+-- the number that a sink shows that only counts, from 0 on
+counted-is : (n len : ℕ) → n ≤ 2 ^ 64 - 1 → Grew (Some 0) (Some n) len → n ≡ counted len
+counted-is n len l h = by-test (nat_le (2 ^ 64) len) refl
+  where
+    by-test : (t : Bool) → nat_le (2 ^ 64) len ≡ t → n ≡ counted len
+    by-test true e = let k : 2 ^ 64 ≤ len = grind (arith, nat_tests) in rw e (omega (arith, l, h, k))
+    by-test false e = let k : len < 2 ^ 64 = grind (arith, nat_tests) in rw e (omega (arith, l, h, k))
+
+-- the line with these sizes and a number of bytes, and with the sizes of a slot
+abbrev sizes_line : ℕ → Stats → ℕ → List ℕ
+sizes_line n sizes bytes = line_of (codes "soak" ∷ decimal n ∷ stats_words sizes ++ codes "bytes" ∷ decimal bytes ∷ [])
+
+abbrev slot_line : ℕ → Slot → ℕ → List ℕ
+slot_line n s bytes = sizes_line n (stats s.width s.dims s.table) bytes
+
+pub sizes_line_is : (n : ℕ) (sizes : Stats) (s slot : Slot) (taken bytes : ℕ) → sizes ≡ stats s.width s.dims s.table → s ≡ slot → taken ≡ bytes → sizes_line n sizes taken ≡ slot_line n slot bytes
+sizes_line_is n sizes s slot taken bytes sized same counted = ap (λ x. sizes_line n x taken) (sized ∙ ap (λ x. stats x.width x.dims x.table) same) ∙ ap (slot_line n slot) counted
+
+-- ---- how a soak ends
+
+-- all commands were done, and the sizes were counted
+module _ (most n start : ℕ) (e now : Engine) (visits counted_visits now_visits changes now_changes bytes : ℕ) (soaked : (files : Files) → Soaked most (opened e []) files (generate n start) (beside None (Some 0) None 0 visits changes) (beside None (Some bytes) None 0 counted_visits now_changes) now) (fits : bytes ≤ 2 ^ 64 - 1) (sized : now_visits ≡ counted_visits + nodes_of now.a) where
+  line-is : (files : Files) → slot_line n now.a bytes ≡ soak_line most e files n start
+  line-is files =
+      let s = soaked files in
+      let all = act_all most (opened e []) files (generate n start) in
+      ap (λ x. slot_line n x.a bytes) s.led ∙ ap (slot_line n all.engine.a) (counted-is bytes (length (replies_text all.replies)) fits s.told.amount)
+
+  few-visits : (files : Files) → now_visits ≤ visits + visits_most most (opened e []) files (generate n start) + nodes_of (act_all most (opened e []) files (generate n start)).engine.a
+  few-visits files = let s = soaked files in omega (arith, s.most_visits, sized, ap (λ x. nodes_of x.a) s.led)
+
+  pub soak_clean : (sink now_sink : Taken) → Given sink now_sink (slot_line n now.a bytes) → SoakDone most n start e now sink now_sink visits now_visits changes now_changes Clean
+  soak_clean sink now_sink given = record {
+    ends = inl refl;
+    told = λ files s. rw (sym (line-is files)) given;
+    cut = λ files s. absurd cc;
+    none = λ s. absurd cc;
+    engine = λ files s. (soaked files).led;
+    part = λ s. absurd cc;
+    most_visits = few-visits;
+    most_changes = λ files. (soaked files).most_changes;
+    least_visits = λ files s. omega (arith, (soaked files).least_visits, sized);
+    least_changes = λ files s. (soaked files).least_changes;
+  }
+
+  pub soak_cut : (sink now_sink : Taken) → WritesFront sink now_sink (slot_line n now.a bytes) → SoakDone most n start e now sink now_sink visits now_visits changes now_changes WriteFault
+  soak_cut sink now_sink front = record {
+    ends = inr (inl refl);
+    told = λ files s. absurd cc;
+    cut = λ files s. rw (sym (line-is files)) front;
+    none = λ s. absurd cc;
+    engine = λ files s. (soaked files).led;
+    part = λ s. absurd cc;
+    most_visits = few-visits;
+    most_changes = λ files. (soaked files).most_changes;
+    least_visits = λ files s. absurd cc;
+    least_changes = λ files s. absurd cc;
+  }

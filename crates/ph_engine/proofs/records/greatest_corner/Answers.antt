@@ -1,0 +1,8 @@
+use Rattle.std.proofs.Common.{rules, ◌≡◌, subst, sym}
+use Rattle.ph_specs.specs.Coordinate.{IsPoint}
+use Rattle.ph_engine.specs.Recording.{highest}
+use Rattle.ph_engine.proofs.Whole.{highest-point}
+use Rattle.ph_engine.proofs.records.greatest_corner.Goals as goal
+
+pub returns-clause-point : goal.returns-clause-point
+returns-clause-point g c = let value : c.new.result ≡ highest c.args.w g.row.D = search rules in subst (IsPoint c.args.w g.row.D) (sym value) (highest-point c.args.w g.row.D)

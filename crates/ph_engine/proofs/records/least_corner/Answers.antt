@@ -1,0 +1,8 @@
+use Rattle.std.proofs.Common.{rules, ◌≡◌, subst, sym}
+use Rattle.ph_specs.specs.Coordinate.{IsPoint}
+use Rattle.ph_engine.specs.Recording.{lowest}
+use Rattle.ph_engine.proofs.Whole.{lowest-point}
+use Rattle.ph_engine.proofs.records.least_corner.Goals as goal
+
+pub returns-clause-point : goal.returns-clause-point
+returns-clause-point g c = let value : c.new.result ≡ lowest c.args.w g.row.D = search rules in subst (IsPoint c.args.w g.row.D) (sym value) (lowest-point c.args.w g.row.D)

@@ -1,0 +1,90 @@
+-- What imports and exports do, before their replies are told.
+use Rattle.std.specs.Prelude.{◌≡◌, ◌≤◌, ℕ, Bool, nat_lt, if◌then◌else◌, List, length, replicate, take, ℤ, Option, Result, Ok, Err}
+use Rattle.ph_csv.specs.Faults.{IsFault}
+use Rattle.ph_csv.specs.declared.fault.CsvFault.{CsvFault}
+use Rattle.ph_csv.specs.declared.fault.CsvFault.TheVariants as csv
+use Rattle.ph_io.specs.Shelf.{Map, Draft, Stays}
+use Rattle.ph_specs.specs.Command.{Command}
+use Rattle.ph_specs.specs.Coordinate.{least, greatest}
+use Rattle.ph_specs.specs.Named.{Named}
+use Rattle.ph_specs.specs.Reply.{Reply}
+use Rattle.ph_specs.specs.Sets.{put_all}
+use Rattle.ph_specs.specs.State.{Files}
+use Rattle.ph_specs.specs.Table.{Row}
+use Rattle.ph_specs.specs.Window.{Cursor}
+use Rattle.ph_specs.specs.declared.Kind.{Kind}
+use Rattle.ph_script.specs.declared.reply.Reply.{Reply as Told}
+use Rattle.ph_script.specs.Meaning.{reply_of}
+use Rattle.ph_import.specs.Imported.{with_rows}
+use Rattle.ph_engine.specs.Drafting.{Filled, Unfilled}
+use Rattle.ph_engine.specs.Filing.{Entered, FiledOr}
+use Rattle.ph_engine.specs.Slots.{AnyTable, table_at, slot_of, engine_of}
+use Rattle.ph_engine.specs.declared.records.ExportFault.{ExportFault}
+use Rattle.ph_engine.specs.declared.records.ExportFault.TheVariants as by
+
+-- ---- rows that are put
+
+-- the table with rows put into it, and whether it has more than it may have then
+abbrev pub table_with : AnyTable → List Row → AnyTable
+table_with t rows = table_at t.dims (with_rows t.tree rows)
+
+abbrev pub is_overfull : AnyTable → List Row → Bool
+is_overfull t rows = nat_lt t.tree.max (length (put_all t.tree.width t.tree.table rows))
+
+-- what a table becomes by the rows that were read, or by their fault, and the reply
+abbrev pub imported_table : AnyTable → Result (List Row) Reply → AnyTable
+imported_table t (Ok rows) = if is_overfull t rows then t else table_with t rows
+imported_table t (Err fault) = t
+
+abbrev pub imported_reply : AnyTable → Result (List Row) Reply → Reply
+imported_reply t (Ok rows) = if is_overfull t rows then Reply.ErrorFull else Reply.Imported (length rows)
+imported_reply t (Err fault) = fault
+
+-- the table with the first rows of those that were read, if they were
+abbrev pub table_with_first : AnyTable → ℕ → Result (List Row) Reply → AnyTable
+table_with_first t part (Ok rows) = table_with t (take part rows)
+table_with_first t part (Err fault) = t
+
+-- the rows were put, or memory was missing for some of them
+abbrev pub ImportsOr : {D : ℕ} {E : Type 0} → AnyTable → Result (List Row) Reply → AnyTable → Result (Told D) E → Type 0
+ImportsOr t read now (Ok reply) = (now ≡ imported_table t read) × (reply_of reply ≡ imported_reply t read)
+ImportsOr t read now (Err error) = (part : ℕ) × (now ≡ table_with_first t part read)
+
+-- an import into a table, whatever cursors stand beside it
+pub record TableImported {D : ℕ} {E : Type 0} (most : ℕ) (kind : Kind) (t : AnyTable) (name : List ℕ) (header : Bool) (told now_told : Option Files) (before now_count visits now_visits changes now_changes : ℕ) (now : AnyTable) (result : Result (Told D) E) : Type 0 where
+  pub filed : (cursors : Named Cursor) → FiledOr most (engine_of (slot_of kind t cursors)) (Command.Import name header) told now_told before now_count visits now_visits changes now_changes (engine_of (slot_of kind now cursors)) result
+
+-- a reply tells the fault of a text, or memory was missing for its rows
+abbrev pub TellsRecord : {D : ℕ} {E : Type 0} → CsvFault → Result (Told D) E → Type 0
+TellsRecord fault (Ok reply) = (answer : Result (List Row) Reply) → IsFault answer fault → answer ≡ Err (reply_of reply)
+TellsRecord fault (Err error) = fault ≡ csv.NoMemory
+
+-- ---- rows that are written
+
+-- the corners of the window that has all points
+abbrev pub lowest : ℕ → ℕ → List ℤ
+lowest w d = replicate d (least w)
+
+abbrev pub highest : ℕ → ℕ → List ℤ
+highest w d = replicate d (greatest w)
+
+-- memory was missing, and the files are as they were
+pub record Unwritten (files now_files : Option Map) (before now : ℕ) : Type 0 where
+  pub later : before ≤ now
+  pub stays : Stays files now_files
+
+-- the bytes were appended to the file that is begun
+abbrev pub AppendedOr : Option Map → Option Map → Option Draft → Option Draft → ℕ → ℕ → Bool → List ℕ → Result Unit ExportFault → Type 0
+AppendedOr files now_files draft now_draft before now begun bytes (Ok _) = Filled files now_files draft now_draft before now begun bytes
+AppendedOr files now_files draft now_draft before now begun bytes (Err by.Failed) = Unfilled files now_files before now
+AppendedOr files now_files draft now_draft before now begun bytes (Err by.NoMemory) = Unwritten files now_files before now
+
+-- the bytes are a file under the name
+abbrev pub ExportedOr : Option Files → Option Files → ℕ → ℕ → List ℕ → List ℕ → Result Unit ExportFault → Type 0
+ExportedOr told now_told before now name bytes (Ok _) = Entered told now_told before now name bytes (length bytes)
+ExportedOr told now_told before now name bytes (Err by.Failed) = Unfilled told now_told before now
+ExportedOr told now_told before now name bytes (Err by.NoMemory) = Unwritten told now_told before now
+
+-- an export of a table, of whatever kind and whatever cursors stand beside it
+pub record TableExported {D : ℕ} {E : Type 0} (t : AnyTable) (name : List ℕ) (told now_told : Option Files) (before now visits now_visits : ℕ) (result : Result (Told D) E) : Type 0 where
+  pub filed : (most changes : ℕ) (kind : Kind) (cursors : Named Cursor) → let e = engine_of (slot_of kind t cursors) in FiledOr most e (Command.Export name) told now_told before now visits now_visits changes changes e result

@@ -1,0 +1,242 @@
+//! Commands on files of records: rows as comma-separated fields, a line each.
+ghost use Rattle.std.specs.Prelude.{◌≡◌, ◌≤◌, ◌+◌, ◌*◌, true, length, Ok, OnOk};
+ghost use Rattle.std.specs.List.{AllByRecursion as Each};
+ghost use Rattle.ph_specs.specs.Coordinate.{IsPoint};
+ghost use Rattle.ph_specs.specs.Csv.{csv_rows, csv_line, csv_text};
+ghost use Rattle.ph_specs.specs.Refusals.{read_length};
+ghost use Rattle.ph_specs.specs.WorkSets.{all_nodes};
+ghost use Rattle.ph_script.specs.Meaning.{reply_of};
+ghost use Rattle.ph_engine.specs.Filing.{SameFrame};
+ghost use Rattle.ph_engine.specs.Recording.{AppendedOr, ExportedOr, ImportsOr, TableExported, TableImported, TellsRecord, lowest, highest};
+ghost use Rattle.ph_engine.specs.Slots.{any_table, table_at};
+
+use crate::filing::fetch_reply;
+use crate::status::Limits;
+use crate::trees::AnyTree;
+use ph_coord::{Kind, Point, Row, Width};
+use ph_csv::{CsvFault, read_rows, write_row};
+use ph_import::{ImportFault, put_rows};
+use ph_io::{Failed, Files};
+use ph_script::{FileName, Reply};
+use ph_steps::Steps;
+use ph_tree::{NoMemory, PhTree};
+use ph_window::Window;
+use std::alloc::Global;
+use std::sync::ledger::Ledger;
+
+// The bytes of the longest line: 8 coordinates of 32 bits, each with a comma, a value of 64 bits and a line feed.
+const LONGEST: usize = 8 * (11 + 1) + 20 + 1;
+
+// Puts the rows of a file into a tree, once all of them are read and it has room for them.
+pub(crate) fn import_table<F: Files, V: Ledger, C: Ledger>(
+    tree: &mut AnyTree,
+    kind: Kind,
+    alloc: Global,
+    file: &FileName,
+    header: bool,
+    files: &mut F,
+    limits: &Limits,
+    visits: &mut Steps<V>,
+    changes: &mut Steps<C>,
+) -> Result<Reply<1>, NoMemory>
+    ensures frame { SameFrame kind (any_table tree.old) (any_table tree.new) }
+    ensures imported { TableImported limits.now.file_bytes kind (any_table tree.old) file.now header (F.files files.old) (F.files files.new) (F.faults files.old) (F.faults files.new) visits.old visits.new changes.old changes.new (any_table tree.new) result }
+{
+    let mut bytes = Vec::new(alloc);
+    match files.fetch(file.as_str(), limits.file_bytes, &mut bytes) {
+        Ok(()) => tree.import(alloc, bytes.as_slice(), kind, header, visits, changes),
+        Err(fault) => fetch_reply(fault),
+    }
+}
+
+// The same of a text.
+pub(crate) fn import_text<const D: usize, V: Ledger, C: Ledger>(
+    tree: &mut PhTree<D>,
+    alloc: Global,
+    text: &[u8],
+    kind: Kind,
+    header: bool,
+    visits: &mut Steps<V>,
+    changes: &mut Steps<C>,
+) -> Result<Reply<1>, NoMemory>
+    requires { D ≤ 16 }
+    ensures imports { ImportsOr (table_at D tree.old) (csv_rows tree.old.width D kind header text.now) (table_at D tree.new) result }
+    ensures frame { SameFrame kind (table_at D tree.old) (table_at D tree.new) }
+    ensures later { visits.old ≤ visits.new }
+    ensures few { visits.new ≤ visits.old + 4 * tree.old.width * read_length (csv_rows tree.old.width D kind header text.now) }
+    ensures kept { changes.old ≤ changes.new }
+    ensures changes { changes.new ≤ changes.old + 2 * read_length (csv_rows tree.old.width D kind header text.now) }
+{
+    match read_rows(alloc, text, tree.width(), kind, header) {
+        Ok(rows) => put_read(tree, alloc, rows.as_slice(), visits, changes),
+        Err(fault) => record_reply(fault),
+    }
+}
+
+// Puts rows into a tree, if it has room for all of them.
+fn put_read<const D: usize, V: Ledger, C: Ledger>(
+    tree: &mut PhTree<D>,
+    alloc: Global,
+    rows: &[Row<D>],
+    visits: &mut Steps<V>,
+    changes: &mut Steps<C>,
+) -> Result<Reply<1>, NoMemory>
+    requires { Each (λ r. IsPoint tree.old.width D r.point) rows.now }
+    ensures imports { ImportsOr (table_at D tree.old) (Ok rows.now) (table_at D tree.new) result }
+    ensures later { visits.old ≤ visits.new }
+    ensures few { visits.new ≤ visits.old + 4 * tree.old.width * length rows.now }
+    ensures kept { changes.old ≤ changes.new }
+    ensures changes { changes.new ≤ changes.old + 2 * length rows.now }
+{
+    match put_rows(alloc, tree, rows, visits, changes) {
+        Ok(()) => Ok(Reply::Imported(rows.len() as u64)),
+        Err(ImportFault::Full) => Ok(Reply::ErrorFull),
+        Err(ImportFault::NoMemory) => Err(NoMemory),
+    }
+}
+
+// What is replied to a fault of a text.
+fn record_reply(fault: CsvFault) -> Result<Reply<1>, NoMemory>
+    ensures { TellsRecord fault result }
+{
+    match fault {
+        CsvFault::Fields(n) => Ok(Reply::BadFields(n)),
+        CsvFault::Number(n) => Ok(Reply::BadNumber(n)),
+        CsvFault::Range(n) => Ok(Reply::BadRange(n)),
+        CsvFault::Reversed(n) => Ok(Reply::BadReversed(n)),
+        CsvFault::NoMemory => Err(NoMemory),
+    }
+}
+
+// Why a table was not exported.
+#[derive(Clone, Copy)]
+pub(crate) enum ExportFault {
+    // The files failed.
+    Failed,
+    // There was no memory for a line. The file may be left begun.
+    NoMemory,
+}
+
+impl From<Failed> for ExportFault {
+    ghost use Rattle.ph_engine.specs.declared.records.ExportFault.TheVariants.{Failed as FilesFailed};
+
+    ghost from_gives = { λ _ fault. fault ≡ FilesFailed };
+
+    fn from(_: Failed) -> ExportFault {
+        ExportFault::Failed
+    }
+}
+
+impl From<NoMemory> for ExportFault {
+    ghost use Rattle.ph_engine.specs.declared.records.ExportFault.TheVariants.{NoMemory as LineMemory};
+
+    ghost from_gives = { λ _ fault. fault ≡ LineMemory };
+
+    fn from(_: NoMemory) -> ExportFault {
+        ExportFault::NoMemory
+    }
+}
+
+// Writes the rows of a tree to a file of this name, in place of one that has it.
+pub(crate) fn export_table<F: Files, V: Ledger>(
+    tree: &AnyTree,
+    alloc: Global,
+    file: &FileName,
+    files: &mut F,
+    visits: &mut Steps<V>,
+) -> Result<Reply<1>, NoMemory>
+    ensures { TableExported (any_table tree.now) file.now (F.files files.old) (F.files files.new) (F.faults files.old) (F.faults files.new) visits.old visits.new result }
+{
+    match tree.export(alloc, file, files, visits) {
+        Ok(()) => Ok(Reply::Exported(tree.len())),
+        Err(ExportFault::Failed) => Ok(Reply::ErrorFile),
+        Err(ExportFault::NoMemory) => Err(NoMemory),
+    }
+}
+
+// The same of a tree of D dimensions. Where it does not succeed, a file of the name stays as it was.
+pub(crate) fn export_tree<const D: usize, F: Files, V: Ledger>(
+    tree: &PhTree<D>,
+    alloc: Global,
+    file: &FileName,
+    files: &mut F,
+    visits: &mut Steps<V>,
+) -> Result<(), ExportFault>
+    requires { D ≤ 16 }
+    ensures exported { ExportedOr (F.files files.old) (F.files files.new) (F.faults files.old) (F.faults files.new) file.now (csv_text tree.now.table) result }
+    ensures later { visits.old ≤ visits.new }
+    ensures few { visits.new ≤ visits.old + length (all_nodes tree.now.width D tree.now.table) }
+    ensures all { OnOk result (visits.new ≡ visits.old + length (all_nodes tree.now.width D tree.now.table)) }
+{
+    let mut line = Vec::with_capacity(alloc, LONGEST)?;
+    files.begin(file.as_str())?;
+    append_rows(tree, &mut line, files, visits)?;
+    files.finish()?;
+    Ok(())
+}
+
+// Appends the lines of all rows to the file that is begun, by way of a line in memory.
+fn append_rows<const D: usize, F: Files, V: Ledger>(
+    tree: &PhTree<D>,
+    line: &mut Vec<u8>,
+    files: &mut F,
+    visits: &mut Steps<V>,
+) -> Result<(), ExportFault>
+    requires limit { D ≤ 16 }
+    requires begun { F.is_begun files.old ≡ true }
+    ensures appended { AppendedOr (F.files files.old) (F.files files.new) (F.draft files.old) (F.draft files.new) (F.faults files.old) (F.faults files.new) (F.is_begun files.new) (csv_text tree.now.table) result }
+    ensures later { visits.old ≤ visits.new }
+    ensures few { visits.new ≤ visits.old + length (all_nodes tree.now.width D tree.now.table) }
+    ensures all { OnOk result (visits.new ≡ visits.old + length (all_nodes tree.now.width D tree.now.table)) }
+{
+    let mut window = all_rows(tree);
+    'rows: while let Some(row) = window.next(visits) {
+        append_row(&row, line, files)?;
+    }
+    Ok(())
+}
+
+// The window of all rows of a tree.
+fn all_rows<const D: usize>(tree: &PhTree<D>) -> Window<'_, D>
+    requires { D ≤ 16 }
+    ensures rows { result.rows ≡ tree.now.table }
+    ensures visits { result.visits ≡ length (all_nodes tree.now.width D tree.now.table) }
+{
+    let w = tree.width();
+    // Uses that make known that the rows are those of a table, of a width from 1 to 62.
+    let _root = tree.root();
+    let _bits = w.bits();
+    Window::new(tree, least_corner(w), greatest_corner(w))
+}
+
+fn least_corner<const D: usize>(w: Width) -> Point<D>
+    requires { D ≤ 16 }
+    ensures value { result ≡ lowest w D }
+    ensures point { IsPoint w D result }
+{
+    Point::new([w.least(); D])
+}
+
+fn greatest_corner<const D: usize>(w: Width) -> Point<D>
+    requires { D ≤ 16 }
+    ensures value { result ≡ highest w D }
+    ensures point { IsPoint w D result }
+{
+    Point::new([w.greatest(); D])
+}
+
+// Appends the line of a row to the file that is begun.
+fn append_row<const D: usize, F: Files>(
+    row: &Row<D>,
+    line: &mut Vec<u8>,
+    files: &mut F,
+) -> Result<(), ExportFault>
+    requires limit { D ≤ 16 }
+    requires begun { F.is_begun files.old ≡ true }
+    ensures { AppendedOr (F.files files.old) (F.files files.new) (F.draft files.old) (F.draft files.new) (F.faults files.old) (F.faults files.new) (F.is_begun files.new) (csv_line row.now) result }
+{
+    line.clear();
+    write_row(row, line)?;
+    files.append(line.as_slice())?;
+    Ok(())
+}
