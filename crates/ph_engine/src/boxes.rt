@@ -54,7 +54,7 @@ fn bounds_of<const K: usize, const D: usize>(
 pub(crate) fn list_boxes<const K: usize, const D: usize, O: Sink, V: Ledger>(
     tree: &PhTree<D>,
     question: Question,
-    asked: &Coords,
+    asked: &Coords<'_>,
     out: &mut O,
     text: &mut Text,
     visits: &mut Steps<V>,

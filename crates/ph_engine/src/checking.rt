@@ -30,7 +30,7 @@ use std::sync::ledger::Ledger;
 // Writes the line of a file: the sizes of the table of which it is the snapshot, or why it is none.
 pub(crate) fn check<O: Sink, F: Files, V: Ledger, C: Ledger>(
     alloc: Global,
-    file: &FileName,
+    file: &FileName<'_>,
     out: &mut O,
     files: &mut F,
     limits: &Limits,
@@ -51,7 +51,7 @@ pub(crate) fn check<O: Sink, F: Files, V: Ledger, C: Ledger>(
 
 fn check_file<O: Sink, F: Files, V: Ledger, C: Ledger>(
     alloc: Global,
-    file: &FileName,
+    file: &FileName<'_>,
     out: &mut O,
     files: &mut F,
     limits: &Limits,

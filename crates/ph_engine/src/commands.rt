@@ -17,7 +17,7 @@ use ph_window::Cursor;
 use std::sync::ledger::Ledger;
 
 // The point at these coordinates, which are in the width.
-pub(crate) fn point_at<const D: usize>(w: Width, at: &Coords) -> Point<D>
+pub(crate) fn point_at<const D: usize>(w: Width, at: &Coords<'_>) -> Point<D>
     requires dims { length at.now ≡ D }
     requires range { list_all (fits w) (numbers_of at.now) ≡ true }
     ensures value { result ≡ numbers_of at.now }
@@ -45,7 +45,7 @@ fn number_at(w: Width, coord: &Coord) -> i64
 
 pub(crate) fn put_row<const D: usize, V: Ledger, C: Ledger>(
     tree: &mut PhTree<D>,
-    at: &Coords,
+    at: &Coords<'_>,
     value: u64,
     visits: &mut Steps<V>,
     changes: &mut Steps<C>,
@@ -68,7 +68,7 @@ pub(crate) fn put_row<const D: usize, V: Ledger, C: Ledger>(
 
 pub(crate) fn get_row<const D: usize, V: Ledger>(
     tree: &PhTree<D>,
-    at: &Coords,
+    at: &Coords<'_>,
     visits: &mut Steps<V>,
 ) -> Reply<1>
     requires dims { length at.now ≡ D }
@@ -85,7 +85,7 @@ pub(crate) fn get_row<const D: usize, V: Ledger>(
 
 pub(crate) fn del_row<const D: usize, V: Ledger, C: Ledger>(
     tree: &mut PhTree<D>,
-    at: &Coords,
+    at: &Coords<'_>,
     visits: &mut Steps<V>,
     changes: &mut Steps<C>,
 ) -> Result<Reply<1>, NoMemory>
@@ -103,8 +103,8 @@ pub(crate) fn del_row<const D: usize, V: Ledger, C: Ledger>(
 
 pub(crate) fn move_row<const D: usize, V: Ledger, C: Ledger>(
     tree: &mut PhTree<D>,
-    from: &Coords,
-    to: &Coords,
+    from: &Coords<'_>,
+    to: &Coords<'_>,
     visits: &mut Steps<V>,
     changes: &mut Steps<C>,
 ) -> Result<Reply<1>, NoMemory>
@@ -173,7 +173,11 @@ pub(crate) fn are_same<const D: usize, V: Ledger>(
     a.same(b, visits)
 }
 
-pub(crate) fn cursor_at<const D: usize>(tree: &PhTree<D>, lo: &Coords, hi: &Coords) -> Cursor<D>
+pub(crate) fn cursor_at<const D: usize>(
+    tree: &PhTree<D>,
+    lo: &Coords<'_>,
+    hi: &Coords<'_>,
+) -> Cursor<D>
     requires lo { length lo.now ≡ D }
     requires hi { length hi.now ≡ D }
     requires lo_range { list_all (fits tree.now.width) (numbers_of lo.now) ≡ true }

@@ -23,7 +23,7 @@ use std::sync::ledger::Ledger;
 pub(crate) fn list_near<const D: usize, O: Sink, V: Ledger>(
     tree: &PhTree<D>,
     alloc: Global,
-    q: &Coords,
+    q: &Coords<'_>,
     n: u32,
     out: &mut O,
     text: &mut Text,
@@ -59,7 +59,7 @@ fn list_hits<const D: usize, O: Sink>(
 // Lists the rows whose distance from a point, squared, is at most `r`, and then their number.
 pub(crate) fn list_ball<const D: usize, O: Sink, V: Ledger>(
     tree: &PhTree<D>,
-    q: &Coords,
+    q: &Coords<'_>,
     r: u128,
     out: &mut O,
     text: &mut Text,

@@ -86,7 +86,7 @@ impl Engine {
     pub fn exec<O: Sink, F: Files, V: Ledger, C: Ledger>(
         &mut self,
         alloc: Global,
-        cmd: &Command,
+        cmd: &Command<'_>,
         out: &mut O,
         files: &mut F,
         limits: &Limits,
@@ -114,7 +114,7 @@ impl Engine {
     pub(crate) fn exec_by<O: Sink, F: Files, V: Ledger, C: Ledger>(
         &mut self,
         alloc: Global,
-        cmd: &Command,
+        cmd: &Command<'_>,
         out: &mut O,
         files: &mut F,
         limits: &Limits,

@@ -24,7 +24,7 @@ use std::sync::ledger::Ledger;
 pub(crate) fn save_table<F: Files, V: Ledger>(
     tree: &AnyTree,
     kind: Kind,
-    file: &FileName,
+    file: &FileName<'_>,
     files: &mut F,
     visits: &mut Steps<V>,
 ) -> Reply<1>
@@ -42,7 +42,7 @@ pub(crate) fn save_table<F: Files, V: Ledger>(
 pub(crate) fn save_tree<const D: usize, F: Files, V: Ledger>(
     tree: &PhTree<D>,
     kind: Kind,
-    file: &FileName,
+    file: &FileName<'_>,
     files: &mut F,
     visits: &mut Steps<V>,
 ) -> Result<u128, Failed>
@@ -87,7 +87,7 @@ pub(crate) fn load_table<F: Files, C: Ledger>(
     tree: &mut AnyTree,
     kind: Kind,
     alloc: Global,
-    file: &FileName,
+    file: &FileName<'_>,
     files: &mut F,
     limits: &Limits,
     changes: &mut Steps<C>,

@@ -24,8 +24,8 @@ use std::sync::ledger::Ledger;
 // Lists the rows between two corners, and then their number.
 pub(crate) fn list_window<const D: usize, O: Sink, V: Ledger>(
     tree: &PhTree<D>,
-    lo: &Coords,
-    hi: &Coords,
+    lo: &Coords<'_>,
+    hi: &Coords<'_>,
     out: &mut O,
     text: &mut Text,
     visits: &mut Steps<V>,

@@ -32,7 +32,7 @@ pub(crate) fn import_table<F: Files, V: Ledger, C: Ledger>(
     tree: &mut AnyTree,
     kind: Kind,
     alloc: Global,
-    file: &FileName,
+    file: &FileName<'_>,
     header: bool,
     files: &mut F,
     limits: &Limits,
@@ -141,7 +141,7 @@ impl From<NoMemory> for ExportFault {
 pub(crate) fn export_table<F: Files, V: Ledger>(
     tree: &AnyTree,
     alloc: Global,
-    file: &FileName,
+    file: &FileName<'_>,
     files: &mut F,
     visits: &mut Steps<V>,
 ) -> Result<Reply<1>, NoMemory>
@@ -158,7 +158,7 @@ pub(crate) fn export_table<F: Files, V: Ledger>(
 pub(crate) fn export_tree<const D: usize, F: Files, V: Ledger>(
     tree: &PhTree<D>,
     alloc: Global,
-    file: &FileName,
+    file: &FileName<'_>,
     files: &mut F,
     visits: &mut Steps<V>,
 ) -> Result<(), ExportFault>

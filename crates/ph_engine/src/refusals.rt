@@ -10,7 +10,7 @@ use ph_coord::{Kind, Width};
 use ph_script::{Command, Coord, Coords};
 
 // Whether the command opens a slot with a number of dimensions that none has.
-pub(crate) fn has_wrong_dims(cmd: &Command) -> bool
+pub(crate) fn has_wrong_dims(cmd: &Command<'_>) -> bool
     ensures { result ≡ asks_wrong_dims (command_of cmd.now) }
 {
     match cmd {
@@ -31,7 +31,7 @@ fn most_dims(kind: Kind) -> u32
 }
 
 // Whether the command asks about boxes in a slot of points, or about distances in one of boxes.
-pub(crate) fn has_wrong_kind(kind: Kind, cmd: &Command) -> bool
+pub(crate) fn has_wrong_kind(kind: Kind, cmd: &Command<'_>) -> bool
     ensures { result ≡ asks_wrong_kind kind (command_of cmd.now) }
 {
     match cmd {
@@ -44,7 +44,7 @@ pub(crate) fn has_wrong_kind(kind: Kind, cmd: &Command) -> bool
 }
 
 // Whether a point of the command has a coordinate outside of the width.
-pub(crate) fn is_out_of_range(w: Width, cmd: &Command) -> bool
+pub(crate) fn is_out_of_range(w: Width, cmd: &Command<'_>) -> bool
     ensures { result ≡ names_points_outside w (command_of cmd.now) }
 {
     match cmd {
@@ -74,7 +74,7 @@ pub(crate) fn is_out_of_range(w: Width, cmd: &Command) -> bool
 }
 
 // Whether a point of the command that has to be a box has a low bound above its high one.
-pub(crate) fn is_reversed(kind: Kind, cmd: &Command) -> bool
+pub(crate) fn is_reversed(kind: Kind, cmd: &Command<'_>) -> bool
     ensures { result ≡ names_reversed kind (command_of cmd.now) }
 {
     match cmd {
@@ -89,7 +89,7 @@ pub(crate) fn is_reversed(kind: Kind, cmd: &Command) -> bool
     }
 }
 
-fn is_box(at: &Coords) -> bool
+fn is_box(at: &Coords<'_>) -> bool
     ensures { result ≡ is_box (numbers_of at.now) }
 {
     let coords = at.as_slice();
@@ -120,7 +120,7 @@ fn number(coord: &Coord) -> i128
     }
 }
 
-fn are_in_range(w: Width, at: &Coords) -> bool
+fn are_in_range(w: Width, at: &Coords<'_>) -> bool
     ensures { result ≡ list_all (fits w) (numbers_of at.now) }
 {
     all_fit(w, at.as_slice())

@@ -17,7 +17,7 @@ use crate::engine::Engine;
 use crate::output::say;
 use crate::status::{Answer, Limits, Status, Stop};
 use ph_io::{Failed, Files, Sink, Source};
-use ph_script::{Bad, Line, Lines, Reply, Text, read_command};
+use ph_script::{Bad, CoordBuffer, Line, Lines, Reply, Text, read_command};
 use ph_steps::Steps;
 use std::alloc::Global;
 use std::sync::ledger::Ledger;
@@ -154,8 +154,20 @@ fn feed<O: Sink, F: Files, V: Ledger, C: Ledger>(
 {
     let mut refused = false;
     let mut at = 0;
+    let mut coords = CoordBuffer::new();
     'lines: while let Some(line) = lines.next_line(piece, &mut at) {
-        match answer(alloc, out, text, files, eng, limits, line, visits, changes) {
+        match answer(
+            alloc,
+            out,
+            text,
+            &mut coords,
+            files,
+            eng,
+            limits,
+            line,
+            visits,
+            changes,
+        ) {
             Ok(some) => refused = either(refused, some),
             Err(stop) => return Err(stop),
         }
@@ -185,7 +197,18 @@ fn finish<O: Sink, F: Files, V: Ledger, C: Ledger>(
     let Some(line) = lines.last() else {
         return read_status(refused);
     };
-    match answer(alloc, out, text, files, eng, limits, line, visits, changes) {
+    match answer(
+        alloc,
+        out,
+        text,
+        &mut CoordBuffer::new(),
+        files,
+        eng,
+        limits,
+        line,
+        visits,
+        changes,
+    ) {
         Ok(last) => read_status(either(refused, last)),
         Err(stop) => stopped(stop),
     }
@@ -196,6 +219,7 @@ fn answer<O: Sink, F: Files, V: Ledger, C: Ledger>(
     alloc: Global,
     out: &mut O,
     text: &mut Text,
+    coords: &mut CoordBuffer,
     files: &mut F,
     eng: &mut Engine,
     limits: &Limits,
@@ -212,7 +236,7 @@ fn answer<O: Sink, F: Files, V: Ledger, C: Ledger>(
     let Line::Text(bytes) = line else {
         return refuse(out, text, &Reply::ErrorLong);
     };
-    match read_command(bytes, eng.dims()) {
+    match read_command(bytes, eng.dims(), coords) {
         Ok(None) => Ok(false),
         Ok(Some(command)) => match eng.exec_by(
             alloc, &command, out, files, limits, text, visits, changes,

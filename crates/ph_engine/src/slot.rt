@@ -96,7 +96,7 @@ impl Slot {
     pub(crate) fn exec<O: Sink, F: Files, V: Ledger, C: Ledger>(
         &mut self,
         alloc: Global,
-        cmd: &Command,
+        cmd: &Command<'_>,
         out: &mut O,
         files: &mut F,
         limits: &Limits,
@@ -184,7 +184,7 @@ impl Slot {
     }
 
     // Why it refuses a command, where that is told without files: the first cause in the order of causes.
-    fn refusal(&self, cmd: &Command) -> Option<Reply<1>>
+    fn refusal(&self, cmd: &Command<'_>) -> Option<Reply<1>>
         ensures { option_map reply_of result ≡ early_refusal self.now (command_of cmd.now) }
     {
         // A use that makes known what a slot keeps.
@@ -205,7 +205,7 @@ impl Slot {
     }
 
     // The same of the causes that are about cursors, which come behind the others.
-    fn cursor_refusal(&self, cmd: &Command) -> Option<Reply<1>>
+    fn cursor_refusal(&self, cmd: &Command<'_>) -> Option<Reply<1>>
         ensures { option_map reply_of result ≡ cursor_refusal self.now (command_of cmd.now) }
     {
         if self.lacks_cursor(cmd) {
@@ -218,7 +218,7 @@ impl Slot {
     }
 
     // Whether the command is a page of a cursor that is not there.
-    fn lacks_cursor(&self, cmd: &Command) -> bool
+    fn lacks_cursor(&self, cmd: &Command<'_>) -> bool
         ensures { result ≡ lacks_cursor self.now (command_of cmd.now) }
     {
         match cmd {
@@ -228,7 +228,7 @@ impl Slot {
     }
 
     // Whether the command makes a cursor for which there is no room.
-    fn has_too_many_cursors(&self, cmd: &Command) -> bool
+    fn has_too_many_cursors(&self, cmd: &Command<'_>) -> bool
         ensures { result ≡ has_too_many_cursors self.now (command_of cmd.now) }
     {
         match cmd {
@@ -261,7 +261,7 @@ impl Slot {
     }
 
     // Makes a cursor of this name, in place of one that has it.
-    fn set_cursor(&mut self, name: &Name, lo: &Coords, hi: &Coords) -> Reply<1>
+    fn set_cursor(&mut self, name: &Name, lo: &Coords<'_>, hi: &Coords<'_>) -> Reply<1>
         requires lo { length lo.now ≡ self.old.dims }
         requires hi { length hi.now ≡ self.old.dims }
         requires unrefused { early_refusal self.old (AskCursor name.now (numbers_of lo.now) (numbers_of hi.now)) ≡ None }

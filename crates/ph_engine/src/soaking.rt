@@ -14,7 +14,7 @@ use crate::status::{Limits, Status, Stop};
 use arrayvec::ArrayString;
 use itoa::Buffer;
 use ph_io::{CleanFiles, CountSink, Failed, Sink, write_piece};
-use ph_script::{Gen, Text, Which};
+use ph_script::{CoordBuffer, Gen, Text, Which};
 use ph_steps::Steps;
 use ph_tree::{NoMemory, Stats};
 use std::alloc::Global;
@@ -70,7 +70,8 @@ fn exec_all<V: Ledger, C: Ledger>(
 {
     let mut files = CleanFiles::new();
     let mut text = Text::new();
-    'commands: while let Some(command) = commands.next() {
+    let mut coords = CoordBuffer::new();
+    'commands: while let Some(command) = commands.next(&mut coords) {
         match eng.exec_by(
             alloc, &command, replies, &mut files, limits, &mut text, visits, changes,
         ) {

@@ -11,14 +11,14 @@ use ph_script::FileName;
 
 /// What a call of the program does.
 #[derive(Drop)]
-pub(crate) enum Task {
+pub(crate) enum Task<'w> {
     Run,
-    Check(FileName),
+    Check(FileName<'w>),
     Soak { n: u32, start: u64 },
     Usage,
 }
 
-pub(crate) fn task_of(words: &[String]) -> Task
+pub(crate) fn task_of(words: &[String]) -> Task<'_>
     ensures { asked result ≡ task (map string_bytes words.now) }
 {
     match words {
@@ -29,7 +29,7 @@ pub(crate) fn task_of(words: &[String]) -> Task
     }
 }
 
-fn run_task(word: &str) -> Task
+fn run_task(word: &str) -> Task<'_>
     ensures { asked result ≡ task (word.now ∷ []) }
 {
     if word == "run" {
@@ -39,7 +39,7 @@ fn run_task(word: &str) -> Task
     }
 }
 
-fn check_task(word: &str, file: &str) -> Task
+fn check_task<'w>(word: &str, file: &'w str) -> Task<'w>
     ensures { asked result ≡ task (word.now ∷ file.now ∷ []) }
 {
     if word != "check" {
@@ -51,7 +51,7 @@ fn check_task(word: &str, file: &str) -> Task
     }
 }
 
-fn soak_task(word: &str, n: &str, start: &str) -> Task
+fn soak_task<'w>(word: &'w str, n: &str, start: &str) -> Task<'w>
     ensures { asked result ≡ task (word.now ∷ n.now ∷ start.now ∷ []) }
 {
     if word != "soak" {

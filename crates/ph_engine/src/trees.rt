@@ -128,7 +128,7 @@ impl AnyTree {
 
     pub(crate) fn put<V: Ledger, C: Ledger>(
         &mut self,
-        at: &Coords,
+        at: &Coords<'_>,
         value: u64,
         visits: &mut Steps<V>,
         changes: &mut Steps<C>,
@@ -140,7 +140,7 @@ impl AnyTree {
         with_tree!(self, tree => put_row(tree, at, value, visits, changes))
     }
 
-    pub(crate) fn get<V: Ledger>(&self, at: &Coords, visits: &mut Steps<V>) -> Reply<1>
+    pub(crate) fn get<V: Ledger>(&self, at: &Coords<'_>, visits: &mut Steps<V>) -> Reply<1>
         requires dims { length at.now ≡ (any_table self.now).dims }
         requires range { list_all (fits (any_table self.now).tree.width) (numbers_of at.now) ≡ true }
         ensures { Looked (any_table self.now) (Asked.Get (numbers_of at.now)) (any_table self.now) (reply_of result) visits.old visits.new }
@@ -150,7 +150,7 @@ impl AnyTree {
 
     pub(crate) fn del<V: Ledger, C: Ledger>(
         &mut self,
-        at: &Coords,
+        at: &Coords<'_>,
         visits: &mut Steps<V>,
         changes: &mut Steps<C>,
     ) -> Result<Reply<1>, NoMemory>
@@ -163,8 +163,8 @@ impl AnyTree {
 
     pub(crate) fn relocate<V: Ledger, C: Ledger>(
         &mut self,
-        from: &Coords,
-        to: &Coords,
+        from: &Coords<'_>,
+        to: &Coords<'_>,
         visits: &mut Steps<V>,
         changes: &mut Steps<C>,
     ) -> Result<Reply<1>, NoMemory>
@@ -228,7 +228,7 @@ impl AnyTree {
     pub(crate) fn save<F: Files, V: Ledger>(
         &self,
         kind: Kind,
-        file: &FileName,
+        file: &FileName<'_>,
         files: &mut F,
         visits: &mut Steps<V>,
     ) -> Result<u128, Failed>
@@ -266,7 +266,7 @@ impl AnyTree {
     pub(crate) fn export<F: Files, V: Ledger>(
         &self,
         alloc: Global,
-        file: &FileName,
+        file: &FileName<'_>,
         files: &mut F,
         visits: &mut Steps<V>,
     ) -> Result<(), ExportFault>
@@ -313,7 +313,7 @@ impl AnyTree {
     }
 
     // A cursor between two corners, with no row listed.
-    pub(crate) fn cursor(&self, lo: &Coords, hi: &Coords) -> AnyCursor
+    pub(crate) fn cursor(&self, lo: &Coords<'_>, hi: &Coords<'_>) -> AnyCursor
         requires lo { length lo.now ≡ (any_table self.now).dims }
         requires hi { length hi.now ≡ (any_table self.now).dims }
         requires lo_range { list_all (fits (any_table self.now).tree.width) (numbers_of lo.now) ≡ true }
@@ -335,8 +335,8 @@ impl AnyTree {
 
     pub(crate) fn list_window<O: Sink, V: Ledger>(
         &self,
-        lo: &Coords,
-        hi: &Coords,
+        lo: &Coords<'_>,
+        hi: &Coords<'_>,
         out: &mut O,
         text: &mut Text,
         visits: &mut Steps<V>,
@@ -372,7 +372,7 @@ impl AnyTree {
     pub(crate) fn list_near<O: Sink, V: Ledger>(
         &self,
         alloc: Global,
-        q: &Coords,
+        q: &Coords<'_>,
         n: u32,
         out: &mut O,
         text: &mut Text,
@@ -388,7 +388,7 @@ impl AnyTree {
 
     pub(crate) fn list_ball<O: Sink, V: Ledger>(
         &self,
-        q: &Coords,
+        q: &Coords<'_>,
         r: u128,
         out: &mut O,
         text: &mut Text,
@@ -406,7 +406,7 @@ impl AnyTree {
     pub(crate) fn list_boxes<O: Sink, V: Ledger>(
         &self,
         question: Question,
-        asked: &Coords,
+        asked: &Coords<'_>,
         out: &mut O,
         text: &mut Text,
         visits: &mut Steps<V>,

@@ -5,45 +5,92 @@ use crate::name::Name;
 use ph_coord::Kind;
 use ph_specs::Which;
 
-/// What a line asks for.
-#[derive(Debug, Drop, PartialEq, Eq)]
-pub enum Command {
+/// What a line asks for. Its coordinates and the name of its file lie elsewhere, so that it is small.
+#[derive(Debug, Drop)]
+pub enum Command<'c> {
     /// A new table for points or boxes of k dimensions, with at most so many rows.
-    Begin { kind: Kind, k: u32, max: u64 },
-    Put { at: Coords, value: u64 },
-    Get { at: Coords },
-    Del { at: Coords },
-    Relocate { from: Coords, to: Coords },
+    Begin {
+        kind: Kind,
+        k: u32,
+        max: u64,
+    },
+    Put {
+        at: Coords<'c>,
+        value: u64,
+    },
+    Get {
+        at: Coords<'c>,
+    },
+    Del {
+        at: Coords<'c>,
+    },
+    Relocate {
+        from: Coords<'c>,
+        to: Coords<'c>,
+    },
     Count,
     Clear,
     /// The rows between two corners.
-    Window { lo: Coords, hi: Coords },
+    Window {
+        lo: Coords<'c>,
+        hi: Coords<'c>,
+    },
     /// A cursor over the rows between two corners.
-    Cursor { name: Name, lo: Coords, hi: Coords },
+    Cursor {
+        name: Name,
+        lo: Coords<'c>,
+        hi: Coords<'c>,
+    },
     /// The next rows of a cursor, at most so many.
-    Page { name: Name, n: u32 },
+    Page {
+        name: Name,
+        n: u32,
+    },
     /// The rows nearest to a point, at most so many, each with its distance.
-    Near { q: Coords, n: u32 },
+    Near {
+        q: Coords<'c>,
+        n: u32,
+    },
     /// The rows whose distance from a point, squared, is at most so much.
-    Within { q: Coords, r: u128 },
+    Within {
+        q: Coords<'c>,
+        r: u128,
+    },
     /// The boxes that overlap the one with these bounds, the low corner and then the high one.
-    Overlap { bounds: Coords },
+    Overlap {
+        bounds: Coords<'c>,
+    },
     /// The boxes that lie inside it.
-    Inside { bounds: Coords },
+    Inside {
+        bounds: Coords<'c>,
+    },
     /// The boxes that cover it.
-    Covers { bounds: Coords },
+    Covers {
+        bounds: Coords<'c>,
+    },
     /// The rows of the table, into a file.
-    Save { file: FileName },
+    Save {
+        file: FileName<'c>,
+    },
     /// The rows of a saved table, in place of those of the table.
-    Load { file: FileName },
+    Load {
+        file: FileName<'c>,
+    },
     /// The rows of a file of records, beside those of the table. Its first record may be a header.
-    Import { file: FileName, header: bool },
+    Import {
+        file: FileName<'c>,
+        header: bool,
+    },
     /// The rows of the table, as records into a file.
-    Export { file: FileName },
+    Export {
+        file: FileName<'c>,
+    },
     /// The sizes of the tree.
     Stats,
     /// The other table, or the same again.
-    Select { slot: Which },
+    Select {
+        slot: Which,
+    },
     /// Whether both tables are the same.
     Same,
 }

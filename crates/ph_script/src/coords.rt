@@ -1,5 +1,5 @@
 //! Coordinates as a command has them.
-ghost use Rattle.std.specs.Prelude.{◌≡◌, ◌≤◌, length};
+ghost use Rattle.std.specs.Prelude.{◌≡◌, ◌<◌, ◌≤◌, ◌∷◌, ◌++◌, [], length};
 ghost use Rattle.std.specs.Option.{SomeIff};
 
 use arrayvec::ArrayVec;
@@ -7,6 +7,9 @@ use std::marker::Model;
 
 // The most coordinates of a point.
 const MOST: usize = 16;
+
+/// The most coordinates of a command, which has two points at most.
+pub(crate) const MOST_OF_COMMAND: usize = 32;
 
 /// A coordinate that a script names.
 #[derive(Clone, Copy, Debug, Default, PartialEq, Eq)]
@@ -18,44 +21,37 @@ pub enum Coord {
     Whole(i64),
 }
 
-/// At most 16 coordinates, in the order of the dimensions. They lie in the value itself.
-#[derive(Clone, Debug, Drop, PartialEq, Eq)]
-pub struct Coords {
-    list: ArrayVec<Coord, MOST>,
+/// At most 16 coordinates, in the order of the dimensions. They lie elsewhere, as in the buffer that a line is read into.
+#[derive(Debug, Drop)]
+pub struct Coords<'c> {
+    list: &'c [Coord],
 }
 
-impl Model for Coords {
+impl<'c> Model for Coords<'c> {
     ghost use Rattle.std.specs.Prelude.{List, ◌≤◌, length};
     ghost use Rattle.ph_script.specs.declared.coords.Coord.{Coord};
 
     ghost Value = { List Coord };
 
-    ghost view = { λ c. c.list.items };
+    ghost view = { λ c. c.list.now };
 
-    ghost invariant = { λ c. length c.list.items ≤ 16 };
-
-    ghost inverse = { λ cs. record { list = record { items = cs } } };
+    ghost invariant = { λ c. length c.list.now ≤ 16 };
 }
 
-impl Coords {
-    pub(crate) fn new(c: &[Coord]) -> Coords
-        requires { length c.now ≤ 16 }
-        ensures { result ≡ c.now }
+impl<'c> Coords<'c> {
+    pub(crate) fn new(list: &'c [Coord]) -> Coords<'c>
+        requires { length list.now ≤ 16 }
+        ensures { result ≡ list.now }
     {
-        let mut list = ArrayVec::new();
-        match list.try_extend_from_slice(c) {
-            Ok(()) => {}
-            Err(_) => unreachable!(),
-        }
         Coords { list }
     }
 
     /// Coordinates in this order, if there are at most 16.
-    pub fn from_slice(c: &[Coord]) -> Option<Coords>
-        ensures { SomeIff result (length c.now ≤ 16) c.now }
+    pub fn from_slice(list: &'c [Coord]) -> Option<Coords<'c>>
+        ensures { SomeIff result (length list.now ≤ 16) list.now }
     {
-        if c.len() <= MOST {
-            Some(Coords::new(c))
+        if list.len() <= MOST {
+            Some(Coords::new(list))
         } else {
             None
         }
@@ -65,6 +61,54 @@ impl Coords {
     pub fn as_slice(&self) -> &[Coord]
         ensures value { result.now ≡ self.now }
         ensures limit { length result.now ≤ 16 }
+    {
+        self.list
+    }
+}
+
+/// Room for the coordinates of a command. They lie in the value itself, and it is seen as them.
+///
+/// One buffer can serve for many commands, one after another.
+#[derive(Debug, Drop)]
+pub struct CoordBuffer {
+    list: ArrayVec<Coord, MOST_OF_COMMAND>,
+}
+
+impl Model for CoordBuffer {
+    ghost use Rattle.std.specs.Prelude.{List};
+    ghost use Rattle.ph_script.specs.declared.coords.Coord.{Coord};
+
+    ghost Value = { List Coord };
+
+    ghost view = { λ b. b.list.items };
+}
+
+impl CoordBuffer {
+    /// A buffer without a coordinate.
+    pub fn new() -> CoordBuffer
+        ensures { result ≡ [] }
+    {
+        CoordBuffer {
+            list: ArrayVec::new(),
+        }
+    }
+
+    pub(crate) fn clear(&mut self)
+        ensures { self.new ≡ [] }
+    {
+        self.list.clear();
+    }
+
+    // Writes a coordinate behind the others.
+    pub(crate) fn push(&mut self, coord: Coord)
+        requires { length self.old < MOST_OF_COMMAND }
+        ensures { self.new ≡ self.old ++ coord ∷ [] }
+    {
+        self.list.push(coord);
+    }
+
+    pub(crate) fn as_slice(&self) -> &[Coord]
+        ensures { result.now ≡ self.now }
     {
         self.list.as_slice()
     }

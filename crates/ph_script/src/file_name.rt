@@ -6,45 +6,42 @@ ghost use Rattle.std.specs.Cmp.{partial_equiv_from_equiv};
 ghost use Rattle.std.specs.Cmp.Lexicographic.{pointwise, nat_list_eq_equiv};
 ghost use Rattle.ph_specs.specs.Lines.{is_file_name, is_printed};
 
-use arrayvec::ArrayString;
 use std::marker::Model;
 use std::{fmt, str};
 
 // The most bytes of a name.
 const MOST: usize = 255;
 
-/// A file's name: 1 to 255 bytes, each from `!` to `~`. They lie in the value itself.
-#[derive(Clone, Drop)]
-pub struct FileName {
-    text: ArrayString<MOST>,
+/// A file's name: 1 to 255 bytes, each from `!` to `~`. They lie elsewhere, as in the line that names the file.
+#[derive(Drop)]
+pub struct FileName<'t> {
+    text: &'t str,
 }
 
-impl Model for FileName {
+impl<'t> Model for FileName<'t> {
     ghost use Rattle.std.specs.Prelude.{◌≡◌, ℕ, List, true};
     ghost use Rattle.ph_specs.specs.Lines.{is_file_name};
 
     ghost Value = { List ℕ };
 
-    ghost view = { λ f. f.text.bytes };
+    ghost view = { λ f. f.text.now };
 
-    ghost invariant = { λ f. is_file_name f.text.bytes ≡ true };
+    ghost invariant = { λ f. is_file_name f.text.now ≡ true };
 }
 
-impl FileName {
+impl<'t> FileName<'t> {
     /// The name that a text is, if it is one.
-    pub fn new(text: &str) -> Option<FileName>
+    pub fn new(text: &'t str) -> Option<FileName<'t>>
         ensures { SomeIff result (is_file_name text.now ≡ true) text.now }
     {
-        if !is_file_name(text.as_bytes()) {
-            return None;
-        }
-        match ArrayString::from(text) {
-            Ok(text) => Some(FileName { text }),
-            Err(_) => unreachable!(),
+        if is_file_name(text.as_bytes()) {
+            Some(FileName { text })
+        } else {
+            None
         }
     }
 
-    pub(crate) fn from_bytes(word: &[u8]) -> Option<FileName>
+    pub(crate) fn from_bytes(word: &'t [u8]) -> Option<FileName<'t>>
         ensures { SomeIff result (is_file_name word.now ≡ true) word.now }
     {
         match str::from_utf8(word) {
@@ -59,14 +56,7 @@ impl FileName {
         ensures name { is_file_name result.now ≡ true }
         ensures limit { length result.now ≤ 255 }
     {
-        self.text.as_str()
-    }
-
-    /// The same name once more, which takes no memory.
-    pub(crate) fn copied(&self) -> FileName
-        ensures { result ≡ self.now }
-    {
-        FileName { text: self.text }
+        self.text
     }
 }
 
@@ -88,7 +78,7 @@ fn is_printed(byte: u8) -> bool
     matches!(byte, b'!'..=b'~')
 }
 
-impl PartialEq for FileName {
+impl PartialEq for FileName<'_> {
     ghost eq = { pointwise nat_eq };
 
     ghost laws = { partial_equiv_from_equiv nat_list_eq_equiv };
@@ -98,11 +88,11 @@ impl PartialEq for FileName {
     }
 }
 
-impl Eq for FileName {
+impl Eq for FileName<'_> {
     ghost laws = { nat_list_eq_equiv };
 }
 
-impl fmt::Debug for FileName {
+impl fmt::Debug for FileName<'_> {
     fn fmt<W: fmt::Write>(&self, f: &mut fmt::Formatter<W>) -> fmt::Result {
         fmt::Debug::fmt(&self.as_str(), f)
     }

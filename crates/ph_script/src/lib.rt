@@ -20,7 +20,7 @@ mod text;
 mod words;
 
 pub use command::{Bad, Command};
-pub use coords::{Coord, Coords};
+pub use coords::{Coord, CoordBuffer, Coords};
 pub use file_name::FileName;
 pub use generator::Gen;
 pub use lines::{Line, Lines, NoMemory};

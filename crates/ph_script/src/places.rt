@@ -10,22 +10,28 @@ ghost use Rattle.ph_script.specs.Parts.{coords_in, counts_in, coords_at, counts_
 ghost use Rattle.ph_script.specs.Fit.{IsFault};
 
 use crate::command::Bad;
+use crate::coords::{CoordBuffer, MOST_OF_COMMAND};
 use crate::file_name::FileName;
 use crate::forms::Place;
 use crate::name::Name;
 use crate::numbers::{read_coord, read_count};
-use crate::parts::{MOST_COORDINATES, Parts};
+use crate::parts::Parts;
 use crate::spread::Spread;
 use crate::words::next_word;
 
 // Reads a word in its place: a number or a name, which is then among the parts, or a fixed word.
-fn read_word(place: Place, word: &[u8], parts: &mut Parts) -> Result<(), Bad>
-    requires coords { array_vec_len parts.old.coords + coords_room (place_of place) ≤ MOST_COORDINATES }
+fn read_word<'c>(
+    place: Place,
+    word: &'c [u8],
+    coords: &mut CoordBuffer,
+    parts: &mut Parts<'c>,
+) -> Result<(), Bad>
+    requires coords { length coords.old + coords_room (place_of place) ≤ MOST_OF_COMMAND }
     requires counts { array_vec_len parts.old.counts + counts_room (place_of place) ≤ 2 }
     ensures fits { MatchResult result
         (λ _. (number_fits (place_of place) word.now ≡ true) × (name_fits (place_of place) word.now ≡ true))
         (λ b. IsFault b (number_fits (place_of place) word.now) (name_fits (place_of place) word.now)) }
-    ensures coords { number_fits (place_of place) word.now ≡ true → parts.new.coords.items ≡ parts.old.coords.items ++ coords_in (place_of place) word.now }
+    ensures coords { number_fits (place_of place) word.now ≡ true → coords.new ≡ coords.old ++ coords_in (place_of place) word.now }
     ensures counts { number_fits (place_of place) word.now ≡ true → parts.new.counts.items ≡ parts.old.counts.items ++ counts_in (place_of place) word.now }
     ensures name { name_fits (place_of place) word.now ≡ true → parts.new.name ≡ named parts.old.name (place_of place) word.now }
     ensures file { name_fits (place_of place) word.now ≡ true → parts.new.file ≡ filed parts.old.file (place_of place) word.now }
@@ -36,7 +42,7 @@ fn read_word(place: Place, word: &[u8], parts: &mut Parts) -> Result<(), Bad>
             let Some(coord) = read_coord(word) else {
                 return Err(Bad::Number);
             };
-            parts.coords.push(coord);
+            coords.push(coord);
         }
         Place::UpTo(most) => {
             let Some(count) = read_count(word, most) else {
@@ -71,19 +77,24 @@ fn read_word(place: Place, word: &[u8], parts: &mut Parts) -> Result<(), Bad>
     Ok(())
 }
 
-/// Reads the words of a text, as many words as places, and adds what they tell to the parts, if each word is
-/// as its place asks.
+/// Reads the words of a text, as many words as places, and adds what they tell to the coordinates and the parts, if each
+/// word is as its place asks.
 ///
 /// A wrong number is told before a wrong name, wherever they stand.
-pub(crate) fn read_places(mut places: Spread, text: &[u8], parts: &mut Parts) -> Result<(), Bad>
-    requires empty { (parts.old.coords.items ≡ []) × (parts.old.counts.items ≡ []) × (parts.old.name ≡ None) × (parts.old.file ≡ None) × (parts.old.is_second ≡ false) }
+pub(crate) fn read_places<'c>(
+    mut places: Spread,
+    text: &'c [u8],
+    coords: &mut CoordBuffer,
+    parts: &mut Parts<'c>,
+) -> Result<(), Bad>
+    requires empty { (coords.old ≡ []) × (parts.old.counts.items ≡ []) × (parts.old.name ≡ None) × (parts.old.file ≡ None) × (parts.old.is_second ≡ false) }
     requires size { length (words text.now) ≡ length (spread_of places) }
-    requires coords { sum_by coords_room (spread_of places) ≤ MOST_COORDINATES }
+    requires coords { sum_by coords_room (spread_of places) ≤ MOST_OF_COMMAND }
     requires counts { sum_by counts_room (spread_of places) ≤ 2 }
     ensures { MatchResult result
         (λ _. (pointwise number_fits (spread_of places) (words text.now) ≡ true)
         × (pointwise name_fits (spread_of places) (words text.now) ≡ true)
-        × (parts.new.coords.items ≡ coords_at (spread_of places) (words text.now))
+        × (coords.new ≡ coords_at (spread_of places) (words text.now))
         × (parts.new.counts.items ≡ counts_at (spread_of places) (words text.now))
         × (parts.new.name ≡ name_from None (spread_of places) (words text.now))
         × (parts.new.file ≡ file_from None (spread_of places) (words text.now))
@@ -97,7 +108,7 @@ pub(crate) fn read_places(mut places: Spread, text: &[u8], parts: &mut Parts) ->
             unreachable!();
         };
         rest = behind;
-        match read_word(place, word, parts) {
+        match read_word(place, word, coords, parts) {
             Ok(()) => {}
             // A wrong number may come behind it.
             Err(Bad::Name) => names_fit = false,

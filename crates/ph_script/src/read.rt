@@ -8,7 +8,7 @@ ghost use Rattle.ph_script.specs.Meaning.{reading_of, command_of, numbers_of};
 ghost use Rattle.ph_script.specs.Fit.{IsFit, IsNamed, HasDims, ReadsDims};
 
 use crate::command::{Bad, Command};
-use crate::coords::Coords;
+use crate::coords::{Coord, CoordBuffer, Coords};
 use crate::file_name::FileName;
 use crate::forms::{Form, Verb, find_form};
 use crate::name::Name;
@@ -24,8 +24,13 @@ const COMMENT: u8 = b'#';
 
 // What a line is by its form and the words behind the form's word, as many words as the form has places.
 //
-// It answers what `read_command` answers, so that a command, which is large, is not copied once more on its way.
-fn read_form(form: &Form, dims: usize, text: &[u8]) -> Result<Option<Command>, Bad>
+// It answers what `read_command` answers, so that a command is not wrapped once more on its way.
+fn read_form<'c>(
+    form: &Form,
+    dims: usize,
+    text: &'c [u8],
+    coords: &'c mut CoordBuffer,
+) -> Result<Option<Command<'c>>, Bad>
     requires dims { dims ≤ 16 }
     requires row { IsRow form.now }
     requires size { length (places_of dims form.now.places.now) ≡ length (words text.now) }
@@ -34,29 +39,29 @@ fn read_form(form: &Form, dims: usize, text: &[u8]) -> Result<Option<Command>, B
 {
     let places = Spread::new(form.places, dims);
     let mut parts = Parts::new();
-    match read_places(places, text, &mut parts) {
-        Ok(()) => Ok(Some(command(form.verb, dims, &parts))),
+    coords.clear();
+    match read_places(places, text, coords, &mut parts) {
+        Ok(()) => Ok(Some(command(form.verb, dims, coords.as_slice(), parts))),
         Err(bad) => Err(bad),
     }
 }
 
-// The command of a form and of the parts that its places have.
-fn command(verb: Verb, dims: usize, parts: &Parts) -> Command
+// The command of a form, of its coordinates and of the other parts that its places have.
+fn command<'c>(verb: Verb, dims: usize, coords: &'c [Coord], parts: Parts<'c>) -> Command<'c>
     requires limit { dims ≤ 16 }
-    requires fit { IsFit verb dims parts.now.coords.items parts.now.counts.items parts.now.name parts.now.file }
-    ensures meaning { (texts : List (List ℕ)) → IsNamed verb parts.now.name parts.now.file parts.now.is_second texts → command_of result ≡ command_by verb dims (numbers_of parts.now.coords.items ++ map pos parts.now.counts.items) texts }
+    requires fit { IsFit verb dims coords.now parts.counts.items parts.name parts.file }
+    ensures meaning { (texts : List (List ℕ)) → IsNamed verb parts.entry.name parts.entry.file parts.entry.is_second texts → command_of result ≡ command_by verb dims (numbers_of coords.now ++ map pos parts.entry.counts.items) texts }
     ensures dims { HasDims dims result }
 {
-    let coords = parts.coords.as_slice();
     let counts = parts.counts.as_slice();
     match verb {
         Verb::Open => Command::Begin {
-            kind: kind_in(parts),
+            kind: kind_in(&parts),
             k: counts[0] as u32,
             max: u64::MAX,
         },
         Verb::OpenMax => Command::Begin {
-            kind: kind_in(parts),
+            kind: kind_in(&parts),
             k: counts[0] as u32,
             max: counts[1] as u64,
         },
@@ -89,13 +94,13 @@ fn command(verb: Verb, dims: usize, parts: &Parts) -> Command
         Verb::Cursor => {
             let (lo, hi) = coords.split_at(dims);
             Command::Cursor {
-                name: name_in(parts),
+                name: name_in(&parts),
                 lo: Coords::new(lo),
                 hi: Coords::new(hi),
             }
         }
         Verb::Page => Command::Page {
-            name: name_in(parts),
+            name: name_in(&parts),
             n: counts[0] as u32,
         },
         Verb::Near => Command::Near {
@@ -134,13 +139,13 @@ fn command(verb: Verb, dims: usize, parts: &Parts) -> Command
         },
         Verb::Stats => Command::Stats,
         Verb::Select => Command::Select {
-            slot: slot_in(parts),
+            slot: slot_in(&parts),
         },
         Verb::Same => Command::Same,
     }
 }
 
-fn name_in(parts: &Parts) -> Name
+fn name_in(parts: &Parts<'_>) -> Name
     requires { IsSome parts.now.name }
     ensures { parts.now.name ≡ Some result }
 {
@@ -150,18 +155,18 @@ fn name_in(parts: &Parts) -> Name
     }
 }
 
-fn file_in(parts: &Parts) -> FileName
-    requires { IsSome parts.now.file }
-    ensures { parts.now.file ≡ Some result }
+fn file_in<'c>(parts: Parts<'c>) -> FileName<'c>
+    requires { IsSome parts.file }
+    ensures { parts.entry.file ≡ Some result }
 {
-    match &parts.file {
-        Some(file) => file.copied(),
+    match parts.file {
+        Some(file) => file,
         None => unreachable!(),
     }
 }
 
 // What the word `points` or `boxes` says.
-fn kind_in(parts: &Parts) -> Kind
+fn kind_in(parts: &Parts<'_>) -> Kind
     ensures { result ≡ kind_by parts.now.is_second }
 {
     if parts.is_second {
@@ -172,17 +177,22 @@ fn kind_in(parts: &Parts) -> Kind
 }
 
 // What the word `a` or `b` says.
-fn slot_in(parts: &Parts) -> Which
+fn slot_in(parts: &Parts<'_>) -> Which
     ensures { result ≡ slot_by parts.now.is_second }
 {
     if parts.is_second { Which::B } else { Which::A }
 }
 
-/// Reads a line that has lost its line feed and a carriage return before it; points have so many dimensions.
+/// Reads a line that has lost its line feed and a carriage return before it; points have so many dimensions. The coordinates
+/// of the command are read into a buffer, whatever it had before.
 ///
 /// `None` is a line with no command: one without a word, or a comment, whose first word begins with `#`.
 /// A refusal names the first fault in the order of `Bad`; the numbers of a line are tried before its names. It takes no memory.
-pub fn read_command(line: &[u8], dims: u32) -> Result<Option<Command>, Bad>
+pub fn read_command<'c>(
+    line: &'c [u8],
+    dims: u32,
+    coords: &'c mut CoordBuffer,
+) -> Result<Option<Command<'c>>, Bad>
     requires dims { (1 ≤ dims) × (dims ≤ 16) }
     requires limit { length line.now ≤ 4096 }
     ensures meaning { reading_of result ≡ read_words dims (words line.now) }
@@ -196,5 +206,5 @@ pub fn read_command(line: &[u8], dims: u32) -> Result<Option<Command>, Bad>
     }
     let dims = dims as usize;
     let form = find_form(word, count_words(rest), dims)?;
-    read_form(form, dims, rest)
+    read_form(form, dims, rest, coords)
 }

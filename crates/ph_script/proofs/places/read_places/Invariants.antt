@@ -14,12 +14,12 @@ invariant-loop-place l = record {
   size : length (words l.rest) ≡ length (spread_of l.places);
   fits : pointwise number_fits (spread_of l.places) (words l.rest) ≡ pointwise number_fits (spread_of l.initial.places) (words l.text);
   named : (l.names_fit && pointwise name_fits (spread_of l.places) (words l.rest)) ≡ pointwise name_fits (spread_of l.initial.places) (words l.text);
-  coords : l.parts.coords.items ++ coords_at (spread_of l.places) (words l.rest) ≡ coords_at (spread_of l.initial.places) (words l.text);
+  coords : l.coords ++ coords_at (spread_of l.places) (words l.rest) ≡ coords_at (spread_of l.initial.places) (words l.text);
   counts : l.parts.counts.items ++ counts_at (spread_of l.places) (words l.rest) ≡ counts_at (spread_of l.initial.places) (words l.text);
   name : l.names_fit ≡ true → name_from l.parts.name (spread_of l.places) (words l.rest) ≡ name_from None (spread_of l.initial.places) (words l.text);
   file : l.names_fit ≡ true → file_from l.parts.file (spread_of l.places) (words l.rest) ≡ file_from None (spread_of l.initial.places) (words l.text);
   second : second_from l.parts.is_second (spread_of l.places) (words l.rest) ≡ second_from false (spread_of l.initial.places) (words l.text);
-  coords_fit : array_vec_len l.parts.coords + sum_by coords_room (spread_of l.places) ≤ 32;
+  coords_fit : length l.coords + sum_by coords_room (spread_of l.places) ≤ 32;
   counts_fit : array_vec_len l.parts.counts + sum_by counts_room (spread_of l.places) ≤ 2;
 }
 
