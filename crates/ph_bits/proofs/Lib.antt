@@ -8,6 +8,7 @@ mod FieldReads
 mod Replaced
 mod Codes
 mod PenSteps
+mod LevelWords
 mod RowPlaces
 mod Folds
 mod Tables

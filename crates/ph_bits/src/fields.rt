@@ -1,6 +1,6 @@
 //! Fields of binary digits in words.
 
-ghost use Rattle.std.specs.Prelude.{◌≡◌, ◌≤◌, ◌<◌, ◌+◌, ◌*◌, ◌/◌, ◌%◌, ◌^◌, length};
+ghost use Rattle.std.specs.Prelude.{◌≡◌, ◌≤◌, ◌<◌, ◌+◌, ◌-◌, ◌*◌, ◌/◌, ◌%◌, ◌^◌, length};
 ghost use Rattle.ph_specs.specs.Digits.{digits_at};
 ghost use Rattle.ph_bits.specs.Fields.{IsPut, ones_in};
 
@@ -25,6 +25,16 @@ pub fn field(words: &[u64], at: u64, width: u32) -> u64
     let last = words[place + (end / 64) as usize];
     let all = (last >> behind) + ((first << 1) << (63 - behind));
     all & (u64::MAX >> (64 - width))
+}
+
+/// The number of the `width` digits of a word behind its first `front`.
+#[inline(always)]
+pub fn part_of(word: u64, front: u64, width: u64) -> u64
+    requires some { 0 < width }
+    requires inside { front + width ≤ 64 }
+    ensures { result ≡ word / 2 ^ (64 - front - width) % 2 ^ width }
+{
+    (word << front) >> (64 - width)
 }
 
 /// Puts `v` into the `width` digits that begin at digit `at`.
@@ -60,9 +70,25 @@ fn with_field(word: u64, behind: u32, width: u32, v: u64) -> u64
     word - (old << behind) + (v << behind)
 }
 
-/// How many of the `n` digits from digit `at` on are ones.
+/// How many of the `n` digits from digit `at` on are ones. Mostly they lie in one word.
 #[inline(always)]
 pub fn ones_before(words: &[u64], at: u64, n: u64) -> u64
+    requires inside { at + n ≤ 64 * length words.now }
+    ensures { result ≡ ones_in words.now at n }
+{
+    if n == 0 {
+        return 0;
+    }
+    let front = at % 64;
+    if n <= 64 - front {
+        part_of(words[(at / 64) as usize], front, n).count_ones() as u64
+    } else {
+        ones_across(words, at, n)
+    }
+}
+
+// How many of the `n` digits from digit `at` on are ones, word by word.
+fn ones_across(words: &[u64], at: u64, n: u64) -> u64
     requires inside { at + n ≤ 64 * length words.now }
     ensures { result ≡ ones_in words.now at n }
 {

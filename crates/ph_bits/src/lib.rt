@@ -19,7 +19,7 @@ mod words;
 pub use beside::is_row;
 pub use edits::Edit;
 pub use entries::{Entries, Packed};
-pub use fields::{field, ones_before, set_field};
+pub use fields::{field, ones_before, part_of, set_field};
 pub use joins::join_row;
 pub use pens::{Pen, are_words};
 pub use rows::row;

@@ -1,6 +1,6 @@
 //! Fields that are written one behind the other.
 
-ghost use Rattle.std.specs.Prelude.{◌≡◌, ◌+◌, ◌-◌, ◌*◌, ◌^◌, ◌<◌, ◌≤◌, ◌++◌, ℕ, List, length, take, map};
+ghost use Rattle.std.specs.Prelude.{◌≡◌, ◌+◌, ◌-◌, ◌*◌, ◌%◌, ◌^◌, ◌<◌, ◌≤◌, ◌++◌, ℕ, List, length, take, map};
 ghost use Rattle.std.specs.List.{AllByRecursion as Each};
 ghost use Rattle.ph_specs.specs.Digits.{Field, field, number_after, digits_of, words_for, words_of, digits_at};
 ghost use Rattle.ph_bits.specs.Block.{room_of, IsSamePlaces};
@@ -73,10 +73,55 @@ impl Pen {
         }
     }
 
-    /// Writes `count` digits of other words, from digit `at` on.
-    ///
-    /// Each turn of its loop stores a whole word; what is left of the digits is one field more.
+    /// Writes `count` digits of other words, from digit `at` on. Fewer than 64 are one field.
+    #[inline(always)]
     pub fn copy(&mut self, words: &mut Words, from: &[u64], at: u64, count: u64)
+        requires pen { IsPen self.old }
+        requires from { at + count ≤ 64 * length from.now }
+        requires near { at + count ≤ 2 ^ 62 }
+        requires inside { digits_by words.old.words self.old + count ≤ 64 * room_of words.old }
+        ensures pen { IsPen self.new }
+        ensures digits { digits_by words.new.words self.new ≡ digits_by words.old.words self.old + count }
+        ensures number { number_by words.new.words self.new ≡ number_by words.old.words self.old * 2 ^ count + digits_at from.now at count }
+        ensures places { IsSamePlaces words.old words.new }
+    {
+        if count < 64 {
+            let width = count as u32;
+            self.put(words, width, field(from, at, width));
+        } else if at % 64 + self.room as u64 == 64 {
+            self.copy_level(words, from, at, count);
+        } else {
+            self.copy_words(words, from, at, count);
+        }
+    }
+
+    // Writes `count` digits of other words that lie in these as they will lie in the block. Behind those that fill the word begun
+    // they are copied word by word.
+    fn copy_level(&mut self, words: &mut Words, from: &[u64], at: u64, count: u64)
+        requires pen { IsPen self.old }
+        requires level { at % 64 + self.old.room ≡ 64 }
+        requires many { 64 ≤ count }
+        requires from { at + count ≤ 64 * length from.now }
+        requires near { at + count ≤ 2 ^ 62 }
+        requires inside { digits_by words.old.words self.old + count ≤ 64 * room_of words.old }
+        ensures pen { IsPen self.new }
+        ensures digits { digits_by words.new.words self.new ≡ digits_by words.old.words self.old + count }
+        ensures number { number_by words.new.words self.new ≡ number_by words.old.words self.old * 2 ^ count + digits_at from.now at count }
+        ensures places { IsSamePlaces words.old words.new }
+    {
+        are_words(from);
+        let front = self.room % 64;
+        self.put(words, front, field(from, at, front));
+        let place = ((at + front as u64) / 64) as usize;
+        let whole = ((count - front as u64) / 64) as usize;
+        words.extend(&from[place..place + whole]);
+        let rest = ((count - front as u64) % 64) as u32;
+        self.put(words, rest, field(from, at + count - rest as u64, rest));
+    }
+
+    // Writes `count` digits of other words. Each turn of its loop stores a whole word; what is left of the digits is one field
+    // more.
+    fn copy_words(&mut self, words: &mut Words, from: &[u64], at: u64, count: u64)
         requires pen { IsPen self.old }
         requires from { at + count ≤ 64 * length from.now }
         requires near { at + count ≤ 2 ^ 62 }

@@ -3,7 +3,8 @@ use Rattle.std.proofs.Common.{◌≡◌, ℕ, zero, suc, ◌+◌, ◌-◌, ◌*�
 use Rattle.std.specs.List.{AllByRecursion as Each}
 use Rattle.std.proofs.lemmas.List.{get_or-take, get_or-drop, length-replicate, get_or-replicate, append_assoc}
 use Rattle.std.proofs.Math.Nat.{mul-le-mul_left}
-use Rattle.ph_specs.specs.Digits.{digits_at}
+use Rattle.ph_specs.specs.Digits.{digits_at, words_for}
+use Rattle.ph_specs.specs.Pack.{linear_digits}
 use Rattle.ph_specs.specs.Record.{first_in, widths}
 use Rattle.ph_specs.proofs.laws.ReadBack.{total}
 use Rattle.ph_specs.specs.Layout.{fields_as, IsRecord}
@@ -78,6 +79,13 @@ address-digits dims words i r h l =
 
     within : (n i d b : ℕ) → i < n → n + i * d + d ≤ n * (1 + d + d * b)
     within n i d b l = grind (arith, l)
+
+-- a record has a word behind its head
+pub two_words : (dims : ℕ) (words : List ℕ) → IsRecord false dims words → 1 < length words
+two_words dims words r = long-enough (first_in words).entries dims (first_in words).level (length words) r.least (omega (arith, r.long))
+  where
+    long-enough : (n d b len : ℕ) → 1 ≤ n → 1 + words_for (linear_digits d b n) ≤ len → 1 < len
+    long-enough n d b len l m = omega (arith, l, m)
 
 -- number t of all bodies
 pub body-digits : (dims : ℕ) (words : List ℕ) (t : ℕ) → IsRecord false dims words → Each (λ x. x < 2 ^ 64) words → t < (first_in words).entries * dims

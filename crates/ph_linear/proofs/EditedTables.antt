@@ -2,24 +2,23 @@
 use Rattle.std.proofs.Common.{◌≡◌, ℕ, zero, suc, ◌+◌, ◌-◌, ◌*◌, ◌^◌, ◌≤◌, ◌<◌, refl, sym, ◌∙◌, ap, arith, List, [], ◌∷◌, ◌++◌, length, take, drop, replicate, Bool, true, false}
 use Rattle.std.specs.Prelude.{Some, None, if◌then◌else◌}
 use Rattle.std.specs.List.{AllByRecursion as Each}
-use Rattle.std.proofs.lemmas.List.{append_assoc, append-nil, length-append, length-drop, length-replicate, length-take-le, map-append}
+use Rattle.std.proofs.lemmas.List.{append_assoc, append-nil, map-append}
 use Rattle.ph_specs.specs.Digits.{Field, field, number_after, digits_of}
 use Rattle.ph_specs.specs.Lawful.{IsBody}
 use Rattle.ph_specs.specs.Layout.{IsRecord, entries_as, values_as, AreRising}
 use Rattle.ph_specs.specs.Node.{Flat}
-use Rattle.ph_specs.specs.NodeSize.{points_in}
-use Rattle.ph_specs.specs.Pack.{bodies, child_mark, linear_table, values}
+use Rattle.ph_specs.specs.Pack.{bodies, child_mark, linear_table}
 use Rattle.ph_specs.specs.Record.{first_in}
 use Rattle.ph_specs.proofs.lemmas.Columns.{digits_of-append}
-use Rattle.ph_bits.specs.Edits.{edited, edited_as, flats, new_flat, count_edited}
+use Rattle.ph_bits.specs.Edits.{edited, edited_as, flats, new_flat}
 use Rattle.ph_bits.specs.declared.edits.Edit.{Edit}
 use Rattle.ph_bits.specs.declared.entries.Packed.{Packed}
 use Rattle.ph_linear.specs.Edited.{column_edited}
 use Rattle.ph_linear.specs.Written.{kind_fields, address_fields, body_list}
 use Rattle.ph_linear.specs.declared.copies.Column.{Column}
 use Rattle.ph_linear.proofs.EditedEntries.{table-old, parts-new, long-front, long-gone, long-back}
-use Rattle.ph_linear.proofs.EditedLists.{edited-parts, whole-parts, bodies-append, digits-kinds, digits-addresses, digits-bodies, each-take, each-drop, values-append, values-front, values-back, points-low}
-use Rattle.ph_linear.proofs.OldTables.{IsTable, table-of, long-bodies}
+use Rattle.ph_linear.proofs.EditedLists.{whole-parts, bodies-append, digits-kinds, digits-addresses, digits-bodies, each-take, each-drop}
+use Rattle.ph_linear.proofs.OldTables.{long-bodies}
 use Rattle.ph_linear.proofs.Segments.{column-number}
 
 -- ---- the new entry

@@ -1,6 +1,6 @@
 //! Columns of a record that differ from those of an old one in one entry: ranges of the old digits are copied.
 
-ghost use Rattle.std.specs.Prelude.{◌≡◌, ◌+◌, ◌-◌, ◌*◌, ◌^◌, ◌<◌, ◌≤◌, length, take, replicate};
+ghost use Rattle.std.specs.Prelude.{◌≡◌, ◌+◌, ◌-◌, ◌*◌, ◌^◌, ◌<◌, ◌≤◌, true, length, take, replicate};
 ghost use Rattle.std.specs.List.{AllByRecursion as Each};
 ghost use Rattle.ph_specs.specs.Digits.{field, number_after, digits_at};
 ghost use Rattle.ph_specs.specs.Pack.{bodies};
@@ -9,6 +9,7 @@ ghost use Rattle.ph_bits.specs.Edits.{count_edited};
 ghost use Rattle.ph_bits.specs.Written.{IsPen, digits_by, number_by};
 ghost use Rattle.ph_linear.specs.Edited.{IsColumn, column_edited};
 
+use crate::parts::near_field;
 use ph_bits::{Edit, Pen, Words};
 
 /// A column of an old record: so many entries with `width` digits each, from digit `at` on.
@@ -21,6 +22,7 @@ pub struct Column {
 
 impl Column {
     /// Writes a column of one field for each entry, with one edit: the field of the new entry is `v`.
+    #[inline(always)]
     pub fn edit_fields(self, pen: &mut Pen, words: &mut Words, old: &[u64], edit: &Edit, v: u64)
         requires pen { IsPen pen.old }
         requires column { IsColumn old.now self }
@@ -35,12 +37,13 @@ impl Column {
         ensures places { IsSamePlaces words.old words.new }
     {
         let place = edit.place as u64;
-        self.copy(pen, words, old, 0, place);
+        self.copy_near(pen, words, old, 0, place);
         put_new(pen, words, edit.more, self.width as u32, v);
-        self.copy(pen, words, old, place + edit.less as u64, self.count);
+        self.copy_near(pen, words, old, place + edit.less as u64, self.count);
     }
 
     /// Writes a column of `dims` fields for each entry, with one edit.
+    #[inline(always)]
     pub fn edit_rows(
         self,
         pen: &mut Pen,
@@ -70,7 +73,42 @@ impl Column {
         self.copy(pen, words, old, place + edit.less as u64, self.count);
     }
 
+    // Copies the digits of the entries from one up to another, where there may be few.
+    #[inline(always)]
+    fn copy_near(self, pen: &mut Pen, words: &mut Words, old: &[u64], from: u64, to: u64)
+        requires pen { IsPen pen.old }
+        requires column { IsColumn old.now self }
+        requires order { from ≤ to }
+        requires within { to ≤ self.count }
+        requires inside { digits_by words.old.words pen.old + (to - from) * self.width ≤ 64 * room_of words.old }
+        ensures pen { IsPen pen.new }
+        ensures digits { digits_by words.new.words pen.new ≡ digits_by words.old.words pen.old + (to - from) * self.width }
+        ensures number { number_by words.new.words pen.new ≡ number_by words.old.words pen.old * 2 ^ ((to - from) * self.width) + digits_at old.now (self.at + from * self.width) ((to - from) * self.width) }
+        ensures places { IsSamePlaces words.old words.new }
+    {
+        if self.is_near() {
+            let count = (to - from) * self.width;
+            if count > 0 {
+                let front = self.at - 64 + from * self.width;
+                pen.put(words, count as u32, near_field(old, front, count));
+            }
+        } else {
+            self.copy(pen, words, old, from, to);
+        }
+    }
+
+    // Whether its digits lie in the second word, which they do not fill.
+    #[inline(always)]
+    fn is_near(self) -> bool
+        requires { self.at + self.count * self.width ≤ 2 ^ 62 }
+        ensures { result ≡ true → (64 ≤ self.at) × (64 < self.at + self.count * self.width) × (self.at + self.count * self.width < 128) }
+    {
+        let end = self.at + self.count * self.width;
+        self.at >= 64 && 64 < end && end < 128
+    }
+
     // Copies the digits of the entries from one up to another.
+    #[inline(always)]
     fn copy(self, pen: &mut Pen, words: &mut Words, old: &[u64], from: u64, to: u64)
         requires pen { IsPen pen.old }
         requires column { IsColumn old.now self }
@@ -88,6 +126,7 @@ impl Column {
 }
 
 // Writes the field of a new entry, where there is one.
+#[inline(always)]
 fn put_new(pen: &mut Pen, words: &mut Words, more: usize, width: u32, v: u64)
     requires pen { IsPen pen.old }
     requires width { width ≤ 63 }

@@ -1,12 +1,34 @@
 //! Single parts of a linear record.
 
-ghost use Rattle.std.specs.Prelude.{◌≡◌, ◌+◌, ◌*◌, ◌^◌, ◌<◌, ◌≤◌, ◌==◌, false, length, slice_index_or};
+ghost use Rattle.std.specs.Prelude.{◌≡◌, ◌+◌, ◌*◌, ◌^◌, ◌<◌, ◌≤◌, ◌==◌, true, false, length, slice_index_or};
+ghost use Rattle.ph_specs.specs.Digits.{digits_at};
 ghost use Rattle.ph_specs.specs.Record.{first_in};
 ghost use Rattle.ph_specs.specs.Layout.{IsRecord, entries_as};
 ghost use Rattle.ph_bits.specs.Packed.{rank_at};
 ghost use Rattle.ph_linear.specs.Linear.{kinds, addresses};
 
-use ph_bits::{field, ones_before};
+use ph_bits::{field, ones_before, part_of};
+
+// Whether the kinds and the addresses of so many entries lie in one word, the first behind the head.
+#[inline(always)]
+pub(crate) fn is_short(dims: usize, count: u64) -> bool
+    requires few { dims ≤ 16 }
+    requires count { count < 2 ^ 24 }
+    ensures { result ≡ true → count + count * dims ≤ 64 }
+{
+    count + count * dims as u64 <= 64
+}
+
+// The number of some digits of the first word behind the head.
+#[inline(always)]
+pub(crate) fn near_field(words: &[u64], front: u64, width: u64) -> u64
+    requires some { 0 < width }
+    requires near { front + width ≤ 64 }
+    requires inside { 1 < length words.now }
+    ensures { result ≡ digits_at words.now (64 + front) width }
+{
+    part_of(words[1], front, width)
+}
 
 // The address of an entry, where the record has `count` entries.
 #[inline(always)]
@@ -17,7 +39,11 @@ pub(crate) fn address_at(words: &[u64], dims: usize, count: u64, place: u64) -> 
     ensures value { result ≡ slice_index_or (addresses dims words.now) place 0 }
     ensures limit { result < 2 ^ 16 }
 {
-    field(words, 64 + count + place * dims as u64, dims as u32)
+    if is_short(dims, count) {
+        near_field(words, count + place * dims as u64, dims as u64)
+    } else {
+        field(words, 64 + count + place * dims as u64, dims as u32)
+    }
 }
 
 // Whether an entry is a child.

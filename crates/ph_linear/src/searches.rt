@@ -7,7 +7,7 @@ ghost use Rattle.ph_specs.specs.Layout.{IsRecord, entries_as, read_address};
 ghost use Rattle.ph_linear.specs.Linear.{addresses};
 
 use crate::heads::count_in;
-use crate::parts::address_at;
+use crate::parts::{address_at, is_short, near_field};
 use ph_bits::field;
 
 /// The place of the entry at an address.
@@ -53,10 +53,25 @@ pub fn next_at_or_after(words: &[u64], dims: usize, addr: u32) -> Option<usize>
     if i < count { Some(i as usize) } else { None }
 }
 
-// How many addresses are less than `addr`. Halves until the addresses that are left have no more than 64
-// digits, and then reads these at once.
+// How many addresses are less than `addr`.
 #[inline(always)]
 fn place_of(words: &[u64], dims: usize, count: u64, addr: u32) -> u64
+    requires record { IsRecord false dims words.now }
+    requires count { count ≡ (first_in words.now).entries }
+    ensures value { result ≡ position_or_len (λ a. nat_le addr a) (addresses dims words.now) }
+    ensures within { result ≤ count }
+{
+    if is_short(dims, count) {
+        let all = near_field(words, count, count * dims as u64);
+        less_in(all, dims, count, addr)
+    } else {
+        place_of_many(words, dims, count, addr)
+    }
+}
+
+// How many of many addresses are less than `addr`. Halves until the addresses that are left have no more than 64
+// digits, and then reads these at once.
+fn place_of_many(words: &[u64], dims: usize, count: u64, addr: u32) -> u64
     requires record { IsRecord false dims words.now }
     requires count { count ≡ (first_in words.now).entries }
     ensures value { result ≡ position_or_len (λ a. nat_le addr a) (addresses dims words.now) }

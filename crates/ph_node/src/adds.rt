@@ -45,7 +45,7 @@ impl<P: Dims> NodeOf<P> {
             entry,
             value: v,
         };
-        let words = self.edited(edit, self.children.len())?;
+        let words = self.edited(&edit, self.children.len())?;
         changes.tick();
         self.words = words;
         Ok(())

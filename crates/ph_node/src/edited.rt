@@ -25,10 +25,12 @@ impl<'t, P: Dims> Entries<P> for EditedOf<'t, P> {
 
     ghost list = { λ s. edit_of P.D s.old.now s.edit.place s.edit.less s.edit.more s.edit.entry s.edit.value };
 
+    #[inline(always)]
     fn count(&self) -> usize {
         records::count(self.old) - self.edit.less + self.edit.more
     }
 
+    #[inline(always)]
     fn at(&self, i: usize) -> Packed {
         if is_new(self.edit.place, self.edit.more, i) {
             return self.edit.entry;
@@ -37,6 +39,7 @@ impl<'t, P: Dims> Entries<P> for EditedOf<'t, P> {
         records::entry(self.old, P::D, k)
     }
 
+    #[inline(always)]
     fn value(&self, i: usize) -> u64 {
         if is_new(self.edit.place, self.edit.more, i) {
             return self.edit.value;

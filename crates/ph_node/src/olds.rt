@@ -97,10 +97,10 @@ impl<P: Dims> NodeOf<P> {
     }
 
     /// The record of the node with an edit, where it has so many children then, in a new block.
-    pub(crate) fn edited(&self, edit: Edit, children: usize) -> Result<Words, NoMemory>
-        requires edit { IsEdit P.D self.now edit }
-        requires children { length (values (edit_flats P.D self.now edit)) + children ≡ length (edit_flats P.D self.now edit) }
-        ensures { IfOk result (λ w. w.words ≡ record_of P.D self.now.level (edit_flats P.D self.now edit)) }
+    pub(crate) fn edited(&self, edit: &Edit, children: usize) -> Result<Words, NoMemory>
+        requires edit { IsEdit P.D self.now edit.now }
+        requires children { length (values (edit_flats P.D self.now edit.now)) + children ≡ length (edit_flats P.D self.now edit.now) }
+        ensures { IfOk result (λ w. w.words ≡ record_of P.D self.now.level (edit_flats P.D self.now edit.now)) }
     {
         let words = self.words.as_slice();
         let n = records::count(words) - edit.less + edit.more;
@@ -115,11 +115,11 @@ impl<P: Dims> NodeOf<P> {
     }
 
     /// Writes the record of the node with an edit into the room of a block.
-    pub(crate) fn write_edited(&self, edit: Edit, block: &mut Words)
-        requires edit { IsEdit P.D self.now edit }
-        requires room { words_wanted P.D self.now.level (length (edit_flats P.D self.now edit)) (length (values (edit_flats P.D self.now edit))) ≤ room_of block.old }
-        ensures { block.new.words ≡ record_of P.D self.now.level (edit_flats P.D self.now edit) }
+    pub(crate) fn write_edited(&self, edit: &Edit, block: &mut Words)
+        requires edit { IsEdit P.D self.now edit.now }
+        requires room { words_wanted P.D self.now.level (length (edit_flats P.D self.now edit.now)) (length (values (edit_flats P.D self.now edit.now))) ≤ room_of block.old }
+        ensures { block.new.words ≡ record_of P.D self.now.level (edit_flats P.D self.now edit.now) }
     {
-        rewrites::write_edited::<P>(block, self.words.as_slice(), &edit);
+        rewrites::write_edited::<P>(block, self.words.as_slice(), edit);
     }
 }

@@ -37,6 +37,7 @@ impl<P: Dims> Entries<P> for PairOf<P> {
         2
     }
 
+    #[inline(always)]
     fn at(&self, i: usize) -> Packed {
         if i == 0 {
             self.first.entry
@@ -45,6 +46,7 @@ impl<P: Dims> Entries<P> for PairOf<P> {
         }
     }
 
+    #[inline(always)]
     fn value(&self, i: usize) -> u64 {
         if i == 0 {
             self.first.value

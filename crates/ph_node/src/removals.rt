@@ -47,7 +47,7 @@ impl<P: Dims> NodeOf<P> {
             value: 0,
         };
         let mut words = spare;
-        self.write_edited(edit, &mut words);
+        self.write_edited(&edit, &mut words);
         changes.tick();
         self.words = words;
     }
@@ -88,7 +88,7 @@ impl<P: Dims> NodeOf<P> {
             value: other.value,
         };
         let mut block = spare;
-        self.write_edited(edit, &mut block);
+        self.write_edited(&edit, &mut block);
         changes.tick();
         changes.tick();
         lift_child(&mut self.children, old.front, other.child);

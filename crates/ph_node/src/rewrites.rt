@@ -55,6 +55,7 @@ fn copy_around(words: &mut Words, dims: usize, old: &[u64], edit: &Edit)
 }
 
 // Writes the record in the other layout, entry by entry.
+#[inline(never)]
 fn lay_out<P: Dims>(words: &mut Words, old: &[u64], edit: &Edit)
     requires edit { IsRecordEdit P.D old.now edit.now }
     requires room { words_with P.D old.now edit.now ≤ room_of words.old }

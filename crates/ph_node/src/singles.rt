@@ -33,6 +33,7 @@ impl<P: Dims> Entries<P> for OneOf<P> {
         1
     }
 
+    #[inline(always)]
     fn at(&self, i: usize) -> Packed {
         let _ = i;
         let body = self.body;
@@ -44,6 +45,7 @@ impl<P: Dims> Entries<P> for OneOf<P> {
         }
     }
 
+    #[inline(always)]
     fn value(&self, i: usize) -> u64 {
         let _ = i;
         self.value

@@ -60,7 +60,7 @@ impl<P: Dims> NodeOf<P> {
             entry,
             value: 0,
         };
-        let words = self.edited(edit, self.children.len() + 1 - old.child as usize)?;
+        let words = self.edited(&edit, self.children.len() + 1 - old.child as usize)?;
         let mut children = room_for(&mut self.children, old.child, alloc)?;
         changes.tick();
         changes.tick();

@@ -21,6 +21,6 @@ block-requires-clause-entries g c =
 pub write_edited-requires-clause-room : goal.write_edited-requires-clause-room
 write_edited-requires-clause-room g c =
     let o = old _ _ _ _ c.self.view_is c.self.invariant in
-    let n : c.count.result - c.args.edit.less + c.args.edit.more ≡ length (edit_flats g.P.Dims.D c.args.self.now c.args.edit) = n_new _ _ _ c.requires.edit c.count.result (c.count.ensures ∙ count_at _ _ _ _ _ o c.as_slice-words.ensures) in
-    let w = wanted_new g.P.Dims.D c.args.self.now c.args.edit c.level_in.result _ (c.count.result - c.args.edit.less + c.args.edit.more - c.args.children) (c.level_in.ensures ∙ ap (λ u. (first_in u).level) c.as_slice-words.ensures ∙ o.level) n (omega (arith, n, c.requires.children)) in
+    let n : c.count.result - c.args.edit.now.less + c.args.edit.now.more ≡ length (edit_flats g.P.Dims.D c.args.self.now c.args.edit.now) = n_new _ _ _ c.requires.edit c.count.result (c.count.ensures ∙ count_at _ _ _ _ _ o c.as_slice-words.ensures) in
+    let w = wanted_new g.P.Dims.D c.args.self.now c.args.edit.now c.level_in.result _ (c.count.result - c.args.edit.now.less + c.args.edit.now.more - c.args.children) (c.level_in.ensures ∙ ap (λ u. (first_in u).level) c.as_slice-words.ensures ∙ o.level) n (omega (arith, n, c.requires.children)) in
     omega (arith, ap room_of c.in_ok-block.ensures, w)

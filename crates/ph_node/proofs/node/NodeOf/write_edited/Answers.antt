@@ -12,7 +12,7 @@ use Rattle.ph_node.proofs.node.NodeOf.write_edited.Goals as goal
 pub write_edited-requires-clause-edit : goal.write_edited-requires-clause-edit
 write_edited-requires-clause-edit g c =
     let o = old _ _ _ _ c.self.view_is c.self.invariant in
-    let e = c.args.edit in
+    let e = c.args.edit.now in
     record {
       source = source_at _ _ _ _ _ o c.as_slice.ensures;
       within = omega (arith, c.requires.edit.within, count_at _ _ _ _ _ o c.as_slice.ensures);
@@ -25,11 +25,11 @@ write_edited-requires-clause-edit g c =
 
 pub write_edited-requires-clause-room : goal.write_edited-requires-clause-room
 write_edited-requires-clause-room g c =
-    moved _ _ _ _ _ (old _ _ _ _ c.self.view_is c.self.invariant) c.as_slice.ensures c.args.edit _ refl
+    moved _ _ _ _ _ (old _ _ _ _ c.self.view_is c.self.invariant) c.as_slice.ensures c.args.edit.now _ refl
     (λ l fs. words_wanted g.P.Dims.D l (length fs) (length (values fs)) ≤ room_of c.args.block.now) c.requires.room
 
 pub returns : goal.returns
 returns g c =
     c.write_edited.ensures.words
-    ∙ sym (moved _ _ _ _ _ (old _ _ _ _ c.self.view_is c.self.invariant) c.as_slice.ensures c.args.edit _ refl
-    (λ l fs. record_of g.P.Dims.D c.args.self.now.level (edit_flats g.P.Dims.D c.args.self.now c.args.edit) ≡ record_of g.P.Dims.D l fs) refl)
+    ∙ sym (moved _ _ _ _ _ (old _ _ _ _ c.self.view_is c.self.invariant) c.as_slice.ensures c.args.edit.now _ refl
+    (λ l fs. record_of g.P.Dims.D c.args.self.now.level (edit_flats g.P.Dims.D c.args.self.now c.args.edit.now) ≡ record_of g.P.Dims.D l fs) refl)

@@ -2,7 +2,7 @@ use Rattle.std.proofs.Common.{◌≡◌, ◌+◌, ◌*◌, ◌^◌}
 use Rattle.ph_specs.specs.Digits.{digits_at}
 use Rattle.ph_bits.specs.Block.{IsSamePlaces}
 use Rattle.ph_bits.specs.Written.{IsPen, digits_by, number_by}
-use Rattle.ph_bits.proofs.pens.Pen.copy.Given as goal
+use Rattle.ph_bits.proofs.pens.Pen.copy_words.Given as goal
 
 abbrev pub invariant-loop-i : goal.invariant-loop-i
 invariant-loop-i l =

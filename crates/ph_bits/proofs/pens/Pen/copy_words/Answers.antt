@@ -2,7 +2,7 @@ use Rattle.std.proofs.Common.{◌≡◌, ◌+◌, ◌*◌, ◌/◌, ◌%◌, ◌
 use Rattle.ph_specs.specs.Digits.{digits_at}
 use Rattle.ph_bits.specs.Written.{number_by}
 use Rattle.ph_bits.proofs.PenSteps.{number_copied}
-use Rattle.ph_bits.proofs.pens.Pen.copy.Goals as goal
+use Rattle.ph_bits.proofs.pens.Pen.copy_words.Goals as goal
 
 pub loop-i-preserved : goal.loop-i-preserved
 loop-i-preserved c =
