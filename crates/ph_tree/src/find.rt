@@ -27,11 +27,14 @@ pub(crate) fn find_in<P: Dims, V: Ledger>(
     ensures found { result ≡ find_node key.now.width (shown node.entry) key.now.point }
     ensures cost { visits.new ≡ visits.old + opened_below key.now.width (shown node.entry).level (shown node.entry).chain key.now.point }
 {
-    match step(node, key, visits) {
-        StepOf::Absent(_) => None,
-        StepOf::Same(_, v) => Some(v),
-        StepOf::Below(_, below) => find_in(below, key, visits),
-        StepOf::Other(_) => None,
+    let mut node = node;
+    'down: loop {
+        match step(node, key, visits) {
+            StepOf::Absent(_) => return None,
+            StepOf::Same(_, v) => return Some(v),
+            StepOf::Below(_, below) => node = below,
+            StepOf::Other(_) => return None,
+        }
     }
 }
 
