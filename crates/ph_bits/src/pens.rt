@@ -5,7 +5,7 @@ ghost use Rattle.std.specs.List.{AllByRecursion as Each};
 ghost use Rattle.ph_specs.specs.Digits.{Field, field, number_after, digits_of, words_for, words_of, digits_at};
 ghost use Rattle.ph_bits.specs.Block.{room_of, IsSamePlaces};
 ghost use Rattle.ph_bits.specs.Fields.{number_in};
-ghost use Rattle.ph_bits.specs.Written.{IsPen, digits_by, number_by};
+ghost use Rattle.ph_bits.specs.Written.{IsPen, digits_by, number_by, shifted};
 
 use crate::fields::field;
 use crate::words::Words;
@@ -88,18 +88,14 @@ impl Pen {
         if count < 64 {
             let width = count as u32;
             self.put(words, width, field(from, at, width));
-        } else if at % 64 + self.room as u64 == 64 {
-            self.copy_level(words, from, at, count);
         } else {
             self.copy_words(words, from, at, count);
         }
     }
 
-    // Writes `count` digits of other words that lie in these as they will lie in the block. Behind those that fill the word begun
-    // they are copied word by word.
-    fn copy_level(&mut self, words: &mut Words, from: &[u64], at: u64, count: u64)
+    // Writes `count` digits of other words: those that fill the word begun, then whole words, then what is left.
+    fn copy_words(&mut self, words: &mut Words, from: &[u64], at: u64, count: u64)
         requires pen { IsPen self.old }
-        requires level { at % 64 + self.old.room ≡ 64 }
         requires many { 64 ≤ count }
         requires from { at + count ≤ 64 * length from.now }
         requires near { at + count ≤ 2 ^ 62 }
@@ -109,49 +105,13 @@ impl Pen {
         ensures number { number_by words.new.words self.new ≡ number_by words.old.words self.old * 2 ^ count + digits_at from.now at count }
         ensures places { IsSamePlaces words.old words.new }
     {
-        are_words(from);
         let front = self.room % 64;
         self.put(words, front, field(from, at, front));
-        let place = ((at + front as u64) / 64) as usize;
-        let whole = ((count - front as u64) / 64) as usize;
-        words.extend(&from[place..place + whole]);
+        let begin = at + front as u64;
+        let whole = (count - front as u64) / 64;
+        extend_from(words, from, begin, whole as usize);
         let rest = ((count - front as u64) % 64) as u32;
-        self.put(words, rest, field(from, at + count - rest as u64, rest));
-    }
-
-    // Writes `count` digits of other words. Each turn of its loop stores a whole word; what is left of the digits is one field
-    // more.
-    fn copy_words(&mut self, words: &mut Words, from: &[u64], at: u64, count: u64)
-        requires pen { IsPen self.old }
-        requires from { at + count ≤ 64 * length from.now }
-        requires near { at + count ≤ 2 ^ 62 }
-        requires inside { digits_by words.old.words self.old + count ≤ 64 * room_of words.old }
-        ensures pen { IsPen self.new }
-        ensures digits { digits_by words.new.words self.new ≡ digits_by words.old.words self.old + count }
-        ensures number { number_by words.new.words self.new ≡ number_by words.old.words self.old * 2 ^ count + digits_at from.now at count }
-        ensures places { IsSamePlaces words.old words.new }
-    {
-        let whole = count / 64;
-        for i in 0..whole {
-            self.put_word(words, field(from, at + 64 * i, 64));
-        }
-        let rest = (count % 64) as u32;
-        self.put(words, rest, field(from, at + 64 * whole, rest));
-    }
-
-    // Writes the 64 digits of `v`.
-    #[inline(always)]
-    fn put_word(&mut self, words: &mut Words, v: u64)
-        requires pen { IsPen self.old }
-        requires inside { digits_by words.old.words self.old + 64 ≤ 64 * room_of words.old }
-        ensures pen { IsPen self.new }
-        ensures digits { digits_by words.new.words self.new ≡ digits_by words.old.words self.old + 64 }
-        ensures number { number_by words.new.words self.new ≡ number_by words.old.words self.old * 2 ^ 64 + v }
-        ensures places { IsSamePlaces words.old words.new }
-    {
-        let low = 64 - self.room;
-        words.push(((self.kept << (self.room - 1)) << 1) + (v >> low));
-        self.kept = v & ((1 << low) - 1);
+        self.put(words, rest, field(from, begin + 64 * whole, rest));
     }
 
     /// Ends a table of fields that began at a new word: its last word is filled up with zeros.
@@ -178,6 +138,44 @@ impl Pen {
         if self.room < 64 {
             words.push(self.kept << self.room);
         }
+    }
+}
+
+// Writes so many words of digits of other words, from digit `at` on, behind the words of a block.
+#[inline(always)]
+fn extend_from(words: &mut Words, from: &[u64], at: u64, count: usize)
+    requires from { at + 64 * count ≤ 64 * length from.now }
+    requires near { at ≤ 2 ^ 62 }
+    requires room { length words.old.words + count ≤ room_of words.old }
+    ensures length { length words.new.words ≡ length words.old.words + count }
+    ensures number { number_in words.new.words ≡ number_in words.old.words * 2 ^ (64 * count) + digits_at from.now at (64 * count) }
+    ensures places { IsSamePlaces words.old words.new }
+{
+    are_words(from);
+    let place = (at / 64) as usize;
+    let shift = (at % 64) as u32;
+    if shift == 0 {
+        words.extend(&from[place..place + count]);
+    } else if count > 0 {
+        push_shifted(
+            words,
+            &from[place..place + count],
+            &from[place + 1..place + 1 + count],
+            64 - shift,
+        );
+    }
+}
+
+// Writes words that begin with the last `behind` digits of some words and end with the first digits of others.
+fn push_shifted(words: &mut Words, first: &[u64], second: &[u64], behind: u32)
+    requires behind { (0 < behind) × (behind < 64) }
+    requires same { length second.now ≡ length first.now }
+    requires room { length words.old.words + length first.now ≤ room_of words.old }
+    ensures words { words.new.words ≡ words.old.words ++ shifted behind first.now second.now }
+    ensures places { IsSamePlaces words.old words.new }
+{
+    for i in 0..first.len() {
+        words.push((second[i] >> behind) + ((first[i] << 1) << (63 - behind)));
     }
 }
 
