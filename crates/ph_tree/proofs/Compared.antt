@@ -1,141 +1,100 @@
--- Nodes that are compared entry by entry, and whole trees.
-use Rattle.std.proofs.Common.{◌≡◌, ℕ, suc, ◌+◌, ◌-◌, ◌<◌, ◌≤◌, List, [], ◌∷◌, ◌++◌, length, take, drop, not, true, false, refl, sym, ◌∙◌, ap, subst, arith, inl, inr, eqb-true, eq-eqb, take-append-drop, length-append}
-use Rattle.std.specs.Prelude.{Option, Some, None, replicate, ◌↔◌, ◌==◌, IsTrue, Bool, slice_get}
+-- Nodes that are compared by their records and their children, and whole trees.
+use Rattle.std.proofs.Common.{◌≡◌, ℕ, suc, ◌+◌, List, [], ◌∷◌, length, true, false, refl, sym, ◌∙◌, ap, subst, arith, length-append}
+use Rattle.std.specs.Prelude.{Option, Some, None, replicate, ◌↔◌, IsTrue, Bool, ◌≤◌}
 use Rattle.std.specs.Borrow.{Bor}
+use Rattle.std.specs.List.{AllByRecursion as Each}
 use Rattle.std.specs.Option.{option_copied}
-use Rattle.std.proofs.lemmas.List.{take_more, take_more_same}
-use Rattle.std.proofs.lemmas.Option.{get_or_from_slice_get}
-use Rattle.ph_specs.specs.EntryEdits.{what_at}
-use Rattle.ph_specs.specs.Lawful.{IsLawful, IsLawfulFrom, IsLawfulWhat, put_together, rows}
-use Rattle.ph_specs.specs.Node.{Entries, end, point, child, Entry, What, value, node, PlainNode, entries, chained, node_of, nodes, nodes_below}
-use Rattle.ph_specs.specs.PutTree.{same_digits}
+use Rattle.ph_specs.specs.Lawful.{IsLawful, IsLawfulFrom, put_together, rows}
+use Rattle.ph_specs.specs.Node.{Entries, end, point, child, PlainNode, flat, nodes, nodes_below}
+use Rattle.ph_specs.specs.Pack.{children, pack}
+use Rattle.ph_specs.specs.Record.{first_in, unpacked}
 use Rattle.ph_specs.specs.Shape.{shape}
 use Rattle.ph_specs.specs.Table.{Row, IsTable}
 use Rattle.ph_specs.specs.WorkSets.{all_nodes, placed, placed_below}
-use Rattle.ph_specs.proofs.lemmas.PointDigits.{same_digits-true, same_digits-refl}
-use Rattle.ph_specs.proofs.laws.Put.{either}
-use Rattle.ph_specs.proofs.laws.EntryLists.{node_of-entries, chained-listed, entry-lawful}
-use Rattle.ph_specs.proofs.laws.Ranked.{take-all}
+use Rattle.ph_specs.proofs.laws.OneToOne.{packable}
 use Rattle.ph_specs.proofs.laws.TableShape.{table-shape}
-use Rattle.ph_node.specs.Bodies.{IsBodyArray}
-use Rattle.ph_node.specs.Shown.{entry_of, what_of}
-use Rattle.ph_node.specs.declared.reads.EntryOf.{EntryOf}
-use Rattle.ph_node.specs.declared.reads.WhatOf.{WhatOf}
-use Rattle.ph_node.specs.declared.reads.WhatOf.TheVariants.{Value, Child}
-use Rattle.ph_tree.specs.Compared.{AreAlike, many_held}
-use Rattle.ph_tree.proofs.Steps.{entry_at, entry_there, addr_got, body_got, what_got}
+use Rattle.ph_specs.proofs.laws.Unpacked.{IsPackable, child_nodes, first-record, unpacked-pack}
+use Rattle.ph_node.specs.Kept.{IsNodeOf}
+use Rattle.ph_node.specs.Slots.{nodes_of}
+use Rattle.ph_node.specs.declared.node.SlotOf.{SlotOf}
+use Rattle.ph_tree.proofs.Sizes.{trees, below-children}
 
--- ---- one entry
-
--- the child of a lawful node is lawful, and lies lower
-pub child-lawful : (dims i : ℕ) (n m : PlainNode) → IsLawfulFrom dims n.level 0 n.chain → i < length (entries n) → node m ≡ what_at (entries n) i → (m.level < n.level) × IsLawfulFrom dims m.level 0 m.chain
-child-lawful dims i n m h l e =
-    let k : IsLawfulWhat dims n.level (entry_at (entries n) i).body (node m) = subst (IsLawfulWhat dims n.level (entry_at (entries n) i).body) (sym e) (entry-lawful dims n.level 0 i n.chain (entry_at (entries n) i) h (entry_there (entries n) i l)).held in
-    (k.0, k.3)
-
--- lists that agree so far and in the next entry
-pub taken-next : (xs ys : List Entry) (i : ℕ) → i < length xs → i < length ys → take i xs ≡ take i ys → AreAlike xs ys i → take (i + 1) xs ≡ take (i + 1) ys
-taken-next xs ys i l m t h =
-    let e : entry_at xs i ≡ entry_at ys i = λ k. record { addr = h.address k; body = h.body k; what = h.what k } in
-    take_more_same xs ys i (entry_at xs i) l m t
-    (get_or_from_slice_get xs i (entry_at xs i) (entry_at xs i) (entry_there xs i l) ∙ e ∙ sym (get_or_from_slice_get ys i (entry_at ys i) (entry_at xs i) (entry_there ys i m)))
-
--- nodes with the same level, which agree in all entries, are the same
-pub node-same : (a b : PlainNode) (i : ℕ) → a.level ≡ b.level → length (entries a) ≤ i → length (entries b) ≤ i → take i (entries a) ≡ take i (entries b) → a ≡ b
-node-same a b i e l m t =
-    let f : entries a ≡ entries b = sym (take-all i (entries a) l) ∙ t ∙ take-all i (entries b) m in
-    sym (node_of-entries a) ∙ ap (λ n. node_of n (entries a)) e ∙ ap (λ es. node_of b.level es) f ∙ node_of-entries b
-
--- ---- entries as they are read
-
--- numbers that are the same, by a test for others
-pub body_same : (xs ys : List ℕ) (r : Bool) → r ≡ not (same_digits xs ys) → r ≡ false → xs ≡ ys
-body_same xs ys r h e =
-    elim (either (same_digits xs ys)) [
-      | inl same ↦ same_digits-true xs ys same
-      | inr other ↦ absurd (let no : true ≡ false = sym (h ∙ ap not other) ∙ e in cc)
-    ]
-
-pub body_other : (xs ys : List ℕ) (r : Bool) → r ≡ not (same_digits xs ys) → r ≡ true → xs ≡ ys → ⊥
-body_other xs ys r h e s =
-    let no : true ≡ false = sym e ∙ h ∙ ap not (same_digits-refl xs ys s) in cc
+-- ---- nodes by their records and their children
 
 pub never : {A : Type 0} → (A → ⊥) → IsTrue false ↔ A
 never n = (λ f. absurd (let no : false ≡ true = f in cc), λ h. absurd (n h))
 
-module _ (dims : ℕ) {i : ℕ} {xs ys : List Entry} (a b : EntryOf PlainNode) (x : slice_get xs i ≡ Some (entry_of dims a)) (y : slice_get ys i ≡ Some (entry_of dims b)) where
-  pub alike_addr : AreAlike xs ys i → a.addr ≡ b.addr
-  alike_addr h = sym (addr_got xs i (entry_of dims a) x) ∙ h.address ∙ addr_got ys i (entry_of dims b) y
+-- trees that are lawful, each by itself
+abbrev pub AreLawful : ℕ → List PlainNode → Type 0
+AreLawful dims = Each (λ n. IsLawfulFrom dims n.level 0 n.chain)
 
-  pub alike_body : (l m : ℕ) → IsBodyArray dims l a.body → IsBodyArray dims m b.body → AreAlike xs ys i → a.body ≡ b.body
-  alike_body l m p q h =
-      let t : take dims a.body ≡ take dims b.body = sym (body_got xs i (entry_of dims a) x) ∙ h.body ∙ body_got ys i (entry_of dims b) y in
-      p.filled ∙ ap (λ u. u ++ replicate (16 - dims) 0) t ∙ sym q.filled
+pub children-lawful : (dims level least : ℕ) (e : Entries) → IsLawfulFrom dims level least e → AreLawful dims (child_nodes e)
+children-lawful dims level least end h = _
+children-lawful dims level least (point a body v rest) h = children-lawful dims level (a + 1) rest h.3
+children-lawful dims level least (child a body below chain rest) h = (h.6, children-lawful dims level (a + 1) rest h.7)
 
-  alike_what : AreAlike xs ys i → what_of a.what ≡ what_of b.what
-  alike_what h = sym (what_got xs i (entry_of dims a) x) ∙ h.what ∙ what_got ys i (entry_of dims b) y
+length-children : (e : Entries) → length (child_nodes e) ≡ children (flat e)
+length-children end = refl
+length-children (point a body v rest) = omega (arith, length-children rest)
+length-children (child a body below chain rest) = omega (arith, length-children rest)
 
-  module _ (e : a.addr ≡ b.addr) (f : a.body ≡ b.body) where
-    are_alike : what_of a.what ≡ what_of b.what → AreAlike xs ys i
-    are_alike w = record {
-      address = addr_got xs i (entry_of dims a) x ∙ e ∙ sym (addr_got ys i (entry_of dims b) y);
-      body = body_got xs i (entry_of dims a) x ∙ ap (take dims) f ∙ sym (body_got ys i (entry_of dims b) y);
-      what = what_got xs i (entry_of dims a) x ∙ w ∙ sym (what_got ys i (entry_of dims b) y);
-    }
+length-nodes_of : {P : Type 0} (ss : List (SlotOf P)) → length (nodes_of ss) ≡ length ss
+length-nodes_of [] = refl
+length-nodes_of (s ∷ ss) = ap suc (length-nodes_of ss)
 
-    pub alike_values : {u v : ℕ} → a.what ≡ Value u → b.what ≡ Value v → IsTrue (u == v) ↔ AreAlike xs ys i
-    alike_values {u} {v} p q = (
-      λ t. are_alike (ap what_of p ∙ ap value (eqb-true u v t) ∙ sym (ap what_of q)),
-      λ h. let w : value u ≡ value v = sym (ap what_of p) ∙ alike_what h ∙ ap what_of q in let s : u ≡ v = cc in eq-eqb u v s,
+-- a visited node that is lawful, its record and its children
+pub record IsSeen {P : Type 0} (dims : ℕ) (n : PlainNode) (ws : List ℕ) (ss : List (SlotOf P)) : Type 0 where
+  pub kept : IsNodeOf dims n
+  pub lawful : IsLawfulFrom dims n.level 0 n.chain
+  pub words : ws ≡ pack dims n
+  pub children : nodes_of ss ≡ child_nodes n.chain
+
+module _ {P : Type 0} {dims : ℕ} {n : PlainNode} {ws : List ℕ} {ss : List (SlotOf P)} (h : IsSeen dims n ws ss) where
+  seen-packable : IsPackable dims n.level n.chain
+  seen-packable = packable dims n.level n.chain h.kept.few (omega (arith, h.kept.low)) h.lawful
+
+  seen-again : unpacked dims ws (nodes_of ss) ≡ n
+  seen-again =
+      ap (λ t. unpacked dims t (nodes_of ss)) h.words
+      ∙ ap (λ t. unpacked dims (pack dims n) t) h.children
+      ∙ unpacked-pack dims n seen-packable
+
+  seen-length : length ss ≡ (first_in ws).children
+  seen-length =
+      sym (length-nodes_of ss)
+      ∙ ap length h.children
+      ∙ length-children n.chain
+      ∙ sym (ap (λ t. (first_in t).children) h.words ∙ ap (λ t. t.children) (first-record dims n.level n.chain seen-packable))
+
+  pub seen-lawful : AreLawful dims (nodes_of ss)
+  seen-lawful = subst (AreLawful dims) (sym h.children) (children-lawful dims n.level 0 n.chain h.lawful)
+
+  pub seen-size : length (trees ss) + 1 ≡ length (nodes (Some n))
+  seen-size = omega (arith, ap length (below-children ss n n h.children refl))
+
+module _ {P : Type 0} {dims : ℕ} {n m : PlainNode} {ws us : List ℕ} {ss ts : List (SlotOf P)} (h : IsSeen dims n ws ss) (k : IsSeen dims m us ts) where
+  pub seen-words : n ≡ m → ws ≡ us
+  seen-words e = h.words ∙ ap (pack dims) e ∙ sym k.words
+
+  module _ (e : ws ≡ us) where
+    pub seen-long : length ss ≡ length ts
+    seen-long = seen-length h ∙ ap (λ t. (first_in t).children) e ∙ sym (seen-length k)
+
+    pub seen-same : (nodes_of ss ≡ nodes_of ts) ↔ (n ≡ m)
+    seen-same = (
+      λ f. sym (seen-again h) ∙ ap (λ t. unpacked dims t (nodes_of ss)) e ∙ ap (λ t. unpacked dims us t) f ∙ seen-again k,
+      λ f. h.children ∙ ap (λ t. child_nodes t.chain) f ∙ sym k.children,
     )
 
-    pub alike_children : {m n : Bor PlainNode} {r : Bool} → a.what ≡ Child m → b.what ≡ Child n → (IsTrue r ↔ (m.now ≡ n.now)) → IsTrue r ↔ AreAlike xs ys i
-    alike_children {m} {n} p q same = (
-      λ t. are_alike (ap what_of p ∙ ap node (same.0 t) ∙ sym (ap what_of q)),
-      λ h. let w : node m.now ≡ node n.now = sym (ap what_of p) ∙ alike_what h ∙ ap what_of q in let s : m.now ≡ n.now = cc in same.1 s,
-    )
+-- a first child that is the same, and those behind it
+pub first-same : {A : Type 0} {n m : PlainNode} {ns ms : List PlainNode} → n ≡ m → ((n ∷ ns ≡ m ∷ ms) ↔ A) → (ns ≡ ms) ↔ A
+first-same {A} {n} {m} {ns} {ms} e h = (
+  λ f. h.0 (λ i. e i ∷ f i),
+  λ a. let g : n ∷ ns ≡ m ∷ ms = h.1 a in cc,
+)
 
-  pub mixed : {u : ℕ} {n : Bor PlainNode} → a.what ≡ Value u → b.what ≡ Child n → AreAlike xs ys i → ⊥
-  mixed {u} {n} p q h = let w : value u ≡ node n.now = sym (ap what_of p) ∙ alike_what h ∙ ap what_of q in cc
-
-  pub mixed_other : {m : Bor PlainNode} {v : ℕ} → a.what ≡ Child m → b.what ≡ Value v → AreAlike xs ys i → ⊥
-  mixed_other {m} {v} p q h = let w : node m.now ≡ value v = sym (ap what_of p) ∙ alike_what h ∙ ap what_of q in cc
-
--- how many nodes are held, by an entry that is read
-pub held-read : (dims i : ℕ) (xs : List Entry) (a : EntryOf PlainNode) (w : WhatOf PlainNode) → slice_get xs i ≡ Some (entry_of dims a) → a.what ≡ w → many_held (what_at xs i) ≡ many_held (what_of w)
-held-read dims i xs a w x is = ap many_held (what_got xs i (entry_of dims a) x) ∙ ap (λ u. many_held (what_of u)) is
-
--- ---- how many nodes
-
-front-below : (e : Entry) (es : List Entry) → length (nodes_below (chained (e ∷ es))) ≡ many_held e.what + length (nodes_below (chained es))
-front-below e es = by_what e.what
-  where
-    by_what : (w : What) → length (nodes_below (chained (record { addr = e.addr; body = e.body; what = w } ∷ es))) ≡ many_held w + length (nodes_below (chained es))
-    by_what (value v) = omega arith
-    by_what (node n) = ap suc (length-append (nodes_below n.chain) (nodes_below (chained es))) ∙ omega arith
-
-below-append : (es fs : List Entry) → length (nodes_below (chained (es ++ fs))) ≡ length (nodes_below (chained es)) + length (nodes_below (chained fs))
-below-append [] fs = omega arith
-below-append (e ∷ es) fs = front-below e (es ++ fs) ∙ omega (arith, below-append es fs, front-below e es)
-
--- one entry more
-pub below-more : (i : ℕ) (es : List Entry) → i < length es → length (nodes_below (chained (take (i + 1) es))) ≡ length (nodes_below (chained (take i es))) + many_held (what_at es i)
-below-more i es l =
-    let e : Entry = entry_at es i in
-    ap (λ fs. length (nodes_below (chained fs))) (take_more es i e l ∙ ap (λ t. take i es ++ t ∷ []) (get_or_from_slice_get es i e e (entry_there es i l)))
-    ∙ below-append (take i es) (e ∷ []) ∙ omega (arith, front-below e [])
-
--- some first entries hold no more than all
-pub below-few : (i : ℕ) (n : PlainNode) → length (nodes_below (chained (take i (entries n)))) + 1 ≤ length (nodes (Some n))
-below-few i n =
-    let a : length (nodes_below (chained (take i (entries n) ++ drop i (entries n)))) ≡ length (nodes_below n.chain) = ap (λ es. length (nodes_below (chained es))) (take-append-drop i (entries n)) ∙ ap (λ c. length (nodes_below c)) (chained-listed n.chain) in
-    omega (arith, a, below-append (take i (entries n)) (drop i (entries n)))
-
--- and all of them hold all
-pub below-all : (i : ℕ) (n : PlainNode) → length (entries n) ≤ i → length (nodes_below (chained (take i (entries n)))) + 1 ≡ length (nodes (Some n))
-below-all i n l =
-    let a : length (nodes_below (chained (take i (entries n)))) ≡ length (nodes_below n.chain) = ap (λ es. length (nodes_below (chained es))) (take-all i (entries n) l) ∙ ap (λ c. length (nodes_below c)) (chained-listed n.chain) in
-    omega (arith, a)
+pub first-other : {A : Type 0} {n m : PlainNode} {ns ms : List PlainNode} → (n ≡ m → ⊥) → ((n ∷ ns ≡ m ∷ ms) ↔ A) → A → ⊥
+first-other {A} {n} {m} {ns} {ms} differ h a = let g : n ∷ ns ≡ m ∷ ms = h.1 a in differ cc
 
 -- ---- whole trees
 

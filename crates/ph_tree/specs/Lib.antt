@@ -4,7 +4,6 @@ pub mod Step
 pub mod Opened
 pub mod Tree
 pub mod Moves
-pub mod Compared
 pub mod Rooms
 pub mod Spares
 pub mod Stats

@@ -17,6 +17,12 @@ use Rattle.ph_shape.specs.Bodies.{filled}
 use Rattle.ph_shape.specs.Shown.{IsValue, IsChild}
 use Rattle.ph_shape.proofs.Fronts.{each-at}
 
+-- nodes with the same level, which agree in all entries, are the same
+pub node-same : (a b : PlainNode) (i : ℕ) → a.level ≡ b.level → length (entries a) ≤ i → length (entries b) ≤ i → take i (entries a) ≡ take i (entries b) → a ≡ b
+node-same a b i e l m t =
+    let f : entries a ≡ entries b = sym (take-all i (entries a) l) ∙ t ∙ take-all i (entries b) m in
+    sym (node_of-entries a) ∙ ap (λ n. node_of n (entries a)) e ∙ ap (λ es. node_of b.level es) f ∙ node_of-entries b
+
 -- the numbers of an entry's body, in front of the zeros
 pub take-filled : (dims : ℕ) (body : List ℕ) → length body ≡ dims → take dims (filled body) ≡ body
 take-filled dims body h =

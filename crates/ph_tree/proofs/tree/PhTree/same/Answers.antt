@@ -16,7 +16,11 @@ right g c =
 
 pub is_same_node-requires : goal.is_same_node-requires
 is_same_node-requires g c =
-    record { lawful = root-lawful (left g (goal.at.is_same_node-requires g c).In-Some-Some) c.in-Some-Some.is-0 }
+    let at = (goal.at.is_same_node-requires g c).In-Some-Some in
+    record {
+      left = root-lawful (left g at) c.in-Some-Some.is-0;
+      right = root-lawful (right g at) c.in-Some-Some.is-1;
+    }
 
 pub returns-in-Some-Some-clause-same : goal.returns-in-Some-Some-clause-same
 returns-in-Some-Some-clause-same g c =
