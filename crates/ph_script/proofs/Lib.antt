@@ -2,11 +2,11 @@
 mod FaultText
 mod Draws
 mod FileNameBytes
-mod FormSizes
+mod FormRooms
+mod FormsOfWord
 mod KeptNumbers
 mod LinePieces
 mod NameBytes
-mod PickedForms
 pub mod Pieces
 mod ReadPlaces
 mod RowTexts

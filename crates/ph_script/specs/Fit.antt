@@ -7,7 +7,9 @@ use Rattle.ph_script.specs.declared.command.Command.{Command}
 use Rattle.ph_script.specs.declared.command.Command.TheVariants as by
 use Rattle.ph_script.specs.declared.forms.Verb.{Verb}
 use Rattle.ph_script.specs.declared.forms.Verb.TheVariants.{Open, OpenMax, Put, Get, Del, Relocate, Count, Clear, Window, Cursor, Page, Near, Within, Overlap, Inside, Covers, Save, Load, Import, ImportHeader, Export, Stats, Select, Same}
-use Rattle.ph_specs.specs.Command.{first_word}
+use Rattle.std.specs.Cmp.Lexicographic.{pointwise}
+use Rattle.ph_specs.specs.Command.{Place, first_word, number_fits, name_fits}
+use Rattle.ph_script.specs.Parts.{coords_at, counts_at, name_from, file_from, second_from}
 
 abbrev pub IsFit : Verb → ℕ → List Coord → List ℕ → Option (List ℕ) → Option (List ℕ) → Type 0
 IsFit Open dims coords counts name file = (coords ≡ []) × (length counts ≡ 1) × (slice_index counts 0 < 2 ^ 32)
@@ -49,12 +51,17 @@ IsNamed Export name file second texts = file ≡ Some (first_word texts)
 IsNamed Select name file second texts = second ≡ bytes_eq (first_word texts) (codes "b")
 IsNamed _ name file second texts = Unit {0}
 
--- the fault of words in places, by whether all numbers and all names fit
-abbrev pub IsFault : Bad → Bool → Bool → Type 0
-IsFault Number numbers names = numbers ≡ false
-IsFault Name numbers names = (numbers ≡ true) × (names ≡ false)
-IsFault Word numbers names = ⊥
-IsFault BadCount numbers names = ⊥
+-- the first fault of words in places, by whether there are as many words as places and whether all numbers and all names fit
+abbrev pub IsFault : Bad → Bool → Bool → Bool → Type 0
+IsFault Word sized numbers names = ⊥
+IsFault BadCount sized numbers names = sized ≡ false
+IsFault Number sized numbers names = (sized ≡ true) × (numbers ≡ false)
+IsFault Name sized numbers names = (sized ≡ true) × (numbers ≡ true) × (names ≡ false)
+
+-- words that fit in as many places, and the parts that they spell there
+abbrev pub IsRead : List Place → List (List ℕ) → List Coord → List ℕ → Option (List ℕ) → Option (List ℕ) → Bool → Type 0
+IsRead places ws coords counts name file second =
+    (length places ≡ length ws) × (pointwise number_fits places ws ≡ true) × (pointwise name_fits places ws ≡ true) × (coords ≡ coords_at places ws) × (counts ≡ counts_at places ws) × (name ≡ name_from None places ws) × (file ≡ file_from None places ws) × (second ≡ second_from false places ws)
 
 -- each point of the command has so many coordinates
 abbrev pub HasDims : ℕ → Command → Type 0

@@ -1,10 +1,9 @@
 -- The forms of the code's table in the definitions, and the search among forms.
 use Rattle.std.specs.Prelude.{◌≡◌, ℕ, ◌+◌, ◌-◌, ◌^◌, ◌==◌, Bool, true, false, if◌then◌else◌, List, [], ◌∷◌, ◌++◌, length, replicate, take, drop, codes, bytes_eq, ℤ}
-use Rattle.ph_specs.specs.Command.{Command as Asked, Place as Asks, Form as Spelling, form, count, value, radius, fixed, coordinates, number_at, first_word, kind_of, slot_of}
+use Rattle.ph_specs.specs.Command.{Command as Asked, Place as Asks, Form as Spelling, Reading, form, read_form, count, value, radius, fixed, coordinates, number_at, first_word, kind_of, slot_of}
 use Rattle.ph_specs.specs.Command.Command.{Begin as AskBegin, Put as AskPut, Get as AskGet, Del as AskDel, Relocate as AskRelocate, Count as AskCount, Clear as AskClear, Window as AskWindow, Cursor as AskCursor, Page as AskPage, Near as AskNear, Within as AskWithin, Overlap as AskOverlap, Inside as AskInside, Covers as AskCovers, Save as AskSave, Load as AskLoad, Import as AskImport, Export as AskExport, Statistics as AskStatistics, Select as AskSelect, Compare as AskCompare}
 use Rattle.ph_specs.specs.Command.Place.{Coordinate as AsksCoordinate, Below, CursorName, FileName as AsksFileName, OneOf}
-use Rattle.ph_script.specs.declared.command.Bad.{Bad}
-use Rattle.ph_script.specs.declared.command.Bad.TheVariants.{Word, Count as BadCount}
+use Rattle.ph_specs.specs.Reply.Reply.{ErrorWord, ErrorCount}
 use Rattle.ph_script.specs.declared.forms.Verb.{Verb}
 use Rattle.ph_script.specs.declared.forms.Verb.TheVariants.{Open, OpenMax, Put, Get, Del, Relocate, Count, Clear, Window, Cursor, Page, Near, Within, Overlap, Inside, Covers, Save, Load, Import, ImportHeader, Export, Stats, Select, Same}
 use Rattle.ph_script.specs.declared.forms.Places.{Places}
@@ -100,12 +99,9 @@ form_of dims f = form f.word.now (places_of dims f.places.now) (command_by f.ver
 abbrev pub IsRow : Form → Type 0
 IsRow f = (dims : ℕ) → places_of dims f.places.now ≡ places_by f.verb dims
 
--- what a search among forms finds: no form of the word, none of it with so many places, or one
-pub data Picked : Type 0 where
-  Wrong : Bad → Picked
-  The : Spelling → Picked
-
-abbrev pub picked : Bool → List ℕ → ℕ → List Spelling → Picked
-picked known word size [] = if known then Wrong BadCount else Wrong Word
-picked known word size (f ∷ fs) =
-    if bytes_eq f.word word then (if length f.places == size then The f else picked true word size fs) else picked known word size fs
+-- what the words behind a command's word are by the first form of the word that has so many places; and behind some forms of
+-- the word with another number of places
+abbrev pub read_among : Bool → List ℕ → List (List ℕ) → List Spelling → Reading
+read_among seen word ws [] = Reading.Refused (if seen then ErrorCount else ErrorWord)
+read_among seen word ws (f ∷ fs) =
+    if bytes_eq f.word word then (if length f.places == length ws then read_form f ws else read_among true word ws fs) else read_among seen word ws fs

@@ -1,14 +1,8 @@
-//! The forms of the commands, and the search for the form of a line.
-ghost use Rattle.std.specs.Prelude.{◌≡◌, ◌≤◌, ◌+◌, ◌++◌, ℕ, false, length, map, replicate, MatchResult};
+//! The forms of the commands.
+ghost use Rattle.std.specs.Prelude.{◌≡◌, ℕ, length, map, replicate};
 ghost use Rattle.std.specs.List.{AllByRecursion};
 ghost use Rattle.ph_specs.specs.Command.{forms as all_forms};
-ghost use Rattle.ph_script.specs.Forms.{place_of, group_of, places_of, form_of, IsRow, picked};
-ghost use Rattle.ph_script.specs.Forms.Picked.{The, Wrong};
-
-use crate::command::Bad;
-
-// The most places that a form has, at 16 dimensions.
-const MOST_PLACES: usize = 33;
+ghost use Rattle.ph_script.specs.Forms.{place_of, group_of, form_of, IsRow};
 
 /// A command, by its form.
 #[derive(Clone, Copy)]
@@ -217,7 +211,8 @@ static FORMS: [Form; 24] = [
     },
 ];
 
-fn forms() -> &'static [Form]
+/// The forms of all commands.
+pub(crate) fn forms() -> &'static [Form]
     ensures all { (dims : ℕ) → map (form_of dims) result.now ≡ all_forms dims }
     ensures rows { AllByRecursion IsRow result.now }
 {
@@ -252,35 +247,4 @@ impl Places {
             Places::Either(first, second) => Place::Either(first, second),
         }
     }
-}
-
-// How many places a form has.
-fn size(places: &[Places], dims: usize) -> usize
-    requires { length (places_of dims places.now) ≤ MOST_PLACES }
-    ensures { result ≡ length (places_of dims places.now) }
-{
-    let mut size = 0;
-    for group in places {
-        size += group.count(dims);
-    }
-    size
-}
-
-/// The form of a command's word that has so many places.
-pub(crate) fn find_form(word: &[u8], count: usize, dims: usize) -> Result<&'static Form, Bad>
-    requires { dims ≤ 16 }
-    ensures found { MatchResult result
-        (λ f. (picked false word.now count (all_forms dims) ≡ The (form_of dims f.now)) × (length (places_of dims f.now.places.now) ≡ count) × IsRow f.now)
-        (λ b. picked false word.now count (all_forms dims) ≡ Wrong b) }
-{
-    let mut known = false;
-    for form in forms() {
-        if form.word == word {
-            if size(form.places, dims) == count {
-                return Ok(form);
-            }
-            known = true;
-        }
-    }
-    Err(if known { Bad::Count } else { Bad::Word })
 }

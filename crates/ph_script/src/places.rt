@@ -1,13 +1,13 @@
 //! The words of a line, read in the places of a form.
-ghost use Rattle.std.specs.Prelude.{◌≡◌, ◌≤◌, ◌+◌, ◌++◌, [], length, true, false, None, MatchResult};
+ghost use Rattle.std.specs.Prelude.{◌≡◌, ◌≤◌, ◌+◌, ◌==◌, ◌++◌, [], length, true, false, None, MatchResult};
 ghost use Rattle.std.specs.List.{sum_by};
 ghost use Rattle.std.specs.Cmp.Lexicographic.{pointwise};
 ghost use Rattle.arrayvec.specs.ArrayVec.{array_vec_len};
 ghost use Rattle.ph_specs.specs.Lines.{words};
 ghost use Rattle.ph_specs.specs.Command.{number_fits, name_fits};
 ghost use Rattle.ph_script.specs.Forms.{place_of, spread_of};
-ghost use Rattle.ph_script.specs.Parts.{coords_in, counts_in, coords_at, counts_at, coords_room, counts_room, named, name_from, filed, file_from, second_in, second_from};
-ghost use Rattle.ph_script.specs.Fit.{IsFault};
+ghost use Rattle.ph_script.specs.Parts.{coords_in, counts_in, coords_room, counts_room, named, filed, second_in};
+ghost use Rattle.ph_script.specs.Fit.{IsFault, IsRead};
 
 use crate::command::Bad;
 use crate::coords::{CoordBuffer, MOST_OF_COMMAND};
@@ -30,12 +30,12 @@ fn read_word<'c>(
     requires counts { array_vec_len parts.old.counts + counts_room (place_of place) ≤ 2 }
     ensures fits { MatchResult result
         (λ _. (number_fits (place_of place) word.now ≡ true) × (name_fits (place_of place) word.now ≡ true))
-        (λ b. IsFault b (number_fits (place_of place) word.now) (name_fits (place_of place) word.now)) }
-    ensures coords { number_fits (place_of place) word.now ≡ true → coords.new ≡ coords.old ++ coords_in (place_of place) word.now }
-    ensures counts { number_fits (place_of place) word.now ≡ true → parts.new.counts.items ≡ parts.old.counts.items ++ counts_in (place_of place) word.now }
+        (λ b. IsFault b true (number_fits (place_of place) word.now) (name_fits (place_of place) word.now)) }
+    ensures coords { coords.new ≡ coords.old ++ coords_in (place_of place) word.now }
+    ensures counts { parts.new.counts.items ≡ parts.old.counts.items ++ counts_in (place_of place) word.now }
     ensures name { name_fits (place_of place) word.now ≡ true → parts.new.name ≡ named parts.old.name (place_of place) word.now }
     ensures file { name_fits (place_of place) word.now ≡ true → parts.new.file ≡ filed parts.old.file (place_of place) word.now }
-    ensures second { number_fits (place_of place) word.now ≡ true → parts.new.is_second ≡ second_in parts.old.is_second (place_of place) word.now }
+    ensures second { parts.new.is_second ≡ second_in parts.old.is_second (place_of place) word.now }
 {
     match place {
         Place::Coordinate => {
@@ -77,10 +77,10 @@ fn read_word<'c>(
     Ok(())
 }
 
-/// Reads the words of a text, as many words as places, and adds what they tell to the coordinates and the parts, if each
-/// word is as its place asks.
+/// Reads the words of a text in places, and adds what they tell to the coordinates and the parts, if there are as many words
+/// as places and each is as its place asks.
 ///
-/// A wrong number is told before a wrong name, wherever they stand.
+/// Another number of words is told before a wrong number, and this before a wrong name, wherever they stand.
 pub(crate) fn read_places<'c>(
     mut places: Spread,
     text: &'c [u8],
@@ -88,32 +88,31 @@ pub(crate) fn read_places<'c>(
     parts: &mut Parts<'c>,
 ) -> Result<(), Bad>
     requires empty { (coords.old ≡ []) × (parts.old.counts.items ≡ []) × (parts.old.name ≡ None) × (parts.old.file ≡ None) × (parts.old.is_second ≡ false) }
-    requires size { length (words text.now) ≡ length (spread_of places) }
     requires coords { sum_by coords_room (spread_of places) ≤ MOST_OF_COMMAND }
     requires counts { sum_by counts_room (spread_of places) ≤ 2 }
     ensures { MatchResult result
-        (λ _. (pointwise number_fits (spread_of places) (words text.now) ≡ true)
-        × (pointwise name_fits (spread_of places) (words text.now) ≡ true)
-        × (coords.new ≡ coords_at (spread_of places) (words text.now))
-        × (parts.new.counts.items ≡ counts_at (spread_of places) (words text.now))
-        × (parts.new.name ≡ name_from None (spread_of places) (words text.now))
-        × (parts.new.file ≡ file_from None (spread_of places) (words text.now))
-        × (parts.new.is_second ≡ second_from false (spread_of places) (words text.now)))
-        (λ b. IsFault b (pointwise number_fits (spread_of places) (words text.now)) (pointwise name_fits (spread_of places) (words text.now))) }
+        (λ _. IsRead (spread_of places) (words text.now) coords.new parts.new.counts.items parts.new.name parts.new.file parts.new.is_second)
+        (λ b. IsFault b (length (spread_of places) == length (words text.now)) (pointwise number_fits (spread_of places) (words text.now)) (pointwise name_fits (spread_of places) (words text.now))) }
 {
+    let mut numbers_fit = true;
     let mut names_fit = true;
     let mut rest = text;
     while let Some(place) = places.next_place() {
         let Some((word, behind)) = next_word(rest) else {
-            unreachable!();
+            return Err(Bad::Count);
         };
         rest = behind;
         match read_word(place, word, coords, parts) {
             Ok(()) => {}
-            // A wrong number may come behind it.
             Err(Bad::Name) => names_fit = false,
-            Err(bad) => return Err(bad),
+            Err(_) => numbers_fit = false,
         }
+    }
+    if next_word(rest).is_some() {
+        return Err(Bad::Count);
+    }
+    if !numbers_fit {
+        return Err(Bad::Number);
     }
     if !names_fit {
         return Err(Bad::Name);

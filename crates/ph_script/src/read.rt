@@ -1,49 +1,55 @@
 //! The reading of a line.
-ghost use Rattle.std.specs.Prelude.{◌≡◌, ◌≤◌, ◌++◌, ℕ, List, length, map, pos, Some, IsSome};
+ghost use Rattle.std.specs.Prelude.{◌≡◌, ◌≤◌, ◌++◌, [], ℕ, List, length, map, pos, false, None, Some, IsSome, MatchResult};
 ghost use Rattle.ph_specs.specs.Lines.{words};
-ghost use Rattle.ph_specs.specs.Command.{read_form as by_form, read_words, Reading};
-ghost use Rattle.ph_script.specs.Forms.{places_of, form_of, IsRow, command_by};
+ghost use Rattle.ph_specs.specs.Command.{form, forms, read_form as by_form, read_words, Reading};
+ghost use Rattle.ph_script.specs.Forms.{places_by, command_by, read_among};
 ghost use Rattle.ph_script.specs.Parts.{kind_by, slot_by};
-ghost use Rattle.ph_script.specs.Meaning.{reading_of, command_of, numbers_of};
-ghost use Rattle.ph_script.specs.Fit.{IsFit, IsNamed, HasDims, ReadsDims};
+ghost use Rattle.ph_script.specs.Meaning.{reading_of, command_of, numbers_of, bad_reply};
+ghost use Rattle.ph_script.specs.Fit.{IsFit, IsNamed, IsRead, HasDims, ReadsDims};
 
 use crate::command::{Bad, Command};
 use crate::coords::{Coord, CoordBuffer, Coords};
 use crate::file_name::FileName;
-use crate::forms::{Form, Verb, find_form};
+use crate::forms::{Verb, forms};
 use crate::name::Name;
 use crate::parts::Parts;
 use crate::places::read_places;
 use crate::spread::Spread;
-use crate::words::{count_words, next_word};
+use crate::words::next_word;
 use ph_coord::Kind;
 use ph_specs::Which;
 
 // The first byte of a comment.
 const COMMENT: u8 = b'#';
 
-// What a line is by its form and the words behind the form's word, as many words as the form has places.
-//
-// It answers what `read_command` answers, so that a command is not wrapped once more on its way.
+// Reads the words behind a command's word in the places of the form of that word that has as many, and tells the form.
 fn read_form<'c>(
-    form: &Form,
-    dims: usize,
+    word: &[u8],
     text: &'c [u8],
-    coords: &'c mut CoordBuffer,
-) -> Result<Option<Command<'c>>, Bad>
+    dims: usize,
+    coords: &mut CoordBuffer,
+    parts: &mut Parts<'c>,
+) -> Result<Verb, Bad>
     requires dims { dims ≤ 16 }
-    requires row { IsRow form.now }
-    requires size { length (places_of dims form.now.places.now) ≡ length (words text.now) }
-    ensures meaning { by_form (form_of dims form.now) (words text.now) ≡ reading_of result }
-    ensures dims { ReadsDims dims result }
+    requires empty { (coords.old ≡ []) × (parts.old.counts.items ≡ []) × (parts.old.name ≡ None) × (parts.old.file ≡ None) × (parts.old.is_second ≡ false) }
+    ensures { MatchResult result
+        (λ verb. (read_among false word.now (words text.now) (forms dims) ≡ by_form (form word.now (places_by verb dims) (command_by verb dims)) (words text.now))
+        × IsRead (places_by verb dims) (words text.now) coords.new parts.new.counts.items parts.new.name parts.new.file parts.new.is_second)
+        (λ b. read_among false word.now (words text.now) (forms dims) ≡ Reading.Refused (bad_reply b)) }
 {
-    let places = Spread::new(form.places, dims);
-    let mut parts = Parts::new();
-    coords.clear();
-    match read_places(places, text, coords, &mut parts) {
-        Ok(()) => Ok(Some(command(form.verb, dims, coords.as_slice(), parts))),
-        Err(bad) => Err(bad),
+    let mut seen = false;
+    for form in forms() {
+        if form.word == word {
+            match read_places(Spread::new(form.places, dims), text, coords, parts) {
+                Ok(()) => return Ok(form.verb),
+                Err(Bad::Count) => seen = true,
+                Err(bad) => return Err(bad),
+            }
+            coords.clear();
+            *parts = Parts::new();
+        }
     }
+    Err(if seen { Bad::Count } else { Bad::Word })
 }
 
 // The command of a form, of its coordinates and of the other parts that its places have.
@@ -205,6 +211,10 @@ pub fn read_command<'c>(
         return Ok(None);
     }
     let dims = dims as usize;
-    let form = find_form(word, count_words(rest), dims)?;
-    read_form(form, dims, rest, coords)
+    let mut parts = Parts::new();
+    coords.clear();
+    match read_form(word, rest, dims, coords, &mut parts) {
+        Ok(verb) => Ok(Some(command(verb, dims, coords.as_slice(), parts))),
+        Err(bad) => Err(bad),
+    }
 }

@@ -37,15 +37,3 @@ pub(crate) fn next_word(text: &[u8]) -> Option<(&[u8], &[u8])>
         None => Some((text, &[])),
     }
 }
-
-pub(crate) fn count_words(text: &[u8]) -> usize
-    ensures { result ≡ length (words text.now) }
-{
-    let mut rest = text;
-    let mut count = 0;
-    while let Some((_, behind)) = next_word(rest) {
-        rest = behind;
-        count += 1;
-    }
-    count
-}

@@ -11,8 +11,8 @@ use Rattle.ph_script.proofs.places.read_places.Given as goal
 
 abbrev pub invariant-loop-place : goal.invariant-loop-place
 invariant-loop-place l = record {
-  size : length (words l.rest) ≡ length (spread_of l.places);
-  fits : pointwise number_fits (spread_of l.places) (words l.rest) ≡ pointwise number_fits (spread_of l.initial.places) (words l.text);
+  size : length (words l.rest) + length (spread_of l.initial.places) ≡ length (words l.text) + length (spread_of l.places);
+  fits : (l.numbers_fit && pointwise number_fits (spread_of l.places) (words l.rest)) ≡ pointwise number_fits (spread_of l.initial.places) (words l.text);
   named : (l.names_fit && pointwise name_fits (spread_of l.places) (words l.rest)) ≡ pointwise name_fits (spread_of l.initial.places) (words l.text);
   coords : l.coords ++ coords_at (spread_of l.places) (words l.rest) ≡ coords_at (spread_of l.initial.places) (words l.text);
   counts : l.parts.counts.items ++ counts_at (spread_of l.places) (words l.rest) ≡ counts_at (spread_of l.initial.places) (words l.text);

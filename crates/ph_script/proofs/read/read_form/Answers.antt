@@ -1,17 +1,20 @@
-use Rattle.std.proofs.Common.{◌∙◌}
+use Rattle.std.proofs.Common.{rules, sym, ◌∙◌, eq-eqb, length}
 use Rattle.ph_specs.specs.Lines.{words}
-use Rattle.ph_script.proofs.ReadPlaces.{fit-of, does}
+use Rattle.ph_script.specs.Forms.{spread_of}
+use Rattle.ph_script.proofs.FormRooms.{coords-at, counts-at, read-at, form-at}
 use Rattle.ph_script.proofs.read.read_form.Goals as goal
 
-pub command-requires-clause-fit : goal.command-requires-clause-fit
-command-requires-clause-fit c =
-    let n = c.in-Ok.ensures in
-    let e = c.new-places.ensures ∙ c.requires.row c.args.dims in
-    rw c.as_slice.ensures (fit-of c.args.form.now.verb c.args.dims _ (words c.args.text.now) _ _ _ _ e n.0 n.2 n.3 n.4 n.5)
+pub read_places-requires-clause-coords : goal.read_places-requires-clause-coords
+read_places-requires-clause-coords c = rw c.new.ensures (coords-at c.forms-form-items.result.now c.loop-form.form-index _ (search rules) c.loop-form.invariant.rows c.args.dims c.requires.dims)
 
-pub returns-in-Ok-clause-meaning : goal.returns-in-Ok-clause-meaning
-returns-in-Ok-clause-meaning c =
-    let n = c.in-Ok.ensures in
-    let e = c.new-places.ensures in
-    let meaning = rw c.as_slice.ensures at c.command.ensures.meaning in
-    does c.args.form.now.word.now c.args.form.now.verb c.args.dims _ _ (words c.args.text.now) _ _ _ _ _ _ (c.requires.row c.args.dims) e n.0 n.1 n.2 n.3 n.4 n.5 n.6 meaning
+pub read_places-requires-clause-counts : goal.read_places-requires-clause-counts
+read_places-requires-clause-counts c = rw c.new.ensures (counts-at c.forms-form-items.result.now c.loop-form.form-index _ (search rules) c.loop-form.invariant.rows c.args.dims)
+
+pub returns-in-Ok : goal.returns-in-Ok
+returns-in-Ok c =
+    let read = c.in-Ok.ensures in
+    let ws = words c.args.text.now in
+    let sized = eq-eqb (length (spread_of c.new.result)) (length ws) read.0 in (
+      sym c.loop-form.invariant.value ∙ form-at c.forms-form-items.result.now c.loop-form.form-index _ (search rules) c.loop-form.invariant.rows c.args.dims c.loop-form.seen c.args.word.now ws (spread_of c.new.result) (sym c.eq.ensures ∙ c.if-eq.true) c.new.ensures sized,
+      read-at c.forms-form-items.result.now c.loop-form.form-index _ (search rules) c.loop-form.invariant.rows c.args.dims _ ws _ _ _ _ _ c.new.ensures read,
+    )
