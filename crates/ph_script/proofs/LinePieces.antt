@@ -1,6 +1,6 @@
 -- What is kept of a line, and how it is shown.
-use Rattle.std.proofs.Common.{◌≡◌, ℕ, zero, suc, ◌+◌, ◌-◌, ◌<◌, ◌≤◌, min, List, [], ◌∷◌, ◌++◌, length, take, Bool, false, refl, sym, ap, ◌∙◌, subst, arith}
-use Rattle.std.specs.Prelude.{nat_lt, if◌then◌else◌, Some, None}
+use Rattle.std.proofs.Common.{◌≡◌, ℕ, zero, suc, ◌+◌, ◌-◌, ◌<◌, ◌≤◌, min, List, [], ◌∷◌, ◌++◌, length, take, Bool, true, false, refl, sym, ap, ◌∙◌, subst, arith}
+use Rattle.std.specs.Prelude.{◌==◌, nat_lt, if◌then◌else◌, Some, None}
 use Rattle.std.specs.List.{position}
 use Rattle.std.specs.Str.Lines.{strip_carriage_return}
 use Rattle.std.proofs.lemmas.Grind.{common_steps}
@@ -70,3 +70,16 @@ line-shown over old line begun rest back held now end shown b v r f h n is =
 
 pub line-goes_on : (over : Bool) (old line begun rest back held : List ℕ) → begun ≡ (if over then [] else old) → (if over then [] else old) ≡ line → back ≡ rest → held ≡ kept (begun ++ back) → held ≡ kept (line ++ rest)
 line-goes_on over old line begun rest back held b v r h = h ∙ rw (b, v, r) refl
+
+pub no-byte : (xs : List ℕ) (n : ℕ) → (n == 0) ≡ true → n ≡ length xs → xs ≡ []
+no-byte [] n e l = refl
+no-byte (x ∷ xs) n e l =
+    let k : n ≡ 0 = grind (arith, nat_tests) in
+    absurd (omega (arith, k, l))
+
+-- the same of a line that no held byte begins
+pub line-whole : (over : Bool) (old line begun rest back front : List ℕ) (end : ℕ) (shown : Line) → begun ≡ (if over then [] else old) → (if over then [] else old) ≡ line → begun ≡ [] → back ≡ rest → feed_at rest ≡ end → front ≡ take end back → IsLine front shown → IsLine (line ++ before_feed rest) shown
+line-whole over old line begun rest back front end shown b v empty r f t is =
+    let none : line ≡ [] = sym v ∙ sym b ∙ empty in
+    let whole : front ≡ line ++ before_feed rest = t ∙ rw (none, r, f) refl in
+    subst (λ xs. IsLine xs shown) whole is

@@ -27,7 +27,8 @@ pub enum Line<'l> {
 
 /// The line that is being read, whose bytes may come in any pieces.
 ///
-/// It is seen as the bytes since the last line feed, up to 4,097 of them; what is past these is dropped.
+/// It is seen as the bytes since the last line feed, up to 4,097 of them; what is past these is dropped. A line that lies
+/// whole in a piece is not copied.
 #[derive(Drop, Debug)]
 pub struct Lines {
     buffer: Vec<u8>,
@@ -63,7 +64,7 @@ impl Lines {
     /// Goes on in a piece of the script from a place, up to the next line feed, and gives the line that this ends.
     ///
     /// The place is then behind that line feed, or at the end of a piece without one, which gives no line.
-    pub fn next_line(&mut self, piece: &[u8], at: &mut usize) -> Option<Line<'_>>
+    pub fn next_line<'l>(&'l mut self, piece: &'l [u8], at: &mut usize) -> Option<Line<'l>>
         requires { at.old ≤ length piece.now }
         ensures* rests { sem 𝓛 (Rests self.entry (unended self.old (drop at.old piece.now))) }
         ensures given { MatchOption result
@@ -75,9 +76,14 @@ impl Lines {
         let (_, rest) = piece.split_at(*at);
         match first_feed(rest) {
             Some(end) => {
-                keep(&mut self.buffer, &rest[..end]);
+                let (line, _) = rest.split_at(end);
                 *at += end + 1;
                 self.is_over = true;
+                let is_whole = self.buffer.is_empty();
+                if is_whole {
+                    return Some(show(line));
+                }
+                keep(&mut self.buffer, line);
                 Some(show(&self.buffer))
             }
             None => {

@@ -51,3 +51,23 @@ fn longest_line(rt: HostRuntime) -> Result<(), Fail> {
     assert_eq!(rt; lines.last(), None);
     Ok(())
 }
+
+#[test]
+fn lines_whole_in_a_piece(rt: HostRuntime) -> Result<(), Fail> {
+    let mut lines = Lines::new(rt.alloc())?;
+    let mut piece = [b'x'; 8300];
+    piece[4096] = b'\n';
+    piece[8194] = b'\n';
+    let mut at = 0;
+    assert_eq!(rt;
+        lines.next_line(&piece, &mut at),
+        Some(Line::Text(&[b'x'; 4096]))
+    );
+    assert_eq!(rt; at, 4097);
+    assert_eq!(rt; lines.next_line(&piece, &mut at), Some(Line::Long));
+    assert_eq!(rt; at, 8195);
+    assert_eq!(rt; lines.next_line(&piece, &mut at), None);
+    assert_eq!(rt; at, 8300);
+    assert_eq!(rt; lines.last(), Some(Line::Text(&[b'x'; 105])));
+    Ok(())
+}
