@@ -1,7 +1,10 @@
 -- What is kept of a line, and how it is shown.
-use Rattle.std.proofs.Common.{◌≡◌, ℕ, zero, suc, ◌+◌, ◌-◌, ◌<◌, ◌≤◌, min, List, [], ◌∷◌, ◌++◌, length, take, Bool, true, false, refl, sym, ap, ◌∙◌, subst, arith}
-use Rattle.std.specs.Prelude.{◌==◌, nat_lt, if◌then◌else◌, Some, None}
-use Rattle.std.specs.List.{position}
+use Rattle.std.proofs.Common.{◌≡◌, ℕ, zero, suc, ◌+◌, ◌-◌, ◌<◌, ◌≤◌, min, List, [], ◌∷◌, ◌++◌, length, take, Bool, true, false, refl, sym, ap, ◌∙◌, subst, get_or, inl, inr, arith}
+use Rattle.std.specs.Prelude.{◌==◌, nat_lt, if◌then◌else◌, Option, Some, None, slice_index}
+use Rattle.std.specs.List.{position, position_or_len}
+use Rattle.std.proofs.lemmas.List.Sums.{position_or_len_is}
+use Rattle.memchr.specs.Find.{IsFirstByte, is_byte}
+use Rattle.ph_specs.proofs.laws.Put.{either}
 use Rattle.std.specs.Str.Lines.{strip_carriage_return}
 use Rattle.std.proofs.lemmas.Grind.{common_steps}
 use Rattle.std.proofs.lemmas.List.{length-take, take_min}
@@ -83,3 +86,21 @@ line-whole over old line begun rest back front end shown b v empty r f t is =
     let none : line ≡ [] = sym v ∙ sym b ∙ empty in
     let whole : front ≡ line ++ before_feed rest = t ∙ rw (none, r, f) refl in
     subst (λ xs. IsLine xs shown) whole is
+
+-- the first line feed by the search of `memchr`
+no-feed : (bytes : List ℕ) (k : ℕ) → ¬ (is_byte 10 (slice_index bytes k) ≡ true) → is_feed (get_or bytes k 0) ≡ false
+no-feed bytes k h =
+    elim (either (is_feed (get_or bytes k 0))) [
+      | inl is ↦ absurd (h is)
+      | inr other ↦ other
+    ]
+
+pub found-feed : (bytes : List ℕ) (found : Option ℕ) → IsFirstByte (is_byte 10) bytes found → found ≡ position is_feed bytes
+found-feed bytes None h =
+    let e = position_or_len_is is_feed bytes (length bytes) 0 (omega arith) (λ k l. no-feed bytes k (h k (omega arith) l)) (λ l. absurd (omega (arith, l))) in
+    let t : nat_lt (position_or_len is_feed bytes) (length bytes) ≡ false = grind (arith, nat_tests) in
+    rw t refl
+found-feed bytes (Some i) h =
+    let e = position_or_len_is is_feed bytes i 0 (omega (arith, h.0.high)) (λ k l. no-feed bytes k (h.0.before k (omega arith) l)) (λ l. h.1) in
+    let t = lt-ltb (position_or_len is_feed bytes) (length bytes) (omega (arith, e, h.0.high)) in
+    rw (t, e) refl

@@ -4,6 +4,7 @@ ghost use Rattle.std.specs.List.{position};
 ghost use Rattle.std.specs.Borrow.{sem};
 ghost use Rattle.ph_script.specs.Shown.{is_feed, feed_at, before_feed, kept, unended, IsLine};
 
+use memchr::memchr;
 use std::alloc::{AllocError, Global};
 use std::marker::Model;
 
@@ -139,7 +140,7 @@ fn keep(buffer: &mut Vec<u8>, bytes: &[u8])
 fn first_feed(bytes: &[u8]) -> Option<usize>
     ensures { result ≡ position is_feed bytes.now }
 {
-    bytes.iter().position(|b| *b == b'\n')
+    memchr(b'\n', bytes)
 }
 
 fn show(line: &[u8]) -> Line<'_>
