@@ -4,6 +4,7 @@ mod Draws
 mod FileNameBytes
 mod FormRooms
 mod FormsOfWord
+mod FrontNumbers
 mod KeptNumbers
 mod LinePieces
 mod NameBytes

@@ -1,6 +1,6 @@
 -- Where the words of a text stand.
-use Rattle.std.proofs.Common.{◌≡◌, ℕ, suc, ◌+◌, ◌<◌, List, [], ◌∷◌, length, take, drop, Bool, true, not, refl, sym, ap, ◌∙◌, subst, arith, inl, inr}
-use Rattle.std.specs.Prelude.{filter, nat_lt, Some, None}
+use Rattle.std.proofs.Common.{◌≡◌, ℕ, suc, ◌+◌, ◌<◌, ◌≤◌, List, [], ◌∷◌, length, take, drop, Bool, true, not, refl, sym, ap, ◌∙◌, subst, arith, inl, inr}
+use Rattle.std.specs.Prelude.{filter, nat_lt, unwrap_or, Some, None}
 use Rattle.std.specs.List.{slice_split, position, position_or_len}
 use Rattle.std.proofs.lemmas.Bool.Decides.{nat_tests}
 use Rattle.std.proofs.lemmas.Grind.{common_steps}
@@ -88,16 +88,25 @@ behind_blanks text rest start h e =
     let below : position_or_len is_other text < length text = omega (arith, p.0, p.1) in
     (sym (words-blanks text) ∙ ap words r, subst (λ x. 0 < position_or_len is_blank x) r (first-other text below))
 
-pub word_behind : (text rest : List ℕ) (start end : ℕ) → position is_other text ≡ Some start → rest ≡ drop start text → position is_blank rest ≡ Some end → (words text ≡ take end rest ∷ words (drop end rest)) × (0 < end) × (end < length rest)
-word_behind text rest start end h e k =
+-- the word there, and what stands behind it
+pub word_front : (text rest : List ℕ) (start end : ℕ) → position is_other text ≡ Some start → rest ≡ drop start text → position_or_len is_blank rest ≡ end → (words text ≡ take end rest ∷ words (drop end rest)) × (0 < end) × (end ≤ length rest)
+word_front text rest start end h e k =
     let b = behind_blanks text rest start h e in
-    let p = position-some is_blank rest end k in
-    let some : 0 < end = omega (arith, b.1, p.0) in
-    (b.0 ∙ words-word rest end p.0 some, some, p.1)
+    let some : 0 < end = omega (arith, b.1, k) in
+    (b.0 ∙ words-word rest end k some, some, omega (arith, k, prefix_len-le-length (λ x. not (is_blank x)) rest))
 
-pub last_word : (text rest : List ℕ) (start : ℕ) → position is_other text ≡ Some start → rest ≡ drop start text → position is_blank rest ≡ None → (words text ≡ rest ∷ []) × (0 < length rest)
-last_word text rest start h e k =
-    let b = behind_blanks text rest start h e in
-    let p = position-none is_blank rest k in
-    let some : 0 < length rest = omega (arith, b.1, p) in
-    (b.0 ∙ words-word rest (length rest) p some ∙ rw (take_length rest, drop_length rest) refl, some)
+pub first-or_len : (text : List ℕ) → unwrap_or (position is_blank text) (length text) ≡ position_or_len is_blank text
+first-or_len text =
+    elim (either (nat_lt (position_or_len is_blank text) (length text))) [
+      | inl below ↦ rw below refl
+      | inr over ↦ (let l = prefix_len-le-length (λ x. not (is_blank x)) text in
+          let e : position_or_len is_blank text ≡ length text = grind (arith, nat_tests) in
+          rw over (sym e))
+    ]
+
+pub some_word : (text : List ℕ) (start : ℕ) → position is_other text ≡ Some start → 0 < length (words text)
+some_word text start h =
+    let p = position-some is_other text start h in
+    let rest = drop (position_or_len is_other text) text in
+    let some = first-other text (omega (arith, p.0, p.1)) in
+    rw (sym (words-blanks text) ∙ words-word rest (position_or_len is_blank rest) refl some) (omega arith)

@@ -1,5 +1,6 @@
 pub mod Meaning
 pub mod Forms
+pub mod Words
 pub mod Parts
 pub mod Fit
 pub mod Shown

@@ -8,6 +8,7 @@ ghost use Rattle.ph_specs.specs.Command.{number_fits, name_fits};
 ghost use Rattle.ph_script.specs.Forms.{place_of, spread_of};
 ghost use Rattle.ph_script.specs.Parts.{coords_in, counts_in, coords_room, counts_room, named, filed, second_in};
 ghost use Rattle.ph_script.specs.Fit.{IsFault, IsRead};
+ghost use Rattle.ph_script.specs.Words.{IsNumbered};
 
 use crate::command::Bad;
 use crate::coords::{CoordBuffer, MOST_OF_COMMAND};
@@ -17,25 +18,26 @@ use crate::name::Name;
 use crate::numbers::{read_coord, read_count};
 use crate::parts::Parts;
 use crate::spread::Spread;
-use crate::words::next_word;
+use crate::words::{Word, has_word, next_word};
 
 // Reads a word in its place: a number or a name, which is then among the parts, or a fixed word.
 fn read_word<'c>(
     place: Place,
-    word: &'c [u8],
+    word: Word<'c>,
     coords: &mut CoordBuffer,
     parts: &mut Parts<'c>,
 ) -> Result<(), Bad>
+    requires number { IsNumbered word.text.now word.number }
     requires coords { length coords.old + coords_room (place_of place) ≤ MOST_OF_COMMAND }
     requires counts { array_vec_len parts.old.counts + counts_room (place_of place) ≤ 2 }
     ensures fits { MatchResult result
-        (λ _. (number_fits (place_of place) word.now ≡ true) × (name_fits (place_of place) word.now ≡ true))
-        (λ b. IsFault b true (number_fits (place_of place) word.now) (name_fits (place_of place) word.now)) }
-    ensures coords { coords.new ≡ coords.old ++ coords_in (place_of place) word.now }
-    ensures counts { parts.new.counts.items ≡ parts.old.counts.items ++ counts_in (place_of place) word.now }
-    ensures name { name_fits (place_of place) word.now ≡ true → parts.new.name ≡ named parts.old.name (place_of place) word.now }
-    ensures file { name_fits (place_of place) word.now ≡ true → parts.new.file ≡ filed parts.old.file (place_of place) word.now }
-    ensures second { parts.new.is_second ≡ second_in parts.old.is_second (place_of place) word.now }
+        (λ _. (number_fits (place_of place) word.entry.text.now ≡ true) × (name_fits (place_of place) word.entry.text.now ≡ true))
+        (λ b. IsFault b true (number_fits (place_of place) word.entry.text.now) (name_fits (place_of place) word.entry.text.now)) }
+    ensures coords { coords.new ≡ coords.old ++ coords_in (place_of place) word.entry.text.now }
+    ensures counts { parts.new.counts.items ≡ parts.old.counts.items ++ counts_in (place_of place) word.entry.text.now }
+    ensures name { name_fits (place_of place) word.entry.text.now ≡ true → parts.new.name ≡ named parts.old.name (place_of place) word.entry.text.now }
+    ensures file { name_fits (place_of place) word.entry.text.now ≡ true → parts.new.file ≡ filed parts.old.file (place_of place) word.entry.text.now }
+    ensures second { parts.new.is_second ≡ second_in parts.old.is_second (place_of place) word.entry.text.now }
 {
     match place {
         Place::Coordinate => {
@@ -51,25 +53,25 @@ fn read_word<'c>(
             parts.counts.push(count);
         }
         Place::Name => {
-            let Some(name) = Name::from_bytes(word) else {
+            let Some(name) = Name::from_bytes(word.text) else {
                 return Err(Bad::Name);
             };
             parts.name = Some(name);
         }
         Place::FileName => {
-            let Some(file) = FileName::from_bytes(word) else {
+            let Some(file) = FileName::from_bytes(word.text) else {
                 return Err(Bad::Name);
             };
             parts.file = Some(file);
         }
         Place::Fixed(fixed) => {
-            if word != fixed {
+            if word.text != fixed {
                 return Err(Bad::Name);
             }
         }
         Place::Either(first, second) => {
-            parts.is_second = word == second;
-            if !parts.is_second && word != first {
+            parts.is_second = word.text == second;
+            if !parts.is_second && word.text != first {
                 return Err(Bad::Name);
             }
         }
@@ -108,7 +110,7 @@ pub(crate) fn read_places<'c>(
             Err(_) => numbers_fit = false,
         }
     }
-    if next_word(rest).is_some() {
+    if has_word(rest) {
         return Err(Bad::Count);
     }
     if !numbers_fit {

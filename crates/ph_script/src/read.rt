@@ -207,13 +207,13 @@ pub fn read_command<'c>(
     let Some((word, rest)) = next_word(line) else {
         return Ok(None);
     };
-    if word[0] == COMMENT {
+    if word.text[0] == COMMENT {
         return Ok(None);
     }
     let dims = dims as usize;
     let mut parts = Parts::new();
     coords.clear();
-    match read_form(word, rest, dims, coords, &mut parts) {
+    match read_form(word.text, rest, dims, coords, &mut parts) {
         Ok(verb) => Ok(Some(command(verb, dims, coords.as_slice(), parts))),
         Err(bad) => Err(bad),
     }

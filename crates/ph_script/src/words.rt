@@ -1,9 +1,19 @@
 //! The words of a line.
-ghost use Rattle.std.specs.Prelude.{◌≡◌, ◌<◌, ◌≤◌, ◌∷◌, [], length, not, MatchOption, IfSome};
-ghost use Rattle.std.specs.List.{position};
+ghost use Rattle.std.specs.Prelude.{◌≡◌, ◌<◌, ◌≤◌, ◌∷◌, [], length, not, true, false, MatchOption, IfSome};
+ghost use Rattle.std.specs.List.{position, position_or_len};
 ghost use Rattle.ph_specs.specs.Lines.{is_blank, words};
+ghost use Rattle.ph_script.specs.Words.{IsNumbered};
 
-fn is_blank(byte: u8) -> bool
+use crate::numbers::{Short, front_number};
+
+/// A word of a line, with the number that it spells where that is known.
+#[derive(Clone, Copy)]
+pub(crate) struct Word<'t> {
+    pub text: &'t [u8],
+    pub number: Option<Short>,
+}
+
+pub(crate) fn is_blank(byte: u8) -> bool
     ensures { result ≡ is_blank byte }
 {
     byte == b' ' || byte == b'\t'
@@ -21,19 +31,32 @@ fn first_other(text: &[u8]) -> Option<usize>
     text.iter().position(|b| !is_blank(*b))
 }
 
+// Whether there is a word.
+#[tactic(auto, using(crate::proofs::WordCuts::no_word, crate::proofs::WordCuts::some_word))]
+pub(crate) fn has_word(text: &[u8]) -> bool
+    ensures none { result ≡ false → words text.now ≡ [] }
+    ensures some { result ≡ true → 0 < length (words text.now) }
+{
+    first_other(text).is_some()
+}
+
 // The first word, and what stands behind it.
-#[tactic(auto, using(crate::proofs::WordCuts::no_word, crate::proofs::WordCuts::word_behind, crate::proofs::WordCuts::last_word))]
-pub(crate) fn next_word(text: &[u8]) -> Option<(&[u8], &[u8])>
-    ensures value { MatchOption result (words text.now ≡ []) (λ r. words text.now ≡ r.0.now ∷ words r.1.now) }
-    ensures some { IfSome result (λ r. 0 < length r.0.now) }
+#[tactic(auto, using(crate::proofs::WordCuts::no_word))]
+#[inline(always)]
+pub(crate) fn next_word(text: &[u8]) -> Option<(Word<'_>, &[u8])>
+    ensures value { MatchOption result (words text.now ≡ []) (λ r. words text.now ≡ r.0.text.now ∷ words r.1.now) }
+    ensures some { IfSome result (λ r. 0 < length r.0.text.now) }
+    ensures number { IfSome result (λ r. IsNumbered r.0.text.now r.0.number) }
     ensures shorter { IfSome result (λ r. length r.1.now < length text.now) }
 {
     let Some(start) = first_other(text) else {
         return None;
     };
     let (_, text) = text.split_at(start);
-    match first_blank(text) {
-        Some(end) => Some(text.split_at(end)),
-        None => Some((text, &[])),
-    }
+    let (number, end) = match front_number(text) {
+        Some((number, end)) => (Some(number), end),
+        None => (None, first_blank(text).unwrap_or(text.len())),
+    };
+    let (text, rest) = text.split_at(end);
+    Some((Word { text, number }, rest))
 }

@@ -1,0 +1,108 @@
+-- A number of few digits at the front of a text.
+use Rattle.std.proofs.Common.{◌≡◌, ℕ, zero, suc, ◌+◌, ◌^◌, ◌<◌, ◌≤◌, List, [], ◌∷◌, length, take, drop, get_or, Bool, true, false, refl, sym, ap, ◌∙◌, arith, inl, inr}
+use Rattle.std.specs.Prelude.{ℤ, pos, neg_ℤ, Some, ◌⊎◌, ◌==◌, ◌||◌, ◌&&◌, not, nat_lt, if◌then◌else◌}
+use Rattle.std.specs.Char.{is_ascii_digit}
+use Rattle.std.specs.List.{list_all, position_or_len}
+use Rattle.std.proofs.Math.Nat.{pow-le-pow_right}
+use Rattle.std.proofs.lemmas.Bool.{and_parts, lt-ltb}
+use Rattle.std.proofs.lemmas.Bool.Decides.{nat_tests}
+use Rattle.std.proofs.lemmas.List.{length-take}
+use Rattle.ph_coord.specs.Spelling.{size_of, of_whole, number_of}
+use Rattle.ph_coord.specs.declared.number.Number.TheVariants.{Whole}
+use Rattle.ph_specs.proofs.laws.Put.{either}
+use Rattle.ph_script.specs.declared.numbers.Short.{Short}
+use Rattle.ph_script.specs.Words.{IsShort}
+use Rattle.ph_specs.specs.Lines.{is_blank, natural, number}
+
+-- so many digits are below this
+pub few-digits : (i most size : ℕ) → i ≤ most → size < 10 ^ i → size < 10 ^ most
+few-digits i most size l h = omega (arith, h, pow-le-pow_right {n = 10} (omega arith) l)
+
+natural-digits : (ds : List ℕ) → 0 < length ds → list_all is_ascii_digit ds ≡ true → natural ds ≡ Some (size_of ds)
+natural-digits ds l h = rw (lt-ltb 0 (length ds) l, h) refl
+
+short-whole : (minus : Bool) (size : ℕ) → size < 10 ^ 18 → Whole (minus && not (size == 0)) size ≡ of_whole (Some (if minus then neg_ℤ (pos size) else pos size))
+short-whole false size h = rw (lt-ltb size (2 ^ 128) (omega (arith, h))) refl
+short-whole true zero h = refl
+short-whole true (suc size) h =
+    let e : size + 1 ≡ suc size = omega arith in
+    let t : (suc size == 0) ≡ false = grind (arith, nat_tests) in
+    let l : nat_lt (suc size) (2 ^ 128) ≡ true = lt-ltb (suc size) (2 ^ 128) (omega (arith, h)) in
+    rw (t, e, l) refl
+
+-- what may stand before digits: a minus, a plus or nothing
+abbrev pub IsSign : List ℕ → Bool → ℕ → Type 0
+IsSign text minus start = ((minus ≡ true) × (start ≡ 1) × (0 < length text) × (get_or text 0 0 ≡ 45)) ⊎ (((minus ≡ false) × (start ≡ 1) × (0 < length text) × (get_or text 0 0 ≡ 43)) ⊎ ((minus ≡ false) × (start ≡ 0)))
+
+-- digits have no blank before the one that ends them
+digits-end : (ds : List ℕ) (count : ℕ) → count ≤ length ds → list_all is_ascii_digit (take count ds) ≡ true → (count < length ds → is_blank (get_or ds count 0) ≡ true) → position_or_len is_blank ds ≡ count
+digits-end [] zero l h e = refl
+digits-end (d ∷ ds) zero l h e = rw (e (omega arith)) refl
+digits-end [] (suc count) l h e = absurd (omega (arith, l))
+digits-end (d ∷ ds) (suc count) l h e =
+    let p = and_parts (is_ascii_digit d) (list_all is_ascii_digit (take count ds)) h in
+    let other : is_blank d ≡ false = grind (arith, nat_tests) in
+    let i = digits-end ds count (omega (arith, l)) p.1 (λ k. e (omega (arith, k))) in
+    rw (other, i) (omega arith)
+
+digit-sign : (d : ℕ) → is_ascii_digit d ≡ true → ((d == 43) ≡ false) × ((d == 45) ≡ false)
+digit-sign d h = (grind (arith, nat_tests), grind (arith, nat_tests))
+
+plain-number : (ds : List ℕ) → 0 < length ds → list_all is_ascii_digit ds ≡ true → number ds ≡ Some (pos (size_of ds))
+plain-number [] l h = absurd (omega (arith, l))
+plain-number (d ∷ ds) l h =
+    let s = digit-sign d (and_parts _ _ h).0 in
+    rw (s.0, s.1) (rw (natural-digits (d ∷ ds) l h) refl)
+
+-- the number behind a sign, and where its word ends
+pub record Ends (text : List ℕ) (end : ℕ) (z : ℤ) : Type 0 where
+  pub blank : position_or_len is_blank text ≡ end
+  pub same : number (take end text) ≡ Some z
+
+signed-ends : (b : ℕ) (ds : List ℕ) (minus : Bool) (count size : ℕ) → (minus ≡ true) × (b ≡ 45) ⊎ (minus ≡ false) × (b ≡ 43) → 0 < count → count ≤ length ds → list_all is_ascii_digit (take count ds) ≡ true → size ≡ size_of (take count ds) → (count < length ds → is_blank (get_or ds count 0) ≡ true) → Ends (b ∷ ds) (suc count) (if minus then neg_ℤ (pos size) else pos size)
+signed-ends b ds minus count size s some l h e k =
+    let more : 0 < length (take count ds) = omega (arith, length-take count ds) in
+    let n = natural-digits (take count ds) more h in
+    let i = digits-end ds count l h k in
+    elim s [
+      | inl m ↦ record { blank = rw (m.1, i) (omega arith); same = rw (m.0, m.1, n, e) refl }
+      | inr p ↦ record { blank = rw (p.1, i) (omega arith); same = rw (p.0, p.1, n, e) refl }
+    ]
+
+plain-ends : (ds : List ℕ) (count size : ℕ) → 0 < count → count ≤ length ds → list_all is_ascii_digit (take count ds) ≡ true → size ≡ size_of (take count ds) → (count < length ds → is_blank (get_or ds count 0) ≡ true) → Ends ds count (pos size)
+plain-ends ds count size some l h e k =
+    let more : 0 < length (take count ds) = omega (arith, length-take count ds) in
+    record { blank = digits-end ds count l h k; same = plain-number (take count ds) more h ∙ ap (λ n. Some (pos n)) (sym e) }
+
+pub front-ends : (text : List ℕ) (minus : Bool) (start count size : ℕ) → IsSign text minus start → 0 < count → count ≤ length (drop start text) → list_all is_ascii_digit (take count (drop start text)) ≡ true → size ≡ size_of (take count (drop start text)) → (start + count < length text → is_blank (get_or text (start + count) 0) ≡ true) → Ends text (start + count) (if minus then neg_ℤ (pos size) else pos size)
+front-ends [] minus start count size s some l h e k = absurd (elim s [
+  | inl m ↦ omega (arith, m.2)
+  | inr r ↦ elim r [
+    | inl p ↦ omega (arith, p.2)
+    | inr n ↦ (let z = rw n.1 at l in omega (arith, z, some))
+  ]
+])
+front-ends (b ∷ ds) minus start count size s some l h e k = elim s [
+  | inl m ↦ (let one : 1 + count ≡ suc count = omega arith in
+      rw (m.1, one) (signed-ends b ds minus count size (inl (m.0, m.3)) some (rw m.1 at l) (rw m.1 at h) (rw m.1 at e) (λ j. rw (m.1, one) at (k (rw (m.1, one) (omega (arith, j)))))))
+  | inr r ↦ elim r [
+    | inl p ↦ (let one : 1 + count ≡ suc count = omega arith in
+        rw (p.1, one) (signed-ends b ds minus count size (inr (p.0, p.3)) some (rw p.1 at l) (rw p.1 at h) (rw p.1 at e) (λ j. rw (p.1, one) at (k (rw (p.1, one) (omega (arith, j)))))))
+    | inr n ↦ (let none : 0 + count ≡ count = omega arith in
+        rw (n.1, n.0, none) (plain-ends (b ∷ ds) count size some (rw n.1 at l) (rw n.1 at h) (rw n.1 at e) (λ j. rw (n.1, none) at (k (rw (n.1, none) j)))))
+  ]
+]
+
+pub sign-of : (text : List ℕ) (minus : Bool) (start : ℕ) → 0 < length text → minus ≡ (get_or text 0 0 == 45) → start ≡ (if (get_or text 0 0 == 45) || (get_or text 0 0 == 43) then 1 else 0) → IsSign text minus start
+sign-of text minus start l m s =
+    elim (either (get_or text 0 0 == 45)) [
+      | inl is ↦ inl (m ∙ is, rw is at s, l, grind (arith, nat_tests))
+      | inr plain ↦ elim (either (get_or text 0 0 == 43)) [
+        | inl is ↦ inr (inl (m ∙ plain, rw (plain, is) at s, l, grind (arith, nat_tests)))
+        | inr other ↦ inr (inr (m ∙ plain, rw (plain, other) at s))
+      ]
+    ]
+
+-- a short number in the code's terms
+pub short-number : (text : List ℕ) (s : Short) → IsShort text s → Whole (s.minus && not (s.size == 0)) s.size ≡ number_of text
+short-number text s h = rw h.same (short-whole s.minus s.size h.limit)
