@@ -2,7 +2,6 @@
 ghost use Rattle.std.specs.Prelude.{◌≡◌, ◌<◌, ◌≤◌, ◌∷◌, ◌++◌, [], length};
 ghost use Rattle.std.specs.Option.{SomeIff};
 
-use arrayvec::ArrayVec;
 use std::marker::Model;
 
 // The most coordinates of a point.
@@ -71,16 +70,20 @@ impl<'c> Coords<'c> {
 /// One buffer can serve for many commands, one after another.
 #[derive(Debug, Drop)]
 pub struct CoordBuffer {
-    list: ArrayVec<Coord, MOST_OF_COMMAND>,
+    // Behind the coordinates stands what earlier commands left.
+    room: [Coord; MOST_OF_COMMAND],
+    len: usize,
 }
 
 impl Model for CoordBuffer {
-    ghost use Rattle.std.specs.Prelude.{List};
+    ghost use Rattle.std.specs.Prelude.{List, ◌≤◌, take};
     ghost use Rattle.ph_script.specs.declared.coords.Coord.{Coord};
 
     ghost Value = { List Coord };
 
-    ghost view = { λ b. b.list.items };
+    ghost view = { λ b. take b.len b.room };
+
+    ghost invariant = { λ b. b.len ≤ 32 };
 }
 
 impl CoordBuffer {
@@ -89,14 +92,15 @@ impl CoordBuffer {
         ensures { result ≡ [] }
     {
         CoordBuffer {
-            list: ArrayVec::new(),
+            room: [Coord::Far; MOST_OF_COMMAND],
+            len: 0,
         }
     }
 
     pub(crate) fn clear(&mut self)
         ensures { self.new ≡ [] }
     {
-        self.list.clear();
+        self.len = 0;
     }
 
     // Writes a coordinate behind the others.
@@ -104,12 +108,13 @@ impl CoordBuffer {
         requires { length self.old < MOST_OF_COMMAND }
         ensures { self.new ≡ self.old ++ coord ∷ [] }
     {
-        self.list.push(coord);
+        self.room[self.len] = coord;
+        self.len += 1;
     }
 
     pub(crate) fn as_slice(&self) -> &[Coord]
         ensures { result.now ≡ self.now }
     {
-        self.list.as_slice()
+        &self.room[..self.len]
     }
 }
