@@ -1,6 +1,6 @@
 -- The words of the first places, where one place more has a word, and where a place has another word.
-use Rattle.std.proofs.Common.{◌≡◌, ℕ, zero, suc, ◌+◌, ◌<◌, ◌≤◌, refl, sym, ◌∙◌, ap, arith, List, [], ◌∷◌, ◌++◌, length, length-append, length-drop, length-take, map, take, take_at, drop, slice_set, Option, Some}
-use Rattle.std.proofs.lemmas.List.{length-set, length-map}
+use Rattle.std.proofs.Common.{◌≡◌, ℕ, zero, suc, ◌+◌, ◌<◌, ◌≤◌, refl, sym, ◌∙◌, ap, subst, arith, List, [], ◌∷◌, ◌++◌, append_assoc, length, length-append, length-drop, length-take, map, take, take_at, drop, slice_set, Option, Some}
+use Rattle.std.proofs.lemmas.List.{length-set, length-map, map-append}
 use Rattle.std.specs.List.{refill}
 use Rattle.ph_bits.specs.Slots.{given, words_at, AreWritten}
 
@@ -26,6 +26,19 @@ pub written-more : (n : ℕ) (cs : List (Option ℕ)) (x : ℕ) → AreWritten n
 written-more n cs x h l =
     let m : n + 1 ≤ length (slice_set cs n (Some x)) = omega (arith, l, length-set cs n (Some x)) in
     (m, (h.1.0 ++ x ∷ [], take-more n cs x l ∙ ap (λ t. t ++ Some x ∷ []) h.1.1 ∙ map-more h.1.0 x))
+
+words-more : (n : ℕ) (cs : List (Option ℕ)) (x : ℕ) → n < length cs → words_at (n + 1) (slice_set cs n (Some x)) ≡ words_at n cs ++ x ∷ []
+words-more n cs x l = ap (map given) (take-more n cs x l) ∙ map-append given (take n cs) (Some x ∷ [])
+
+-- one word more behind i of them
+pub written-behind : (n i : ℕ) (cs ds : List (Option ℕ)) (x : ℕ) → ds ≡ slice_set cs (n + i) (Some x) → n + i < length cs → AreWritten (n + i) cs → AreWritten (n + (i + 1)) ds
+written-behind n i cs ds x e l h =
+    let next : n + i + 1 ≡ n + (i + 1) = omega arith in subst (λ t. AreWritten t ds) next (subst (AreWritten (n + i + 1)) (sym e) (written-more (n + i) cs x h l))
+
+pub words-behind : (n i : ℕ) (cs ds : List (Option ℕ)) (x : ℕ) (ws xs : List ℕ) → ds ≡ slice_set cs (n + i) (Some x) → n + i < length cs → words_at (n + i) cs ≡ ws ++ xs → words_at (n + (i + 1)) ds ≡ ws ++ (xs ++ x ∷ [])
+words-behind n i cs ds x ws xs e l h =
+    let next : n + (i + 1) ≡ n + i + 1 = omega arith in
+    ap (λ t. words_at t ds) next ∙ ap (words_at (n + i + 1)) e ∙ words-more (n + i) cs x l ∙ ap (λ t. t ++ x ∷ []) h ∙ append_assoc ws xs (x ∷ [])
 
 take-set : (n i : ℕ) (cs : List (Option ℕ)) (c : Option ℕ) → take n (slice_set cs i c) ≡ slice_set (take n cs) i c
 take-set n i [] c = ends n

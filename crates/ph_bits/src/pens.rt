@@ -5,7 +5,7 @@ ghost use Rattle.std.specs.List.{AllByRecursion as Each};
 ghost use Rattle.ph_specs.specs.Digits.{Field, field, number_after, digits_of, words_for, words_of, digits_at};
 ghost use Rattle.ph_bits.specs.Block.{room_of, IsSamePlaces};
 ghost use Rattle.ph_bits.specs.Fields.{number_in};
-ghost use Rattle.ph_bits.specs.Written.{IsPen, digits_by, number_by, shifted};
+ghost use Rattle.ph_bits.specs.Written.{IsPen, digits_by, number_by};
 
 use crate::fields::field;
 use crate::words::Words;
@@ -157,25 +157,11 @@ fn extend_from(words: &mut Words, from: &[u64], at: u64, count: usize)
     if shift == 0 {
         words.extend(&from[place..place + count]);
     } else if count > 0 {
-        push_shifted(
-            words,
+        words.extend_shifted(
             &from[place..place + count],
             &from[place + 1..place + 1 + count],
             64 - shift,
         );
-    }
-}
-
-// Writes words that begin with the last `behind` digits of some words and end with the first digits of others.
-fn push_shifted(words: &mut Words, first: &[u64], second: &[u64], behind: u32)
-    requires behind { (0 < behind) × (behind < 64) }
-    requires same { length second.now ≡ length first.now }
-    requires room { length words.old.words + length first.now ≤ room_of words.old }
-    ensures words { words.new.words ≡ words.old.words ++ shifted behind first.now second.now }
-    ensures places { IsSamePlaces words.old words.new }
-{
-    for i in 0..first.len() {
-        words.push((second[i] >> behind) + ((first[i] << 1) << (63 - behind)));
     }
 }
 

@@ -2,6 +2,7 @@
 
 ghost use Rattle.std.specs.Prelude.{◌≡◌, ◌+◌, ◌<◌, ◌≤◌, ◌^◌, ◌∷◌, ◌++◌, [], length, replicate, slice_index_or, slice_set, IfOk};
 ghost use Rattle.ph_bits.specs.Block.{room_of, zeros, empty, IsSamePlaces};
+ghost use Rattle.ph_bits.specs.Written.{shifted};
 
 use crate::NoMemory;
 use crate::places::{Places, Right, Start, none, release, take};
@@ -144,9 +145,22 @@ impl Words {
         ensures words { self.new.words ≡ self.old.words ++ more.now }
         ensures places { IsSamePlaces self.old self.new }
     {
-        for i in 0..more.len() {
-            self.push(more[i]);
-        }
+        self.places.extend(self.start, self.len as usize, more);
+        self.len += more.len() as u32;
+    }
+
+    /// Writes words behind the others that begin with the last `behind` digits of some words and end with the first digits of
+    /// others.
+    pub(crate) fn extend_shifted(&mut self, first: &[u64], second: &[u64], behind: u32)
+        requires behind { (0 < behind) × (behind < 64) }
+        requires same { length second.now ≡ length first.now }
+        requires room { length self.old.words + length first.now ≤ room_of self.old }
+        ensures words { self.new.words ≡ self.old.words ++ shifted behind first.now second.now }
+        ensures places { IsSamePlaces self.old self.new }
+    {
+        self.places
+            .extend_shifted(self.start, self.len as usize, first, second, behind);
+        self.len += first.len() as u32;
     }
 
     /// Leaves `len` zeros in place of the words.

@@ -47,7 +47,7 @@ returns-then-count-gt0-clause-length c =
     let p : ℕ = c.args.at / 64 in
     let n = c.args.count in
     let inside : p + n + 1 ≤ length ws = omega (arith, c.if-shift-eq0.false, c.requires.from) in
-    ap length (tidied b p n ws old c.push_shifted.new.words.words c.push_shifted.ensures.words)
+    ap length (tidied b p n ws old c.extend_shifted.new.self.words c.extend_shifted.ensures.words)
     ∙ length-append old (shifted b (take n (drop p ws)) (take n (drop (suc p) ws)))
     ∙ ap (λ t. length old + t) (shifted-many b p n ws inside)
 
@@ -61,7 +61,7 @@ returns-then-count-gt0-clause-number c =
     let inside : p + n + 1 ≤ length ws = omega (arith, c.if-shift-eq0.false, c.requires.from) in
     let more = shifted b (take n (drop p ws)) (take n (drop (suc p) ws)) in
     let begins : 64 * p + (64 - b) ≡ c.args.at = omega arith in
-    ap number_in (tidied b p n ws old c.push_shifted.new.words.words c.push_shifted.ensures.words)
+    ap number_in (tidied b p n ws old c.extend_shifted.new.self.words c.extend_shifted.ensures.words)
     ∙ number-append old more
     ∙ ap (λ t. number_in old * 2 ^ (64 * t) + number_in more) (shifted-many b p n ws inside)
     ∙ ap (λ t. number_in old * 2 ^ (64 * n) + t) (shifted-words b p n ws (omega arith) (omega (arith, c.if-shift-eq0.false)) inside c.are_words.ensures ∙ ap (λ t. digits_at ws t (64 * n)) begins)
