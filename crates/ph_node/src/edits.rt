@@ -4,6 +4,7 @@ ghost use Rattle.std.specs.Prelude.{◌≡◌, ◌+◌};
 ghost use Rattle.std.specs.Borrow.{Lends, sem};
 ghost use Rattle.ph_specs.specs.Node.{node_of, entries, node, value};
 ghost use Rattle.ph_specs.specs.EntryEdits.{what_at, with_what, with_child};
+ghost use Rattle.ph_node.specs.OneEdit.{before};
 ghost use Rattle.ph_node.specs.Split.{IsNode, IsValue};
 ghost use Rattle.ph_node.specs.Spots.{IsSpot};
 
@@ -17,15 +18,16 @@ impl<P: Dims> NodeOf<P> {
     ghost use Rattle.ph_node.specs.contracts.node.NodeOf.{the_row as node_row};
     ghost use Rattle.ph_node.specs.contracts.node.SlotOf.{the_row as slot_row};
 
-    /// Lends the child of an entry for writing. The node keeps all else.
-    pub fn child_mut(&mut self, spot: Spot) -> &mut SlotOf<P>
+    /// Lends the child of an entry for writing, by its place among the children. The node keeps all else.
+    pub fn child_mut(&mut self, spot: Spot, rank: usize) -> &mut SlotOf<P>
         requires spot { IsSpot (entries self.old) spot }
         requires child { IsNode (what_at (entries self.old) spot.place) }
+        requires rank { rank ≡ before (entries self.old) spot.place }
         ensures* lends { sem 𝓛 (Lends (node_row P.row P.Dims) (slot_row P.row P.Dims) self.entry result (λ w. with_child self.old spot.place w.node)) }
         ensures shows { node result.now.node ≡ what_at (entries self.old) spot.place }
     {
-        let k = self.in_front(spot, true);
-        &mut self.children[k]
+        let _ = spot;
+        &mut self.children[rank]
     }
 
     /// Gives a point entry another value. Takes no memory.

@@ -1,12 +1,12 @@
 //! What edits read of a node, and the record of the node with an edit.
 
-ghost use Rattle.std.specs.Prelude.{◌≡◌, ◌+◌, ◌<◌, ◌≤◌, length, take, if◌then◌else◌, IfOk};
+ghost use Rattle.std.specs.Prelude.{◌≡◌, ◌+◌, ◌<◌, ◌≤◌, length, take, IfOk};
 ghost use Rattle.ph_specs.specs.EntryEdits.{what_at};
 ghost use Rattle.ph_specs.specs.Node.{entries};
 ghost use Rattle.ph_specs.specs.Pack.{values, record_of};
 ghost use Rattle.ph_bits.specs.Block.{room_of};
 ghost use Rattle.ph_bits.specs.Edits.{words_wanted};
-ghost use Rattle.ph_node.specs.OneEdit.{IsEdit, IsOldEntry, before, edit_flats, flats_of};
+ghost use Rattle.ph_node.specs.OneEdit.{IsEdit, IsOldEntry, edit_flats, flats_of};
 ghost use Rattle.ph_node.specs.Split.{IsValue};
 ghost use Rattle.ph_node.specs.Spots.{IsSpot};
 
@@ -77,12 +77,12 @@ impl<P: Dims> NodeOf<P> {
         }
     }
 
-    /// How many children, or points, stand in front of an entry.
-    pub(crate) fn in_front(&self, spot: Spot, children: bool) -> usize
+    /// How many points stand in front of an entry.
+    pub(crate) fn points_before(&self, spot: Spot) -> usize
         requires { IsSpot (entries self.now) spot }
-        ensures { result ≡ (if children then before (entries self.now) spot.place else length (values (take spot.place (flats_of self.now)))) }
+        ensures { result ≡ length (values (take spot.place (flats_of self.now))) }
     {
-        records::rank(self.words.as_slice(), P::D, spot, children)
+        records::rank(self.words.as_slice(), P::D, spot, false)
     }
 
     /// The place of the value of a point entry among the words.
@@ -93,7 +93,7 @@ impl<P: Dims> NodeOf<P> {
     {
         let len = self.words.len();
         let points = records::count(self.words.as_slice()) - self.children.len();
-        len - points + self.in_front(spot, false)
+        len - points + self.points_before(spot)
     }
 
     /// The record of the node with an edit, where it has so many children then, in a new block.

@@ -14,7 +14,8 @@ ghost use Rattle.ph_node.specs.Kept.{IsNodeOf};
 ghost use Rattle.ph_node.specs.Places.{place_for};
 ghost use Rattle.ph_node.specs.Shown.{shown, entry_of, what_of};
 ghost use Rattle.ph_node.specs.Slots.{nodes_of};
-ghost use Rattle.ph_node.specs.Split.{body_at};
+ghost use Rattle.ph_node.specs.OneEdit.{before};
+ghost use Rattle.ph_node.specs.Split.{IsNode, body_at};
 ghost use Rattle.ph_node.specs.Spots.{IsSpot};
 
 use crate::node::{NodeOf, SlotOf};
@@ -148,6 +149,17 @@ impl<'t, P: Dims> NodeRefOf<'t, NodeOf<P>> {
         requires { IsSpot (entries (shown self.now)) spot }
         ensures { what_of result ≡ what_at (entries (shown self.now)) spot.place }
     {
+        let (_, what) = self.ranked(spot);
+        what
+    }
+
+    /// What an entry holds, and before it, where that is a child, its place among the children.
+    #[inline(always)]
+    pub fn ranked(&self, spot: Spot) -> (usize, WhatOf<'t, NodeOf<P>>)
+        requires { IsSpot (entries (shown self.now)) spot }
+        ensures what { what_of result.1 ≡ what_at (entries (shown self.now)) spot.place }
+        ensures rank { IsNode (what_at (entries (shown self.now)) spot.place) → result.0 ≡ before (entries (shown self.now)) spot.place }
+    {
         let node = self.node;
         let words = node.words.as_slice();
         let dims = P::D;
@@ -155,9 +167,9 @@ impl<'t, P: Dims> NodeRefOf<'t, NodeOf<P>> {
         let rank = records::rank(words, dims, spot, child);
         if child {
             let slot = &node.children[rank];
-            WhatOf::Child(&slot.node)
+            (rank, WhatOf::Child(&slot.node))
         } else {
-            WhatOf::Value(records::value(words, dims, rank))
+            (rank, WhatOf::Value(records::value(words, dims, rank)))
         }
     }
 

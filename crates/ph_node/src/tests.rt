@@ -160,7 +160,7 @@ fn layouts<V: Ledger, C: Ledger>(
     };
     let words = child.visit(&mut visits).words();
     assert!(rt; has_words(words, &[0x0000000002000000, 0x0c00000000000000, 1, 2]));
-    let slot = node.child_mut(spot);
+    let slot = node.child_mut(spot, 0);
     slot.node_mut().add(1, 1, [0; 16], 3, &mut changes)?;
     let Some(child) = child_at(node.visit(&mut visits), 0) else {
         panic!(rt; "no child");

@@ -160,8 +160,8 @@ module _ {dims w o : ℕ} {p : List ℤ} {t : PlainNode} {found : StepOf PlainNo
     pub same_many : 1 ≤ length (entries (del_node w t p)) → 2 ≤ length (entries t)
     same_many = own_many w dims p t k.lawful spot v same_own
 
-  module _ {spot : Spot} {m : NodeRefOf PlainNode} (is : found ≡ Below spot m) where
-    abbrev nearer : IsStep w p t (Below spot m) o
+  module _ {spot : Spot} {rank : ℕ} {m : NodeRefOf PlainNode} (is : found ≡ Below spot rank m) where
+    abbrev nearer : IsStep w p t (Below spot rank m) o
     nearer = step_as k is
 
     pub below_lawful : IsLawfulChild dims t.level nearer.0 (shown m)

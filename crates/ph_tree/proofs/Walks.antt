@@ -10,6 +10,7 @@ use Rattle.ph_specs.specs.EntryEdits.{point_entry, with_what, with_child, what_a
 use Rattle.ph_specs.proofs.laws.Put.{either}
 use Rattle.ph_specs.proofs.lemmas.PointDigits.{same_digits-true, same_digits-refl}
 use Rattle.ph_specs.proofs.laws.EntryEdits as laws
+use Rattle.ph_node.specs.OneEdit.{before}
 use Rattle.ph_node.specs.Shown.{shown}
 use Rattle.ph_node.specs.Split.{IsNode, IsValue}
 use Rattle.ph_node.specs.Spots.{IsSpot}
@@ -127,8 +128,8 @@ module _ {dims w o : ℕ} {p : List ℤ} {t : PlainNode} {found : StepOf PlainNo
     pub same_put : (u : ℕ) → node_of t.level (with_what (entries t) spot.place (value u)) ≡ put_node w t p u
     same_put u = sym (laws.put_node-value w dims t spot.place own.0 v p u k.lawful own.1.0 own.1.1 own.2 own.3)
 
-  module _ {spot : Spot} {m : NodeRefOf PlainNode} (is : found ≡ Below spot m) where
-    abbrev nearer : IsStep w p t (Below spot m) o
+  module _ {spot : Spot} {rank : ℕ} {m : NodeRefOf PlainNode} (is : found ≡ Below spot rank m) where
+    abbrev nearer : IsStep w p t (Below spot rank m) o
     nearer = step_as is
 
     below_what : what_at (entries t) spot.place ≡ node (shown m)
@@ -142,6 +143,9 @@ module _ {dims w o : ℕ} {p : List ℤ} {t : PlainNode} {found : StepOf PlainNo
 
     pub below_spot : IsSpot (entries t) spot
     below_spot = spot_at w p t spot nearer.0 nearer.1
+
+    pub below_rank : rank ≡ before (entries t) spot.place
+    below_rank = nearer.5
 
     -- the child as it is lent
     pub below_lent : {n : PlainNode} → node n ≡ what_at (entries t) spot.place → shown m ≡ n

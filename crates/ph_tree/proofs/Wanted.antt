@@ -85,8 +85,8 @@ module _ {dims w o : ℕ} {p : List ℤ} {t : PlainNode} {found : StepOf PlainNo
         let none : longest_below w dims t.level t.chain p ≡ 0 = longest-at w dims t.level 0 t.chain spot.place own.0 p k.lawful own.1.0 own.1.1 ∙ ap (longest_by w dims t.level p own.0.body) own.2 in
         omega (arith, none)
 
-  module _ {spot : Spot} {m : NodeRefOf PlainNode} (is : found ≡ Below spot m) where
-    abbrev nearer : IsStep w p t (Below spot m) o
+  module _ {spot : Spot} {rank : ℕ} {m : NodeRefOf PlainNode} (is : found ≡ Below spot rank m) where
+    abbrev nearer : IsStep w p t (Below spot rank m) o
     nearer = step_as k is
 
     below_wanted : spare_wanted w dims t p ≡ cond (count (del_entries w (shown m).level (shown m).chain p) == 1) (length (pack dims t) + 1) (spare_wanted w dims (shown m) p)

@@ -5,6 +5,7 @@ use Rattle.ph_specs.specs.Node.{Entry, What, value, node, PlainNode, entries}
 use Rattle.ph_specs.specs.Shape.{digits_below, digits_between}
 use Rattle.ph_specs.specs.DelTree.{del_node}
 use Rattle.ph_specs.specs.EntryEdits.{has_address}
+use Rattle.ph_node.specs.OneEdit.{before}
 use Rattle.ph_node.specs.Places.{place_for}
 use Rattle.ph_node.specs.Shown.{shown}
 use Rattle.ph_node.specs.declared.spots.Spot.{Spot}
@@ -36,8 +37,8 @@ IsStep width p n (Absent i) opened =
     (position (has_address (address width p n.level)) (entries n) ≡ None) × (i ≡ place_for (address width p n.level) (entries n)) × (opened ≡ 0)
 IsStep width p n (Same s v) opened =
     (x : Entry) × IsAt width p n s x × (x.what ≡ value v) × (x.body ≡ digits_below width n.level p) × (opened ≡ 0)
-IsStep width p n (Below s m) opened =
-    (x : Entry) × IsAt width p n s x × (x.what ≡ node (shown m)) × (x.body ≡ digits_between width n.level (shown m).level p) × (opened ≡ 1)
+IsStep width p n (Below s rank m) opened =
+    (x : Entry) × IsAt width p n s x × (x.what ≡ node (shown m)) × (x.body ≡ digits_between width n.level (shown m).level p) × (opened ≡ 1) × (rank ≡ before (entries n) s.place)
 IsStep width p n (Other s) opened =
     (x : Entry) × IsAt width p n s x × IsApart width p n.level x.body x.what × (opened ≡ opened_for x.what)
 

@@ -32,7 +32,7 @@ pub(crate) fn find_in<P: Dims, V: Ledger>(
         match step(node, key, visits) {
             StepOf::Absent(_) => return None,
             StepOf::Same(_, v) => return Some(v),
-            StepOf::Below(_, below) => node = below,
+            StepOf::Below(_, _, below) => node = below,
             StepOf::Other(_) => return None,
         }
     }
@@ -87,7 +87,7 @@ fn find_long_in<P: Dims, V: Ledger>(
             value,
             longest: words,
         }),
-        StepOf::Below(_, below) => match find_long_in(below, key, visits) {
+        StepOf::Below(_, _, below) => match find_long_in(below, key, visits) {
             Some(found) => Some(Found {
                 value: found.value,
                 longest: max(words, found.longest),

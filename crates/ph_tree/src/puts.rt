@@ -104,8 +104,8 @@ pub(crate) fn put_at<P: Dims, V: Ledger, C: Ledger>(
             cur.set_value(spot, v, changes);
             Ok(Put::Old(old))
         }
-        StepOf::Below(spot, _) => {
-            let slot = cur.child_mut(spot);
+        StepOf::Below(spot, rank, _) => {
+            let slot = cur.child_mut(spot, rank);
             put_at(slot.node_mut(), key, v, room, visits, changes)
         }
         StepOf::Other(spot) => {

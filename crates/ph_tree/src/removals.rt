@@ -93,14 +93,14 @@ pub(crate) fn del_at<P: Dims, V: Ledger, C: Ledger>(
             cur.drop_entry(spot, block, changes);
             Ok(Some(value))
         }
-        StepOf::Below(spot, below) => match point_among(below, 2, key) {
+        StepOf::Below(spot, rank, below) => match point_among(below, 2, key) {
             Some((own, value)) => {
                 let block = spare.block(record_words(node) + 1)?;
                 cur.merge(spot, own.place, block, changes);
                 Ok(Some(value))
             }
             None => {
-                let slot = cur.child_mut(spot);
+                let slot = cur.child_mut(spot, rank);
                 del_at(slot.node_mut(), key, spare, visits, changes)
             }
         },

@@ -23,8 +23,8 @@ pub(crate) enum StepOf<'t, N> {
     Absent(usize),
     // The point, as this entry and with this value.
     Same(Spot, u64),
-    // A child, by its entry and as it is visited, that has the point's digits above its level.
-    Below(Spot, NodeRefOf<'t, N>),
+    // A child, by its entry, by its place among the children and as it is visited, that has the point's digits above its level.
+    Below(Spot, usize, NodeRefOf<'t, N>),
     // This entry, of which the point is no part.
     Other(Spot),
 }
@@ -46,7 +46,8 @@ pub(crate) fn step<'t, P: Dims, V: Ledger>(
         Ok(spot) => spot,
         Err(place) => return StepOf::Absent(place),
     };
-    match node.what(spot) {
+    let (rank, what) = node.ranked(spot);
+    match what {
         WhatOf::Value(v) => {
             if node.is_below(spot, key.offsets()) {
                 StepOf::Same(spot, v)
@@ -57,7 +58,7 @@ pub(crate) fn step<'t, P: Dims, V: Ledger>(
         WhatOf::Child(child) => {
             let below = child.visit(visits);
             if is_joined(node, spot, below.level(), key) {
-                StepOf::Below(spot, below)
+                StepOf::Below(spot, rank, below)
             } else {
                 StepOf::Other(spot)
             }

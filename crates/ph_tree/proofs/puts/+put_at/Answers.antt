@@ -3,7 +3,7 @@ use Rattle.std.specs.Prelude.{IsSome}
 use Rattle.ph_specs.specs.Node.{node}
 use Rattle.ph_specs.specs.EntryEdits.{with_child}
 use Rattle.ph_table.specs.Rows.{put_answer}
-use Rattle.ph_tree.proofs.Walks.{IsStepAt, step_at, answered, answered_new, on_ok, on_err, always_err, not_none, some_none, absent_found, same_found, same_value, same_spot, same_put, below_node, below_spot, below_lent, way_below, other_found, other_opened}
+use Rattle.ph_tree.proofs.Walks.{IsStepAt, step_at, answered, answered_new, on_ok, on_err, always_err, not_none, some_none, absent_found, same_found, same_value, same_spot, same_put, below_node, below_spot, below_rank, below_lent, way_below, other_found, other_opened}
 use Rattle.ph_tree.proofs.puts.+put_at.Given.{Over}
 use Rattle.ph_tree.proofs.puts.+put_at.Goals.{After-step}
 use Rattle.ph_tree.proofs.puts.+put_at.Goals as goal
@@ -20,7 +20,7 @@ set_value-requires g t c =
 pub child_mut-slot-requires : goal.child_mut-slot-requires
 child_mut-slot-requires g t c =
     let k = stepped g t (goal.at.child_mut-slot-requires g t c).After-step in
-    record { spot = below_spot k c.in-Below.is; child = below_node k c.in-Below.is }
+    record { spot = below_spot k c.in-Below.is; child = below_node k c.in-Below.is; rank = below_rank k c.in-Below.is }
 
 pub put_at-requires : goal.put_at-requires
 put_at-requires g t c κs within =

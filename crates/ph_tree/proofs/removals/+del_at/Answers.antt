@@ -4,7 +4,7 @@ use Rattle.ph_specs.specs.EntryEdits.{with_child}
 use Rattle.ph_specs.specs.Pack.{pack}
 use Rattle.ph_bits.specs.Block.{room_of}
 use Rattle.ph_tree.specs.Spares.{HasRoom}
-use Rattle.ph_tree.proofs.Walks.{IsStepAt, step_at, absent_found, absent_opened, same_found, same_opened, same_value, same_spot, below_node, below_spot, below_lent, way_below, some_none, found_as, on_ok, on_err, other_found, other_opened}
+use Rattle.ph_tree.proofs.Walks.{IsStepAt, step_at, absent_found, absent_opened, same_found, same_opened, same_value, same_spot, below_node, below_spot, below_rank, below_lent, way_below, some_none, found_as, on_ok, on_err, other_found, other_opened}
 use Rattle.ph_tree.proofs.Gone.{absent_del, other_del, same_del, same_many, below_left, below_del, merges}
 use Rattle.ph_tree.proofs.Wanted.{same_wanted, merge_wanted, child_wanted}
 use Rattle.ph_tree.proofs.removals.+del_at.Given.{Over}
@@ -55,7 +55,7 @@ merge-requires g t c =
 pub child_mut-slot-requires : goal.child_mut-slot-requires
 child_mut-slot-requires g t c =
     let k = stepped g t (goal.at.child_mut-slot-requires g t c).After-step in
-    record { spot = below_spot k c.in-Below.is; child = below_node k c.in-Below.is }
+    record { spot = below_spot k c.in-Below.is; child = below_node k c.in-Below.is; rank = below_rank k c.in-Below.is }
 
 pub del_at-requires : goal.del_at-requires
 del_at-requires g t c κs within =

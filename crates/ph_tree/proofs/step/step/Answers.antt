@@ -5,6 +5,7 @@ use Rattle.ph_specs.specs.ZOrder.{address}
 use Rattle.ph_specs.specs.EntryEdits.{has_address}
 use Rattle.ph_node.specs.Places.{place_for}
 use Rattle.ph_node.specs.Shown.{shown, what_of}
+use Rattle.ph_node.specs.Split.{IsNode}
 use Rattle.ph_specs.proofs.laws.DelEntries.{lawful-child}
 use Rattle.ph_tree.specs.Step.{IsAt, IsApart, opened_for}
 use Rattle.ph_tree.proofs.Steps.{entry_at, entry_there, at_entry, same_below, other_below, same_between, other_between}
@@ -16,8 +17,8 @@ use Rattle.ph_tree.proofs.step.step.Goals as goal
 at : (g : Over) (c : In-Ok g) → IsAt c.args.key.now.width c.args.key.now.point (shown c.args.node) c.in-Ok.spot (entry_at (entries (shown c.args.node)) c.in-Ok.spot.place)
 at g c = at_entry c.args.key.now.width c.args.key.now.point (shown c.args.node) _ _ c.in-Ok.spot c.level.ensures.value c.address.ensures.value c.in-Ok.ensures.found c.in-Ok.ensures.spot
 
-pub what-requires : goal.what-requires
-what-requires g c = c.in-Ok.ensures.spot
+pub ranked-rank-requires : goal.ranked-rank-requires
+ranked-rank-requires g c = c.in-Ok.ensures.spot
 
 pub is_below-requires : goal.is_below-requires
 is_below-requires g c =
@@ -27,7 +28,7 @@ pub is_joined-requires : goal.is_joined-requires
 is_joined-requires g c =
     let n = shown c.args.node in
     let found = entry_at (entries n) c.in-Ok.spot.place in
-    let below = lawful-child g.P.Dims.D n.level 0 n.chain c.in-Ok.spot.place found (shown c.visit-below.result) c.requires.lawful (entry_there (entries n) c.in-Ok.spot.place c.in-Ok.ensures.spot.within) (sym c.what.ensures ∙ ap (λ u. what_of u) c.in-Child.is ∙ ap node (sym c.visit-below.ensures.shows)) in
+    let below = lawful-child g.P.Dims.D n.level 0 n.chain c.in-Ok.spot.place found (shown c.visit-below.result) c.requires.lawful (entry_there (entries n) c.in-Ok.spot.place c.in-Ok.ensures.spot.within) (sym c.ranked-rank.ensures.what ∙ ap (λ u. what_of u) c.in-Child.is ∙ ap node (sym c.visit-below.ensures.shows)) in
     record {
       spot = c.in-Ok.ensures.spot;
       low = omega (arith, below.lower, c.level-in-Child.ensures.value);
@@ -50,7 +51,7 @@ returns-then-is_below-clause-step g c =
     let x = entry_at (entries n) c.in-Ok.spot.place in (
       x,
       at g (goal.at.returns-then-is_below-clause-step g c).In-Ok,
-      sym c.what.ensures ∙ ap (λ u. what_of u) c.in-Value.is,
+      sym c.ranked-rank.ensures.what ∙ ap (λ u. what_of u) c.in-Value.is,
       same_below c.args.key.now.width n.level c.args.key.now.point x.body _ _ c.offsets.ensures.value c.is_below.ensures c.if-is_below.true,
       omega arith,
     )
@@ -59,7 +60,7 @@ pub returns-else-is_below-clause-step : goal.returns-else-is_below-clause-step
 returns-else-is_below-clause-step g c =
     let n = shown c.args.node in
     let x = entry_at (entries n) c.in-Ok.spot.place in
-    let what = sym c.what.ensures ∙ ap (λ u. what_of u) c.in-Value.is in (
+    let what = sym c.ranked-rank.ensures.what ∙ ap (λ u. what_of u) c.in-Value.is in (
       x,
       at g (goal.at.returns-else-is_below-clause-step g c).In-Ok,
       subst (IsApart c.args.key.now.width c.args.key.now.point n.level x.body) (sym what) (other_below c.args.key.now.width n.level c.args.key.now.point x.body _ _ c.offsets.ensures.value c.is_below.ensures c.if-is_below.false),
@@ -72,16 +73,17 @@ returns-then-is_joined-clause-step g c =
     let x = entry_at (entries n) c.in-Ok.spot.place in (
       x,
       at g (goal.at.returns-then-is_joined-clause-step g c).In-Ok,
-      sym c.what.ensures ∙ ap (λ u. what_of u) c.in-Child.is ∙ ap node (sym c.visit-below.ensures.shows),
+      sym c.ranked-rank.ensures.what ∙ ap (λ u. what_of u) c.in-Child.is ∙ ap node (sym c.visit-below.ensures.shows),
       same_between c.args.key.now.width n.level c.args.key.now.point x.body _ _ refl _ _ c.level-in-Child.ensures.value c.is_joined.ensures c.if-is_joined.true,
       omega (arith, c.visit-below.ensures.cost),
+      c.ranked-rank.ensures.rank (subst IsNode (sym (sym c.ranked-rank.ensures.what ∙ ap (λ u. what_of u) c.in-Child.is)) tt),
     )
 
 pub returns-else-is_joined-clause-step : goal.returns-else-is_joined-clause-step
 returns-else-is_joined-clause-step g c =
     let n = shown c.args.node in
     let x = entry_at (entries n) c.in-Ok.spot.place in
-    let what = sym c.what.ensures ∙ ap (λ u. what_of u) c.in-Child.is ∙ ap node (sym c.visit-below.ensures.shows) in (
+    let what = sym c.ranked-rank.ensures.what ∙ ap (λ u. what_of u) c.in-Child.is ∙ ap node (sym c.visit-below.ensures.shows) in (
       x,
       at g (goal.at.returns-else-is_joined-clause-step g c).In-Ok,
       subst (IsApart c.args.key.now.width c.args.key.now.point n.level x.body) (sym what) (other_between c.args.key.now.width n.level c.args.key.now.point x.body _ _ refl _ _ c.level-in-Child.ensures.value c.is_joined.ensures c.if-is_joined.false),

@@ -1,5 +1,5 @@
-use Rattle.std.proofs.Common.{◌≡◌, ℕ, arith, refl, ap, sym, ◌∙◌, get_or, length}
-use Rattle.ph_specs.specs.Node.{PlainNode, entries}
+use Rattle.std.proofs.Common.{◌≡◌, arith, refl, ap, sym, ◌∙◌, get_or, length}
+use Rattle.ph_specs.specs.Node.{entries}
 use Rattle.ph_node.specs.OneEdit.{before, nodes_held}
 use Rattle.ph_node.specs.Slots.{nodes_of}
 use Rattle.ph_node.proofs.Lent.{lent, lent-is, lent-below}
@@ -8,33 +8,29 @@ use Rattle.ph_node.proofs.Lists.{kept_new, seen_new}
 use Rattle.ph_node.proofs.OldNodes.{old}
 use Rattle.ph_node.proofs.node.NodeOf.child_mut.Goals as goal
 
--- the rank, by the node as it was given
-ranked : (v t : PlainNode) (i k : ℕ) → v ≡ t → k ≡ before (entries v) i → k ≡ before (entries t) i
-ranked v t i k e h = h ∙ ap (λ (u : PlainNode). before (entries u) i) e
-
 pub index_mut-requires : goal.index_mut-requires
 index_mut-requires g c =
     let o = old _ _ _ _ c.self.view_is c.self.invariant in
     let n : length (nodes_held (entries c.args.self.now)) ≡ length (nodes_of c.self.inside.children.items) = ap (λ u. length u) o.nodes in
-    omega (arith, ranked _ _ _ _ c.self.view_is c.in_front-k.ensures, lent-below (entries c.args.self.now) c.args.spot.place c.requires.child, n, length-nodes c.self.inside.children.items, c.self.inside.children.ok.0)
+    omega (arith, c.requires.rank, lent-below (entries c.args.self.now) c.args.spot.place c.requires.child, n, length-nodes c.self.inside.children.items, c.self.inside.children.ok.0)
 
 pub invariant_of-self-lent : goal.invariant_of-self-lent
 invariant_of-self-lent g c w =
     let o = old _ _ _ _ c.self.view_is c.self.invariant in
-    let k = ranked _ _ _ _ c.self.view_is c.in_front-k.ensures in
-    kept_new _ _ _ _ _ (lent _ _ c.self.inside.children.items _ o c.args.spot.place c.in_front-k.result w c.requires.spot.within c.requires.child k) c.self.inside.words.words o.words
+    let k = c.requires.rank in
+    kept_new _ _ _ _ _ (lent _ _ c.self.inside.children.items _ o c.args.spot.place c.args.rank w c.requires.spot.within c.requires.child k) c.self.inside.words.words o.words
 
 pub returns : goal.returns
 returns g c =
     let o = old _ _ _ _ c.self.view_is c.self.invariant in
     let t = c.args.self.now in
-    let k = ranked _ _ _ _ c.self.view_is c.in_front-k.ensures in (
-      (refl, λ w. seen_new _ _ _ _ _ (lent _ _ c.self.inside.children.items _ o c.args.spot.place c.in_front-k.result w c.requires.spot.within c.requires.child k) c.self.inside.words.words o.words),
+    let k = c.requires.rank in (
+      (refl, λ w. seen_new _ _ _ _ _ (lent _ _ c.self.inside.children.items _ o c.args.spot.place c.args.rank w c.requires.spot.within c.requires.child k) c.self.inside.words.words o.words),
       record {
         lends = tt;
         shows =
             lent-is (entries t) c.args.spot.place c.index_mut.result.now.node c.requires.child
-            (get-nodes c.self.inside.children.items c.in_front-k.result c.index_mut.result.now c.index_mut.ensures.value
+            (get-nodes c.self.inside.children.items c.args.rank c.index_mut.result.now c.index_mut.ensures.value
             ∙ ap (λ j. get_or (nodes_of c.self.inside.children.items) j c.index_mut.result.now.node) k
             ∙ ap (λ u. get_or u (before (entries t) c.args.spot.place) c.index_mut.result.now.node) (sym o.nodes));
       },
