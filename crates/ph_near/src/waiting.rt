@@ -81,11 +81,13 @@ impl<'t, N, const D: usize> Ord for WaitingOf<'t, N, D> {
 
     // The nearer item is the greater one.
     fn cmp(&self, other: &WaitingOf<'t, N, D>) -> Ordering {
-        match other.distance.cmp(&self.distance) {
-            Ordering::Less => Ordering::Less,
-            Ordering::Equal => self.tied_cmp(other),
-            Ordering::Greater => Ordering::Greater,
+        if self.distance < other.distance {
+            return Ordering::Greater;
         }
+        if other.distance < self.distance {
+            return Ordering::Less;
+        }
+        self.tied_cmp(other)
     }
 }
 
