@@ -1,10 +1,11 @@
 -- The entries of a node as items of the queue.
-use Rattle.std.proofs.Common.{◌≡◌, ℕ, zero, suc, ◌+◌, ◌-◌, ◌<◌, ◌≤◌, ◌^◌, refl, sym, ◌∙◌, ap, subst, arith, List, [], ◌∷◌, ◌++◌, length, map, take, append_assoc, add-one}
+use Rattle.std.proofs.Common.{◌≡◌, ◌⊎◌, inl, inr, ℕ, zero, suc, ◌+◌, ◌-◌, ◌<◌, ◌≤◌, ◌^◌, refl, sym, ◌∙◌, ap, subst, arith, List, [], ◌∷◌, ◌++◌, length, map, take, append_assoc, add-one}
 use Rattle.std.specs.Prelude.{ℤ}
 use Rattle.std.specs.List.{AllByRecursion as Each}
 use Rattle.std.specs.List.Sorted.{IsPermutation}
 use Rattle.std.proofs.Math.Pow.{pow_mono}
-use Rattle.std.proofs.lemmas.List.Sorted.{IsPermutation-trans, IsPermutation-middle, IsPermutation-cons, IsPermutation-map}
+use Rattle.std.proofs.lemmas.List.{nil_from_length}
+use Rattle.std.proofs.lemmas.List.Sorted.{IsPermutation-refl, IsPermutation-trans, IsPermutation-middle, IsPermutation-cons, IsPermutation-map}
 use Rattle.ph_specs.specs.Coordinate.{coordinate}
 use Rattle.ph_specs.specs.Table.{row}
 use Rattle.ph_specs.specs.Node.{Entries, end, point, child, PlainNode, listed, entries}
@@ -96,6 +97,28 @@ module _ (w d : ℕ) (above : List ℕ) (n : PlainNode) where
   pub all_entered : (i : ℕ) (old now : List (WaitingOf PlainNode d)) → length (entries n) ≤ i → IsPermutation (take i (items_below w n.level above n.chain) ++ queue_of w old) (queue_of w now) → IsPermutation (items_below w n.level above n.chain ++ queue_of w old) (queue_of w now)
   all_entered i old now l p =
       subst (λ ys. IsPermutation (ys ++ queue_of w old) (queue_of w now)) (take-all i (items_below w n.level above n.chain) (omega (arith, items-long w n.level above n.chain, l))) p
+
+  -- where there are none
+  pub none_entered : (old now : List (WaitingOf PlainNode d)) → length (entries n) ≡ 0 → IsPermutation old now → IsPermutation (items_below w n.level above n.chain ++ queue_of w old) (queue_of w now)
+  none_entered old now l p =
+      subst (λ is. IsPermutation (is ++ queue_of w old) (queue_of w now)) (sym (nil_from_length (items_below w n.level above n.chain) (items-long w n.level above n.chain ∙ l))) (IsPermutation-map (item_of w) old now p)
+
+  -- the first one, which is kept apart
+  pub first_entered : (x : WaitingOf PlainNode d) (old : List (WaitingOf PlainNode d)) → 0 < length (entries n) → item_of w x ≡ entry_item w n.level above (entry_at (entries n) 0) → IsPermutation (take 1 (items_below w n.level above n.chain) ++ queue_of w old) (queue_of w (x ∷ old))
+  first_entered x old l f = entered 0 x old old (x ∷ old) l f (IsPermutation-refl (queue_of w old)) (IsPermutation-refl (x ∷ old))
+
+  -- all of them, in the order in which they wait
+  pub line_entered : (i : ℕ) (old now line : List (WaitingOf PlainNode d)) → length (entries n) ≤ i → IsPermutation (take i (items_below w n.level above n.chain) ++ queue_of w old) (queue_of w now) → IsPermutation now line → IsPermutation (items_below w n.level above n.chain ++ queue_of w old) (queue_of w line)
+  line_entered i old now line l p q =
+      IsPermutation-trans (items_below w n.level above n.chain ++ queue_of w old) (queue_of w now) (queue_of w line) (all_entered i old now l p) (IsPermutation-map (item_of w) now line q)
+
+-- of two items one is kept apart, and the other goes into the queue
+pub kept_apart : {X : Type 0} (x y first later : X) (old new : List X) → ((first ≡ x) × (later ≡ y)) ⊎ ((first ≡ y) × (later ≡ x)) → IsPermutation (later ∷ old) new → IsPermutation (x ∷ y ∷ old) (first ∷ new)
+kept_apart {X} x y first later old new (inl e) p =
+    subst (λ f. IsPermutation (x ∷ y ∷ old) (f ∷ new)) (sym e.0) (IsPermutation-cons x (y ∷ old) new (subst (λ l. IsPermutation (l ∷ old) new) e.1 p))
+kept_apart {X} x y first later old new (inr e) p =
+    subst (λ f. IsPermutation (x ∷ y ∷ old) (f ∷ new)) (sym e.0)
+    (IsPermutation-trans (x ∷ y ∷ old) (y ∷ x ∷ old) (y ∷ new) (IsPermutation-middle (x ∷ []) y old) (IsPermutation-cons y (x ∷ old) new (subst (λ l. IsPermutation (l ∷ old) new) e.1 p)))
 
 pub waiting_more : {w d : ℕ} {q : List ℤ} (x : WaitingOf PlainNode d) {now next : List (WaitingOf PlainNode d)} → IsWaiting w d q x → AreWaiting w d q now → IsPermutation (x ∷ now) next → AreWaiting w d q next
 waiting_more {w} {d} {q} x {now} {next} h k p = Each-permutation (IsWaiting w d q) (x ∷ now) next p (h, k)

@@ -1,5 +1,7 @@
 -- What waits in the queue of a search, and which of two items comes first.
-use Rattle.std.specs.Prelude.{◌≡◌, ℕ, zero, suc, ◌<◌, List, [], ◌∷◌, map, ℤ}
+use Rattle.std.specs.Prelude.{◌≡◌, ℕ, zero, suc, ◌<◌, List, [], ◌∷◌, ◌++◌, map, ℤ, Option, Some, None}
+use Rattle.std.specs.Option.{option_to_list}
+use Rattle.std.specs.BinaryHeap.{IsUpperBound}
 use Rattle.std.specs.declared.cmp.Ordering.{Ordering}
 use Rattle.std.specs.Cmp.Lexicographic.{slice_cmp, nat_list_cmp_total}
 use Rattle.std.specs.Ordering.{nat_cmp, on, then_cmp, flip_args}
@@ -51,6 +53,15 @@ item_of w i = held_item w i.level i.known i.what
 
 abbrev pub queue_of : {d : ℕ} → ℕ → List (WaitingOf PlainNode d) → List Item
 queue_of w items = map (item_of w) items
+
+-- the item at hand, and those that wait behind it
+abbrev pub line_of : {N : Type 0} {d : ℕ} → Option (WaitingOf N d) → List (WaitingOf N d) → List (WaitingOf N d)
+line_of next items = option_to_list next ++ items
+
+-- none that waits goes before the item at hand, and where there is no such item none waits
+abbrev pub Leads : {N : Type 0} {d : ℕ} → Option (WaitingOf N d) → List (WaitingOf N d) → Type 0
+Leads None items = items ≡ []
+Leads (Some x) items = IsUpperBound waiting_cmp x items
 
 -- an item has its own distance from q
 pub record IsWaiting (w d : ℕ) (q : List ℤ) (i : WaitingOf PlainNode d) : Type 0 where

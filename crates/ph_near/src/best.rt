@@ -9,19 +9,21 @@ ghost use Rattle.ph_specs.specs.WorkSets.{reach};
 ghost use Rattle.ph_table.specs.Hits.{hits_of};
 
 use crate::opening::open;
-use crate::queue::start;
+use crate::queue::{start, take_first};
 use ph_coord::{Point, Row, Width};
 use ph_node::{NoMemory, Node, WhatOf};
 use ph_steps::Steps;
 use ph_table::Hit;
 use ph_tree::PhTree;
 use std::alloc::Global;
+use std::collections::BinaryHeap;
 use std::sync::ledger::Ledger;
 
 /// The first `n` rows by their distance from a point, and of equal distances in Z-order, each with the square of its distance.
 ///
 /// It is the best-first search of G. R. Hjaltason and H. Samet ("Distance Browsing in Spatial Databases", ACM TODS 24, 1999).
-/// One queue has the rows and the nodes that were found and wait, the nodes by the least distance of their regions.
+/// One queue has the rows and the nodes that were found and wait, the nodes by the least distance of their regions. The one that goes
+/// first is at hand instead.
 ///
 /// It takes memory for what waits, at most an item for each entry of a visited node, and for the rows as they are found. It
 /// reserves none by `n`, and takes none where `n` is 0. Without memory it gives no rows; the nodes visited by then are counted.
@@ -63,24 +65,27 @@ fn search<const D: usize, V: Ledger>(
     if n == 0 {
         return Ok(hits);
     }
-    let mut queue = start(alloc, w, root, center)?;
+    let mut next = start(w, root, center);
+    let mut queue = BinaryHeap::new(alloc);
     while hits.len() < n as usize {
-        match queue.pop() {
-            None => return Ok(hits),
-            Some(item) => match item.what {
-                WhatOf::Value(value) => {
-                    let point = Point::from_offsets(w, &item.known);
-                    let row = Row { point, value };
-                    let distance = item.distance;
-                    match hits.push(Hit { row, distance }) {
-                        Ok(()) => {}
-                        Err(_) => return Err(NoMemory),
-                    }
+        let Some(item) = next.take() else {
+            return Ok(hits);
+        };
+        match item.what {
+            WhatOf::Value(value) => {
+                let point = Point::from_offsets(w, &item.known);
+                let row = Row { point, value };
+                let distance = item.distance;
+                match hits.push(Hit { row, distance }) {
+                    Ok(()) => {}
+                    Err(_) => return Err(NoMemory),
                 }
-                WhatOf::Child(node) => {
-                    open(node.visit(visits), &item.known, w, center, &mut queue)?
-                }
-            },
+                next = take_first(&mut queue);
+            }
+            WhatOf::Child(node) => {
+                let node = node.visit(visits);
+                open(node, &item.known, w, center, &mut next, &mut queue)?
+            }
         }
     }
     Ok(hits)

@@ -1,49 +1,64 @@
-//! The queue of a search at its start.
+//! What waits in a search: the item that goes first at hand, and the others in a queue.
 
-ghost use Rattle.std.specs.Prelude.{◌≡◌, ◌≤◌, map, IfOk};
-ghost use Rattle.std.specs.BinaryHeap.{heap_items, IsHeap};
+ghost use Rattle.std.specs.Prelude.{◌≡◌, ◌≤◌, map, false};
+ghost use Rattle.std.specs.BinaryHeap.{heap_items, IsHeap, IsUpperBound};
 ghost use Rattle.std.specs.List.Sorted.{IsPermutation};
-ghost use Rattle.std.specs.Option.{option_copied};
+ghost use Rattle.std.specs.Option.{option_copied, option_to_list};
 ghost use Rattle.ph_specs.specs.Coordinate.{coordinate};
 ghost use Rattle.ph_specs.specs.Lawful.{IsBody};
 ghost use Rattle.ph_specs.specs.BestFirst.{root_queue};
-ghost use Rattle.ph_near.specs.Waiting.{waiting_cmp, queue_of, AreWaiting};
+ghost use Rattle.ph_near.specs.Waiting.{waiting_cmp, queue_of, line_of, AreWaiting, Leads};
 
 use crate::waiting::Waiting;
 use ph_coord::Width;
 use ph_node::{NoMemory, Node, WhatOf};
 use ph_zorder::offset_least_distance;
-use std::alloc::Global;
 use std::collections::BinaryHeap;
 
-// The queue that has the root alone, or nothing where there is none.
+// The root, if there is one, as the item at hand.
 pub(crate) fn start<'t, const D: usize>(
-    alloc: Global,
     w: Width,
     root: Option<&'t Node<D>>,
     center: &[u64; D],
-) -> Result<BinaryHeap<Waiting<'t, D>>, NoMemory>
+) -> Option<Waiting<'t, D>>
     requires few { D ≤ 16 }
     requires point { IsBody D w center.now }
-    ensures items { IfOk result (λ queue. IsPermutation (root_queue w D (option_copied root.entry)) (queue_of w (heap_items queue))) }
-    ensures waiting { IfOk result (λ queue. AreWaiting w D (map (coordinate w) center.now) (heap_items queue)) }
-    ensures order { IfOk result (λ queue. IsHeap waiting_cmp (heap_items queue)) }
+    ensures items { queue_of w (option_to_list result) ≡ root_queue w D (option_copied root.entry) }
+    ensures waiting { AreWaiting w D (map (coordinate w) center.now) (option_to_list result) }
 {
     let _bits = w.bits();
-    let mut queue = BinaryHeap::new(alloc);
     let Some(root) = root else {
-        return Ok(queue);
+        return None;
     };
     let level = w.bits() - 1;
     let known = [0; D];
-    let item = Waiting {
+    Some(Waiting {
         distance: offset_least_distance(w, level, &known, center),
         known,
         level,
         what: WhatOf::Child(root),
-    };
-    match queue.push(item) {
-        Ok(()) => Ok(queue),
-        Err(_) => Err(NoMemory),
+    })
+}
+
+// The item of a queue that goes first, which it leaves.
+pub(crate) fn take_first<'t, const D: usize>(
+    queue: &mut BinaryHeap<Waiting<'t, D>>,
+) -> Option<Waiting<'t, D>>
+    ensures items { IsPermutation (heap_items queue.old) (line_of result (heap_items queue.new)) }
+    ensures order { IsHeap waiting_cmp (heap_items queue.old) → IsHeap waiting_cmp (heap_items queue.new) × Leads result (heap_items queue.new) }
+{
+    queue.pop()
+}
+
+// Whether the item of a queue that goes first, if there is one, goes before another item.
+pub(crate) fn goes_before<'t, const D: usize>(
+    queue: &BinaryHeap<Waiting<'t, D>>,
+    item: &Waiting<'t, D>,
+) -> bool
+    ensures { IsHeap waiting_cmp (heap_items queue.now) → result ≡ false → IsUpperBound waiting_cmp item.now (heap_items queue.now) }
+{
+    match queue.peek() {
+        Some(top) => item.cmp(top).is_lt(),
+        None => false,
     }
 }

@@ -1,58 +1,87 @@
-use Rattle.std.proofs.Common.{◌++◌, ◌<◌, ◌≤◌, inl, inr, ◌∙◌, arith, rules, ap, sym, subst, ◌∷◌, [], map}
+use Rattle.std.proofs.Common.{◌≡◌, ◌++◌, ◌<◌, ◌≤◌, inl, inr, ◌∙◌, arith, rules, ap, sym, subst, ◌∷◌, [], map, append-nil}
+use Rattle.std.specs.Prelude.{Some, None}
 use Rattle.std.specs.List.Sorted.{IsPermutation}
-use Rattle.std.specs.BinaryHeap.{heap_items}
-use Rattle.std.specs.Option.{option_copied}
-use Rattle.std.proofs.lemmas.List.{nil_from_length}
+use Rattle.std.specs.BinaryHeap.{heap_items, IsUpperBound}
+use Rattle.std.specs.Option.{option_copied, option_to_list}
 use Rattle.ph_specs.specs.Coordinate.{coordinate}
 use Rattle.ph_specs.specs.Lawful.{IsAbove, rows}
 use Rattle.ph_specs.specs.BestFirst.{root_queue, items_below}
+use Rattle.ph_specs.proofs.laws.BestFirst.{left}
 use Rattle.ph_specs.proofs.laws.LawfulRows.{rows-table}
 use Rattle.ph_specs.proofs.laws.Unique.{shape-rows}
 use Rattle.ph_table.specs.Hits.{hit}
-use Rattle.ph_near.specs.Waiting.{queue_of}
-use Rattle.ph_near.proofs.Steps.{IsBest, Popped, few_visits, all_listed, popped-waiting, row_listed, row_less, node_level, node_above, node_opened, node_less, few_more, started}
+use Rattle.ph_near.specs.Waiting.{queue_of, line_of, waiting_cmp, Leads}
+use Rattle.ph_near.proofs.Steps.{IsBest, reordered, few_visits, all_listed, leads_none, first-waiting, row_listed, row_less, node_level, node_above, node_opened, node_less, few_more, started}
+use Rattle.ph_near.proofs.best.search.Given.{Over}
+use Rattle.ph_near.proofs.best.search.Goals.{In-Some}
 use Rattle.ph_near.proofs.best.search.Goals as goal
 
-pub loop-w-init : goal.loop-w-init
-loop-w-init g c =
+pub loop-next-init : goal.loop-next-init
+loop-next-init g c =
     let wide : 1 ≤ c.args.w = omega (arith, c.bits-bits.ensures.value, c.bits-bits.ensures.some) in
-    subst (λ hs. IsBest c.args.w g.row.D c.args.n (map (coordinate c.args.w) c.args.center.now) (rows c.args.w g.row.D (option_copied c.args.root)) hs (heap_items c.in_ok-queue.queue) c.args.visits.now c.args.visits.now) (sym c.new-hits.ensures.items)
-    (started c.args.visits.now wide (omega (arith, c.bits-bits.ensures.value, c.bits-bits.ensures.limit))
-    (rows-table c.args.w g.row.D (option_copied c.args.root) wide c.requires.tree)
-    (subst (λ t. IsPermutation (root_queue c.args.w g.row.D t) (queue_of c.args.w (heap_items c.in_ok-queue.queue))) (sym (shape-rows c.args.w g.row.D (option_copied c.args.root) c.requires.tree)) c.in_ok-queue.ensures.items)
-    c.in_ok-queue.ensures.waiting c.in_ok-queue.ensures.order)
+    record {
+      best = subst (λ hs. IsBest c.args.w g.row.D c.args.n (map (coordinate c.args.w) c.args.center.now) (rows c.args.w g.row.D (option_copied c.args.root)) hs (line_of c.start-next.result (heap_items c.new-queue.result)) c.args.visits.now c.args.visits.now) (sym c.new-hits.ensures.items)
+          (subst (λ is. IsBest c.args.w g.row.D c.args.n (map (coordinate c.args.w) c.args.center.now) (rows c.args.w g.row.D (option_copied c.args.root)) [] (line_of c.start-next.result is) c.args.visits.now c.args.visits.now) (sym c.new-queue.ensures.items)
+          (subst (λ is. IsBest c.args.w g.row.D c.args.n (map (coordinate c.args.w) c.args.center.now) (rows c.args.w g.row.D (option_copied c.args.root)) [] is c.args.visits.now c.args.visits.now) (sym (append-nil (option_to_list c.start-next.result)))
+          (started c.args.visits.now wide (omega (arith, c.bits-bits.ensures.value, c.bits-bits.ensures.limit))
+          (rows-table c.args.w g.row.D (option_copied c.args.root) wide c.requires.tree)
+          (c.start-next.ensures.items ∙ ap (root_queue c.args.w g.row.D) (sym (shape-rows c.args.w g.row.D (option_copied c.args.root) c.requires.tree)))
+          c.start-next.ensures.waiting)));
+      order = c.new-queue.ensures.heap_order;
+      leads = leads_none c.start-next.result (heap_items c.new-queue.result) c.new-queue.ensures.items;
+    }
 
-pub returns-in-None-clause-hits : goal.returns-in-None-clause-hits
-returns-in-None-clause-hits g c =
-    all_listed c.loop-w.invariant (inr (nil_from_length (heap_items c.loop-w.queue) (omega (arith, c.in-None.ensures.none, c.loop-w.queue.data.ok.0))))
+-- ---- nothing waits
 
-pub returns-in-None-clause-visits : goal.returns-in-None-clause-visits
-returns-in-None-clause-visits g c = few_visits c.loop-w.invariant
+pub returns-in_default-clause-hits : goal.returns-in_default-clause-hits
+returns-in_default-clause-hits g c =
+    let none : c.loop-next.next ≡ None = sym c.take.ensures.value ∙ c.in_default.is in
+    all_listed c.loop-next.invariant.best (inr (ap (λ o. line_of o (heap_items c.loop-next.queue)) none ∙ subst (λ o. Leads o (heap_items c.loop-next.queue)) none c.loop-next.invariant.leads))
 
-pub from_offsets-point-requires : goal.from_offsets-point-requires
-from_offsets-point-requires g c =
-    let w = (popped-waiting c.loop-w.invariant (record { permutation = c.in-Some.ensures.permutation; order = c.in-Some.ensures.heap_order; first = c.in-Some.ensures.below_top })).0 in
-    (search rules, (w.known.0, w.known.1))
+pub returns-in_default-clause-visits : goal.returns-in_default-clause-visits
+returns-in_default-clause-visits g c = few_visits c.loop-next.invariant.best
 
-pub loop-w-smaller-in-Ok : goal.loop-w-smaller-in-Ok
-loop-w-smaller-in-Ok g c =
-    row_less c.loop-w.invariant (record { permutation = c.in-Some.ensures.permutation; order = c.in-Some.ensures.heap_order; first = c.in-Some.ensures.below_top }) c.in-Value.is
+-- ---- the item at hand
 
-pub loop-w-preserved-in-Ok : goal.loop-w-preserved-in-Ok
-loop-w-preserved-in-Ok g c =
-    subst (λ hs. IsBest c.args.w g.row.D c.args.n (map (coordinate c.args.w) c.args.center.now) (rows c.args.w g.row.D (option_copied c.args.root)) hs (heap_items c.pop.new.self) c.args.visits.now c.loop-w.visits)
-    (sym (c.in-Ok.ensures.items ∙ ap (λ p. c.loop-w.hits.items ++ hit p c.in-Value.value c.in-Some.item.distance ∷ []) c.from_offsets-point.ensures.value))
-    (row_listed c.loop-w.invariant (record { permutation = c.in-Some.ensures.permutation; order = c.in-Some.ensures.heap_order; first = c.in-Some.ensures.below_top }) c.in-Value.is (omega (arith, c.loop-w-test.true, c.len.ensures, c.loop-w.hits.ok.0)))
+taken : (g : Over) (c : In-Some g) → c.loop-next.next ≡ Some c.in-Some.item
+taken g c = sym c.take.ensures.value ∙ c.in-Some.is
+
+best : (g : Over) (c : In-Some g) → IsBest c.args.w g.row.D c.args.n (map (coordinate c.args.w) c.args.center.now) (rows c.args.w g.row.D (option_copied c.args.root)) c.loop-next.hits.items (c.in-Some.item ∷ heap_items c.loop-next.queue) c.args.visits.now c.loop-next.visits
+best g c =
+    subst (λ o. IsBest c.args.w g.row.D c.args.n (map (coordinate c.args.w) c.args.center.now) (rows c.args.w g.row.D (option_copied c.args.root)) c.loop-next.hits.items (line_of o (heap_items c.loop-next.queue)) c.args.visits.now c.loop-next.visits) (taken g c) c.loop-next.invariant.best
+
+first : (g : Over) (c : In-Some g) → IsUpperBound waiting_cmp c.in-Some.item (heap_items c.loop-next.queue)
+first g c = subst (λ o. Leads o (heap_items c.loop-next.queue)) (taken g c) c.loop-next.invariant.leads
+
+left-is : (g : Over) (c : In-Some g) → left c.args.w (queue_of c.args.w (line_of c.loop-next.next (heap_items c.loop-next.queue))) ≡ left c.args.w (queue_of c.args.w (c.in-Some.item ∷ heap_items c.loop-next.queue))
+left-is g c = ap (λ o. left c.args.w (queue_of c.args.w (line_of o (heap_items c.loop-next.queue)))) (taken g c)
 
 pub returns-in-Err-clause-visits : goal.returns-in-Err-clause-visits
-returns-in-Err-clause-visits g c = few_visits c.loop-w.invariant
+returns-in-Err-clause-visits g c = few_visits c.loop-next.invariant.best
+
+pub loop-next-smaller-in-Value : goal.loop-next-smaller-in-Value
+loop-next-smaller-in-Value g c =
+    let h = (goal.at.loop-next-smaller-in-Value g c).In-Some in
+    subst (λ k. left c.args.w (queue_of c.args.w (line_of c.take_first-next.result (heap_items c.take_first-next.new.queue))) < k) (sym (left-is g h))
+    (row_less (best g h) c.in-Value.is (line_of c.take_first-next.result (heap_items c.take_first-next.new.queue)) c.take_first-next.ensures.items)
+
+pub loop-next-preserved-in-Value : goal.loop-next-preserved-in-Value
+loop-next-preserved-in-Value g c =
+    let h = (goal.at.loop-next-preserved-in-Value g c).In-Some in
+    record {
+      best = subst (λ hs. IsBest c.args.w g.row.D c.args.n (map (coordinate c.args.w) c.args.center.now) (rows c.args.w g.row.D (option_copied c.args.root)) hs (line_of c.take_first-next.result (heap_items c.take_first-next.new.queue)) c.args.visits.now c.loop-next.visits)
+          (sym (c.in-Ok.ensures.items ∙ ap (λ p. c.loop-next.hits.items ++ hit p c.in-Value.value c.in-Some.item.distance ∷ []) c.from_offsets-point.ensures.value))
+          (reordered (row_listed (best g h) c.in-Value.is (first g h) (omega (arith, c.loop-next-test.true, c.len.ensures, c.loop-next.hits.ok.0))) c.take_first-next.ensures.items);
+      order = (c.take_first-next.ensures.order c.loop-next.invariant.order).0;
+      leads = (c.take_first-next.ensures.order c.loop-next.invariant.order).1;
+    }
 
 pub open-requires : goal.open-requires
 open-requires g c =
-    let p : Popped (heap_items c.loop-w.queue) (heap_items c.pop.new.self) c.in-Some.item = record { permutation = c.in-Some.ensures.permutation; order = c.in-Some.ensures.heap_order; first = c.in-Some.ensures.below_top } in
-    let w = popped-waiting c.loop-w.invariant p in
-    let low = node_level c.loop-w.invariant p c.in-Child.is in
-    let above = node_above c.loop-w.invariant p c.in-Child.is in (
+    let h = (goal.at.open-requires g c).In-Some in
+    let w = first-waiting (best g h) in
+    let low = node_level (best g h) c.in-Child.is in
+    let above = node_above (best g h) c.in-Child.is in (
       omega arith,
       (
         search rules,
@@ -61,32 +90,42 @@ open-requires g c =
           (
             c.requires.few,
             (
-              subst (λ m. m.level < c.args.w) (sym c.visit.ensures.shows) low,
-              (subst (λ m. IsAbove g.row.D m.level c.in-Some.item.known) (sym c.visit.ensures.shows) above, (w.0.known, (c.requires.point, w.1))),
+              subst (λ m. m.level < c.args.w) (sym c.visit-node.ensures.shows) low,
+              (subst (λ m. IsAbove g.row.D m.level c.in-Some.item.known) (sym c.visit-node.ensures.shows) above, (w.0.known, (c.requires.point, w.1))),
             ),
           ),
         ),
       ),
     )
 
-pub loop-w-smaller : goal.loop-w-smaller
-loop-w-smaller g c =
-    node_less c.loop-w.invariant (record { permutation = c.in-Some.ensures.permutation; order = c.in-Some.ensures.heap_order; first = c.in-Some.ensures.below_top }) c.in-Child.is (heap_items c.open.new.queue)
-    (subst (λ m. IsPermutation (items_below c.args.w m.level c.in-Some.item.known m.chain ++ queue_of c.args.w (heap_items c.pop.new.self)) (queue_of c.args.w (heap_items c.open.new.queue))) c.visit.ensures.shows c.in_ok-open-in-Child.ensures.items)
+pub loop-next-smaller : goal.loop-next-smaller
+loop-next-smaller g c =
+    let h = (goal.at.loop-next-smaller g c).In-Some in
+    subst (λ k. left c.args.w (queue_of c.args.w (line_of c.open.new.next (heap_items c.open.new.queue))) < k) (sym (left-is g h))
+    (node_less (best g h) c.in-Child.is (line_of c.open.new.next (heap_items c.open.new.queue))
+    (subst (λ m. IsPermutation (items_below c.args.w m.level c.in-Some.item.known m.chain ++ queue_of c.args.w (heap_items c.loop-next.queue)) (queue_of c.args.w (line_of c.open.new.next (heap_items c.open.new.queue)))) c.visit-node.ensures.shows c.in_ok-open-in-Child.ensures.items))
 
-pub loop-w-preserved : goal.loop-w-preserved
-loop-w-preserved g c =
-    node_opened c.loop-w.invariant (record { permutation = c.in-Some.ensures.permutation; order = c.in-Some.ensures.heap_order; first = c.in-Some.ensures.below_top }) c.in-Child.is (omega (arith, c.loop-w-test.true, c.len.ensures, c.loop-w.hits.ok.0)) c.visit.ensures.cost
-    (subst (λ m. IsPermutation (items_below c.args.w m.level c.in-Some.item.known m.chain ++ queue_of c.args.w (heap_items c.pop.new.self)) (queue_of c.args.w (heap_items c.open.new.queue))) c.visit.ensures.shows c.in_ok-open-in-Child.ensures.items)
-    c.in_ok-open-in-Child.ensures.waiting c.in_ok-open-in-Child.ensures.order
+pub loop-next-preserved : goal.loop-next-preserved
+loop-next-preserved g c =
+    let h = (goal.at.loop-next-preserved g c).In-Some in
+    record {
+      best = node_opened (best g h) c.in-Child.is (first g h) (omega (arith, c.loop-next-test.true, c.len.ensures, c.loop-next.hits.ok.0)) c.visit-node.ensures.cost
+          (subst (λ m. IsPermutation (items_below c.args.w m.level c.in-Some.item.known m.chain ++ queue_of c.args.w (heap_items c.loop-next.queue)) (queue_of c.args.w (line_of c.open.new.next (heap_items c.open.new.queue)))) c.visit-node.ensures.shows c.in_ok-open-in-Child.ensures.items)
+          c.in_ok-open-in-Child.ensures.waiting;
+      order = (c.in_ok-open-in-Child.ensures.order c.loop-next.invariant.order).0;
+      leads = (c.in_ok-open-in-Child.ensures.order c.loop-next.invariant.order).1;
+    }
 
 pub returns-in_err-open-in-Child-clause-visits : goal.returns-in_err-open-in-Child-clause-visits
 returns-in_err-open-in-Child-clause-visits g c =
-    few_more c.loop-w.invariant (record { permutation = c.in-Some.ensures.permutation; order = c.in-Some.ensures.heap_order; first = c.in-Some.ensures.below_top }) c.in-Child.is (omega (arith, c.loop-w-test.true, c.len.ensures, c.loop-w.hits.ok.0)) c.visit.ensures.cost
+    let h = (goal.at.returns-in_err-open-in-Child-clause-visits g c).In-Some in
+    few_more (best g h) c.in-Child.is (first g h) (omega (arith, c.loop-next-test.true, c.len.ensures, c.loop-next.hits.ok.0)) c.visit-node.ensures.cost
+
+-- ---- the rows are listed
 
 pub returns-clause-hits : goal.returns-clause-hits
 returns-clause-hits g c =
-    all_listed c.loop-w.invariant (inl (omega (arith, c.loop-w-test.false, c.len.ensures, c.loop-w.hits.ok.0)))
+    all_listed c.loop-next.invariant.best (inl (omega (arith, c.loop-next-test.false, c.len.ensures, c.loop-next.hits.ok.0)))
 
 pub returns-clause-visits : goal.returns-clause-visits
-returns-clause-visits g c = few_visits c.loop-w.invariant
+returns-clause-visits g c = few_visits c.loop-next.invariant.best
