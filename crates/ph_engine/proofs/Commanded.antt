@@ -5,32 +5,27 @@ use Rattle.std.specs.declared.option.Option.{Option}
 use Rattle.ph_io.specs.Giving.{Taken, Given}
 use Rattle.ph_specs.specs.declared.Kind.{Kind}
 use Rattle.ph_specs.specs.Command.{Command as Asked}
-use Rattle.ph_specs.specs.Named.{Named}
 use Rattle.ph_specs.specs.Reply.{Reply, reply_text, replies_text}
 use Rattle.ph_specs.specs.declared.Which.{Which}
 use Rattle.ph_specs.specs.declared.Kind.TheVariants.{Points, Boxes}
 use Rattle.ph_specs.specs.Engine.{same_slots, unless_refused}
 use Rattle.ph_specs.specs.Refusals.{refusal, has_wrong_kind, boxes_of}
 use Rattle.ph_specs.specs.State.{Slot, Engine, Files, current, outcome}
-use Rattle.ph_specs.specs.Window.{Cursor}
 use Rattle.ph_script.specs.declared.reply.Reply.{Reply as Told}
 use Rattle.ph_script.specs.Meaning.{reply_of}
 use Rattle.ph_engine.specs.Machine.{is_refusal}
 use Rattle.ph_engine.specs.Beside.{Beside, beside_sink, IsTold, StillTells, Filings}
 use Rattle.ph_engine.specs.Comparing.{Compares}
 use Rattle.ph_engine.specs.Working.{work_of, nodes_of, IsAtMost, IsAtLeast}
-use Rattle.ph_engine.specs.Doing.{Does, DoneOr, Begun, Knows, Unserved, ServedOr, uses_files, is_page, cut_engine, refuses}
-use Rattle.ph_engine.specs.Slots.{AnyTable, slot_of, engine_of}
-use Rattle.ph_engine.specs.Telling.{Tells, ToldOr}
+use Rattle.ph_engine.specs.Doing.{Does, DoneOr, Begun, Knows, uses_files, is_page, cut_engine, refuses}
+use Rattle.ph_engine.specs.Slots.{engine_of}
+use Rattle.ph_engine.specs.Telling.{Tells}
 use Rattle.ph_io.specs.Writing.{WritesFront}
 use Rattle.ph_engine.specs.declared.status.Answer.{Answer}
 use Rattle.ph_engine.specs.declared.status.Stop.{Stop}
 use Rattle.ph_engine.specs.declared.status.Stop.TheVariants.{WriteFault, NoMemory}
-use Rattle.ph_engine.specs.Refusing.{early_refusal}
-use Rattle.ph_io.proofs.Appending.{given_none}
-use Rattle.ph_engine.proofs.Plain.{IsPlain, does-at, most-at, least-at, wants-at}
 
-known-told : (command : Asked) (told now_told : Option Files) (files : Files) → now_told ≡ told → Knows command told files → StillTells told now_told files
+pub known-told : (command : Asked) (told now_told : Option Files) (files : Files) → now_told ≡ told → Knows command told files → StillTells told now_told files
 known-told command None now_told files e k = tt
 known-told command (Some told) now_told files e k = e ∙ ap Some k
 
@@ -84,17 +79,17 @@ done-all most e after now command replies b now_b (Err WriteFault) l x w d u v a
 }
 done-all most e after now command replies b now_b (Err NoMemory) l x w d u v a t s f = absurd (let clash : NoMemory ≡ WriteFault = s in cc)
 
+-- what was said of a reply was told
+pub tells-said : {D : ℕ} (sink now_sink : Taken) (reply : Told D) (result : Result Answer Stop) → IfOk result (λ answer. refuses answer ≡ is_refusal (reply_text (reply_of reply))) → OnOk result (Given sink now_sink (reply_text (reply_of reply))) → IfErr result (λ stop. stop ≡ WriteFault) → OnErr result (WritesFront sink now_sink (reply_text (reply_of reply))) → Tells sink now_sink reply result
+tells-said sink now_sink reply (Ok answer) good told fault front = (told, good)
+tells-said sink now_sink reply (Err stop) good told fault front = (fault, front)
+
 -- a command of one reply, once this was given to a sink
 pub done-said : {D : ℕ} (most : ℕ) (e now : Engine) (command : Asked) (reply : Told D) (b now_b : Beside) (result : Result Answer Stop) → LeavesFiles b now_b → now ≡ cut_engine e command now → Does e command now (reply_of reply ∷ []) → Most e command b now_b → Least e command b now_b → Tells b.sink now_b.sink reply result → DoneOr most e command b now_b now result
 done-said most e now command reply b now_b (Ok answer) l p d u v t =
     done-all most e now now command (reply_of reply ∷ []) b now_b (Ok answer) l refl tt d u v (rw (one-text (reply_of reply)) t.1) (rw (one-text (reply_of reply)) t.0) tt tt
 done-said most e now command reply b now_b (Err stop) l p d u v t =
     done-all most e now now command (reply_of reply ∷ []) b now_b (Err stop) l tt p d u tt tt tt t.0 (rw (one-text (reply_of reply)) t.1)
-
--- a command that makes a slot another one
-pub done-begun : {D : ℕ} (most : ℕ) (s now : Slot) (command : Asked) (reply : Told D) (sink now_sink : Taken) (files : Option Files) (filings visits changes : ℕ) (result : Result Answer Stop) → engine_of now ≡ cut_engine (engine_of s) command (engine_of now) → Begun s command now (reply_of reply) → Tells sink now_sink reply result → DoneOr most (engine_of s) command (beside_sink sink files filings visits changes) (beside_sink now_sink files filings visits changes) (engine_of now) result
-done-begun most s now command reply sink now_sink files filings visits changes result p h t =
-    done-said most (engine_of s) (engine_of now) command reply _ _ result (record { files = refl; filings = refl }) p h.does (h.most visits changes) (h.least visits changes) t
 
 -- a command that is refused, a page too
 cut-same : (e : Engine) (page : Bool) → e ≡ (if page then e else e)
@@ -103,20 +98,7 @@ cut-same e false = refl
 
 pub done-refused : {D : ℕ} (most : ℕ) (s : Slot) (command : Asked) (reply : Told D) (sink now_sink : Taken) (files : Option Files) (filings visits changes : ℕ) (result : Result Answer Stop) → Begun s command s (reply_of reply) → Tells sink now_sink reply result → DoneOr most (engine_of s) command (beside_sink sink files filings visits changes) (beside_sink now_sink files filings visits changes) (engine_of s) result
 done-refused most s command reply sink now_sink files filings visits changes result h t =
-    done-begun most s s command reply sink now_sink files filings visits changes result (cut-same (engine_of s) (is_page command)) h t
-
--- a command for which memory was missing
-undone : (most : ℕ) (kind : Kind) (t now : AnyTable) (cursors : Named Cursor) (command : Asked) (b now_b : Beside) → LeavesFiles b now_b → IsPlain command → early_refusal (slot_of kind t cursors) command ≡ None → now_b.sink ≡ b.sink → Unserved t command now b.visits now_b.visits b.changes now_b.changes → DoneOr most (engine_of (slot_of kind t cursors)) command b now_b (engine_of (slot_of kind now cursors)) (Err NoMemory)
-undone most kind t now cursors command b now_b l p u sink h = record {
-  fault = false;
-  filings = no-faults command b now_b l;
-  part = 0;
-  state = λ files k. rw (p.no_import (slot_of kind t cursors) files) (ap (λ x. engine_of (slot_of kind x cursors)) h.stays);
-  files = λ files k. told-told b.files now_b.files files l.files k;
-  told = rw sink (given_none b.sink);
-  wanted = wants-at kind t cursors command p u (h.wanted cursors);
-  most_work = λ files k. most-at kind t cursors command _ _ _ _ p u (h.most cursors) most files false;
-}
+    done-said most (engine_of s) (engine_of s) command reply _ _ result (record { files = refl; filings = refl }) (cut-same (engine_of s) (is_page command)) h.does (h.most visits changes) (h.least visits changes) t
 
 -- ---- commands that know both slots
 
@@ -152,14 +134,3 @@ compare-done most e reply sink now_sink files filings visits now_visits changes 
     (λ most files fault. ap (λ r. unless_refused r e files Asked.Compare) (compare-unrefused most e files fault) ∙ ap (λ r. outcome e files (r ∷ [])) (sym (h.2 ∙ ap (λ t. if t then Reply.Same else Reply.Differ) h.1.same)))
     (λ most files fault. record { few_visits = h.1.few; few_changes = omega arith })
     (λ most files fault. rw (compare-unrefused most e files fault) (record { enough_visits = least-of-same (same_slots e.a e.b) n visits now_visits h.1.later h.1.all; enough_changes = omega arith })) told
-
--- ---- commands of one reply about the rows of a table
-
-pub done-served : {D : ℕ} {E : Type 0} (most : ℕ) (kind : Kind) (t now : AnyTable) (cursors : Named Cursor) (command : Asked) (outcome : Result (Told D) E) (b now_b : Beside) (result : Result Answer Stop) → LeavesFiles b now_b → IsPlain command → early_refusal (slot_of kind t cursors) command ≡ None → ServedOr t command now b.visits now_b.visits b.changes now_b.changes outcome → ToldOr b.sink now_b.sink outcome result → DoneOr most (engine_of (slot_of kind t cursors)) command b now_b (engine_of (slot_of kind now cursors)) result
-done-served most kind t now cursors command (Ok reply) b now_b result l p u h k =
-    done-said most (engine_of (slot_of kind t cursors)) (engine_of (slot_of kind now cursors)) command reply b now_b result l (rw p.no_page refl)
-    (does-at kind t now cursors command (reply_of reply) p u (h.does cursors))
-    (most-at kind t cursors command _ _ _ _ p u (h.most cursors))
-    (least-at kind t cursors command _ _ _ _ p u (h.least cursors)) k
-done-served most kind t now cursors command (Err error) b now_b (Ok answer) l p u h k = absurd k
-done-served most kind t now cursors command (Err error) b now_b (Err stop) l p u h k = rw k.0 (undone most kind t now cursors command b now_b l p u k.1 h)

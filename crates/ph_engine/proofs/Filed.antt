@@ -25,7 +25,7 @@ use Rattle.ph_specs.specs.declared.Kind.TheVariants.{Points, Boxes}
 use Rattle.ph_script.specs.declared.reply.Reply.{Reply as Told}
 use Rattle.ph_script.specs.Meaning.{reply_of}
 use Rattle.ph_engine.specs.Beside.{beside_sink, Filings, Tells, IsTold, StillTells}
-use Rattle.ph_engine.specs.Doing.{DoneOr, Knows, Leads, fetches, imported, is_page, cut_engine, starved_engine, takes_memory, uses_files}
+use Rattle.ph_engine.specs.Doing.{Begun, Does, DoneOr, Knows, ServedOr, Leads, fetches, imported, is_page, cut_engine, starved_engine, takes_memory, uses_files}
 use Rattle.ph_engine.specs.Drafting.{Unfilled}
 use Rattle.ph_engine.specs.Filing.{Filed, Unfiled, FiledOr, Entered, LoadsOr, TellsUnfetched, read_table, read_reply}
 use Rattle.ph_engine.specs.Refusing.{or_else, early_refusal, late_refusal}
@@ -35,7 +35,8 @@ use Rattle.ph_engine.specs.Telling.{Tells as Says, ToldOr}
 use Rattle.ph_engine.specs.declared.status.Answer.{Answer}
 use Rattle.ph_engine.specs.declared.status.Stop.{Stop}
 use Rattle.ph_engine.specs.declared.status.Stop.TheVariants.{WriteFault, NoMemory}
-use Rattle.ph_engine.proofs.Commanded.{one-text}
+use Rattle.ph_engine.proofs.Commanded.{known-told, one-text, told-told}
+use Rattle.ph_engine.proofs.Plain.{IsPlain, does-at, least-at, most-at, wants-at}
 use Rattle.ph_engine.proofs.Refused.{refusal-parts}
 
 -- ---- once the reply was given to a sink
@@ -83,6 +84,41 @@ module _ (most : ℕ) (e now : Engine) (command : Command) (told now_told : Opti
   done-filed (Ok reply) result page h t = filed-said reply result (rw page refl) h t
   done-filed (Err error) (Ok answer) page h t = absurd t
   done-filed (Err error) (Err stop) page h t = unfiled-said stop t.0 t.1 h
+
+-- ---- commands that ask for no file
+
+leaves-filings : (command : Command) (f : ℕ) → Filings (uses_files command) 0 f f
+leaves-filings command f = record { told = inr (omega arith); later = omega arith; quiet = λ _. refl }
+
+filed-quietly : (most : ℕ) (e now : Engine) (command : Command) (reply : Reply) (told : Option Files) (f v now_v c now_c : ℕ) → Does e command now (reply ∷ []) → ((most : ℕ) (files : Files) (fault : Bool) → IsAtMost (work_of most e files fault command) v now_v c now_c) → ((most : ℕ) (files : Files) (fault : Bool) → IsAtLeast (work_of most e files fault command) v now_v c now_c) → Filed most e command told told f f v now_v c now_c now reply
+filed-quietly most e now command reply told f v now_v c now_c does few enough = record {
+  fault = false;
+  counted = leaves-filings command f;
+  does = λ files k. record { files = files; is = does most files false; told_files = known-told command told told files refl k };
+  most_work = λ files k. few most files false;
+  least_work = λ files k. enough most files false;
+}
+
+-- a command that makes a slot another one
+pub filed-begun : (most : ℕ) (s now : Slot) (command : Command) (reply : Reply) (told : Option Files) (f v c : ℕ) → Begun s command now reply → Filed most (engine_of s) command told told f f v v c c (engine_of now) reply
+filed-begun most s now command reply told f v c h = filed-quietly most (engine_of s) (engine_of now) command reply told f v v c c h.does (h.most v c) (h.least v c)
+
+-- a command about the rows of a table
+pub filed-served : {D : ℕ} {E : Type 0} (most : ℕ) (kind : Kind) (t now : AnyTable) (cursors : Named Cursor) (command : Command) (result : Result (Told D) E) (told : Option Files) (f v now_v c now_c : ℕ) → IsPlain command → early_refusal (slot_of kind t cursors) command ≡ None → ServedOr t command now v now_v c now_c result → FiledOr most (engine_of (slot_of kind t cursors)) command told told f f v now_v c now_c (engine_of (slot_of kind now cursors)) result
+filed-served most kind t now cursors command (Ok reply) told f v now_v c now_c p u h =
+    filed-quietly most (engine_of (slot_of kind t cursors)) (engine_of (slot_of kind now cursors)) command (reply_of reply) told f v now_v c now_c
+    (does-at kind t now cursors command (reply_of reply) p u (h.does cursors))
+    (most-at kind t cursors command _ _ _ _ p u (h.most cursors))
+    (least-at kind t cursors command _ _ _ _ p u (h.least cursors))
+filed-served most kind t now cursors command (Err error) told f v now_v c now_c p u h = record {
+  fault = false;
+  counted = leaves-filings command f;
+  part = 0;
+  state = λ files k. rw (p.no_import (slot_of kind t cursors) files) (ap (λ x. engine_of (slot_of kind x cursors)) h.stays);
+  kept = λ files k. told-told told told files refl k;
+  wanted = wants-at kind t cursors command p u (h.wanted cursors);
+  most_work = λ files k. most-at kind t cursors command _ _ _ _ p u (h.most cursors) most files false;
+}
 
 -- ---- how often the files failed
 

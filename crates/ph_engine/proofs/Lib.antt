@@ -30,3 +30,4 @@ pub mod Slotted
 pub mod Recorded
 pub mod Paged
 pub mod Lifted
+pub mod Groups

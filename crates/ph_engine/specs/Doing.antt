@@ -64,6 +64,38 @@ is_on_slot (Command.Select which) = false
 is_on_slot Command.Compare = false
 is_on_slot _ = true
 
+-- the commands of one reply that may want memory
+abbrev pub is_tried : Command → Bool
+is_tried (Command.Put p v) = true
+is_tried (Command.Del p) = true
+is_tried (Command.Relocate p q) = true
+is_tried (Command.Load name) = true
+is_tried (Command.Import name header) = true
+is_tried (Command.Export name) = true
+is_tried _ = false
+
+-- and those that want none, on one slot
+abbrev pub is_sure : Command → Bool
+is_sure (Command.Begin kind k max) = true
+is_sure (Command.Get p) = true
+is_sure Command.Count = true
+is_sure Command.Clear = true
+is_sure (Command.Cursor name lo hi) = true
+is_sure (Command.Save name) = true
+is_sure Command.Statistics = true
+is_sure _ = false
+
+-- the commands whose replies list rows
+abbrev pub lists_rows : Command → Bool
+lists_rows (Command.Window lo hi) = true
+lists_rows (Command.Page name n) = true
+lists_rows (Command.Near q n) = true
+lists_rows (Command.Within q r) = true
+lists_rows (Command.Overlap q) = true
+lists_rows (Command.Inside q) = true
+lists_rows (Command.Covers q) = true
+lists_rows _ = false
+
 -- files that are known well enough for the command: those that are told, and any where it reads none
 abbrev pub Knows : Command → Option Files → Files → Type 0
 Knows command None files = fetches command ≡ false

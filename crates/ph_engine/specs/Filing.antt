@@ -1,4 +1,4 @@
--- What commands on files do, before their replies are told.
+-- What commands of one reply do, before it is told, and those on files among them.
 use Rattle.std.specs.Prelude.{◌≡◌, ◌≤◌, ℕ, Bool, true, nat_lt, if◌then◌else◌, List, [], ◌∷◌, length, Option, Some, option_map, Result, Ok, Err}
 use Rattle.ph_io.specs.declared.files.FetchFault.{FetchFault}
 use Rattle.ph_io.specs.declared.files.FetchFault.TheVariants as unread
@@ -9,7 +9,7 @@ use Rattle.ph_specs.specs.declared.Kind.{Kind}
 use Rattle.ph_specs.specs.Load.{Fault}
 use Rattle.ph_specs.specs.Named.{Named, enter}
 use Rattle.ph_specs.specs.SavedTable.{fault_reply, read_snapshot}
-use Rattle.ph_specs.specs.State.{Engine, Files, current}
+use Rattle.ph_specs.specs.State.{Slot, Engine, Files, current}
 use Rattle.ph_specs.specs.Table.{Row}
 use Rattle.ph_specs.specs.Window.{Cursor}
 use Rattle.ph_specs.specs.Engine.{act}
@@ -48,6 +48,10 @@ FiledOr most e command told now_told filings now_filings visits now_visits chang
     Filed most e command told now_told filings now_filings visits now_visits changes now_changes now (reply_of reply)
 FiledOr most e command told now_told filings now_filings visits now_visits changes now_changes now (Err error) =
     Unfiled most e command told now_told filings now_filings visits now_visits changes now_changes now
+
+-- A command on a slot has this reply, whatever it counts of changes, of which it makes none, and however many bytes a file may have.
+pub record Replies (s : Slot) (command : Command) (told now_told : Option Files) (filings now_filings visits now_visits : ℕ) (now : Slot) (reply : Reply) : Type 0 where
+  pub filed : (most changes : ℕ) → Filed most (engine_of s) command told now_told filings now_filings visits now_visits changes changes (engine_of now) reply
 
 -- ---- a file that is written
 

@@ -64,7 +64,7 @@ fn check_file<O: Sink, F: Files, V: Ledger, C: Ledger>(
     let mut bytes = Vec::new(alloc);
     match files.fetch(file.as_str(), limits.file_bytes, &mut bytes) {
         Ok(()) => check_bytes(alloc, bytes.as_slice(), out, visits, changes),
-        Err(fault) => tell(out, &mut Text::new(), fetch_reply(fault)),
+        Err(fault) => tell(out, &mut Text::new(), &fetch_reply(fault)),
     }
 }
 
@@ -87,7 +87,7 @@ fn check_bytes<O: Sink, V: Ledger, C: Ledger>(
 {
     match read_tree(alloc, bytes, changes) {
         Ok((kind, tree)) => say_line(out, table_line(kind, &tree, visits).as_str()),
-        Err(fault) => tell(out, &mut Text::new(), fault_reply(fault)),
+        Err(fault) => tell(out, &mut Text::new(), &fault_reply(fault)),
     }
 }
 

@@ -10,7 +10,7 @@ ghost use Rattle.ph_engine.specs.Comparing.{Compares};
 ghost use Rattle.ph_engine.specs.Doing.{DoneOr};
 ghost use Rattle.ph_engine.specs.Statuses.{StopHasCause};
 
-use crate::output::tell;
+use crate::output::say;
 use crate::slot::Slot;
 use crate::status::{Answer, Limits, Stop};
 use ph_io::{Files, Sink};
@@ -128,8 +128,8 @@ impl Engine {
         ensures cause { StopHasCause (O.faults out.old) (O.faults out.new) result }
     {
         match cmd {
-            Command::Select { slot } => tell(out, text, Ok(self.select(*slot))),
-            Command::Same => tell(out, text, Ok(self.compare(visits))),
+            Command::Select { slot } => say(out, text, &self.select(*slot)),
+            Command::Same => say(out, text, &self.compare(visits)),
             _ => match self.current {
                 Which::A => self
                     .a

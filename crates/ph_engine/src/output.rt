@@ -91,13 +91,13 @@ pub(crate) fn say<const D: usize, O: Sink>(
 pub(crate) fn tell<O: Sink>(
     out: &mut O,
     text: &mut Text,
-    outcome: Result<Reply<1>, NoMemory>,
+    outcome: &Result<Reply<1>, NoMemory>,
 ) -> Result<Answer, Stop>
-    ensures told { ToldOr (taken_of (O.written out.old) (O.amount out.old)) (taken_of (O.written out.new) (O.amount out.new)) outcome result }
+    ensures told { ToldOr (taken_of (O.written out.old) (O.amount out.old)) (taken_of (O.written out.new) (O.amount out.new)) outcome.now result }
     ensures cause { StopHasCause (O.faults out.old) (O.faults out.new) result }
 {
     match outcome {
-        Ok(reply) => say(out, text, &reply),
+        Ok(reply) => say(out, text, reply),
         Err(NoMemory) => Err(Stop::NoMemory),
     }
 }

@@ -13,7 +13,8 @@ ghost use Rattle.ph_tree.specs.Stats.{stats_of};
 ghost use Rattle.ph_io.specs.Giving.{taken_of};
 ghost use Rattle.ph_engine.specs.Beside.{beside};
 ghost use Rattle.ph_engine.specs.Comparing.{IsCompared};
-ghost use Rattle.ph_engine.specs.Doing.{Begun, DoneWith, DoneOr, is_on_slot};
+ghost use Rattle.ph_engine.specs.Doing.{Begun, DoneWith, DoneOr, is_on_slot, is_sure, is_tried, lists_rows};
+ghost use Rattle.ph_engine.specs.Filing.{FiledOr, Replies};
 ghost use Rattle.ph_engine.specs.Refusing.{early_refusal, cursor_refusal};
 ghost use Rattle.ph_engine.specs.Slots.{engine_of};
 ghost use Rattle.ph_engine.specs.Statuses.{StopHasCause};
@@ -22,7 +23,7 @@ ghost use Rattle.ph_engine.specs.Working.{nodes_of};
 use crate::boxes::Question;
 use crate::cursors::{CURSORS, Held, enter, place_of};
 use crate::filing::{load_table, save_table};
-use crate::output::tell;
+use crate::output::{say, tell};
 use crate::records::{export_table, import_table};
 use crate::refusals::{has_wrong_dims, has_wrong_kind, is_out_of_range, is_reversed};
 use crate::status::{Answer, Limits, Stop};
@@ -32,7 +33,7 @@ use ph_coord::Kind;
 use ph_io::{Files, Sink};
 use ph_script::{Command, Coords, Name, Reply, Text};
 use ph_steps::Steps;
-use ph_tree::Stats;
+use ph_tree::{NoMemory, Stats};
 use std::alloc::Global;
 use std::marker::Model;
 use std::sync::ledger::Ledger;
@@ -111,24 +112,126 @@ impl Slot {
         ensures cause { StopHasCause (O.faults out.old) (O.faults out.new) result }
     {
         if let Some(reply) = self.refusal(cmd) {
-            return tell(out, text, Ok(reply));
+            return say(out, text, &reply);
         }
         match cmd {
-            Command::Begin { kind, k, max } => {
-                tell(out, text, Ok(self.begin(alloc, *kind, *k, *max)))
+            Command::Put { .. }
+            | Command::Del { .. }
+            | Command::Relocate { .. }
+            | Command::Load { .. }
+            | Command::Import { .. }
+            | Command::Export { .. } => {
+                let outcome = self.try_reply(alloc, cmd, files, limits, visits, changes);
+                tell(out, text, &outcome)
             }
-            Command::Put { at, value } => {
-                tell(out, text, self.tree.put(at, *value, visits, changes))
+            Command::Begin { .. }
+            | Command::Get { .. }
+            | Command::Count
+            | Command::Clear
+            | Command::Cursor { .. }
+            | Command::Save { .. }
+            | Command::Stats => {
+                let reply = self.reply(alloc, cmd, files, visits);
+                say(out, text, &reply)
             }
-            Command::Get { at } => tell(out, text, Ok(self.tree.get(at, visits))),
-            Command::Del { at } => tell(out, text, self.tree.del(at, visits, changes)),
-            Command::Relocate { from, to } => {
-                tell(out, text, self.tree.relocate(from, to, visits, changes))
-            }
-            Command::Count => tell(out, text, Ok(self.tree.count())),
-            Command::Clear => tell(out, text, Ok(self.tree.clear())),
+            Command::Window { .. }
+            | Command::Page { .. }
+            | Command::Near { .. }
+            | Command::Within { .. }
+            | Command::Overlap { .. }
+            | Command::Inside { .. }
+            | Command::Covers { .. } => self.list(alloc, cmd, out, text, visits),
+            Command::Select { .. } | Command::Same => unreachable!(),
+        }
+    }
+
+    // Does a command of one reply that may want memory.
+    fn try_reply<F: Files, V: Ledger, C: Ledger>(
+        &mut self,
+        alloc: Global,
+        cmd: &Command<'_>,
+        files: &mut F,
+        limits: &Limits,
+        visits: &mut Steps<V>,
+        changes: &mut Steps<C>,
+    ) -> Result<Reply<1>, NoMemory>
+        requires dims { HasDims self.old.dims cmd.now }
+        requires file { limits.now.file_bytes < 2 ^ 63 }
+        requires unrefused { early_refusal self.old (command_of cmd.now) ≡ None }
+        requires tried { is_tried (command_of cmd.now) ≡ true }
+        ensures { FiledOr limits.now.file_bytes (engine_of self.old) (command_of cmd.now) (F.files files.old) (F.files files.new) (F.faults files.old) (F.faults files.new) visits.old visits.new changes.old changes.new (engine_of self.new) result }
+    {
+        match cmd {
+            Command::Put { at, value } => self.tree.put(at, *value, visits, changes),
+            Command::Del { at } => self.tree.del(at, visits, changes),
+            Command::Relocate { from, to } => self.tree.relocate(from, to, visits, changes),
+            Command::Load { file } => load_table(
+                &mut self.tree,
+                self.kind,
+                alloc,
+                file,
+                files,
+                limits,
+                changes,
+            ),
+            Command::Import { file, header } => import_table(
+                &mut self.tree,
+                self.kind,
+                alloc,
+                file,
+                *header,
+                files,
+                limits,
+                visits,
+                changes,
+            ),
+            Command::Export { file } => export_table(&self.tree, alloc, file, files, visits),
+            _ => unreachable!(),
+        }
+    }
+
+    // Does a command of one reply that wants no memory.
+    fn reply<F: Files, V: Ledger>(
+        &mut self,
+        alloc: Global,
+        cmd: &Command<'_>,
+        files: &mut F,
+        visits: &mut Steps<V>,
+    ) -> Reply<1>
+        requires dims { HasDims self.old.dims cmd.now }
+        requires unrefused { early_refusal self.old (command_of cmd.now) ≡ None }
+        requires sure { is_sure (command_of cmd.now) ≡ true }
+        ensures { Replies self.old (command_of cmd.now) (F.files files.old) (F.files files.new) (F.faults files.old) (F.faults files.new) visits.old visits.new self.new (reply_of result) }
+    {
+        match cmd {
+            Command::Begin { kind, k, max } => self.begin(alloc, *kind, *k, *max),
+            Command::Get { at } => self.tree.get(at, visits),
+            Command::Count => self.tree.count(),
+            Command::Clear => self.tree.clear(),
+            Command::Cursor { name, lo, hi } => self.set_cursor(name, lo, hi),
+            Command::Save { file } => save_table(&self.tree, self.kind, file, files, visits),
+            Command::Stats => self.tree.stats(visits),
+            _ => unreachable!(),
+        }
+    }
+
+    // Does a command that lists rows.
+    fn list<O: Sink, V: Ledger>(
+        &mut self,
+        alloc: Global,
+        cmd: &Command<'_>,
+        out: &mut O,
+        text: &mut Text,
+        visits: &mut Steps<V>,
+    ) -> Result<Answer, Stop>
+        requires dims { HasDims self.old.dims cmd.now }
+        requires unrefused { early_refusal self.old (command_of cmd.now) ≡ None }
+        requires lists { lists_rows (command_of cmd.now) ≡ true }
+        ensures done { DoneWith self.old (command_of cmd.now) (taken_of (O.written out.old) (O.amount out.old)) (taken_of (O.written out.new) (O.amount out.new)) visits.old visits.new self.new result }
+        ensures cause { StopHasCause (O.faults out.old) (O.faults out.new) result }
+    {
+        match cmd {
             Command::Window { lo, hi } => self.tree.list_window(lo, hi, out, text, visits),
-            Command::Cursor { name, lo, hi } => tell(out, text, Ok(self.set_cursor(name, lo, hi))),
             Command::Page { name, n } => self.page(name, *n, out, text, visits),
             Command::Near { q, n } => self.tree.list_near(alloc, q, *n, out, text, visits),
             Command::Within { q, r } => self.tree.list_ball(q, *r, out, text, visits),
@@ -144,42 +247,7 @@ impl Slot {
                 self.tree
                     .list_boxes(Question::Covers, bounds, out, text, visits)
             }
-            Command::Save { file } => {
-                let reply = save_table(&self.tree, self.kind, file, files, visits);
-                tell(out, text, Ok(reply))
-            }
-            Command::Load { file } => {
-                let outcome = load_table(
-                    &mut self.tree,
-                    self.kind,
-                    alloc,
-                    file,
-                    files,
-                    limits,
-                    changes,
-                );
-                tell(out, text, outcome)
-            }
-            Command::Stats => tell(out, text, Ok(self.tree.stats(visits))),
-            Command::Import { file, header } => {
-                let outcome = import_table(
-                    &mut self.tree,
-                    self.kind,
-                    alloc,
-                    file,
-                    *header,
-                    files,
-                    limits,
-                    visits,
-                    changes,
-                );
-                tell(out, text, outcome)
-            }
-            Command::Export { file } => {
-                let outcome = export_table(&self.tree, alloc, file, files, visits);
-                tell(out, text, outcome)
-            }
-            Command::Select { .. } | Command::Same => unreachable!(),
+            _ => unreachable!(),
         }
     }
 

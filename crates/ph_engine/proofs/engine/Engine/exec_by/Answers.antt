@@ -1,15 +1,15 @@
 use Rattle.ph_script.specs.Meaning.{command_of}
-use Rattle.ph_engine.proofs.Commanded.{select-done, compare-done}
+use Rattle.ph_engine.proofs.Commanded.{select-done, compare-done, tells-said}
 use Rattle.ph_engine.proofs.Lifted.{done-at-a, done-at-b, on-slot}
 use Rattle.ph_engine.proofs.engine.Engine.exec_by.Goals as goal
 
 pub returns-in-Select-clause-done : goal.returns-in-Select-clause-done
 returns-in-Select-clause-done g c =
-    rw c.in-Select.is (select-done c.args.limits.now.file_bytes c.args.self.now c.select.new.self c.in-Select.slot c.select.result _ _ (g.F.Files.files c.args.files.now) (g.F.Files.faults c.args.files.now) c.args.visits.now c.args.changes.now c.tell.result c.select.ensures.engine c.select.ensures.reply c.tell.ensures.told)
+    rw c.in-Select.is (select-done c.args.limits.now.file_bytes c.args.self.now c.select.new.self c.in-Select.slot c.select.result _ _ (g.F.Files.files c.args.files.now) (g.F.Files.faults c.args.files.now) c.args.visits.now c.args.changes.now c.say.result c.select.ensures.engine c.select.ensures.reply (tells-said _ _ c.select.result c.say.result c.say.ensures.answer c.say.ensures.told c.say.ensures.err c.say.ensures.front))
 
 pub returns-in-Same-clause-done : goal.returns-in-Same-clause-done
 returns-in-Same-clause-done g c =
-    rw c.in-Same.is (compare-done c.args.limits.now.file_bytes c.args.self.now c.compare.result _ _ (g.F.Files.files c.args.files.now) (g.F.Files.faults c.args.files.now) c.args.visits.now c.compare.new.visits c.args.changes.now c.tell-in-Same.result c.compare.ensures c.tell-in-Same.ensures.told)
+    rw c.in-Same.is (compare-done c.args.limits.now.file_bytes c.args.self.now c.compare.result _ _ (g.F.Files.files c.args.files.now) (g.F.Files.faults c.args.files.now) c.args.visits.now c.compare.new.visits c.args.changes.now c.say-in-Same.result c.compare.ensures (tells-said _ _ c.compare.result c.say-in-Same.result c.say-in-Same.ensures.answer c.say-in-Same.ensures.told c.say-in-Same.ensures.err c.say-in-Same.ensures.front))
 
 pub returns-in-A-clause-done : goal.returns-in-A-clause-done
 returns-in-A-clause-done g c =
