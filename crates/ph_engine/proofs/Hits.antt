@@ -2,21 +2,19 @@
 use Rattle.std.proofs.Common.{◌≡◌, ◌<◌, ◌≤◌, ◌+◌, ℕ, List, [], ◌∷◌, ◌++◌, length, map, drop, get_or, refl, ap, sym, ◌∙◌, subst, arith}
 use Rattle.std.specs.Prelude.{ℤ, nat_le, Result, Ok, Err}
 use Rattle.std.proofs.lemmas.List.{length-map, drop_more}
-use Rattle.ph_io.specs.Giving.{Taken, Given}
+use Rattle.ph_io.specs.Giving.{Taken}
 use Rattle.ph_specs.specs.Distance.{near, within, distance}
 use Rattle.ph_specs.specs.Engine.{hit_listing}
-use Rattle.ph_specs.specs.Reply.{Reply, reply_text, replies_text}
+use Rattle.ph_specs.specs.Reply.{Reply}
 use Rattle.ph_specs.specs.Table.{Row}
 use Rattle.ph_specs.specs.WorkSets.{ball}
 use Rattle.ph_table.specs.Hits.{TableHit, hits_of}
 use Rattle.ph_engine.specs.Listing.{hit_said, hit_replies, Lists, ListsNear, ListsBall, reached}
 use Rattle.ph_engine.specs.Slots.{AnyTable}
-use Rattle.ph_io.specs.Writing.{WritesFront}
 use Rattle.ph_engine.specs.declared.status.Answer.{Answer}
 use Rattle.ph_engine.specs.declared.status.Stop.{Stop}
 use Rattle.ph_engine.specs.declared.status.Stop.TheVariants.{WriteFault, NoMemory}
-use Rattle.ph_engine.proofs.Listed.{item-given, item-front, few-filtered}
-use Rattle.ph_engine.proofs.Replies.{IsGiven}
+use Rattle.ph_engine.proofs.Listed.{few-filtered}
 
 said-of : (q : List ℤ) (rows : List Row) → map hit_said (hits_of q rows) ≡ map (λ r. Reply.HitIs (distance r.point q) r) rows
 said-of q [] = refl
@@ -27,13 +25,6 @@ pub replies-of : (q : List ℤ) (rows : List Row) → hit_replies (hits_of q row
 replies-of q rows =
     ap (λ rs. rs ++ Reply.End (length (hits_of q rows)) ∷ []) (said-of q rows)
     ∙ ap (λ n. map (λ r. Reply.HitIs (distance r.point q) r) rows ++ Reply.End n ∷ []) (length-map rows (λ r. record { row = r; distance = distance r.point q }))
-
--- one was said, or a front of it
-pub hit-given : (all tail : List Reply) (hits next : List TableHit) (h : TableHit) (said : Reply) (a b c : Taken) → IsGiven all (map hit_said hits ++ tail) a b → hits ≡ h ∷ next → said ≡ hit_said h → Given b c (reply_text said) → IsGiven all (map hit_said next ++ tail) a c
-hit-given all tail hits next h said a b c given e is told = item-given hit_said all tail hits next h a b c given e (subst (λ r. Given b c (reply_text r)) is told)
-
-pub hit-front : (all tail : List Reply) (hits next : List TableHit) (h : TableHit) (said : Reply) (a b c : Taken) → IsGiven all (map hit_said hits ++ tail) a b → hits ≡ h ∷ next → said ≡ hit_said h → WritesFront b c (reply_text said) → WritesFront a c (replies_text all)
-hit-front all tail hits next h said a b c given e is told = item-front hit_said all tail hits next h a b c given e (subst (λ r. WritesFront b c (reply_text r)) is told)
 
 -- what is left of hits from a place on
 pub hits-left : (hits : List TableHit) (i : ℕ) (h : TableHit) → i < length hits → h ≡ get_or hits i h → drop i hits ≡ h ∷ drop (i + 1) hits

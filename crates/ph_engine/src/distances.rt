@@ -3,13 +3,13 @@ ghost use Rattle.std.specs.Prelude.{◌≡◌, ◌≤◌, true, length};
 ghost use Rattle.std.specs.List.{list_all};
 ghost use Rattle.ph_specs.specs.Coordinate.{fits};
 ghost use Rattle.ph_io.specs.Giving.{taken_of};
-ghost use Rattle.ph_script.specs.Meaning.{numbers_of, reply_of};
-ghost use Rattle.ph_engine.specs.Listing.{hit_said, hit_replies, Lists, ListsNear, ListsBall};
+ghost use Rattle.ph_script.specs.Meaning.{numbers_of};
+ghost use Rattle.ph_engine.specs.Listing.{hit_replies, Lists, ListsNear, ListsBall};
 ghost use Rattle.ph_engine.specs.Slots.{table_at};
 ghost use Rattle.ph_engine.specs.Statuses.{StopHasCause};
 
 use crate::commands::point_at;
-use crate::output::say;
+use crate::output::{say, say_hit};
 use crate::status::{Answer, Stop};
 use ph_io::Sink;
 use ph_near::{Ball, Hit, nearest};
@@ -51,7 +51,7 @@ fn list_hits<const D: usize, O: Sink>(
     ensures cause { StopHasCause (O.faults out.old) (O.faults out.new) result }
 {
     for hit in hits {
-        say(out, text, &hit_reply(hit))?;
+        say_hit(out, text, hit)?;
     }
     say(out, text, &Reply::<D>::End(hits.len() as u128))
 }
@@ -76,17 +76,8 @@ pub(crate) fn list_ball<const D: usize, O: Sink, V: Ledger>(
     let mut ball = Ball::new(tree, point_at(tree.width(), q), r);
     let mut count = 0u128;
     'hits: while let Some(hit) = ball.next(visits) {
-        say(out, text, &hit_reply(&hit))?;
+        say_hit(out, text, &hit)?;
         count += 1;
     }
     say(out, text, &Reply::<D>::End(count))
-}
-
-fn hit_reply<const D: usize>(hit: &Hit<D>) -> Reply<D>
-    ensures { reply_of result ≡ hit_said hit.now }
-{
-    Reply::HitIs {
-        distance: hit.distance,
-        row: hit.row,
-    }
 }

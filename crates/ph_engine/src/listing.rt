@@ -11,7 +11,7 @@ ghost use Rattle.ph_engine.specs.Slots.{table_at};
 ghost use Rattle.ph_engine.specs.Statuses.{StopHasCause};
 
 use crate::commands::point_at;
-use crate::output::say;
+use crate::output::{say, say_row};
 use crate::status::{Answer, Stop};
 use ph_coord::Point;
 use ph_io::Sink;
@@ -62,7 +62,7 @@ pub(crate) fn list_between<const D: usize, O: Sink, V: Ledger>(
     let mut window = Window::new(tree, lo, hi);
     let mut count = 0u128;
     'rows: while let Some(row) = window.next(visits) {
-        say(out, text, &Reply::RowIs(row))?;
+        say_row(out, text, &row)?;
         count += 1;
     }
     say(out, text, &Reply::<D>::End(count))
@@ -89,7 +89,7 @@ pub(crate) fn list_page<const D: usize, O: Sink, V: Ledger>(
     let mut page = cursor.page(tree, n, visits);
     let mut count = 0u32;
     'rows: while let Some(row) = page.next(visits) {
-        say(out, text, &Reply::RowIs(row))?;
+        say_row(out, text, &row)?;
         count += 1;
     }
     let behind = page.cursor();

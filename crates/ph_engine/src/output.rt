@@ -1,17 +1,20 @@
 //! Replies, and the sink that takes their texts.
 ghost use Rattle.std.specs.Prelude.{◌≡◌, ◌≤◌, IfOk, IfErr, OnOk, OnErr};
 ghost use Rattle.ph_io.specs.Giving.{Given, taken_of};
-ghost use Rattle.ph_specs.specs.Reply.{reply_text as text_of};
+ghost use Rattle.ph_specs.specs.Reply.{Reply as Replied, reply_text as text_of};
 ghost use Rattle.ph_script.specs.Meaning.{reply_of};
 ghost use Rattle.ph_engine.specs.Machine.{is_refusal};
 ghost use Rattle.ph_engine.specs.Doing.{refuses};
+ghost use Rattle.ph_engine.specs.Listing.{hit_said};
 ghost use Rattle.ph_engine.specs.Statuses.{StopHasCause};
 ghost use Rattle.ph_engine.specs.Telling.{ToldOr};
 ghost use Rattle.ph_io.specs.Writing.{WritesFront};
 
 use crate::status::{Answer, Stop};
+use ph_coord::Row;
 use ph_io::{Failed, Sink, write_piece};
-use ph_script::{Reply, Text, write_text};
+use ph_near::Hit;
+use ph_script::{Reply, Text, write_hit, write_row, write_text};
 use ph_tree::NoMemory;
 
 fn answer_of<const D: usize>(reply: &Reply<D>) -> Answer
@@ -81,8 +84,53 @@ pub(crate) fn say<const D: usize, O: Sink>(
     ensures cause { StopHasCause (O.faults out.old) (O.faults out.new) result }
 {
     write_text(text, reply);
-    match write_piece(out, text.as_str().as_bytes()) {
+    match send(out, text) {
         Ok(()) => Ok(answer_of(reply)),
+        Err(stop) => Err(stop),
+    }
+}
+
+// Gives a row to the sink, as the reply that it is.
+pub(crate) fn say_row<const D: usize, O: Sink>(
+    out: &mut O,
+    text: &mut Text,
+    row: &Row<D>,
+) -> Result<(), Stop>
+    requires { D ≤ 16 }
+    ensures told { OnOk result (Given (taken_of (O.written out.old) (O.amount out.old)) (taken_of (O.written out.new) (O.amount out.new)) (text_of (Replied.RowIs row.now))) }
+    ensures err { IfErr result (λ stop. stop ≡ Stop.WriteFault) }
+    ensures front { OnErr result (WritesFront (taken_of (O.written out.old) (O.amount out.old)) (taken_of (O.written out.new) (O.amount out.new)) (text_of (Replied.RowIs row.now))) }
+    ensures cause { StopHasCause (O.faults out.old) (O.faults out.new) result }
+{
+    write_row(text, row);
+    send(out, text)
+}
+
+// Gives a row with its distance to the sink.
+pub(crate) fn say_hit<const D: usize, O: Sink>(
+    out: &mut O,
+    text: &mut Text,
+    hit: &Hit<D>,
+) -> Result<(), Stop>
+    requires { D ≤ 16 }
+    ensures told { OnOk result (Given (taken_of (O.written out.old) (O.amount out.old)) (taken_of (O.written out.new) (O.amount out.new)) (text_of (hit_said hit.now))) }
+    ensures err { IfErr result (λ stop. stop ≡ Stop.WriteFault) }
+    ensures front { OnErr result (WritesFront (taken_of (O.written out.old) (O.amount out.old)) (taken_of (O.written out.new) (O.amount out.new)) (text_of (hit_said hit.now))) }
+    ensures cause { StopHasCause (O.faults out.old) (O.faults out.new) result }
+{
+    write_hit(text, hit.distance, &hit.row);
+    send(out, text)
+}
+
+// Gives a line to the sink.
+fn send<O: Sink>(out: &mut O, text: &Text) -> Result<(), Stop>
+    ensures told { OnOk result (Given (taken_of (O.written out.old) (O.amount out.old)) (taken_of (O.written out.new) (O.amount out.new)) text.now) }
+    ensures err { IfErr result (λ stop. stop ≡ Stop.WriteFault) }
+    ensures front { OnErr result (WritesFront (taken_of (O.written out.old) (O.amount out.old)) (taken_of (O.written out.new) (O.amount out.new)) text.now) }
+    ensures cause { StopHasCause (O.faults out.old) (O.faults out.new) result }
+{
+    match write_piece(out, text.as_str().as_bytes()) {
+        Ok(()) => Ok(()),
         Err(Failed) => Err(Stop::WriteFault),
     }
 }

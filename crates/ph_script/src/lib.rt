@@ -28,4 +28,4 @@ pub use name::Name;
 pub use ph_specs::Which;
 pub use read::read_command;
 pub use reply::Reply;
-pub use text::{Text, reply_text, write_text};
+pub use text::{Text, reply_text, write_hit, write_row, write_text};

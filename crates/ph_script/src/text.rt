@@ -1,6 +1,6 @@
 //! The texts of replies.
 ghost use Rattle.std.specs.Prelude.{◌≡◌, ◌≤◌, ◌+◌, ◌∷◌, [], ◌++◌, length, codes, decimal};
-ghost use Rattle.ph_specs.specs.Reply.{reply_text as text_of_reply, row_words, stats_words, line_of};
+ghost use Rattle.ph_specs.specs.Reply.{Reply as Replied, reply_text as text_of_reply, row_words, stats_words, line_of};
 ghost use Rattle.ph_script.specs.Meaning.{reply_of};
 ghost use Rattle.ph_script.specs.RowNumbers.{numbers_line};
 
@@ -121,6 +121,24 @@ pub fn write_text<const D: usize>(text: &mut Text, reply: &Reply<D>)
         Reply::BadRange(number) => push_record(line, *number, "range"),
         Reply::BadReversed(number) => push_record(line, *number, "reversed"),
     }
+}
+
+/// Makes a text the line of a row that was found, as `write_text` does by the reply `RowIs`.
+pub fn write_row<const D: usize>(text: &mut Text, row: &Row<D>)
+    requires { D ≤ 16 }
+    ensures { text.new ≡ text_of_reply (Replied.RowIs row.now) }
+{
+    text.line.clear();
+    push_row(&mut text.line, row);
+}
+
+/// Makes a text the line of a row with its distance, as `write_text` does by the reply `HitIs`.
+pub fn write_hit<const D: usize>(text: &mut Text, distance: u128, row: &Row<D>)
+    requires { D ≤ 16 }
+    ensures { text.new ≡ text_of_reply (Replied.HitIs distance row.now) }
+{
+    text.line.clear();
+    push_hit(&mut text.line, distance, row);
 }
 
 // A word, a number and a line feed.

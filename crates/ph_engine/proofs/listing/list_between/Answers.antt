@@ -17,8 +17,8 @@ pub rows-preserved : goal.rows-preserved
 rows-preserved g c =
     let e = next-is c.rows.window.rows c.next.new.self.rows c.in-Some.row c.in-Some.ensures.row c.next.ensures.rest in
     record {
-      later = omega (arith, c.rows.invariant.later, c.in_ok-say.ensures.cause.later);
-      given = item-given Reply.RowIs _ _ c.rows.window.rows c.next.new.self.rows c.in-Some.row _ _ _ c.rows.invariant.given e c.in_ok-say.ensures.told;
+      later = omega (arith, c.rows.invariant.later, c.in_ok-say_row.ensures.cause.later);
+      given = item-given Reply.RowIs _ _ c.rows.window.rows c.next.new.self.rows c.in-Some.row _ _ _ c.rows.invariant.given e c.in_ok-say_row.ensures.told;
       counted = omega (arith, c.rows.invariant.counted, ap (λ rs. length rs) e);
       cost = c.next.ensures.cost ∙ c.rows.invariant.cost;
     }
@@ -30,14 +30,14 @@ overflow_add-count g c =
     let all = ap (λ rs. length rs) c.new-window.ensures.rows in
     omega (arith, c.rows.invariant.counted, ap (λ rs. length rs) e, few, all, c.len-len.ensures.value, c.len-len.type_inv)
 
-pub returns-in_err-say-clause-lists : goal.returns-in_err-say-clause-lists
-returns-in_err-say-clause-lists g c =
+pub returns-in_err-say_row-clause-lists : goal.returns-in_err-say_row-clause-lists
+returns-in_err-say_row-clause-lists g c =
     let e = next-is c.rows.window.rows c.next.new.self.rows c.in-Some.row c.in-Some.ensures.row c.next.ensures.rest in
     let is = err_from_is_err_and c.from_residual.result c.from_residual.ensures.1 in
     rw (is.1, is.2)
     (record {
-      front = rw (← c.new-window.ensures.rows) (item-front Reply.RowIs _ _ c.rows.window.rows c.next.new.self.rows c.in-Some.row _ _ _ c.rows.invariant.given e c.in_err-say.ensures.front);
-      fault = c.in_err-say.ensures.err;
+      front = rw (← c.new-window.ensures.rows) (item-front Reply.RowIs _ _ c.rows.window.rows c.next.new.self.rows c.in-Some.row _ _ _ c.rows.invariant.given e c.in_err-say_row.ensures.front);
+      fault = c.in_err-say_row.ensures.err;
       visited = omega (arith, c.rows.invariant.cost, c.next.ensures.cost, c.new-window.ensures.visits);
     })
 
@@ -46,6 +46,6 @@ returns-clause-lists g c =
     let none = none-left c.rows.window.rows c.in_default.ensures.row in
     let n = c.new-window.result.visits in
     rw (← c.new-window.ensures.rows, ← c.new-window.ensures.visits)
-    (items-said Reply.RowIs c.new-window.result.rows c.rows.window.rows (length c.new-window.result.rows) c.rows.count n n c.args.visits.now c.next.new.visits _ _ _ c.say-2.result
-    c.rows.invariant.given none (omega (arith, c.rows.invariant.counted, ap (λ rs. length rs) none)) c.say-2.ensures.answer c.say-2.ensures.told c.say-2.ensures.err c.say-2.ensures.front
+    (items-said Reply.RowIs c.new-window.result.rows c.rows.window.rows (length c.new-window.result.rows) c.rows.count n n c.args.visits.now c.next.new.visits _ _ _ c.say.result
+    c.rows.invariant.given none (omega (arith, c.rows.invariant.counted, ap (λ rs. length rs) none)) c.say.ensures.answer c.say.ensures.told c.say.ensures.err c.say.ensures.front
     (omega (arith, c.rows.invariant.cost, c.next.ensures.cost, c.in_default.ensures.end refl)) (omega (arith, c.rows.invariant.cost, c.next.ensures.cost, c.in_default.ensures.end refl)))

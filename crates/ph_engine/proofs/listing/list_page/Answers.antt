@@ -34,8 +34,8 @@ rows-preserved g c =
     let goes = c.in-Some.ensures.goes in
     let e = page-step old.rows new.rows old.left new.left c.in-Some.row goes.0 goes.1 in
     record {
-      later = omega (arith, c.rows.invariant.later, c.in_ok-say.ensures.cause.later);
-      given = λ tail. item-given Reply.RowIs _ tail (take old.left old.rows) (take new.left new.rows) c.in-Some.row _ _ _ (c.rows.invariant.given tail) e c.in_ok-say.ensures.told;
+      later = omega (arith, c.rows.invariant.later, c.in_ok-say_row.ensures.cause.later);
+      given = λ tail. item-given Reply.RowIs _ tail (take old.left old.rows) (take new.left new.rows) c.in-Some.row _ _ _ (c.rows.invariant.given tail) e c.in_ok-say_row.ensures.told;
       counted = omega (arith, c.rows.invariant.counted, ap (λ rs. length rs) e);
       behind = sym (page-rest old.rows new.rows old.left new.left c.in-Some.row goes.0 goes.1) ∙ c.rows.invariant.behind;
       lo = ap (λ x. x.lo) goes.2 ∙ c.rows.invariant.lo;
@@ -45,8 +45,8 @@ rows-preserved g c =
       cost = c.next.ensures.cost ∙ c.rows.invariant.cost;
     }
 
-pub returns-in_err-say-clause-lists : goal.returns-in_err-say-clause-lists
-returns-in_err-say-clause-lists g c =
+pub returns-in_err-say_row-clause-lists : goal.returns-in_err-say_row-clause-lists
+returns-in_err-say_row-clause-lists g c =
     let t = table_at g.row.D c.args.tree.now in
     let cursor = c.args.cursor.now in
     let first = c.page-page.result in
@@ -61,9 +61,9 @@ returns-in_err-say-clause-lists g c =
     let is = err_from_is_err_and c.from_residual.result c.from_residual.ensures.1 in
     rw (is.1, is.2)
     (record {
-      front = subst (λ rs. WritesFront (taken_of (g.O.Sink.written c.args.out.now) (g.O.Sink.amount c.args.out.now)) (taken_of (g.O.Sink.written c.say.new.out) (g.O.Sink.amount c.say.new.out)) (replies_text (row_replies rs ++ tail))) whole
-          (item-front Reply.RowIs _ tail (take old.left old.rows) (take new.left new.rows) c.in-Some.row _ _ _ (c.rows.invariant.given tail) e c.in_err-say.ensures.front);
-      fault = c.in_err-say.ensures.err;
+      front = subst (λ rs. WritesFront (taken_of (g.O.Sink.written c.args.out.now) (g.O.Sink.amount c.args.out.now)) (taken_of (g.O.Sink.written c.say_row.new.out) (g.O.Sink.amount c.say_row.new.out)) (replies_text (row_replies rs ++ tail))) whole
+          (item-front Reply.RowIs _ tail (take old.left old.rows) (take new.left new.rows) c.in-Some.row _ _ _ (c.rows.invariant.given tail) e c.in_err-say_row.ensures.front);
+      fault = c.in_err-say_row.ensures.err;
       visited = omega (arith, c.rows.invariant.cost, c.next.ensures.cost, few, c.page-page.ensures.cost);
     })
 
@@ -78,7 +78,7 @@ returns-clause-lists g c =
     let few : first.visits ≤ met t cursor.lo cursor.hi = c.page-page.ensures.visits in
     let none = none-left (take old.left old.rows) c.in_default.ensures.row in
     let more = more-by c.tail.result (old.rows ≡ [] → ⊥) (subst (λ rs. (c.tail.result ≡ More) ↔ (rs ≡ [] → ⊥)) same.0 c.tail.ensures.more) in
-    page-said t cursor c.args.n first.rows old.rows old.left c.rows.count c.args.visits.now c.tail.new.visits (is_more c.tail.result) c.cursor-behind.result (taken_of (g.O.Sink.written c.args.out.now) (g.O.Sink.amount c.args.out.now)) (taken_of (g.O.Sink.written c.rows.out) (g.O.Sink.amount c.rows.out)) (taken_of (g.O.Sink.written c.say-2.new.out) (g.O.Sink.amount c.say-2.new.out)) c.page-page.ensures.rows
+    page-said t cursor c.args.n first.rows old.rows old.left c.rows.count c.args.visits.now c.tail.new.visits (is_more c.tail.result) c.cursor-behind.result (taken_of (g.O.Sink.written c.args.out.now) (g.O.Sink.amount c.args.out.now)) (taken_of (g.O.Sink.written c.rows.out) (g.O.Sink.amount c.rows.out)) (taken_of (g.O.Sink.written c.say.new.out) (g.O.Sink.amount c.say.new.out)) c.page-page.ensures.rows
     (λ tail. rw (← n) (c.rows.invariant.given tail))
     none
     (c.rows.invariant.behind ∙ ap (λ k. drop k first.rows) n)
@@ -91,10 +91,10 @@ returns-clause-lists g c =
     (and_parts _ _ (and_parts _ _ c.root-root.ensures.table).1).0
     (omega (arith, c.page-page.ensures.grows, c.rows.invariant.grows, c.next.ensures.grows, c.tail.ensures.grows))
     (omega (arith, c.rows.invariant.cost, c.next.ensures.cost, c.tail.ensures.cost, few, c.page-page.ensures.cost))
-    (rw (← c.page_end.ensures) c.in_ok-say-2.ensures.told)
+    (rw (← c.page_end.ensures) c.in_ok-say.ensures.told)
 
-pub returns-in_err-say-2-clause-lists : goal.returns-in_err-say-2-clause-lists
-returns-in_err-say-2-clause-lists g c =
+pub returns-in_err-say-clause-lists : goal.returns-in_err-say-clause-lists
+returns-in_err-say-clause-lists g c =
     let t = table_at g.row.D c.args.tree.now in
     let cursor = c.args.cursor.now in
     let first = c.page-page.result in
@@ -104,16 +104,16 @@ returns-in_err-say-2-clause-lists g c =
     let few : first.visits ≤ met t cursor.lo cursor.hi = c.page-page.ensures.visits in
     let none = none-left (take old.left old.rows) c.in_default.ensures.row in
     let more = more-by c.tail.result (old.rows ≡ [] → ⊥) (subst (λ rs. (c.tail.result ≡ More) ↔ (rs ≡ [] → ⊥)) same.0 c.tail.ensures.more) in
-    let is = err_from_is_err_and c.from_residual-in_err-say-2.result c.from_residual-in_err-say-2.ensures.1 in
+    let is = err_from_is_err_and c.from_residual-in_err-say.result c.from_residual-in_err-say.ensures.1 in
     rw (is.1, is.2)
     (record {
-      front = page-cut t cursor c.args.n first.rows old.rows old.left c.rows.count (is_more c.tail.result) (taken_of (g.O.Sink.written c.args.out.now) (g.O.Sink.amount c.args.out.now)) (taken_of (g.O.Sink.written c.rows.out) (g.O.Sink.amount c.rows.out)) (taken_of (g.O.Sink.written c.say-2.new.out) (g.O.Sink.amount c.say-2.new.out)) c.page-page.ensures.rows
+      front = page-cut t cursor c.args.n first.rows old.rows old.left c.rows.count (is_more c.tail.result) (taken_of (g.O.Sink.written c.args.out.now) (g.O.Sink.amount c.args.out.now)) (taken_of (g.O.Sink.written c.rows.out) (g.O.Sink.amount c.rows.out)) (taken_of (g.O.Sink.written c.say.new.out) (g.O.Sink.amount c.say.new.out)) c.page-page.ensures.rows
           (λ tail. rw (← n) (c.rows.invariant.given tail))
           none
           (c.rows.invariant.behind ∙ ap (λ k. drop k first.rows) n)
           (rw (← n) (omega (arith, c.rows.invariant.counted, ap (λ rs. length rs) none)))
           more
-          (rw (← c.page_end.ensures) c.in_err-say-2.ensures.front);
-      fault = c.in_err-say-2.ensures.err;
+          (rw (← c.page_end.ensures) c.in_err-say.ensures.front);
+      fault = c.in_err-say.ensures.err;
       visited = omega (arith, c.rows.invariant.cost, c.next.ensures.cost, c.tail.ensures.cost, few, c.page-page.ensures.cost);
     })
