@@ -12,6 +12,7 @@ pub mod Naming
 pub mod Slots
 pub mod Comparing
 pub mod Refusing
+pub mod Causes
 pub mod Listing
 pub mod Doing
 pub mod Drafting

@@ -3,11 +3,39 @@ ghost use Rattle.std.specs.Prelude.{◌≡◌, length};
 ghost use Rattle.std.specs.List.{list_all};
 ghost use Rattle.ph_specs.specs.Coordinate.{at_most, fits, is_box};
 ghost use Rattle.ph_specs.specs.Refusals.{has_wrong_dims as asks_wrong_dims, has_wrong_kind as asks_wrong_kind};
-ghost use Rattle.ph_script.specs.Meaning.{command_of, number_of_coord, numbers_of};
+ghost use Rattle.ph_script.specs.Meaning.{command_of, number_of_coord, numbers_of, reply_of};
+ghost use Rattle.ph_engine.specs.Causes.{refusal_reply};
 ghost use Rattle.ph_engine.specs.Refusing.{names_points_outside, names_reversed};
 
 use ph_coord::{Kind, Width};
-use ph_script::{Command, Coord, Coords};
+use ph_script::{Command, Coord, Coords, Reply};
+
+// Why a slot refuses a command. It takes a byte, where a reply takes a hundred.
+#[derive(Clone, Copy)]
+pub(crate) enum Refusal {
+    Dims,
+    Kind,
+    Range,
+    Reversed,
+    Cursor,
+    Cursors,
+}
+
+impl Refusal {
+    // What is replied.
+    pub(crate) fn reply(self) -> Reply<1>
+        ensures { reply_of result ≡ refusal_reply self }
+    {
+        match self {
+            Refusal::Dims => Reply::ErrorDims,
+            Refusal::Kind => Reply::ErrorKind,
+            Refusal::Range => Reply::ErrorRange,
+            Refusal::Reversed => Reply::ErrorReversed,
+            Refusal::Cursor => Reply::ErrorCursor,
+            Refusal::Cursors => Reply::ErrorCursors,
+        }
+    }
+}
 
 // Whether the command opens a slot with a number of dimensions that none has.
 pub(crate) fn has_wrong_dims(cmd: &Command<'_>) -> bool

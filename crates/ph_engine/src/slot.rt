@@ -12,6 +12,7 @@ ghost use Rattle.ph_script.specs.Fit.{HasDims};
 ghost use Rattle.ph_tree.specs.Stats.{stats_of};
 ghost use Rattle.ph_io.specs.Giving.{taken_of};
 ghost use Rattle.ph_engine.specs.Beside.{beside};
+ghost use Rattle.ph_engine.specs.Causes.{refusal_reply};
 ghost use Rattle.ph_engine.specs.Comparing.{IsCompared};
 ghost use Rattle.ph_engine.specs.Doing.{Begun, DoneWith, DoneOr, is_on_slot, is_sure, is_tried, lists_rows};
 ghost use Rattle.ph_engine.specs.Filing.{FiledOr, Replies};
@@ -25,7 +26,7 @@ use crate::cursors::{CURSORS, Held, enter, place_of};
 use crate::filing::{load_table, save_table};
 use crate::output::{say, tell};
 use crate::records::{export_table, import_table};
-use crate::refusals::{has_wrong_dims, has_wrong_kind, is_out_of_range, is_reversed};
+use crate::refusals::{Refusal, has_wrong_dims, has_wrong_kind, is_out_of_range, is_reversed};
 use crate::status::{Answer, Limits, Stop};
 use crate::trees::{AnyTree, width};
 use arrayvec::ArrayVec;
@@ -111,8 +112,8 @@ impl Slot {
         ensures done { DoneOr limits.now.file_bytes (engine_of self.old) (command_of cmd.now) (beside (O.written out.old) (O.amount out.old) (F.files files.old) (F.faults files.old) visits.old changes.old) (beside (O.written out.new) (O.amount out.new) (F.files files.new) (F.faults files.new) visits.new changes.new) (engine_of self.new) result }
         ensures cause { StopHasCause (O.faults out.old) (O.faults out.new) result }
     {
-        if let Some(reply) = self.refusal(cmd) {
-            return say(out, text, &reply);
+        if let Some(refusal) = self.refusal(cmd) {
+            return say(out, text, &refusal.reply());
         }
         match cmd {
             Command::Put { .. }
@@ -252,35 +253,35 @@ impl Slot {
     }
 
     // Why it refuses a command, where that is told without files: the first cause in the order of causes.
-    fn refusal(&self, cmd: &Command<'_>) -> Option<Reply<1>>
-        ensures { option_map reply_of result ≡ early_refusal self.now (command_of cmd.now) }
+    fn refusal(&self, cmd: &Command<'_>) -> Option<Refusal>
+        ensures { option_map refusal_reply result ≡ early_refusal self.now (command_of cmd.now) }
     {
         // A use that makes known what a slot keeps.
         let _tree = &self.tree;
         if has_wrong_dims(cmd) {
-            return Some(Reply::ErrorDims);
+            return Some(Refusal::Dims);
         }
         if has_wrong_kind(self.kind, cmd) {
-            return Some(Reply::ErrorKind);
+            return Some(Refusal::Kind);
         }
         if is_out_of_range(width(), cmd) {
-            return Some(Reply::ErrorRange);
+            return Some(Refusal::Range);
         }
         if is_reversed(self.kind, cmd) {
-            return Some(Reply::ErrorReversed);
+            return Some(Refusal::Reversed);
         }
         self.cursor_refusal(cmd)
     }
 
     // The same of the causes that are about cursors, which come behind the others.
-    fn cursor_refusal(&self, cmd: &Command<'_>) -> Option<Reply<1>>
-        ensures { option_map reply_of result ≡ cursor_refusal self.now (command_of cmd.now) }
+    fn cursor_refusal(&self, cmd: &Command<'_>) -> Option<Refusal>
+        ensures { option_map refusal_reply result ≡ cursor_refusal self.now (command_of cmd.now) }
     {
         if self.lacks_cursor(cmd) {
-            return Some(Reply::ErrorCursor);
+            return Some(Refusal::Cursor);
         }
         if self.has_too_many_cursors(cmd) {
-            return Some(Reply::ErrorCursors);
+            return Some(Refusal::Cursors);
         }
         None
     }

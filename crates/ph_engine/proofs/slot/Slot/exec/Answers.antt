@@ -1,5 +1,5 @@
-use Rattle.std.proofs.Common.{◌≡◌, false, rules, sym}
-use Rattle.std.specs.Prelude.{Ok}
+use Rattle.std.proofs.Common.{◌≡◌, ◌∙◌, false, ap, rules, sym}
+use Rattle.std.specs.Prelude.{Ok, Some}
 use Rattle.ph_script.specs.Meaning.{command_of, reply_of}
 use Rattle.ph_engine.specs.Doing.{is_page}
 use Rattle.ph_engine.specs.Slots.{engine_of}
@@ -12,8 +12,9 @@ pub returns-in-Some-clause-done : goal.returns-in-Some-clause-done
 returns-in-Some-clause-done g c =
     let s = c.args.self.now in
     let cmd = command_of c.args.cmd.now in
-    let told = tells-said _ _ c.in-Some.reply c.say.result c.say.ensures.answer c.say.ensures.told c.say.ensures.err c.say.ensures.front in
-    done-refused c.args.limits.now.file_bytes s cmd c.in-Some.reply _ _ (g.F.Files.files c.args.files.now) (g.F.Files.faults c.args.files.now) c.args.visits.now c.args.changes.now c.say.result (refused-begun s cmd (reply_of c.in-Some.reply) (sym c.in-Some.ensures)) told
+    let told = tells-said _ _ c.reply.result c.say.result c.say.ensures.answer c.say.ensures.told c.say.ensures.err c.say.ensures.front in
+    let begun = refused-begun s cmd (reply_of c.reply.result) (sym c.in-Some.ensures ∙ ap Some (sym c.reply.ensures)) in
+    done-refused c.args.limits.now.file_bytes s cmd c.reply.result _ _ (g.F.Files.files c.args.files.now) (g.F.Files.faults c.args.files.now) c.args.visits.now c.args.changes.now c.say.result begun told
 
 pub returns-in-Put-clause-done : goal.returns-in-Put-clause-done
 returns-in-Put-clause-done g c =
