@@ -14,3 +14,6 @@ mod Folds
 mod Tables
 mod Packing
 mod Pieces
+mod Betweens
+mod JoinedNumbers
+mod Aparts

@@ -1,3 +1,5 @@
+pub mod Apart
+pub mod Between
 pub mod Block
 pub mod Edits
 pub mod Fields

@@ -29,6 +29,29 @@ pub fn join_row(words: &[u64], at: u64, level: u32, addr: u32, known: &mut [u64]
     }
 }
 
+// Number `i` of those that `join_row` would make of those that are known.
+#[inline(always)]
+pub(crate) fn joined_number(
+    words: &[u64],
+    at: u64,
+    level: u32,
+    addr: u32,
+    known: &[u64],
+    i: usize,
+) -> u64
+    requires few { length known.now ≤ 16 }
+    requires level { level ≤ 61 }
+    requires known { IsBody (length known.now) 62 known.now }
+    requires inside { at + length known.now * level ≤ 64 * length words.now }
+    requires near { at ≤ 2 ^ 62 }
+    requires within { i < length known.now }
+    ensures value { result ≡ slice_index_or (put_together level addr (body_above level known.now) (digits_row words.now at level (length known.now))) i 0 }
+    ensures limit { result < 2 ^ 62 }
+{
+    let below = field(words, at + i as u64 * level as u64, level);
+    digits_above(level, known[i]) + address_digit(addr, known.len() - 1 - i, level) + below
+}
+
 // Field `i` of `count` fields, of which the first digits are read, up to 64 of them.
 #[inline(always)]
 fn piece(words: &[u64], at: u64, first: u64, width: u32, count: usize, i: usize) -> u64

@@ -4,7 +4,9 @@
 //! field may begin in one word and end in the next.
 #![tactic(auto)]
 
+mod apart;
 mod beside;
+mod between;
 mod edits;
 mod entries;
 mod fields;
@@ -16,7 +18,9 @@ mod rows;
 mod tests;
 mod words;
 
+pub use apart::row_distance;
 pub use beside::is_row;
+pub use between::is_row_between;
 pub use edits::Edit;
 pub use entries::{Entries, Packed};
 pub use fields::{field, ones_before, part_of, set_field};

@@ -193,3 +193,35 @@ fn rows_behind_digits(rt: HostRuntime) {
     ];
     assert_eq!(rt; wide, first);
 }
+
+#[test]
+fn rows_between_bounds(rt: HostRuntime) {
+    let words = [0xabcd_ef00_0000_0000];
+    let known = [0xf00, 0x100, 0x3ff];
+    for (low, high, want) in [
+        ([0xfab, 0x0cd, 0x3ef], [0xfab, 0x0cd, 0x3ef], true),
+        ([0xfac, 0, 0], [0xfff, 0xfff, 0xfff], false),
+        ([0, 0, 0], [0xfff, 0x0cc, 0xfff], false),
+        ([0, 0, 0x3f0], [0xfff, 0xfff, 0xfff], false),
+    ] {
+        assert!(rt; is_row_between(&words, 0, 8, 0b101, &known, &low, &high) == want);
+    }
+}
+
+#[test]
+fn rows_apart(rt: HostRuntime) {
+    let words = [0xabcd_ef00_0000_0000];
+    let known = [0xf00, 0x100, 0x3ff];
+    for (others, limit, want) in [
+        ([0xfab, 0x0cd, 0x3ef], 0, Some(0)),
+        ([0xfa8, 0x0cd, 0x3f3], 25, Some(25)),
+        ([0xfa8, 0x0cd, 0x3f3], 24, None),
+        ([0xfa8, 0x0cd, 0x3f3], 8, None),
+        ([0, 0x0cd, 0x3ef], u128::MAX, Some(4011 * 4011)),
+    ] {
+        assert_eq!(rt;
+            row_distance(&words, 0, 8, 0b101, &known, &others, limit),
+            want
+        );
+    }
+}
