@@ -2,11 +2,12 @@
 use Rattle.std.proofs.Common.{◌≡◌, ◌≢◌, ℕ, ◌+◌, ◌<◌, ◌≤◌, List, [], ◌∷◌, ◌++◌, take, drop, length, map, refl, ap, sym, ◌∙◌, subst, arith, Bool, true, false}
 use Rattle.std.specs.List.{insert, remove}
 use Rattle.std.specs.Prelude.{Some, None, nat_lt, if◌then◌else◌}
+use Rattle.ph_digits.specs.Differences.{IsTopDifference}
 use Rattle.ph_digits.proofs.Cuts.{is_body-above, other_address, take-above}
 use Rattle.ph_specs.specs.EntryEdits.{what_at, inserted, split_at}
 use Rattle.ph_specs.specs.Lawful.{IsBody}
 use Rattle.ph_specs.specs.Node.{Entry, What, value, node, PlainNode, entries, node_of}
-use Rattle.ph_specs.specs.PutTree.{split_place, body_address, body_below, body_above}
+use Rattle.ph_specs.specs.PutTree.{body_address, body_below, body_above}
 use Rattle.ph_specs.proofs.laws.EntryLists.{listed-chained}
 use Rattle.ph_bits.specs.Edits.{edited}
 use Rattle.ph_node.specs.Bodies.{IsBodyArray}
@@ -15,7 +16,7 @@ use Rattle.ph_node.specs.OneEdit.{value_of, ones_of, held_nodes, nodes_held, fla
 use Rattle.ph_node.specs.Pairs.{below_flat, in_order, pair_flats}
 use Rattle.ph_node.specs.Slots.{nodes_of}
 use Rattle.ph_node.specs.declared.node.SlotOf.{SlotOf}
-use Rattle.ph_node.specs.Split.{IsBelow, body_at, entry_below, split_node}
+use Rattle.ph_node.specs.Split.{IsBelow, body_at, entry_below, part_place, split_node}
 use Rattle.ph_node.specs.declared.olds.OldEntry.{OldEntry}
 use Rattle.ph_node.proofs.Contents.{changed, split-content, front_fits, own_nodes}
 use Rattle.ph_node.proofs.Keeps.{kept-body}
@@ -23,7 +24,7 @@ use Rattle.ph_node.proofs.Listings.{length-nodes}
 use Rattle.ph_node.proofs.Lists.{Renewed}
 use Rattle.ph_node.proofs.Slotted.{nodes-put, nodes-taken, place-left}
 use Rattle.ph_node.proofs.OldNodes.{IsOld}
-use Rattle.ph_node.proofs.Parts.{apart, child-kept}
+use Rattle.ph_node.proofs.Parts.{AreApart, apart, apart-place, child-kept}
 
 abbrev pub pair_entries : ℕ → List ℕ → What → List ℕ → ℕ → List Entry
 pair_entries place xs w ys v = inserted (entry_below place ys (value v)) (entry_below place xs w ∷ [])
@@ -55,22 +56,30 @@ module _ (d : ℕ) (ws : List ℕ) (ns : List PlainNode) (t : PlainNode) (o : Is
   pub old_long : length (take d old.body) ≡ d
   old_long = ap (λ u. length u) (sym r.body) ∙ body-was.0
 
-  module _ (place v : ℕ) (body : List ℕ) (low : place < t.level) (b : IsBodyArray d t.level body) (differ : body_at (entries t) i ≢ take d body) (at : split_place t.level (body_at (entries t) i) (take d body) ≡ place) where
+  module _ (place v : ℕ) (body : List ℕ) (b : IsBodyArray d t.level body) (top : IsTopDifference (take d old.body) (take d body) place) where
+    two : AreApart d t.level place (body_at (entries t) i) (take d body)
+    two = apart d t.level place (body_at (entries t) i) (take d body) body-was b.fields (subst (λ u. IsTopDifference u (take d body) place) (sym r.body) top)
+
+    pub lower : place < t.level
+    lower = two.lower
+
+    pub part_there : part_place t i (take d body) ≡ place
+    part_there = apart-place d t.level place (body_at (entries t) i) (take d body) two
+
     pub addresses_differ : body_address place (take d old.body) ≢ body_address place (take d body)
     addresses_differ =
-        let a = apart d t.level place (body_at (entries t) i) (take d body) body-was b.fields differ at in
-        subst (λ u. body_address place u ≢ body_address place (take d body)) r.body (other_address place (body_at (entries t) i) (take d body) (omega (arith, body-was.0, b.fields.0)) a.agree a.differ)
+        subst (λ u. body_address place u ≢ body_address place (take d body)) r.body (other_address place (body_at (entries t) i) (take d body) (omega (arith, body-was.0, b.fields.0)) two.agree two.differ)
 
-    pub child_new : IsBelow place (what_at (entries t) i) → Renewed d place (pair_flats d place old body v) (held_nodes (what_at (entries t) i)) (pair_entries place (body_at (entries t) i) (what_at (entries t) i) (take d body) v)
+    pub child_new : IsBelow (part_place t i (take d body)) (what_at (entries t) i) → Renewed d place (pair_flats d place old body v) (held_nodes (what_at (entries t) i)) (pair_entries place (body_at (entries t) i) (what_at (entries t) i) (take d body) v)
     child_new above = record {
       flats =
           ap (λ u. in_order (below_flat place u (held_by old)) (below_flat place (take d body) (Some v))) (sym r.body)
           ∙ ap (λ u. in_order (below_flat place (body_at (entries t) i) u) (below_flat place (take d body) (Some v))) (sym r.value)
           ∙ flats-pair place (body_at (entries t) i) (take d body) (what_at (entries t) i) v;
       nodes = nodes-pair place (body_at (entries t) i) (take d body) (what_at (entries t) i) v;
-      kept = child-kept d t.level place (entries t) (body_at (entries t) i) (take d body) (what_at (entries t) i) (value v) o.kept (apart d t.level place (body_at (entries t) i) (take d body) body-was b.fields differ at);
+      kept = child-kept d t.level place (entries t) (body_at (entries t) i) (take d body) (what_at (entries t) i) (value v) o.kept two;
       some = some-pair (entry_below place (take d body) (value v)) (entry_below place (body_at (entries t) i) (what_at (entries t) i));
-      bottom = no-children (what_at (entries t) i) place above;
+      bottom = no-children (what_at (entries t) i) place (subst (λ k. IsBelow k (what_at (entries t) i)) part_there above);
     }
 
     pub parent_new : (shared : List ℕ) → shared ≡ body_above place body → Renewed d t.level (edited i 1 1 (record { addr = old.addr; body = take d shared; value = None }) (flats_of t))
@@ -84,7 +93,7 @@ module _ (d : ℕ) (ws : List ℕ) (ns : List PlainNode) (t : PlainNode) (o : Is
         (subst (λ es. Renewed d t.level (edited i 1 1 (record { addr = addr_at (entries t) i; body = body_above place (take d body); value = None }) (flats_of t)) (edited (before (entries t) i) (ones_of (what_at (entries t) i)) 1 below ns) es)
         (sym (listed-chained (split_at (entries t) i place (body_above place (take d body)) (body_address place (body_at (entries t) i)) (body_below place (body_at (entries t) i)) (entry_below place (take d body) (value v)))
         ∙ split-content (entries t) i place (body_above place (take d body)) (body_address place (body_at (entries t) i)) (body_below place (body_at (entries t) i)) (entry_below place (take d body) (value v))))
-        (changed d ws ns t o i l (body_above place (take d body)) (node below) (is_body-above d t.level place (take d body) b.fields) (omega (arith, low)))))
+        (changed d ws ns t o i l (body_above place (take d body)) (node below) (is_body-above d t.level place (take d body) b.fields) (omega (arith, two.lower)))))
 
 -- ---- the children
 

@@ -4,6 +4,7 @@ pub mod Merges
 mod Additions
 mod Addressed
 mod Assembled
+mod ChildTests
 mod Contents
 mod EditReads
 mod Fitting

@@ -1,11 +1,13 @@
 -- The two entries of a child that splits an entry.
-use Rattle.std.proofs.Common.{◌≡◌, ◌≢◌, ℕ, ◌+◌, ◌<◌, List, [], ◌∷◌, arith, subst}
-use Rattle.ph_digits.proofs.Cuts.{is_body-below, address-below, other_address, none_from}
+use Rattle.std.proofs.Common.{◌≡◌, ℕ, ◌+◌, ◌<◌, List, [], ◌∷◌, arith}
+use Rattle.ph_digits.specs.Differences.{IsTopDifference}
+use Rattle.ph_digits.proofs.Cuts.{is_body-below, address-below, other_address}
+use Rattle.ph_digits.proofs.Tops.{top-lower}
 use Rattle.ph_specs.specs.Node.{Entry, What}
 use Rattle.ph_specs.specs.Lawful.{IsBody}
 use Rattle.ph_specs.specs.PutTree.{digits_from, split_place}
 use Rattle.ph_specs.specs.EntryEdits.{inserted}
-use Rattle.ph_specs.proofs.laws.SplitPlace.{split_place-has}
+use Rattle.ph_specs.proofs.laws.SplitPlace.{split_place-is}
 use Rattle.ph_node.specs.Kept.{IsKept}
 use Rattle.ph_node.specs.Split.{entry_below}
 use Rattle.ph_node.proofs.Keeps.{IsKeptAt, kept-pair}
@@ -18,16 +20,12 @@ pub record AreApart (dims level place : ℕ) (old new : List ℕ) : Type 0 where
   pub agree : digits_from (place + 1) old ≡ digits_from (place + 1) new
   pub differ : digits_from place old ≡ digits_from place new → ⊥
 
-pub apart : (dims level place : ℕ) (old new : List ℕ) → IsBody dims level old → IsBody dims level new → old ≢ new → split_place level old new ≡ place → AreApart dims level place old new
-apart dims level place old new o n d e =
-    let h : (split_place level old new < level) × (digits_from (split_place level old new + 1) old ≡ digits_from (split_place level old new + 1) new) × (digits_from (split_place level old new) old ≡ digits_from (split_place level old new) new → ⊥) = split_place-has level old new (none_from dims level old new o n) d in
-    record {
-      lower = omega (arith, h.0, e);
-      old_body = o;
-      new_body = n;
-      agree = subst (λ k. digits_from (k + 1) old ≡ digits_from (k + 1) new) e h.1;
-      differ = subst (λ k. digits_from k old ≡ digits_from k new → ⊥) e h.2;
-    }
+pub apart : (dims level place : ℕ) (old new : List ℕ) → IsBody dims level old → IsBody dims level new → IsTopDifference old new place → AreApart dims level place old new
+apart dims level place old new o n t =
+    record { lower = top-lower dims level place old new o n t; old_body = o; new_body = n; agree = t.agree; differ = t.differ }
+
+pub apart-place : (dims level place : ℕ) (old new : List ℕ) → AreApart dims level place old new → split_place level old new ≡ place
+apart-place dims level place old new a = split_place-is level place old new a.lower a.agree a.differ
 
 below-kept : (dims level place : ℕ) (body : List ℕ) (what : What) → IsBody dims level body → IsKeptAt dims place (entry_below place body what)
 below-kept dims level place body what b =

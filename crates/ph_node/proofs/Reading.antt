@@ -8,9 +8,10 @@ use Rattle.ph_specs.specs.Node.{value, node, PlainNode, listed, entries}
 use Rattle.ph_specs.specs.EntryEdits.{what_at}
 use Rattle.ph_specs.specs.Layout.{read_address, is_child}
 use Rattle.ph_specs.specs.NodeSize.{children_in, points_in}
+use Rattle.ph_specs.specs.Pack.{pack}
 use Rattle.ph_specs.specs.PutTree.{body_above, body_below}
 use Rattle.ph_specs.specs.Record.{Read, read_point, read_child, read, filled, unpacked, entries_in, values_in, first_in}
-use Rattle.ph_bits.specs.Fields.{cut}
+use Rattle.ph_bits.specs.Fields.{cut, digits_row}
 use Rattle.ph_bits.specs.Packed.{rank_at, read_body}
 use Rattle.ph_linear.proofs.Entries.{no_read}
 use Rattle.ph_node.specs.Merge.{addr_at}
@@ -36,6 +37,10 @@ parts_filled (read_child a b ∷ es) vs [] i h k l = absurd (omega (arith, h))
 parts_filled (read_child a b ∷ es) vs (n ∷ ns) zero h k l = (refl, refl)
 parts_filled (read_child a b ∷ es) vs (n ∷ ns) (suc i) h k l = parts_filled es vs ns i (omega (arith, h)) k (omega (arith, l))
 
+-- a row of fields by its words, its place and its sizes
+pub same-row : (us ws : List ℕ) (at l level n d : ℕ) (b : List ℕ) → us ≡ ws → l ≡ level → n ≡ d → digits_row ws at level d ≡ b → digits_row us at l n ≡ b
+same-row us ws at l level n d b e f g h = ap (λ u. digits_row u at l n) e ∙ ap (λ x. digits_row ws at x n) f ∙ ap (digits_row ws at level) g ∙ h
+
 -- the words and the dimensions may be those of a node by equations only
 module _ (d e : ℕ) (ws us : List ℕ) (ns : List PlainNode) (t : PlainNode) (is : unpacked d ws ns ≡ t) (kept : IsRecorded d ws ns) (f : us ≡ ws) (g : e ≡ d) where
   same : entries_in e us ≡ entries_in d ws
@@ -49,6 +54,12 @@ module _ (d e : ℕ) (ws us : List ℕ) (ns : List PlainNode) (t : PlainNode) (i
       ap (λ rs. position_or_len (λ r. nat_le a (read_address r)) rs) same
       ∙ sym (place_filled (λ x. nat_le a x) (entries_in d ws) (values_in d ws) ns kept.packed.whole.0 kept.packed.whole.1)
       ∙ ap (λ (u : PlainNode). place_for a (entries u)) is
+
+  -- a row of fields of the record that the node has
+  pub row-there : (at : ℕ) (b : List ℕ) → digits_row us at (first_in us).level e ≡ b → digits_row (pack d t) at t.level d ≡ b
+  row-there at b h =
+      same-row (pack d t) us at t.level (first_in us).level d e b (sym (f ∙ kept.packed.packed ∙ ap (pack d) is))
+      (sym (ap (λ u. (first_in u).level) f ∙ ap (λ (u : PlainNode). u.level) is)) (sym g) h
 
   pub within-there : (i : ℕ) → i < length (entries t) → i < (first_in us).entries
   within-there i l = subst (λ u. i < (first_in u).entries) (sym f) (subst (λ n. i < n) (count_is d ws ns t is kept) l)

@@ -1,6 +1,9 @@
 -- What the clauses of nodes cite.
+pub use Rattle.ph_bits.specs.Apart
+pub use Rattle.ph_bits.specs.Between
 pub mod Bodies
 pub mod Kept
+pub mod Kinds
 pub mod Recorded
 pub mod Edits
 pub mod Falls

@@ -24,4 +24,4 @@ abbrev pub written_flat : ℕ → Written → Flat
 written_flat dims w = new_flat dims w.entry w.value
 
 abbrev pub flats_in_pair : {P : Type 0} → ℕ → PairOf P → List Flat
-flats_in_pair dims p = written_flat dims p.first ∷ written_flat dims p.second ∷ []
+flats_in_pair dims p = written_flat dims p.first.now ∷ written_flat dims p.second.now ∷ []

@@ -1,7 +1,7 @@
 -- What an edit asks of an entry, and a node with an entry split.
 use Rattle.std.specs.Prelude.{ℕ, zero, suc, ◌<◌, List, [], ◌∷◌}
 use Rattle.ph_specs.specs.Node.{Entry, What, value, node, PlainNode, node_of, entries}
-use Rattle.ph_specs.specs.PutTree.{body_address, body_below, body_above}
+use Rattle.ph_specs.specs.PutTree.{split_place, body_address, body_below, body_above}
 use Rattle.ph_specs.specs.EntryEdits.{split_at}
 
 abbrev pub IsNode : What → Type 0
@@ -26,6 +26,10 @@ body_at (e ∷ es) (suc i) = body_at es i
 -- the entry of a body below a place
 abbrev pub entry_below : ℕ → List ℕ → What → Entry
 entry_below place body what = record { addr = body_address place body; body = body_below place body; what = what }
+
+-- the greatest place at which the body of entry i and another differ
+abbrev pub part_place : PlainNode → ℕ → List ℕ → ℕ
+part_place n i body = split_place n.level (body_at (entries n) i) body
 
 -- the node with entry i split at a place: a child there holds what entry i held, and a point with this body
 abbrev pub split_node : PlainNode → ℕ → ℕ → List ℕ → ℕ → PlainNode

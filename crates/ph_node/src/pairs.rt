@@ -22,13 +22,13 @@ pub(crate) struct Written {
 
 /// Two entries.
 #[derive(Drop)]
-pub(crate) struct PairOf<P: Dims> {
-    first: Written,
-    second: Written,
+pub(crate) struct PairOf<'t, P: Dims> {
+    first: &'t Written,
+    second: &'t Written,
     dims: PhantomData<P>,
 }
 
-impl<P: Dims> Entries<P> for PairOf<P> {
+impl<'t, P: Dims> Entries<P> for PairOf<'t, P> {
     ghost use Rattle.ph_node.specs.Pairs.{flats_in_pair};
 
     ghost list = { λ s. flats_in_pair P.D s };
@@ -60,29 +60,28 @@ impl<P: Dims> Entries<P> for PairOf<P> {
 pub(crate) fn pair_below<P: Dims>(
     alloc: Global,
     level: u32,
-    old: OldEntry,
-    body: [u64; 16],
+    old: &OldEntry,
+    body: &[u64; 16],
     v: u64,
 ) -> Result<Words, NoMemory>
     requires few { P.D ≤ 16 }
     requires low { level ≤ 61 }
-    requires old { length (take P.D old.body) ≡ P.D }
-    requires body { length (take P.D body) ≡ P.D }
-    requires differ { body_address level (take P.D old.body) ≢ body_address level (take P.D body) }
-    ensures { IfOk result (λ w. w.words ≡ record_of P.D level (pair_flats P.D level old body v)) }
+    requires old { length (take P.D old.now.body) ≡ P.D }
+    requires body { length (take P.D body.now) ≡ P.D }
+    requires differ { body_address level (take P.D old.now.body) ≢ body_address level (take P.D body.now) }
+    ensures { IfOk result (λ w. w.words ≡ record_of P.D level (pair_flats P.D level old.now body.now v)) }
 {
-    let pair: PairOf<P> = in_order(
-        written_below(P::D, level, old.child, old.body, old.value),
-        written_below(P::D, level, false, body, v),
-    );
+    let was = written_below(P::D, level, old.child, &old.body, old.value);
+    let joins = written_below(P::D, level, false, body, v);
+    let pair: PairOf<'_, P> = in_order(&was, &joins);
     let mut words = records::block::<P>(alloc, level, 2, 2 - old.child as usize)?;
-    records::write::<P, PairOf<P>>(&mut words, level, &pair);
+    records::write::<P, PairOf<'_, P>>(&mut words, level, &pair);
     Ok(words)
 }
 
 // Two entries in the order of their addresses.
-fn in_order<P: Dims>(old: Written, new: Written) -> PairOf<P>
-    ensures { flats_in_pair P.D result ≡ in_order (written_flat P.D old) (written_flat P.D new) }
+fn in_order<'t, P: Dims>(old: &'t Written, new: &'t Written) -> PairOf<'t, P>
+    ensures { flats_in_pair P.D result ≡ in_order (written_flat P.D old.now) (written_flat P.D new.now) }
 {
     let (first, second) = if new.entry.addr < old.entry.addr {
         (new, old)
@@ -97,15 +96,15 @@ fn in_order<P: Dims>(old: Written, new: Written) -> PairOf<P>
 }
 
 // The entry of a body below a place.
-fn written_below(dims: usize, place: u32, child: bool, body: [u64; 16], value: u64) -> Written
+fn written_below(dims: usize, place: u32, child: bool, body: &[u64; 16], value: u64) -> Written
     requires place { place < 64 }
     requires few { dims ≤ 16 }
-    ensures { written_flat dims result ≡ below_flat place (take dims body) (if child then None else Some value) }
+    ensures { written_flat dims result ≡ below_flat place (take dims body.now) (if child then None else Some value) }
 {
     let entry = Packed {
         addr: body_address(place, &body[..dims]),
         child,
-        body: body_below(place, body),
+        body: body_below(place, *body),
         rank: 0,
     };
     Written { entry, value }

@@ -1,16 +1,18 @@
 //! What a visit shows of a node.
 
-ghost use Rattle.std.specs.Prelude.{◌≡◌, ◌+◌, ◌^◌, ◌<◌, ◌≤◌, None, Some, nat_le, length, map, take, position, slice_get, IfOk, IfErr, MatchOption};
+ghost use Rattle.std.specs.Prelude.{◌≡◌, ◌+◌, ◌*◌, ◌^◌, ◌<◌, ◌≤◌, None, Some, nat_le, length, map, take, position, slice_get, IfOk, IfErr};
 ghost use Rattle.ph_specs.specs.Node.{entries, flat};
 ghost use Rattle.ph_specs.specs.Pack.{is_cube, pack};
 ghost use Rattle.ph_specs.proofs.laws.Unpacked.{child_nodes};
 ghost use Rattle.ph_specs.specs.EntryEdits.{has_address, what_at};
 ghost use Rattle.ph_specs.specs.Lawful.{IsBody, put_together};
 ghost use Rattle.ph_specs.specs.PutTree.{body_above, body_below, same_digits};
-ghost use Rattle.ph_digits.specs.Differences.{IsTopDifference};
-ghost use Rattle.ph_bits.specs.Fields.{cut};
+ghost use Rattle.ph_bits.specs.Apart.{IsDistanceWithin};
+ghost use Rattle.ph_bits.specs.Between.{each_between};
+ghost use Rattle.ph_bits.specs.Fields.{cut, digits_row};
 ghost use Rattle.ph_node.specs.Bodies.{IsBodyArray};
 ghost use Rattle.ph_node.specs.Kept.{IsNodeOf};
+ghost use Rattle.ph_node.specs.Kinds.{is_node};
 ghost use Rattle.ph_node.specs.Places.{place_for};
 ghost use Rattle.ph_node.specs.Shown.{shown, entry_of, what_of};
 ghost use Rattle.ph_node.specs.Slots.{nodes_of};
@@ -21,9 +23,8 @@ ghost use Rattle.ph_node.specs.Spots.{IsSpot};
 use crate::node::{NodeOf, SlotOf};
 use crate::records;
 use crate::spots::Spot;
-use ph_bits::{is_row, join_row, row};
+use ph_bits::{is_row, is_row_between, join_row, row, row_distance};
 use ph_coord::{Dim, Dims};
-use ph_digits::top_difference;
 use ph_linear::level_in;
 use ph_steps::Steps;
 use std::sync::ledger::Ledger;
@@ -143,6 +144,16 @@ impl<'t, P: Dims> NodeRefOf<'t, NodeOf<P>> {
         }
     }
 
+    /// Whether an entry is a child.
+    #[inline(always)]
+    pub fn is_child(&self, spot: Spot) -> bool
+        requires { IsSpot (entries (shown self.now)) spot }
+        ensures { result ≡ is_node (what_at (entries (shown self.now)) spot.place) }
+    {
+        let node = self.node;
+        records::is_child(node.words.as_slice(), P::D, spot)
+    }
+
     /// What an entry holds.
     #[inline(always)]
     pub fn what(&self, spot: Spot) -> WhatOf<'t, NodeOf<P>>
@@ -194,16 +205,6 @@ impl<'t, P: Dims> NodeRefOf<'t, NodeOf<P>> {
         self.is_body(spot, low + 1, numbers)
     }
 
-    /// The greatest place at which the body of an entry and these numbers differ, or None where they are the same.
-    pub fn top_difference(&self, spot: Spot, numbers: &[u64]) -> Option<u32>
-        requires spot { IsSpot (entries (shown self.now)) spot }
-        requires dims { length numbers.now ≡ P.D }
-        ensures { MatchOption result (body_at (entries (shown self.now)) spot.place ≡ numbers.now) (λ place. IsTopDifference (body_at (entries (shown self.now)) spot.place) numbers.now place) }
-    {
-        let body = self.body(spot);
-        top_difference(&body[..P::D], numbers)
-    }
-
     /// Puts the digits of an entry, its address at the node's level and its body below it, behind those that are known
     /// above the level. What was known at the level and below it is lost.
     #[inline(always)]
@@ -213,10 +214,44 @@ impl<'t, P: Dims> NodeRefOf<'t, NodeOf<P>> {
         ensures known { known.new ≡ put_together (shown self.now).level spot.addr (body_above (shown self.now).level known.old) (body_at (entries (shown self.now)) spot.place) }
         ensures body { IsBody P.D (shown self.now).level (body_at (entries (shown self.now)) spot.place) }
     {
-        let node = self.node;
-        let words = node.words.as_slice();
-        let at = records::body_at(words, P::D, spot);
-        join_row(words, at, level_in(words), spot.addr, known);
+        let at = self.body_place(spot);
+        join_row(self.words(), at, self.level(), spot.addr, known);
+    }
+
+    /// Whether each number that [`join`](NodeRefOf::join) would make of those that are known lies between two bounds. It stops
+    /// at the first that does not.
+    #[inline(always)]
+    pub fn lies_between(&self, spot: Spot, known: &[u64], low: &[u64], high: &[u64]) -> bool
+        requires spot { IsSpot (entries (shown self.now)) spot }
+        requires known { IsBody P.D 62 known.now }
+        requires low { length low.now ≡ P.D }
+        requires high { length high.now ≡ P.D }
+        ensures between { result ≡ each_between low.now high.now (put_together (shown self.now).level spot.addr (body_above (shown self.now).level known.now) (body_at (entries (shown self.now)) spot.place)) }
+        ensures body { IsBody P.D (shown self.now).level (body_at (entries (shown self.now)) spot.place) }
+    {
+        let at = self.body_place(spot);
+        let words = self.words();
+        is_row_between(words, at, self.level(), spot.addr, known, low, high)
+    }
+
+    /// The sum of the squares of the differences between the numbers that [`join`](NodeRefOf::join) would make of those that are
+    /// known, and others. None where it is more than `limit`: it stops at the first number that makes it so.
+    #[inline(always)]
+    pub fn distance_within(
+        &self,
+        spot: Spot,
+        known: &[u64],
+        others: &[u64],
+        limit: u128,
+    ) -> Option<u128>
+        requires spot { IsSpot (entries (shown self.now)) spot }
+        requires known { IsBody P.D 62 known.now }
+        requires others { IsBody P.D 62 others.now }
+        ensures { IsDistanceWithin limit (put_together (shown self.now).level spot.addr (body_above (shown self.now).level known.now) (body_at (entries (shown self.now)) spot.place)) others.now result }
+    {
+        let at = self.body_place(spot);
+        let words = self.words();
+        row_distance(words, at, self.level(), spot.addr, known, others, limit)
     }
 
     /// Entry `i`, in the order of the addresses.
@@ -271,10 +306,8 @@ impl<'t, P: Dims> NodeRefOf<'t, NodeOf<P>> {
         requires dims { length numbers.now ≡ P.D }
         ensures { result ≡ same_digits (body_at (entries (shown self.now)) spot.place) (map (cut (shown self.now).level low) numbers.now) }
     {
-        let node = self.node;
-        let words = node.words.as_slice();
-        let at = records::body_at(words, P::D, spot);
-        is_row(words, at, level_in(words), low, numbers)
+        let at = self.body_place(spot);
+        is_row(self.words(), at, self.level(), low, numbers)
     }
 
     // The body of an entry, with zeros behind its fields.
@@ -284,10 +317,21 @@ impl<'t, P: Dims> NodeRefOf<'t, NodeOf<P>> {
         ensures fields { take P.D result ≡ body_at (entries (shown self.now)) spot.place }
         ensures body { IsBodyArray P.D (shown self.now).level result }
     {
+        let at = self.body_place(spot);
+        row(self.words(), at, self.level(), P::D)
+    }
+
+    // The digit of the record at which the body of an entry begins.
+    #[inline(always)]
+    fn body_place(&self, spot: Spot) -> u64
+        requires { IsSpot (entries (shown self.now)) spot }
+        ensures inside { result + P.D * (shown self.now).level ≤ 64 * length (pack P.D (shown self.now)) }
+        ensures near { result ≤ 2 ^ 62 }
+        ensures body { digits_row (pack P.D (shown self.now)) result (shown self.now).level P.D ≡ body_at (entries (shown self.now)) spot.place }
+        ensures digits { IsBody P.D (shown self.now).level (body_at (entries (shown self.now)) spot.place) }
+        ensures few { P.D ≤ 16 }
+    {
         let node = self.node;
-        let words = node.words.as_slice();
-        let dims = P::D;
-        let at = records::body_at(words, dims, spot);
-        row(words, at, level_in(words), dims)
+        records::body_at(node.words.as_slice(), P::D, spot)
     }
 }

@@ -1,12 +1,12 @@
 //! An entry that becomes a child of two entries.
 
-ghost use Rattle.std.specs.Prelude.{◌≡◌, ◌≢◌, ◌+◌, ◌<◌, ◌≤◌, [], true, false, take, drop, if◌then◌else◌, IfOk, OnErr, OnOk, vec_len, vec_capacity};
+ghost use Rattle.std.specs.Prelude.{◌≡◌, ◌≢◌, ◌+◌, ◌<◌, ◌≤◌, [], true, false, length, take, drop, if◌then◌else◌, IfOk, OnErr, OnOk, vec_len, vec_capacity};
 ghost use Rattle.std.specs.List.{insert, remove};
 ghost use Rattle.ph_specs.specs.EntryEdits.{what_at};
 ghost use Rattle.ph_specs.specs.Node.{entries};
-ghost use Rattle.ph_specs.specs.PutTree.{split_place};
+ghost use Rattle.ph_digits.specs.Differences.{IsTopDifference};
 ghost use Rattle.ph_node.specs.Bodies.{IsBodyArray};
-ghost use Rattle.ph_node.specs.Split.{IsBelow, body_at, split_node};
+ghost use Rattle.ph_node.specs.Split.{IsBelow, body_at, part_place, split_node};
 ghost use Rattle.ph_node.specs.Spots.{IsSpot};
 
 use crate::NoMemory;
@@ -15,42 +15,40 @@ use crate::pairs::pair_below;
 use crate::spots::Spot;
 use ph_bits::{Edit, Packed};
 use ph_coord::Dims;
-use ph_digits::body_above;
+use ph_digits::{body_above, top_difference};
 use ph_steps::Steps;
 use std::alloc::Global;
 use std::marker::PhantomData;
 use std::sync::ledger::Ledger;
 
 impl<P: Dims> NodeOf<P> {
-    /// Splits an entry at a level: it becomes a child there that holds what the entry held, and a point
-    /// with this body, given by its digits below the node's level. The level is the greatest at which the
-    /// two bodies differ. May want memory for the child.
+    /// Splits an entry at the greatest place at which its body and this one differ: it becomes a child at this level that
+    /// holds what the entry held, and a point with this body, given by its digits below the node's level. May want memory
+    /// for the child.
     pub fn split<C: Ledger>(
         &mut self,
         spot: Spot,
-        level: u32,
-        body: [u64; 16],
+        body: &[u64; 16],
         v: u64,
         changes: &mut Steps<C>,
     ) -> Result<(), NoMemory>
         requires spot { IsSpot (entries self.old) spot }
-        requires lower { level < self.old.level }
-        requires body { IsBodyArray P.D self.old.level body }
-        requires differ { body_at (entries self.old) spot.place ≢ take P.D body }
-        requires place { split_place self.old.level (body_at (entries self.old) spot.place) (take P.D body) ≡ level }
-        requires above { IsBelow level (what_at (entries self.old) spot.place) }
-        ensures ok { OnOk result (self.new ≡ split_node self.old spot.place level (take P.D body) v) }
+        requires body { IsBodyArray P.D self.old.level body.now }
+        requires differ { body_at (entries self.old) spot.place ≢ take P.D body.now }
+        requires above { IsBelow (part_place self.old spot.place (take P.D body.now)) (what_at (entries self.old) spot.place) }
+        ensures ok { OnOk result (self.new ≡ split_node self.old spot.place (part_place self.old spot.place (take P.D body.now)) (take P.D body.now) v) }
         ensures cost { OnOk result (changes.new ≡ changes.old + 2) }
         ensures err { OnErr result (self.new ≡ self.old) }
         ensures spared { OnErr result (changes.new ≡ changes.old) }
     {
         let alloc = self.words.allocator();
         let old = self.old_entry(spot);
-        let below = pair_below::<P>(alloc, level, old, body, v)?;
+        let level = place_apart::<P>(&old.body, body);
+        let below = pair_below::<P>(alloc, level, &old, body, v)?;
         let entry = Packed {
             addr: old.addr,
             child: true,
-            body: body_above(level, body),
+            body: body_above(level, *body),
             rank: 0,
         };
         let edit = Edit {
@@ -73,6 +71,19 @@ impl<P: Dims> NodeOf<P> {
         insert_within(&mut self.children, old.front, SlotOf { node });
         self.words = words;
         Ok(())
+    }
+}
+
+// The greatest place at which the fields of two bodies differ.
+fn place_apart<P: Dims>(old: &[u64; 16], new: &[u64; 16]) -> u32
+    requires few { P.D ≤ 16 }
+    requires same { length (take P.D old.now) ≡ length (take P.D new.now) }
+    requires differ { take P.D old.now ≢ take P.D new.now }
+    ensures { IsTopDifference (take P.D old.now) (take P.D new.now) result }
+{
+    match top_difference(&old[..P::D], &new[..P::D]) {
+        Some(place) => place,
+        None => unreachable!(),
     }
 }
 

@@ -64,8 +64,8 @@ fn outcome<V: Ledger, C: Ledger>(
     let mut node: Node<2> = NodeOf::single(alloc, 5, 2, OLD, 70, &mut changes)?;
     node.add(0, 1, BESIDE, 71, &mut changes)?;
     node.set_value(FIRST, 72, &mut changes);
-    node.split(SECOND, 3, NEAR, 73, &mut changes)?;
-    node.split(SECOND, 4, FAR, 74, &mut changes)?;
+    node.split(SECOND, &NEAR, 73, &mut changes)?;
+    node.split(SECOND, &FAR, 74, &mut changes)?;
     let root = node.visit(&mut visits);
     assert_eq!(rt; (root.level(), root.len()), (5, 2));
     assert!(rt; is_entry(root, 0, &(1, 4, 30, Some(72))));
@@ -109,7 +109,7 @@ fn removals<V: Ledger, C: Ledger>(
     let mut changes: Steps<C> = Steps::new(changes);
     let mut node: Node<2> = NodeOf::single(alloc, 5, 2, OLD, 70, &mut changes)?;
     node.add(0, 1, BESIDE, 71, &mut changes)?;
-    node.split(SECOND, 3, NEAR, 73, &mut changes)?;
+    node.split(SECOND, &NEAR, 73, &mut changes)?;
     let spare = Words::with_room(alloc, 8)?;
     node.merge(SECOND, 0, spare, &mut changes);
     let root = node.visit(&mut visits);
@@ -152,7 +152,7 @@ fn layouts<V: Ledger, C: Ledger>(
     } = across;
     let mut node: Node<2> = NodeOf::single(alloc, 31, 3, [0; 16], 1, &mut changes)?;
     let spot = Spot { place: 0, addr: 3 };
-    node.split(spot, 0, ONES, 2, &mut changes)?;
+    node.split(spot, &ONES, 2, &mut changes)?;
     let root = node.visit(&mut visits);
     assert!(rt; has_words(root.words(), &[0x1f00000001000001, 0xe000000000000000, 0]));
     let Some(child) = child_at(root, 0) else {
@@ -182,7 +182,7 @@ fn spots<V: Ledger, C: Ledger>(
     let mut visits: Steps<V> = Steps::new(visits);
     let mut changes: Steps<C> = Steps::new(changes);
     let mut node: Node<2> = NodeOf::single(alloc, 5, 2, OLD, 70, &mut changes)?;
-    node.split(Spot { place: 0, addr: 2 }, 3, NEAR, 73, &mut changes)?;
+    node.split(Spot { place: 0, addr: 2 }, &NEAR, 73, &mut changes)?;
     node.add(0, 1, BESIDE, 71, &mut changes)?;
     let root = node.visit(&mut visits);
     assert_eq!(rt; (root.words().len(), root.children().len()), (3, 1));
@@ -195,9 +195,17 @@ fn spots<V: Ledger, C: Ledger>(
     assert!(rt; !root.is_below(point, &[4 + 16, 30]));
     assert!(rt; root.is_between(child, 3, &[9, 3]));
     assert!(rt; !root.is_between(child, 3, &[16, 3]));
-    assert_eq!(rt; root.top_difference(point, &[4, 26]), Some(2));
-    assert_eq!(rt; root.top_difference(point, &[4, 30]), None);
+    assert!(rt; root.is_child(child));
+    assert!(rt; !root.is_child(point));
     let mut known = [64, 255];
+    assert!(rt; root.lies_between(point, &known, &[68, 0], &[68, 254]));
+    assert!(rt; !root.lies_between(point, &known, &[69, 0], &[99, 254]));
+    assert!(rt; !root.lies_between(point, &known, &[68, 0], &[68, 253]));
+    assert_eq!(rt;
+        root.distance_within(point, &known, &[65, 250], 25),
+        Some(25)
+    );
+    assert_eq!(rt; root.distance_within(point, &known, &[65, 250], 24), None);
     root.join(point, &mut known);
     assert_eq!(rt; known, [64 + 4, 192 + 32 + 30]);
     Ok(())
