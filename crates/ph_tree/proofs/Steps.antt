@@ -5,7 +5,6 @@ use Rattle.std.proofs.Math.Nat.{mod-lt, mod-eq_of_lt, div-eq_of_lt}
 use Rattle.std.proofs.lemmas.Nat.{pow_pos}
 use Rattle.std.specs.List.{AllByRecursion as Each}
 use Rattle.std.proofs.lemmas.Bool.{cases_lt}
-use Rattle.ph_digits.specs.Differences.{IsTopDifference}
 use Rattle.ph_digits.proofs.Cuts.{none_from}
 use Rattle.ph_specs.specs.Coordinate.{offset}
 use Rattle.ph_specs.specs.ZOrder.{address}
@@ -20,9 +19,9 @@ use Rattle.ph_specs.proofs.lemmas.Splits.{below-offsets}
 use Rattle.ph_specs.proofs.laws.EntryLists.{node_of-entries}
 use Rattle.ph_specs.proofs.laws.EntryEdits as laws
 use Rattle.ph_specs.proofs.laws.DelEntries.{IsLawfulChild, lawful-child}
-use Rattle.ph_specs.proofs.laws.SplitPlace.{split_place-is, split_place-whole, address-of-body, below-of-body}
+use Rattle.ph_specs.proofs.laws.SplitPlace.{split_place-has, split_place-whole, address-of-body, below-of-body}
 use Rattle.ph_node.specs.Merge.{addr_at}
-use Rattle.ph_node.specs.Split.{IsBelow, body_at, entry_below, split_node}
+use Rattle.ph_node.specs.Split.{IsBelow, body_at, entry_below, part_place, split_node}
 use Rattle.ph_node.specs.Spots.{IsSpot}
 use Rattle.ph_node.specs.declared.spots.Spot.{Spot}
 use Rattle.ph_node.proofs.Merges.{above-zeros}
@@ -168,16 +167,12 @@ module _ (w dims : ℕ) (p : List ℤ) (t : PlainNode) (spot : Spot) (x : Entry)
   pub differs : IsApart w p t.level x.body x.what → x.body ≢ digits_below w t.level p
   differs a = differs_by x.what refl a
 
-  module _ (place : ℕ) (top : IsTopDifference x.body (digits_below w t.level p) place) where
-    pub lower : place < t.level
-    lower =
-        elim (cases_lt place t.level) [
-          | inl l ↦ l
-          | inr g ↦ absurd (top.differ (same_from t.level place x.body new g (none_from dims t.level x.body new old_body new_body)))
-        ]
+  module _ (apart : IsApart w p t.level x.body x.what) where
+    abbrev place : ℕ
+    place = split_place t.level x.body (digits_below w t.level p)
 
-    pub split_here : split_place t.level x.body (digits_below w t.level p) ≡ place
-    split_here = split_place-is t.level place x.body new lower top.agree top.differ
+    has : (place < t.level) × (digits_from (place + 1) x.body ≡ digits_from (place + 1) new) × (digits_from place x.body ≡ digits_from place new → ⊥)
+    has = split_place-has t.level x.body new (none_from dims t.level x.body new old_body new_body) (differs apart)
 
     above_by : (held : What) → x.what ≡ held → IsApart w p t.level x.body held → IsBelow place held
     above_by (value u) q a = tt
@@ -185,70 +180,45 @@ module _ (w dims : ℕ) (p : List ℤ) (t : PlainNode) (spot : Spot) (x : Entry)
         let c : IsLawfulChild dims t.level x m = lawful-child dims t.level 0 t.chain spot.place x m ok at.0 q in
         elim (cases_lt m.level place) [
           | inl l ↦ l
-          | inr g ↦ absurd (a (above-zeros m.level x.body c.zeros ∙ above-same m.level x.body new (same_from (place + 1) (m.level + 1) x.body new (omega (arith, g)) top.agree)))
+          | inr g ↦ absurd (a (above-zeros m.level x.body c.zeros ∙ above-same m.level x.body new (same_from (place + 1) (m.level + 1) x.body new (omega (arith, g)) has.1)))
         ]
 
-    pub above : IsApart w p t.level x.body x.what → IsBelow place (what_at (entries t) spot.place)
-    above a = subst (IsBelow place) (sym (what_got (entries t) spot.place x at.0)) (above_by x.what refl a)
+    pub above : IsBelow place (what_at (entries t) spot.place)
+    above = subst (IsBelow place) (sym (what_got (entries t) spot.place x at.0)) (above_by x.what refl apart)
 
     put_by : (held : What) → x.what ≡ held → IsApart w p t.level x.body held → (v : ℕ) → put_node w t p v ≡ node_of t.level (split_at (entries t) spot.place place (digits_between w t.level place p) (body_address place x.body) (body_below place x.body) (point_entry (address w p place) (digits_below w place p) v))
-    put_by (value u) q a v = laws.put_node-split_point w dims t spot.place x u place p v ok at.0 at.1 q a split_here
+    put_by (value u) q a v = laws.put_node-split_point w dims t spot.place x u place p v ok at.0 at.1 q a refl
     put_by (node m) q a v =
         let c : IsLawfulChild dims t.level x m = lawful-child dims t.level 0 t.chain spot.place x m ok at.0 q in
         laws.put_node-split_child w dims t spot.place x m place p v ok at.0 at.1 q a
-        (split_place-whole w t.level m.level x.body p c.lower c.zeros (none_from dims t.level x.body new old_body new_body) a ∙ split_here)
+        (split_place-whole w t.level m.level x.body p c.lower c.zeros (none_from dims t.level x.body new old_body new_body) a)
 
-    pub put_split : IsApart w p t.level x.body x.what → (v : ℕ) → split_node t spot.place place (digits_below w t.level p) v ≡ put_node w t p v
-    put_split a v =
+    pub put_split : (v : ℕ) → split_node t spot.place place (digits_below w t.level p) v ≡ put_node w t p v
+    put_split v =
         ap (λ o. node_of t.level (split_at (entries t) spot.place place (digits_between w t.level place p) (body_address place o) (body_below place o) (entry_below place new (value v)))) (body_got (entries t) spot.place x at.0)
-        ∙ ap (λ n. node_of t.level (split_at (entries t) spot.place place (digits_between w t.level place p) (body_address place x.body) (body_below place x.body) (record { addr = n; body = body_below place new; what = value v }))) (address-of-body w t.level place p lower)
-        ∙ ap (λ (u : List ℕ). node_of t.level (split_at (entries t) spot.place place (digits_between w t.level place p) (body_address place x.body) (body_below place x.body) (record { addr = address w p place; body = u; what = value v }))) (below-of-body w t.level place p (omega (arith, lower)))
-        ∙ sym (put_by x.what refl a v)
+        ∙ ap (λ n. node_of t.level (split_at (entries t) spot.place place (digits_between w t.level place p) (body_address place x.body) (body_below place x.body) (record { addr = n; body = body_below place new; what = value v }))) (address-of-body w t.level place p has.0)
+        ∙ ap (λ (u : List ℕ). node_of t.level (split_at (entries t) spot.place place (digits_between w t.level place p) (body_address place x.body) (body_below place x.body) (record { addr = address w p place; body = u; what = value v }))) (below-of-body w t.level place p (omega (arith, has.0)))
+        ∙ sym (put_by x.what refl apart v)
 
 -- all that a split asks, and what it makes
-pub record Splits (w dims : ℕ) (p : List ℤ) (t : PlainNode) (spot : Spot) (place : ℕ) (body : List ℕ) : Type 0 where
+pub record Splits (w dims : ℕ) (p : List ℤ) (t : PlainNode) (spot : Spot) (body : List ℕ) : Type 0 where
   pub there : IsSpot (entries t) spot
-  pub under : place < t.level
   pub digits : IsBody dims t.level body
   pub apart : body_at (entries t) spot.place ≢ body
-  pub at_place : split_place t.level (body_at (entries t) spot.place) body ≡ place
-  pub over : IsBelow place (what_at (entries t) spot.place)
-  pub put : (v : ℕ) → split_node t spot.place place body v ≡ put_node w t p v
+  pub over : IsBelow (part_place t spot.place body) (what_at (entries t) spot.place)
+  pub put : (v : ℕ) → split_node t spot.place (part_place t spot.place body) body v ≡ put_node w t p v
 
-pub splits : {w dims level : ℕ} {p : List ℤ} {t : PlainNode} {spot : Spot} {place : ℕ} {body : List ℕ} → IsLawfulFrom dims t.level 0 t.chain → IsApartAt w p t spot → level ≡ t.level → IsBody dims level body → body ≡ digits_below w level p → IsTopDifference (body_at (entries t) spot.place) (digits_below w t.level p) place → Splits w dims p t spot place body
-splits {w = w} {dims = dims} {p = p} {t = t} {spot = spot} {place = place} {body = body} ok (x, at, a) l body_ok digits top =
+pub splits : {w dims level : ℕ} {p : List ℤ} {t : PlainNode} {spot : Spot} {body : List ℕ} → IsLawfulFrom dims t.level 0 t.chain → IsApartAt w p t spot → level ≡ t.level → IsBody dims level body → body ≡ digits_below w level p → Splits w dims p t spot body
+splits {w = w} {dims = dims} {p = p} {t = t} {spot = spot} {body = body} ok (x, at, a) l body_ok digits =
     let k : IsBody dims t.level body = subst (λ n. IsBody dims n body) l body_ok in
     let e : body ≡ digits_below w t.level p = digits ∙ ap (λ n. digits_below w n p) l in
     let here : body_at (entries t) spot.place ≡ x.body = body_got (entries t) spot.place x at.0 in
     let n : IsBody dims t.level (digits_below w t.level p) = subst (IsBody dims t.level) e k in
-    let d : IsTopDifference x.body (digits_below w t.level p) place = subst (λ u. IsTopDifference u (digits_below w t.level p) place) here top in
+    let there : part_place t spot.place body ≡ split_place t.level x.body (digits_below w t.level p) = ap (λ u. split_place t.level u body) here ∙ ap (split_place t.level x.body) e in
     record {
       there = spot_at w p t spot x at;
-      under = lower w dims p t spot x at ok n place d;
       digits = k;
       apart = λ s. differs w dims p t spot x at ok n a (sym here ∙ s ∙ e);
-      at_place = ap (λ u. split_place t.level u body) here ∙ ap (split_place t.level x.body) e ∙ split_here w dims p t spot x at ok n place d;
-      over = above w dims p t spot x at ok n place d a;
-      put = λ v. ap (λ u. split_node t spot.place place u v) e ∙ put_split w dims p t spot x at ok n place d a v;
+      over = subst (λ i. IsBelow i (what_at (entries t) spot.place)) (sym there) (above w dims p t spot x at ok n a);
+      put = λ v. ap (λ i. split_node t spot.place i body v) there ∙ ap (λ u. split_node t spot.place (split_place t.level x.body (digits_below w t.level p)) u v) e ∙ put_split w dims p t spot x at ok n a v;
     }
-
--- the digits of a point below a node, as a body of its level
-pub record IsPointBelow (w dims level : ℕ) (p : List ℤ) (t : PlainNode) (body : List ℕ) : Type 0 where
-  pub level_is : level ≡ t.level
-  pub is_body : IsBody dims level body
-  pub digits : body ≡ digits_below w level p
-
-module _ {w dims level : ℕ} {p : List ℤ} {t : PlainNode} {body : List ℕ} (b : IsPointBelow w dims level p t body) where
-  below_is : body ≡ digits_below w t.level p
-  below_is = b.digits ∙ ap (λ n. digits_below w n p) b.level_is
-
-  -- they differ from the body of an entry of which the point is no part
-  pub bodies_differ : (spot : Spot) → IsLawfulFrom dims t.level 0 t.chain → IsApartAt w p t spot → body_at (entries t) spot.place ≡ body → ⊥
-  bodies_differ spot ok (x, at, a) s =
-      differs w dims p t spot x at ok (subst (IsBody dims t.level) below_is (subst (λ n. IsBody dims n body) b.level_is b.is_body)) a (sym (body_got (entries t) spot.place x at.0) ∙ s ∙ below_is)
-
-  pub top_there : (spot : Spot) (place : ℕ) → IsTopDifference (body_at (entries t) spot.place) body place → IsTopDifference (body_at (entries t) spot.place) (digits_below w t.level p) place
-  top_there spot place top = subst (λ u. IsTopDifference (body_at (entries t) spot.place) u place) below_is top
-
-pub apart_spot : (w : ℕ) (p : List ℤ) (t : PlainNode) (spot : Spot) → IsApartAt w p t spot → IsSpot (entries t) spot
-apart_spot w p t spot (x, at, a) = spot_at w p t spot x at

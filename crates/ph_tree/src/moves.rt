@@ -63,9 +63,13 @@ pub(crate) fn move_in<P: Dims, V: Ledger, C: Ledger>(
     ensures kept { changes.old ≤ changes.new }
     ensures made { OnOk result (changes.old + 1 ≤ changes.new) }
 {
-    let spare = Words::with_room(alloc, found.longest + more_words(to.width(), P::D))?;
+    let block = Words::with_room(alloc, found.longest + more_words(to.width(), P::D))?;
+    let mut spare = Spare {
+        alloc,
+        there: Some(block),
+    };
     match put_in(root, alloc, to, found.value, true, visits, changes) {
-        Ok(_) => match del_in(root, from, Spare::Now(spare), visits, changes) {
+        Ok(_) => match del_in(root, from, &mut spare, visits, changes) {
             Ok(_) => Ok(()),
             Err(_) => unreachable!(),
         },

@@ -1,12 +1,18 @@
 //! Taking a point out, below a node and out of a tree.
 
-ghost use Rattle.std.specs.Prelude.{◌≡◌, ◌+◌, ◌*◌, ◌<◌, ◌≤◌, None, length, IfOk, OnOk, OnErr, IsOk, IsSome};
-ghost use Rattle.ph_specs.specs.Node.{entries};
+ghost use Rattle.std.specs.Prelude.{◌≡◌, ◌+◌, ◌*◌, ◌^◌, ◌<◌, ◌≤◌, None, Some, length, IfOk, OnOk, OnErr, IsOk, IsSome};
+ghost use Rattle.ph_specs.specs.Node.{node_of, entries};
+ghost use Rattle.ph_specs.specs.EntryEdits.{what_at, without};
 ghost use Rattle.ph_specs.specs.Lawful.{IsLawful, IsLawfulFrom};
 ghost use Rattle.ph_specs.specs.PutTree.{find_node, find_tree};
 ghost use Rattle.ph_specs.specs.DelTree.{del_node, del_tree};
+ghost use Rattle.ph_specs.specs.Pack.{pack};
+ghost use Rattle.ph_node.specs.Merge.{IsPair, entries_held, merge_node};
 ghost use Rattle.ph_node.specs.Shown.{shown};
+ghost use Rattle.ph_node.specs.Split.{IsValue, body_at};
+ghost use Rattle.ph_node.specs.Spots.{IsSpot};
 ghost use Rattle.ph_tree.specs.Opened.{opened_below, opened_in};
+ghost use Rattle.ph_tree.specs.Placed.{value_gone};
 ghost use Rattle.ph_tree.specs.Rooms.{spare_wanted, spare_wanted_in};
 ghost use Rattle.ph_tree.specs.Spares.{HasRoom};
 ghost use Rattle.ph_tree.specs.Step.{IsAmong};
@@ -20,12 +26,37 @@ use ph_node::{NoMemory, NodeOf, NodeRefOf, Spot, WhatOf};
 use ph_steps::Steps;
 use std::sync::ledger::Ledger;
 
+// What came of a removal below the root. As a value with its kind it is small enough to be handed back in registers.
+#[derive(Clone, Copy)]
+pub(crate) enum Removed {
+    // The point is not there.
+    Nothing,
+    // The point had this value.
+    Gone(u64),
+    // There was no memory.
+    Failed,
+}
+
+impl Removed {
+    // The value that is gone, or the error.
+    #[inline(always)]
+    fn outcome(self) -> Result<Option<u64>, NoMemory>
+        ensures { result ≡ value_gone self }
+    {
+        match self {
+            Removed::Nothing => Ok(None),
+            Removed::Gone(value) => Ok(Some(value)),
+            Removed::Failed => Err(NoMemory),
+        }
+    }
+}
+
 // Takes a point out of a tree. The root goes with the last row. Memory is taken where the point is found, before the
 // first change.
 pub(crate) fn del_in<P: Dims, V: Ledger, C: Ledger>(
     root: &mut Option<NodeOf<P>>,
     key: &KeyOf<P>,
-    spare: Spare,
+    spare: &mut Spare,
     visits: &mut Steps<V>,
     changes: &mut Steps<C>,
 ) -> Result<Option<u64>, NoMemory>
@@ -34,7 +65,7 @@ pub(crate) fn del_in<P: Dims, V: Ledger, C: Ledger>(
     ensures del { OnOk result (root.new ≡ del_tree key.now.width P.D root.old key.now.point) }
     ensures err { OnErr result (root.new ≡ root.old) }
     ensures absent { find_tree key.now.width P.D root.old key.now.point ≡ None → IsOk result }
-    ensures roomy { HasRoom spare (spare_wanted_in key.now.width P.D root.old key.now.point) → IsOk result }
+    ensures roomy { HasRoom spare.old (spare_wanted_in key.now.width P.D root.old key.now.point) → IsOk result }
     ensures visits { visits.new ≤ visits.old + 2 * opened_in key.now.width root.old key.now.point }
     ensures later { visits.old ≤ visits.new }
     ensures changes { changes.new ≤ changes.old + 2 }
@@ -56,7 +87,7 @@ pub(crate) fn del_in<P: Dims, V: Ledger, C: Ledger>(
         None => {
             let found = del_at(&mut node, key, spare, visits, changes);
             *root = Some(node);
-            found
+            found.outcome()
         }
     }
 }
@@ -65,50 +96,114 @@ pub(crate) fn del_in<P: Dims, V: Ledger, C: Ledger>(
 pub(crate) fn del_at<P: Dims, V: Ledger, C: Ledger>(
     cur: &mut NodeOf<P>,
     key: &KeyOf<P>,
-    spare: Spare,
+    spare: &mut Spare,
     visits: &mut Steps<V>,
     changes: &mut Steps<C>,
-) -> Result<Option<u64>, NoMemory>
+) -> Removed
     requires lawful { IsLawfulFrom P.D cur.old.level 0 cur.old.chain }
     requires level { cur.old.level < key.now.width }
     requires left { 1 ≤ length (entries (del_node key.now.width cur.old key.now.point)) }
-    ensures answer { IfOk result (λ a. a ≡ find_node key.now.width cur.old key.now.point) }
-    ensures del { OnOk result (cur.new ≡ del_node key.now.width cur.old key.now.point) }
-    ensures err { OnErr result (cur.new ≡ cur.old) }
-    ensures absent { find_node key.now.width cur.old key.now.point ≡ None → IsOk result }
-    ensures roomy { HasRoom spare (spare_wanted key.now.width P.D cur.old key.now.point) → IsOk result }
+    ensures answer { IfOk (value_gone result) (λ a. a ≡ find_node key.now.width cur.old key.now.point) }
+    ensures del { OnOk (value_gone result) (cur.new ≡ del_node key.now.width cur.old key.now.point) }
+    ensures err { OnErr (value_gone result) (cur.new ≡ cur.old) }
+    ensures absent { find_node key.now.width cur.old key.now.point ≡ None → IsOk (value_gone result) }
+    ensures roomy { HasRoom spare.old (spare_wanted key.now.width P.D cur.old key.now.point) → IsOk (value_gone result) }
     ensures visits { visits.new ≤ visits.old + 2 * opened_below key.now.width cur.old.level cur.old.chain key.now.point + 1 }
     ensures later { visits.old ≤ visits.new }
     ensures changes { changes.new ≤ changes.old + 2 }
     ensures idle { find_node key.now.width cur.old key.now.point ≡ None → changes.new ≡ changes.old }
-    ensures spared { OnErr result (changes.new ≡ changes.old) }
+    ensures spared { OnErr (value_gone result) (changes.new ≡ changes.old) }
     ensures kept { changes.old ≤ changes.new }
-    ensures made { IfOk result (λ a. IsSome a → changes.old + 1 ≤ changes.new) }
+    ensures made { IfOk (value_gone result) (λ a. IsSome a → changes.old + 1 ≤ changes.new) }
 {
     let node = cur.visit(visits);
     match step(node, key, visits) {
-        StepOf::Absent(_) => Ok(None),
+        StepOf::Absent(_) => Removed::Nothing,
         StepOf::Same(spot, value) => {
-            let block = spare.block(record_words(node))?;
-            cur.drop_entry(spot, block, changes);
-            Ok(Some(value))
+            let words = record_words(node);
+            drop_point(cur, spot, value, words, spare, changes)
         }
         StepOf::Below(spot, rank, below) => match point_among(below, 2, key) {
             Some((own, value)) => {
-                let block = spare.block(record_words(node) + 1)?;
-                cur.merge(spot, own.place, block, changes);
-                Ok(Some(value))
+                let words = record_words(node);
+                drop_child(cur, spot, own.place, value, words, spare, changes)
             }
             None => {
                 let slot = cur.child_mut(spot, rank);
                 del_at(slot.node_mut(), key, spare, visits, changes)
             }
         },
-        StepOf::Other(_) => Ok(None),
+        StepOf::Other(_) => Removed::Nothing,
     }
 }
 
+// Lets a point entry of a node go, whose record has so many words, and tells its value.
+#[inline(never)]
+fn drop_point<P: Dims, C: Ledger>(
+    cur: &mut NodeOf<P>,
+    spot: Spot,
+    value: u64,
+    words: usize,
+    spare: &mut Spare,
+    changes: &mut Steps<C>,
+) -> Removed
+    requires spot { IsSpot (entries cur.old) spot }
+    requires point { IsValue (what_at (entries cur.old) spot.place) }
+    requires many { 2 ≤ length (entries cur.old) }
+    requires words { words ≡ length (pack P.D cur.old) }
+    requires limit { words < 2 ^ 31 }
+    ensures answer { IfOk (value_gone result) (λ a. a ≡ Some value) }
+    ensures del { OnOk (value_gone result) (cur.new ≡ node_of cur.old.level (without (entries cur.old) spot.place)) }
+    ensures err { OnErr (value_gone result) (cur.new ≡ cur.old) }
+    ensures roomy { HasRoom spare.old words → IsOk (value_gone result) }
+    ensures changes { changes.new ≤ changes.old + 1 }
+    ensures spared { OnErr (value_gone result) (changes.new ≡ changes.old) }
+    ensures kept { changes.old ≤ changes.new }
+    ensures made { IfOk (value_gone result) (λ a. IsSome a → changes.old + 1 ≤ changes.new) }
+{
+    let Ok(block) = spare.block(words) else {
+        return Removed::Failed;
+    };
+    cur.drop_entry(spot, block, changes);
+    Removed::Gone(value)
+}
+
+// Lets the child of an entry and its point entry `j` go, in a node whose record has so many words, and tells the point's
+// value.
+#[inline(never)]
+fn drop_child<P: Dims, C: Ledger>(
+    cur: &mut NodeOf<P>,
+    spot: Spot,
+    j: usize,
+    value: u64,
+    words: usize,
+    spare: &mut Spare,
+    changes: &mut Steps<C>,
+) -> Removed
+    requires spot { IsSpot (entries cur.old) spot }
+    requires child { IsPair cur.old.level (body_at (entries cur.old) spot.place) (what_at (entries cur.old) spot.place) }
+    requires one { j < 2 }
+    requires point { IsValue (what_at (entries_held (what_at (entries cur.old) spot.place)) j) }
+    requires words { words ≡ length (pack P.D cur.old) }
+    requires limit { words < 2 ^ 31 }
+    ensures answer { IfOk (value_gone result) (λ a. a ≡ Some value) }
+    ensures del { OnOk (value_gone result) (cur.new ≡ merge_node cur.old spot.place j) }
+    ensures err { OnErr (value_gone result) (cur.new ≡ cur.old) }
+    ensures roomy { HasRoom spare.old (words + 1) → IsOk (value_gone result) }
+    ensures changes { changes.new ≤ changes.old + 2 }
+    ensures spared { OnErr (value_gone result) (changes.new ≡ changes.old) }
+    ensures kept { changes.old ≤ changes.new }
+    ensures made { IfOk (value_gone result) (λ a. IsSome a → changes.old + 1 ≤ changes.new) }
+{
+    let Ok(block) = spare.block(words + 1) else {
+        return Removed::Failed;
+    };
+    cur.merge(spot, j, block, changes);
+    Removed::Gone(value)
+}
+
 // The entry that is a point and its value, in a visited node of so many entries.
+#[inline(always)]
 fn point_among<P: Dims>(
     node: NodeRefOf<'_, NodeOf<P>>,
     entries: usize,
@@ -121,6 +216,16 @@ fn point_among<P: Dims>(
     if node.len() != entries {
         return None;
     }
+    point_in(node, key)
+}
+
+// The entry that is a point and its value, in a visited node.
+#[inline(never)]
+fn point_in<P: Dims>(node: NodeRefOf<'_, NodeOf<P>>, key: &KeyOf<P>) -> Option<(Spot, u64)>
+    requires lawful { IsLawfulFrom P.D (shown node).level 0 (shown node).chain }
+    requires level { (shown node).level < key.now.width }
+    ensures { IsAmong key.now.width key.now.point (shown node.entry) (length (entries (shown node.entry))) result }
+{
     let Ok(spot) = node.search(key.address(node.level())) else {
         return None;
     };

@@ -10,23 +10,23 @@ use std::alloc::Global;
 
 // A block for the record that a removal writes.
 #[derive(Drop)]
-pub(crate) enum Spare {
-    // It is taken from here, once the point is found.
-    Later(Global),
-    // It is there.
-    Now(Words),
+pub(crate) struct Spare {
+    // Where it is taken from, once the point is found.
+    pub(crate) alloc: Global,
+    // Or else one that is there.
+    pub(crate) there: Option<Words>,
 }
 
 impl Spare {
     // A block with room for so many words. One that is there is not taken anew.
-    pub(crate) fn block(self, room: usize) -> Result<Words, NoMemory>
+    pub(crate) fn block(&mut self, room: usize) -> Result<Words, NoMemory>
         requires { room < 2 ^ 32 }
         ensures room { IfOk result (λ b. room ≤ room_of b) }
-        ensures there { HasRoom self room → IsOk result }
+        ensures there { HasRoom self.old room → IsOk result }
     {
-        match self {
-            Spare::Later(alloc) => Words::with_room(alloc, room),
-            Spare::Now(words) => {
+        match self.there.take() {
+            None => Words::with_room(self.alloc, room),
+            Some(words) => {
                 if words.room() < room {
                     return Err(NoMemory);
                 }

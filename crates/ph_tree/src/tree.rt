@@ -249,8 +249,11 @@ impl<const D: usize> PhTree<D> {
         ensures made { IsSome (find self.old.table p.now) → OnOk result (changes.old + 1 ≤ changes.new) }
     {
         let key = KeyOf::new(self.width, p.as_slice());
-        let spare = Spare::Later(self.alloc);
-        match del_in(&mut self.root, &key, spare, visits, changes)? {
+        let mut spare = Spare {
+            alloc: self.alloc,
+            there: None,
+        };
+        match del_in(&mut self.root, &key, &mut spare, visits, changes)? {
             Some(value) => {
                 self.len -= 1;
                 Ok(Some(value))

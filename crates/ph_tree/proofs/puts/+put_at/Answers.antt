@@ -3,13 +3,14 @@ use Rattle.std.specs.Prelude.{IsSome}
 use Rattle.ph_specs.specs.Node.{node}
 use Rattle.ph_specs.specs.EntryEdits.{with_child}
 use Rattle.ph_table.specs.Rows.{put_answer}
+use Rattle.ph_tree.specs.Placed.{outcome}
 use Rattle.ph_tree.proofs.Walks.{IsStepAt, step_at, answered, answered_new, on_ok, on_err, always_err, not_none, some_none, absent_found, same_found, same_value, same_spot, same_put, below_node, below_spot, below_rank, below_lent, way_below, other_found, other_opened}
 use Rattle.ph_tree.proofs.puts.+put_at.Given.{Over}
 use Rattle.ph_tree.proofs.puts.+put_at.Goals.{After-step}
 use Rattle.ph_tree.proofs.puts.+put_at.Goals as goal
 
 -- what the step finds in the node
-stepped : (g : Over) (t : ℕ) (c : After-step g t) → IsStepAt g.P.Dims.D c.args.key.now.width c.args.key.now.point c.args.cur.now c.step.result (c.step.new.visits - c.visit-node.new.visits)
+stepped : (g : Over) (t : ℕ) (c : After-step g t) → IsStepAt g.P.Dims.D c.args.put.now.key.now.width c.args.put.now.key.now.point c.args.cur.now c.step.result (c.step.new.visits - c.visit-node.new.visits)
 stepped g t c = step_at c.visit-node.ensures.shows c.requires.lawful c.step.ensures.step
 
 pub set_value-requires : goal.set_value-requires
@@ -30,11 +31,11 @@ put_at-requires g t c κs within =
 
 pub returns-in-Absent-clause-answer : goal.returns-in-Absent-clause-answer
 returns-in-Absent-clause-answer g t c =
-    answered_new c.add_point.result _ (absent_found (stepped g t (goal.at.returns-in-Absent-clause-answer g t c).After-step) c.in-Absent.is) c.add_point.ensures.answer
+    answered_new (outcome c.add_point.result) _ (absent_found (stepped g t (goal.at.returns-in-Absent-clause-answer g t c).After-step) c.in-Absent.is) c.add_point.ensures.answer
 
 pub returns-in-Absent-clause-absent : goal.returns-in-Absent-clause-absent
 returns-in-Absent-clause-absent g t c =
-    always_err c.add_point.result (absent_found (stepped g t (goal.at.returns-in-Absent-clause-absent g t c).After-step) c.in-Absent.is)
+    always_err (outcome c.add_point.result) (absent_found (stepped g t (goal.at.returns-in-Absent-clause-absent g t c).After-step) c.in-Absent.is)
 
 pub returns-in-Same-clause-answer : goal.returns-in-Same-clause-answer
 returns-in-Same-clause-answer g t c =
@@ -42,7 +43,7 @@ returns-in-Same-clause-answer g t c =
 
 pub returns-in-Same-clause-put : goal.returns-in-Same-clause-put
 returns-in-Same-clause-put g t c =
-    c.set_value.ensures.node ∙ same_put (stepped g t (goal.at.returns-in-Same-clause-put g t c).After-step) c.in-Same.is c.args.v
+    c.set_value.ensures.node ∙ same_put (stepped g t (goal.at.returns-in-Same-clause-put g t c).After-step) c.in-Same.is c.args.put.now.value
 
 pub returns-in-Same-clause-refused : goal.returns-in-Same-clause-refused
 returns-in-Same-clause-refused g t c none full =
@@ -55,11 +56,11 @@ returns-in-Below g t c =
     let put = c.put_at.ensures in
     let over = with_child c.args.cur.now c.in-Below.spot.place in
     record {
-      answer = answered c.put_at.result _ _ (sym below.found) put.answer;
-      put = on_ok c.put_at.result (λ q. ap over q ∙ below.put c.args.v) put.put;
-      err = on_err c.put_at.result (λ q. ap over q ∙ below.back) put.err;
+      answer = answered (outcome c.put_at.result) _ _ (sym below.found) put.answer;
+      put = on_ok (outcome c.put_at.result) (λ q. ap over q ∙ below.put c.args.put.now.value) put.put;
+      err = on_err (outcome c.put_at.result) (λ q. ap over q ∙ below.back) put.err;
       full = put.full;
-      absent = on_err c.put_at.result (λ q. below.found ∙ q) put.absent;
+      absent = on_err (outcome c.put_at.result) (λ q. below.found ∙ q) put.absent;
       refused = λ none. put.refused (sym below.found ∙ none);
       visits = omega (arith, below.one, below.opened, c.in-Below.ensures.cost, put.visits, c.visit-node.ensures.cost);
       later = omega (arith, c.in-Below.ensures.cost, put.later, c.visit-node.ensures.cost);
@@ -80,11 +81,11 @@ returns-in-Other-clause-replaced g t c some =
 
 pub returns-in-Other-clause-answer : goal.returns-in-Other-clause-answer
 returns-in-Other-clause-answer g t c =
-    answered_new c.split_entry.result _ (other_found (stepped g t (goal.at.returns-in-Other-clause-answer g t c).After-step) c.in-Other.is) c.split_entry.ensures.answer
+    answered_new (outcome c.split_entry.result) _ (other_found (stepped g t (goal.at.returns-in-Other-clause-answer g t c).After-step) c.in-Other.is) c.split_entry.ensures.answer
 
 pub returns-in-Other-clause-absent : goal.returns-in-Other-clause-absent
 returns-in-Other-clause-absent g t c =
-    always_err c.split_entry.result (other_found (stepped g t (goal.at.returns-in-Other-clause-absent g t c).After-step) c.in-Other.is)
+    always_err (outcome c.split_entry.result) (other_found (stepped g t (goal.at.returns-in-Other-clause-absent g t c).After-step) c.in-Other.is)
 
 pub returns-in-Other-clause-visits : goal.returns-in-Other-clause-visits
 returns-in-Other-clause-visits g t c =

@@ -4,23 +4,21 @@ use Rattle.ph_tree.proofs.puts.split_entry.Given.{Over}
 use Rattle.ph_tree.proofs.puts.split_entry.Goals.{After-below}
 use Rattle.ph_tree.proofs.puts.split_entry.Goals as goal
 
--- the split at the greatest place where the body and the point's digits differ
-split_there : (g : Over) (c : After-below g) → Splits c.args.key.now.width g.P.Dims.D c.args.key.now.point c.args.cur.now c.args.spot c.args.place (take g.P.Dims.D c.below.result)
+-- the split where the body and the point's digits differ
+split_there : (g : Over) (c : After-below g) → Splits c.args.put.now.key.now.width g.P.Dims.D c.args.put.now.key.now.point c.args.cur.now c.args.spot (take g.P.Dims.D c.below.result)
 split_there g c =
-    splits c.requires.lawful c.requires.apart c.requires.level c.below.ensures.body.fields c.below.ensures.value c.requires.place
+    splits c.requires.lawful c.requires.apart c.requires.level c.below.ensures.body.fields c.below.ensures.value
 
 pub split-requires : goal.split-requires
 split-requires g c =
     let at = split_there g (goal.at.split-requires g c).After-below in
     record {
       spot = at.there;
-      lower = at.under;
       body = record { fields = at.digits; filled = c.below.ensures.body.filled };
       differ = at.apart;
-      place = at.at_place;
       above = at.over;
     }
 
 pub returns-in-Ok-clause-put : goal.returns-in-Ok-clause-put
 returns-in-Ok-clause-put g c =
-    c.in-Ok.ensures.ok ∙ (split_there g (goal.at.returns-in-Ok-clause-put g c).After-below).put c.args.v
+    c.in-Ok.ensures.ok ∙ (split_there g (goal.at.returns-in-Ok-clause-put g c).After-below).put c.args.put.now.value

@@ -1,14 +1,14 @@
-use Rattle.std.proofs.Common.{◌≡◌, ◌+◌, ◌-◌, ◌≤◌, ℕ, arith, refl, rules, sym, ap, ◌∙◌, subst, length}
+use Rattle.std.proofs.Common.{◌≡◌, ◌+◌, ◌-◌, ℕ, arith, refl, rules, sym, ap, ◌∙◌, subst, length}
 use Rattle.ph_specs.specs.Node.{node}
 use Rattle.ph_specs.specs.EntryEdits.{with_child}
 use Rattle.ph_specs.specs.Pack.{pack}
-use Rattle.ph_bits.specs.Block.{room_of}
+use Rattle.ph_tree.specs.Placed.{value_gone}
 use Rattle.ph_tree.specs.Spares.{HasRoom}
 use Rattle.ph_tree.proofs.Walks.{IsStepAt, step_at, absent_found, absent_opened, same_found, same_opened, same_value, same_spot, below_node, below_spot, below_rank, below_lent, way_below, some_none, found_as, on_ok, on_err, other_found, other_opened}
 use Rattle.ph_tree.proofs.Gone.{absent_del, other_del, same_del, same_many, below_left, below_del, merges}
 use Rattle.ph_tree.proofs.Wanted.{same_wanted, merge_wanted, child_wanted}
 use Rattle.ph_tree.proofs.removals.+del_at.Given.{Over}
-use Rattle.ph_tree.proofs.removals.+del_at.Goals.{After-step, After-record_words, After-record_words-in-Some}
+use Rattle.ph_tree.proofs.removals.+del_at.Goals.{After-step, After-record_words-words, After-record_words-words-in-Some}
 use Rattle.ph_tree.proofs.removals.+del_at.Goals as goal
 
 -- what the step finds in the node
@@ -16,23 +16,24 @@ stepped : (g : Over) (t : ℕ) (c : After-step g t) → IsStepAt g.P.Dims.D c.ar
 stepped g t c = step_at c.visit-node.ensures.shows c.requires.lawful c.step.ensures.step
 
 -- the words of the node's record, before an entry goes
-words_drop : (g : Over) (t : ℕ) (c : After-record_words g t) → c.record_words.result ≡ length (pack g.P.Dims.D c.args.cur.now)
-words_drop g t c = c.record_words.ensures.words ∙ ap (λ n. length (pack g.P.Dims.D n)) c.visit-node.ensures.shows
+words_drop : (g : Over) (t : ℕ) (c : After-record_words-words g t) → c.record_words-words.result ≡ length (pack g.P.Dims.D c.args.cur.now)
+words_drop g t c = c.record_words-words.ensures.words ∙ ap (λ n. length (pack g.P.Dims.D n)) c.visit-node.ensures.shows
 
 -- and before a child goes
-words_merge : (g : Over) (t : ℕ) (c : After-record_words-in-Some g t) → c.record_words-in-Some.result ≡ length (pack g.P.Dims.D c.args.cur.now)
+words_merge : (g : Over) (t : ℕ) (c : After-record_words-words-in-Some g t) → c.record_words-words-in-Some.result ≡ length (pack g.P.Dims.D c.args.cur.now)
 words_merge g t c =
-    c.record_words-in-Some.ensures.words ∙ ap (λ n. length (pack g.P.Dims.D n)) c.visit-node.ensures.shows
+    c.record_words-words-in-Some.ensures.words ∙ ap (λ n. length (pack g.P.Dims.D n)) c.visit-node.ensures.shows
 
-pub drop_entry-requires : goal.drop_entry-requires
-drop_entry-requires g t c =
-    let at = goal.at.drop_entry-requires g t c in
+pub drop_point-requires : goal.drop_point-requires
+drop_point-requires g t c =
+    let at = goal.at.drop_point-requires g t c in
     let k = stepped g t at.After-step in
     record {
       spot = same_spot k c.in-Same.is;
       point = same_value k c.in-Same.is;
       many = same_many k c.in-Same.is c.requires.left;
-      room = subst (λ n. n ≤ room_of c.in_ok-block-in-Same.block) (words_drop g t at.After-record_words) c.in_ok-block-in-Same.ensures.room;
+      words = words_drop g t at.After-record_words-words;
+      limit = c.record_words-words.ensures.limit;
     }
 
 pub point_among-requires : goal.point_among-requires
@@ -40,16 +41,17 @@ point_among-requires g t c =
     let below = way_below (stepped g t (goal.at.point_among-requires g t c).After-step) c.in-Below.is refl in
     record { lawful = below.lawful; level = omega (arith, below.lower, c.requires.level) }
 
-pub merge-requires : goal.merge-requires
-merge-requires g t c =
-    let at = goal.at.merge-requires g t c in
+pub drop_child-requires : goal.drop_child-requires
+drop_child-requires g t c =
+    let at = goal.at.drop_child-requires g t c in
     let m = merges (stepped g t at.After-step) c.in-Below.is c.in-Some.ensures in
     record {
       spot = m.there;
       child = m.pair;
       one = m.one;
       point = m.point;
-      room = subst (λ n. n + 1 ≤ room_of c.in_ok-block-in-Some.block) (words_merge g t at.After-record_words-in-Some) c.in_ok-block-in-Some.ensures.room;
+      words = words_merge g t at.After-record_words-words-in-Some;
+      limit = c.record_words-words-in-Some.ensures.limit;
     }
 
 pub child_mut-slot-requires : goal.child_mut-slot-requires
@@ -83,68 +85,48 @@ returns-in-Absent g t c =
       made = λ some. absurd cc;
     }
 
-pub returns-in_err-block-in-Same-clause-absent : goal.returns-in_err-block-in-Same-clause-absent
-returns-in_err-block-in-Same-clause-absent g t c none =
-    some_none (sym (same_found (stepped g t (goal.at.returns-in_err-block-in-Same-clause-absent g t c).After-step) c.in-Same.is) ∙ none)
-
-pub returns-in_err-block-in-Same-clause-roomy : goal.returns-in_err-block-in-Same-clause-roomy
-returns-in_err-block-in-Same-clause-roomy g t c room =
-    let at = goal.at.returns-in_err-block-in-Same-clause-roomy g t c in
-    let wanted = same_wanted (stepped g t at.After-step) c.in-Same.is ∙ sym (words_drop g t at.After-record_words) in
-    absurd (let no = c.in_err-block-in-Same.ensures.there (subst (HasRoom c.args.spare) wanted room) in cc)
-
-pub returns-in_ok-block-in-Same : goal.returns-in_ok-block-in-Same
-returns-in_ok-block-in-Same g t c =
-    let k = stepped g t (goal.at.returns-in_ok-block-in-Same g t c).After-step in
+pub returns-in-Same : goal.returns-in-Same
+returns-in-Same g t c =
+    let at = goal.at.returns-in-Same g t c in
+    let k = stepped g t at.After-step in
+    let drop = c.drop_point.ensures in
+    let wanted = same_wanted k c.in-Same.is ∙ sym (words_drop g t at.After-record_words-words) in
     record {
-      answer = sym (same_found k c.in-Same.is);
-      del = c.drop_entry.ensures.node ∙ same_del k c.in-Same.is;
-      err = tt;
-      absent = λ _. refl;
-      roomy = λ _. refl;
+      answer = found_as (value_gone c.drop_point.result) _ _ (sym (same_found k c.in-Same.is)) drop.answer;
+      del = on_ok (value_gone c.drop_point.result) (λ q. q ∙ same_del k c.in-Same.is) drop.del;
+      err = drop.err;
+      absent = λ none. some_none (sym (same_found k c.in-Same.is) ∙ none);
+      roomy = λ room. drop.roomy (subst (HasRoom c.args.spare.now) wanted room);
       visits = omega (arith, same_opened k c.in-Same.is, c.in-Same.ensures.cost, c.visit-node.ensures.cost);
       later = omega (arith, c.in-Same.ensures.cost, c.visit-node.ensures.cost);
-      changes = omega arith;
+      changes = omega (arith, drop.changes);
       idle = λ none. some_none (sym (same_found k c.in-Same.is) ∙ none);
-      spared = tt;
-      kept = omega arith;
-      made = λ _. omega arith;
+      spared = drop.spared;
+      kept = drop.kept;
+      made = drop.made;
     }
 
-pub returns-in_err-block-in-Some-clause-absent : goal.returns-in_err-block-in-Some-clause-absent
-returns-in_err-block-in-Some-clause-absent g t c none =
-    let m = merges (stepped g t (goal.at.returns-in_err-block-in-Some-clause-absent g t c).After-step) c.in-Below.is c.in-Some.ensures in
-    some_none (sym m.found ∙ none)
-
-pub returns-in_err-block-in-Some-clause-roomy : goal.returns-in_err-block-in-Some-clause-roomy
-returns-in_err-block-in-Some-clause-roomy g t c room =
-    let at = goal.at.returns-in_err-block-in-Some-clause-roomy g t c in
-    let wanted = merge_wanted (stepped g t at.After-step) c.in-Below.is c.in-Some.own c.in-Some.value c.in-Some.ensures ∙ ap (λ n. n + 1) (sym (words_merge g t at.After-record_words-in-Some)) in
-    absurd (let no = c.in_err-block-in-Some.ensures.there (subst (HasRoom c.args.spare) wanted room) in cc)
-
-pub returns-in_err-block-in-Some-clause-visits : goal.returns-in_err-block-in-Some-clause-visits
-returns-in_err-block-in-Some-clause-visits g t c =
-    let below = way_below (stepped g t (goal.at.returns-in_err-block-in-Some-clause-visits g t c).After-step) c.in-Below.is refl in
-    omega (arith, below.one, below.opened, c.in-Below.ensures.cost, c.visit-node.ensures.cost)
-
-pub returns-in_ok-block-in-Some : goal.returns-in_ok-block-in-Some
-returns-in_ok-block-in-Some g t c =
-    let k = stepped g t (goal.at.returns-in_ok-block-in-Some g t c).After-step in
+pub returns-in-Some : goal.returns-in-Some
+returns-in-Some g t c =
+    let at = goal.at.returns-in-Some g t c in
+    let k = stepped g t at.After-step in
     let m = merges k c.in-Below.is c.in-Some.ensures in
     let below = way_below k c.in-Below.is refl in
+    let drop = c.drop_child.ensures in
+    let wanted = merge_wanted k c.in-Below.is c.in-Some.own c.in-Some.value c.in-Some.ensures ∙ ap (λ n. n + 1) (sym (words_merge g t at.After-record_words-words-in-Some)) in
     record {
-      answer = sym m.found;
-      del = c.merge.ensures.node ∙ m.del;
-      err = tt;
-      absent = λ _. refl;
-      roomy = λ _. refl;
+      answer = found_as (value_gone c.drop_child.result) _ _ (sym m.found) drop.answer;
+      del = on_ok (value_gone c.drop_child.result) (λ q. q ∙ m.del) drop.del;
+      err = drop.err;
+      absent = λ none. some_none (sym m.found ∙ none);
+      roomy = λ room. drop.roomy (subst (HasRoom c.args.spare.now) wanted room);
       visits = omega (arith, below.one, below.opened, c.in-Below.ensures.cost, c.visit-node.ensures.cost);
       later = omega (arith, c.in-Below.ensures.cost, c.visit-node.ensures.cost);
-      changes = omega arith;
+      changes = drop.changes;
       idle = λ none. some_none (sym m.found ∙ none);
-      spared = tt;
-      kept = omega arith;
-      made = λ _. omega arith;
+      spared = drop.spared;
+      kept = drop.kept;
+      made = drop.made;
     }
 
 pub returns-in-None : goal.returns-in-None
@@ -155,11 +137,11 @@ returns-in-None g t c =
     let del = c.del_at.ensures in
     let over = with_child c.args.cur.now c.in-Below.spot.place in
     record {
-      answer = found_as c.del_at.result _ _ (sym below.found) del.answer;
-      del = on_ok c.del_at.result (λ q. ap over q ∙ below_del k c.in-Below.is is c.in-None.ensures) del.del;
-      err = on_err c.del_at.result (λ q. ap over q ∙ below.back) del.err;
+      answer = found_as (value_gone c.del_at.result) _ _ (sym below.found) del.answer;
+      del = on_ok (value_gone c.del_at.result) (λ q. ap over q ∙ below_del k c.in-Below.is is c.in-None.ensures) del.del;
+      err = on_err (value_gone c.del_at.result) (λ q. ap over q ∙ below.back) del.err;
       absent = λ none. del.absent (sym below.found ∙ none);
-      roomy = λ room. del.roomy (subst (HasRoom c.args.spare) (child_wanted k c.in-Below.is is c.in-None.ensures) room);
+      roomy = λ room. del.roomy (subst (HasRoom c.args.spare.now) (child_wanted k c.in-Below.is is c.in-None.ensures) room);
       visits = omega (arith, below.one, below.opened, c.in-Below.ensures.cost, del.visits, c.visit-node.ensures.cost);
       later = omega (arith, c.in-Below.ensures.cost, del.later, c.visit-node.ensures.cost);
       changes = del.changes;

@@ -57,9 +57,9 @@ returns-in-Some g c =
       made = λ _. del.made (rw c.in-Some.is refl);
     }
 
-pub returns-in-None : goal.returns-in-None
-returns-in-None g c =
-    let k = keyed g (goal.at.returns-in-None g c).After-del_in in
+pub returns : goal.returns
+returns g c =
+    let k = keyed g (goal.at.returns g c).After-del_in in
     let del = c.in_ok-value.ensures in
     let row = removal k del.del del.answer in
     record {

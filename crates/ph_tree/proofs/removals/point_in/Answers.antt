@@ -1,0 +1,55 @@
+use Rattle.std.proofs.Common.{length, refl, sym, ap, ◌∙◌}
+use Rattle.ph_specs.specs.Node.{entries}
+use Rattle.ph_node.specs.Shown.{shown, what_of}
+use Rattle.ph_tree.specs.Step.{IsAt}
+use Rattle.ph_tree.proofs.Steps.{entry_at, at_entry, same_below, other_below}
+use Rattle.ph_tree.proofs.Gone.{nowhere_is, none_among, other_among, child_among}
+use Rattle.ph_tree.proofs.removals.point_in.Given.{Over}
+use Rattle.ph_tree.proofs.removals.point_in.Goals.{In-Ok}
+use Rattle.ph_tree.proofs.removals.point_in.Goals as goal
+
+-- the entry that was found stands at the point's address
+at : (g : Over) (c : In-Ok g) → IsAt c.args.key.now.width c.args.key.now.point (shown c.args.node) c.in-Ok.spot (entry_at (entries (shown c.args.node)) c.in-Ok.spot.place)
+at g c =
+    at_entry c.args.key.now.width c.args.key.now.point (shown c.args.node) _ _ c.in-Ok.spot c.level.ensures.value c.address.ensures.value c.in-Ok.ensures.found c.in-Ok.ensures.spot
+
+pub what-requires : goal.what-requires
+what-requires g c = c.in-Ok.ensures.spot
+
+pub is_below-requires : goal.is_below-requires
+is_below-requires g c =
+    record { spot = c.in-Ok.ensures.spot; dims = c.offsets.ensures.dims }
+
+pub returns-in_default : goal.returns-in_default
+returns-in_default g c =
+    none_among c.args.key.now.width g.P.Dims.D c.args.key.now.point (shown c.args.node) c.requires.lawful (length (entries (shown c.args.node)))
+    (nowhere_is c.args.key.now.width c.args.key.now.point (shown c.args.node) _ _ c.level.ensures.value c.address.ensures.value c.in_default.ensures.absent)
+
+pub returns-then-is_below : goal.returns-then-is_below
+returns-then-is_below g c =
+    let n = shown c.args.node in
+    let x = entry_at (entries n) c.in-Ok.spot.place in (
+      refl,
+      (
+        x,
+        at g (goal.at.returns-then-is_below g c).In-Ok,
+        sym c.what.ensures ∙ ap (λ u. what_of u) c.in-Value.is,
+        same_below c.args.key.now.width n.level c.args.key.now.point x.body _ _ c.offsets.ensures.value c.is_below.ensures c.if-is_below.true,
+      ),
+    )
+
+pub returns-else-is_below : goal.returns-else-is_below
+returns-else-is_below g c =
+    let n = shown c.args.node in
+    let x = entry_at (entries n) c.in-Ok.spot.place in
+    other_among c.args.key.now.width g.P.Dims.D c.args.key.now.point n c.requires.lawful _ (length (entries (shown c.args.node))) x c.in-Value.value
+    (at g (goal.at.returns-else-is_below g c).In-Ok)
+    (sym c.what.ensures ∙ ap (λ u. what_of u) c.in-Value.is)
+    (other_below c.args.key.now.width n.level c.args.key.now.point x.body _ _ c.offsets.ensures.value c.is_below.ensures c.if-is_below.false)
+
+pub returns-in-Child : goal.returns-in-Child
+returns-in-Child g c =
+    let n = shown c.args.node in
+    child_among c.args.key.now.width g.P.Dims.D c.args.key.now.point n c.requires.lawful _ (length (entries (shown c.args.node))) (entry_at (entries n) c.in-Ok.spot.place) _
+    (at g (goal.at.returns-in-Child g c).In-Ok)
+    (sym c.what.ensures ∙ ap (λ u. what_of u) c.in-Child.is)

@@ -1,0 +1,23 @@
+-- What came of a put or of a removal, as an answer or an error.
+use Rattle.std.specs.Prelude.{ℕ, Option, Some, None, Result, Ok, Err}
+use Rattle.std.specs.Allocator.{alloc_error}
+use Rattle.std.specs.declared.alloc.AllocError.{AllocError}
+use Rattle.ph_table.specs.declared.table.Put.{Put}
+use Rattle.ph_table.specs.declared.table.Put.TheVariants.{New, Old}
+use Rattle.ph_tree.specs.declared.error.PutError.{PutError}
+use Rattle.ph_tree.specs.declared.error.PutError.TheVariants.{Full, NoMemory}
+use Rattle.ph_tree.specs.declared.puts.Placed.{Placed}
+use Rattle.ph_tree.specs.declared.puts.Placed.TheVariants.{Joined, Replaced, Refused, Failed}
+use Rattle.ph_tree.specs.declared.removals.Removed.{Removed}
+use Rattle.ph_tree.specs.declared.removals.Removed.TheVariants.{Nothing, Gone, Failed as Broken}
+
+abbrev pub outcome : Placed → Result Put PutError
+outcome Joined = Ok New
+outcome (Replaced old) = Ok (Old old)
+outcome Refused = Err Full
+outcome Failed = Err NoMemory
+
+abbrev pub value_gone : Removed → Result (Option ℕ) AllocError
+value_gone Nothing = Ok None
+value_gone (Gone v) = Ok (Some v)
+value_gone Broken = Err alloc_error
