@@ -1,9 +1,10 @@
 -- The frames of a path, as a walk goes on.
-use Rattle.std.proofs.Common.{◌≡◌, ℕ, zero, suc, ◌+◌, ◌<◌, ◌≤◌, List, [], ◌∷◌, ◌++◌, length, drop, refl, sym, ◌∙◌, ap, arith, add-one}
+use Rattle.std.proofs.Common.{◌≡◌, ℕ, zero, suc, ◌+◌, ◌<◌, ◌≤◌, List, [], ◌∷◌, ◌++◌, length, drop, false, refl, sym, ◌∙◌, ap, arith, add-one}
 use Rattle.std.specs.Prelude.{Option, Some, None, slice_get}
-use Rattle.ph_specs.specs.Node.{Entries, Entry, What, PlainNode, chained, in_front, entries}
+use Rattle.ph_specs.specs.Node.{Entries, Entry, What, value, node, PlainNode, chained, in_front, entries}
 use Rattle.ph_specs.specs.EntryEdits.{what_at}
 use Rattle.ph_specs.specs.PutTree.{body_above}
+use Rattle.ph_node.specs.Kinds.{is_node}
 use Rattle.ph_node.specs.Merge.{addr_at}
 use Rattle.ph_node.specs.Shown.{shown}
 use Rattle.ph_node.specs.Split.{body_at}
@@ -38,6 +39,11 @@ drop-at {X = X} es i x g = by_suc es i g ∙ ap {B = List X} (λ n. x ∷ drop n
 
 pub entry-first : (es : List Entry) (i : ℕ) (x : Entry) → slice_get es i ≡ Some x → chained (drop i es) ≡ in_front x.addr x.body x.what (chained (drop (i + 1) es))
 entry-first es i x g = ap chained (drop-at es i x g)
+
+-- an entry that is no child is a point
+pub point-of : (o : What) → is_node o ≡ false → (n : ℕ) × (o ≡ value n)
+point-of (value n) e = (n, refl)
+point-of (node n) e = absurd cc
 
 -- the entry that stands at a spot
 pub read-entry : (es : List Entry) (s : Spot) {i : ℕ} {o : What} → s.place ≡ i → IsSpot es s → o ≡ what_at es s.place → slice_get es i ≡ Some (record { addr = s.addr; body = body_at es s.place; what = o })

@@ -3,7 +3,7 @@ use Rattle.std.proofs.Common.{◌≡◌, ℕ, ◌^◌, ◌<◌, ◌≤◌, List,
 use Rattle.std.specs.Prelude.{nat_le}
 use Rattle.std.specs.List.{AllByRecursion as Each}
 use Rattle.ph_specs.specs.Coordinate.{at_most}
-use Rattle.ph_specs.specs.Lawful.{IsBody}
+use Rattle.ph_specs.specs.Lawful.{IsBody, put_together}
 use Rattle.ph_specs.specs.Masks.{masks}
 use Rattle.ph_specs.specs.Window.{is_between}
 use Rattle.ph_specs.specs.WindowWalk.{node_region}
@@ -13,11 +13,12 @@ use Rattle.ph_specs.proofs.lemmas.Tests.{and-parts, and-made}
 use Rattle.ph_specs.specs.PutTree.{body_above}
 use Rattle.ph_zorder.specs.Sides.{side_masks}
 use Rattle.ph_zorder.proofs.Sides.{masks-node}
+use Rattle.ph_node.specs.Between.{each_between}
 use Rattle.ph_path.specs.Known.{point_at}
-use Rattle.ph_window.specs.Bounds.{Bounds, bounds_at, AreBounds, each_between}
+use Rattle.ph_window.specs.Bounds.{Bounds, bounds_at, AreBounds}
 use Rattle.ph_digits.proofs.Joins.{above-long}
 use Rattle.ph_path.specs.Known.{Known}
-use Rattle.ph_path.proofs.Knowns.{wider}
+use Rattle.ph_path.proofs.Knowns.{wider, joined-body}
 use Rattle.ph_window.proofs.MaskDigits.{masks-above}
 
 between-below : (los his ps : List ℕ) → length los ≡ length ps → length his ≡ length ps → each_between los his ps ≡ true → Below los ps × Below ps his
@@ -78,14 +79,33 @@ module _ (d n w : ℕ) (known low high ks : List ℕ) (e : n ≡ d) (h : AreBoun
       (λ i. each_between (take (e i) low) (take (e i) high) (s i)) ∙ between-is d (cut d w known low high) h
       ∙ ap (λ s. is_between (point_at s.width s.low) (point_at s.width s.high) (point_at s.width s.known)) v
 
+  -- the digits at hand with those of an entry behind them
+  pub entry-seen : (seen : Bounds) (level a : ℕ) (body : List ℕ) → cut d w known low high ≡ seen → level < seen.width → IsBody d level body → each_between (take n low) (take n high) (put_together level a (body_above level ks) body) ≡ is_between (point_at seen.width seen.low) (point_at seen.width seen.high) (point_at seen.width (put_together level a (body_above level seen.known) body))
+  entry-seen seen level a body v l b =
+      let joined : AreBounds d (cut d w (put_together level a (body_above level known) body) low high) = record {
+        some = h.some;
+        few = h.few;
+        wide = h.wide;
+        narrow = h.narrow;
+        digits = joined-body d w level a known body (subst (λ s. level < s.width) (sym v) l) h.digits b;
+        starts = h.starts;
+        ends = h.ends;
+      } in
+      (λ i. each_between (take (e i) low) (take (e i) high) (put_together level a (body_above level (s i)) body))
+      ∙ between-is d (cut d w (put_together level a (body_above level known) body) low high) joined
+      ∙ ap (λ s. is_between (point_at s.width s.low) (point_at s.width s.high) (point_at s.width (put_together level a (body_above level s.known) body))) v
+
   pub masks-seen : (seen : Bounds) (level : ℕ) → cut d w known low high ≡ seen → level < seen.width → side_masks level ks (take n low) (take n high) ≡ masks seen.width (node_region seen.width level (body_above level seen.known)) (point_at seen.width seen.low) (point_at seen.width seen.high)
   masks-seen seen level v l =
       (λ i. side_masks level (s i) (take (e i) low) (take (e i) high))
       ∙ masks-are d level (cut d w known low high) h (subst (λ s. level < s.width) (sym v) l)
       ∙ ap (λ s. masks s.width (node_region s.width level (body_above level s.known)) (point_at s.width s.low) (point_at s.width s.high)) v
 
+  pub body-seen : IsBody d 62 ks
+  body-seen = subst (IsBody d 62) (sym s) (wider d w 62 known h.narrow h.digits)
+
   pub small-seen : Each (λ x. x < 2 ^ 62) ks
-  small-seen = subst (Each (λ x. x < 2 ^ 62)) (sym s) (wider d w 62 known h.narrow h.digits).1
+  small-seen = body-seen.1
 
 -- other digits of the same width
 pub joined-bounds : {d w : ℕ} {known low high digits : List ℕ} → AreBounds d (bounds_at w known low high) → (k : Known) → k.width ≡ w → IsBody d k.width digits → digits ≡ k.digits → AreBounds d (bounds_at k.width k.digits low high)

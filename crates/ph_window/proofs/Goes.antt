@@ -8,6 +8,7 @@ use Rattle.ph_specs.specs.Masks.{masks}
 use Rattle.ph_specs.specs.Window.{is_between}
 use Rattle.ph_specs.specs.WindowWalk.{node_region, listed_below, opened_below}
 use Rattle.ph_specs.specs.PutTree.{body_above}
+use Rattle.ph_node.specs.Kinds.{is_node}
 use Rattle.ph_node.specs.Shown.{shown}
 use Rattle.ph_node.specs.declared.reads.NodeRefOf.{NodeRefOf}
 use Rattle.ph_window.specs.Frames.{FrameOf}
@@ -19,8 +20,8 @@ use Rattle.ph_window.specs.Enters.{IsEntered}
 use Rattle.ph_path.specs.Path.{path_steps, root_steps, entry_steps, AreOver}
 use Rattle.ph_window.specs.Walk.{IsFrame, Walk, walk_of, path_rows, path_nodes, root_rows, root_nodes, IsWalk, IsStep}
 use Rattle.ph_path.proofs.Knowns.{above-top}
-use Rattle.ph_path.proofs.Paths.{few-frames}
-use Rattle.ph_window.proofs.Steps.{HasEntered, frame-masks, rest-walk, entered, done-rows, done-nodes, after-walk, found-rows, found-nodes, found-steps, child-lower, child-lawful, child-over, below-rows, below-nodes, below-steps}
+use Rattle.ph_path.proofs.Paths.{point-of, few-frames}
+use Rattle.ph_window.proofs.Steps.{HasEntered, frame-masks, rest-walk, entered, done-rows, done-nodes, after-walk, found-rows, found-nodes, found-steps, passed-walk as still-walk, passed-rows, passed-nodes, child-lower, child-lawful, child-over, below-rows, below-nodes, below-steps}
 
 module _ {d : ℕ} {b : Bounds} {root : Option PlainNode} {path : List (FrameOf PlainNode)} {old : Walk} (h : IsWalk d b root path) (v : walk_of d b root path ≡ old) where
   abbrev lo : List ℤ
@@ -130,6 +131,28 @@ module _ {d : ℕ} {b : Bounds} {root : Option PlainNode} {path : List (FrameOf 
       done-visits =
           let z : path_nodes b.width lo hi b.known (f ∷ fs) ≡ path_nodes b.width lo hi b.known fs = done-nodes d b root f fs top-walk s in
           let y : path_nodes b.width lo hi b.known new ≡ path_nodes b.width lo hi b.known fs = ap (path_nodes b.width lo hi b.known) into in
+          omega (arith, top-visits, z, y)
+
+    -- a point outside of the window is passed over
+    module _ {i : ℕ} {x : Entry} (at : slice_get (entries (shown f.node)) i ≡ Some x) (next : IsNextEntry f.note.lower f.note.upper (entries (shown f.node)) f.place i) (kind : is_node x.what ≡ false) (out : is_between lo hi (point_at b.width (put_together (shown f.node).level x.addr (body_above (shown f.node).level b.known) x.body)) ≡ false) {new : List (FrameOf PlainNode)} (into : new ≡ record { node = f.node; place = i + 1; note = f.note } ∷ fs) where
+      point : (n : ℕ) × (x.what ≡ value n)
+      point = point-of x.what kind
+
+      pub passed-walk : IsWalk d b root new
+      passed-walk = subst (IsWalk d b root) (sym into) (still-walk d b root f fs top-walk i x at next)
+
+      pub passed-step : IsStep old (walk_of d b root new) Moved
+      passed-step =
+          let z : path_steps new ≡ path_steps (record { node = f.node; place = i + 1; note = f.note } ∷ fs) = ap path_steps into in
+          let y : path_steps (record { node = f.node; place = i + 1; note = f.note } ∷ fs) < path_steps (f ∷ fs) = found-steps d b root f fs top-walk i x at next point.0 point.1 in (
+            top-rest ∙ ap (λ t. t ++ root_rows b.width d lo hi root) (passed-rows d b root f fs top-walk i x at next point.0 point.1 out ∙ sym (ap (path_rows b.width lo hi b.known) into)),
+            omega (arith, top-steps, z, y),
+          )
+
+      pub passed-visits : (walk_of d b root new).visits ≡ old.visits
+      passed-visits =
+          let z : path_nodes b.width lo hi b.known (f ∷ fs) ≡ path_nodes b.width lo hi b.known (record { node = f.node; place = i + 1; note = f.note } ∷ fs) = passed-nodes d b root f fs top-walk i x at next point.0 point.1 in
+          let y : path_nodes b.width lo hi b.known new ≡ path_nodes b.width lo hi b.known (record { node = f.node; place = i + 1; note = f.note } ∷ fs) = ap (path_nodes b.width lo hi b.known) into in
           omega (arith, top-visits, z, y)
 
     -- an entry that is found, and the walk behind it

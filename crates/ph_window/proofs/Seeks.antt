@@ -2,16 +2,16 @@
 use Rattle.std.proofs.Common.{◌≡◌, ℕ, zero, suc, ◌+◌, ◌<◌, ◌≤◌, List, [], ◌∷◌, length, refl, sym, ◌∙◌, ap, subst, arith, cond, Bool, true, false, leb-true, leb-false, ltb-false, get_or, inl, inr}
 use Rattle.std.specs.Prelude.{Option, Some, None, MatchOption, nat_le, nat_lt, slice_get, position}
 use Rattle.std.specs.List.{position_or_len}
-use Rattle.std.proofs.lemmas.Bool.{cases_lt}
+use Rattle.std.proofs.lemmas.Bool.{cases_lt, le-leb, lt-leb, lt-ltb}
 use Rattle.std.proofs.lemmas.Option.{slice_get_within, get_or_from_slice_get, slice_get-get_or}
 use Rattle.std.proofs.lemmas.List.Quantifiers.{position-Some}
-use Rattle.std.proofs.lemmas.List.Sums.{fails_before_first}
+use Rattle.std.proofs.lemmas.List.Sums.{fails_before_first, position_or_len_is}
 use Rattle.ph_specs.specs.EntryEdits.{point_entry}
 use Rattle.ph_specs.specs.Node.{Entries, end, point, child, Entry, listed}
 use Rattle.ph_specs.specs.Lawful.{IsLawfulFrom}
 use Rattle.ph_specs.specs.Masks.{fits_masks, IsNextOf}
 use Rattle.ph_specs.proofs.laws.MaskBounds.{fits-between}
-use Rattle.ph_window.specs.Seek.{AreShut, IsPassed}
+use Rattle.ph_window.specs.Seek.{AreBelow, AreShut, IsPassed}
 
 -- ---- addresses rise
 
@@ -71,6 +71,31 @@ pub at-position : (k : ℕ) (es : List Entry) (i : ℕ) → position (λ e. nat_
 at-position k es i h =
     let p = position-Some (λ e. nat_le k e.addr) es i no_entry h in
     (p.0, leb-true k (get_or es i no_entry).addr p.1)
+
+pub below-next : (k : ℕ) (es : List Entry) (i : ℕ) (x : Entry) → slice_get es i ≡ Some x → x.addr < k → AreBelow k es i → AreBelow k es (i + 1)
+below-next k es i x at h b j e l g =
+    elim (cases_lt j i) [
+      | inl m ↦ b j e m g
+      | inr m ↦
+          let same : j ≡ i = omega (arith, l, m) in
+          let o : ◌≡◌ {A = Option Entry} (Some e) (Some x) = sym g ∙ ap (slice_get es) same ∙ at in
+          let y : e ≡ x = cc in
+          subst (λ z. z.addr < k) (sym y) h
+    ]
+
+pub rising-below : (k : ℕ) (es : List Entry) (i : ℕ) (x : Entry) → Rising 0 es → slice_get es i ≡ Some x → x.addr < k → AreBelow k es (i + 1)
+rising-below k es i x r at h =
+    below-next k es i x at h (λ j e l g. let v : e.addr < x.addr = later 0 es j i e x r g at l in omega (arith, v, h))
+
+pub first-position : (k : ℕ) (es : List Entry) (i : ℕ) (x : Entry) → AreBelow k es i → slice_get es i ≡ Some x → k ≤ x.addr → position (λ e. nat_le k e.addr) es ≡ Some i
+first-position k es i x b at h =
+    let w = entry-at es i x at in
+    let m : i < length es = w.0 in
+    let e : position_or_len (λ e. nat_le k e.addr) es ≡ i =
+    position_or_len_is (λ e. nat_le k e.addr) es i no_entry (omega (arith, m))
+    (λ j l. lt-leb k (get_or es j no_entry).addr (b j (get_or es j no_entry) l (slice_get-get_or es j no_entry (omega (arith, l, m)))))
+    (λ l. ap (λ y. nat_le k y.addr) w.1 ∙ le-leb k x.addr h) in
+    rw (e, lt-ltb i (length es) m) refl
 
 -- ---- what is passed over
 

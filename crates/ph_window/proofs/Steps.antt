@@ -189,6 +189,15 @@ module _ (d : ℕ) (b : Bounds) (root : Option PlainNode) (f : FrameOf PlainNode
           way = (frame-kept d w level lo hi b.known joined kept moved (omega arith) k, h.way.1, way-kept d w level lo hi b.known joined kept fs h.way.1 h.way.2);
         }
 
+    -- an entry that is passed over leaves the digits as they were
+    pub passed-walk : IsWalk d b root (moved ∷ fs)
+    passed-walk =
+        record {
+          bounds = h.bounds;
+          tree = h.tree;
+          way = (record { level = h.way.0.level; lawful = h.way.0.lawful; masks = h.way.0.masks }, h.way.1, h.way.2);
+        }
+
     abbrev behind : Entries
     behind = chained (drop (i + 1) (entries (shown f.node)))
 
@@ -223,6 +232,17 @@ module _ (d : ℕ) (b : Bounds) (root : Option PlainNode) (f : FrameOf PlainNode
       found-nodes =
           ap (λ t. t + path_nodes w lo hi b.known fs) (first-nodes ∙ ap (λ t. length (opened_below w lo hi level known t)) (entry-first es i x at) ∙ ap length (value-nodes w level known lo hi x behind opens v is))
           ∙ nodes-behind
+
+      -- outside of the window
+      pub passed-rows : is_between lo hi (point_at w joined) ≡ false → path_rows w lo hi b.known (f ∷ fs) ≡ path_rows w lo hi b.known (moved ∷ fs)
+      passed-rows out =
+          ap (λ t. t ++ path_rows w lo hi b.known fs)
+          (first-rows ∙ ap (listed_below w lo hi level known) (entry-first es i x at) ∙ value-rows w level known lo hi x behind opens v is
+          ∙ ap (λ t. if t then row (point_at w joined) v ∷ listed_below w lo hi level known behind else listed_below w lo hi level known behind) out)
+
+      pub passed-nodes : path_nodes w lo hi b.known (f ∷ fs) ≡ path_nodes w lo hi b.known (moved ∷ fs)
+      passed-nodes =
+          ap (λ t. t + path_nodes w lo hi b.known fs) (first-nodes ∙ ap (λ t. length (opened_below w lo hi level known t)) (entry-first es i x at) ∙ ap length (value-nodes w level known lo hi x behind opens v is))
 
       pub found-steps : path_steps (moved ∷ fs) < path_steps (f ∷ fs)
       found-steps =

@@ -1,5 +1,5 @@
 -- A window, and the digits that are known where a walk stands.
-use Rattle.std.specs.Prelude.{ℕ, ◌≤◌, Bool, true, ◌&&◌, nat_le, List, ◌∷◌}
+use Rattle.std.specs.Prelude.{ℕ, ◌≤◌, List}
 use Rattle.ph_specs.specs.Lawful.{IsBody}
 
 -- the corners and the digits, by offsets
@@ -20,8 +20,3 @@ pub record AreBounds (d : ℕ) (b : Bounds) : Type 0 where
   pub digits : IsBody d b.width b.known
   pub starts : IsBody d b.width b.low
   pub ends : IsBody d b.width b.high
-
--- whether each number lies between two others
-abbrev pub each_between : List ℕ → List ℕ → List ℕ → Bool
-each_between (a ∷ lo) (b ∷ hi) (x ∷ p) = (nat_le a x && nat_le x b) && each_between lo hi p
-each_between _ _ _ = true

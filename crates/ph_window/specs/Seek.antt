@@ -18,3 +18,7 @@ pub record IsNextEntry (lower upper : ℕ) (es : List Entry) (place i : ℕ) : T
   pub behind : place ≤ i
   pub entry : (x : Entry) × (slice_get es i ≡ Some x) × (fits_masks x.addr lower upper ≡ true)
   pub shut : AreShut lower upper es place i
+
+-- up to a place all addresses are less
+abbrev pub AreBelow : ℕ → List Entry → ℕ → Type 0
+AreBelow addr es to = (j : ℕ) → (e : Entry) → j < to → slice_get es j ≡ Some e → e.addr < addr

@@ -1,6 +1,7 @@
 //! The window, and the digits that are known where a walk stands.
-ghost use Rattle.std.specs.Prelude.{◌≡◌, ◌<◌, ◌≤◌, ◌&&◌, nat_le, length, take, map, replicate};
+ghost use Rattle.std.specs.Prelude.{◌≡◌, ◌<◌, ◌≤◌, ◌&&◌, nat_le, true, false, length, take, map, replicate};
 ghost use Rattle.ph_specs.specs.Coordinate.{offset, IsPoint};
+ghost use Rattle.ph_specs.specs.EntryEdits.{what_at};
 ghost use Rattle.ph_specs.specs.Lawful.{put_together};
 ghost use Rattle.ph_specs.specs.Node.{entries};
 ghost use Rattle.ph_specs.specs.Window.{is_between as lies_between};
@@ -8,11 +9,13 @@ ghost use Rattle.ph_specs.specs.Masks.{masks as the_masks};
 ghost use Rattle.ph_specs.specs.WindowWalk.{node_region};
 ghost use Rattle.ph_specs.specs.PutTree.{body_above};
 ghost use Rattle.ph_specs.specs.ZOrder.{before};
+ghost use Rattle.ph_node.specs.Between.{each_between};
+ghost use Rattle.ph_node.specs.Kinds.{is_node};
 ghost use Rattle.ph_node.specs.Shown.{shown};
 ghost use Rattle.ph_node.specs.Split.{body_at};
 ghost use Rattle.ph_node.specs.Spots.{IsSpot};
 ghost use Rattle.ph_path.specs.Known.{known_at, point_at};
-ghost use Rattle.ph_window.specs.Bounds.{bounds_at, each_between};
+ghost use Rattle.ph_window.specs.Bounds.{bounds_at};
 ghost use Rattle.ph_window.specs.Resumed.{IsStand};
 
 use crate::mark::MarkOf;
@@ -22,6 +25,9 @@ use ph_node::{NodeOf, NodeRefOf, Spot};
 use ph_path::KnownOf;
 use ph_zorder::offset_masks;
 use std::marker::Model;
+
+// In up to so many dimensions most of the points that a walk comes to are in the window, and a look ahead does not pay.
+const FEW_DIMS: usize = 3;
 
 // How a point stands to a region: it holds it, or all its points come later, or earlier.
 #[derive(Drop)]
@@ -86,6 +92,21 @@ impl<P: Dims> BoundsOf<P> {
             &self.low[..dims],
             &self.high[..dims],
         )
+    }
+
+    // Whether an entry is a point outside of the window, told before anything is joined. In few dimensions it answers no.
+    pub(crate) fn rules_out(&self, node: NodeRefOf<'_, NodeOf<P>>, spot: Spot) -> bool
+        requires level { (shown node).level < self.now.width }
+        requires spot { IsSpot (entries (shown node)) spot }
+        ensures point { result ≡ true → is_node (what_at (entries (shown node.entry)) spot.place) ≡ false }
+        ensures outside { result ≡ true → lies_between (point_at self.now.width self.now.low) (point_at self.now.width self.now.high) (point_at self.now.width (put_together (shown node.entry).level spot.addr (body_above (shown node.entry).level self.now.known) (body_at (entries (shown node.entry)) spot.place))) ≡ false }
+    {
+        let known = self.known.digits();
+        if known.len() <= FEW_DIMS || node.is_child(spot) {
+            return false;
+        }
+        let dims = P::D;
+        !node.lies_between(spot, known, &self.low[..dims], &self.high[..dims])
     }
 
     // Puts the digits of an entry behind those that are known above its node's level.

@@ -1,17 +1,20 @@
 //! The entries of a node that fit the masks of a window.
-ghost use Rattle.std.specs.Prelude.{◌≡◌, ◌+◌, ◌<◌, ◌≤◌, ◌^◌, length, bit_and, MatchOption, IfSome};
+ghost use Rattle.std.specs.Prelude.{◌≡◌, ◌+◌, ◌<◌, ◌≤◌, ◌^◌, nat_le, Some, length, position, bit_and, MatchOption, IfSome};
 ghost use Rattle.ph_specs.specs.Node.{entries};
 ghost use Rattle.ph_specs.specs.Lawful.{IsLawfulFrom};
 ghost use Rattle.ph_specs.specs.Masks.{fits_masks};
 ghost use Rattle.ph_node.specs.Shown.{shown};
 ghost use Rattle.ph_node.specs.Spots.{IsSpot};
-ghost use Rattle.ph_window.specs.Seek.{AreShut, IsNextEntry, IsPassed};
+ghost use Rattle.ph_window.specs.Seek.{AreBelow, AreShut, IsNextEntry, IsPassed};
 
 use crate::frame::Masks;
 use ph_coord::Dims;
-use ph_node::{NodeOf, Spot};
+use ph_node::{NodeOf, NodeRefOf, Spot};
 use ph_path::FrameOf;
 use ph_zorder::next_address;
+
+// So many entries of a linear node are looked at one by one before a later one is searched for, which costs about as much.
+const NEAR: usize = 8;
 
 // Whether an address has every digit of the lower mask and none that the upper mask has not.
 pub(crate) fn fits(addr: u32, lower: u32, upper: u32) -> bool
@@ -68,10 +71,40 @@ fn seek_from<P: Dims>(frame: FrameOf<'_, NodeOf<P>, Masks>, mut place: usize) ->
         let Some(next) = next_address(spot.addr, frame.note.lower, frame.note.upper) else {
             return None;
         };
-        let Some(found) = node.next_at_or_after(next) else {
+        let Some(found) = place_from(node, place + 1, next) else {
             return None;
         };
         place = found;
+    }
+    None
+}
+
+// The first place whose address is at least `addr`, where all addresses in front of a place are less.
+#[inline(always)]
+fn place_from<P: Dims>(node: NodeRefOf<'_, NodeOf<P>>, place: usize, addr: u32) -> Option<usize>
+    requires address { addr < 2 ^ P.D }
+    requires below { AreBelow addr (entries (shown node)) place }
+    ensures { result ≡ position (λ e. nat_le addr e.addr) (entries (shown node.entry)) }
+{
+    if node.len() > NEAR && !node.is_cube() {
+        if let Some(found) = near_place(node, place, addr) {
+            return Some(found);
+        }
+    }
+    node.next_at_or_after(addr)
+}
+
+// The same, if it is one of the next few places.
+#[inline(never)]
+fn near_place<P: Dims>(node: NodeRefOf<'_, NodeOf<P>>, place: usize, addr: u32) -> Option<usize>
+    requires below { AreBelow addr (entries (shown node)) place }
+    ensures { IfSome result (λ i. position (λ e. nat_le addr e.addr) (entries (shown node.entry)) ≡ Some i) }
+{
+    let end = node.len().min(place.saturating_add(NEAR));
+    for i in place..end {
+        if node.spot(i).addr >= addr {
+            return Some(i);
+        }
     }
     None
 }

@@ -149,6 +149,9 @@ impl<'t, P: Dims> WalkOf<'t, P> {
             ..frame
         });
         let node = frame.node;
+        if self.bounds.rules_out(node, spot) {
+            return Step::Moved;
+        }
         self.bounds.join(node, spot);
         match node.what(spot) {
             WhatOf::Value(v) => {

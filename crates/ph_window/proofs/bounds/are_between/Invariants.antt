@@ -1,5 +1,5 @@
 use Rattle.std.proofs.Common.{◌≡◌, drop}
-use Rattle.ph_window.specs.Bounds.{each_between}
+use Rattle.ph_node.specs.Between.{each_between}
 use Rattle.ph_window.proofs.bounds.are_between.Given as goal
 
 abbrev pub invariant-loop-i : goal.invariant-loop-i

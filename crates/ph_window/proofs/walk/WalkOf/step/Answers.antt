@@ -3,7 +3,7 @@ use Rattle.std.specs.Option.{option_copied}
 use Rattle.ph_node.specs.Shown.{what_of}
 use Rattle.ph_window.specs.Walk.{IsStep}
 use Rattle.ph_path.proofs.Paths.{no-frames, last-frame, read-entry}
-use Rattle.ph_window.proofs.Goes.{ended, root-room, root-walk, root-step, root-visits, top-walk, top-masks, top-lawful, done-step, done-visits, new-walk, value-found, value-moved, value-visits, enter-room, deep-walk, deep-step, deep-visits}
+use Rattle.ph_window.proofs.Goes.{ended, root-room, root-walk, root-step, root-visits, top-walk, top-masks, top-lawful, done-step, done-visits, passed-walk, passed-step, passed-visits, new-walk, value-found, value-moved, value-visits, enter-room, deep-walk, deep-step, deep-visits}
 use Rattle.ph_window.proofs.Matches.{none_of}
 use Rattle.ph_window.proofs.walk.WalkOf.step.Goals.{then-is_inside, else-is_inside}
 use Rattle.ph_window.proofs.walk.WalkOf.step.Goals as goal
@@ -62,6 +62,30 @@ pub returns-in_default-seek-clause-cost : goal.returns-in_default-seek-clause-co
 returns-in_default-seek-clause-cost g c =
     let front = last-frame c.self.inside.path c.last.result c.in-Some.frame c.last.ensures c.in-Some.is in
     ap (λ n. c.args.visits.now + n) (done-visits c.self.invariant c.self.view_is front c.leave.ensures (none_of _ _ c.in_default-seek.is c.seek.ensures.found))
+
+-- ---- a point that is passed over
+
+pub rules_out-requires-clause-level : goal.rules_out-requires-clause-level
+rules_out-requires-clause-level g c =
+    (top-walk c.self.invariant c.self.view_is (last-frame c.self.inside.path c.last.result c.in-Some.frame c.last.ensures c.in-Some.is)).way.0.level
+
+pub invariant_of-self-then-rules_out : goal.invariant_of-self-then-rules_out
+invariant_of-self-then-rules_out g c =
+    let front = last-frame c.self.inside.path c.last.result c.in-Some.frame c.last.ensures c.in-Some.is in
+    let entry = read-entry _ c.in-Some-seek.spot refl c.in-Some-seek.ensures.spot refl in
+    passed-walk c.self.invariant c.self.view_is front entry c.in-Some-seek.ensures.found (c.rules_out.ensures.point c.if-rules_out.true) (c.rules_out.ensures.outside c.if-rules_out.true) c.set_last.ensures
+
+pub returns-then-rules_out-clause-step : goal.returns-then-rules_out-clause-step
+returns-then-rules_out-clause-step g c =
+    let front = last-frame c.self.inside.path c.last.result c.in-Some.frame c.last.ensures c.in-Some.is in
+    let entry = read-entry _ c.in-Some-seek.spot refl c.in-Some-seek.ensures.spot refl in
+    passed-step c.self.invariant c.self.view_is front entry c.in-Some-seek.ensures.found (c.rules_out.ensures.point c.if-rules_out.true) (c.rules_out.ensures.outside c.if-rules_out.true) c.set_last.ensures
+
+pub returns-then-rules_out-clause-cost : goal.returns-then-rules_out-clause-cost
+returns-then-rules_out-clause-cost g c =
+    let front = last-frame c.self.inside.path c.last.result c.in-Some.frame c.last.ensures c.in-Some.is in
+    let entry = read-entry _ c.in-Some-seek.spot refl c.in-Some-seek.ensures.spot refl in
+    ap (λ n. c.args.visits.now + n) (passed-visits c.self.invariant c.self.view_is front entry c.in-Some-seek.ensures.found (c.rules_out.ensures.point c.if-rules_out.true) (c.rules_out.ensures.outside c.if-rules_out.true) c.set_last.ensures)
 
 -- ---- an entry that fits
 
