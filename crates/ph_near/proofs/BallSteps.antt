@@ -4,7 +4,7 @@ use Rattle.std.specs.Prelude.{Option, Some, slice_get, nat_le}
 use Rattle.ph_specs.specs.BallSearch.{listed_below, opened_below}
 use Rattle.ph_specs.specs.Distance.{distance}
 use Rattle.ph_specs.specs.Lawful.{put_together, IsLawfulEntry, IsLawfulFrom, IsLawfulWhat}
-use Rattle.ph_specs.specs.Node.{Entries, value, node, Entry, PlainNode, chained, in_front, entries}
+use Rattle.ph_specs.specs.Node.{Entries, What, value, node, Entry, PlainNode, chained, in_front, entries}
 use Rattle.ph_specs.specs.PutTree.{body_above}
 use Rattle.ph_specs.specs.Table.{Row, row}
 use Rattle.ph_specs.proofs.laws.EntryLists.{chained-listed, entry-lawful}
@@ -15,13 +15,17 @@ use Rattle.ph_path.specs.Path.{left_in, entry_steps, path_steps, AreOver}
 use Rattle.ph_path.proofs.Knowns.{joined-body, joined-above, joined-child}
 use Rattle.ph_path.proofs.Paths.{entry-first, found-behind, counted-behind, over-less}
 use Rattle.ph_near.specs.BallSphere.{Sphere, center_of, reaches}
-use Rattle.ph_near.specs.BallSweep.{Frame, start_at, path_rows, path_nodes, IsSweep}
+use Rattle.ph_near.specs.BallSweep.{Frame, start_at, path_rows, path_nodes, IsSweep, HasJoined}
 use Rattle.ph_near.proofs.BallEntries.{value-in, value-out, value-nodes, child-in, child-out, child-nodes-in, child-nodes-out}
 
 -- ---- a node that is entered
 
 pub pushed : {f g : Frame} {fs new : List Frame} → new ≡ f ∷ fs → f ≡ g → new ≡ g ∷ fs
 pushed {fs = fs} e h = e ∙ ap {B = List Frame} (λ f. f ∷ fs) h
+
+-- an entry is joined at the place that its spot has
+pub joined-at : {s c : Sphere} {n : PlainNode} {o : What} {i place : ℕ} → HasJoined s n i c o → i ≡ place → HasJoined s n place c o
+joined-at {s} {c} {n} {o} h e = subst (λ i. HasJoined s n i c o) e h
 
 module _ (d : ℕ) (s : Sphere) (root : Option PlainNode) (r : NodeRefOf PlainNode) (n : PlainNode) (fs : List Frame) (shows : shown r ≡ n) where
   pub entered-rows : path_rows s (start_at r ∷ fs) ≡ listed_below s.width (center_of s) s.radius n.level (body_above n.level s.known) n.chain ++ path_rows s fs
@@ -81,6 +85,14 @@ module _ (d : ℕ) (s : Sphere) (root : Option PlainNode) (f : Frame) (fs : List
         way = (record { level = h.way.0.level; lawful = h.way.0.lawful }, h.way.1, h.way.2);
       }
 
+  -- an entry that is passed over leaves the digits as they were
+  pub over-sweep : IsSweep d s root moved
+  over-sweep = record {
+    sphere = h.sphere;
+    tree = h.tree;
+    way = (record { level = h.way.0.level; lawful = h.way.0.lawful }, h.way.1, h.way.2);
+  }
+
   first : left_in f ≡ in_front x.addr x.body x.what (chained (drop (f.place + 1) (entries (shown f.node))))
   first = entry-first (entries (shown f.node)) f.place x at
 
@@ -103,6 +115,16 @@ module _ (d : ℕ) (s : Sphere) (root : Option PlainNode) (f : Frame) (fs : List
         ap (λ e. listed_below s.width (center_of s) s.radius level (body_above level s.known) e ++ path_rows s fs) first
         ∙ ap (λ r. r ++ path_rows s fs) (value-out s.width (center_of s) s.radius level (body_above level s.known) x behind v is t)
         ∙ rows-behind
+
+    pub over-row : nat_le (distance (point_at after.width after.known) (center_of after)) after.radius ≡ false → path_rows s (f ∷ fs) ≡ path_rows s moved
+    over-row t =
+        ap (λ e. listed_below s.width (center_of s) s.radius level (body_above level s.known) e ++ path_rows s fs) first
+        ∙ ap (λ r. r ++ path_rows s fs) (value-out s.width (center_of s) s.radius level (body_above level s.known) x behind v is t)
+
+    pub over-nodes : path_nodes s (f ∷ fs) ≡ path_nodes s moved
+    over-nodes =
+        ap (λ e. length (opened_below s.width (center_of s) s.radius level (body_above level s.known) e) + path_nodes s fs) first
+        ∙ ap (λ r. length r + path_nodes s fs) (value-nodes s.width (center_of s) s.radius level (body_above level s.known) x behind v is)
 
     pub row-nodes : path_nodes s (f ∷ fs) ≡ path_nodes after moved
     row-nodes =

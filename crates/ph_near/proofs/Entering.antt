@@ -1,11 +1,11 @@
 -- The entries of a node as items of the queue.
-use Rattle.std.proofs.Common.{◌≡◌, ◌⊎◌, inl, inr, ℕ, zero, suc, ◌+◌, ◌-◌, ◌<◌, ◌≤◌, ◌^◌, refl, sym, ◌∙◌, ap, subst, arith, List, [], ◌∷◌, ◌++◌, length, map, take, append_assoc, add-one}
-use Rattle.std.specs.Prelude.{ℤ}
+use Rattle.std.proofs.Common.{◌≡◌, Bool, true, false, ℕ, zero, suc, ◌+◌, ◌-◌, ◌<◌, ◌≤◌, ◌^◌, refl, sym, ◌∙◌, ap, subst, arith, List, [], ◌∷◌, ◌++◌, length, map, take, add-one}
+use Rattle.std.specs.Prelude.{ℤ, if◌then◌else◌}
 use Rattle.std.specs.List.{AllByRecursion as Each}
 use Rattle.std.specs.List.Sorted.{IsPermutation}
 use Rattle.std.proofs.Math.Pow.{pow_mono}
-use Rattle.std.proofs.lemmas.List.{nil_from_length}
-use Rattle.std.proofs.lemmas.List.Sorted.{IsPermutation-refl, IsPermutation-trans, IsPermutation-middle, IsPermutation-cons, IsPermutation-map}
+use Rattle.std.proofs.lemmas.List.{map-append}
+use Rattle.std.proofs.lemmas.List.Sorted.{IsPermutation-trans, IsPermutation-middle, IsPermutation-cons}
 use Rattle.ph_specs.specs.Coordinate.{coordinate}
 use Rattle.ph_specs.specs.Table.{row}
 use Rattle.ph_specs.specs.Node.{Entries, end, point, child, PlainNode, listed, entries}
@@ -15,7 +15,7 @@ use Rattle.ph_specs.specs.PutTree.{body_above}
 use Rattle.ph_specs.specs.BallSearch.{placed_at}
 use Rattle.ph_specs.specs.BestFirst as best
 use Rattle.ph_specs.specs.BestFirst.{Item, found, items_below, item_distance}
-use Rattle.ph_specs.proofs.lemmas.Gathered.{Each-permutation}
+use Rattle.ph_specs.proofs.lemmas.RowsBehind.{Each-append}
 use Rattle.ph_specs.proofs.lemmas.Joined.{length-put_together}
 use Rattle.ph_specs.proofs.laws.LawfulRows.{put_together-small}
 use Rattle.ph_specs.proofs.laws.Ranked.{take-all}
@@ -28,8 +28,10 @@ use Rattle.ph_node.specs.Split.{body_at}
 use Rattle.ph_node.specs.Spots.{IsSpot}
 use Rattle.ph_node.specs.declared.spots.Spot.{Spot}
 use Rattle.ph_near.specs.declared.waiting.WaitingOf.{WaitingOf}
-use Rattle.ph_near.specs.Waiting.{held_item, item_of, queue_of, IsWaiting, AreWaiting}
+use Rattle.ph_near.specs.Waiting.{held_item, item_of, IsWaiting}
 use Rattle.ph_near.specs.Queue.{entry_at, what_item, entry_item}
+use Rattle.ph_near.specs.Bound.{IsEntered, IsOpened}
+use Rattle.ph_near.proofs.Bounds.{none_come, one_more, line_moved}
 
 -- ---- one entry
 
@@ -78,47 +80,38 @@ items-long w level above end = refl
 items-long w level above (point a body v rest) = ap suc (items-long w level above rest)
 items-long w level above (child a body below chain rest) = ap suc (items-long w level above rest)
 
-module _ (w d : ℕ) (above : List ℕ) (n : PlainNode) where
-  -- one entry more in the queue
-  pub entered : (i : ℕ) (x : WaitingOf PlainNode d) (old now next : List (WaitingOf PlainNode d)) → i < length (entries n) → item_of w x ≡ entry_item w n.level above (entry_at (entries n) i) → IsPermutation (take i (items_below w n.level above n.chain) ++ queue_of w old) (queue_of w now) → IsPermutation (x ∷ now) next → IsPermutation (take (i + 1) (items_below w n.level above n.chain) ++ queue_of w old) (queue_of w next)
-  entered i x old now next l f p q =
-      let items : List Item = items_below w n.level above n.chain in
-      let more : take (i + 1) (items_below w n.level above n.chain) ≡ take i (items_below w n.level above n.chain) ++ item_of w x ∷ [] =
-      ap (λ k. take k (items_below w n.level above n.chain)) (add-one i) ∙ entry-more w n.level i above n.chain l ∙ ap (λ t. take i (items_below w n.level above n.chain) ++ t ∷ []) (sym f) in
-      let r : IsPermutation ((take i items ++ item_of w x ∷ []) ++ queue_of w old) (item_of w x ∷ (take i items ++ queue_of w old)) =
-      subst (λ ys. IsPermutation ys (item_of w x ∷ (take i items ++ queue_of w old))) (sym (append_assoc (take i items) (item_of w x ∷ []) (queue_of w old))) (IsPermutation-middle (take i items) (item_of w x) (queue_of w old)) in
-      subst (λ ys. IsPermutation (ys ++ queue_of w old) (queue_of w next)) (sym more)
-      (IsPermutation-trans ((take i items ++ item_of w x ∷ []) ++ queue_of w old) (item_of w x ∷ (take i items ++ queue_of w old)) (queue_of w next) r
-      (IsPermutation-trans (item_of w x ∷ (take i items ++ queue_of w old)) (item_of w x ∷ queue_of w now) (queue_of w next)
-      (IsPermutation-cons (item_of w x) (take i items ++ queue_of w old) (queue_of w now) p)
-      (IsPermutation-map (item_of w) (x ∷ now) next q)))
+module _ {k w d : ℕ} {q : List ℤ} (above : List ℕ) (n : PlainNode) {old : List (WaitingOf PlainNode d)} {was : ℕ → ℕ} where
+  -- none yet
+  pub none_opened : IsOpened k w d q (take 0 (items_below w n.level above n.chain)) old old was was
+  none_opened = record { items = []; are = refl; waiting = tt; entered = none_come old was }
 
-  -- all of them
-  pub all_entered : (i : ℕ) (old now : List (WaitingOf PlainNode d)) → length (entries n) ≤ i → IsPermutation (take i (items_below w n.level above n.chain) ++ queue_of w old) (queue_of w now) → IsPermutation (items_below w n.level above n.chain ++ queue_of w old) (queue_of w now)
-  all_entered i old now l p =
-      subst (λ ys. IsPermutation (ys ++ queue_of w old) (queue_of w now)) (take-all i (items_below w n.level above n.chain) (omega (arith, items-long w n.level above n.chain, l))) p
+  -- one entry more
+  pub one_opened : (i : ℕ) (x : WaitingOf PlainNode d) {line new : List (WaitingOf PlainNode d)} {mid now : ℕ → ℕ} → i < length (entries n) → item_of w x ≡ entry_item w n.level above (entry_at (entries n) i) → IsWaiting w d q x → IsOpened k w d q (take i (items_below w n.level above n.chain)) old line was mid → IsEntered k (x ∷ []) line new mid now → IsOpened k w d q (take (i + 1) (items_below w n.level above n.chain)) old new was now
+  one_opened i x l f h o e = record {
+    items = o.items ++ x ∷ [];
+    are =
+        map-append (item_of w) o.items (x ∷ [])
+        ∙ ap (λ is. is ++ item_of w x ∷ []) o.are
+        ∙ ap (λ t. take i (items_below w n.level above n.chain) ++ t ∷ []) f
+        ∙ sym (entry-more w n.level i above n.chain l)
+        ∙ ap (λ j. take j (items_below w n.level above n.chain)) (sym (add-one i));
+    waiting = Each-append (IsWaiting w d q) o.items (x ∷ []) o.waiting (h, tt);
+    entered = one_more x o.entered e;
+  }
 
-  -- where there are none
-  pub none_entered : (old now : List (WaitingOf PlainNode d)) → length (entries n) ≡ 0 → IsPermutation old now → IsPermutation (items_below w n.level above n.chain ++ queue_of w old) (queue_of w now)
-  none_entered old now l p =
-      subst (λ is. IsPermutation (is ++ queue_of w old) (queue_of w now)) (sym (nil_from_length (items_below w n.level above n.chain) (items-long w n.level above n.chain ∙ l))) (IsPermutation-map (item_of w) old now p)
+  -- all of them, and the line in another order
+  pub all_opened : (i : ℕ) {line new : List (WaitingOf PlainNode d)} {now : ℕ → ℕ} → length (entries n) ≤ i → IsOpened k w d q (take i (items_below w n.level above n.chain)) old line was now → IsPermutation line new → IsOpened k w d q (items_below w n.level above n.chain) old new was now
+  all_opened i l o p = record {
+    items = o.items;
+    are = o.are ∙ take-all i (items_below w n.level above n.chain) (omega (arith, items-long w n.level above n.chain, l));
+    waiting = o.waiting;
+    entered = line_moved o.entered p;
+  }
 
-  -- the first one, which is kept apart
-  pub first_entered : (x : WaitingOf PlainNode d) (old : List (WaitingOf PlainNode d)) → 0 < length (entries n) → item_of w x ≡ entry_item w n.level above (entry_at (entries n) 0) → IsPermutation (take 1 (items_below w n.level above n.chain) ++ queue_of w old) (queue_of w (x ∷ old))
-  first_entered x old l f = entered 0 x old old (x ∷ old) l f (IsPermutation-refl (queue_of w old)) (IsPermutation-refl (x ∷ old))
-
-  -- all of them, in the order in which they wait
-  pub line_entered : (i : ℕ) (old now line : List (WaitingOf PlainNode d)) → length (entries n) ≤ i → IsPermutation (take i (items_below w n.level above n.chain) ++ queue_of w old) (queue_of w now) → IsPermutation now line → IsPermutation (items_below w n.level above n.chain ++ queue_of w old) (queue_of w line)
-  line_entered i old now line l p q =
-      IsPermutation-trans (items_below w n.level above n.chain ++ queue_of w old) (queue_of w now) (queue_of w line) (all_entered i old now l p) (IsPermutation-map (item_of w) now line q)
-
--- of two items one is kept apart, and the other goes into the queue
-pub kept_apart : {X : Type 0} (x y first later : X) (old new : List X) → ((first ≡ x) × (later ≡ y)) ⊎ ((first ≡ y) × (later ≡ x)) → IsPermutation (later ∷ old) new → IsPermutation (x ∷ y ∷ old) (first ∷ new)
-kept_apart {X} x y first later old new (inl e) p =
-    subst (λ f. IsPermutation (x ∷ y ∷ old) (f ∷ new)) (sym e.0) (IsPermutation-cons x (y ∷ old) new (subst (λ l. IsPermutation (l ∷ old) new) e.1 p))
-kept_apart {X} x y first later old new (inr e) p =
-    subst (λ f. IsPermutation (x ∷ y ∷ old) (f ∷ new)) (sym e.0)
-    (IsPermutation-trans (x ∷ y ∷ old) (y ∷ x ∷ old) (y ∷ new) (IsPermutation-middle (x ∷ []) y old) (IsPermutation-cons y (x ∷ old) new (subst (λ l. IsPermutation (l ∷ old) new) e.1 p)))
-
-pub waiting_more : {w d : ℕ} {q : List ℤ} (x : WaitingOf PlainNode d) {now next : List (WaitingOf PlainNode d)} → IsWaiting w d q x → AreWaiting w d q now → IsPermutation (x ∷ now) next → AreWaiting w d q next
-waiting_more {w} {d} {q} x {now} {next} h k p = Each-permutation (IsWaiting w d q) (x ∷ now) next p (h, k)
+-- of two items one is at hand, and the other goes into the queue
+pub kept_apart : {d : ℕ} (b : Bool) (x y later first : WaitingOf PlainNode d) (old new : List (WaitingOf PlainNode d)) → first ≡ (if b then x else y) → later ≡ (if b then y else x) → IsPermutation (later ∷ old) new → IsPermutation (x ∷ y ∷ old) (first ∷ new)
+kept_apart true x y later first old new e f p =
+    subst (λ i. IsPermutation (x ∷ y ∷ old) (i ∷ new)) (sym e) (IsPermutation-cons x (y ∷ old) new (subst (λ l. IsPermutation (l ∷ old) new) f p))
+kept_apart false x y later first old new e f p =
+    subst (λ i. IsPermutation (x ∷ y ∷ old) (i ∷ new)) (sym e)
+    (IsPermutation-trans (x ∷ y ∷ old) (y ∷ x ∷ old) (y ∷ new) (IsPermutation-middle (x ∷ []) y old) (IsPermutation-cons y (x ∷ old) new (subst (λ l. IsPermutation (l ∷ old) new) f p)))

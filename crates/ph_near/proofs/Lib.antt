@@ -1,8 +1,12 @@
 -- Lemmas of searches and of balls.
 pub mod ZNumbers
+pub mod Bounds
 pub mod Entering
 pub mod Steps
+pub mod Pruned
 pub mod Starts
+mod Distances
+mod TooFar
 mod BallEntries
 mod BallStarts
 mod BallSteps

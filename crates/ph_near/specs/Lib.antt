@@ -3,3 +3,4 @@ pub mod Queue
 pub mod Ball
 pub mod BallSphere
 pub mod BallSweep
+pub mod Bound

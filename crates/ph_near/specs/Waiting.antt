@@ -1,5 +1,5 @@
 -- What waits in the queue of a search, and which of two items comes first.
-use Rattle.std.specs.Prelude.{◌≡◌, ℕ, zero, suc, ◌<◌, List, [], ◌∷◌, ◌++◌, map, ℤ, Option, Some, None}
+use Rattle.std.specs.Prelude.{◌≡◌, ℕ, zero, suc, ◌^◌, ◌<◌, List, [], ◌∷◌, ◌++◌, map, ℤ, Option, Some, None}
 use Rattle.std.specs.Option.{option_to_list}
 use Rattle.std.specs.BinaryHeap.{IsUpperBound}
 use Rattle.std.specs.declared.cmp.Ordering.{Ordering}
@@ -71,3 +71,13 @@ pub record IsWaiting (w d : ℕ) (q : List ℤ) (i : WaitingOf PlainNode d) : Ty
 
 abbrev pub AreWaiting : (w d : ℕ) → List ℤ → List (WaitingOf PlainNode d) → Type 0
 AreWaiting w d q items = AllByRecursion (IsWaiting w d q) items
+
+-- an item for an entry of a node, as the search has it
+pub record IsItemFor {d : ℕ} (w : ℕ) (q : List ℤ) (e : Item) (i : WaitingOf PlainNode d) : Type 0 where
+  pub waiting : IsWaiting w d q i
+  pub item : item_of w i ≡ e
+
+-- an item for an entry, or none where it is farther than a limit
+abbrev pub IsItemWithin : {d : ℕ} → ℕ → ℕ → List ℤ → Item → Option (WaitingOf PlainNode d) → Type 0
+IsItemWithin {d} limit w q e None = (i : WaitingOf PlainNode d) × IsItemFor w q e i × (limit < i.distance) × (i.distance < 2 ^ 128)
+IsItemWithin limit w q e (Some i) = IsItemFor w q e i

@@ -8,6 +8,7 @@ ghost use Rattle.ph_specs.specs.Distance.{near};
 ghost use Rattle.ph_specs.specs.WorkSets.{reach};
 ghost use Rattle.ph_table.specs.Hits.{hits_of};
 
+use crate::bound::Bound;
 use crate::opening::open;
 use crate::queue::{start, take_first};
 use ph_coord::{Point, Row, Width};
@@ -23,7 +24,7 @@ use std::sync::ledger::Ledger;
 ///
 /// It is the best-first search of G. R. Hjaltason and H. Samet ("Distance Browsing in Spatial Databases", ACM TODS 24, 1999).
 /// One queue has the rows and the nodes that were found and wait, the nodes by the least distance of their regions. The one that goes
-/// first is at hand instead.
+/// first is at hand instead. What is farther than `n` rows that were found is left out.
 ///
 /// It takes memory for what waits, at most an item for each entry of a visited node, and for the rows as they are found. It
 /// reserves none by `n`, and takes none where `n` is 0. Without memory it gives no rows; the nodes visited by then are counted.
@@ -67,6 +68,7 @@ fn search<const D: usize, V: Ledger>(
     }
     let mut next = start(w, root, center);
     let mut queue = BinaryHeap::new(alloc);
+    let mut bound = Bound::new(n as usize);
     while hits.len() < n as usize {
         let Some(item) = next.take() else {
             return Ok(hits);
@@ -84,7 +86,15 @@ fn search<const D: usize, V: Ledger>(
             }
             WhatOf::Child(node) => {
                 let node = node.visit(visits);
-                open(node, &item.known, w, center, &mut next, &mut queue)?
+                open(
+                    node,
+                    &item.known,
+                    w,
+                    center,
+                    &mut bound,
+                    &mut next,
+                    &mut queue,
+                )?
             }
         }
     }

@@ -3,6 +3,8 @@
 
 mod ball;
 mod best;
+mod beyond;
+mod bound;
 mod opening;
 mod queue;
 mod sphere;

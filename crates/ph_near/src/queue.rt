@@ -1,6 +1,6 @@
 //! What waits in a search: the item that goes first at hand, and the others in a queue.
 
-ghost use Rattle.std.specs.Prelude.{◌≡◌, ◌≤◌, map, false};
+ghost use Rattle.std.specs.Prelude.{◌≡◌, ◌≤◌, map, false, OnOk};
 ghost use Rattle.std.specs.BinaryHeap.{heap_items, IsHeap, IsUpperBound};
 ghost use Rattle.std.specs.List.Sorted.{IsPermutation};
 ghost use Rattle.std.specs.Option.{option_copied, option_to_list};
@@ -50,8 +50,33 @@ pub(crate) fn take_first<'t, const D: usize>(
     queue.pop()
 }
 
+// Puts at hand the item of the line that goes first.
+pub(crate) fn lead<'t, const D: usize>(
+    next: &mut Option<Waiting<'t, D>>,
+    queue: &mut BinaryHeap<Waiting<'t, D>>,
+) -> Result<(), NoMemory>
+    ensures items { OnOk result (IsPermutation (line_of next.old (heap_items queue.old)) (line_of next.new (heap_items queue.new))) }
+    ensures order { OnOk result (IsHeap waiting_cmp (heap_items queue.old) → IsHeap waiting_cmp (heap_items queue.new) × Leads next.new (heap_items queue.new)) }
+{
+    let Some(first) = next.take() else {
+        *next = take_first(queue);
+        return Ok(());
+    };
+    if !goes_before(queue, &first) {
+        *next = Some(first);
+        return Ok(());
+    }
+    match queue.push(first) {
+        Ok(()) => {
+            *next = take_first(queue);
+            Ok(())
+        }
+        Err(_) => Err(NoMemory),
+    }
+}
+
 // Whether the item of a queue that goes first, if there is one, goes before another item.
-pub(crate) fn goes_before<'t, const D: usize>(
+fn goes_before<'t, const D: usize>(
     queue: &BinaryHeap<Waiting<'t, D>>,
     item: &Waiting<'t, D>,
 ) -> bool

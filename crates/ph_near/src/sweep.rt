@@ -6,12 +6,13 @@ ghost use Rattle.ph_specs.specs.Coordinate.{IsPoint};
 ghost use Rattle.ph_specs.specs.Lawful.{IsLawful};
 ghost use Rattle.ph_specs.specs.Node.{entries};
 ghost use Rattle.ph_node.specs.Shown.{shown, what_of};
+ghost use Rattle.ph_node.specs.Spots.{IsSpot};
 ghost use Rattle.ph_path.specs.Known.{known_at};
 ghost use Rattle.ph_near.specs.BallSweep.{HasJoined, IsStep, start_at};
 
 use crate::sphere::SphereOf;
 use ph_coord::{Dims, Width};
-use ph_node::{NodeOf, NodeRefOf, WhatOf};
+use ph_node::{NodeOf, NodeRefOf, Spot, WhatOf};
 use ph_path::{FrameOf, KnownOf, PathOf};
 use ph_steps::Steps;
 use std::marker::Model;
@@ -94,7 +95,11 @@ impl<'t, P: Dims> SweepOf<'t, P> {
             place: place + 1,
             ..frame
         });
-        match join_entry(&mut self.sphere, node, place) {
+        let spot = node.spot(place);
+        if self.sphere.rules_out(node, spot) {
+            return Step::Moved;
+        }
+        match join_entry(&mut self.sphere, node, spot) {
             WhatOf::Value(value) => {
                 let distance = self.sphere.distance();
                 if distance > self.sphere.radius() {
@@ -118,13 +123,12 @@ impl<'t, P: Dims> SweepOf<'t, P> {
 fn join_entry<'t, P: Dims>(
     sphere: &mut SphereOf<P>,
     node: NodeRefOf<'t, NodeOf<P>>,
-    place: usize,
+    spot: Spot,
 ) -> WhatOf<'t, NodeOf<P>>
-    requires place { place < length (entries (shown node)) }
+    requires spot { IsSpot (entries (shown node)) spot }
     requires level { (shown node).level < sphere.old.width }
-    ensures { HasJoined sphere.old (shown node.entry) place sphere.new (what_of result) }
+    ensures { HasJoined sphere.old (shown node.entry) spot.place sphere.new (what_of result) }
 {
-    let spot = node.spot(place);
     sphere.join(node, spot);
     node.what(spot)
 }

@@ -1,4 +1,5 @@
 //! Queries of small trees.
 
 mod balls;
+mod bounded_rows;
 mod nearest_rows;

@@ -22,7 +22,7 @@ fn width() -> Width
     }
 }
 
-fn point(rt: &impl Abort, coords: [i64; 2]) -> Point<2>
+pub(super) fn point(rt: &impl Abort, coords: [i64; 2]) -> Point<2>
     ensures { IsPoint 32 2 result }
 {
     let Some(p) = Point::from_slice(width(), &coords) else {
@@ -31,7 +31,7 @@ fn point(rt: &impl Abort, coords: [i64; 2]) -> Point<2>
     p
 }
 
-fn hit(rt: &impl Abort, coords: [i64; 2], value: u64, distance: u128) -> Hit<2> {
+pub(super) fn hit(rt: &impl Abort, coords: [i64; 2], value: u64, distance: u128) -> Hit<2> {
     let row = Row {
         point: point(rt, coords),
         value,
@@ -40,7 +40,7 @@ fn hit(rt: &impl Abort, coords: [i64; 2], value: u64, distance: u128) -> Hit<2> 
 }
 
 // The tree of these points, whose values count from 1 on.
-fn tree_of<V: Ledger, C: Ledger>(
+pub(super) fn tree_of<V: Ledger, C: Ledger>(
     rt: &impl Abort,
     alloc: Global,
     points: &[[i64; 2]],
