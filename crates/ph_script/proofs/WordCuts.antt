@@ -95,8 +95,8 @@ word_front text rest start end h e k =
     let some : 0 < end = omega (arith, b.1, k) in
     (b.0 ∙ words-word rest end k some, some, omega (arith, k, prefix_len-le-length (λ x. not (is_blank x)) rest))
 
-pub first-or_len : (text : List ℕ) → unwrap_or (position is_blank text) (length text) ≡ position_or_len is_blank text
-first-or_len text =
+pub first_or_len : (text : List ℕ) → unwrap_or (position is_blank text) (length text) ≡ position_or_len is_blank text
+first_or_len text =
     elim (either (nat_lt (position_or_len is_blank text) (length text))) [
       | inl below ↦ rw below refl
       | inr over ↦ (let l = prefix_len-le-length (λ x. not (is_blank x)) text in

@@ -1,5 +1,5 @@
 //! The words of a line.
-ghost use Rattle.std.specs.Prelude.{◌≡◌, ◌<◌, ◌≤◌, ◌∷◌, [], length, not, true, false, MatchOption, IfSome};
+ghost use Rattle.std.specs.Prelude.{◌≡◌, ◌<◌, ◌≤◌, ◌∷◌, [], length, take, not, true, false, MatchOption, IfSome};
 ghost use Rattle.std.specs.List.{position, position_or_len};
 ghost use Rattle.ph_specs.specs.Lines.{is_blank, words};
 ghost use Rattle.ph_script.specs.Words.{IsNumbered};
@@ -53,10 +53,22 @@ pub(crate) fn next_word(text: &[u8]) -> Option<(Word<'_>, &[u8])>
         return None;
     };
     let (_, text) = text.split_at(start);
-    let (number, end) = match front_number(text) {
-        Some((number, end)) => (Some(number), end),
-        None => (None, first_blank(text).unwrap_or(text.len())),
-    };
+    let (number, end) = front_word(text);
     let (text, rest) = text.split_at(end);
     Some((Word { text, number }, rest))
+}
+
+// The number that the word at the front of a text spells, where that is known, and the length of the word.
+#[tactic(auto, using(crate::proofs::WordCuts::first_or_len))]
+#[inline(always)]
+fn front_word(text: &[u8]) -> (Option<Short>, usize)
+    requires { 0 < length text.now }
+    ensures end { result.1 ≡ position_or_len is_blank text.now }
+    ensures within { result.1 ≤ length text.now }
+    ensures number { IsNumbered (take result.1 text.now) result.0 }
+{
+    match front_number(text) {
+        Some((number, end)) => (Some(number), end),
+        None => (None, first_blank(text).unwrap_or(text.len())),
+    }
 }
