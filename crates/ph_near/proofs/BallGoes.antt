@@ -5,23 +5,23 @@ use Rattle.std.proofs.lemmas.Bool.{lt-leb}
 use Rattle.ph_specs.specs.BallSearch.{listed_below, opened_below, placed_at}
 use Rattle.ph_specs.specs.Coordinate.{IsPoint}
 use Rattle.ph_specs.specs.Distance.{distance}
-use Rattle.ph_specs.specs.Lawful.{put_together, IsLawful}
+use Rattle.ph_specs.specs.Lawful.{IsBody, put_together, IsLawful}
 use Rattle.ph_specs.specs.Node.{What, value, node, Entry, PlainNode, entries}
 use Rattle.ph_specs.specs.PutTree.{body_above}
 use Rattle.ph_specs.specs.WorkSets.{Placed}
+use Rattle.ph_specs.proofs.laws.EntryLists.{entry-lawful}
 use Rattle.ph_specs.proofs.lemmas.Bounds.{small-point}
-use Rattle.ph_node.specs.Kinds.{is_node}
 use Rattle.ph_node.specs.Shown.{shown}
 use Rattle.ph_node.specs.declared.reads.NodeRefOf.{NodeRefOf}
 use Rattle.ph_path.specs.Known.{point_at}
 use Rattle.ph_path.specs.Path.{entry_steps, path_steps, root_steps}
 use Rattle.ph_path.proofs.Knowns.{above-top}
-use Rattle.ph_path.proofs.Paths.{point-of, few-frames}
-use Rattle.ph_near.specs.BallSphere.{Sphere, center_of, reaches}
+use Rattle.ph_path.proofs.Paths.{few-frames}
+use Rattle.ph_near.specs.BallSphere.{Sphere, center_of, reaches, IsOut}
 use Rattle.ph_near.specs.BallSweep.{Frame, Sweep, start_at, sweep_of, path_rows, path_nodes, root_rows, root_nodes, IsFrame, IsSweep, HasJoined, IsStep}
 use Rattle.ph_near.specs.declared.sweep.Step.TheVariants.{Found, Moved, Done}
 use Rattle.ph_near.proofs.BallStarts.{root-within}
-use Rattle.ph_near.proofs.BallSteps.{entered-rows, entered-nodes, entered-steps, entered-sweep, after-sweep, over-sweep as still-sweep, over-row, over-nodes, found-row, passed-row, row-nodes, row-steps, child-lower, child-lawful, child-over, below-rows, below-nodes, shut-rows, shut-nodes, below-steps}
+use Rattle.ph_near.proofs.BallSteps.{entered-rows, entered-nodes, entered-steps, entered-sweep, after-sweep, over-sweep as still-sweep, over-all, found-row, passed-row, row-nodes, row-steps, child-lower, child-lawful, child-over, below-rows, below-nodes, shut-rows, shut-nodes, below-steps}
 
 module _ {d : ℕ} {s : Sphere} {root : Option PlainNode} {path : List Frame} {old : Sweep} (h : IsSweep d s root path) (v : sweep_of d s root path ≡ old) where
   was-rest : old.rest ≡ path_rows s path ++ root_rows d s root
@@ -117,28 +117,30 @@ module _ {d : ℕ} {s : Sphere} {root : Option PlainNode} {path : List Frame} {o
     top-steps : old.steps ≡ path_steps (f ∷ fs) + root_steps root
     top-steps = was-steps ∙ ap (λ t. path_steps t + root_steps root) p
 
-    -- its next entry, where that is a point outside of the ball and passed over
-    module _ {x : Entry} (at : slice_get (entries (shown f.node)) f.place ≡ Some x) (kind : is_node x.what ≡ false) (out : s.radius < distance (point_at s.width (put_together (shown f.node).level x.addr (body_above (shown f.node).level s.known) x.body)) (point_at s.width s.center)) {new : List Frame} (into : new ≡ record { node = f.node; place = f.place + 1; note = f.note } ∷ fs) where
-      point : (n : ℕ) × (x.what ≡ value n)
-      point = point-of x.what kind
+    -- its next entry, where that is outside of the ball and passed over
+    module _ {x : Entry} (at : slice_get (entries (shown f.node)) f.place ≡ Some x) where
+      pub body-there : IsBody d (shown f.node).level x.body
+      body-there = (entry-lawful d (shown f.node).level 0 f.place (shown f.node).chain x top-sweep.way.0.lawful at).body
 
-      pub over-sweep : IsSweep d s root new
-      over-sweep = subst (IsSweep d s root) (sym into) (still-sweep d s root f fs top-sweep x at)
+      module _ (out : IsOut s (shown f.node).level (put_together (shown f.node).level x.addr (body_above (shown f.node).level s.known) x.body) x.what) {new : List Frame} (into : new ≡ record { node = f.node; place = f.place + 1; note = f.note } ∷ fs) where
+        over : (path_rows s (f ∷ fs) ≡ path_rows s (record { node = f.node; place = f.place + 1; note = f.note } ∷ fs)) × (path_nodes s (f ∷ fs) ≡ path_nodes s (record { node = f.node; place = f.place + 1; note = f.note } ∷ fs)) × (path_steps (record { node = f.node; place = f.place + 1; note = f.note } ∷ fs) < path_steps (f ∷ fs))
+        over = over-all d s root f fs top-sweep x at out
 
-      pub over-step : IsStep old (sweep_of d s root new) Moved
-      over-step =
-          let less : path_steps (record { node = f.node; place = f.place + 1; note = f.note } ∷ fs) < path_steps (f ∷ fs) = row-steps d s root f fs top-sweep x at point.0 point.1 in
-          let same : path_steps new ≡ path_steps (record { node = f.node; place = f.place + 1; note = f.note } ∷ fs) = ap path_steps into in (
-            top-rest ∙ ap (λ t. t ++ root_rows d s root) (over-row d s root f fs top-sweep x at point.0 point.1 (lt-leb _ s.radius out) ∙ sym (ap (path_rows s) into)),
-            was-center,
-            omega (arith, top-steps, same, less),
-          )
+        pub over-sweep : IsSweep d s root new
+        over-sweep = subst (IsSweep d s root) (sym into) (still-sweep d s root f fs top-sweep x at)
 
-      pub over-visits : (sweep_of d s root new).visits ≡ old.visits
-      over-visits =
-          let same : path_nodes s (f ∷ fs) ≡ path_nodes s (record { node = f.node; place = f.place + 1; note = f.note } ∷ fs) = over-nodes d s root f fs top-sweep x at point.0 point.1 in
-          let to : path_nodes s new ≡ path_nodes s (record { node = f.node; place = f.place + 1; note = f.note } ∷ fs) = ap (path_nodes s) into in
-          omega (arith, top-visits, same, to)
+        pub over-step : IsStep old (sweep_of d s root new) Moved
+        over-step =
+            let same : path_steps new ≡ path_steps (record { node = f.node; place = f.place + 1; note = f.note } ∷ fs) = ap path_steps into in (
+              top-rest ∙ ap (λ t. t ++ root_rows d s root) (over.0 ∙ sym (ap (path_rows s) into)),
+              was-center,
+              omega (arith, top-steps, same, over.2),
+            )
+
+        pub over-visits : (sweep_of d s root new).visits ≡ old.visits
+        over-visits =
+            let to : path_nodes s new ≡ path_nodes s (record { node = f.node; place = f.place + 1; note = f.note } ∷ fs) = ap (path_nodes s) into in
+            omega (arith, top-visits, over.1, to)
 
     -- its next entry, and the sweep behind it
     module _ {c : Sphere} {o : What} (k : HasJoined s (shown f.node) f.place c o) where

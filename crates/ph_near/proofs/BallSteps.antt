@@ -1,12 +1,15 @@
 -- A step of a sweep.
-use Rattle.std.proofs.Common.{◌≡◌, ℕ, suc, ◌+◌, ◌-◌, ◌<◌, ◌≤◌, List, ◌∷◌, ◌++◌, length, drop, sym, ◌∙◌, ap, subst, arith, true, false, append_assoc}
+use Rattle.std.proofs.Common.{◌≡◌, ℕ, suc, ◌+◌, ◌-◌, ◌<◌, ◌≤◌, List, ◌∷◌, ◌++◌, length, drop, refl, sym, ◌∙◌, ap, subst, arith, true, false, append_assoc}
 use Rattle.std.specs.Prelude.{Option, Some, slice_get, nat_le}
+use Rattle.std.proofs.lemmas.Bool.{lt-leb}
 use Rattle.ph_specs.specs.BallSearch.{listed_below, opened_below}
+use Rattle.ph_specs.specs.BestFirst.{item_distance}
 use Rattle.ph_specs.specs.Distance.{distance}
 use Rattle.ph_specs.specs.Lawful.{put_together, IsLawfulEntry, IsLawfulFrom, IsLawfulWhat}
 use Rattle.ph_specs.specs.Node.{Entries, What, value, node, Entry, PlainNode, chained, in_front, entries}
 use Rattle.ph_specs.specs.PutTree.{body_above}
 use Rattle.ph_specs.specs.Table.{Row, row}
+use Rattle.ph_specs.specs.Region.{least_distance}
 use Rattle.ph_specs.proofs.laws.EntryLists.{chained-listed, entry-lawful}
 use Rattle.ph_node.specs.Shown.{shown}
 use Rattle.ph_node.specs.declared.reads.NodeRefOf.{NodeRefOf}
@@ -14,7 +17,8 @@ use Rattle.ph_path.specs.Known.{point_at}
 use Rattle.ph_path.specs.Path.{left_in, entry_steps, path_steps, AreOver}
 use Rattle.ph_path.proofs.Knowns.{joined-body, joined-above, joined-child}
 use Rattle.ph_path.proofs.Paths.{entry-first, found-behind, counted-behind, over-less}
-use Rattle.ph_near.specs.BallSphere.{Sphere, center_of, reaches}
+use Rattle.ph_near.specs.BallSphere.{Sphere, center_of, reaches, IsOut}
+use Rattle.ph_near.specs.Queue.{what_item}
 use Rattle.ph_near.specs.BallSweep.{Frame, start_at, path_rows, path_nodes, IsSweep, HasJoined}
 use Rattle.ph_near.proofs.BallEntries.{value-in, value-out, value-nodes, child-in, child-out, child-nodes-in, child-nodes-out}
 
@@ -116,16 +120,6 @@ module _ (d : ℕ) (s : Sphere) (root : Option PlainNode) (f : Frame) (fs : List
         ∙ ap (λ r. r ++ path_rows s fs) (value-out s.width (center_of s) s.radius level (body_above level s.known) x behind v is t)
         ∙ rows-behind
 
-    pub over-row : nat_le (distance (point_at after.width after.known) (center_of after)) after.radius ≡ false → path_rows s (f ∷ fs) ≡ path_rows s moved
-    over-row t =
-        ap (λ e. listed_below s.width (center_of s) s.radius level (body_above level s.known) e ++ path_rows s fs) first
-        ∙ ap (λ r. r ++ path_rows s fs) (value-out s.width (center_of s) s.radius level (body_above level s.known) x behind v is t)
-
-    pub over-nodes : path_nodes s (f ∷ fs) ≡ path_nodes s moved
-    over-nodes =
-        ap (λ e. length (opened_below s.width (center_of s) s.radius level (body_above level s.known) e) + path_nodes s fs) first
-        ∙ ap (λ r. length r + path_nodes s fs) (value-nodes s.width (center_of s) s.radius level (body_above level s.known) x behind v is)
-
     pub row-nodes : path_nodes s (f ∷ fs) ≡ path_nodes after moved
     row-nodes =
         ap (λ e. length (opened_below s.width (center_of s) s.radius level (body_above level s.known) e) + path_nodes s fs) first
@@ -188,3 +182,26 @@ module _ (d : ℕ) (s : Sphere) (root : Option PlainNode) (f : Frame) (fs : List
     below-steps =
         let e : entry_steps (left_in f) ≡ suc (suc (entry_steps n.chain + entry_steps behind)) = ap entry_steps first ∙ ap (λ o. entry_steps (in_front x.addr x.body o behind)) is in
         omega (arith, e)
+
+  -- an entry outside of the ball, of which nothing is listed or visited
+  over-by : (o : What) → x.what ≡ o → s.radius < item_distance s.width (center_of s) (what_item s.width ((shown f.node).level - 1) (put_together (shown f.node).level x.addr (body_above (shown f.node).level s.known) x.body) o) → (path_rows s (f ∷ fs) ≡ path_rows s moved) × (path_nodes s (f ∷ fs) ≡ path_nodes s moved) × (path_steps moved < path_steps (f ∷ fs))
+  over-by (value v) is out =
+      let t : nat_le (distance (point_at after.width after.known) (center_of after)) after.radius ≡ false = lt-leb (distance (point_at after.width after.known) (center_of after)) s.radius out in (
+        ap (λ e. listed_below s.width (center_of s) s.radius level (body_above level s.known) e ++ path_rows s fs) first
+            ∙ ap (λ r. r ++ path_rows s fs) (value-out s.width (center_of s) s.radius level (body_above level s.known) x behind v is t),
+        ap (λ e. length (opened_below s.width (center_of s) s.radius level (body_above level s.known) e) + path_nodes s fs) first
+            ∙ ap (λ r. length r + path_nodes s fs) (value-nodes s.width (center_of s) s.radius level (body_above level s.known) x behind v is),
+        row-steps v is,
+      )
+  over-by (node n) is out =
+      let t : reaches after (level - 1) ≡ false = lt-leb (least_distance after.width (record { corner = point_at after.width after.known; level = level - 1 }) (center_of after)) s.radius out in
+      let l : suc (suc (entry_steps n.chain + path_steps moved)) ≤ path_steps (f ∷ fs) = below-steps n is in (
+        ap (λ e. listed_below s.width (center_of s) s.radius level (body_above level s.known) e ++ path_rows s fs) first
+            ∙ ap (λ r. r ++ path_rows s fs) (child-out s.width (center_of s) s.radius level (body_above level s.known) x behind n is t),
+        ap (λ e. length (opened_below s.width (center_of s) s.radius level (body_above level s.known) e) + path_nodes s fs) first
+            ∙ ap (λ r. length r + path_nodes s fs) (child-nodes-out s.width (center_of s) s.radius level (body_above level s.known) x behind n is t),
+        omega (arith, l),
+      )
+
+  pub over-all : IsOut s (shown f.node).level (put_together (shown f.node).level x.addr (body_above (shown f.node).level s.known) x.body) x.what → (path_rows s (f ∷ fs) ≡ path_rows s moved) × (path_nodes s (f ∷ fs) ≡ path_nodes s moved) × (path_steps moved < path_steps (f ∷ fs))
+  over-all out = over-by x.what refl out

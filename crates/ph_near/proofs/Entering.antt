@@ -39,7 +39,7 @@ pub small-wide : (w : ℕ) (xs : List ℕ) → w ≤ 62 → Each (λ x. x < 2 ^ 
 small-wide w [] l h = tt
 small-wide w (x ∷ xs) l h = (omega (arith, h.0, pow_mono {i = w} {j = 62} l), small-wide w xs l h.1)
 
-held-what : (w level : ℕ) (known : List ℕ) (h : WhatOf PlainNode) → held_item w level known h ≡ what_item w level known (what_of h)
+pub held-what : (w level : ℕ) (known : List ℕ) (h : WhatOf PlainNode) → held_item w level known h ≡ what_item w level known (what_of h)
 held-what w level known (Value v) = refl
 held-what w level known (Child c) = refl
 

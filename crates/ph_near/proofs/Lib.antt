@@ -6,6 +6,7 @@ pub mod Steps
 pub mod Pruned
 pub mod Starts
 mod Distances
+mod FarRegions
 mod TooFar
 mod BallEntries
 mod BallStarts

@@ -4,3 +4,4 @@ pub mod Ball
 pub mod BallSphere
 pub mod BallSweep
 pub mod Bound
+pub mod Far

@@ -1,24 +1,48 @@
-//! Points that are too far, told before their digits are joined.
-ghost use Rattle.std.specs.Prelude.{◌≡◌, ◌<◌, true, false};
+//! Entries that are too far, told before their digits are joined.
+ghost use Rattle.std.specs.Prelude.{◌≡◌, ◌<◌, ◌≤◌, ◌*◌, ◌^◌, ◌-◌, ◌+◌, true, length};
 ghost use Rattle.ph_specs.specs.EntryEdits.{what_at};
 ghost use Rattle.ph_specs.specs.Lawful.{IsBody, put_together};
 ghost use Rattle.ph_specs.specs.Node.{entries};
 ghost use Rattle.ph_specs.specs.PutTree.{body_above};
-ghost use Rattle.ph_node.specs.Apart.{squares_apart};
-ghost use Rattle.ph_node.specs.Kinds.{is_node};
+ghost use Rattle.ph_node.specs.Apart.{greatest_square};
 ghost use Rattle.ph_node.specs.Shown.{shown};
 ghost use Rattle.ph_node.specs.Split.{body_at};
 ghost use Rattle.ph_node.specs.Spots.{IsSpot};
+ghost use Rattle.ph_near.specs.Far.{corner_of, gap_above, gaps_squared, entry_gap};
 
 use ph_coord::Dims;
+use ph_digits::{address_digit, digits_above};
 use ph_node::{NodeOf, NodeRefOf, Spot};
 
-// In up to so many dimensions the digits of a point are joined as fast as its distance is told without them.
+// In up to so many dimensions digits are joined as fast as a distance is told without them.
 const FEW_DIMS: usize = 3;
 
-// Whether an entry is a point whose distance from a center, squared, is more than a limit. In few dimensions it answers no.
+// Whether an entry, a point or the region of a child, is farther from a center than a limit, which is a squared distance. In few
+// dimensions it answers no.
 #[inline(always)]
 pub(crate) fn is_beyond<P: Dims>(
+    node: NodeRefOf<'_, NodeOf<P>>,
+    spot: Spot,
+    known: &[u64],
+    center: &[u64],
+    limit: u128,
+) -> bool
+    requires few { P.D ≤ 16 }
+    requires spot { IsSpot (entries (shown node)) spot }
+    requires known { IsBody P.D 62 known.now }
+    requires center { IsBody P.D 62 center.now }
+    requires body { IsBody P.D (shown node).level (body_at (entries (shown node)) spot.place) }
+    ensures { result ≡ true → limit < entry_gap (shown node.entry).level (put_together (shown node.entry).level spot.addr (body_above (shown node.entry).level known.now) (body_at (entries (shown node.entry)) spot.place)) center.now (what_at (entries (shown node.entry)) spot.place) }
+{
+    if P::D > FEW_DIMS && node.is_child(spot) {
+        return is_region_beyond(node.level(), spot.addr, known, center, limit);
+    }
+    is_point_beyond(node, spot, known, center, limit)
+}
+
+// The same of a point. Of a child it answers no.
+#[inline(always)]
+pub(crate) fn is_point_beyond<P: Dims>(
     node: NodeRefOf<'_, NodeOf<P>>,
     spot: Spot,
     known: &[u64],
@@ -28,11 +52,47 @@ pub(crate) fn is_beyond<P: Dims>(
     requires spot { IsSpot (entries (shown node)) spot }
     requires known { IsBody P.D 62 known.now }
     requires center { IsBody P.D 62 center.now }
-    ensures point { result ≡ true → is_node (what_at (entries (shown node.entry)) spot.place) ≡ false }
-    ensures far { result ≡ true → limit < squares_apart (put_together (shown node.entry).level spot.addr (body_above (shown node.entry).level known.now) (body_at (entries (shown node.entry)) spot.place)) center.now }
+    ensures { result ≡ true → limit < entry_gap (shown node.entry).level (put_together (shown node.entry).level spot.addr (body_above (shown node.entry).level known.now) (body_at (entries (shown node.entry)) spot.place)) center.now (what_at (entries (shown node.entry)) spot.place) }
 {
     if P::D <= FEW_DIMS || node.is_child(spot) {
         return false;
     }
     node.distance_within(spot, known, center, limit).is_none()
+}
+
+// Whether the region of a child with an address is farther than a limit. It stops at the first dimension that makes it so.
+#[inline(always)]
+fn is_region_beyond(level: u32, addr: u32, known: &[u64], center: &[u64], limit: u128) -> bool
+    requires few { length known.now ≤ 16 }
+    requires level { level ≤ 61 }
+    requires known { IsBody (length known.now) 62 known.now }
+    requires center { IsBody (length known.now) 62 center.now }
+    ensures { result ≡ true → (1 ≤ level) × (limit < gaps_squared (level - 1) (corner_of level addr known.now) center.now) }
+{
+    if level == 0 {
+        return false;
+    }
+    let mut sum = 0;
+    for i in 0..known.len() {
+        let digit = address_digit(addr, known.len() - 1 - i, level);
+        sum += squared_gap(level, digits_above(level, known[i]) + digit, center[i]);
+        if sum > limit {
+            return true;
+        }
+    }
+    false
+}
+
+// The square of the distance of a number from those that begin at another one and differ from it below a level alone.
+#[inline(always)]
+fn squared_gap(level: u32, low: u64, number: u64) -> u128
+    requires level { level ≤ 61 }
+    requires low { low + 2 ^ level ≤ 2 ^ 62 }
+    requires number { number < 2 ^ 62 }
+    ensures value { result ≡ gap_above level low number * gap_above level low number }
+    ensures limit { result ≤ greatest_square }
+{
+    let high = low + ((1 << level) - 1);
+    let gap = u128::from(low.saturating_sub(number) + number.saturating_sub(high));
+    gap * gap
 }

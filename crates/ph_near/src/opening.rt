@@ -13,7 +13,7 @@ ghost use Rattle.ph_near.specs.Bound.{known, IsOpened};
 ghost use Rattle.ph_near.specs.Waiting.{waiting_cmp, item_of, line_of, IsWaiting, IsItemWithin, Leads};
 ghost use Rattle.ph_near.specs.Queue.{entry_item, entry_at};
 
-use crate::beyond::is_beyond;
+use crate::beyond::is_point_beyond;
 use crate::bound::Bound;
 use crate::queue::lead;
 use crate::waiting::Waiting;
@@ -97,7 +97,7 @@ fn waiting<'t, const D: usize>(
 {
     let _bits = w.bits();
     let spot = node.spot(i);
-    if is_beyond(node, spot, above, q, limit) {
+    if is_point_beyond(node, spot, above, q, limit) {
         return None;
     }
     let item = item_at(node, spot, above, w, q);

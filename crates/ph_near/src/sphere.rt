@@ -1,17 +1,16 @@
 //! A point and a radius, and the digits that are known where a sweep stands.
-ghost use Rattle.std.specs.Prelude.{◌≡◌, ◌<◌, ◌≤◌, true, false, length, take, map, replicate};
+ghost use Rattle.std.specs.Prelude.{◌≡◌, ◌<◌, ◌≤◌, true, length, take, map, replicate};
 ghost use Rattle.ph_specs.specs.Coordinate.{offset, IsPoint};
 ghost use Rattle.ph_specs.specs.Distance.{distance};
 ghost use Rattle.ph_specs.specs.EntryEdits.{what_at};
-ghost use Rattle.ph_specs.specs.Lawful.{put_together};
+ghost use Rattle.ph_specs.specs.Lawful.{IsBody, put_together};
 ghost use Rattle.ph_specs.specs.Node.{entries};
 ghost use Rattle.ph_specs.specs.PutTree.{body_above};
-ghost use Rattle.ph_node.specs.Kinds.{is_node};
 ghost use Rattle.ph_node.specs.Shown.{shown};
 ghost use Rattle.ph_node.specs.Split.{body_at};
 ghost use Rattle.ph_node.specs.Spots.{IsSpot};
 ghost use Rattle.ph_path.specs.Known.{known_at, point_at};
-ghost use Rattle.ph_near.specs.BallSphere.{sphere_at, reaches};
+ghost use Rattle.ph_near.specs.BallSphere.{sphere_at, reaches, IsOut};
 
 use crate::beyond::is_beyond;
 use ph_coord::{Dims, Width, offsets_of};
@@ -62,11 +61,12 @@ impl<P: Dims> SphereOf<P> {
         &self.known
     }
 
-    // Whether an entry is a point outside of the ball, told before anything is joined. In few dimensions it answers no.
+    // Whether an entry is a point outside of the ball, or a child without a point in it, told before anything is joined. In few
+    // dimensions it answers no.
     pub(crate) fn rules_out(&self, node: NodeRefOf<'_, NodeOf<P>>, spot: Spot) -> bool
-        requires { IsSpot (entries (shown node)) spot }
-        ensures point { result ≡ true → is_node (what_at (entries (shown node.entry)) spot.place) ≡ false }
-        ensures outside { result ≡ true → self.now.radius < distance (point_at self.now.width (put_together (shown node.entry).level spot.addr (body_above (shown node.entry).level self.now.known) (body_at (entries (shown node.entry)) spot.place))) (point_at self.now.width self.now.center) }
+        requires spot { IsSpot (entries (shown node)) spot }
+        requires body { IsBody P.D (shown node).level (body_at (entries (shown node)) spot.place) }
+        ensures { result ≡ true → IsOut self.now (shown node.entry).level (put_together (shown node.entry).level spot.addr (body_above (shown node.entry).level self.now.known) (body_at (entries (shown node.entry)) spot.place)) (what_at (entries (shown node.entry)) spot.place) }
     {
         let center = &self.center[..P::D];
         is_beyond(node, spot, self.known.digits(), center, self.radius)

@@ -3,7 +3,7 @@ use Rattle.std.specs.Option.{option_copied}
 use Rattle.ph_node.specs.Shown.{what_of}
 use Rattle.ph_path.proofs.Paths.{no-frames, last-frame, read-entry}
 use Rattle.ph_near.proofs.BallSteps.{pushed, joined-at}
-use Rattle.ph_near.proofs.BallGoes.{ended, root-room, root-sweep, root-step, root-visits, over-sweep, over-step, over-visits, new-sweep, row-found, row-passed, row-visits, child-level, far-step, far-visits, deep-room, deep-sweep, deep-step, deep-visits}
+use Rattle.ph_near.proofs.BallGoes.{ended, root-room, root-sweep, root-step, root-visits, body-there, over-sweep, over-step, over-visits, new-sweep, row-found, row-passed, row-visits, child-level, far-step, far-visits, deep-room, deep-sweep, deep-step, deep-visits}
 use Rattle.ph_near.proofs.sweep.SweepOf.step.Goals as goal
 
 -- ---- the end
@@ -37,22 +37,27 @@ returns-in_default-clause-cost g c =
     let more = root-visits c.self.invariant c.self.view_is (ap option_copied c.in-Some-root.is) c.visit-node.result c.visit-node.ensures.shows none into in
     omega (arith, more, c.visit-node.ensures.cost)
 
--- ---- a point that is passed over
+-- ---- an entry that is passed over
+
+pub rules_out-requires-clause-body : goal.rules_out-requires-clause-body
+rules_out-requires-clause-body g c =
+    let front = last-frame c.self.inside.path c.last.result c.in-Some.frame c.last.ensures c.in-Some.is in
+    body-there c.self.invariant c.self.view_is front (read-entry _ c.spot-spot.result c.spot-spot.ensures.place c.spot-spot.ensures.spot refl)
 
 pub invariant_of-self-then-rules_out : goal.invariant_of-self-then-rules_out
 invariant_of-self-then-rules_out g c =
     let front = last-frame c.self.inside.path c.last.result c.in-Some.frame c.last.ensures c.in-Some.is in
-    over-sweep c.self.invariant c.self.view_is front (read-entry _ c.spot-spot.result c.spot-spot.ensures.place c.spot-spot.ensures.spot refl) (c.rules_out.ensures.point c.if-rules_out.true) (c.rules_out.ensures.outside c.if-rules_out.true) c.set_last.ensures
+    over-sweep c.self.invariant c.self.view_is front (read-entry _ c.spot-spot.result c.spot-spot.ensures.place c.spot-spot.ensures.spot refl) (c.rules_out.ensures c.if-rules_out.true) c.set_last.ensures
 
 pub returns-then-rules_out-clause-step : goal.returns-then-rules_out-clause-step
 returns-then-rules_out-clause-step g c =
     let front = last-frame c.self.inside.path c.last.result c.in-Some.frame c.last.ensures c.in-Some.is in
-    over-step c.self.invariant c.self.view_is front (read-entry _ c.spot-spot.result c.spot-spot.ensures.place c.spot-spot.ensures.spot refl) (c.rules_out.ensures.point c.if-rules_out.true) (c.rules_out.ensures.outside c.if-rules_out.true) c.set_last.ensures
+    over-step c.self.invariant c.self.view_is front (read-entry _ c.spot-spot.result c.spot-spot.ensures.place c.spot-spot.ensures.spot refl) (c.rules_out.ensures c.if-rules_out.true) c.set_last.ensures
 
 pub returns-then-rules_out-clause-cost : goal.returns-then-rules_out-clause-cost
 returns-then-rules_out-clause-cost g c =
     let front = last-frame c.self.inside.path c.last.result c.in-Some.frame c.last.ensures c.in-Some.is in
-    ap (λ n. c.args.visits.now + n) (over-visits c.self.invariant c.self.view_is front (read-entry _ c.spot-spot.result c.spot-spot.ensures.place c.spot-spot.ensures.spot refl) (c.rules_out.ensures.point c.if-rules_out.true) (c.rules_out.ensures.outside c.if-rules_out.true) c.set_last.ensures)
+    ap (λ n. c.args.visits.now + n) (over-visits c.self.invariant c.self.view_is front (read-entry _ c.spot-spot.result c.spot-spot.ensures.place c.spot-spot.ensures.spot refl) (c.rules_out.ensures c.if-rules_out.true) c.set_last.ensures)
 
 -- ---- a point entry
 

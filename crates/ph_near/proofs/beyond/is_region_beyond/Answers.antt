@@ -1,0 +1,41 @@
+use Rattle.std.proofs.Common.{◌+◌, ◌-◌, ◌*◌, ◌/◌, ◌%◌, ◌^◌, ◌∙◌, ap, sym, arith, get_or, length}
+use Rattle.std.proofs.Math.Nat.{mod-lt}
+use Rattle.ph_digits.proofs.Joins.{small-at}
+use Rattle.ph_node.specs.Apart.{greatest_square}
+use Rattle.ph_near.specs.Far.{corner_of}
+use Rattle.ph_near.proofs.FarRegions.{corner-room, corner-at, corner-long, low-whole, gap-whole, gaps-first, room-on}
+use Rattle.ph_near.proofs.beyond.is_region_beyond.Goals as goal
+
+pub squared_gap-sum-requires-clause-low : goal.squared_gap-sum-requires-clause-low
+squared_gap-sum-requires-clause-low c =
+    let known = c.args.known.now in
+    let digit = c.args.addr / 2 ^ (length known - 1 - c.loop-i.i) in
+    let room = corner-room c.args.level (get_or known c.loop-i.i 0) (digit % 2) c.requires.level (small-at 62 (length known) c.loop-i.i known c.requires.known) (mod-lt digit (omega arith)) in
+    omega (arith, room, c.digits_above.ensures.value, c.address_digit-digit.ensures.value)
+
+pub returns-then-sum-limit : goal.returns-then-sum-limit
+returns-then-sum-limit c _ =
+    let known = c.args.known.now in
+    let level = c.args.level in
+    let i = c.loop-i.i in
+    let l = c.loop-i-test.true in
+    let whole = low-whole level (get_or known i 0) (c.args.addr / 2 ^ (length known - 1 - i) % 2) _ _ c.digits_above.ensures.value c.address_digit-digit.ensures.value in
+    let here = corner-at level c.args.addr i _ _ known l c.digits_above.ensures.value c.address_digit-digit.ensures.value in
+    let first = gaps-first (level - 1) i _ _ (corner_of level c.args.addr known) c.args.center.now (omega (arith, l, corner-long level c.args.addr known)) (omega (arith, l, c.requires.center.0)) here
+    (c.squared_gap-sum.ensures.value ∙ sym (ap (λ n. n * n) (gap-whole level _ (get_or c.args.center.now i 0) (omega (arith, c.if-level-eq0.false)) whole))) in
+    (omega (arith, c.if-level-eq0.false), omega (arith, c.if-sum-limit.true, c.loop-i.invariant.value, first))
+
+pub loop-i-preserved : goal.loop-i-preserved
+loop-i-preserved c =
+    let known = c.args.known.now in
+    let level = c.args.level in
+    let i = c.loop-i.i in
+    let l = c.loop-i-test.true in
+    let whole = low-whole level (get_or known i 0) (c.args.addr / 2 ^ (length known - 1 - i) % 2) _ _ c.digits_above.ensures.value c.address_digit-digit.ensures.value in
+    let here = corner-at level c.args.addr i _ _ known l c.digits_above.ensures.value c.address_digit-digit.ensures.value in
+    let first = gaps-first (level - 1) i _ _ (corner_of level c.args.addr known) c.args.center.now (omega (arith, l, corner-long level c.args.addr known)) (omega (arith, l, c.requires.center.0)) here
+    (c.squared_gap-sum.ensures.value ∙ sym (ap (λ n. n * n) (gap-whole level _ (get_or c.args.center.now i 0) (omega (arith, c.if-level-eq0.false)) whole))) in
+    record {
+      value = omega (arith, c.loop-i.invariant.value, first);
+      limit = room-on c.loop-i.sum c.squared_gap-sum.result (length known - i) (length known - (i + 1)) greatest_square (omega (arith, l)) c.squared_gap-sum.ensures.limit c.loop-i.invariant.limit;
+    }
