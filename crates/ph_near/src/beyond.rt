@@ -14,11 +14,7 @@ use ph_coord::Dims;
 use ph_digits::{address_digit, digits_above};
 use ph_node::{NodeOf, NodeRefOf, Spot};
 
-// In up to so many dimensions digits are joined as fast as a distance is told without them.
-const FEW_DIMS: usize = 3;
-
-// Whether an entry, a point or the region of a child, is farther from a center than a limit, which is a squared distance. In few
-// dimensions it answers no.
+// Whether an entry, a point or the region of a child, is farther from a center than a limit, which is a squared distance.
 #[inline(always)]
 pub(crate) fn is_beyond<P: Dims>(
     node: NodeRefOf<'_, NodeOf<P>>,
@@ -34,7 +30,7 @@ pub(crate) fn is_beyond<P: Dims>(
     requires body { IsBody P.D (shown node).level (body_at (entries (shown node)) spot.place) }
     ensures { result ≡ true → limit < entry_gap (shown node.entry).level (put_together (shown node.entry).level spot.addr (body_above (shown node.entry).level known.now) (body_at (entries (shown node.entry)) spot.place)) center.now (what_at (entries (shown node.entry)) spot.place) }
 {
-    if P::D > FEW_DIMS && node.is_child(spot) {
+    if node.is_child(spot) {
         return is_region_beyond(node.level(), spot.addr, known, center, limit);
     }
     is_point_beyond(node, spot, known, center, limit)
@@ -54,10 +50,7 @@ pub(crate) fn is_point_beyond<P: Dims>(
     requires center { IsBody P.D 62 center.now }
     ensures { result ≡ true → limit < entry_gap (shown node.entry).level (put_together (shown node.entry).level spot.addr (body_above (shown node.entry).level known.now) (body_at (entries (shown node.entry)) spot.place)) center.now (what_at (entries (shown node.entry)) spot.place) }
 {
-    if P::D <= FEW_DIMS || node.is_child(spot) {
-        return false;
-    }
-    node.distance_within(spot, known, center, limit).is_none()
+    !node.is_child(spot) && node.distance_within(spot, known, center, limit).is_none()
 }
 
 // Whether the region of a child with an address is farther than a limit. It stops at the first dimension that makes it so.

@@ -23,6 +23,9 @@ use ph_zorder::{offset_distance, offset_least_distance};
 use std::collections::BinaryHeap;
 use std::mem;
 
+// In up to so many dimensions most of the points that are found wait, and a trial does not pay.
+const FEW_DIMS: usize = 3;
+
 // Opens a visited node: its entries, behind digits that are known above its level, and the items of the queue are what waits now, but
 // for those that the bound keeps out. The one that goes first is put at hand.
 pub(crate) fn open<'t, const D: usize>(
@@ -97,7 +100,7 @@ fn waiting<'t, const D: usize>(
 {
     let _bits = w.bits();
     let spot = node.spot(i);
-    if is_point_beyond(node, spot, above, q, limit) {
+    if D > FEW_DIMS && is_point_beyond(node, spot, above, q, limit) {
         return None;
     }
     let item = item_at(node, spot, above, w, q);

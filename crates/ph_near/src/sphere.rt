@@ -19,6 +19,9 @@ use ph_path::KnownOf;
 use ph_zorder::{offset_distance, offset_least_distance};
 use std::marker::Model;
 
+// In up to so many dimensions digits are joined as fast as a distance is told without them.
+const FEW_DIMS: usize = 2;
+
 // The center by its offsets, the square of the radius, and the digits at hand.
 #[derive(Drop)]
 pub(crate) struct SphereOf<P: Dims> {
@@ -69,7 +72,7 @@ impl<P: Dims> SphereOf<P> {
         ensures { result ≡ true → IsOut self.now (shown node.entry).level (put_together (shown node.entry).level spot.addr (body_above (shown node.entry).level self.now.known) (body_at (entries (shown node.entry)) spot.place)) (what_at (entries (shown node.entry)) spot.place) }
     {
         let center = &self.center[..P::D];
-        is_beyond(node, spot, self.known.digits(), center, self.radius)
+        P::D > FEW_DIMS && is_beyond(node, spot, self.known.digits(), center, self.radius)
     }
 
     // Puts the digits of an entry behind those that are known above its node's level.

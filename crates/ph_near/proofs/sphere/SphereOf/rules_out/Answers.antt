@@ -21,8 +21,8 @@ is_beyond-requires-clause-center g c =
     subst (λ n. IsBody g.P.Dims.D 62 (take n c.self.inside.center)) (sym c.D.ensures)
     (wider g.P.Dims.D _ 62 _ c.self.invariant.known.narrow c.self.invariant.center)
 
-pub returns : goal.returns
-returns g c e =
+pub returns-then-D-gt-FEW_DIMS : goal.returns-then-D-gt-FEW_DIMS
+returns-then-D-gt-FEW_DIMS g c e =
     let t = shown c.args.node in
     let a = c.args.spot.addr in
     let body = body_at (entries t) c.args.spot.place in
