@@ -20,8 +20,6 @@ mod slot;
 mod soaking;
 mod status;
 mod task;
-#[cfg(test)]
-mod tests;
 mod trees;
 
 pub use cursors::{AnyCursor, Held};

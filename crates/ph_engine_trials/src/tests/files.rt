@@ -1,6 +1,6 @@
 //! Scripts that save tables to files, and load them.
 use super::{check_over, run};
-use crate::status::Status;
+use ph_engine::Status;
 use ph_io::MemoryFiles;
 use std::alloc::{AllocError, Global};
 use std::process::Abort;

@@ -1,7 +1,7 @@
 //! Scripts that import rows from files of records, and export them.
 use super::files::{files_failing, preset};
 use super::{check_over, run};
-use crate::status::Status;
+use ph_engine::Status;
 use std::test::Fail;
 
 const CITIES: &[u8] = b"lat,lon,id\n4737,854,1\n5151,-13,2\n-1205,-7704,3\n3568,13969,4\n\

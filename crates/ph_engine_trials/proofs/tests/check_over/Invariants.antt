@@ -1,4 +1,4 @@
-use Rattle.ph_engine.proofs.tests.check_over.Given as goal
+use Rattle.ph_engine_trials.proofs.tests.check_over.Given as goal
 
 abbrev pub ghosts-check_counted-V-Ledger : goal.ghosts-check_counted-V-Ledger
 ghosts-check_counted-V-Ledger g a = record { name = a.visits.name; parts = a.visits.parts }

@@ -9,9 +9,7 @@ mod records;
 mod sizes;
 mod soaks;
 
-use crate::engine::Engine;
-use crate::program::top;
-use crate::status::{Limits, Status};
+use ph_engine::{Engine, Limits, Status, top};
 use ph_io::{MemoryFiles, MemorySink, MemorySource};
 use ph_steps::Steps;
 use std::alloc::{AllocError, Global};

@@ -1,6 +1,6 @@
 //! Scripts about the sizes of a tree.
 use super::{check, run};
-use crate::status::Status;
+use ph_engine::Status;
 use std::alloc::AllocError;
 use std::test::Fail;
 

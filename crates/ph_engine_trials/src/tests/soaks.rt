@@ -1,6 +1,6 @@
 //! Runs of generated commands.
 use super::{check, run};
-use crate::status::Status;
+use ph_engine::Status;
 use std::test::Fail;
 
 #[test]

@@ -1,6 +1,6 @@
 //! Scripts about distances.
 use super::{check, run};
-use crate::status::Status;
+use ph_engine::Status;
 use std::test::Fail;
 
 #[test]

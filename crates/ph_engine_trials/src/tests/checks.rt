@@ -1,7 +1,7 @@
 //! Checks of files, by the words of the program.
 use super::files::{ONE, REVERSED, TWO, altered, files_failing, preset};
 use super::{Case, check_over, run};
-use crate::status::Status;
+use ph_engine::Status;
 use std::test::Fail;
 
 // A check in place of a run.
