@@ -31,3 +31,4 @@ pub mod Recorded
 pub mod Paged
 pub mod Lifted
 pub mod Groups
+mod Fields

@@ -161,18 +161,3 @@ impl Engine {
         }
     }
 }
-
-#[cfg(test)]
-mod tests {
-    use super::*;
-
-    // An engine has these fields and no other.
-    #[test]
-    fn fields(rt: HostRuntime) {
-        let engine = Engine::new(rt.alloc());
-        let Engine { a, b, current } = &engine;
-        assert_eq!(rt; a.dims(), 2);
-        assert_eq!(rt; b.dims(), 2);
-        assert!(rt; *current == Which::A);
-    }
-}

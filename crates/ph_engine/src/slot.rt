@@ -392,24 +392,3 @@ fn tree_dims(kind: Kind, k: u32) -> u32
         Kind::Boxes => 2 * k,
     }
 }
-
-#[cfg(test)]
-mod tests {
-    use super::*;
-
-    // A slot has these fields and no other, and so has a cursor of it.
-    #[test]
-    fn fields(rt: HostRuntime) {
-        let slot = Slot::new(rt.alloc());
-        let Slot {
-            kind,
-            tree,
-            cursors,
-        } = &slot;
-        assert!(rt; *kind == Kind::Points);
-        assert_eq!(rt; tree.dims(), 2);
-        assert_eq!(rt; cursors.len(), 0);
-        let Held { name, cursor: _ } = &Held::default();
-        assert_eq!(rt; name.as_str(), "-");
-    }
-}

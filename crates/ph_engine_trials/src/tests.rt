@@ -3,6 +3,7 @@ ghost use Rattle.std.specs.Prelude.{◌≡◌, ◌<◌};
 
 mod boxes;
 mod checks;
+mod cursors;
 mod distances;
 mod files;
 mod records;

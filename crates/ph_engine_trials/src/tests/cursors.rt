@@ -1,0 +1,9 @@
+//! What a slot keeps for a cursor.
+use ph_engine::Held;
+
+// It has these fields and no other.
+#[test]
+fn fields(rt: HostRuntime) {
+    let Held { name, cursor: _ } = &Held::default();
+    assert_eq!(rt; name.as_str(), "-");
+}
