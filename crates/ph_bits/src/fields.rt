@@ -19,12 +19,11 @@ pub fn field(words: &[u64], at: u64, width: u32) -> u64
         return 0;
     }
     let place = (at / 64) as usize;
-    let end = (at % 64) as u32 + width - 1;
-    let behind = 63 - end % 64;
+    let front = (at % 64) as u32;
     let first = words[place];
-    let last = words[place + (end / 64) as usize];
-    let all = (last >> behind) + ((first << 1) << (63 - behind));
-    all & (u64::MAX >> (64 - width))
+    let last = words[place + ((front + width - 1) / 64) as usize];
+    let all = (first << front) | ((last >> 1) >> (63 - front));
+    all >> (64 - width)
 }
 
 /// The number of the `width` digits of a word behind its first `front`.
