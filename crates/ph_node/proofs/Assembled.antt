@@ -51,10 +51,17 @@ module _ (d w : ℕ) (rest : List ℕ) (laid : IsLaidOut d (w ∷ rest)) (small 
   as-rest : IsRest Points ((first_of w).level + 1) d root (w ∷ rest)
   as-rest = record { tables = laid.tables.tables; padded = laid.tables.padded; boxes = refl }
 
+  kids-of : children_in (entries_in d (w ∷ rest)) ≡ (first_of w).children
+  kids-of =
+      kids-in (entries_in d (w ∷ rest)) ∙ (entries-count Points ((first_of w).level + 1) d root w rest laid.tables.long small as-first as-rest).1
+
+  reads-of : AreReads d (first_of w).level 0 (entries_in d (w ∷ rest))
+  reads-of =
+      tables-reads _ d (first_of w) (xs Points ((first_of w).level + 1) d root w rest laid.tables.long small as-first as-rest) (numbers-many Points ((first_of w).level + 1) d root w rest laid.tables.long small as-first as-rest) (numbers-fit Points ((first_of w).level + 1) d root w rest laid.tables.long small as-first as-rest) laid.tables.tables
+
   module _ (ns : List PlainNode) (many : length ns ≡ (first_of w).children) where
     all-kids : children_in (entries_in d (w ∷ rest)) ≡ length ns
-    all-kids =
-        kids-in (entries_in d (w ∷ rest)) ∙ (entries-count Points ((first_of w).level + 1) d root w rest laid.tables.long small as-first as-rest).1 ∙ sym many
+    all-kids = kids-of ∙ sym many
 
     all-points : points_in (entries_in d (w ∷ rest)) ≡ length (values_in d (w ∷ rest))
     all-points =
@@ -71,11 +78,19 @@ module _ (d w : ℕ) (rest : List ℕ) (laid : IsLaidOut d (w ∷ rest)) (small 
         some = laid.tables.some;
         few = laid.tables.few;
         low = laid.tables.low;
-        rise = rising d (first_of w).level 0 (entries_in d (w ∷ rest)) (values_in d (w ∷ rest)) ns all-kids all-points
-            (tables-reads _ d (first_of w) (xs Points ((first_of w).level + 1) d root w rest laid.tables.long small as-first as-rest) (numbers-many Points ((first_of w).level + 1) d root w rest laid.tables.long small as-first as-rest) (numbers-fit Points ((first_of w).level + 1) d root w rest laid.tables.long small as-first as-rest) laid.tables.tables);
+        rise = rising d (first_of w).level 0 (entries_in d (w ∷ rest)) (values_in d (w ∷ rest)) ns all-kids all-points reads-of;
       };
     }
 
 pub recorded : (d : ℕ) (ws : List ℕ) (ns : List PlainNode) → IsLaidOut d ws → Each (λ x. x < 2 ^ 64) ws → length ns ≡ (first_in ws).children → IsRecorded d ws ns
 recorded d [] ns laid small many = let z = laid.tables.long in absurd (omega (arith, z))
 recorded d (w ∷ rest) ns laid small many = made d w rest laid small ns many
+
+-- the entries of a record have rising addresses, and as many of them are children as its first word says
+pub reads-there : (d : ℕ) (ws : List ℕ) → IsLaidOut d ws → Each (λ x. x < 2 ^ 64) ws → AreReads d (first_in ws).level 0 (entries_in d ws)
+reads-there d [] laid small = let z = laid.tables.long in absurd (omega (arith, z))
+reads-there d (w ∷ rest) laid small = reads-of d w rest laid small
+
+pub kids-there : (d : ℕ) (ws : List ℕ) → IsLaidOut d ws → Each (λ x. x < 2 ^ 64) ws → children_in (entries_in d ws) ≡ (first_in ws).children
+kids-there d [] laid small = let z = laid.tables.long in absurd (omega (arith, z))
+kids-there d (w ∷ rest) laid small = kids-of d w rest laid small

@@ -8,6 +8,7 @@ mod ChildTests
 mod Contents
 mod EditReads
 mod Fitting
+mod Full
 mod Halves
 mod Keeps
 mod Lent

@@ -55,8 +55,7 @@ impl<P: Dims> NodeOf<P> {
     {
         let words = self.words.as_slice();
         let dims = P::D;
-        let child = records::is_child(words, dims, spot);
-        let rank = records::rank(words, dims, spot, child);
+        let (child, rank) = records::ranked(words, dims, spot);
         let at = records::body_at(words, dims, spot);
         let body = row(words, at, level_in(words), dims);
         if child {

@@ -174,8 +174,7 @@ impl<'t, P: Dims> NodeRefOf<'t, NodeOf<P>> {
         let node = self.node;
         let words = node.words.as_slice();
         let dims = P::D;
-        let child = records::is_child(words, dims, spot);
-        let rank = records::rank(words, dims, spot, child);
+        let (child, rank) = records::ranked(words, dims, spot);
         if child {
             let slot = &node.children[rank];
             (rank, WhatOf::Child(&slot.node))

@@ -1,6 +1,6 @@
 //! Records of either layout.
 
-ghost use Rattle.std.specs.Prelude.{◌≡◌, ◌+◌, ◌-◌, ◌*◌, ◌<◌, ◌≤◌, ◌^◌, ◌==◌, nat_le, None, Some, length, map, drop, position, slice_get, slice_index_or, IfOk, IfErr};
+ghost use Rattle.std.specs.Prelude.{◌≡◌, ◌+◌, ◌-◌, ◌*◌, ◌<◌, ◌≤◌, ◌^◌, ◌==◌, nat_le, true, None, Some, length, map, drop, position, slice_get, slice_index_or, IfOk, IfErr};
 ghost use Rattle.std.specs.List.{position_or_len};
 ghost use Rattle.ph_specs.specs.Layout.{read_address, is_child as read_child_test, AreRising};
 ghost use Rattle.ph_specs.specs.Pack.{is_cube, values, record_of};
@@ -15,7 +15,7 @@ use crate::spots::Spot;
 use ph_bits::{Entries, Packed, Words};
 use ph_coord::Dims;
 use ph_cube::by_dims as cube;
-use ph_linear::{by_dims as linear, count_in};
+use ph_linear::{by_dims as linear, children_in, count_in};
 use std::alloc::Global;
 use std::cmp::min;
 
@@ -28,6 +28,9 @@ pub(crate) fn search(words: &[u64], dims: usize, addr: u32) -> Result<usize, usi
     ensures absent { IfErr result (λ i. None ≡ position (λ r. read_address r == addr) (entries_in dims words.now)) }
     ensures place { IfErr result (λ i. i ≡ position_or_len (λ r. nat_le addr (read_address r)) (entries_in dims words.now)) }
 {
+    if is_full(words, dims) {
+        return Ok(addr as usize);
+    }
     if has_cube(words, dims) {
         cube::search(words, dims, addr)
     } else {
@@ -41,6 +44,14 @@ pub(crate) fn next_at_or_after(words: &[u64], dims: usize, addr: u32) -> Option<
     requires record { IsLaidOut dims words.now }
     ensures { result ≡ position (λ r. nat_le addr (read_address r)) (entries_in dims words.now) }
 {
+    if is_full(words, dims) {
+        let place = addr as usize;
+        return if place < count(words) {
+            Some(place)
+        } else {
+            None
+        };
+    }
     if has_cube(words, dims) {
         cube::next_at_or_after(words, dims, addr)
     } else {
@@ -71,6 +82,9 @@ pub(crate) fn address(words: &[u64], dims: usize, i: usize) -> u32
     requires within { i < (first_in words.now).entries }
     ensures { slice_get (map read_address (entries_in dims words.now)) i ≡ Some result }
 {
+    if is_full(words, dims) {
+        return i as u32;
+    }
     if has_cube(words, dims) {
         cube::address(words, dims, i)
     } else {
@@ -78,7 +92,7 @@ pub(crate) fn address(words: &[u64], dims: usize, i: usize) -> u32
     }
 }
 
-/// Whether an entry is a child.
+/// Whether an entry is a child. Where all entries are of one kind, the first word tells.
 #[inline(always)]
 pub(crate) fn is_child(words: &[u64], dims: usize, spot: Spot) -> bool
     requires record { IsLaidOut dims words.now }
@@ -86,6 +100,13 @@ pub(crate) fn is_child(words: &[u64], dims: usize, spot: Spot) -> bool
     requires address { slice_get (map read_address (entries_in dims words.now)) spot.place ≡ Some spot.addr }
     ensures { slice_get (map read_child_test (entries_in dims words.now)) spot.place ≡ Some result }
 {
+    let children = children_in(words);
+    if children == 0 {
+        return false;
+    }
+    if children == count_in(words) {
+        return true;
+    }
     if has_cube(words, dims) {
         cube::is_child_at(words, dims, spot.place, spot.addr)
     } else {
@@ -101,11 +122,48 @@ pub(crate) fn rank(words: &[u64], dims: usize, spot: Spot, child: bool) -> usize
     requires address { slice_get (map read_address (entries_in dims words.now)) spot.place ≡ Some spot.addr }
     ensures { result ≡ rank_at child (entries_in dims words.now) spot.place }
 {
-    if has_cube(words, dims) {
-        cube::rank_at(words, dims, spot.place, spot.addr, child)
+    let children = children_before(words, dims, spot);
+    if child {
+        children
     } else {
-        linear::rank_of(words, dims, spot.place, child)
+        spot.place - children
     }
+}
+
+// How many children there are in front of an entry.
+#[inline(always)]
+fn children_before(words: &[u64], dims: usize, spot: Spot) -> usize
+    requires record { IsLaidOut dims words.now }
+    requires within { spot.place < (first_in words.now).entries }
+    requires address { slice_get (map read_address (entries_in dims words.now)) spot.place ≡ Some spot.addr }
+    ensures { result ≡ rank_at true (entries_in dims words.now) spot.place }
+{
+    if has_cube(words, dims) {
+        cube::rank_at(words, dims, spot.place, spot.addr, true)
+    } else {
+        linear::rank_of(words, dims, spot.place, true)
+    }
+}
+
+/// Whether an entry is a child, and how many of its kind there are in front of it. Where all entries are of one kind, the first
+/// word tells both.
+#[inline(always)]
+pub(crate) fn ranked(words: &[u64], dims: usize, spot: Spot) -> (bool, usize)
+    requires record { IsLaidOut dims words.now }
+    requires within { spot.place < (first_in words.now).entries }
+    requires address { slice_get (map read_address (entries_in dims words.now)) spot.place ≡ Some spot.addr }
+    ensures kind { slice_get (map read_child_test (entries_in dims words.now)) spot.place ≡ Some result.0 }
+    ensures rank { result.1 ≡ rank_at result.0 (entries_in dims words.now) spot.place }
+{
+    let children = children_in(words);
+    if children == 0 {
+        return (false, spot.place);
+    }
+    if children == count_in(words) {
+        return (true, spot.place);
+    }
+    let child = is_child(words, dims, spot);
+    (child, rank(words, dims, spot, child))
 }
 
 /// The digit at which the body of an entry begins.
@@ -121,6 +179,16 @@ pub(crate) fn body_at(words: &[u64], dims: usize, spot: Spot) -> u64
     } else {
         linear::body_at(words, dims, spot.place)
     }
+}
+
+/// Whether a record has an entry at each address. Each entry then stands in the place of its address.
+#[inline(always)]
+fn is_full(words: &[u64], dims: usize) -> bool
+    requires some { 0 < length words.now }
+    requires few { dims ≤ 16 }
+    ensures { result ≡ ((first_in words.now).entries == 2 ^ dims) }
+{
+    count_in(words) == 1 << dims
 }
 
 /// Whether a record has the cube layout.
