@@ -38,7 +38,7 @@ length-children end = refl
 length-children (point a body v rest) = omega (arith, length-children rest)
 length-children (child a body below chain rest) = omega (arith, length-children rest)
 
-length-nodes_of : {P : Type 0} (ss : List (SlotOf P)) → length (nodes_of ss) ≡ length ss
+pub length-nodes_of : {P : Type 0} (ss : List (SlotOf P)) → length (nodes_of ss) ≡ length ss
 length-nodes_of [] = refl
 length-nodes_of (s ∷ ss) = ap suc (length-nodes_of ss)
 

@@ -1,16 +1,17 @@
 -- A removal by the step that it takes at a node.
-use Rattle.std.proofs.Common.{length, ◌≡◌, ◌≢◌, ℕ, zero, suc, ◌+◌, ◌-◌, ◌<◌, ◌≤◌, List, [], ◌∷◌, not, cond, refl, arith, ap, sym, ◌∙◌, subst, ne_eqb, eq-eqb, lt-ltb}
-use Rattle.std.specs.Prelude.{ℤ, Some, None, Option, slice_get, position, unwrap_or}
+use Rattle.std.proofs.Common.{length, ◌≡◌, ◌≢◌, ℕ, zero, suc, ◌+◌, ◌-◌, ◌<◌, ◌≤◌, List, [], ◌∷◌, Bool, true, false, not, cond, refl, arith, ap, sym, ◌∙◌, subst, ne_eqb, eq-eqb, lt-ltb}
+use Rattle.std.specs.Prelude.{ℤ, Some, None, Option, slice_get, position, unwrap_or, ◌==◌, if◌then◌else◌}
 use Rattle.std.specs.List.{position_or_len}
 use Rattle.ph_specs.specs.ZOrder.{address}
 use Rattle.ph_specs.specs.Node.{Entries, end, point, child, Entry, What, value, node, PlainNode, entries, listed, node_of}
 use Rattle.ph_specs.specs.Shape.{digits_below, digits_between}
 use Rattle.ph_specs.specs.Lawful.{IsLawful, IsLawfulFrom, count, put_together}
-use Rattle.ph_specs.specs.PutTree.{find_node, find_tree}
-use Rattle.ph_specs.specs.DelTree.{del_node, del_tree}
+use Rattle.ph_specs.specs.PutTree.{same_digits, find_node, find_tree}
+use Rattle.ph_specs.specs.DelTree.{del_entries, merged_child, del_node, del_tree}
 use Rattle.ph_specs.specs.EntryEdits.{has_address, with_child, what_at, without, merged}
 use Rattle.ph_specs.proofs.lemmas.PointDigits.{same_digits-refl}
 use Rattle.ph_specs.proofs.laws.EntryLists.{listed-chained}
+use Rattle.ph_specs.proofs.laws.Unpacked.{child_nodes}
 use Rattle.ph_specs.proofs.laws.EntryEdits as laws
 use Rattle.ph_specs.proofs.laws.DelEntries.{IsEntryAt, IsLawfulChild, lawful-child, del_node-none, del_node-point, del_node-other_point, del_node-other_child, del_node-child, del_node-pair, length-del_node, length-del_node-child, del_tree-none, del_tree-some}
 use Rattle.ph_node.specs.Shown.{shown}
@@ -122,6 +123,41 @@ module _ (w dims : ℕ) (p : List ℤ) (t : PlainNode) (ok : IsLawfulFrom dims t
   -- one of another number of entries
   pub other_number : (n many : ℕ) → n ≡ length (entries t) → n ≢ many → many ≤ length (entries t) → many ≤ length (entries (del_node w t p))
   other_number n many e d l = omega (arith, e, d, l, length-del_node w t p)
+
+-- ---- a node of children alone
+
+few-children : (e : Entries) → length (child_nodes e) ≤ length (listed e)
+few-children end = omega arith
+few-children (point a body v rest) = omega (arith, few-children rest)
+few-children (child a body c chain rest) = omega (arith, few-children rest)
+
+merged-long : (a c : ℕ) (body : List ℕ) (chain rest : Entries) → length (listed (merged_child a body c chain rest)) ≡ suc (length (listed rest))
+merged-long a c body end rest = refl
+merged-long a c body (point d low v end) rest = refl
+merged-long a c body (point d low v (point d' low' v' more)) rest = refl
+merged-long a c body (point d low v (child d' low' e' chain' more)) rest = refl
+merged-long a c body (child d low e chain end) rest = refl
+merged-long a c body (child d low e chain (point d' low' v' more)) rest = refl
+merged-long a c body (child d low e chain (child d' low' e' chain' more)) rest = refl
+
+either-long : (t : Bool) (x y : Entries) (n : ℕ) → length (listed x) ≡ n → length (listed y) ≡ n → length (listed (if t then x else y)) ≡ n
+either-long true x y n h k = h
+either-long false x y n h k = k
+
+kept-children : (w b : ℕ) (p : List ℤ) (e : Entries) → length (child_nodes e) ≡ length (listed e) → length (listed (del_entries w b e p)) ≡ length (listed e)
+kept-children w b p end h = refl
+kept-children w b p (point a body v rest) h = absurd (omega (arith, h, few-children rest))
+kept-children w b p (child a body c chain rest) h =
+    let ih : length (listed (del_entries w b rest p)) ≡ length (listed rest) = kept-children w b p rest (omega (arith, h)) in
+    either-long (a == address w p b)
+    (if same_digits body (digits_between w b c p) then merged_child a body c (del_entries w c chain p) rest else child a body c chain rest)
+    (child a body c chain (del_entries w b rest p))
+    (suc (length (listed rest)))
+    (either-long (same_digits body (digits_between w b c p)) (merged_child a body c (del_entries w c chain p) rest) (child a body c chain rest) (suc (length (listed rest))) (merged-long a c body (del_entries w c chain p) rest) refl)
+    (ap suc ih)
+
+pub children_among : (w : ℕ) (p : List ℤ) (t : PlainNode) (many : ℕ) → length (child_nodes t.chain) ≡ length (entries t) → many ≤ length (entries t) → many ≤ length (entries (del_node w t p))
+children_among w p t many h l = omega (arith, l, kept-children w t.level p t.chain h)
 
 -- ---- steps
 

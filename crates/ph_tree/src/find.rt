@@ -80,20 +80,15 @@ fn find_long_in<P: Dims, V: Ledger>(
     ensures limit { IfSome result (λ f. f.longest < 2 ^ 31) }
     ensures cost { visits.new ≡ visits.old + opened_below key.now.width (shown node.entry).level (shown node.entry).chain key.now.point }
 {
-    let words = record_words(node);
-    match step(node, key, visits) {
-        StepOf::Absent(_) => None,
-        StepOf::Same(_, value) => Some(Found {
-            value,
-            longest: words,
-        }),
-        StepOf::Below(_, _, below) => match find_long_in(below, key, visits) {
-            Some(found) => Some(Found {
-                value: found.value,
-                longest: max(words, found.longest),
-            }),
-            None => None,
-        },
-        StepOf::Other(_) => None,
+    let mut node = node;
+    let mut longest = 0;
+    'down: loop {
+        longest = max(longest, record_words(node));
+        match step(node, key, visits) {
+            StepOf::Absent(_) => return None,
+            StepOf::Same(_, value) => return Some(Found { value, longest }),
+            StepOf::Below(_, _, below) => node = below,
+            StepOf::Other(_) => return None,
+        }
     }
 }

@@ -202,7 +202,7 @@ fn drop_child<P: Dims, C: Ledger>(
     Removed::Gone(value)
 }
 
-// The entry that is a point and its value, in a visited node of so many entries.
+// The entry that is a point and its value, in a visited node of so many entries. Where all of them are children, none is looked for.
 #[inline(always)]
 fn point_among<P: Dims>(
     node: NodeRefOf<'_, NodeOf<P>>,
@@ -216,11 +216,14 @@ fn point_among<P: Dims>(
     if node.len() != entries {
         return None;
     }
+    if node.children().len() == entries {
+        return None;
+    }
     point_in(node, key)
 }
 
 // The entry that is a point and its value, in a visited node.
-#[inline(never)]
+#[inline(always)]
 fn point_in<P: Dims>(node: NodeRefOf<'_, NodeOf<P>>, key: &KeyOf<P>) -> Option<(Spot, u64)>
     requires lawful { IsLawfulFrom P.D (shown node).level 0 (shown node).chain }
     requires level { (shown node).level < key.now.width }
