@@ -1,4 +1,4 @@
-use Rattle.std.proofs.Common.{◌≡◌, ◌^◌, ◌<◌, ◌≤◌, sym, ◌∙◌, arith, eqb-true}
+use Rattle.std.proofs.Common.{◌≡◌, ◌^◌, sym, ◌∙◌, arith, eqb-true}
 use Rattle.ph_specs.specs.Record.{first_in}
 use Rattle.ph_specs.proofs.laws.WordDigits.{each-fits}
 use Rattle.ph_node.proofs.Full.{full-next, full-end}

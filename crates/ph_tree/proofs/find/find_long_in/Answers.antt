@@ -1,8 +1,7 @@
-use Rattle.std.proofs.Common.{◌≡◌, ◌-◌, ◌<◌, ◌^◌, ℕ, length, arith, refl, rules, sym, ap, ◌∙◌, nat_cmp, max}
+use Rattle.std.proofs.Common.{◌≡◌, ◌-◌, ℕ, length, arith, refl, rules, sym, ap, ◌∙◌, nat_cmp, max}
 use Rattle.std.specs.Ordering.{ord_max}
 use Rattle.ph_specs.specs.Pack.{pack}
 use Rattle.ph_node.specs.Shown.{shown}
-use Rattle.ph_tree.specs.Rooms.{longest}
 use Rattle.ph_tree.proofs.Walks.{IsStepAt, absent_found, absent_opened, same_found, same_opened, way_below, other_found, other_opened}
 use Rattle.ph_tree.proofs.Wanted.{same_longest, below_longest}
 use Rattle.ph_tree.proofs.find.find_long_in.Given.{Over}
