@@ -75,12 +75,12 @@ module _ (bytes : List ℕ) (kind : Kind) (t : AnyTable) (h : IsSavedAs bytes ki
 -- ---- a reply in place of the sizes
 
 -- the line is that of the reply, if there is one
-abbrev IsReplyTo : {D : ℕ} {E : Type 0} → List ℕ → Result (Told D) E → Type 0
+abbrev IsReplyTo : {E : Type 0} → List ℕ → Result Told E → Type 0
 IsReplyTo line (Ok reply) = line ≡ reply_text (reply_of reply)
 IsReplyTo line (Err error) = Unit {0}
 
 module _ (sink now_sink : Taken) where
-  pub reply-given : {D : ℕ} {E : Type 0} (line : List ℕ) (reply : Result (Told D) E) (result : Result Answer Stop) → IsReplyTo line reply → ToldOr sink now_sink reply result → LineGiven sink now_sink line result
+  pub reply-given : {E : Type 0} (line : List ℕ) (reply : Result Told E) (result : Result Answer Stop) → IsReplyTo line reply → ToldOr sink now_sink reply result → LineGiven sink now_sink line result
   reply-given line (Ok reply) (Ok answer) e t = rw e t
   reply-given line (Ok reply) (Err stop.WriteFault) e t = rw e t.1
   reply-given line (Ok reply) (Err stop.NoMemory) e t = absurd (let clash : stop.NoMemory ≡ stop.WriteFault = t.0 in cc)
@@ -110,19 +110,19 @@ fault-refused (Some (bad_node at)) reply h = let same : Reply.BadNode at ≡ rep
 fault-refused (Some (bad_extra at)) reply h = let same : Reply.BadExtra at ≡ reply = cc in rw (← same) refl
 
 module _ (bytes : List ℕ) (fault : LoadFault) (f : IsLoadFault (load_fault (named_kind bytes) (slice_index bytes 5) bytes) fault) (sink now_sink : Taken) where
-  fault-line : {D : ℕ} {E : Type 0} (reply : Result (Told D) E) → TellsFault fault reply → IsReplyTo (line_of (words_of_snapshot bytes)) reply
+  fault-line : {E : Type 0} (reply : Result Told E) → TellsFault fault reply → IsReplyTo (line_of (words_of_snapshot bytes)) reply
   fault-line (Ok reply) h =
       let first = load_fault (named_kind bytes) (slice_index bytes 5) bytes in
       ap line_of (words-of_fault first (named_kind bytes) (slice_index bytes 5) bytes (reply_of reply) (h first f))
   fault-line (Err error) h = tt
 
-  pub fault-given : {D : ℕ} {E : Type 0} (reply : Result (Told D) E) (result : Result Answer Stop) → TellsFault fault reply → ToldOr sink now_sink reply result → LineGiven sink now_sink (line_of (words_of_snapshot bytes)) result
+  pub fault-given : {E : Type 0} (reply : Result Told E) (result : Result Answer Stop) → TellsFault fault reply → ToldOr sink now_sink reply result → LineGiven sink now_sink (line_of (words_of_snapshot bytes)) result
   fault-given reply result h t = reply-given sink now_sink (line_of (words_of_snapshot bytes)) reply result (fault-line reply h) t
 
-  pub fault-sizes : {P : Type 0} {D : ℕ} {E : Type 0} (reply : Result (Told D) E) (result : Result Answer Stop) → TellsFault fault reply → ToldOr sink now_sink reply result → result ≡ Ok answer.Good → P
-  fault-sizes {D = D} {E = E} (Ok reply) result h t e =
+  pub fault-sizes : {P : Type 0} {E : Type 0} (reply : Result Told E) (result : Result Answer Stop) → TellsFault fault reply → ToldOr sink now_sink reply result → result ≡ Ok answer.Good → P
+  fault-sizes {E = E} (Ok reply) result h t e =
       let first = load_fault (named_kind bytes) (slice_index bytes 5) bytes in
-      let told : Result (Told D) E = Ok reply in
+      let told : Result Told E = Ok reply in
       never-good sink now_sink (reply_text (reply_of reply)) result (fault-refused first (reply_of reply) (h first f)) (reply-given sink now_sink (reply_text (reply_of reply)) told result refl t) e
   fault-sizes (Err error) (Ok answer) h t e = absurd t
   fault-sizes (Err error) (Err why) h t e = cc
@@ -214,7 +214,7 @@ module _ (most : ℕ) (file : List ℕ) (told now_told : Option Files) (f now_f 
   }
 
   -- a reply in place of the sizes: no file was read
-  unread-by : {D : ℕ} {E : Type 0} (v c : ℕ) (fault : Bool) (reply : Result (Told D) E) (result : Result Answer Stop) → Filings true (one_if fault) f now_f → Stays told now_told → (AreTold told → check_line most (told_files told) fault file ≡ reply_text Reply.ErrorFile) → IsReplyTo (reply_text Reply.ErrorFile) reply → ToldOr sink now_sink reply result → CheckDone most file told now_told f now_f sink now_sink v v c c (status_of result)
+  unread-by : {E : Type 0} (v c : ℕ) (fault : Bool) (reply : Result Told E) (result : Result Answer Stop) → Filings true (one_if fault) f now_f → Stays told now_told → (AreTold told → check_line most (told_files told) fault file ≡ reply_text Reply.ErrorFile) → IsReplyTo (reply_text Reply.ErrorFile) reply → ToldOr sink now_sink reply result → CheckDone most file told now_told f now_f sink now_sink v v c c (status_of result)
   unread-by v c fault reply result n k is r t =
       let given : LineGiven sink now_sink (reply_text Reply.ErrorFile) result = reply-given sink now_sink (reply_text Reply.ErrorFile) reply result r t in
       done-by v v c c fault (reply_text Reply.ErrorFile) result n k is given (λ _. never-good sink now_sink (reply_text Reply.ErrorFile) result refl given) (no-work most file told v c)
@@ -234,12 +234,12 @@ unread-line most file bytes (Some files) fault n m g t = ap (λ o. line_of (word
     none-of None h = refl
     none-of (Some b) h = absurd (let clash : false ≡ true = h in cc)
 
-module _ {D : ℕ} {E : Type 0} (most : ℕ) (file bytes : List ℕ) (told now_told : Option Files) (f now_f : ℕ) (sink now_sink : Taken) (v c : ℕ) (reply : Result (Told D) E) (result : Result Answer Stop) where
-  error-line : (reply : Result (Told D) E) (fault : FetchFault) → TellsUnfetched fault reply → IsReplyTo (reply_text Reply.ErrorFile) reply
+module _ {E : Type 0} (most : ℕ) (file bytes : List ℕ) (told now_told : Option Files) (f now_f : ℕ) (sink now_sink : Taken) (v c : ℕ) (reply : Result Told E) (result : Result Answer Stop) where
+  error-line : (reply : Result Told E) (fault : FetchFault) → TellsUnfetched fault reply → IsReplyTo (reply_text Reply.ErrorFile) reply
   error-line (Ok r) fault h = ap reply_text (sym h.1)
   error-line (Err error) fault h = tt
 
-  starved-told : (reply : Result (Told D) E) (result : Result Answer Stop) → TellsUnfetched unread.NoMemory reply → ToldOr sink now_sink reply result → now_f ≡ f → Stays told now_told → CheckDone most file told now_told f now_f sink now_sink v v c c (status_of result)
+  starved-told : (reply : Result Told E) (result : Result Answer Stop) → TellsUnfetched unread.NoMemory reply → ToldOr sink now_sink reply result → now_f ≡ f → Stays told now_told → CheckDone most file told now_told f now_f sink now_sink v v c c (status_of result)
   starved-told (Ok r) result h t n k = absurd (h.0 refl)
   starved-told (Err error) (Ok answer) h t n k = absurd t
   starved-told (Err error) (Err stop.WriteFault) h t n k = absurd (let clash : stop.WriteFault ≡ stop.NoMemory = t.0 in cc)

@@ -80,12 +80,12 @@ done-all most e after now command replies b now_b (Err WriteFault) l x w d u v a
 done-all most e after now command replies b now_b (Err NoMemory) l x w d u v a t s f = absurd (let clash : NoMemory ≡ WriteFault = s in cc)
 
 -- what was said of a reply was told
-pub tells-said : {D : ℕ} (sink now_sink : Taken) (reply : Told D) (result : Result Answer Stop) → IfOk result (λ answer. refuses answer ≡ is_refusal (reply_text (reply_of reply))) → OnOk result (Given sink now_sink (reply_text (reply_of reply))) → IfErr result (λ stop. stop ≡ WriteFault) → OnErr result (WritesFront sink now_sink (reply_text (reply_of reply))) → Tells sink now_sink reply result
+pub tells-said : (sink now_sink : Taken) (reply : Told) (result : Result Answer Stop) → IfOk result (λ answer. refuses answer ≡ is_refusal (reply_text (reply_of reply))) → OnOk result (Given sink now_sink (reply_text (reply_of reply))) → IfErr result (λ stop. stop ≡ WriteFault) → OnErr result (WritesFront sink now_sink (reply_text (reply_of reply))) → Tells sink now_sink reply result
 tells-said sink now_sink reply (Ok answer) good told fault front = (told, good)
 tells-said sink now_sink reply (Err stop) good told fault front = (fault, front)
 
 -- a command of one reply, once this was given to a sink
-pub done-said : {D : ℕ} (most : ℕ) (e now : Engine) (command : Asked) (reply : Told D) (b now_b : Beside) (result : Result Answer Stop) → LeavesFiles b now_b → now ≡ cut_engine e command now → Does e command now (reply_of reply ∷ []) → Most e command b now_b → Least e command b now_b → Tells b.sink now_b.sink reply result → DoneOr most e command b now_b now result
+pub done-said : (most : ℕ) (e now : Engine) (command : Asked) (reply : Told) (b now_b : Beside) (result : Result Answer Stop) → LeavesFiles b now_b → now ≡ cut_engine e command now → Does e command now (reply_of reply ∷ []) → Most e command b now_b → Least e command b now_b → Tells b.sink now_b.sink reply result → DoneOr most e command b now_b now result
 done-said most e now command reply b now_b (Ok answer) l p d u v t =
     done-all most e now now command (reply_of reply ∷ []) b now_b (Ok answer) l refl tt d u v (rw (one-text (reply_of reply)) t.1) (rw (one-text (reply_of reply)) t.0) tt tt
 done-said most e now command reply b now_b (Err stop) l p d u v t =
@@ -96,7 +96,7 @@ cut-same : (e : Engine) (page : Bool) → e ≡ (if page then e else e)
 cut-same e true = refl
 cut-same e false = refl
 
-pub done-refused : {D : ℕ} (most : ℕ) (s : Slot) (command : Asked) (reply : Told D) (sink now_sink : Taken) (files : Option Files) (filings visits changes : ℕ) (result : Result Answer Stop) → Begun s command s (reply_of reply) → Tells sink now_sink reply result → DoneOr most (engine_of s) command (beside_sink sink files filings visits changes) (beside_sink now_sink files filings visits changes) (engine_of s) result
+pub done-refused : (most : ℕ) (s : Slot) (command : Asked) (reply : Told) (sink now_sink : Taken) (files : Option Files) (filings visits changes : ℕ) (result : Result Answer Stop) → Begun s command s (reply_of reply) → Tells sink now_sink reply result → DoneOr most (engine_of s) command (beside_sink sink files filings visits changes) (beside_sink now_sink files filings visits changes) (engine_of s) result
 done-refused most s command reply sink now_sink files filings visits changes result h t =
     done-said most (engine_of s) (engine_of s) command reply _ _ result (record { files = refl; filings = refl }) (cut-same (engine_of s) (is_page command)) h.does (h.most visits changes) (h.least visits changes) t
 
@@ -116,7 +116,7 @@ select-unrefused most e files fault which = let k = kind-of-select (current e).k
 compare-unrefused : (most : ℕ) (e : Engine) (files : Files) (fault : Bool) → refusal most e files fault Asked.Compare ≡ None
 compare-unrefused most e files fault = let k = kind-of-compare (current e).kind in rw (k.0, k.1) refl
 
-pub select-done : {D : ℕ} (most : ℕ) (e now : Engine) (which : Which) (reply : Told D) (sink now_sink : Taken) (files : Option Files) (filings visits changes : ℕ) (result : Result Answer Stop) → now ≡ record e { current = which } → reply_of reply ≡ Reply.Using which → Tells sink now_sink reply result → DoneOr most e (Asked.Select which) (beside_sink sink files filings visits changes) (beside_sink now_sink files filings visits changes) now result
+pub select-done : (most : ℕ) (e now : Engine) (which : Which) (reply : Told) (sink now_sink : Taken) (files : Option Files) (filings visits changes : ℕ) (result : Result Answer Stop) → now ≡ record e { current = which } → reply_of reply ≡ Reply.Using which → Tells sink now_sink reply result → DoneOr most e (Asked.Select which) (beside_sink sink files filings visits changes) (beside_sink now_sink files filings visits changes) now result
 select-done most e now which reply sink now_sink files filings visits changes result is said told =
     done-said most e now (Asked.Select which) reply (beside_sink sink files filings visits changes) (beside_sink now_sink files filings visits changes) result (record { files = refl; filings = refl }) refl
     (λ most files fault. ap (λ r. unless_refused r e files (Asked.Select which)) (select-unrefused most e files fault which) ∙ (λ i. outcome (sym is i) files (sym said i ∷ [])))
@@ -127,7 +127,7 @@ least-of-same : (test : Bool) (n v now_v : ℕ) → v ≤ now_v → (test ≡ tr
 least-of-same true n v now_v l h = let e = h refl in omega (arith, e)
 least-of-same false n v now_v l h = omega (arith, l)
 
-pub compare-done : {D : ℕ} (most : ℕ) (e : Engine) (reply : Told D) (sink now_sink : Taken) (files : Option Files) (filings visits now_visits changes : ℕ) (result : Result Answer Stop) → Compares e visits now_visits (reply_of reply) → Tells sink now_sink reply result → DoneOr most e Asked.Compare (beside_sink sink files filings visits changes) (beside_sink now_sink files filings now_visits changes) e result
+pub compare-done : (most : ℕ) (e : Engine) (reply : Told) (sink now_sink : Taken) (files : Option Files) (filings visits now_visits changes : ℕ) (result : Result Answer Stop) → Compares e visits now_visits (reply_of reply) → Tells sink now_sink reply result → DoneOr most e Asked.Compare (beside_sink sink files filings visits changes) (beside_sink now_sink files filings now_visits changes) e result
 compare-done most e reply sink now_sink files filings visits now_visits changes result h told =
     let n = nodes_of e.a + nodes_of e.b in
     done-said most e e Asked.Compare reply (beside_sink sink files filings visits changes) (beside_sink now_sink files filings now_visits changes) result (record { files = refl; filings = refl }) refl

@@ -42,7 +42,7 @@ use Rattle.ph_engine.proofs.Refused.{refusal-parts}
 -- ---- once the reply was given to a sink
 
 module _ (most : ℕ) (e now : Engine) (command : Command) (told now_told : Option Files) (f now_f v now_v c now_c : ℕ) (sink now_sink : Taken) where
-  filed-said : {D : ℕ} (reply : Told D) (result : Result Answer Stop) → now ≡ cut_engine e command now → Filed most e command told now_told f now_f v now_v c now_c now (reply_of reply) → Says sink now_sink reply result → DoneOr most e command (beside_sink sink told f v c) (beside_sink now_sink now_told now_f now_v now_c) now result
+  filed-said : (reply : Told) (result : Result Answer Stop) → now ≡ cut_engine e command now → Filed most e command told now_told f now_f v now_v c now_c now (reply_of reply) → Says sink now_sink reply result → DoneOr most e command (beside_sink sink told f v c) (beside_sink now_sink now_told now_f now_v now_c) now result
   filed-said reply (Ok answer) p h t = record {
     fault = h.fault;
     filings = h.counted;
@@ -80,7 +80,7 @@ module _ (most : ℕ) (e now : Engine) (command : Command) (told now_told : Opti
     most_work = h.most_work;
   }
 
-  pub done-filed : {D : ℕ} {E : Type 0} (reply : Result (Told D) E) (result : Result Answer Stop) → is_page command ≡ false → FiledOr most e command told now_told f now_f v now_v c now_c now reply → ToldOr sink now_sink reply result → DoneOr most e command (beside_sink sink told f v c) (beside_sink now_sink now_told now_f now_v now_c) now result
+  pub done-filed : {E : Type 0} (reply : Result Told E) (result : Result Answer Stop) → is_page command ≡ false → FiledOr most e command told now_told f now_f v now_v c now_c now reply → ToldOr sink now_sink reply result → DoneOr most e command (beside_sink sink told f v c) (beside_sink now_sink now_told now_f now_v now_c) now result
   done-filed (Ok reply) result page h t = filed-said reply result (rw page refl) h t
   done-filed (Err error) (Ok answer) page h t = absurd t
   done-filed (Err error) (Err stop) page h t = unfiled-said stop t.0 t.1 h
@@ -104,7 +104,7 @@ pub filed-begun : (most : ℕ) (s now : Slot) (command : Command) (reply : Reply
 filed-begun most s now command reply told f v c h = filed-quietly most (engine_of s) (engine_of now) command reply told f v v c c h.does (h.most v c) (h.least v c)
 
 -- a command about the rows of a table
-pub filed-served : {D : ℕ} {E : Type 0} (most : ℕ) (kind : Kind) (t now : AnyTable) (cursors : Named Cursor) (command : Command) (result : Result (Told D) E) (told : Option Files) (f v now_v c now_c : ℕ) → IsPlain command → early_refusal (slot_of kind t cursors) command ≡ None → ServedOr t command now v now_v c now_c result → FiledOr most (engine_of (slot_of kind t cursors)) command told told f f v now_v c now_c (engine_of (slot_of kind now cursors)) result
+pub filed-served : {E : Type 0} (most : ℕ) (kind : Kind) (t now : AnyTable) (cursors : Named Cursor) (command : Command) (result : Result Told E) (told : Option Files) (f v now_v c now_c : ℕ) → IsPlain command → early_refusal (slot_of kind t cursors) command ≡ None → ServedOr t command now v now_v c now_c result → FiledOr most (engine_of (slot_of kind t cursors)) command told told f f v now_v c now_c (engine_of (slot_of kind now cursors)) result
 filed-served most kind t now cursors command (Ok reply) told f v now_v c now_c p u h =
     filed-quietly most (engine_of (slot_of kind t cursors)) (engine_of (slot_of kind now cursors)) command (reply_of reply) told f v now_v c now_c
     (does-at kind t now cursors command (reply_of reply) p u (h.does cursors))
@@ -347,7 +347,7 @@ module _ (command : Command) (name : List ℕ) (k : IsFetch command name) where
       most_work = few;
     }
 
-    pub unfetched-filed-or : {D : ℕ} {E : Type 0} (told now_told : Option Files) (fault : FetchFault) (result : Result (Told D) E) → TellsUnfetched fault result → Fetches told name most bytes (Err fault) → FetchCounts f now_f (Err fault) → Stays told now_told → now_v ≡ v → now_c ≡ c → FiledOr most (engine_of s) command told now_told f now_f v now_v c now_c (engine_of s) result
+    pub unfetched-filed-or : {E : Type 0} (told now_told : Option Files) (fault : FetchFault) (result : Result Told E) → TellsUnfetched fault result → Fetches told name most bytes (Err fault) → FetchCounts f now_f (Err fault) → Stays told now_told → now_v ≡ v → now_c ≡ c → FiledOr most (engine_of s) command told now_told f now_f v now_v c now_c (engine_of s) result
     unfetched-filed-or told now_told fault (Ok reply) t g counts st h i = rw t.1 (unfetched-filed told now_told fault t.0 g counts st h i)
     unfetched-filed-or told now_told fault (Err error) t g counts st h i =
         starved told now_told (engine_of s) 0 st (rw t at counts) (λ files x. sym (k.none_in s files)) (λ files x. fetch-idle files false h i)
@@ -398,7 +398,7 @@ module _ (most : ℕ) (kind : Kind) (t : AnyTable) (cursors : Named Cursor) (nam
   load-most : 16 * now_c ≤ 16 * c + length bytes → (files : Files) → lookup name files ≡ Some bytes → IsAtMost (work_of most (engine_of (slot_of kind t cursors)) files false (Command.Load name)) v v c now_c
   load-most few files l = rw l (record { few_visits = omega arith; few_changes = omega (arith, few) })
 
-  pub read-filed-or : {D : ℕ} {E : Type 0} (told now_told : Option Files) (now : AnyTable) (result : Result (Told D) E) → Fetches told name most bytes (Ok tt) → length bytes ≤ most → Stays told now_told → now_f ≡ f → LoadsOr kind t bytes now result → c ≤ now_c → 16 * now_c ≤ 16 * c + length bytes → FiledOr most (engine_of (slot_of kind t cursors)) (Command.Load name) told now_told f now_f v v c now_c (engine_of (slot_of kind now cursors)) result
+  pub read-filed-or : {E : Type 0} (told now_told : Option Files) (now : AnyTable) (result : Result Told E) → Fetches told name most bytes (Ok tt) → length bytes ≤ most → Stays told now_told → now_f ≡ f → LoadsOr kind t bytes now result → c ≤ now_c → 16 * now_c ≤ 16 * c + length bytes → FiledOr most (engine_of (slot_of kind t cursors)) (Command.Load name) told now_told f now_f v v c now_c (engine_of (slot_of kind now cursors)) result
   read-filed-or told now_told now (Ok reply) g short st e h later few =
       fetched-filed (Command.Load name) name (fetch-load name) most (slot_of kind t cursors) bytes f now_f v v c now_c told now_told (engine_of (slot_of kind now cursors)) (reply_of reply) g st e
       (λ files l. load-does most kind t cursors files name bytes short l ∙ (λ i. outcome (engine_of (slot_of kind (sym h.0 i) cursors)) files (sym h.1 i ∷ [])))

@@ -5,7 +5,7 @@ use Rattle.ph_script.specs.declared.command.Command.{Command}
 use Rattle.ph_script.specs.declared.command.Command.TheVariants as by
 use Rattle.ph_script.specs.Meaning.{command_of}
 use Rattle.ph_specs.specs.declared.Kind.{Kind}
-use Rattle.ph_engine.specs.Doing.{is_tried, is_sure, lists_rows}
+use Rattle.ph_engine.specs.Doing.{is_tried, is_sure, is_listed}
 
 pub all-tried : (c : Command) → is_tried (command_of c) ≡ true → ((at : List Coord) (value : ℕ) → c ≡ by.Put at value → ⊥) → ((at : List Coord) → c ≡ by.Del at → ⊥) → ((from : List Coord) (to : List Coord) → c ≡ by.Relocate from to → ⊥) → ((file : List ℕ) → c ≡ by.Load file → ⊥) → ((file : List ℕ) (header : Bool) → c ≡ by.Import file header → ⊥) → ((file : List ℕ) → c ≡ by.Export file → ⊥) → ⊥
 all-tried (by.Begin kind k max) h n1 n2 n3 n4 n5 n6 = absurd cc
@@ -31,50 +31,50 @@ all-tried by.Stats h n1 n2 n3 n4 n5 n6 = absurd cc
 all-tried (by.Select which) h n1 n2 n3 n4 n5 n6 = absurd cc
 all-tried by.Same h n1 n2 n3 n4 n5 n6 = absurd cc
 
-pub all-sure : (c : Command) → is_sure (command_of c) ≡ true → ((kind : Kind) (k : ℕ) (max : ℕ) → c ≡ by.Begin kind k max → ⊥) → ((at : List Coord) → c ≡ by.Get at → ⊥) → (c ≡ by.Count → ⊥) → (c ≡ by.Clear → ⊥) → ((name : List ℕ) (lo : List Coord) (hi : List Coord) → c ≡ by.Cursor name lo hi → ⊥) → ((file : List ℕ) → c ≡ by.Save file → ⊥) → (c ≡ by.Stats → ⊥) → ⊥
-all-sure (by.Begin kind k max) h n1 n2 n3 n4 n5 n6 n7 = n1 kind k max refl
-all-sure (by.Put at value) h n1 n2 n3 n4 n5 n6 n7 = absurd cc
-all-sure (by.Get at) h n1 n2 n3 n4 n5 n6 n7 = n2 at refl
-all-sure (by.Del at) h n1 n2 n3 n4 n5 n6 n7 = absurd cc
-all-sure (by.Relocate from to) h n1 n2 n3 n4 n5 n6 n7 = absurd cc
-all-sure by.Count h n1 n2 n3 n4 n5 n6 n7 = n3 refl
-all-sure by.Clear h n1 n2 n3 n4 n5 n6 n7 = n4 refl
-all-sure (by.Window lo hi) h n1 n2 n3 n4 n5 n6 n7 = absurd cc
-all-sure (by.Cursor name lo hi) h n1 n2 n3 n4 n5 n6 n7 = n5 name lo hi refl
-all-sure (by.Page name count) h n1 n2 n3 n4 n5 n6 n7 = absurd cc
-all-sure (by.Near q count) h n1 n2 n3 n4 n5 n6 n7 = absurd cc
-all-sure (by.Within q r) h n1 n2 n3 n4 n5 n6 n7 = absurd cc
-all-sure (by.Overlap bounds) h n1 n2 n3 n4 n5 n6 n7 = absurd cc
-all-sure (by.Inside bounds) h n1 n2 n3 n4 n5 n6 n7 = absurd cc
-all-sure (by.Covers bounds) h n1 n2 n3 n4 n5 n6 n7 = absurd cc
-all-sure (by.Save file) h n1 n2 n3 n4 n5 n6 n7 = n6 file refl
-all-sure (by.Load file) h n1 n2 n3 n4 n5 n6 n7 = absurd cc
-all-sure (by.Import file header) h n1 n2 n3 n4 n5 n6 n7 = absurd cc
-all-sure (by.Export file) h n1 n2 n3 n4 n5 n6 n7 = absurd cc
-all-sure by.Stats h n1 n2 n3 n4 n5 n6 n7 = n7 refl
-all-sure (by.Select which) h n1 n2 n3 n4 n5 n6 n7 = absurd cc
-all-sure by.Same h n1 n2 n3 n4 n5 n6 n7 = absurd cc
+pub all-sure : (c : Command) → is_sure (command_of c) ≡ true → ((kind : Kind) (k : ℕ) (max : ℕ) → c ≡ by.Begin kind k max → ⊥) → ((at : List Coord) → c ≡ by.Get at → ⊥) → (c ≡ by.Count → ⊥) → (c ≡ by.Clear → ⊥) → ((name : List ℕ) (lo : List Coord) (hi : List Coord) → c ≡ by.Cursor name lo hi → ⊥) → ((file : List ℕ) → c ≡ by.Save file → ⊥) → ⊥
+all-sure (by.Begin kind k max) h n1 n2 n3 n4 n5 n6 = n1 kind k max refl
+all-sure (by.Put at value) h n1 n2 n3 n4 n5 n6 = absurd cc
+all-sure (by.Get at) h n1 n2 n3 n4 n5 n6 = n2 at refl
+all-sure (by.Del at) h n1 n2 n3 n4 n5 n6 = absurd cc
+all-sure (by.Relocate from to) h n1 n2 n3 n4 n5 n6 = absurd cc
+all-sure by.Count h n1 n2 n3 n4 n5 n6 = n3 refl
+all-sure by.Clear h n1 n2 n3 n4 n5 n6 = n4 refl
+all-sure (by.Window lo hi) h n1 n2 n3 n4 n5 n6 = absurd cc
+all-sure (by.Cursor name lo hi) h n1 n2 n3 n4 n5 n6 = n5 name lo hi refl
+all-sure (by.Page name count) h n1 n2 n3 n4 n5 n6 = absurd cc
+all-sure (by.Near q count) h n1 n2 n3 n4 n5 n6 = absurd cc
+all-sure (by.Within q r) h n1 n2 n3 n4 n5 n6 = absurd cc
+all-sure (by.Overlap bounds) h n1 n2 n3 n4 n5 n6 = absurd cc
+all-sure (by.Inside bounds) h n1 n2 n3 n4 n5 n6 = absurd cc
+all-sure (by.Covers bounds) h n1 n2 n3 n4 n5 n6 = absurd cc
+all-sure (by.Save file) h n1 n2 n3 n4 n5 n6 = n6 file refl
+all-sure (by.Load file) h n1 n2 n3 n4 n5 n6 = absurd cc
+all-sure (by.Import file header) h n1 n2 n3 n4 n5 n6 = absurd cc
+all-sure (by.Export file) h n1 n2 n3 n4 n5 n6 = absurd cc
+all-sure by.Stats h n1 n2 n3 n4 n5 n6 = absurd cc
+all-sure (by.Select which) h n1 n2 n3 n4 n5 n6 = absurd cc
+all-sure by.Same h n1 n2 n3 n4 n5 n6 = absurd cc
 
-pub all-lists : (c : Command) → lists_rows (command_of c) ≡ true → ((lo : List Coord) (hi : List Coord) → c ≡ by.Window lo hi → ⊥) → ((name : List ℕ) (count : ℕ) → c ≡ by.Page name count → ⊥) → ((q : List Coord) (count : ℕ) → c ≡ by.Near q count → ⊥) → ((q : List Coord) (r : ℕ) → c ≡ by.Within q r → ⊥) → ((bounds : List Coord) → c ≡ by.Overlap bounds → ⊥) → ((bounds : List Coord) → c ≡ by.Inside bounds → ⊥) → ((bounds : List Coord) → c ≡ by.Covers bounds → ⊥) → ⊥
-all-lists (by.Begin kind k max) h n1 n2 n3 n4 n5 n6 n7 = absurd cc
-all-lists (by.Put at value) h n1 n2 n3 n4 n5 n6 n7 = absurd cc
-all-lists (by.Get at) h n1 n2 n3 n4 n5 n6 n7 = absurd cc
-all-lists (by.Del at) h n1 n2 n3 n4 n5 n6 n7 = absurd cc
-all-lists (by.Relocate from to) h n1 n2 n3 n4 n5 n6 n7 = absurd cc
-all-lists by.Count h n1 n2 n3 n4 n5 n6 n7 = absurd cc
-all-lists by.Clear h n1 n2 n3 n4 n5 n6 n7 = absurd cc
-all-lists (by.Window lo hi) h n1 n2 n3 n4 n5 n6 n7 = n1 lo hi refl
-all-lists (by.Cursor name lo hi) h n1 n2 n3 n4 n5 n6 n7 = absurd cc
-all-lists (by.Page name count) h n1 n2 n3 n4 n5 n6 n7 = n2 name count refl
-all-lists (by.Near q count) h n1 n2 n3 n4 n5 n6 n7 = n3 q count refl
-all-lists (by.Within q r) h n1 n2 n3 n4 n5 n6 n7 = n4 q r refl
-all-lists (by.Overlap bounds) h n1 n2 n3 n4 n5 n6 n7 = n5 bounds refl
-all-lists (by.Inside bounds) h n1 n2 n3 n4 n5 n6 n7 = n6 bounds refl
-all-lists (by.Covers bounds) h n1 n2 n3 n4 n5 n6 n7 = n7 bounds refl
-all-lists (by.Save file) h n1 n2 n3 n4 n5 n6 n7 = absurd cc
-all-lists (by.Load file) h n1 n2 n3 n4 n5 n6 n7 = absurd cc
-all-lists (by.Import file header) h n1 n2 n3 n4 n5 n6 n7 = absurd cc
-all-lists (by.Export file) h n1 n2 n3 n4 n5 n6 n7 = absurd cc
-all-lists by.Stats h n1 n2 n3 n4 n5 n6 n7 = absurd cc
-all-lists (by.Select which) h n1 n2 n3 n4 n5 n6 n7 = absurd cc
-all-lists by.Same h n1 n2 n3 n4 n5 n6 n7 = absurd cc
+pub all-lists : (c : Command) → is_listed (command_of c) ≡ true → ((lo : List Coord) (hi : List Coord) → c ≡ by.Window lo hi → ⊥) → ((name : List ℕ) (count : ℕ) → c ≡ by.Page name count → ⊥) → ((q : List Coord) (count : ℕ) → c ≡ by.Near q count → ⊥) → ((q : List Coord) (r : ℕ) → c ≡ by.Within q r → ⊥) → ((bounds : List Coord) → c ≡ by.Overlap bounds → ⊥) → ((bounds : List Coord) → c ≡ by.Inside bounds → ⊥) → ((bounds : List Coord) → c ≡ by.Covers bounds → ⊥) → (c ≡ by.Stats → ⊥) → ⊥
+all-lists (by.Begin kind k max) h n1 n2 n3 n4 n5 n6 n7 n8 = absurd cc
+all-lists (by.Put at value) h n1 n2 n3 n4 n5 n6 n7 n8 = absurd cc
+all-lists (by.Get at) h n1 n2 n3 n4 n5 n6 n7 n8 = absurd cc
+all-lists (by.Del at) h n1 n2 n3 n4 n5 n6 n7 n8 = absurd cc
+all-lists (by.Relocate from to) h n1 n2 n3 n4 n5 n6 n7 n8 = absurd cc
+all-lists by.Count h n1 n2 n3 n4 n5 n6 n7 n8 = absurd cc
+all-lists by.Clear h n1 n2 n3 n4 n5 n6 n7 n8 = absurd cc
+all-lists (by.Window lo hi) h n1 n2 n3 n4 n5 n6 n7 n8 = n1 lo hi refl
+all-lists (by.Cursor name lo hi) h n1 n2 n3 n4 n5 n6 n7 n8 = absurd cc
+all-lists (by.Page name count) h n1 n2 n3 n4 n5 n6 n7 n8 = n2 name count refl
+all-lists (by.Near q count) h n1 n2 n3 n4 n5 n6 n7 n8 = n3 q count refl
+all-lists (by.Within q r) h n1 n2 n3 n4 n5 n6 n7 n8 = n4 q r refl
+all-lists (by.Overlap bounds) h n1 n2 n3 n4 n5 n6 n7 n8 = n5 bounds refl
+all-lists (by.Inside bounds) h n1 n2 n3 n4 n5 n6 n7 n8 = n6 bounds refl
+all-lists (by.Covers bounds) h n1 n2 n3 n4 n5 n6 n7 n8 = n7 bounds refl
+all-lists (by.Save file) h n1 n2 n3 n4 n5 n6 n7 n8 = absurd cc
+all-lists (by.Load file) h n1 n2 n3 n4 n5 n6 n7 n8 = absurd cc
+all-lists (by.Import file header) h n1 n2 n3 n4 n5 n6 n7 n8 = absurd cc
+all-lists (by.Export file) h n1 n2 n3 n4 n5 n6 n7 n8 = absurd cc
+all-lists by.Stats h n1 n2 n3 n4 n5 n6 n7 n8 = n8 refl
+all-lists (by.Select which) h n1 n2 n3 n4 n5 n6 n7 n8 = absurd cc
+all-lists by.Same h n1 n2 n3 n4 n5 n6 n7 n8 = absurd cc

@@ -63,7 +63,7 @@ told-fault None dims bytes r h = absurd (let no : None ≡ Some r = h in cc)
 told-fault (Some fault) dims bytes r h = let same : fault_reply fault ≡ r = cc in ap Err same
 
 -- bytes that are none
-pub loads-none : {D : ℕ} {E : Type 0} (kind : Kind) (t : AnyTable) (dims : ℕ) (bytes : List ℕ) (fault : LoadFault) (result : Result (Told D) E) → dims ≡ t.dims → IsLoadFault (load_fault kind dims bytes) fault → TellsFault fault result → LoadsOr kind t bytes t result
+pub loads-none : {E : Type 0} (kind : Kind) (t : AnyTable) (dims : ℕ) (bytes : List ℕ) (fault : LoadFault) (result : Result Told E) → dims ≡ t.dims → IsLoadFault (load_fault kind dims bytes) fault → TellsFault fault result → LoadsOr kind t bytes t result
 loads-none kind t dims bytes fault (Ok reply) d f h =
     let read : read_snapshot kind t.dims bytes ≡ Err (reply_of reply) = ap (λ k. read_snapshot kind k bytes) (sym d) ∙ told-fault (load_fault kind dims bytes) dims bytes (reply_of reply) (h (load_fault kind dims bytes) f) in
     (ap (read_table t) (sym read), ap (read_reply t.tree.max) (sym read))

@@ -96,17 +96,6 @@ plain-clear = record {
   no_import = λ s files. refl;
 }
 
-pub plain-stats : IsPlain Command.Statistics
-plain-stats = record {
-  unrefused = λ t cursors h. refl;
-  late = λ most t cursors files fault. refl;
-  effect = λ t cursors files. refl;
-  bounds = λ t cursors files. refl;
-  takes = λ t cursors. refl;
-  no_page = refl;
-  no_import = λ s files. refl;
-}
-
 unless-boxed : (r : Option Reply) (t : AnyTable) (cursors : Named Cursor) (files : Files) (command : Command) → IsPlain command → unless_refused r (engine_of (slot_of Boxes t cursors)) files command ≡ boxed (unless_refused r (engine_of (slot_of Points t cursors)) files command)
 unless-boxed (Some r) t cursors files command p = refl
 unless-boxed None t cursors files command p = p.effect t cursors files

@@ -79,7 +79,7 @@ module _ (most : ℕ) (kind : Kind) (t : AnyTable) (cursors : Named Cursor) (nam
   import-most : now_v ≤ v + 4 * t.tree.width * read_length (csv_rows t.tree.width t.dims kind header bytes) → now_c ≤ c + 2 * read_length (csv_rows t.tree.width t.dims kind header bytes) → (files : Files) → lookup name files ≡ Some bytes → IsAtMost (work_of most (engine_of (slot_of kind t cursors)) files false (Command.Import name header)) v now_v c now_c
   import-most few less files l = rw l (record { few_visits = few; few_changes = less })
 
-  pub imported-filed-or : {D : ℕ} {E : Type 0} (told now_told : Option Files) (now : AnyTable) (result : Result (Told D) E) → Fetches told name most bytes (Ok tt) → length bytes ≤ most → Stays told now_told → now_f ≡ f → ImportsOr t (csv_rows t.tree.width t.dims kind header bytes) now result → v ≤ now_v → now_v ≤ v + 4 * t.tree.width * read_length (csv_rows t.tree.width t.dims kind header bytes) → c ≤ now_c → now_c ≤ c + 2 * read_length (csv_rows t.tree.width t.dims kind header bytes) → FiledOr most (engine_of (slot_of kind t cursors)) (Command.Import name header) told now_told f now_f v now_v c now_c (engine_of (slot_of kind now cursors)) result
+  pub imported-filed-or : {E : Type 0} (told now_told : Option Files) (now : AnyTable) (result : Result Told E) → Fetches told name most bytes (Ok tt) → length bytes ≤ most → Stays told now_told → now_f ≡ f → ImportsOr t (csv_rows t.tree.width t.dims kind header bytes) now result → v ≤ now_v → now_v ≤ v + 4 * t.tree.width * read_length (csv_rows t.tree.width t.dims kind header bytes) → c ≤ now_c → now_c ≤ c + 2 * read_length (csv_rows t.tree.width t.dims kind header bytes) → FiledOr most (engine_of (slot_of kind t cursors)) (Command.Import name header) told now_told f now_f v now_v c now_c (engine_of (slot_of kind now cursors)) result
   imported-filed-or told now_told now (Ok reply) g short st e h later few kept less =
       fetched-filed (Command.Import name header) name (fetch-import name header) most (slot_of kind t cursors) bytes f now_f v now_v c now_c told now_told (engine_of (slot_of kind now cursors)) (reply_of reply) g st e
       (λ files l. import-does most kind t cursors files name bytes header short l ∙ (λ i. outcome (engine_of (slot_of kind (sym h.0 i) cursors)) files (sym h.1 i ∷ [])))
@@ -93,7 +93,7 @@ module _ (most : ℕ) (kind : Kind) (t : AnyTable) (cursors : Named Cursor) (nam
       (import-most few less)
 
 -- a text without rows
-pub imports-none : {D : ℕ} {E : Type 0} (t : AnyTable) (read : Result (List Row) Reply) (fault : CsvFault) (result : Result (Told D) E) → IsFault read fault → TellsRecord fault result → ImportsOr t read t result
+pub imports-none : {E : Type 0} (t : AnyTable) (read : Result (List Row) Reply) (fault : CsvFault) (result : Result Told E) → IsFault read fault → TellsRecord fault result → ImportsOr t read t result
 imports-none t read fault (Ok reply) f h = let is : read ≡ Err (reply_of reply) = h read f in (ap (imported_table t) (sym is), ap (imported_reply t) (sym is))
 imports-none t (Ok rows) fault (Err error) f h = (0, refl)
 imports-none t (Err fault) by (Err error) f h = (0, refl)
@@ -116,7 +116,7 @@ frame-still : (kind : Kind) (t : AnyTable) → SameFrame kind t t
 frame-still kind t = record { width = refl; dims = refl; of_kind = λ k. k }
 
 -- an import keeps the frame of a table, where the rows that it reads are of the kind
-pub rows-frame : {D : ℕ} {E : Type 0} (kind : Kind) (t now : AnyTable) (rows : List Row) (result : Result (Told D) E) → (kind ≡ Boxes → AreBoxes rows) → ImportsOr t (Ok rows) now result → SameFrame kind t now
+pub rows-frame : {E : Type 0} (kind : Kind) (t now : AnyTable) (rows : List Row) (result : Result Told E) → (kind ≡ Boxes → AreBoxes rows) → ImportsOr t (Ok rows) now result → SameFrame kind t now
 rows-frame kind t now rows (Ok reply) b h =
     rw h.0 (elim (is_overfull t rows) as (λ full. SameFrame kind t (if full then t else table_with t rows)) [ true ↦ frame-still kind t | false ↦ frame-with kind t rows b ])
 rows-frame kind t now rows (Err error) b h = rw h.1 (frame-with kind t (take h.0 rows) (λ e. boxes-take h.0 rows (b e)))

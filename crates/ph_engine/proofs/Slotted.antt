@@ -70,7 +70,7 @@ pub of-kind-still : (kind : Kind) (t now : AnyTable) → now.dims ≡ t.dims →
 of-kind-still Points t now d b h = h
 of-kind-still Boxes t now d b h = (rw d h.0, b refl h.1)
 
-pub same-frame : {D : ℕ} {E : Type 0} (kind : Kind) (t now : AnyTable) (command : Command) (outcome : Result (Told D) E) (v now_v c now_c : ℕ) → KeepsFrame kind t command → ServedOr t command now v now_v c now_c outcome → SameFrame kind t now
+pub same-frame : {E : Type 0} (kind : Kind) (t now : AnyTable) (command : Command) (outcome : Result Told E) (v now_v c now_c : ℕ) → KeepsFrame kind t command → ServedOr t command now v now_v c now_c outcome → SameFrame kind t now
 same-frame kind t now command (Ok reply) v now_v c now_c k h =
     let does = h.does [] 0 [] false in
     let r = refusal 0 (engine_of (slot_of Points t [])) [] false command in

@@ -82,19 +82,19 @@ is_sure Command.Count = true
 is_sure Command.Clear = true
 is_sure (Command.Cursor name lo hi) = true
 is_sure (Command.Save name) = true
-is_sure Command.Statistics = true
 is_sure _ = false
 
--- the commands whose replies list rows
-abbrev pub lists_rows : Command → Bool
-lists_rows (Command.Window lo hi) = true
-lists_rows (Command.Page name n) = true
-lists_rows (Command.Near q n) = true
-lists_rows (Command.Within q r) = true
-lists_rows (Command.Overlap q) = true
-lists_rows (Command.Inside q) = true
-lists_rows (Command.Covers q) = true
-lists_rows _ = false
+-- the commands whose replies list rows or sizes
+abbrev pub is_listed : Command → Bool
+is_listed (Command.Window lo hi) = true
+is_listed (Command.Page name n) = true
+is_listed (Command.Near q n) = true
+is_listed (Command.Within q r) = true
+is_listed (Command.Overlap q) = true
+is_listed (Command.Inside q) = true
+is_listed (Command.Covers q) = true
+is_listed Command.Statistics = true
+is_listed _ = false
 
 -- files that are known well enough for the command: those that are told, and any where it reads none
 abbrev pub Knows : Command → Option Files → Files → Type 0
@@ -149,7 +149,7 @@ pub record Unserved (t : AnyTable) (command : Command) (now : AnyTable) (visits 
   pub wanted : (cursors : Named Cursor) → takes_memory (slot_of Points t cursors) command ≡ true
   pub most : (cursors : Named Cursor) → MostAt (slot_of Points t cursors) command visits now_visits changes now_changes
 
-abbrev pub ServedOr : {D : ℕ} {E : Type 0} → AnyTable → Command → AnyTable → ℕ → ℕ → ℕ → ℕ → Result (Told D) E → Type 0
+abbrev pub ServedOr : {E : Type 0} → AnyTable → Command → AnyTable → ℕ → ℕ → ℕ → ℕ → Result Told E → Type 0
 ServedOr t command now visits now_visits changes now_changes (Ok reply) = Served t command now (reply_of reply) visits now_visits changes now_changes
 ServedOr t command now visits now_visits changes now_changes (Err error) = Unserved t command now visits now_visits changes now_changes
 

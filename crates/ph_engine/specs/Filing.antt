@@ -43,7 +43,7 @@ pub record Unfiled (most : ℕ) (e : Engine) (command : Command) (told now_told 
   pub wanted : wants_memory (current e) command ≡ true
   pub most_work : (files : Files) → Knows command told files → IsAtMost (work_of most e files fault command) visits now_visits changes now_changes
 
-abbrev pub FiledOr : {D : ℕ} {E : Type 0} → ℕ → Engine → Command → Option Files → Option Files → ℕ → ℕ → ℕ → ℕ → ℕ → ℕ → Engine → Result (Told D) E → Type 0
+abbrev pub FiledOr : {E : Type 0} → ℕ → Engine → Command → Option Files → Option Files → ℕ → ℕ → ℕ → ℕ → ℕ → ℕ → Engine → Result Told E → Type 0
 FiledOr most e command told now_told filings now_filings visits now_visits changes now_changes now (Ok reply) =
     Filed most e command told now_told filings now_filings visits now_visits changes now_changes now (reply_of reply)
 FiledOr most e command told now_told filings now_filings visits now_visits changes now_changes now (Err error) =
@@ -87,7 +87,7 @@ read_reply max (Ok rows) = loaded_reply max rows
 read_reply max (Err fault) = fault
 
 -- the bytes were read, or memory was missing for their table
-abbrev pub LoadsOr : {D : ℕ} {E : Type 0} → Kind → AnyTable → List ℕ → AnyTable → Result (Told D) E → Type 0
+abbrev pub LoadsOr : {E : Type 0} → Kind → AnyTable → List ℕ → AnyTable → Result Told E → Type 0
 LoadsOr kind t bytes now (Ok reply) = let read = read_snapshot kind t.dims bytes in (now ≡ read_table t read) × (reply_of reply ≡ read_reply t.tree.max read)
 LoadsOr kind t bytes now (Err error) = now ≡ t
 
@@ -98,15 +98,15 @@ pub record SameFrame (kind : Kind) (t now : AnyTable) : Type 0 where
   pub of_kind : IsOfKind kind t → IsOfKind kind now
 
 -- a load of a table, whatever cursors stand beside it
-pub record TableLoaded {D : ℕ} {E : Type 0} (most : ℕ) (kind : Kind) (t : AnyTable) (name : List ℕ) (told now_told : Option Files) (before now_count changes now_changes : ℕ) (now : AnyTable) (result : Result (Told D) E) : Type 0 where
+pub record TableLoaded {E : Type 0} (most : ℕ) (kind : Kind) (t : AnyTable) (name : List ℕ) (told now_told : Option Files) (before now_count changes now_changes : ℕ) (now : AnyTable) (result : Result Told E) : Type 0 where
   pub filed : (visits : ℕ) (cursors : Named Cursor) → FiledOr most (engine_of (slot_of kind t cursors)) (Command.Load name) told now_told before now_count visits visits changes now_changes (engine_of (slot_of kind now cursors)) result
 
 -- a reply tells the first fault of bytes, or memory was missing for them
-abbrev pub TellsFault : {D : ℕ} {E : Type 0} → LoadFault → Result (Told D) E → Type 0
+abbrev pub TellsFault : {E : Type 0} → LoadFault → Result Told E → Type 0
 TellsFault fault (Ok reply) = (first : Option Fault) → IsLoadFault first fault → option_map fault_reply first ≡ Some (reply_of reply)
 TellsFault fault (Err error) = fault ≡ by.NoMemory
 
 -- a reply tells that no file was read, or memory was missing for its bytes
-abbrev pub TellsUnfetched : {D : ℕ} {E : Type 0} → FetchFault → Result (Told D) E → Type 0
+abbrev pub TellsUnfetched : {E : Type 0} → FetchFault → Result Told E → Type 0
 TellsUnfetched fault (Ok reply) = (fault ≡ unread.NoMemory → ⊥) × (reply_of reply ≡ Reply.ErrorFile)
 TellsUnfetched fault (Err error) = fault ≡ unread.NoMemory

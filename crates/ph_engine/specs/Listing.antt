@@ -1,14 +1,15 @@
--- Replies that list rows.
+-- Replies that list rows, or the sizes of a tree.
 use Rattle.std.specs.Prelude.{◌≡◌, ◌≤◌, ◌+◌, ℕ, Bool, true, false, List, [], ◌∷◌, ◌++◌, length, map, ℤ, filter, Result, Ok, Err}
 use Rattle.ph_io.specs.Giving.{Taken, Given}
 use Rattle.ph_specs.specs.Boxes.{overlaps, is_inside, covers, overlaps_low, overlaps_high, inside_low, inside_high, covers_low, covers_high}
 use Rattle.ph_specs.specs.Coordinate.{low_corner, high_corner}
 use Rattle.ph_specs.specs.Distance.{near, within}
 use Rattle.ph_specs.specs.Reply.{Reply, replies_text}
+use Rattle.ph_specs.specs.Stats.{stats}
 use Rattle.ph_specs.specs.Table.{Row}
 use Rattle.ph_specs.specs.Engine.{listing, hit_listing, row_replies, page_end}
 use Rattle.ph_specs.specs.Window.{Cursor, window, page, has_more, next_cursor}
-use Rattle.ph_specs.specs.WorkSets.{meets, reach, ball}
+use Rattle.ph_specs.specs.WorkSets.{all_nodes, meets, reach, ball}
 use Rattle.ph_table.specs.Hits.{TableHit}
 use Rattle.ph_window.specs.Page.{IsLast}
 use Rattle.ph_window.specs.declared.page.Tail.{Tail}
@@ -51,6 +52,15 @@ ListsRows rows n sink now_sink visits now_visits result = Lists (listing rows) n
 -- the rows of a window, with the visits that it takes
 abbrev pub ListsWindow : AnyTable → List ℤ → List ℤ → Taken → Taken → ℕ → ℕ → Result Answer Stop → Type 0
 ListsWindow t lo hi sink now_sink visits now_visits result = ListsRows (window lo hi t.tree.table) (met t lo hi) sink now_sink visits now_visits result
+
+-- the nodes of the tree of a table
+abbrev pub node_count : AnyTable → ℕ
+node_count t = length (all_nodes t.tree.width t.dims t.tree.table)
+
+-- the sizes of a tree, for a visit of each node
+abbrev pub ListsSizes : AnyTable → Taken → Taken → ℕ → ℕ → Result Answer Stop → Type 0
+ListsSizes t sink now_sink visits now_visits result =
+    Lists (Reply.StatsAre (stats t.tree.width t.dims t.tree.table) ∷ []) (node_count t) (node_count t) sink now_sink visits now_visits result
 
 -- ---- questions about boxes
 

@@ -46,16 +46,16 @@ table_with_first t part (Ok rows) = table_with t (take part rows)
 table_with_first t part (Err fault) = t
 
 -- the rows were put, or memory was missing for some of them
-abbrev pub ImportsOr : {D : ℕ} {E : Type 0} → AnyTable → Result (List Row) Reply → AnyTable → Result (Told D) E → Type 0
+abbrev pub ImportsOr : {E : Type 0} → AnyTable → Result (List Row) Reply → AnyTable → Result Told E → Type 0
 ImportsOr t read now (Ok reply) = (now ≡ imported_table t read) × (reply_of reply ≡ imported_reply t read)
 ImportsOr t read now (Err error) = (part : ℕ) × (now ≡ table_with_first t part read)
 
 -- an import into a table, whatever cursors stand beside it
-pub record TableImported {D : ℕ} {E : Type 0} (most : ℕ) (kind : Kind) (t : AnyTable) (name : List ℕ) (header : Bool) (told now_told : Option Files) (before now_count visits now_visits changes now_changes : ℕ) (now : AnyTable) (result : Result (Told D) E) : Type 0 where
+pub record TableImported {E : Type 0} (most : ℕ) (kind : Kind) (t : AnyTable) (name : List ℕ) (header : Bool) (told now_told : Option Files) (before now_count visits now_visits changes now_changes : ℕ) (now : AnyTable) (result : Result Told E) : Type 0 where
   pub filed : (cursors : Named Cursor) → FiledOr most (engine_of (slot_of kind t cursors)) (Command.Import name header) told now_told before now_count visits now_visits changes now_changes (engine_of (slot_of kind now cursors)) result
 
 -- a reply tells the fault of a text, or memory was missing for its rows
-abbrev pub TellsRecord : {D : ℕ} {E : Type 0} → CsvFault → Result (Told D) E → Type 0
+abbrev pub TellsRecord : {E : Type 0} → CsvFault → Result Told E → Type 0
 TellsRecord fault (Ok reply) = (answer : Result (List Row) Reply) → IsFault answer fault → answer ≡ Err (reply_of reply)
 TellsRecord fault (Err error) = fault ≡ csv.NoMemory
 
@@ -86,5 +86,5 @@ ExportedOr told now_told before now name bytes (Err by.Failed) = Unfilled told n
 ExportedOr told now_told before now name bytes (Err by.NoMemory) = Unwritten told now_told before now
 
 -- an export of a table, of whatever kind and whatever cursors stand beside it
-pub record TableExported {D : ℕ} {E : Type 0} (t : AnyTable) (name : List ℕ) (told now_told : Option Files) (before now visits now_visits : ℕ) (result : Result (Told D) E) : Type 0 where
+pub record TableExported {E : Type 0} (t : AnyTable) (name : List ℕ) (told now_told : Option Files) (before now visits now_visits : ℕ) (result : Result Told E) : Type 0 where
   pub filed : (most changes : ℕ) (kind : Kind) (cursors : Named Cursor) → let e = engine_of (slot_of kind t cursors) in FiledOr most e (Command.Export name) told now_told before now visits now_visits changes changes e result

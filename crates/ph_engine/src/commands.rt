@@ -12,7 +12,7 @@ ghost use Rattle.ph_specs.specs.declared.Kind.TheVariants.{Points};
 use ph_coord::{Point, Width};
 use ph_script::{Coord, Coords, Reply};
 use ph_steps::Steps;
-use ph_tree::{Moved, NoMemory, PhTree, Put, PutError, Stats};
+use ph_tree::{Moved, NoMemory, PhTree, Put, PutError};
 use ph_window::Cursor;
 use std::sync::ledger::Ledger;
 
@@ -49,7 +49,7 @@ pub(crate) fn put_row<const D: usize, V: Ledger, C: Ledger>(
     value: u64,
     visits: &mut Steps<V>,
     changes: &mut Steps<C>,
-) -> Result<Reply<1>, NoMemory>
+) -> Result<Reply, NoMemory>
     requires dims { length at.now ≡ D }
     requires range { list_all (fits tree.old.width) (numbers_of at.now) ≡ true }
     requires limit { D ≤ 16 }
@@ -70,7 +70,7 @@ pub(crate) fn get_row<const D: usize, V: Ledger>(
     tree: &PhTree<D>,
     at: &Coords<'_>,
     visits: &mut Steps<V>,
-) -> Reply<1>
+) -> Reply
     requires dims { length at.now ≡ D }
     requires range { list_all (fits tree.now.width) (numbers_of at.now) ≡ true }
     requires limit { D ≤ 16 }
@@ -88,7 +88,7 @@ pub(crate) fn del_row<const D: usize, V: Ledger, C: Ledger>(
     at: &Coords<'_>,
     visits: &mut Steps<V>,
     changes: &mut Steps<C>,
-) -> Result<Reply<1>, NoMemory>
+) -> Result<Reply, NoMemory>
     requires dims { length at.now ≡ D }
     requires range { list_all (fits tree.old.width) (numbers_of at.now) ≡ true }
     requires limit { D ≤ 16 }
@@ -107,7 +107,7 @@ pub(crate) fn move_row<const D: usize, V: Ledger, C: Ledger>(
     to: &Coords<'_>,
     visits: &mut Steps<V>,
     changes: &mut Steps<C>,
-) -> Result<Reply<1>, NoMemory>
+) -> Result<Reply, NoMemory>
     requires from { length from.now ≡ D }
     requires to { length to.now ≡ D }
     requires from_range { list_all (fits tree.old.width) (numbers_of from.now) ≡ true }
@@ -124,37 +124,14 @@ pub(crate) fn move_row<const D: usize, V: Ledger, C: Ledger>(
     }
 }
 
-pub(crate) fn count_rows<const D: usize>(tree: &PhTree<D>) -> Reply<1>
+pub(crate) fn count_rows<const D: usize>(tree: &PhTree<D>) -> Reply
     requires { D ≤ 16 }
     ensures { Idled (table_at D tree.now) Asked.Count (table_at D tree.now) (reply_of result) }
 {
     Reply::Rows(tree.len())
 }
 
-pub(crate) fn count_nodes<const D: usize, V: Ledger>(
-    tree: &PhTree<D>,
-    visits: &mut Steps<V>,
-) -> Reply<1>
-    requires { D ≤ 16 }
-    ensures { Looked (table_at D tree.now) Asked.Statistics (table_at D tree.now) (reply_of result) visits.old visits.new }
-{
-    let Stats {
-        rows,
-        nodes,
-        linear,
-        cube,
-        words,
-    } = tree.stats(visits);
-    Reply::Stats {
-        rows,
-        nodes,
-        linear,
-        cube,
-        words,
-    }
-}
-
-pub(crate) fn clear_rows<const D: usize>(tree: &mut PhTree<D>) -> Reply<1>
+pub(crate) fn clear_rows<const D: usize>(tree: &mut PhTree<D>) -> Reply
     requires { D ≤ 16 }
     ensures { Idled (table_at D tree.old) Asked.Clear (table_at D tree.new) (reply_of result) }
 {

@@ -53,7 +53,7 @@ fn list_hits<const D: usize, O: Sink>(
     for hit in hits {
         say_hit(out, text, hit)?;
     }
-    say(out, text, &Reply::<D>::End(hits.len() as u128))
+    say(out, text, &Reply::End(hits.len() as u128))
 }
 
 // Lists the rows whose distance from a point, squared, is at most `r`, and then their number.
@@ -79,5 +79,5 @@ pub(crate) fn list_ball<const D: usize, O: Sink, V: Ledger>(
         say_hit(out, text, &hit)?;
         count += 1;
     }
-    say(out, text, &Reply::<D>::End(count))
+    say(out, text, &Reply::End(count))
 }

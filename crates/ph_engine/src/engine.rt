@@ -142,7 +142,7 @@ impl Engine {
     }
 
     // Makes a slot the current one.
-    fn select(&mut self, slot: Which) -> Reply<1>
+    fn select(&mut self, slot: Which) -> Reply
         ensures engine { self.new ≡ record self.old { current = slot } }
         ensures reply { reply_of result ≡ Replied.Using slot }
     {
@@ -151,7 +151,7 @@ impl Engine {
     }
 
     // Whether both slots have the same rows, of one kind and as many dimensions.
-    fn compare<V: Ledger>(&self, visits: &mut Steps<V>) -> Reply<1>
+    fn compare<V: Ledger>(&self, visits: &mut Steps<V>) -> Reply
         ensures { Compares self.now visits.old visits.new (reply_of result) }
     {
         if self.a.is_same(&self.b, visits) {

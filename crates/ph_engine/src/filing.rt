@@ -27,7 +27,7 @@ pub(crate) fn save_table<F: Files, V: Ledger>(
     file: &FileName<'_>,
     files: &mut F,
     visits: &mut Steps<V>,
-) -> Reply<1>
+) -> Reply
     requires width { (any_table tree.now).tree.width ≡ 32 }
     requires of_kind { IsOfKind kind (any_table tree.now) }
     ensures { TableSaved kind (any_table tree.now) file.now (F.files files.old) (F.files files.new) (F.faults files.old) (F.faults files.new) visits.old visits.new (reply_of result) }
@@ -91,7 +91,7 @@ pub(crate) fn load_table<F: Files, C: Ledger>(
     files: &mut F,
     limits: &Limits,
     changes: &mut Steps<C>,
-) -> Result<Reply<1>, NoMemory>
+) -> Result<Reply, NoMemory>
     requires width { (any_table tree.old).tree.width ≡ 32 }
     requires of_kind { IsOfKind kind (any_table tree.old) }
     ensures frame { SameFrame kind (any_table tree.old) (any_table tree.new) }
@@ -105,7 +105,7 @@ pub(crate) fn load_table<F: Files, C: Ledger>(
 }
 
 // What is replied where a file could not be read.
-pub(crate) fn fetch_reply(fault: FetchFault) -> Result<Reply<1>, NoMemory>
+pub(crate) fn fetch_reply(fault: FetchFault) -> Result<Reply, NoMemory>
     ensures { TellsUnfetched fault result }
 {
     match fault {
@@ -120,7 +120,7 @@ fn load_bytes<C: Ledger>(
     alloc: Global,
     bytes: &[u8],
     changes: &mut Steps<C>,
-) -> Result<Reply<1>, NoMemory>
+) -> Result<Reply, NoMemory>
     requires width { (any_table tree.old).tree.width ≡ 32 }
     requires of_kind { IsOfKind kind (any_table tree.old) }
     ensures loads { LoadsOr kind (any_table tree.old) bytes.now (any_table tree.new) result }
@@ -135,7 +135,7 @@ fn load_bytes<C: Ledger>(
 }
 
 // Puts a tree in place of another one, if it may have so many rows.
-fn replace(tree: &mut AnyTree, mut loaded: AnyTree) -> Reply<1>
+fn replace(tree: &mut AnyTree, mut loaded: AnyTree) -> Reply
     requires width { (any_table loaded).tree.width ≡ (any_table tree.old).tree.width }
     requires dims { (any_table loaded).dims ≡ (any_table tree.old).dims }
     ensures table { any_table tree.new ≡ loaded_table (any_table tree.old) (any_table loaded).tree.table }
@@ -150,7 +150,7 @@ fn replace(tree: &mut AnyTree, mut loaded: AnyTree) -> Reply<1>
 }
 
 // What is replied to a fault of bytes.
-pub(crate) fn fault_reply(fault: LoadFault) -> Result<Reply<1>, NoMemory>
+pub(crate) fn fault_reply(fault: LoadFault) -> Result<Reply, NoMemory>
     ensures { TellsFault fault result }
 {
     match fault {

@@ -65,7 +65,7 @@ pub(crate) fn list_between<const D: usize, O: Sink, V: Ledger>(
         say_row(out, text, &row)?;
         count += 1;
     }
-    say(out, text, &Reply::<D>::End(count))
+    say(out, text, &Reply::End(count))
 }
 
 // Lists the next rows of a cursor, and whether more are left. Gives the cursor behind them.
@@ -93,12 +93,12 @@ pub(crate) fn list_page<const D: usize, O: Sink, V: Ledger>(
         count += 1;
     }
     let behind = page.cursor();
-    say(out, text, &page_end::<D>(page.tail(visits), count))?;
+    say(out, text, &page_end(page.tail(visits), count))?;
     Ok(behind)
 }
 
 // The last line of a page that has listed so many rows.
-fn page_end<const D: usize>(tail: Tail, count: u32) -> Reply<D>
+fn page_end(tail: Tail, count: u32) -> Reply
     ensures { reply_of result ≡ page_end (is_more tail) count }
 {
     match tail {

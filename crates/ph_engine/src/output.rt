@@ -17,7 +17,7 @@ use ph_near::Hit;
 use ph_script::{Reply, Text, write_hit, write_row, write_text};
 use ph_tree::NoMemory;
 
-fn answer_of<const D: usize>(reply: &Reply<D>) -> Answer
+fn answer_of(reply: &Reply) -> Answer
     ensures { refuses result ≡ is_refusal (text_of (reply_of reply.now)) }
 {
     match reply {
@@ -31,8 +31,6 @@ fn answer_of<const D: usize>(reply: &Reply<D>) -> Answer
         | Reply::Taken
         | Reply::Rows(_)
         | Reply::Cleared
-        | Reply::RowIs(_)
-        | Reply::HitIs { .. }
         | Reply::End(_)
         | Reply::More(_)
         | Reply::Ready
@@ -40,7 +38,6 @@ fn answer_of<const D: usize>(reply: &Reply<D>) -> Answer
         | Reply::Loaded(_)
         | Reply::Imported(_)
         | Reply::Exported(_)
-        | Reply::Stats { .. }
         | Reply::Using(_)
         | Reply::Same
         | Reply::Differ => Answer::Good,
@@ -71,12 +68,7 @@ fn answer_of<const D: usize>(reply: &Reply<D>) -> Answer
 }
 
 // Gives a reply to the sink, by way of a text that it fills.
-pub(crate) fn say<const D: usize, O: Sink>(
-    out: &mut O,
-    text: &mut Text,
-    reply: &Reply<D>,
-) -> Result<Answer, Stop>
-    requires { D ≤ 16 }
+pub(crate) fn say<O: Sink>(out: &mut O, text: &mut Text, reply: &Reply) -> Result<Answer, Stop>
     ensures answer { IfOk result (λ answer. refuses answer ≡ is_refusal (text_of (reply_of reply.now))) }
     ensures told { OnOk result (Given (taken_of (O.written out.old) (O.amount out.old)) (taken_of (O.written out.new) (O.amount out.new)) (text_of (reply_of reply.now))) }
     ensures err { IfErr result (λ stop. stop ≡ Stop.WriteFault) }
@@ -84,7 +76,7 @@ pub(crate) fn say<const D: usize, O: Sink>(
     ensures cause { StopHasCause (O.faults out.old) (O.faults out.new) result }
 {
     write_text(text, reply);
-    match send(out, text) {
+    match send(out, text.as_str()) {
         Ok(()) => Ok(answer_of(reply)),
         Err(stop) => Err(stop),
     }
@@ -103,7 +95,7 @@ pub(crate) fn say_row<const D: usize, O: Sink>(
     ensures cause { StopHasCause (O.faults out.old) (O.faults out.new) result }
 {
     write_row(text, row);
-    send(out, text)
+    send(out, text.as_str())
 }
 
 // Gives a row with its distance to the sink.
@@ -119,17 +111,17 @@ pub(crate) fn say_hit<const D: usize, O: Sink>(
     ensures cause { StopHasCause (O.faults out.old) (O.faults out.new) result }
 {
     write_hit(text, hit.distance, &hit.row);
-    send(out, text)
+    send(out, text.as_str())
 }
 
 // Gives a line to the sink.
-fn send<O: Sink>(out: &mut O, text: &Text) -> Result<(), Stop>
-    ensures told { OnOk result (Given (taken_of (O.written out.old) (O.amount out.old)) (taken_of (O.written out.new) (O.amount out.new)) text.now) }
+pub(crate) fn send<O: Sink>(out: &mut O, line: &str) -> Result<(), Stop>
+    ensures told { OnOk result (Given (taken_of (O.written out.old) (O.amount out.old)) (taken_of (O.written out.new) (O.amount out.new)) line.now) }
     ensures err { IfErr result (λ stop. stop ≡ Stop.WriteFault) }
-    ensures front { OnErr result (WritesFront (taken_of (O.written out.old) (O.amount out.old)) (taken_of (O.written out.new) (O.amount out.new)) text.now) }
+    ensures front { OnErr result (WritesFront (taken_of (O.written out.old) (O.amount out.old)) (taken_of (O.written out.new) (O.amount out.new)) line.now) }
     ensures cause { StopHasCause (O.faults out.old) (O.faults out.new) result }
 {
-    match write_piece(out, text.as_str().as_bytes()) {
+    match write_piece(out, line.as_bytes()) {
         Ok(()) => Ok(()),
         Err(Failed) => Err(Stop::WriteFault),
     }
@@ -139,7 +131,7 @@ fn send<O: Sink>(out: &mut O, text: &Text) -> Result<(), Stop>
 pub(crate) fn tell<O: Sink>(
     out: &mut O,
     text: &mut Text,
-    outcome: &Result<Reply<1>, NoMemory>,
+    outcome: &Result<Reply, NoMemory>,
 ) -> Result<Answer, Stop>
     ensures told { ToldOr (taken_of (O.written out.old) (O.amount out.old)) (taken_of (O.written out.new) (O.amount out.new)) outcome.now result }
     ensures cause { StopHasCause (O.faults out.old) (O.faults out.new) result }

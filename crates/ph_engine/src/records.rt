@@ -38,7 +38,7 @@ pub(crate) fn import_table<F: Files, V: Ledger, C: Ledger>(
     limits: &Limits,
     visits: &mut Steps<V>,
     changes: &mut Steps<C>,
-) -> Result<Reply<1>, NoMemory>
+) -> Result<Reply, NoMemory>
     ensures frame { SameFrame kind (any_table tree.old) (any_table tree.new) }
     ensures imported { TableImported limits.now.file_bytes kind (any_table tree.old) file.now header (F.files files.old) (F.files files.new) (F.faults files.old) (F.faults files.new) visits.old visits.new changes.old changes.new (any_table tree.new) result }
 {
@@ -58,7 +58,7 @@ pub(crate) fn import_text<const D: usize, V: Ledger, C: Ledger>(
     header: bool,
     visits: &mut Steps<V>,
     changes: &mut Steps<C>,
-) -> Result<Reply<1>, NoMemory>
+) -> Result<Reply, NoMemory>
     requires { D ≤ 16 }
     ensures imports { ImportsOr (table_at D tree.old) (csv_rows tree.old.width D kind header text.now) (table_at D tree.new) result }
     ensures frame { SameFrame kind (table_at D tree.old) (table_at D tree.new) }
@@ -80,7 +80,7 @@ fn put_read<const D: usize, V: Ledger, C: Ledger>(
     rows: &[Row<D>],
     visits: &mut Steps<V>,
     changes: &mut Steps<C>,
-) -> Result<Reply<1>, NoMemory>
+) -> Result<Reply, NoMemory>
     requires { Each (λ r. IsPoint tree.old.width D r.point) rows.now }
     ensures imports { ImportsOr (table_at D tree.old) (Ok rows.now) (table_at D tree.new) result }
     ensures later { visits.old ≤ visits.new }
@@ -96,7 +96,7 @@ fn put_read<const D: usize, V: Ledger, C: Ledger>(
 }
 
 // What is replied to a fault of a text.
-fn record_reply(fault: CsvFault) -> Result<Reply<1>, NoMemory>
+fn record_reply(fault: CsvFault) -> Result<Reply, NoMemory>
     ensures { TellsRecord fault result }
 {
     match fault {
@@ -144,7 +144,7 @@ pub(crate) fn export_table<F: Files, V: Ledger>(
     file: &FileName<'_>,
     files: &mut F,
     visits: &mut Steps<V>,
-) -> Result<Reply<1>, NoMemory>
+) -> Result<Reply, NoMemory>
     ensures { TableExported (any_table tree.now) file.now (F.files files.old) (F.files files.new) (F.faults files.old) (F.faults files.new) visits.old visits.new result }
 {
     match tree.export(alloc, file, files, visits) {

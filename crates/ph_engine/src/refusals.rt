@@ -23,7 +23,7 @@ pub(crate) enum Refusal {
 
 impl Refusal {
     // What is replied.
-    pub(crate) fn reply(self) -> Reply<1>
+    pub(crate) fn reply(self) -> Reply
         ensures { reply_of result ≡ refusal_reply self }
     {
         match self {

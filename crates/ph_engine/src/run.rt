@@ -248,7 +248,7 @@ fn answer<O: Sink, F: Files, V: Ledger, C: Ledger>(
     }
 }
 
-fn bad_reply(bad: Bad) -> Reply<1>
+fn bad_reply(bad: Bad) -> Reply
     ensures { reply_of result ≡ reply_to bad }
 {
     match bad {
@@ -260,7 +260,7 @@ fn bad_reply(bad: Bad) -> Reply<1>
 }
 
 // Refuses a line.
-fn refuse<O: Sink>(out: &mut O, text: &mut Text, reply: &Reply<1>) -> Result<bool, Stop>
+fn refuse<O: Sink>(out: &mut O, text: &mut Text, reply: &Reply) -> Result<bool, Stop>
     ensures told { IfOk result (λ refused. Given (taken_of (O.written out.old) (O.amount out.old)) (taken_of (O.written out.new) (O.amount out.new)) (text_of (reply_of reply.now)) × (refused ≡ is_refusal (text_of (reply_of reply.now)))) }
     ensures front { IfErr result (λ stop. (stop ≡ Stop.WriteFault) × WritesFront (taken_of (O.written out.old) (O.amount out.old)) (taken_of (O.written out.new) (O.amount out.new)) (text_of (reply_of reply.now))) }
     ensures cause { StopHasCause (O.faults out.old) (O.faults out.new) result }

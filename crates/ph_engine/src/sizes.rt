@@ -1,12 +1,21 @@
 //! Lines with the sizes of a tree. A line is one piece for a sink, so it is composed in a text first.
 ghost use Rattle.std.specs.Prelude.{◌≡◌, ◌≤◌, ◌+◌, ◌∷◌, [], ◌++◌, length};
 ghost use Rattle.std.specs.List.{join_with_byte};
-ghost use Rattle.ph_specs.specs.Reply.{stats_words};
+ghost use Rattle.ph_specs.specs.Reply.{line_of, stats_words};
+ghost use Rattle.ph_io.specs.Giving.{taken_of};
 ghost use Rattle.ph_tree.specs.Stats.{stats_of};
+ghost use Rattle.ph_engine.specs.Listing.{ListsSizes};
+ghost use Rattle.ph_engine.specs.Slots.{table_at};
+ghost use Rattle.ph_engine.specs.Statuses.{StopHasCause};
 
+use crate::output::send;
+use crate::status::{Answer, Stop};
 use arrayvec::ArrayString;
 use itoa::{Buffer, Integer};
-use ph_tree::Stats;
+use ph_io::Sink;
+use ph_steps::Steps;
+use ph_tree::{PhTree, Stats};
+use std::sync::ledger::Ledger;
 
 // Room for the longest of these lines.
 pub(crate) const LINE: usize = 320;
@@ -37,4 +46,31 @@ pub(crate) fn push_sizes(line: &mut ArrayString<LINE>, sizes: &Stats)
     line.push_str("words ");
     let mut buffer = Buffer::new();
     line.push_str(buffer.format(sizes.words));
+}
+
+// The line of the sizes of a tree.
+fn sizes_line(sizes: &Stats) -> ArrayString<LINE>
+    ensures { result.bytes ≡ line_of (stats_words (stats_of sizes.now)) }
+{
+    let mut line = ArrayString::new();
+    push_sizes(&mut line, sizes);
+    line.push_str("\n");
+    line
+}
+
+// Gives the sizes of a tree to the sink. Each node is visited once.
+pub(crate) fn list_sizes<const D: usize, O: Sink, V: Ledger>(
+    tree: &PhTree<D>,
+    out: &mut O,
+    visits: &mut Steps<V>,
+) -> Result<Answer, Stop>
+    requires { D ≤ 16 }
+    ensures lists { ListsSizes (table_at D tree.now) (taken_of (O.written out.old) (O.amount out.old)) (taken_of (O.written out.new) (O.amount out.new)) visits.old visits.new result }
+    ensures cause { StopHasCause (O.faults out.old) (O.faults out.new) result }
+{
+    let line = sizes_line(&tree.stats(visits));
+    match send(out, line.as_str()) {
+        Ok(()) => Ok(Answer::Good),
+        Err(stop) => Err(stop),
+    }
 }

@@ -14,7 +14,7 @@ ghost use Rattle.ph_io.specs.Giving.{taken_of};
 ghost use Rattle.ph_engine.specs.Beside.{beside};
 ghost use Rattle.ph_engine.specs.Causes.{refusal_reply};
 ghost use Rattle.ph_engine.specs.Comparing.{IsCompared};
-ghost use Rattle.ph_engine.specs.Doing.{Begun, DoneWith, DoneOr, is_on_slot, is_sure, is_tried, lists_rows};
+ghost use Rattle.ph_engine.specs.Doing.{Begun, DoneWith, DoneOr, is_on_slot, is_sure, is_tried, is_listed};
 ghost use Rattle.ph_engine.specs.Filing.{FiledOr, Replies};
 ghost use Rattle.ph_engine.specs.Refusing.{early_refusal, cursor_refusal};
 ghost use Rattle.ph_engine.specs.Slots.{engine_of};
@@ -130,8 +130,7 @@ impl Slot {
             | Command::Count
             | Command::Clear
             | Command::Cursor { .. }
-            | Command::Save { .. }
-            | Command::Stats => {
+            | Command::Save { .. } => {
                 let reply = self.reply(alloc, cmd, files, visits);
                 say(out, text, &reply)
             }
@@ -141,7 +140,8 @@ impl Slot {
             | Command::Within { .. }
             | Command::Overlap { .. }
             | Command::Inside { .. }
-            | Command::Covers { .. } => self.list(alloc, cmd, out, text, visits),
+            | Command::Covers { .. }
+            | Command::Stats => self.list(alloc, cmd, out, text, visits),
             Command::Select { .. } | Command::Same => unreachable!(),
         }
     }
@@ -155,7 +155,7 @@ impl Slot {
         limits: &Limits,
         visits: &mut Steps<V>,
         changes: &mut Steps<C>,
-    ) -> Result<Reply<1>, NoMemory>
+    ) -> Result<Reply, NoMemory>
         requires dims { HasDims self.old.dims cmd.now }
         requires file { limits.now.file_bytes < 2 ^ 63 }
         requires unrefused { early_refusal self.old (command_of cmd.now) ≡ None }
@@ -198,7 +198,7 @@ impl Slot {
         cmd: &Command<'_>,
         files: &mut F,
         visits: &mut Steps<V>,
-    ) -> Reply<1>
+    ) -> Reply
         requires dims { HasDims self.old.dims cmd.now }
         requires unrefused { early_refusal self.old (command_of cmd.now) ≡ None }
         requires sure { is_sure (command_of cmd.now) ≡ true }
@@ -211,12 +211,11 @@ impl Slot {
             Command::Clear => self.tree.clear(),
             Command::Cursor { name, lo, hi } => self.set_cursor(name, lo, hi),
             Command::Save { file } => save_table(&self.tree, self.kind, file, files, visits),
-            Command::Stats => self.tree.stats(visits),
             _ => unreachable!(),
         }
     }
 
-    // Does a command that lists rows.
+    // Does a command that lists rows, or the sizes of the tree.
     fn list<O: Sink, V: Ledger>(
         &mut self,
         alloc: Global,
@@ -227,7 +226,7 @@ impl Slot {
     ) -> Result<Answer, Stop>
         requires dims { HasDims self.old.dims cmd.now }
         requires unrefused { early_refusal self.old (command_of cmd.now) ≡ None }
-        requires lists { lists_rows (command_of cmd.now) ≡ true }
+        requires lists { is_listed (command_of cmd.now) ≡ true }
         ensures done { DoneWith self.old (command_of cmd.now) (taken_of (O.written out.old) (O.amount out.old)) (taken_of (O.written out.new) (O.amount out.new)) visits.old visits.new self.new result }
         ensures cause { StopHasCause (O.faults out.old) (O.faults out.new) result }
     {
@@ -248,6 +247,7 @@ impl Slot {
                 self.tree
                     .list_boxes(Question::Covers, bounds, out, text, visits)
             }
+            Command::Stats => self.tree.list_sizes(out, visits),
             _ => unreachable!(),
         }
     }
@@ -319,7 +319,7 @@ impl Slot {
     }
 
     // Makes it a new one for points or boxes of so many dimensions, without cursors.
-    fn begin(&mut self, alloc: Global, kind: Kind, k: u32, max: u64) -> Reply<1>
+    fn begin(&mut self, alloc: Global, kind: Kind, k: u32, max: u64) -> Reply
         requires { has_wrong_dims (AskBegin kind k max) ≡ false }
         ensures { Begun self.old (AskBegin kind k max) self.new (reply_of result) }
     {
@@ -330,7 +330,7 @@ impl Slot {
     }
 
     // Makes a cursor of this name, in place of one that has it.
-    fn set_cursor(&mut self, name: &Name, lo: &Coords<'_>, hi: &Coords<'_>) -> Reply<1>
+    fn set_cursor(&mut self, name: &Name, lo: &Coords<'_>, hi: &Coords<'_>) -> Reply
         requires lo { length lo.now ≡ self.old.dims }
         requires hi { length hi.now ≡ self.old.dims }
         requires unrefused { early_refusal self.old (AskCursor name.now (numbers_of lo.now) (numbers_of hi.now)) ≡ None }

@@ -20,20 +20,21 @@ ghost use Rattle.ph_engine.specs.Doing.{Looked, Idled, ServedOr};
 ghost use Rattle.ph_engine.specs.Filing.{EnteredOr, SameFrame};
 ghost use Rattle.ph_engine.specs.Recording.{ExportedOr, ImportsOr};
 ghost use Rattle.ph_io.specs.Giving.{taken_of};
-ghost use Rattle.ph_engine.specs.Listing.{ListsWindow, ListsNear, ListsBall, ListsBoxes, ListsAnyPage};
+ghost use Rattle.ph_engine.specs.Listing.{ListsWindow, ListsNear, ListsBall, ListsBoxes, ListsAnyPage, ListsSizes};
 ghost use Rattle.ph_engine.specs.Slots.{any_table, table_at, empty_table, cursor_of, cursor_dims, slot_of, IsCursorIn, IsOfKind};
 ghost use Rattle.ph_engine.specs.Comparing.{IsCompared};
 ghost use Rattle.ph_engine.specs.Statuses.{StopHasCause};
 
 use crate::boxes::{Question, list_boxes};
 use crate::commands::{
-    are_same, clear_rows, count_nodes, count_rows, cursor_at, del_row, get_row, move_row, put_row,
+    are_same, clear_rows, count_rows, cursor_at, del_row, get_row, move_row, put_row,
 };
 use crate::cursors::AnyCursor;
 use crate::distances::{list_ball, list_near};
 use crate::filing::save_tree;
 use crate::listing::{list_page, list_window};
 use crate::records::{ExportFault, export_tree, import_text};
+use crate::sizes::list_sizes;
 use crate::status::{Answer, Stop};
 use ph_coord::{Kind, Width};
 use ph_io::{Failed, Files, Sink};
@@ -132,7 +133,7 @@ impl AnyTree {
         value: u64,
         visits: &mut Steps<V>,
         changes: &mut Steps<C>,
-    ) -> Result<Reply<1>, NoMemory>
+    ) -> Result<Reply, NoMemory>
         requires dims { length at.now ≡ (any_table self.old).dims }
         requires range { list_all (fits (any_table self.old).tree.width) (numbers_of at.now) ≡ true }
         ensures { ServedOr (any_table self.old) (Asked.Put (numbers_of at.now) value) (any_table self.new) visits.old visits.new changes.old changes.new result }
@@ -140,7 +141,7 @@ impl AnyTree {
         with_tree!(self, tree => put_row(tree, at, value, visits, changes))
     }
 
-    pub(crate) fn get<V: Ledger>(&self, at: &Coords<'_>, visits: &mut Steps<V>) -> Reply<1>
+    pub(crate) fn get<V: Ledger>(&self, at: &Coords<'_>, visits: &mut Steps<V>) -> Reply
         requires dims { length at.now ≡ (any_table self.now).dims }
         requires range { list_all (fits (any_table self.now).tree.width) (numbers_of at.now) ≡ true }
         ensures { Looked (any_table self.now) (Asked.Get (numbers_of at.now)) (any_table self.now) (reply_of result) visits.old visits.new }
@@ -153,7 +154,7 @@ impl AnyTree {
         at: &Coords<'_>,
         visits: &mut Steps<V>,
         changes: &mut Steps<C>,
-    ) -> Result<Reply<1>, NoMemory>
+    ) -> Result<Reply, NoMemory>
         requires dims { length at.now ≡ (any_table self.old).dims }
         requires range { list_all (fits (any_table self.old).tree.width) (numbers_of at.now) ≡ true }
         ensures { ServedOr (any_table self.old) (Asked.Del (numbers_of at.now)) (any_table self.new) visits.old visits.new changes.old changes.new result }
@@ -167,7 +168,7 @@ impl AnyTree {
         to: &Coords<'_>,
         visits: &mut Steps<V>,
         changes: &mut Steps<C>,
-    ) -> Result<Reply<1>, NoMemory>
+    ) -> Result<Reply, NoMemory>
         requires from { length from.now ≡ (any_table self.old).dims }
         requires to { length to.now ≡ (any_table self.old).dims }
         requires from_range { list_all (fits (any_table self.old).tree.width) (numbers_of from.now) ≡ true }
@@ -177,16 +178,22 @@ impl AnyTree {
         with_tree!(self, tree => move_row(tree, from, to, visits, changes))
     }
 
-    pub(crate) fn count(&self) -> Reply<1>
+    pub(crate) fn count(&self) -> Reply
         ensures { Idled (any_table self.now) Asked.Count (any_table self.now) (reply_of result) }
     {
         with_tree!(self, tree => count_rows(tree))
     }
 
-    pub(crate) fn stats<V: Ledger>(&self, visits: &mut Steps<V>) -> Reply<1>
-        ensures { Looked (any_table self.now) Asked.Statistics (any_table self.now) (reply_of result) visits.old visits.new }
+    // Gives its sizes to the sink. Each node is visited once.
+    pub(crate) fn list_sizes<O: Sink, V: Ledger>(
+        &self,
+        out: &mut O,
+        visits: &mut Steps<V>,
+    ) -> Result<Answer, Stop>
+        ensures lists { ListsSizes (any_table self.now) (taken_of (O.written out.old) (O.amount out.old)) (taken_of (O.written out.new) (O.amount out.new)) visits.old visits.new result }
+        ensures cause { StopHasCause (O.faults out.old) (O.faults out.new) result }
     {
-        with_tree!(self, tree => count_nodes(tree, visits))
+        with_tree!(self, tree => list_sizes(tree, out, visits))
     }
 
     // Its sizes. Each node is visited once.
@@ -197,7 +204,7 @@ impl AnyTree {
         with_tree!(self, tree => tree.stats(visits))
     }
 
-    pub(crate) fn clear(&mut self) -> Reply<1>
+    pub(crate) fn clear(&mut self) -> Reply
         ensures { Idled (any_table self.old) Asked.Clear (any_table self.new) (reply_of result) }
     {
         with_tree!(self, tree => clear_rows(tree))
@@ -251,7 +258,7 @@ impl AnyTree {
         header: bool,
         visits: &mut Steps<V>,
         changes: &mut Steps<C>,
-    ) -> Result<Reply<1>, NoMemory>
+    ) -> Result<Reply, NoMemory>
         ensures imports { ImportsOr (any_table self.old) (csv_rows (any_table self.old).tree.width (any_table self.old).dims kind header text.now) (any_table self.new) result }
         ensures frame { SameFrame kind (any_table self.old) (any_table self.new) }
         ensures later { visits.old ≤ visits.new }

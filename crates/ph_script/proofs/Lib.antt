@@ -12,4 +12,3 @@ pub mod Pieces
 mod ReadPlaces
 mod RowTexts
 mod WordCuts
-mod StatsText

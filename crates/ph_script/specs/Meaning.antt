@@ -1,5 +1,5 @@
 -- What the commands and replies of the code are in the definitions.
-use Rattle.std.specs.Prelude.{ℕ, ◌^◌, List, map, ℤ, pos, Option, Some, None, Result, Ok, Err}
+use Rattle.std.specs.Prelude.{◌^◌, List, map, ℤ, pos, Option, Some, None, Result, Ok, Err}
 use Rattle.ph_specs.specs.Command.{Command as Asked, Reading}
 use Rattle.ph_specs.specs.Command.Command.{Begin as AskBegin, Put as AskPut, Get as AskGet, Del as AskDel, Relocate as AskRelocate, Count as AskCount, Clear as AskClear, Window as AskWindow, Cursor as AskCursor, Page as AskPage, Near as AskNear, Within as AskWithin, Overlap as AskOverlap, Inside as AskInside, Covers as AskCovers, Save as AskSave, Load as AskLoad, Import as AskImport, Export as AskExport, Statistics as AskStatistics, Select as AskSelect, Compare as AskCompare}
 use Rattle.ph_specs.specs.Reply.{Reply as Answer}
@@ -10,7 +10,7 @@ use Rattle.ph_script.specs.declared.command.Command.TheVariants.{Begin, Put, Get
 use Rattle.ph_script.specs.declared.command.Bad.{Bad}
 use Rattle.ph_script.specs.declared.command.Bad.TheVariants.{Word, Count as BadCount, Number, Name}
 use Rattle.ph_script.specs.declared.reply.Reply.{Reply}
-use Rattle.ph_script.specs.declared.reply.Reply.TheVariants.{Opened, New, Old, Value, Absent, Gone, Moved, Taken, Rows, Cleared, RowIs, HitIs, End, More, Ready, Saved, Loaded, Imported, Exported, Stats as StatsReply, Using, Same, Differ, ErrorLong, ErrorWord, ErrorCount, ErrorNumber, ErrorName, ErrorDims, ErrorKind, ErrorRange, ErrorReversed, ErrorCursor, ErrorCursors, ErrorFile, ErrorFull, BadMagic, BadHeader, BadDims, BadShort, BadNode, BadExtra, BadFields, BadNumber, BadRange, BadReversed}
+use Rattle.ph_script.specs.declared.reply.Reply.TheVariants.{Opened, New, Old, Value, Absent, Gone, Moved, Taken, Rows, Cleared, End, More, Ready, Saved, Loaded, Imported, Exported, Using, Same, Differ, ErrorLong, ErrorWord, ErrorCount, ErrorNumber, ErrorName, ErrorDims, ErrorKind, ErrorRange, ErrorReversed, ErrorCursor, ErrorCursors, ErrorFile, ErrorFull, BadMagic, BadHeader, BadDims, BadShort, BadNode, BadExtra, BadFields, BadNumber, BadRange, BadReversed}
 
 -- a coordinate; one that is far stands for each number outside of 64 bits
 abbrev pub number_of_coord : Coord → ℤ
@@ -56,7 +56,7 @@ reading_of (Ok None) = Reading.Nothing
 reading_of (Ok (Some c)) = Reading.Do (command_of c)
 reading_of (Err b) = Reading.Refused (bad_reply b)
 
-abbrev pub reply_of : {D : ℕ} → Reply D → Answer
+abbrev pub reply_of : Reply → Answer
 reply_of Opened = Answer.Opened
 reply_of New = Answer.New
 reply_of (Old v) = Answer.Old v
@@ -67,8 +67,6 @@ reply_of Moved = Answer.Moved
 reply_of Taken = Answer.Taken
 reply_of (Rows n) = Answer.Rows n
 reply_of Cleared = Answer.Cleared
-reply_of (RowIs r) = Answer.RowIs r
-reply_of (HitIs distance r) = Answer.HitIs distance r
 reply_of (End n) = Answer.End n
 reply_of (More n) = Answer.More n
 reply_of Ready = Answer.Ready
@@ -76,7 +74,6 @@ reply_of (Saved n) = Answer.Saved n
 reply_of (Loaded n) = Answer.Loaded n
 reply_of (Imported n) = Answer.Imported n
 reply_of (Exported n) = Answer.Exported n
-reply_of (StatsReply rows nodes linear cube words) = Answer.StatsAre (record { rows = rows; nodes = nodes; linear = linear; cube = cube; words = words })
 reply_of (Using slot) = Answer.Using slot
 reply_of Same = Answer.Same
 reply_of Differ = Answer.Differ

@@ -1,10 +1,11 @@
 //! The replies to commands.
-use ph_coord::Row;
 use ph_specs::Which;
 
-/// The answer to a command about points of D dimensions. Each is one line of the output.
+/// The answer to a command, but for the rows that it lists and the sizes of a tree. Each is one line of the output.
+///
+/// It is small, since one is made for each command.
 #[derive(Clone, Copy, Debug, PartialEq, Eq)]
-pub enum Reply<const D: usize> {
+pub enum Reply {
     Opened,
     New,
     /// The former value.
@@ -20,13 +21,6 @@ pub enum Reply<const D: usize> {
     /// The number of rows; its line begins with `count`.
     Rows(u64),
     Cleared,
-    /// A row that was found; its line begins with `row`.
-    RowIs(Row<D>),
-    /// A row that was found near a point, with the square of its distance; its line begins with `hit`.
-    HitIs {
-        distance: u128,
-        row: Row<D>,
-    },
     /// The end of what was found, with the number of rows that the reply has listed.
     End(u128),
     /// The end of a page behind which there are more rows, with the number of rows that it has listed.
@@ -41,14 +35,6 @@ pub enum Reply<const D: usize> {
     Imported(u64),
     /// The number of rows that were written as records.
     Exported(u64),
-    /// The sizes of a tree: its rows, its nodes, those of each layout, and the words of their records; its line begins with `rows`.
-    Stats {
-        rows: u128,
-        nodes: u128,
-        linear: u128,
-        cube: u128,
-        words: u128,
-    },
     /// The slot that commands are about from now on.
     Using(Which),
     /// Both slots have the same rows, of the same kind and dimensions.

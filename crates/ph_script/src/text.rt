@@ -1,6 +1,6 @@
 //! The texts of replies.
 ghost use Rattle.std.specs.Prelude.{◌≡◌, ◌≤◌, ◌+◌, ◌∷◌, [], ◌++◌, length, codes, decimal};
-ghost use Rattle.ph_specs.specs.Reply.{Reply as Replied, reply_text as text_of_reply, row_words, stats_words, line_of};
+ghost use Rattle.ph_specs.specs.Reply.{Reply as Replied, reply_text as text_of_reply, row_words, line_of};
 ghost use Rattle.ph_script.specs.Meaning.{reply_of};
 ghost use Rattle.ph_script.specs.RowNumbers.{numbers_line};
 
@@ -50,8 +50,7 @@ impl Text {
 }
 
 /// The line of a reply: its words, with a space between each two, and a line feed.
-pub fn reply_text<const D: usize>(reply: &Reply<D>) -> Text
-    requires { D ≤ 16 }
+pub fn reply_text(reply: &Reply) -> Text
     ensures { result ≡ text_of_reply (reply_of reply.now) }
 {
     let mut text = Text::new();
@@ -60,8 +59,7 @@ pub fn reply_text<const D: usize>(reply: &Reply<D>) -> Text
 }
 
 /// Makes a text the line of a reply, whatever it was before.
-pub fn write_text<const D: usize>(text: &mut Text, reply: &Reply<D>)
-    requires { D ≤ 16 }
+pub fn write_text(text: &mut Text, reply: &Reply)
     ensures { text.new ≡ text_of_reply (reply_of reply.now) }
 {
     let line = &mut text.line;
@@ -77,8 +75,6 @@ pub fn write_text<const D: usize>(text: &mut Text, reply: &Reply<D>)
         Reply::Taken => line.push_str("taken\n"),
         Reply::Rows(count) => push_numbered(line, "count", *count),
         Reply::Cleared => line.push_str("cleared\n"),
-        Reply::RowIs(row) => push_row(line, row),
-        Reply::HitIs { distance, row } => push_hit(line, *distance, row),
         Reply::End(count) => push_numbered(line, "end", *count),
         Reply::More(count) => push_numbered(line, "more", *count),
         Reply::Ready => line.push_str("ready\n"),
@@ -86,13 +82,6 @@ pub fn write_text<const D: usize>(text: &mut Text, reply: &Reply<D>)
         Reply::Loaded(count) => push_numbered(line, "loaded", *count),
         Reply::Imported(count) => push_numbered(line, "imported", *count),
         Reply::Exported(count) => push_numbered(line, "exported", *count),
-        Reply::Stats {
-            rows,
-            nodes,
-            linear,
-            cube,
-            words,
-        } => push_stats(line, *rows, *nodes, *linear, *cube, *words),
         Reply::Using(Which::A) => line.push_str("using a\n"),
         Reply::Using(Which::B) => line.push_str("using b\n"),
         Reply::Same => line.push_str("same\n"),
@@ -123,7 +112,7 @@ pub fn write_text<const D: usize>(text: &mut Text, reply: &Reply<D>)
     }
 }
 
-/// Makes a text the line of a row that was found, as `write_text` does by the reply `RowIs`.
+/// Makes a text the line of a row that was found, whatever it was before. The line begins with `row`.
 pub fn write_row<const D: usize>(text: &mut Text, row: &Row<D>)
     requires { D ≤ 16 }
     ensures { text.new ≡ text_of_reply (Replied.RowIs row.now) }
@@ -132,7 +121,7 @@ pub fn write_row<const D: usize>(text: &mut Text, row: &Row<D>)
     push_row(&mut text.line, row);
 }
 
-/// Makes a text the line of a row with its distance, as `write_text` does by the reply `HitIs`.
+/// Makes a text the line of a row that was found near a point, with the square of its distance. The line begins with `hit`.
 pub fn write_hit<const D: usize>(text: &mut Text, distance: u128, row: &Row<D>)
     requires { D ≤ 16 }
     ensures { text.new ≡ text_of_reply (Replied.HitIs distance row.now) }
@@ -173,31 +162,6 @@ fn push_number<I: Integer>(line: &mut ArrayString<LONGEST>, number: I)
     line.push_str(" ");
     let mut buffer = Buffer::new();
     line.push_str(buffer.format(number));
-}
-
-// The line of a tree's sizes.
-fn push_stats(
-    line: &mut ArrayString<LONGEST>,
-    rows: u128,
-    nodes: u128,
-    linear: u128,
-    cube: u128,
-    words: u128,
-)
-    requires { line.old.bytes ≡ [] }
-    ensures { line.new.bytes ≡ line_of (stats_words (record { rows = rows; nodes = nodes; linear = linear; cube = cube; words = words })) }
-{
-    line.push_str("rows");
-    push_number(line, rows);
-    line.push_str(" nodes");
-    push_number(line, nodes);
-    line.push_str(" linear");
-    push_number(line, linear);
-    line.push_str(" cube");
-    push_number(line, cube);
-    line.push_str(" words");
-    push_number(line, words);
-    line.push_str("\n");
 }
 
 // The line of a row.

@@ -1,12 +1,12 @@
 //! The texts of replies.
-use crate::{Reply, Text, Which, reply_text, write_text};
+use crate::{Reply, Text, Which, reply_text, write_hit, write_row, write_text};
 use ph_coord::{Point, Row, Width};
 use std::test::Fail;
 
 #[test]
 fn texts_of_replies(rt: HostRuntime) -> Result<(), Fail> {
     let cases = [
-        (Reply::<2>::Opened, "opened\n"),
+        (Reply::Opened, "opened\n"),
         (Reply::New, "new\n"),
         (Reply::Old(0), "old 0\n"),
         (
@@ -30,30 +30,6 @@ fn texts_of_replies(rt: HostRuntime) -> Result<(), Fail> {
         (Reply::Loaded(2), "loaded 2\n"),
         (Reply::Imported(6), "imported 6\n"),
         (Reply::Exported(6), "exported 6\n"),
-        (
-            Reply::Stats {
-                rows: 3,
-                nodes: 2,
-                linear: 1,
-                cube: 0,
-                words: 8,
-            },
-            "rows 3 nodes 2 linear 1 cube 0 words 8\n",
-        ),
-        (
-            Reply::Stats {
-                rows: u128::MAX,
-                nodes: u128::MAX,
-                linear: u128::MAX,
-                cube: u128::MAX,
-                words: u128::MAX,
-            },
-            "rows 340282366920938463463374607431768211455 \
-            nodes 340282366920938463463374607431768211455 \
-            linear 340282366920938463463374607431768211455 \
-            cube 340282366920938463463374607431768211455 \
-            words 340282366920938463463374607431768211455\n",
-        ),
         (Reply::Using(Which::A), "using a\n"),
         (Reply::Using(Which::B), "using b\n"),
         (Reply::Same, "same\n"),
@@ -96,16 +72,18 @@ fn texts_of_rows(rt: HostRuntime) -> Result<(), Fail> {
     let w = Width::new(32).ok_or("no width")?;
     let point = Point::from_slice(w, &[-1, 0]).ok_or("out of range")?;
     let row = Row::<2> { point, value: 3 };
-    assert_eq!(rt; reply_text(&Reply::RowIs(row)).as_str(), "row -1 0 3\n");
-    let hit = Reply::HitIs { distance: 0, row };
-    assert_eq!(rt; reply_text(&hit).as_str(), "hit 0 -1 0 3\n");
+    let mut text = Text::new();
+    write_row(&mut text, &row);
+    assert_eq!(rt; text.as_str(), "row -1 0 3\n");
+    write_hit(&mut text, 0, &row);
+    assert_eq!(rt; text.as_str(), "hit 0 -1 0 3\n");
     let w = Width::new(62).ok_or("no width")?;
     let point = Point::from_slice(w, &[-2305843009213693952; 16]).ok_or("out of range")?;
     let row = Row::<16> {
         point,
         value: 18446744073709551615,
     };
-    let text = reply_text(&Reply::RowIs(row));
+    write_row(&mut text, &row);
     let line = "row \
         -2305843009213693952 -2305843009213693952 -2305843009213693952 -2305843009213693952 \
         -2305843009213693952 -2305843009213693952 -2305843009213693952 -2305843009213693952 \
@@ -113,11 +91,7 @@ fn texts_of_rows(rt: HostRuntime) -> Result<(), Fail> {
         -2305843009213693952 -2305843009213693952 -2305843009213693952 -2305843009213693952 \
         18446744073709551615\n";
     assert_eq!(rt; text.as_str(), line);
-    let hit = Reply::HitIs {
-        distance: 340282366920938463463374607431768211455,
-        row,
-    };
-    let text = reply_text(&hit);
+    write_hit(&mut text, 340282366920938463463374607431768211455, &row);
     assert_eq!(rt; text.as_str().len(), line.len() + 40);
     assert!(rt;
         text.as_str()
@@ -132,7 +106,7 @@ fn one_text_for_many_replies(rt: HostRuntime) {
     assert_eq!(rt; text.as_str(), "");
     let cases = [
         (
-            Reply::<2>::Value(18446744073709551615),
+            Reply::Value(18446744073709551615),
             "value 18446744073709551615\n",
         ),
         (Reply::New, "new\n"),

@@ -8,7 +8,7 @@ use Rattle.ph_engine.proofs.Refused.{unrefused-arm}
 use Rattle.ph_engine.proofs.slot.Slot.list.Goals as goal
 
 pub unreachable-requires : goal.unreachable-requires
-unreachable-requires g c = all-lists c.args.cmd.now c.requires.lists c.in_default.not-Window c.in_default.not-Page c.in_default.not-Near c.in_default.not-Within c.in_default.not-Overlap c.in_default.not-Inside c.in_default.not-Covers
+unreachable-requires g c = all-lists c.args.cmd.now c.requires.lists c.in_default.not-Window c.in_default.not-Page c.in_default.not-Near c.in_default.not-Within c.in_default.not-Overlap c.in_default.not-Inside c.in_default.not-Covers c.in_default.not-Stats
 
 pub returns-in-Page-clause-done : goal.returns-in-Page-clause-done
 returns-in-Page-clause-done g c = rw c.in-Page.is c.page.ensures.done
@@ -60,3 +60,11 @@ returns-in-Covers-clause-done g c =
     let cursors = named c.self-in-Covers.inside.cursors.items in
     let unrefused = unrefused-arm (slot_of kind t cursors) c.args.self.now c.args.cmd.now _ c.self-in-Covers.view_is c.in-Covers.is (sym c.requires.unrefused) in
     rw (c.in-Covers.is, ← c.self-in-Covers.view_is) (record { done = λ most files filings changes. listing-done (slot_of kind t cursors) (Asked.Covers (numbers_of c.in-Covers.bounds)) _ _ _ _ _ files filings c.args.visits.now c.list_boxes-in-Covers.new.visits changes unrefused (λ most files fault. refl) (λ files. refl) (λ files. refl) most c.list_boxes-in-Covers.result refl (rows-good _) c.list_boxes-in-Covers.ensures.lists })
+
+pub returns-in-Stats-clause-done : goal.returns-in-Stats-clause-done
+returns-in-Stats-clause-done g c =
+    let kind = c.self-in-Stats.inside.kind in
+    let t = any_table c.self-in-Stats.inside.tree in
+    let cursors = named c.self-in-Stats.inside.cursors.items in
+    let unrefused = unrefused-arm (slot_of kind t cursors) c.args.self.now c.args.cmd.now _ c.self-in-Stats.view_is c.in-Stats.is (sym c.requires.unrefused) in
+    rw (c.in-Stats.is, ← c.self-in-Stats.view_is) (record { done = λ most files filings changes. listing-done (slot_of kind t cursors) Asked.Statistics _ _ _ _ _ files filings c.args.visits.now c.list_sizes.new.visits changes unrefused (λ most files fault. refl) (λ files. refl) (λ files. refl) most c.list_sizes.result refl refl c.list_sizes.ensures.lists })

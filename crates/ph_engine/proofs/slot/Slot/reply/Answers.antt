@@ -4,13 +4,13 @@ use Rattle.ph_script.specs.Meaning.{numbers_of}
 use Rattle.ph_engine.specs.Slots.{any_table, named, slot_of}
 use Rattle.ph_engine.proofs.Filed.{filed-begun, filed-served}
 use Rattle.ph_engine.proofs.Groups.{all-sure}
-use Rattle.ph_engine.proofs.Plain.{plain-get, plain-count, plain-clear, plain-stats}
+use Rattle.ph_engine.proofs.Plain.{plain-get, plain-count, plain-clear}
 use Rattle.ph_engine.proofs.Refused.{unrefused-arm}
 use Rattle.ph_engine.proofs.Slotted.{slot-keeps, same-frame, clear-frame}
 use Rattle.ph_engine.proofs.slot.Slot.reply.Goals as goal
 
 pub unreachable-requires : goal.unreachable-requires
-unreachable-requires g c = all-sure c.args.cmd.now c.requires.sure c.in_default.not-Begin c.in_default.not-Get c.in_default.not-Count c.in_default.not-Clear c.in_default.not-Cursor c.in_default.not-Save c.in_default.not-Stats
+unreachable-requires g c = all-sure c.args.cmd.now c.requires.sure c.in_default.not-Begin c.in_default.not-Get c.in_default.not-Count c.in_default.not-Clear c.in_default.not-Cursor c.in_default.not-Save
 
 pub invariant_of-self : goal.invariant_of-self
 invariant_of-self g c =
@@ -43,14 +43,6 @@ returns-in-Count g c =
     let cursors = named c.self-in-Count.inside.cursors.items in
     let unrefused = unrefused-arm (slot_of kind t cursors) c.args.self.now c.args.cmd.now _ c.self-in-Count.view_is c.in-Count.is (sym c.requires.unrefused) in
     rw (c.in-Count.is, ← c.self-in-Count.view_is) (record { filed = λ most changes. filed-served {E = ⊥} most kind t t cursors _ (Ok c.count.result) _ _ _ _ changes changes plain-count unrefused (c.count.ensures.served c.args.visits.now changes) })
-
-pub returns-in-Stats : goal.returns-in-Stats
-returns-in-Stats g c =
-    let kind = c.self-in-Stats.inside.kind in
-    let t = any_table c.self-in-Stats.inside.tree in
-    let cursors = named c.self-in-Stats.inside.cursors.items in
-    let unrefused = unrefused-arm (slot_of kind t cursors) c.args.self.now c.args.cmd.now _ c.self-in-Stats.view_is c.in-Stats.is (sym c.requires.unrefused) in
-    rw (c.in-Stats.is, ← c.self-in-Stats.view_is) (record { filed = λ most changes. filed-served {E = ⊥} most kind t t cursors _ (Ok c.stats.result) _ _ _ _ changes changes plain-stats unrefused (c.stats.ensures.served changes) })
 
 pub returns-in-Clear : goal.returns-in-Clear
 returns-in-Clear g c =
