@@ -10,15 +10,18 @@ ghost use Rattle.ph_table.specs.Hits.{hits_of};
 
 use crate::bound::Bound;
 use crate::opening::open;
-use crate::queue::{start, take_first};
+use crate::queue::{empty_queue, start, take_first};
 use ph_coord::{Point, Row, Width};
 use ph_node::{NoMemory, Node, WhatOf};
 use ph_steps::Steps;
 use ph_table::Hit;
 use ph_tree::PhTree;
 use std::alloc::Global;
-use std::collections::BinaryHeap;
+use std::cmp::min;
 use std::sync::ledger::Ledger;
+
+// Room for so many rows is taken at once.
+const FEW_ROWS: usize = 16;
 
 /// The first `n` rows by their distance from a point, and of equal distances in Z-order, each with the square of its distance.
 ///
@@ -26,8 +29,8 @@ use std::sync::ledger::Ledger;
 /// One queue has the rows and the nodes that were found and wait, the nodes by the least distance of their regions. The one that goes
 /// first is at hand instead. What is farther than `n` rows that were found is left out.
 ///
-/// It takes memory for what waits, at most an item for each entry of a visited node, and for the rows as they are found. It
-/// reserves none by `n`, and takes none where `n` is 0. Without memory it gives no rows; the nodes visited by then are counted.
+/// It takes memory for what waits, at most an item for each entry of a visited node or 64 of them, and for the rows as they are
+/// found, from room for the first 16 on. It takes none where `n` is 0. Without memory it gives no rows; the nodes visited by then are counted.
 pub fn nearest<const D: usize, V: Ledger>(
     alloc: Global,
     tree: &PhTree<D>,
@@ -62,12 +65,12 @@ fn search<const D: usize, V: Ledger>(
     ensures grows { visits.old ≤ visits.new }
 {
     let _bits = w.bits();
-    let mut hits = Vec::new(alloc);
     if n == 0 {
-        return Ok(hits);
+        return Ok(Vec::new(alloc));
     }
+    let mut hits = Vec::with_capacity(alloc, min(n as usize, FEW_ROWS))?;
     let mut next = start(w, root, center);
-    let mut queue = BinaryHeap::new(alloc);
+    let mut queue = empty_queue(alloc)?;
     let mut bound = Bound::new(n as usize);
     while hits.len() < n as usize {
         let Some(item) = next.take() else {

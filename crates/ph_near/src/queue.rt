@@ -1,6 +1,6 @@
 //! What waits in a search: the item that goes first at hand, and the others in a queue.
 
-ghost use Rattle.std.specs.Prelude.{◌≡◌, ◌≤◌, map, false, OnOk};
+ghost use Rattle.std.specs.Prelude.{◌≡◌, ◌≤◌, [], map, false, IfOk, OnOk};
 ghost use Rattle.std.specs.BinaryHeap.{heap_items, IsHeap, IsUpperBound};
 ghost use Rattle.std.specs.List.Sorted.{IsPermutation};
 ghost use Rattle.std.specs.Option.{option_copied, option_to_list};
@@ -13,7 +13,21 @@ use crate::waiting::Waiting;
 use ph_coord::Width;
 use ph_node::{NoMemory, Node, WhatOf};
 use ph_zorder::offset_least_distance;
+use std::alloc::Global;
 use std::collections::BinaryHeap;
+
+// Room for so many items is taken at once. Most searches for some ten rows have fewer that wait.
+const ROOM: usize = 64;
+
+// A queue in which nothing waits.
+pub(crate) fn empty_queue<'t, const D: usize>(
+    alloc: Global,
+) -> Result<BinaryHeap<Waiting<'t, D>>, NoMemory>
+    ensures items { IfOk result (λ queue. heap_items queue ≡ []) }
+    ensures order { IfOk result (λ queue. IsHeap waiting_cmp (heap_items queue)) }
+{
+    BinaryHeap::with_capacity(alloc, ROOM)
+}
 
 // The root, if there is one, as the item at hand.
 pub(crate) fn start<'t, const D: usize>(

@@ -23,16 +23,16 @@ pub loop-next-init : goal.loop-next-init
 loop-next-init g c =
     let wide : 1 ≤ c.args.w = omega (arith, c.bits-bits.ensures.value, c.bits-bits.ensures.some) in
     record {
-      best = subst (λ hs. IsPruned c.args.w g.row.D c.args.n (map (coordinate c.args.w) c.args.center.now) (rows c.args.w g.row.D (option_copied c.args.root)) hs (line_of c.start-next.result (heap_items c.new-queue.result)) (known c.new-bound.result) c.args.visits.now c.args.visits.now) (sym c.new-hits.ensures.items)
-          (subst (λ is. IsPruned c.args.w g.row.D c.args.n (map (coordinate c.args.w) c.args.center.now) (rows c.args.w g.row.D (option_copied c.args.root)) [] (line_of c.start-next.result is) (known c.new-bound.result) c.args.visits.now c.args.visits.now) (sym c.new-queue.ensures.items)
+      best = subst (λ hs. IsPruned c.args.w g.row.D c.args.n (map (coordinate c.args.w) c.args.center.now) (rows c.args.w g.row.D (option_copied c.args.root)) hs (line_of c.start-next.result (heap_items c.in_ok-queue.queue)) (known c.new-bound.result) c.args.visits.now c.args.visits.now) (sym c.in_ok-hits.ensures.items)
+          (subst (λ is. IsPruned c.args.w g.row.D c.args.n (map (coordinate c.args.w) c.args.center.now) (rows c.args.w g.row.D (option_copied c.args.root)) [] (line_of c.start-next.result is) (known c.new-bound.result) c.args.visits.now c.args.visits.now) (sym c.in_ok-queue.ensures.items)
           (subst (λ is. IsPruned c.args.w g.row.D c.args.n (map (coordinate c.args.w) c.args.center.now) (rows c.args.w g.row.D (option_copied c.args.root)) [] is (known c.new-bound.result) c.args.visits.now c.args.visits.now) (sym (append-nil (option_to_list c.start-next.result)))
           (pruned_start c.new-bound.ensures.none (started c.args.visits.now wide (omega (arith, c.bits-bits.ensures.value, c.bits-bits.ensures.limit))
           (rows-table c.args.w g.row.D (option_copied c.args.root) wide c.requires.tree)
           (c.start-next.ensures.items ∙ ap (root_queue c.args.w g.row.D) (sym (shape-rows c.args.w g.row.D (option_copied c.args.root) c.requires.tree)))
           c.start-next.ensures.waiting))));
       most = c.new-bound.ensures.n;
-      order = c.new-queue.ensures.heap_order;
-      leads = leads_none c.start-next.result (heap_items c.new-queue.result) c.new-queue.ensures.items;
+      order = c.in_ok-queue.ensures.order;
+      leads = leads_none c.start-next.result (heap_items c.in_ok-queue.queue) c.in_ok-queue.ensures.items;
     }
 
 -- ---- nothing waits
