@@ -3,6 +3,7 @@ mod Made
 mod PlaceSteps
 mod Sharing
 mod SlotLists
+mod Shifts
 mod Stores
 mod FieldReads
 mod Replaced

@@ -1,6 +1,6 @@
 -- The words of the first places, where one place more has a word, and where a place has another word.
 use Rattle.std.proofs.Common.{◌≡◌, ℕ, zero, suc, ◌+◌, ◌<◌, ◌≤◌, refl, sym, ◌∙◌, ap, subst, arith, List, [], ◌∷◌, ◌++◌, append_assoc, length, length-append, length-drop, length-take, map, take, take_at, drop, slice_set, Option, Some}
-use Rattle.std.proofs.lemmas.List.{length-set, length-map, map-append}
+use Rattle.std.proofs.lemmas.List.{length-set, length-map, map-append, take-map}
 use Rattle.std.specs.List.{refill}
 use Rattle.ph_bits.specs.Slots.{given, words_at, AreWritten}
 
@@ -79,3 +79,21 @@ words-lent n cs ws h =
     let all : length (map Some (refill n (words_at n cs) ws)) ≡ n =
     omega (arith, length-map xs Some, length-take n (ws ++ drop (length ws) old), length-append ws (drop (length ws) old), length-drop (length ws) old, e) in
     ap (map given) (take_at (map Some xs) (drop n cs) n all) ∙ given-some xs ∙ ap (λ k. refill k old ws) (sym e)
+
+-- ---- fewer places
+
+take-fewer : {A : Type 0} (m n : ℕ) (cs : List A) → m ≤ n → take m cs ≡ take m (take n cs)
+take-fewer zero n cs l = refl
+take-fewer (suc m) zero cs l = absurd (omega (arith, l))
+take-fewer (suc m) (suc n) [] l = refl
+take-fewer {A = A} (suc m) (suc n) (c ∷ cs) l = ap {B = List A} (λ t. c ∷ t) (take-fewer m n cs (omega (arith, l)))
+
+pub written-fewer : (m n : ℕ) (cs : List (Option ℕ)) → m ≤ n → AreWritten n cs → AreWritten m cs
+written-fewer m n cs l h =
+    let k : m ≤ length cs = omega (arith, l, h.0) in (k, (take m h.1.0, take-fewer m n cs l ∙ ap (take m) h.1.1 ∙ take-map Some m h.1.0))
+
+pub words-fewer : (m n : ℕ) (cs : List (Option ℕ)) → m ≤ n → words_at m cs ≡ take m (words_at n cs)
+words-fewer m n cs l = ap (map given) (take-fewer m n cs l) ∙ sym (take-map given m (take n cs))
+
+pub length-words : (n : ℕ) (cs : List (Option ℕ)) → AreWritten n cs → length (words_at n cs) ≡ n
+length-words n cs h = omega (arith, length-map (take n cs) given, length-take n cs, h.0)

@@ -1,6 +1,7 @@
 //! A block of words.
 
-ghost use Rattle.std.specs.Prelude.{◌≡◌, ◌+◌, ◌<◌, ◌≤◌, ◌^◌, ◌∷◌, ◌++◌, [], length, replicate, slice_index_or, slice_set, IfOk};
+ghost use Rattle.std.specs.Prelude.{◌≡◌, ◌+◌, ◌-◌, ◌<◌, ◌≤◌, ◌^◌, ◌∷◌, ◌++◌, [], length, take, replicate, slice_index_or, slice_set, IfOk};
+ghost use Rattle.std.specs.List.{remove};
 ghost use Rattle.ph_bits.specs.Block.{room_of, zeros, empty, IsSamePlaces};
 ghost use Rattle.ph_bits.specs.Written.{shifted};
 
@@ -161,6 +162,29 @@ impl Words {
         self.places
             .extend_shifted(self.start, self.len as usize, first, second, behind);
         self.len += first.len() as u32;
+    }
+
+    /// Takes a word out. Those behind it move up, and its place stays free behind them.
+    pub fn remove(&mut self, i: usize)
+        requires { i < length self.old.words }
+        ensures words { self.new.words ≡ remove self.old.words i }
+        ensures places { IsSamePlaces self.old self.new }
+    {
+        for k in i..self.len() - 1 {
+            let word = self.get(k + 1);
+            self.set(k, word);
+        }
+        self.pop();
+    }
+
+    // Takes the last word out.
+    #[inline(always)]
+    fn pop(&mut self)
+        requires { 0 < length self.old.words }
+        ensures words { self.new.words ≡ take (length self.old.words - 1) self.old.words }
+        ensures places { IsSamePlaces self.old self.new }
+    {
+        self.len -= 1;
     }
 
     /// Leaves `len` zeros in place of the words.

@@ -1,14 +1,14 @@
 -- The columns of a record with one edit at an address are those of its entries then.
-use Rattle.std.proofs.Common.{◌≡◌, ◌≢◌, ℕ, zero, suc, ◌+◌, ◌-◌, ◌*◌, ◌/◌, ◌^◌, ◌≤◌, ◌<◌, refl, sym, ◌∙◌, ap, subst, arith, List, [], ◌∷◌, ◌++◌, length, map, take, drop, replicate, Bool, true, false, ◌⊎◌, inl, inr}
+use Rattle.std.proofs.Common.{◌≡◌, ◌≢◌, ℕ, suc, ◌+◌, ◌-◌, ◌*◌, ◌/◌, ◌^◌, ◌≤◌, ◌<◌, refl, sym, ◌∙◌, ap, subst, arith, List, [], ◌∷◌, ◌++◌, length, map, take, drop, replicate, Bool, true, false, ◌⊎◌, inl, inr}
 use Rattle.std.specs.Prelude.{Option, Some, None, nat_le, if◌then◌else◌}
 use Rattle.std.specs.List.{AllByRecursion as Each}
 use Rattle.std.proofs.lemmas.List.{append-nil, map-append}
 use Rattle.ph_specs.specs.Digits.{Field, field, number_after, digits_of}
-use Rattle.ph_specs.specs.Layout.{IsRecord, entries_as, values_as, fields_as, digits_as, number_as, read_address, AreRising}
+use Rattle.ph_specs.specs.Layout.{IsRecord, entries_as, values_as, fields_as, digits_as, number_as, AreRising}
 use Rattle.ph_specs.specs.Lawful.{IsBody}
 use Rattle.ph_specs.specs.Node.{Flat}
 use Rattle.ph_specs.specs.Pack.{bodies, cube_table, at_address, places, place_kind, place_body, child_mark}
-use Rattle.ph_specs.specs.Record.{First, first_in, widths, padding, parts}
+use Rattle.ph_specs.specs.Record.{First, first_in, widths, padding}
 use Rattle.ph_specs.proofs.laws.TableFields.{length-fields}
 use Rattle.ph_specs.proofs.lemmas.ReadColumns.{fit-read}
 use Rattle.ph_specs.proofs.lemmas.RowsBehind.{Each-each}
@@ -41,7 +41,7 @@ module _ (dims : ℕ) (words : List ℕ) (e : Edit) (addr : ℕ) (r : IsRecord t
   abbrev x : Flat
   x = new_flat dims e.entry e.value
 
-  table-old : IsTable true dims words (flats (entries_as true dims words) (values_as true dims words))
+  pub table-old : IsTable true dims words (flats (entries_as true dims words) (values_as true dims words))
   table-old = table-of true dims words r h
 
   below-is : (a : ℕ) → entries_below dims words a ≡ below a (flats (entries_as true dims words) (values_as true dims words))
@@ -53,7 +53,7 @@ module _ (dims : ℕ) (words : List ℕ) (e : Edit) (addr : ℕ) (r : IsRecord t
   rises : Rises 0 es
   rises = rises-flats 0 (Cube.kinds dims words) (Cube.bodies dims words) (values_as true dims words)
 
-  long : Each (λ (t : Flat). length t.body ≡ dims) es
+  pub long : Each (λ (t : Flat). length t.body ≡ dims) (flats (entries_as true dims words) (values_as true dims words))
   long =
       let f : First = first_in words in
       let xs : List ℕ = fields_as true dims words in

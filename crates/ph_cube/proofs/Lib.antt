@@ -8,3 +8,4 @@ pub mod Stood
 pub mod Standing
 pub mod EditedPlaces
 pub mod EditedTables
+pub mod PutTables

@@ -1,7 +1,7 @@
 //! Writing a cube record that differs from an old one in what stands at one address.
 
-ghost use Rattle.std.specs.Prelude.{◌≡◌, ◌+◌, ◌*◌, ◌^◌, ◌<◌, ◌≤◌, ◌++◌, true, length, take, replicate, if◌then◌else◌};
-ghost use Rattle.ph_specs.specs.Digits.{number_after, words_for};
+ghost use Rattle.std.specs.Prelude.{◌≡◌, ◌+◌, ◌*◌, ◌^◌, ◌<◌, ◌≤◌, ◌∷◌, ◌++◌, true, length, take, replicate, slice_index_or, if◌then◌else◌};
+ghost use Rattle.ph_specs.specs.Digits.{number_after, words_for, words_of};
 ghost use Rattle.ph_specs.specs.Layout.{IsRecord, AreRising, entries_as, values_as};
 ghost use Rattle.ph_specs.specs.NodeSize.{points_in};
 ghost use Rattle.ph_specs.specs.Pack.{values, cube_digits, cube_table, record_in};
@@ -13,7 +13,7 @@ ghost use Rattle.ph_cube.specs.Edited.{IsEditAt, entries_below};
 
 use crate::parts::children_before;
 use ph_bits::{Edit, Packed, Pen, Words};
-use ph_linear::{Column, children_in, count_in, first_of, level_in, put_edited_values};
+use ph_linear::{Column, children_in, count_in, first_of, level_in, put_edited_values, take_out};
 
 /// Writes the record of the entries of an old record with one edit into the room of a block, whatever the block held before.
 /// The edit is of what stands at an address.
@@ -146,4 +146,64 @@ fn points_before(old: &[u64], dims: usize, i: usize, addr: u64) -> usize
     ensures { result ≡ points_in (take i (entries_as true dims old.now)) }
 {
     i - children_before(old, addr) as usize
+}
+
+/// Makes the entry at an address of a record a child, or gives a child another body, where the entry lies. The value of a point is
+/// taken out, and what else the record has stays. It takes no memory.
+pub fn put_child(words: &mut Words, dims: usize, edit: &Edit, addr: u32)
+    requires record { IsRecord true dims words.old.words }
+    requires edit { IsEditAt dims words.old.words edit.now addr }
+    requires less { edit.now.less ≡ 1 }
+    requires more { edit.now.more ≡ 1 }
+    requires child { edit.now.entry.child ≡ true }
+    requires entries { AreRising dims (first_in words.old.words).level 0 (edited_as true dims words.old.words edit.now) }
+    ensures words { words.new.words ≡ record_in true dims (first_in words.old.words).level (edited_as true dims words.old.words edit.now) }
+    ensures places { IsSamePlaces words.old words.new }
+{
+    let old = words.as_slice();
+    let level = level_in(old);
+    let count = count_in(old) as usize;
+    let begun = values_place(old, dims);
+    let front = points_before(old, dims, edit.place, addr as u64);
+    let until = points_before(old, dims, edit.place + edit.less, addr as u64 + 1);
+    put_columns(words.as_mut_slice(), dims, edit, addr);
+    take_out(words, begun + front, begun + until);
+    let points = words.len() - begun;
+    let first = first_of(level, 1, count, (count - points) as u64);
+    words.set(0, first);
+}
+
+// The kind and the body.
+fn put_columns(words: &mut [u64], dims: usize, edit: &Edit, addr: u32)
+    requires record { IsRecord true dims words.old }
+    requires edit { IsEditAt dims words.old edit.now addr }
+    requires more { edit.now.more ≡ 1 }
+    requires child { edit.now.entry.child ≡ true }
+    requires entries { AreRising dims (first_in words.old).level 0 (edited_as true dims words.old edit.now) }
+    ensures { words.new ≡ slice_index_or words.old 0 0 ∷ words_of (cube_table dims (first_in words.old).level (edited_as true dims words.old edit.now)) ++ values_as true dims words.old }
+{
+    let count = addresses(dims);
+    let level = level_in(words);
+    let kinds = Column {
+        at: 64,
+        width: 2,
+        count,
+    };
+    let bodies = Column {
+        at: 64 + count * 2,
+        width: dims as u64 * level as u64,
+        count,
+    };
+    let there = at_address(edit, addr);
+    kinds.put_field(words, &there, 2);
+    bodies.put_row(words, &there, level, dims);
+}
+
+// The place of the first value among the words.
+fn values_place(old: &[u64], dims: usize) -> usize
+    requires { IsRecord true dims old.now }
+    ensures { result ≡ 1 + words_for (cube_digits dims (first_in old.now).level) }
+{
+    let points = (count_in(old) - children_in(old)) as usize;
+    old.len() - points
 }

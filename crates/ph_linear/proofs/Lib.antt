@@ -9,3 +9,6 @@ pub mod EditedLists
 pub mod OldTables
 pub mod Segments
 pub mod EditedTables
+pub mod Overs
+pub mod PutTables
+pub mod PutRecords

@@ -33,7 +33,7 @@ digits-inner fs gs hs h k =
 spread : (all a b c t n : ℕ) → all ≡ a + (b + c) → t ≡ words_for all → t ≤ n → (a + b ≤ 64 * t) × (a + b ≤ 64 * n) × (64 * t - a - b ≡ (64 * words_for all - all) + c)
 spread all a b c t n e f l = (omega (arith, e, f), omega (arith, e, f, l), omega (arith, e, f))
 
-segment : (w : ℕ) (fs gs hs : List Field) (vs : List ℕ) → Fit (fs ++ (gs ++ hs)) → Each (λ x. x < 2 ^ 64) vs
+pub segment : (w : ℕ) (fs gs hs : List Field) (vs : List ℕ) → Fit (fs ++ (gs ++ hs)) → Each (λ x. x < 2 ^ 64) vs
     → digits_at (w ∷ words_of (fs ++ (gs ++ hs)) ++ vs) (64 + digits_of fs) (digits_of gs) ≡ number_of gs
 segment w fs gs hs vs h k =
     let all : List Field = fs ++ (gs ++ hs) in
@@ -58,7 +58,7 @@ copied r w d gs rest e f =
     ap (λ t. number_after (r * 2 ^ t + d) rest) e ∙ ap (λ t. number_after (r * 2 ^ digits_of gs + t) rest) f ∙ ap (λ t. number_after t rest) (sym (number_after-start r gs))
 
 module _ (words : List ℕ) (w : ℕ) (table : List Field) (vs : List ℕ) (is : words ≡ w ∷ words_of table ++ vs) (h : Fit table) (k : Each (λ x. x < 2 ^ 64) vs) where
-  segment-of : (fs gs hs : List Field) (at n : ℕ) → table ≡ fs ++ (gs ++ hs) → at ≡ 64 + digits_of fs → n ≡ digits_of gs → digits_at words at n ≡ number_of gs
+  pub segment-of : (fs gs hs : List Field) (at n : ℕ) → table ≡ fs ++ (gs ++ hs) → at ≡ 64 + digits_of fs → n ≡ digits_of gs → digits_at words at n ≡ number_of gs
   segment-of fs gs hs at n e a b =
       ap (λ t. digits_at t at n) is
       ∙ ap (λ t. digits_at (w ∷ words_of table ++ vs) t n) a

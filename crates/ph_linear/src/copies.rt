@@ -2,15 +2,15 @@
 
 ghost use Rattle.std.specs.Prelude.{◌≡◌, ◌+◌, ◌-◌, ◌*◌, ◌^◌, ◌<◌, ◌≤◌, true, length, take, replicate};
 ghost use Rattle.std.specs.List.{AllByRecursion as Each};
-ghost use Rattle.ph_specs.specs.Digits.{field, number_after, digits_at};
-ghost use Rattle.ph_specs.specs.Pack.{bodies};
+ghost use Rattle.ph_specs.specs.Digits.{field, number_of, number_after, digits_at};
+ghost use Rattle.ph_specs.specs.Pack.{bodies, body_fields};
 ghost use Rattle.ph_bits.specs.Block.{room_of, IsSamePlaces};
 ghost use Rattle.ph_bits.specs.Edits.{count_edited};
 ghost use Rattle.ph_bits.specs.Written.{IsPen, digits_by, number_by};
-ghost use Rattle.ph_linear.specs.Edited.{IsColumn, column_edited};
+ghost use Rattle.ph_linear.specs.Edited.{IsColumn, IsOver, IsColumnOver, column_edited};
 
 use crate::parts::near_field;
-use ph_bits::{Edit, Pen, Words};
+use ph_bits::{Edit, Pen, Words, set_field};
 
 /// A column of an old record: so many entries with `width` digits each, from digit `at` on.
 #[derive(Clone, Copy)]
@@ -71,6 +71,38 @@ impl Column {
         self.copy(pen, words, old, 0, place);
         put_new_row(pen, words, edit, level, dims);
         self.copy(pen, words, old, place + edit.less as u64, self.count);
+    }
+
+    /// Puts a field in place of that of an entry.
+    #[inline(always)]
+    pub fn put_field(self, words: &mut [u64], edit: &Edit, v: u64)
+        requires column { IsColumn words.old self }
+        requires width { self.width ≤ 63 }
+        requires value { v < 2 ^ self.width }
+        requires within { edit.now.place < self.count }
+        requires less { edit.now.less ≡ 1 }
+        requires more { edit.now.more ≡ 1 }
+        ensures { IsColumnOver words.old self edit.now (replicate edit.now.more (field self.width v)) words.new }
+    {
+        let at = self.at + edit.place as u64 * self.width;
+        set_field(words, at, self.width as u32, v);
+    }
+
+    /// Puts a body in place of that of an entry, in a column of `dims` fields for each.
+    #[inline(always)]
+    pub fn put_row(self, words: &mut [u64], edit: &Edit, level: u32, dims: usize)
+        requires column { IsColumn words.old self }
+        requires few { dims ≤ 16 }
+        requires low { level ≤ 63 }
+        requires width { self.width ≡ dims * level }
+        requires fields { Each (λ x. x < 2 ^ level) (take dims edit.now.entry.body) }
+        requires within { edit.now.place < self.count }
+        requires less { edit.now.less ≡ 1 }
+        requires more { edit.now.more ≡ 1 }
+        ensures { IsColumnOver words.old self edit.now (bodies level (replicate edit.now.more (take dims edit.now.entry.body))) words.new }
+    {
+        let at = self.at + edit.place as u64 * self.width;
+        set_row(words, at, level, dims, &edit.entry.body);
     }
 
     // Copies the digits of the entries from one up to another, where there may be few.
@@ -158,5 +190,20 @@ fn put_new_row(pen: &mut Pen, words: &mut Words, edit: &Edit, level: u32, dims: 
 {
     if edit.more > 0 {
         pen.put_row(words, level, dims, &edit.entry.body);
+    }
+}
+
+// Puts a body in place of the digits from one on.
+fn set_row(words: &mut [u64], at: u64, level: u32, dims: usize, body: &[u64; 16])
+    requires few { dims ≤ 16 }
+    requires low { level ≤ 63 }
+    requires inside { at + dims * level ≤ 64 * length words.old }
+    requires near { at + dims * level ≤ 2 ^ 62 }
+    requires fields { Each (λ x. x < 2 ^ level) (take dims body.now) }
+    ensures over { IsOver words.old at (dims * level) (number_of (body_fields level (take dims body.now))) words.new }
+    ensures long { length (take dims body.now) ≡ dims }
+{
+    for i in 0..dims {
+        set_field(words, at + i as u64 * level as u64, level, body[i]);
     }
 }

@@ -1,8 +1,8 @@
 //! Writing a linear record that differs from an old one in one entry.
 
-ghost use Rattle.std.specs.Prelude.{◌≡◌, ◌+◌, ◌-◌, ◌*◌, ◌^◌, ◌<◌, ◌≤◌, ◌++◌, false, length, take, drop, replicate};
-ghost use Rattle.ph_specs.specs.Digits.{number_after, words_for};
-ghost use Rattle.ph_specs.specs.Layout.{IsRecord, AreRising, entries_as, values_as};
+ghost use Rattle.std.specs.Prelude.{◌≡◌, ◌+◌, ◌-◌, ◌*◌, ◌^◌, ◌<◌, ◌≤◌, ◌∷◌, ◌++◌, true, false, Some, length, map, take, drop, replicate, slice_get, slice_index_or};
+ghost use Rattle.ph_specs.specs.Digits.{number_after, words_for, words_of};
+ghost use Rattle.ph_specs.specs.Layout.{IsRecord, AreRising, entries_as, values_as, read_address};
 ghost use Rattle.ph_specs.specs.NodeSize.{points_in};
 ghost use Rattle.ph_specs.specs.Pack.{values, linear_digits, linear_table, record_in};
 ghost use Rattle.ph_specs.specs.Record.{first_in};
@@ -140,4 +140,79 @@ fn points_before(old: &[u64], dims: usize, i: usize) -> usize
     ensures { result ≡ points_in (take i (entries_as false dims old.now)) }
 {
     i - ones_before(old, 64, i as u64) as usize
+}
+
+/// Makes an entry of a record a child, or gives a child another body, where the entry lies. It keeps its address. The value of a
+/// point is taken out, and what else the record has stays. It takes no memory.
+pub fn put_child(words: &mut Words, dims: usize, edit: &Edit)
+    requires record { IsRecord false dims words.old.words }
+    requires within { edit.now.place < (first_in words.old.words).entries }
+    requires less { edit.now.less ≡ 1 }
+    requires more { edit.now.more ≡ 1 }
+    requires child { edit.now.entry.child ≡ true }
+    requires address { slice_get (map read_address (entries_as false dims words.old.words)) edit.now.place ≡ Some edit.now.entry.addr }
+    requires entries { AreRising dims (first_in words.old.words).level 0 (edited_as false dims words.old.words edit.now) }
+    ensures words { words.new.words ≡ record_in false dims (first_in words.old.words).level (edited_as false dims words.old.words edit.now) }
+    ensures places { IsSamePlaces words.old words.new }
+{
+    let old = words.as_slice();
+    let level = level_in(old);
+    let count = count_in(old) as usize;
+    let begun = values_place(old, dims);
+    let front = points_before(old, dims, edit.place);
+    let until = points_before(old, dims, edit.place + edit.less);
+    put_columns(words.as_mut_slice(), dims, edit);
+    take_out(words, begun + front, begun + until);
+    let points = words.len() - begun;
+    let first = first_of(level, 0, count, (count - points) as u64);
+    words.set(0, first);
+}
+
+// The kind and the body.
+fn put_columns(words: &mut [u64], dims: usize, edit: &Edit)
+    requires record { IsRecord false dims words.old }
+    requires within { edit.now.place < (first_in words.old).entries }
+    requires less { edit.now.less ≡ 1 }
+    requires more { edit.now.more ≡ 1 }
+    requires child { edit.now.entry.child ≡ true }
+    requires address { slice_get (map read_address (entries_as false dims words.old)) edit.now.place ≡ Some edit.now.entry.addr }
+    requires entries { AreRising dims (first_in words.old).level 0 (edited_as false dims words.old edit.now) }
+    ensures { words.new ≡ slice_index_or words.old 0 0 ∷ words_of (linear_table dims (first_in words.old).level (edited_as false dims words.old edit.now)) ++ values_as false dims words.old }
+{
+    let count = count_in(words);
+    let level = level_in(words);
+    let kinds = Column {
+        at: 64,
+        width: 1,
+        count,
+    };
+    let bodies = Column {
+        at: 64 + count + count * dims as u64,
+        width: dims as u64 * level as u64,
+        count,
+    };
+    kinds.put_field(words, edit, 1);
+    bodies.put_row(words, edit, level, dims);
+}
+
+// The place of the first value among the words.
+fn values_place(old: &[u64], dims: usize) -> usize
+    requires { IsRecord false dims old.now }
+    ensures { result ≡ 1 + words_for (linear_digits dims (first_in old.now).level (first_in old.now).entries) }
+{
+    let points = (count_in(old) - children_in(old)) as usize;
+    old.len() - points
+}
+
+/// Takes out the word between two places of a block, where there is one. It takes no memory.
+pub fn take_out(words: &mut Words, from: usize, to: usize)
+    requires order { from ≤ to }
+    requires one { to ≤ from + 1 }
+    requires within { to ≤ length words.old.words }
+    ensures words { words.new.words ≡ take from words.old.words ++ drop to words.old.words }
+    ensures places { IsSamePlaces words.old words.new }
+{
+    if from < to {
+        words.remove(from);
+    }
 }

@@ -14,7 +14,7 @@ mod searches;
 mod writes;
 
 pub use copies::Column;
-pub use edits::put_edited_values;
+pub use edits::{put_edited_values, take_out};
 pub use fixed::{
     address, bits_of, entry, find, find_entry, is_child, next_at_or_after, rank, write,
 };
@@ -24,7 +24,7 @@ pub use writes::put_values;
 /// The calls by a number of dimensions that is handed in. All are inlined, so that it is a constant again where the caller
 /// knows it.
 pub mod by_dims {
-    pub use crate::edits::write_edited;
+    pub use crate::edits::{put_child, write_edited};
     pub use crate::parts::rank_of;
     pub use crate::reads::{address, bits_of, body_at, entry, find_entry, is_child, rank};
     pub use crate::searches::{find, next_at_or_after, search};

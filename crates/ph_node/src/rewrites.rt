@@ -1,8 +1,9 @@
 //! The record of an old record with one edit.
 
-ghost use Rattle.std.specs.Prelude.{◌≡◌, ◌≤◌, length, true};
+ghost use Rattle.std.specs.Prelude.{◌≡◌, ◌≤◌, length, map, slice_get, true, Some};
+ghost use Rattle.ph_specs.specs.Layout.{read_address};
 ghost use Rattle.ph_specs.specs.Pack.{is_cube};
-ghost use Rattle.ph_specs.specs.Record.{first_in, has_cube};
+ghost use Rattle.ph_specs.specs.Record.{first_in, has_cube, entries_in};
 ghost use Rattle.ph_bits.specs.Block.{room_of, IsSamePlaces};
 ghost use Rattle.ph_node.specs.RecordEdit.{IsRecordEdit, with_edit, words_with, record_with};
 
@@ -68,4 +69,22 @@ fn lay_out<P: Dims>(words: &mut Words, old: &[u64], edit: &Edit)
         dims: PhantomData,
     };
     records::write::<P, EditedOf<'_, P>>(words, level_in(old), &from);
+}
+
+/// Makes the entry at an address of a record a child, or gives a child another body, where the entry lies. The level and the number
+/// of entries stay, and so does the layout. It takes no memory.
+pub(crate) fn put_child(words: &mut Words, dims: usize, edit: &Edit)
+    requires edit { IsRecordEdit dims words.old.words edit.now }
+    requires less { edit.now.less ≡ 1 }
+    requires more { edit.now.more ≡ 1 }
+    requires child { edit.now.entry.child ≡ true }
+    requires address { slice_get (map read_address (entries_in dims words.old.words)) edit.now.place ≡ Some edit.now.entry.addr }
+    ensures words { words.new.words ≡ record_with dims words.old.words edit.now }
+    ensures places { IsSamePlaces words.old words.new }
+{
+    if records::has_cube(words.as_slice(), dims) {
+        cube::put_child(words, dims, edit, edit.entry.addr);
+    } else {
+        linear::put_child(words, dims, edit);
+    }
 }

@@ -9,10 +9,10 @@ ghost use Rattle.ph_node.specs.Bodies.{IsBodyArray};
 ghost use Rattle.ph_node.specs.Split.{IsBelow, body_at, part_place, split_node};
 ghost use Rattle.ph_node.specs.Spots.{IsSpot};
 
-use crate::NoMemory;
 use crate::node::{NodeOf, SlotOf};
 use crate::pairs::pair_below;
 use crate::spots::Spot;
+use crate::{NoMemory, rewrites};
 use ph_bits::{Edit, Packed};
 use ph_coord::Dims;
 use ph_digits::{body_above, top_difference};
@@ -58,8 +58,8 @@ impl<P: Dims> NodeOf<P> {
             entry,
             value: 0,
         };
-        let words = self.edited(&edit, self.children.len() + 1 - old.child as usize)?;
         let mut children = room_for(&mut self.children, old.child, alloc)?;
+        rewrites::put_child(&mut self.words, P::D, &edit);
         changes.tick();
         changes.tick();
         take_child(&mut self.children, old.front, old.child, &mut children);
@@ -69,7 +69,6 @@ impl<P: Dims> NodeOf<P> {
             dims: PhantomData,
         };
         insert_within(&mut self.children, old.front, SlotOf { node });
-        self.words = words;
         Ok(())
     }
 }
