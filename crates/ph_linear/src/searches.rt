@@ -30,7 +30,22 @@ pub fn search(words: &[u64], dims: usize, addr: u32) -> Result<usize, usize>
     ensures absent { IfErr result (λ i. None ≡ position (λ r. read_address r == addr) (entries_as false dims words.now)) }
     ensures place { IfErr result (λ i. i ≡ position_or_len (λ r. nat_le addr (read_address r)) (entries_as false dims words.now)) }
 {
-    let count = count_in(words);
+    // The most common number of entries is told apart, so that its search is compiled without a loop.
+    match count_in(words) {
+        2 => search_among(words, dims, 2, addr),
+        count => search_among(words, dims, count, addr),
+    }
+}
+
+// The same among the addresses of so many entries.
+#[inline(always)]
+fn search_among(words: &[u64], dims: usize, count: u64, addr: u32) -> Result<usize, usize>
+    requires record { IsRecord false dims words.now }
+    requires count { count ≡ (first_in words.now).entries }
+    ensures found { IfOk result (λ i. Some i ≡ position (λ r. read_address r == addr) (entries_as false dims words.now)) }
+    ensures absent { IfErr result (λ i. None ≡ position (λ r. read_address r == addr) (entries_as false dims words.now)) }
+    ensures place { IfErr result (λ i. i ≡ position_or_len (λ r. nat_le addr (read_address r)) (entries_as false dims words.now)) }
+{
     let i = place_of(words, dims, count, addr);
     if i == count {
         return Err(i as usize);
@@ -48,7 +63,19 @@ pub fn next_at_or_after(words: &[u64], dims: usize, addr: u32) -> Option<usize>
     requires record { IsRecord false dims words.now }
     ensures { result ≡ position (λ r. nat_le addr (read_address r)) (entries_as false dims words.now) }
 {
-    let count = count_in(words);
+    match count_in(words) {
+        2 => next_among(words, dims, 2, addr),
+        count => next_among(words, dims, count, addr),
+    }
+}
+
+// The same among the addresses of so many entries.
+#[inline(always)]
+fn next_among(words: &[u64], dims: usize, count: u64, addr: u32) -> Option<usize>
+    requires record { IsRecord false dims words.now }
+    requires count { count ≡ (first_in words.now).entries }
+    ensures { result ≡ position (λ r. nat_le addr (read_address r)) (entries_as false dims words.now) }
+{
     let i = place_of(words, dims, count, addr);
     if i < count { Some(i as usize) } else { None }
 }

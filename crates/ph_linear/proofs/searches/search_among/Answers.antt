@@ -8,7 +8,7 @@ use Rattle.ph_linear.specs.Linear.{kinds, addresses, bodies}
 use Rattle.ph_linear.proofs.Columns.{length-kinds, length-addresses}
 use Rattle.ph_linear.proofs.Entries.{place-read}
 use Rattle.ph_linear.proofs.Halving.{rise, found, missed, place-entries}
-use Rattle.ph_linear.proofs.searches.search.Goals as goal
+use Rattle.ph_linear.proofs.searches.search_among.Goals as goal
 
 place-there : (p : ℕ → Bool) (d : ℕ) (words : List ℕ) → position_or_len (λ r. p (read_address r)) (entries_as false d words) ≡ position_or_len p (addresses d words)
 place-there p d words =
@@ -19,7 +19,7 @@ returns-then-i-count-clause-absent c =
     let words = c.args.words.now in
     let xs : List ℕ = addresses c.args.dims words in
     missed xs c.args.addr c.place_of-i.result (rise c.args.dims words c.requires.record) c.place_of-i.ensures.value
-    (λ l. absurd (omega (arith, l, length-addresses c.args.dims words, c.if-i-count.true, c.count_in-count.ensures)))
+    (λ l. absurd (omega (arith, l, length-addresses c.args.dims words, c.if-i-count.true, c.requires.count)))
     ∙ sym (place-entries (λ x. x == c.args.addr) c.args.dims words)
 
 pub returns-then-i-count-clause-place : goal.returns-then-i-count-clause-place
@@ -30,7 +30,7 @@ returns-then-address_at-addr-clause-found c =
     let words = c.args.words.now in
     let xs : List ℕ = addresses c.args.dims words in
     found xs c.args.addr c.place_of-i.result (rise c.args.dims words c.requires.record)
-    (inside c.place_of-i.result c.count_in-count.result (length xs) (length-addresses c.args.dims words ∙ sym c.count_in-count.ensures) c.place_of-i.ensures.within c.if-i-count.false)
+    (inside c.place_of-i.result c.args.count (length xs) (length-addresses c.args.dims words ∙ sym c.requires.count) c.place_of-i.ensures.within c.if-i-count.false)
     (sym c.address_at.ensures.value ∙ c.if-address_at-addr.true)
     ∙ sym (place-entries (λ x. x == c.args.addr) c.args.dims words)
   where
