@@ -1,5 +1,5 @@
 -- A tree with a row moved: it is put at its new point before it goes from the old one.
-use Rattle.std.proofs.Common.{◌≡◌, ℕ, ◌≤◌, List, [], ◌∷◌, length, Bool, true, false, cond, refl, arith, ap, sym, ◌∙◌, subst, inl, inr}
+use Rattle.std.proofs.Common.{◌≡◌, ℕ, ◌≤◌, List, [], ◌∷◌, length, true, false, cond, refl, arith, ap, sym, ◌∙◌, subst, inl, inr}
 use Rattle.std.specs.Prelude.{ℤ, Option, Some, None, is_some}
 use Rattle.std.specs.List.{list_all}
 use Rattle.std.proofs.lemmas.Bool.{and_parts}
@@ -144,11 +144,21 @@ module _ {dims w max len : ℕ} {t : Option PlainNode} {s : TreeTable} {from to 
       table = ap {B = TreeTable} (λ (r : List Row). record { table = r; width = w; max = max }) moved_rows ∙ ap (λ z. with_moved z from to) k.seen;
     }
 
+-- where a row is at the new point, nothing moves
+taken_there : (s : TreeTable) (from to : List ℤ) → is_some (find s.table to) ≡ true → s ≡ with_moved s from to
+taken_there s from to taken = ap {B = TreeTable} (λ (r : List Row). record s { table = r }) (sym (move-taken s.width s.table from to taken))
+
+pub taken_moved : {dims w max len : ℕ} {t u : Option PlainNode} {s : TreeTable} {from to : List ℤ} → tree_table dims w t max ≡ s → IsTree dims w t max len → is_some (find s.table to) ≡ true → u ≡ t → IsMove dims w max len s from to u
+taken_moved {dims = dims} {w = w} {max = max} {len = len} {s = s} {from = from} {to = to} seen tree taken same = record {
+  tree = subst (λ z. IsTree dims w z max len) (sym same) tree;
+  table = ap (λ z. tree_table dims w z max) same ∙ seen ∙ taken_there s from to taken;
+}
+
 -- a point that is moved to where it is
 pub stays_there : (s : TreeTable) (from to : List ℤ) (v : ℕ) → Some v ≡ find s.table from → same_point from to ≡ true → s ≡ with_moved s from to
 stays_there s from to v f e =
     let same : find s.table to ≡ Some v = sym (f ∙ ap (find s.table) (same_from_test from to e)) in
-    ap {B = TreeTable} (λ (r : List Row). record s { table = r }) (sym (move-taken s.width s.table from to (ap (λ o. is_some o) same)))
+    taken_there s from to (ap (λ o. is_some o) same)
 
 -- where no row is at the point, nothing moves
 pub none_there : (s : TreeTable) (from to : List ℤ) → find s.table from ≡ None → s ≡ with_moved s from to
@@ -171,7 +181,3 @@ module _ (rs : List Row) (from to : List ℤ) (v : ℕ) (found : find rs from �
 
   pub answer_done : same_point from to ≡ false → find rs to ≡ None → Done ≡ move_answer rs from to
   answer_done other free = sym (answer_other other ∙ ap (λ o. cond (is_some o) Taken Done) free)
-
-pub none_of : (o : Option ℕ) (b : Bool) → b ≡ is_some o → b ≡ false → o ≡ None
-none_of None b e f = refl
-none_of (Some x) b e f = absurd (apart (sym e ∙ f))

@@ -1,5 +1,5 @@
 -- A look-up and an edit by the step that they take at a node.
-use Rattle.std.proofs.Common.{◌≡◌, ◌≢◌, ℕ, zero, suc, ◌+◌, ◌<◌, ◌≤◌, List, [], true, false, cond, refl, arith, ap, sym, ◌∙◌, subst, inl, inr, ne_eqb, eq-eqb, add-zero, zero-add}
+use Rattle.std.proofs.Common.{◌≡◌, ◌≢◌, ℕ, zero, suc, ◌+◌, ◌<◌, ◌≤◌, ◌⊎◌, List, [], true, false, cond, refl, arith, ap, sym, ◌∙◌, subst, inl, inr, ne_eqb, eq-eqb, add-zero, zero-add}
 use Rattle.std.specs.Prelude.{Result, Ok, Err, IfOk, IsErrOf, OnOk, OnErr, IsSome, ℤ, Some, None, Option, slice_get, unwrap_or}
 use Rattle.ph_specs.specs.ZOrder.{address}
 use Rattle.ph_specs.specs.Node.{Entries, end, point, child, Entry, What, value, node, PlainNode, entries, listed, node_of}
@@ -206,17 +206,26 @@ pub found_as : {E : Type 0} (r : Result (Option ℕ) E) (x y : Option ℕ) → x
 found_as (Ok a) x y e h = h ∙ e
 found_as (Err b) x y e h = h
 
+pub answered_as : {T E : Type 0} (r : Result T E) (x y : T) → x ≡ y → IfOk r (λ a. a ≡ x) → IfOk r (λ a. a ≡ y)
+answered_as (Ok a) x y e h = h ∙ e
+answered_as (Err b) x y e h = h
+
 pub on_ok : {T E P Q : Type 0} (r : Result T E) → (P → Q) → OnOk r P → OnOk r Q
 on_ok (Ok x) f p = f p
 on_ok (Err e) f p = p
 
--- what holds of a call that succeeds holds where it has succeeded
-pub of_ok : {T E P : Type 0} {r : Result T E} {x : T} → r ≡ Ok x → OnOk r P → P
-of_ok {P = P} e p = subst (λ r. OnOk r P) e p
-
 pub on_err : {T E P Q : Type 0} (r : Result T E) → (P → Q) → OnErr r P → OnErr r Q
 on_err (Ok x) f p = p
 on_err (Err e) f p = f p
+
+-- what holds both of a call that succeeds and of one that fails
+pub either_way : {T E P : Type 0} (r : Result T E) → OnOk r P → OnErr r P → P
+either_way (Ok x) p q = p
+either_way (Err e) p q = q
+
+pub always_ok : {T E P : Type 0} (r : Result T E) → P → OnOk r P
+always_ok (Ok x) p = p
+always_ok (Err e) p = tt
 
 pub always_err : {T E P : Type 0} (r : Result T E) → P → OnErr r P
 always_err (Ok x) p = tt
@@ -230,6 +239,11 @@ no_error h = absurd cc
 pub not_none : {T : Type 0} (o : Option T) → o ≡ None → IsSome o → ⊥
 not_none None e s = cc
 not_none (Some v) e s = cc
+
+-- either is there
+pub none_or_some : {T : Type 0} (o : Option T) → (o ≡ None) ⊎ IsSome o
+none_or_some None = inl refl
+none_or_some (Some v) = inr refl
 
 -- a value is not the want of one
 pub some_none : {T A : Type 0} {x : T} → Some x ≡ None → A

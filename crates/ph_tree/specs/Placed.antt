@@ -7,17 +7,18 @@ use Rattle.ph_table.specs.declared.table.Put.TheVariants.{New, Old}
 use Rattle.ph_tree.specs.declared.error.PutError.{PutError}
 use Rattle.ph_tree.specs.declared.error.PutError.TheVariants.{Full, NoMemory}
 use Rattle.ph_tree.specs.declared.puts.Placed.{Placed}
-use Rattle.ph_tree.specs.declared.puts.Placed.TheVariants.{Joined, Replaced, Refused, Failed}
+use Rattle.ph_tree.specs.declared.puts.Placed.TheVariants.{Joined, Present, Refused, Failed}
 use Rattle.ph_tree.specs.declared.removals.Removed.{Removed}
 use Rattle.ph_tree.specs.declared.removals.Removed.TheVariants.{Nothing, Gone, Failed as Broken}
 
 abbrev pub outcome : Placed → Result Put PutError
 outcome Joined = Ok New
-outcome (Replaced old) = Ok (Old old)
+outcome (Present old) = Ok (Old old)
 outcome Refused = Err Full
 outcome Failed = Err NoMemory
 
-abbrev pub value_gone : Removed → Result (Option ℕ) AllocError
-value_gone Nothing = Ok None
-value_gone (Gone v) = Ok (Some v)
-value_gone Broken = Err alloc_error
+-- with the value that went, where the point is gone
+abbrev pub value_gone : Removed → ℕ → Result (Option ℕ) AllocError
+value_gone Nothing v = Ok None
+value_gone Gone v = Ok (Some v)
+value_gone Broken v = Err alloc_error

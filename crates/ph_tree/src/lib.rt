@@ -10,7 +10,6 @@ mod moves;
 mod puts;
 mod records;
 mod removals;
-mod spare;
 mod stats;
 mod step;
 mod tree;

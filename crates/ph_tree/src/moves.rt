@@ -1,6 +1,6 @@
 //! Moving the value at one point to another.
 
-ghost use Rattle.std.specs.Prelude.{◌≡◌, ◌+◌, ◌*◌, ◌^◌, ◌<◌, ◌≤◌, None, Some, OnOk, OnErr};
+ghost use Rattle.std.specs.Prelude.{◌≡◌, ◌+◌, ◌*◌, ◌^◌, ◌<◌, ◌≤◌, None, Some, Ok, IsSome, IfOk, OnOk, OnErr};
 ghost use Rattle.ph_specs.specs.Coordinate.{IsPoint};
 ghost use Rattle.ph_specs.specs.Lawful.{IsLawful};
 ghost use Rattle.ph_specs.specs.PutTree.{find_tree, put_tree};
@@ -8,15 +8,15 @@ ghost use Rattle.ph_specs.specs.DelTree.{del_tree};
 ghost use Rattle.ph_tree.specs.Opened.{opened_in};
 ghost use Rattle.ph_tree.specs.Rooms.{longest_in, more_words};
 
-use crate::find::Found;
+use crate::find::{Found, find_long};
 use crate::key::KeyOf;
-use crate::puts::put_in;
-use crate::removals::del_in;
-use crate::spare::Spare;
+use crate::puts::{PutOf, put_in};
+use crate::removals::{Removal, del_in};
 use ph_bits::Words;
 use ph_coord::Dims;
 use ph_node::{NoMemory, NodeOf};
 use ph_steps::Steps;
+use ph_table::Put;
 use std::alloc::Global;
 use std::sync::ledger::Ledger;
 
@@ -31,9 +31,10 @@ pub enum Moved {
     Taken,
 }
 
-// Puts the value at one point of a tree to another, new point, and then takes the first out. All memory is taken before
-// the first change: the block for the removal has room for the longest record on the way of the first point, and for what
-// the put may add to one.
+// Puts the value at one point of a tree to another, and then takes the first out, where no row is at the other. The put
+// itself sees whether one is, and only where it gets no block the point is looked up. All memory is taken before the first
+// change: the block for the removal has room for the longest record on the way of the first point, and for what the put may
+// add to one.
 pub(crate) fn move_in<P: Dims, V: Ledger, C: Ledger>(
     root: &mut Option<NodeOf<P>>,
     alloc: Global,
@@ -42,7 +43,7 @@ pub(crate) fn move_in<P: Dims, V: Ledger, C: Ledger>(
     found: Found,
     visits: &mut Steps<V>,
     changes: &mut Steps<C>,
-) -> Result<(), NoMemory>
+) -> Result<Moved, NoMemory>
     requires some { 1 ≤ P.D }
     requires few { P.D ≤ 16 }
     requires width { from.now.width ≡ to.now.width }
@@ -51,28 +52,44 @@ pub(crate) fn move_in<P: Dims, V: Ledger, C: Ledger>(
     requires place { IsPoint from.now.width P.D from.now.point }
     requires lawful { IsLawful to.now.width P.D root.old }
     requires found { find_tree from.now.width P.D root.old from.now.point ≡ Some found.value }
-    requires free { find_tree to.now.width P.D root.old to.now.point ≡ None }
     requires longest { found.longest ≡ longest_in from.now.width P.D root.old from.now.point }
     requires short { found.longest < 2 ^ 31 }
-    ensures moved { OnOk result (root.new ≡ del_tree from.now.width P.D (put_tree to.now.width P.D root.old to.now.point found.value) from.now.point) }
+    ensures taken { IsSome (find_tree to.now.width P.D root.old to.now.point) → result ≡ Ok Moved.Taken }
+    ensures done { find_tree to.now.width P.D root.old to.now.point ≡ None → IfOk result (λ a. a ≡ Moved.Done) }
+    ensures moved { find_tree to.now.width P.D root.old to.now.point ≡ None → OnOk result (root.new ≡ del_tree from.now.width P.D (put_tree to.now.width P.D root.old to.now.point found.value) from.now.point) }
+    ensures held { IsSome (find_tree to.now.width P.D root.old to.now.point) → root.new ≡ root.old }
     ensures err { OnErr result (root.new ≡ root.old) }
     ensures visits { visits.new ≤ visits.old + 2 * opened_in to.now.width root.old to.now.point + 2 * opened_in from.now.width (put_tree to.now.width P.D root.old to.now.point found.value) from.now.point }
     ensures later { visits.old ≤ visits.new }
     ensures changes { changes.new ≤ changes.old + 4 }
     ensures spared { OnErr result (changes.new ≡ changes.old) }
+    ensures idle { IsSome (find_tree to.now.width P.D root.old to.now.point) → changes.new ≡ changes.old }
     ensures kept { changes.old ≤ changes.new }
-    ensures made { OnOk result (changes.old + 1 ≤ changes.new) }
+    ensures made { find_tree to.now.width P.D root.old to.now.point ≡ None → OnOk result (changes.old + 1 ≤ changes.new) }
 {
-    let block = Words::with_room(alloc, found.longest + more_words(to.width(), P::D))?;
-    let mut spare = Spare {
+    let Ok(block) = Words::with_room(alloc, found.longest + more_words(to.width(), P::D)) else {
+        return match find_long(root, to, visits) {
+            Some(_) => Ok(Moved::Taken),
+            None => Err(NoMemory),
+        };
+    };
+    let mut removal = Removal {
         alloc,
         there: Some(block),
+        value: 0,
     };
-    match put_in(root, alloc, to, found.value, true, visits, changes) {
-        Ok(_) => match del_in(root, from, &mut spare, visits, changes) {
-            Ok(_) => Ok(()),
+    let put = PutOf {
+        key: to,
+        value: found.value,
+        room: true,
+        fresh: true,
+    };
+    match put_in(root, alloc, &put, visits, changes) {
+        Ok(Put::New) => match del_in(root, from, &mut removal, visits, changes) {
+            Ok(_) => Ok(Moved::Done),
             Err(_) => unreachable!(),
         },
+        Ok(Put::Old(_)) => Ok(Moved::Taken),
         Err(_) => Err(NoMemory),
     }
 }

@@ -1,12 +1,14 @@
 //! Putting a value at a point, below a node and in a tree.
 
-ghost use Rattle.std.specs.Prelude.{◌≡◌, ◌+◌, ◌*◌, ◌<◌, ◌≤◌, false, None, position, IsSome, IfOk, OnOk, OnErr, IsErrOf};
+ghost use Rattle.std.specs.Prelude.{◌≡◌, ◌+◌, ◌*◌, ◌<◌, ◌≤◌, true, false, None, position, IsSome, IfOk, OnOk, OnErr, IsErrOf};
 ghost use Rattle.ph_specs.specs.ZOrder.{address};
-ghost use Rattle.ph_specs.specs.Node.{entries};
+ghost use Rattle.ph_specs.specs.Node.{entries, node_of, value};
 ghost use Rattle.ph_specs.specs.Lawful.{IsLawful, IsLawfulFrom};
 ghost use Rattle.ph_specs.specs.PutTree.{find_node, find_tree, put_node, put_tree};
-ghost use Rattle.ph_specs.specs.EntryEdits.{has_address};
+ghost use Rattle.ph_specs.specs.EntryEdits.{has_address, what_at, with_what};
 ghost use Rattle.ph_node.specs.Places.{place_for};
+ghost use Rattle.ph_node.specs.Split.{IsValue};
+ghost use Rattle.ph_node.specs.Spots.{IsSpot};
 ghost use Rattle.ph_table.specs.Rows.{put_answer};
 ghost use Rattle.ph_tree.specs.Opened.{opened_below, opened_in};
 ghost use Rattle.ph_tree.specs.Placed.{outcome};
@@ -22,12 +24,15 @@ use ph_table::Put;
 use std::alloc::Global;
 use std::sync::ledger::Ledger;
 
-// What is put: a value at a point, a new point only where there is room.
+// What is put: a value at a point.
 #[derive(Drop)]
 pub(crate) struct PutOf<'t, P: Dims> {
-    key: &'t KeyOf<P>,
-    value: u64,
-    room: bool,
+    pub(crate) key: &'t KeyOf<P>,
+    pub(crate) value: u64,
+    // Whether there is room for a new point.
+    pub(crate) room: bool,
+    // Whether only a new point is put: one that is there keeps its value.
+    pub(crate) fresh: bool,
 }
 
 // What came of a put below the root. As a value with its kind it is small enough to be handed back in registers.
@@ -35,8 +40,8 @@ pub(crate) struct PutOf<'t, P: Dims> {
 pub(crate) enum Placed {
     // The point is new.
     Joined,
-    // The point had this value.
-    Replaced(u64),
+    // The point was there, and had this value.
+    Present(u64),
     // The point would be new, and there is no room.
     Refused,
     // There was no memory.
@@ -51,56 +56,57 @@ impl Placed {
     {
         match self {
             Placed::Joined => Ok(Put::New),
-            Placed::Replaced(old) => Ok(Put::Old(old)),
+            Placed::Present(old) => Ok(Put::Old(old)),
             Placed::Refused => Err(PutError::Full),
             Placed::Failed => Err(PutError::NoMemory),
         }
     }
 }
 
-// Puts a value at a point in a tree, a new point only where there is room.
+// Puts a value at a point in a tree, as far as the put allows it.
 pub(crate) fn put_in<P: Dims, V: Ledger, C: Ledger>(
     root: &mut Option<NodeOf<P>>,
     alloc: Global,
-    key: &KeyOf<P>,
-    v: u64,
-    room: bool,
+    put: &PutOf<'_, P>,
     visits: &mut Steps<V>,
     changes: &mut Steps<C>,
 ) -> Result<Put, PutError>
     requires some { 1 ≤ P.D }
     requires few { P.D ≤ 16 }
-    requires lawful { IsLawful key.now.width P.D root.old }
-    ensures answer { IfOk result (λ a. a ≡ put_answer (find_tree key.now.width P.D root.old key.now.point)) }
-    ensures put { OnOk result (root.new ≡ put_tree key.now.width P.D root.old key.now.point v) }
+    requires lawful { IsLawful put.now.key.now.width P.D root.old }
+    ensures answer { IfOk result (λ a. a ≡ put_answer (find_tree put.now.key.now.width P.D root.old put.now.key.now.point)) }
+    ensures put { put.now.fresh ≡ false → OnOk result (root.new ≡ put_tree put.now.key.now.width P.D root.old put.now.key.now.point put.now.value) }
+    ensures joined { find_tree put.now.key.now.width P.D root.old put.now.key.now.point ≡ None → OnOk result (root.new ≡ put_tree put.now.key.now.width P.D root.old put.now.key.now.point put.now.value) }
+    ensures held { put.now.fresh ≡ true → IsSome (find_tree put.now.key.now.width P.D root.old put.now.key.now.point) → root.new ≡ root.old }
     ensures err { OnErr result (root.new ≡ root.old) }
-    ensures full { IsErrOf result PutError.Full → room ≡ false }
-    ensures absent { OnErr result (find_tree key.now.width P.D root.old key.now.point ≡ None) }
-    ensures refused { find_tree key.now.width P.D root.old key.now.point ≡ None → room ≡ false → IsErrOf result PutError.Full }
-    ensures visits { visits.new ≤ visits.old + 2 * opened_in key.now.width root.old key.now.point }
+    ensures full { IsErrOf result PutError.Full → put.now.room ≡ false }
+    ensures absent { OnErr result (find_tree put.now.key.now.width P.D root.old put.now.key.now.point ≡ None) }
+    ensures refused { find_tree put.now.key.now.width P.D root.old put.now.key.now.point ≡ None → put.now.room ≡ false → IsErrOf result PutError.Full }
+    ensures visits { visits.new ≤ visits.old + 2 * opened_in put.now.key.now.width root.old put.now.key.now.point }
     ensures later { visits.old ≤ visits.new }
     ensures changes { changes.new ≤ changes.old + 2 }
     ensures spared { OnErr result (changes.new ≡ changes.old) }
     ensures kept { changes.old ≤ changes.new }
     ensures made { IfOk result (λ a. a ≡ Put.New → changes.old + 1 ≤ changes.new) }
-    ensures replaced { IsSome (find_tree key.now.width P.D root.old key.now.point) → changes.new ≡ changes.old + 1 }
+    ensures replaced { put.now.fresh ≡ false → IsSome (find_tree put.now.key.now.width P.D root.old put.now.key.now.point) → changes.new ≡ changes.old + 1 }
+    ensures idle { put.now.fresh ≡ true → IsSome (find_tree put.now.key.now.width P.D root.old put.now.key.now.point) → changes.new ≡ changes.old }
 {
+    let key = put.key;
     let top = key.width() - 1;
     match root {
-        Some(node) => {
-            let put = PutOf {
-                key,
-                value: v,
-                room,
-            };
-            put_at(node, &put, visits, changes).outcome()
-        }
+        Some(node) => put_at(node, put, visits, changes).outcome(),
         None => {
-            if !room {
+            if !put.room {
                 return Err(PutError::Full);
             }
-            let single = NodeOf::single(alloc, top, key.address(top), key.below(top), v, changes);
-            match single {
+            match NodeOf::single(
+                alloc,
+                top,
+                key.address(top),
+                key.below(top),
+                put.value,
+                changes,
+            ) {
                 Ok(node) => {
                     *root = Some(node);
                     Ok(Put::New)
@@ -111,7 +117,7 @@ pub(crate) fn put_in<P: Dims, V: Ledger, C: Ledger>(
     }
 }
 
-// Puts a value at a point in a node or below it, a new point only where there is room.
+// Puts a value at a point in a node or below it, as far as the put allows it.
 pub(crate) fn put_at<P: Dims, V: Ledger, C: Ledger>(
     cur: &mut NodeOf<P>,
     put: &PutOf<'_, P>,
@@ -121,7 +127,9 @@ pub(crate) fn put_at<P: Dims, V: Ledger, C: Ledger>(
     requires lawful { IsLawfulFrom P.D cur.old.level 0 cur.old.chain }
     requires level { cur.old.level < put.now.key.now.width }
     ensures answer { IfOk (outcome result) (λ a. a ≡ put_answer (find_node put.now.key.now.width cur.old put.now.key.now.point)) }
-    ensures put { OnOk (outcome result) (cur.new ≡ put_node put.now.key.now.width cur.old put.now.key.now.point put.now.value) }
+    ensures put { put.now.fresh ≡ false → OnOk (outcome result) (cur.new ≡ put_node put.now.key.now.width cur.old put.now.key.now.point put.now.value) }
+    ensures joined { find_node put.now.key.now.width cur.old put.now.key.now.point ≡ None → OnOk (outcome result) (cur.new ≡ put_node put.now.key.now.width cur.old put.now.key.now.point put.now.value) }
+    ensures held { put.now.fresh ≡ true → IsSome (find_node put.now.key.now.width cur.old put.now.key.now.point) → cur.new ≡ cur.old }
     ensures err { OnErr (outcome result) (cur.new ≡ cur.old) }
     ensures full { IsErrOf (outcome result) PutError.Full → put.now.room ≡ false }
     ensures absent { OnErr (outcome result) (find_node put.now.key.now.width cur.old put.now.key.now.point ≡ None) }
@@ -132,22 +140,44 @@ pub(crate) fn put_at<P: Dims, V: Ledger, C: Ledger>(
     ensures spared { OnErr (outcome result) (changes.new ≡ changes.old) }
     ensures kept { changes.old ≤ changes.new }
     ensures made { IfOk (outcome result) (λ a. a ≡ Put.New → changes.old + 1 ≤ changes.new) }
-    ensures replaced { IsSome (find_node put.now.key.now.width cur.old put.now.key.now.point) → changes.new ≡ changes.old + 1 }
+    ensures replaced { put.now.fresh ≡ false → IsSome (find_node put.now.key.now.width cur.old put.now.key.now.point) → changes.new ≡ changes.old + 1 }
+    ensures idle { put.now.fresh ≡ true → IsSome (find_node put.now.key.now.width cur.old put.now.key.now.point) → changes.new ≡ changes.old }
 {
     let node = cur.visit(visits);
     let level = node.level();
     match step(node, put.key, visits) {
         StepOf::Absent(i) => add_point(cur, i, level, put, changes),
-        StepOf::Same(spot, old) => {
-            cur.set_value(spot, put.value, changes);
-            Placed::Replaced(old)
-        }
+        StepOf::Same(spot, old) => replace_value(cur, spot, old, put, changes),
         StepOf::Below(spot, rank, _) => {
             let slot = cur.child_mut(spot, rank);
             put_at(slot.node_mut(), put, visits, changes)
         }
         StepOf::Other(spot) => split_entry(cur, spot, level, put, changes),
     }
+}
+
+// Gives a point entry of a node, which has an old value, the one that is put, unless only a new point is put. The choice has
+// a call of its own, since only then the compiler makes a loop of `put_at`.
+#[inline(never)]
+fn replace_value<P: Dims, C: Ledger>(
+    cur: &mut NodeOf<P>,
+    spot: Spot,
+    old: u64,
+    put: &PutOf<'_, P>,
+    changes: &mut Steps<C>,
+) -> Placed
+    requires spot { IsSpot (entries cur.old) spot }
+    requires point { IsValue (what_at (entries cur.old) spot.place) }
+    ensures answer { result ≡ Placed.Present old }
+    ensures put { put.now.fresh ≡ false → cur.new ≡ node_of cur.old.level (with_what (entries cur.old) spot.place (value put.now.value)) }
+    ensures held { put.now.fresh ≡ true → cur.new ≡ cur.old }
+    ensures replaced { put.now.fresh ≡ false → changes.new ≡ changes.old + 1 }
+    ensures idle { put.now.fresh ≡ true → changes.new ≡ changes.old }
+{
+    if !put.fresh {
+        cur.set_value(spot, put.value, changes);
+    }
+    Placed::Present(old)
 }
 
 // Adds a point to a node at a level that has no entry at its address, in the place of one.

@@ -7,6 +7,7 @@ ghost use Rattle.ph_specs.specs.Lawful.{IsLawful, IsLawfulFrom};
 ghost use Rattle.ph_specs.specs.PutTree.{find_node, find_tree};
 ghost use Rattle.ph_specs.specs.DelTree.{del_node, del_tree};
 ghost use Rattle.ph_specs.specs.Pack.{pack};
+ghost use Rattle.ph_bits.specs.Block.{room_of};
 ghost use Rattle.ph_node.specs.Merge.{IsPair, entries_held, merge_node};
 ghost use Rattle.ph_node.specs.Shown.{shown};
 ghost use Rattle.ph_node.specs.Split.{IsValue, body_at};
@@ -19,33 +20,65 @@ ghost use Rattle.ph_tree.specs.Step.{IsAmong};
 
 use crate::key::KeyOf;
 use crate::records::record_words;
-use crate::spare::Spare;
 use crate::step::{StepOf, step};
+use ph_bits::Words;
 use ph_coord::Dims;
 use ph_node::{NoMemory, NodeOf, NodeRefOf, Spot, WhatOf};
 use ph_steps::Steps;
+use std::alloc::Global;
 use std::sync::ledger::Ledger;
 
-// What came of a removal below the root. As a value with its kind it is small enough to be handed back in registers.
+// What a removal takes along on its way down.
+#[derive(Drop)]
+pub(crate) struct Removal {
+    // Where a block for the record that it writes is taken from, once the point is found.
+    pub(crate) alloc: Global,
+    // Or else a block that is there.
+    pub(crate) there: Option<Words>,
+    // The value that went, once the point is gone.
+    pub(crate) value: u64,
+}
+
+impl Removal {
+    // A block with room for so many words. One that is there is not taken anew.
+    fn block(&mut self, room: usize) -> Result<Words, NoMemory>
+        requires { room < 2 ^ 32 }
+        ensures room { IfOk result (λ b. room ≤ room_of b) }
+        ensures there { HasRoom self.old room → IsOk result }
+    {
+        match self.there.take() {
+            None => Words::with_room(self.alloc, room),
+            Some(words) => {
+                if words.room() < room {
+                    return Err(NoMemory);
+                }
+                Ok(words)
+            }
+        }
+    }
+}
+
+// What came of a removal below the root. The value that went stays in the removal, so that this is one number: only then
+// the compiler makes a loop of `del_at`.
 #[derive(Clone, Copy)]
 pub(crate) enum Removed {
     // The point is not there.
     Nothing,
-    // The point had this value.
-    Gone(u64),
+    // The point is gone.
+    Gone,
     // There was no memory.
     Failed,
 }
 
 impl Removed {
-    // The value that is gone, or the error.
+    // The value that is gone, if one is, or the error.
     #[inline(always)]
-    fn outcome(self) -> Result<Option<u64>, NoMemory>
-        ensures { result ≡ value_gone self }
+    fn outcome(self, value: u64) -> Result<Option<u64>, NoMemory>
+        ensures { result ≡ value_gone self value }
     {
         match self {
             Removed::Nothing => Ok(None),
-            Removed::Gone(value) => Ok(Some(value)),
+            Removed::Gone => Ok(Some(value)),
             Removed::Failed => Err(NoMemory),
         }
     }
@@ -56,7 +89,7 @@ impl Removed {
 pub(crate) fn del_in<P: Dims, V: Ledger, C: Ledger>(
     root: &mut Option<NodeOf<P>>,
     key: &KeyOf<P>,
-    spare: &mut Spare,
+    removal: &mut Removal,
     visits: &mut Steps<V>,
     changes: &mut Steps<C>,
 ) -> Result<Option<u64>, NoMemory>
@@ -65,7 +98,7 @@ pub(crate) fn del_in<P: Dims, V: Ledger, C: Ledger>(
     ensures del { OnOk result (root.new ≡ del_tree key.now.width P.D root.old key.now.point) }
     ensures err { OnErr result (root.new ≡ root.old) }
     ensures absent { find_tree key.now.width P.D root.old key.now.point ≡ None → IsOk result }
-    ensures roomy { HasRoom spare.old (spare_wanted_in key.now.width P.D root.old key.now.point) → IsOk result }
+    ensures roomy { HasRoom removal.old (spare_wanted_in key.now.width P.D root.old key.now.point) → IsOk result }
     ensures visits { visits.new ≤ visits.old + 2 * opened_in key.now.width root.old key.now.point }
     ensures later { visits.old ≤ visits.new }
     ensures changes { changes.new ≤ changes.old + 2 }
@@ -85,9 +118,9 @@ pub(crate) fn del_in<P: Dims, V: Ledger, C: Ledger>(
             Ok(Some(value))
         }
         None => {
-            let found = del_at(&mut node, key, spare, visits, changes);
+            let found = del_at(&mut node, key, removal, visits, changes);
             *root = Some(node);
-            found.outcome()
+            found.outcome(removal.value)
         }
     }
 }
@@ -96,55 +129,55 @@ pub(crate) fn del_in<P: Dims, V: Ledger, C: Ledger>(
 pub(crate) fn del_at<P: Dims, V: Ledger, C: Ledger>(
     cur: &mut NodeOf<P>,
     key: &KeyOf<P>,
-    spare: &mut Spare,
+    removal: &mut Removal,
     visits: &mut Steps<V>,
     changes: &mut Steps<C>,
 ) -> Removed
     requires lawful { IsLawfulFrom P.D cur.old.level 0 cur.old.chain }
     requires level { cur.old.level < key.now.width }
     requires left { 1 ≤ length (entries (del_node key.now.width cur.old key.now.point)) }
-    ensures answer { IfOk (value_gone result) (λ a. a ≡ find_node key.now.width cur.old key.now.point) }
-    ensures del { OnOk (value_gone result) (cur.new ≡ del_node key.now.width cur.old key.now.point) }
-    ensures err { OnErr (value_gone result) (cur.new ≡ cur.old) }
-    ensures absent { find_node key.now.width cur.old key.now.point ≡ None → IsOk (value_gone result) }
-    ensures roomy { HasRoom spare.old (spare_wanted key.now.width P.D cur.old key.now.point) → IsOk (value_gone result) }
+    ensures answer { IfOk (value_gone result removal.new.value) (λ a. a ≡ find_node key.now.width cur.old key.now.point) }
+    ensures del { OnOk (value_gone result removal.new.value) (cur.new ≡ del_node key.now.width cur.old key.now.point) }
+    ensures err { OnErr (value_gone result removal.new.value) (cur.new ≡ cur.old) }
+    ensures absent { find_node key.now.width cur.old key.now.point ≡ None → IsOk (value_gone result removal.new.value) }
+    ensures roomy { HasRoom removal.old (spare_wanted key.now.width P.D cur.old key.now.point) → IsOk (value_gone result removal.new.value) }
     ensures visits { visits.new ≤ visits.old + 2 * opened_below key.now.width cur.old.level cur.old.chain key.now.point + 1 }
     ensures later { visits.old ≤ visits.new }
     ensures changes { changes.new ≤ changes.old + 2 }
     ensures idle { find_node key.now.width cur.old key.now.point ≡ None → changes.new ≡ changes.old }
-    ensures spared { OnErr (value_gone result) (changes.new ≡ changes.old) }
+    ensures spared { OnErr (value_gone result removal.new.value) (changes.new ≡ changes.old) }
     ensures kept { changes.old ≤ changes.new }
-    ensures made { IfOk (value_gone result) (λ a. IsSome a → changes.old + 1 ≤ changes.new) }
+    ensures made { IfOk (value_gone result removal.new.value) (λ a. IsSome a → changes.old + 1 ≤ changes.new) }
 {
     let node = cur.visit(visits);
     match step(node, key, visits) {
         StepOf::Absent(_) => Removed::Nothing,
         StepOf::Same(spot, value) => {
             let words = record_words(node);
-            drop_point(cur, spot, value, words, spare, changes)
+            drop_point(cur, spot, value, words, removal, changes)
         }
         StepOf::Below(spot, rank, below) => match point_among(below, 2, key) {
             Some((own, value)) => {
                 let words = record_words(node);
-                drop_child(cur, spot, own.place, value, words, spare, changes)
+                drop_child(cur, spot, own.place, value, words, removal, changes)
             }
             None => {
                 let slot = cur.child_mut(spot, rank);
-                del_at(slot.node_mut(), key, spare, visits, changes)
+                del_at(slot.node_mut(), key, removal, visits, changes)
             }
         },
         StepOf::Other(_) => Removed::Nothing,
     }
 }
 
-// Lets a point entry of a node go, whose record has so many words, and tells its value.
+// Lets a point entry of a node go, whose record has so many words, and leaves its value in the removal.
 #[inline(never)]
 fn drop_point<P: Dims, C: Ledger>(
     cur: &mut NodeOf<P>,
     spot: Spot,
     value: u64,
     words: usize,
-    spare: &mut Spare,
+    removal: &mut Removal,
     changes: &mut Steps<C>,
 ) -> Removed
     requires spot { IsSpot (entries cur.old) spot }
@@ -152,24 +185,25 @@ fn drop_point<P: Dims, C: Ledger>(
     requires many { 2 ≤ length (entries cur.old) }
     requires words { words ≡ length (pack P.D cur.old) }
     requires limit { words < 2 ^ 31 }
-    ensures answer { IfOk (value_gone result) (λ a. a ≡ Some value) }
-    ensures del { OnOk (value_gone result) (cur.new ≡ node_of cur.old.level (without (entries cur.old) spot.place)) }
-    ensures err { OnErr (value_gone result) (cur.new ≡ cur.old) }
-    ensures roomy { HasRoom spare.old words → IsOk (value_gone result) }
+    ensures answer { IfOk (value_gone result removal.new.value) (λ a. a ≡ Some value) }
+    ensures del { OnOk (value_gone result removal.new.value) (cur.new ≡ node_of cur.old.level (without (entries cur.old) spot.place)) }
+    ensures err { OnErr (value_gone result removal.new.value) (cur.new ≡ cur.old) }
+    ensures roomy { HasRoom removal.old words → IsOk (value_gone result removal.new.value) }
     ensures changes { changes.new ≤ changes.old + 1 }
-    ensures spared { OnErr (value_gone result) (changes.new ≡ changes.old) }
+    ensures spared { OnErr (value_gone result removal.new.value) (changes.new ≡ changes.old) }
     ensures kept { changes.old ≤ changes.new }
-    ensures made { IfOk (value_gone result) (λ a. IsSome a → changes.old + 1 ≤ changes.new) }
+    ensures made { IfOk (value_gone result removal.new.value) (λ a. IsSome a → changes.old + 1 ≤ changes.new) }
 {
-    let Ok(block) = spare.block(words) else {
+    let Ok(block) = removal.block(words) else {
         return Removed::Failed;
     };
     cur.drop_entry(spot, block, changes);
-    Removed::Gone(value)
+    removal.value = value;
+    Removed::Gone
 }
 
-// Lets the child of an entry and its point entry `j` go, in a node whose record has so many words, and tells the point's
-// value.
+// Lets the child of an entry and its point entry `j` go, in a node whose record has so many words, and leaves the
+// point's value in the removal.
 #[inline(never)]
 fn drop_child<P: Dims, C: Ledger>(
     cur: &mut NodeOf<P>,
@@ -177,7 +211,7 @@ fn drop_child<P: Dims, C: Ledger>(
     j: usize,
     value: u64,
     words: usize,
-    spare: &mut Spare,
+    removal: &mut Removal,
     changes: &mut Steps<C>,
 ) -> Removed
     requires spot { IsSpot (entries cur.old) spot }
@@ -186,20 +220,21 @@ fn drop_child<P: Dims, C: Ledger>(
     requires point { IsValue (what_at (entries_held (what_at (entries cur.old) spot.place)) j) }
     requires words { words ≡ length (pack P.D cur.old) }
     requires limit { words < 2 ^ 31 }
-    ensures answer { IfOk (value_gone result) (λ a. a ≡ Some value) }
-    ensures del { OnOk (value_gone result) (cur.new ≡ merge_node cur.old spot.place j) }
-    ensures err { OnErr (value_gone result) (cur.new ≡ cur.old) }
-    ensures roomy { HasRoom spare.old (words + 1) → IsOk (value_gone result) }
+    ensures answer { IfOk (value_gone result removal.new.value) (λ a. a ≡ Some value) }
+    ensures del { OnOk (value_gone result removal.new.value) (cur.new ≡ merge_node cur.old spot.place j) }
+    ensures err { OnErr (value_gone result removal.new.value) (cur.new ≡ cur.old) }
+    ensures roomy { HasRoom removal.old (words + 1) → IsOk (value_gone result removal.new.value) }
     ensures changes { changes.new ≤ changes.old + 2 }
-    ensures spared { OnErr (value_gone result) (changes.new ≡ changes.old) }
+    ensures spared { OnErr (value_gone result removal.new.value) (changes.new ≡ changes.old) }
     ensures kept { changes.old ≤ changes.new }
-    ensures made { IfOk (value_gone result) (λ a. IsSome a → changes.old + 1 ≤ changes.new) }
+    ensures made { IfOk (value_gone result removal.new.value) (λ a. IsSome a → changes.old + 1 ≤ changes.new) }
 {
-    let Ok(block) = spare.block(words + 1) else {
+    let Ok(block) = removal.block(words + 1) else {
         return Removed::Failed;
     };
     cur.merge(spot, j, block, changes);
-    Removed::Gone(value)
+    removal.value = value;
+    Removed::Gone
 }
 
 // The entry that is a point and its value, in a visited node of so many entries. Where all of them are children, none is looked for.

@@ -16,9 +16,8 @@ use crate::error::PutError;
 use crate::find::{find_in, find_long};
 use crate::key::KeyOf;
 use crate::moves::{Moved, move_in};
-use crate::puts::put_in;
-use crate::removals::del_in;
-use crate::spare::Spare;
+use crate::puts::{PutOf, put_in};
+use crate::removals::{Removal, del_in};
 use ph_coord::{Dim, Point, Width};
 use ph_node::{NoMemory, Node};
 use ph_steps::Steps;
@@ -213,7 +212,13 @@ impl<const D: usize> PhTree<D> {
     {
         let key = KeyOf::new(self.width, p.as_slice());
         let room = self.len < self.max;
-        match put_in(&mut self.root, self.alloc, &key, v, room, visits, changes) {
+        let put = PutOf {
+            key: &key,
+            value: v,
+            room,
+            fresh: false,
+        };
+        match put_in(&mut self.root, self.alloc, &put, visits, changes) {
             Ok(Put::New) => {
                 self.len += 1;
                 Ok(Put::New)
@@ -249,11 +254,12 @@ impl<const D: usize> PhTree<D> {
         ensures made { IsSome (find self.old.table p.now) → OnOk result (changes.old + 1 ≤ changes.new) }
     {
         let key = KeyOf::new(self.width, p.as_slice());
-        let mut spare = Spare {
+        let mut removal = Removal {
             alloc: self.alloc,
             there: None,
+            value: 0,
         };
-        match del_in(&mut self.root, &key, &mut spare, visits, changes)? {
+        match del_in(&mut self.root, &key, &mut removal, visits, changes)? {
             Some(value) => {
                 self.len -= 1;
                 Ok(Some(value))
@@ -265,8 +271,8 @@ impl<const D: usize> PhTree<D> {
     /// Moves the value at one point to another, where no row is at the other. Where both are the same point, nothing
     /// changes.
     ///
-    /// May want memory as a put and a removal do, and takes it before the first change. The tree may be full, since a move
-    /// leaves the number of its rows.
+    /// A row that moves may want memory, as a put and a removal do, and takes it before the first change. Where no row moves,
+    /// the answer comes without memory too. The tree may be full, since a move leaves the number of its rows.
     pub fn relocate<V: Ledger, C: Ledger>(
         &mut self,
         from: &Point<D>,
@@ -297,9 +303,6 @@ impl<const D: usize> PhTree<D> {
         if from == to {
             return Ok(Moved::Done);
         }
-        if self.get(to, visits).is_some() {
-            return Ok(Moved::Taken);
-        }
         let new = KeyOf::new(self.width, to.as_slice());
         move_in(
             &mut self.root,
@@ -309,7 +312,6 @@ impl<const D: usize> PhTree<D> {
             found,
             visits,
             changes,
-        )?;
-        Ok(Moved::Done)
+        )
     }
 }

@@ -1,5 +1,5 @@
 use Rattle.std.proofs.Common.{◌≡◌, ℕ, ◌+◌, ◌^◌, ◌≤◌, arith, lt-ltb, sym, ap, ◌∙◌, subst, true}
-use Rattle.std.specs.Prelude.{Some}
+use Rattle.std.specs.Prelude.{Some, None}
 use Rattle.ph_specs.specs.Coordinate.{is_point}
 use Rattle.ph_specs.specs.Lawful.{IsLawful}
 use Rattle.ph_specs.specs.PutTree.{find_tree, put_tree}
@@ -7,18 +7,32 @@ use Rattle.ph_specs.proofs.laws.PutTree.{lawful-put_tree}
 use Rattle.ph_bits.specs.Block.{room_of}
 use Rattle.ph_tree.specs.Rooms.{spare_wanted_in, longest_in, more_words}
 use Rattle.ph_tree.proofs.Rooms.{room-between}
+use Rattle.ph_tree.proofs.Trees.{new_absent}
+use Rattle.ph_tree.proofs.moves.move_in.Given.{Over}
+use Rattle.ph_tree.proofs.moves.move_in.Goals.{In-Ok-New}
 use Rattle.ph_tree.proofs.moves.move_in.Goals as goal
+
+-- no row is at the new point where the put makes one
+free : (g : Over) (c : In-Ok-New g) → find_tree c.args.to.now.width g.P.Dims.D c.args.root.now c.args.to.now.point ≡ None
+free g c =
+    let put = rw c.in-Ok-New.field-0-is at c.in-Ok-New.ensures in new_absent _ put.answer
+
+-- the tree between the put and the removal
+between : (g : Over) (c : In-Ok-New g) → c.put_in.new.root ≡ put_tree c.args.to.now.width g.P.Dims.D c.args.root.now c.args.to.now.point c.args.found.value
+between g c = c.in-Ok-New.ensures.joined (free g c)
 
 pub del_in-requires : goal.del_in-requires
 del_in-requires g c =
     let k = c.args.to.now in
+    let at = (goal.at.del_in-requires g c).In-Ok-New in
     record {
       lawful = subst (λ (n : ℕ). IsLawful n g.P.Dims.D c.put_in.new.root) (sym c.requires.width)
-          (subst (IsLawful k.width g.P.Dims.D) (sym c.in-Ok.ensures.put) (lawful-put_tree k.width g.P.Dims.D c.args.root.now k.point c.args.found.value c.requires.wide c.requires.point (lt-ltb c.args.found.value (2 ^ 64) (omega arith)) c.requires.lawful));
+          (subst (IsLawful k.width g.P.Dims.D) (sym (between g at)) (lawful-put_tree k.width g.P.Dims.D c.args.root.now k.point c.args.found.value c.requires.wide c.requires.point (lt-ltb c.args.found.value (2 ^ 64) (omega arith)) c.requires.lawful));
     }
 
 pub unreachable-requires : goal.unreachable-requires
 unreachable-requires g c =
+    let at = (goal.at.unreachable-requires g c).In-Ok-New in
     let D = g.P.Dims.D in
     let k = c.args.to.now in
     let f = c.args.from.now in
@@ -28,12 +42,12 @@ unreachable-requires g c =
     let at_from = subst (λ (n : ℕ). is_point n D f.point ≡ true) c.requires.width c.requires.place in
     let there = subst (λ (n : ℕ). find_tree n D t f.point ≡ Some v) c.requires.width c.requires.found in
     let longest = sym (c.requires.longest ∙ ap (λ n. longest_in n D t f.point) c.requires.width) in
-    let between = room-between k.width D t f.point k.point v v c.requires.wide c.requires.some at_from c.requires.point c.requires.lawful there c.requires.free in
-    let enough : spare_wanted_in k.width D (put_tree k.width D t k.point v) f.point ≤ c.args.found.longest + more = subst (λ n. spare_wanted_in k.width D (put_tree k.width D t k.point v) f.point ≤ n + more) longest between in
-    let made = subst (λ u. spare_wanted_in k.width D u f.point ≤ c.args.found.longest + more) (sym c.in-Ok.ensures.put) enough in
+    let wide = room-between k.width D t f.point k.point v v c.requires.wide c.requires.some at_from c.requires.point c.requires.lawful there (free g at) in
+    let enough : spare_wanted_in k.width D (put_tree k.width D t k.point v) f.point ≤ c.args.found.longest + more = subst (λ n. spare_wanted_in k.width D (put_tree k.width D t k.point v) f.point ≤ n + more) longest wide in
+    let made = subst (λ u. spare_wanted_in k.width D u f.point ≤ c.args.found.longest + more) (sym (between g at)) enough in
     let wanted = subst (λ n. spare_wanted_in n D c.put_in.new.root f.point ≤ c.args.found.longest + more) (sym c.requires.width) made in
     let few : c.more_words.result ≡ more_words c.args.to.now.width g.P.Dims.D = c.more_words.ensures.value ∙ ap (λ n. more_words n c.D.result) c.width.ensures.value ∙ ap (more_words c.args.to.now.width) c.D.ensures in
-    let taken : room_of c.in_ok-block.block ≡ 0 + (c.args.found.longest + c.more_words.result) = ap (λ b. room_of b) c.in_ok-block.ensures in
-    let room : c.args.found.longest + more_words c.args.to.now.width g.P.Dims.D ≡ room_of c.in_ok-block.block = omega (arith, few, taken) in
+    let taken : room_of c.in-Ok.block ≡ 0 + (c.args.found.longest + c.more_words.result) = ap (λ b. room_of b) c.in-Ok.ensures in
+    let room : c.args.found.longest + more_words c.args.to.now.width g.P.Dims.D ≡ room_of c.in-Ok.block = omega (arith, few, taken) in
     let no = c.in-Err-del_in.ensures.roomy (subst (λ n. spare_wanted_in f.width D c.put_in.new.root f.point ≤ n) room wanted) in
     cc

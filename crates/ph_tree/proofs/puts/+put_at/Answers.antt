@@ -13,9 +13,9 @@ use Rattle.ph_tree.proofs.puts.+put_at.Goals as goal
 stepped : (g : Over) (t : ℕ) (c : After-step g t) → IsStepAt g.P.Dims.D c.args.put.now.key.now.width c.args.put.now.key.now.point c.args.cur.now c.step.result (c.step.new.visits - c.visit-node.new.visits)
 stepped g t c = step_at c.visit-node.ensures.shows c.requires.lawful c.step.ensures.step
 
-pub set_value-requires : goal.set_value-requires
-set_value-requires g t c =
-    let k = stepped g t (goal.at.set_value-requires g t c).After-step in
+pub replace_value-requires : goal.replace_value-requires
+replace_value-requires g t c =
+    let k = stepped g t (goal.at.replace_value-requires g t c).After-step in
     record { spot = same_spot k c.in-Same.is; point = same_value k c.in-Same.is }
 
 pub child_mut-slot-requires : goal.child_mut-slot-requires
@@ -39,11 +39,15 @@ returns-in-Absent-clause-absent g t c =
 
 pub returns-in-Same-clause-answer : goal.returns-in-Same-clause-answer
 returns-in-Same-clause-answer g t c =
-    ap put_answer (sym (same_found (stepped g t (goal.at.returns-in-Same-clause-answer g t c).After-step) c.in-Same.is))
+    rw c.replace_value.ensures.answer (ap put_answer (sym (same_found (stepped g t (goal.at.returns-in-Same-clause-answer g t c).After-step) c.in-Same.is)))
 
 pub returns-in-Same-clause-put : goal.returns-in-Same-clause-put
-returns-in-Same-clause-put g t c =
-    c.set_value.ensures.node ∙ same_put (stepped g t (goal.at.returns-in-Same-clause-put g t c).After-step) c.in-Same.is c.args.put.now.value
+returns-in-Same-clause-put g t c stale =
+    rw c.replace_value.ensures.answer (c.replace_value.ensures.put stale ∙ same_put (stepped g t (goal.at.returns-in-Same-clause-put g t c).After-step) c.in-Same.is c.args.put.now.value)
+
+pub returns-in-Same-clause-joined : goal.returns-in-Same-clause-joined
+returns-in-Same-clause-joined g t c none =
+    some_none (sym (same_found (stepped g t (goal.at.returns-in-Same-clause-joined g t c).After-step) c.in-Same.is) ∙ none)
 
 pub returns-in-Same-clause-refused : goal.returns-in-Same-clause-refused
 returns-in-Same-clause-refused g t c none full =
@@ -57,7 +61,9 @@ returns-in-Below g t c =
     let over = with_child c.args.cur.now c.in-Below.spot.place in
     record {
       answer = answered (outcome c.put_at.result) _ _ (sym below.found) put.answer;
-      put = on_ok (outcome c.put_at.result) (λ q. ap over q ∙ below.put c.args.put.now.value) put.put;
+      put = λ stale. on_ok (outcome c.put_at.result) (λ q. ap over q ∙ below.put c.args.put.now.value) (put.put stale);
+      joined = λ none. on_ok (outcome c.put_at.result) (λ q. ap over q ∙ below.put c.args.put.now.value) (put.joined (sym below.found ∙ none));
+      held = λ fresh some. ap over (put.held fresh (subst IsSome below.found some)) ∙ below.back;
       err = on_err (outcome c.put_at.result) (λ q. ap over q ∙ below.back) put.err;
       full = put.full;
       absent = on_err (outcome c.put_at.result) (λ q. below.found ∙ q) put.absent;
@@ -68,16 +74,33 @@ returns-in-Below g t c =
       spared = put.spared;
       kept = put.kept;
       made = put.made;
-      replaced = λ some. put.replaced (subst IsSome below.found some);
+      replaced = λ stale some. put.replaced stale (subst IsSome below.found some);
+      idle = λ fresh some. put.idle fresh (subst IsSome below.found some);
     }
 
 pub returns-in-Absent-clause-replaced : goal.returns-in-Absent-clause-replaced
-returns-in-Absent-clause-replaced g t c some =
+returns-in-Absent-clause-replaced g t c stale some =
     absurd (not_none _ (absent_found (stepped g t (goal.at.returns-in-Absent-clause-replaced g t c).After-step) c.in-Absent.is) some)
 
+pub returns-in-Absent-clause-held : goal.returns-in-Absent-clause-held
+returns-in-Absent-clause-held g t c fresh some =
+    absurd (not_none _ (absent_found (stepped g t (goal.at.returns-in-Absent-clause-held g t c).After-step) c.in-Absent.is) some)
+
+pub returns-in-Absent-clause-idle : goal.returns-in-Absent-clause-idle
+returns-in-Absent-clause-idle g t c fresh some =
+    absurd (not_none _ (absent_found (stepped g t (goal.at.returns-in-Absent-clause-idle g t c).After-step) c.in-Absent.is) some)
+
 pub returns-in-Other-clause-replaced : goal.returns-in-Other-clause-replaced
-returns-in-Other-clause-replaced g t c some =
+returns-in-Other-clause-replaced g t c stale some =
     absurd (not_none _ (other_found (stepped g t (goal.at.returns-in-Other-clause-replaced g t c).After-step) c.in-Other.is) some)
+
+pub returns-in-Other-clause-held : goal.returns-in-Other-clause-held
+returns-in-Other-clause-held g t c fresh some =
+    absurd (not_none _ (other_found (stepped g t (goal.at.returns-in-Other-clause-held g t c).After-step) c.in-Other.is) some)
+
+pub returns-in-Other-clause-idle : goal.returns-in-Other-clause-idle
+returns-in-Other-clause-idle g t c fresh some =
+    absurd (not_none _ (other_found (stepped g t (goal.at.returns-in-Other-clause-idle g t c).After-step) c.in-Other.is) some)
 
 pub returns-in-Other-clause-answer : goal.returns-in-Other-clause-answer
 returns-in-Other-clause-answer g t c =

@@ -19,7 +19,7 @@ returns-in-Some-point_among-clause-del g c =
 
 pub returns-in-None-clause-del : goal.returns-in-None-clause-del
 returns-in-None-clause-del g c =
-    rw c.outcome.ensures (on_ok (value_gone c.del_at-found.result) (root_kept c.args.key.now.width g.P.Dims.D c.args.key.now.point c.in-Some.node _ c.visit.ensures.shows _ c.in-Some.ensures.value c.requires.lawful c.in-None.ensures _) c.del_at-found.ensures.del)
+    rw c.outcome.ensures (on_ok (value_gone c.del_at-found.result c.del_at-found.new.removal.value) (root_kept c.args.key.now.width g.P.Dims.D c.args.key.now.point c.in-Some.node _ c.visit.ensures.shows _ c.in-Some.ensures.value c.requires.lawful c.in-None.ensures _) c.del_at-found.ensures.del)
 
 pub returns-in-Some-point_among-clause-idle : goal.returns-in-Some-point_among-clause-idle
 returns-in-Some-point_among-clause-idle g c none =

@@ -18,20 +18,20 @@ pub invariant_of-self : goal.invariant_of-self
 invariant_of-self g c =
     let k = keyed g (goal.at.invariant_of-self g c).After-put_in in
     let put = rw c.in-Ok-New.field-0-is at c.in-Ok-New.ensures in
-    new_tree k (omega arith) put.put put.answer (λ none full. no_error (put.refused none full))
+    new_tree k (omega arith) (put.put refl) put.answer (λ none full. no_error (put.refused none full))
 
 pub invariant_of-self-in-Ok-Old : goal.invariant_of-self-in-Ok-Old
 invariant_of-self-in-Ok-Old g c =
     let k = keyed g (goal.at.invariant_of-self-in-Ok-Old g c).After-put_in in
     let put = rw c.in-Ok-Old.field-0-is at c.in-Ok-Old.ensures in
-    old_tree k (omega arith) put.put c.in-Ok-Old.old put.answer
+    old_tree k (omega arith) (put.put refl) c.in-Ok-Old.old put.answer
 
 pub returns-in-Ok-New : goal.returns-in-Ok-New
 returns-in-Ok-New g c =
     let k = keyed g (goal.at.returns-in-Ok-New g c).After-put_in in
     let put = rw c.in-Ok-New.field-0-is at c.in-Ok-New.ensures in
     record {
-      put = put_table k (omega arith) put.put;
+      put = put_table k (omega arith) (put.put refl);
       answer = put.answer ∙ ap put_answer (found_is k);
       err = tt;
       full = full_when k no_error put.full put.refused;
@@ -43,7 +43,7 @@ returns-in-Ok-New g c =
       spared = tt;
       kept = put.kept;
       made = put.made;
-      replaced = λ some. put.replaced (subst IsSome (sym (found_is k)) some);
+      replaced = λ some. put.replaced refl (subst IsSome (sym (found_is k)) some);
     }
 
 pub returns-in-Ok-Old : goal.returns-in-Ok-Old
@@ -51,7 +51,7 @@ returns-in-Ok-Old g c =
     let k = keyed g (goal.at.returns-in-Ok-Old g c).After-put_in in
     let put = rw c.in-Ok-Old.field-0-is at c.in-Ok-Old.ensures in
     record {
-      put = put_table k (omega arith) put.put;
+      put = put_table k (omega arith) (put.put refl);
       answer = put.answer ∙ ap put_answer (found_is k);
       err = tt;
       full = full_when k no_error put.full put.refused;
@@ -63,7 +63,7 @@ returns-in-Ok-Old g c =
       spared = tt;
       kept = put.kept;
       made = put.made;
-      replaced = λ some. put.replaced (subst IsSome (sym (found_is k)) some);
+      replaced = λ some. put.replaced refl (subst IsSome (sym (found_is k)) some);
     }
 
 pub returns-in-Err : goal.returns-in-Err
