@@ -9,11 +9,14 @@ ghost use Rattle.ph_specs.specs.Record.{first_in};
 ghost use Rattle.ph_bits.specs.Block.{room_of, IsSamePlaces};
 ghost use Rattle.ph_bits.specs.Edits.{edited_as};
 ghost use Rattle.ph_bits.specs.Written.{IsPen, digits_by, number_by};
+ghost use Rattle.ph_linear.specs.Edited.{IsColumn, IsOutline, with_table};
 ghost use Rattle.ph_cube.specs.Edited.{IsEditAt, entries_below};
 
 use crate::parts::children_before;
 use ph_bits::{Edit, Packed, Pen, Words};
-use ph_linear::{Column, children_in, count_in, first_of, level_in, put_edited_values, take_out};
+use ph_linear::{
+    Column, Outline, children_in, count_in, drop_value, first_of, level_in, put_edited_values,
+};
 
 /// Writes the record of the entries of an old record with one edit into the room of a block, whatever the block held before.
 /// The edit is of what stands at an address.
@@ -52,21 +55,45 @@ fn edit_columns(pen: &mut Pen, words: &mut Words, dims: usize, old: &[u64], edit
     ensures number { number_by words.new.words pen.new ≡ number_after (number_by words.old.words pen.old) (cube_table dims (first_in old.now).level (edited_as true dims old.now edit.now)) }
     ensures places { IsSamePlaces words.old words.new }
 {
-    let count = addresses(dims);
+    let kinds = kinds_of(old, dims);
+    let bodies = bodies_of(old, dims);
     let level = level_in(old);
-    let kinds = Column {
-        at: 64,
-        width: 2,
-        count,
-    };
-    let bodies = Column {
-        at: 64 + count * 2,
-        width: dims as u64 * level as u64,
-        count,
-    };
     let there = at_address(edit, addr);
     kinds.edit_fields(pen, words, old, &there, new_kind(edit));
     bodies.edit_rows(pen, words, old, &there, level, dims);
+}
+
+// The column of the kinds of a record.
+#[inline(always)]
+fn kinds_of(old: &[u64], dims: usize) -> Column
+    requires { IsRecord true dims old.now }
+    ensures column { IsColumn old.now result }
+    ensures at { result.at ≡ 64 }
+    ensures width { result.width ≡ 2 }
+    ensures count { result.count ≡ 2 ^ dims }
+{
+    Column {
+        at: 64,
+        width: 2,
+        count: addresses(dims),
+    }
+}
+
+// The column of the bodies.
+#[inline(always)]
+fn bodies_of(old: &[u64], dims: usize) -> Column
+    requires { IsRecord true dims old.now }
+    ensures column { IsColumn old.now result }
+    ensures at { result.at ≡ 64 + 2 ^ dims * 2 }
+    ensures width { result.width ≡ dims * (first_in old.now).level }
+    ensures count { result.count ≡ 2 ^ dims }
+{
+    let count = addresses(dims);
+    Column {
+        at: 64 + count * 2,
+        width: dims as u64 * level_in(old) as u64,
+        count,
+    }
 }
 
 // How many addresses there are.
@@ -126,7 +153,7 @@ fn edit_values(words: &mut Words, dims: usize, old: &[u64], edit: &Edit, addr: u
 {
     let front = points_before(old, dims, edit.place, addr as u64);
     let behind = points_before(old, dims, edit.place + edit.less, addr as u64 + 1);
-    put_edited_values(words, dims, values_of(old, dims), front, behind, edit);
+    put_edited_values(words, values_of(old, dims), front, behind, edit);
 }
 
 // The values of a record.
@@ -134,8 +161,7 @@ fn values_of(old: &[u64], dims: usize) -> &[u64]
     requires { IsRecord true dims old.now }
     ensures { result.now ≡ values_as true dims old.now }
 {
-    let points = (count_in(old) - children_in(old)) as usize;
-    &old[old.len() - points..]
+    &old[values_place(old, dims)..]
 }
 
 // How many of the first `i` entries, which are those in front of an address, are points.
@@ -161,16 +187,25 @@ pub fn put_child(words: &mut Words, dims: usize, edit: &Edit, addr: u32)
     ensures places { IsSamePlaces words.old words.new }
 {
     let old = words.as_slice();
-    let level = level_in(old);
-    let count = count_in(old) as usize;
-    let begun = values_place(old, dims);
-    let front = points_before(old, dims, edit.place, addr as u64);
-    let until = points_before(old, dims, edit.place + edit.less, addr as u64 + 1);
+    let outline = outline_of(old, dims, edit, addr);
     put_columns(words.as_mut_slice(), dims, edit, addr);
-    take_out(words, begun + front, begun + until);
-    let points = words.len() - begun;
-    let first = first_of(level, 1, count, (count - points) as u64);
-    words.set(0, first);
+    drop_value(words, 1, outline);
+}
+
+// What the end of the change has to know of the record before it.
+#[inline(always)]
+fn outline_of(old: &[u64], dims: usize, edit: &Edit, addr: u32) -> Outline
+    requires record { IsRecord true dims old.now }
+    requires edit { IsEditAt dims old.now edit.now addr }
+    ensures { IsOutline true dims old.now edit.now result }
+{
+    Outline {
+        level: level_in(old),
+        count: count_in(old) as usize,
+        values: values_place(old, dims),
+        front: points_before(old, dims, edit.place, addr as u64),
+        until: points_before(old, dims, edit.place + edit.less, addr as u64 + 1),
+    }
 }
 
 // The kind and the body.
@@ -180,20 +215,11 @@ fn put_columns(words: &mut [u64], dims: usize, edit: &Edit, addr: u32)
     requires more { edit.now.more ≡ 1 }
     requires child { edit.now.entry.child ≡ true }
     requires entries { AreRising dims (first_in words.old).level 0 (edited_as true dims words.old edit.now) }
-    ensures { words.new ≡ slice_index_or words.old 0 0 ∷ words_of (cube_table dims (first_in words.old).level (edited_as true dims words.old edit.now)) ++ values_as true dims words.old }
+    ensures { words.new ≡ with_table true dims words.old edit.now }
 {
-    let count = addresses(dims);
+    let kinds = kinds_of(words, dims);
+    let bodies = bodies_of(words, dims);
     let level = level_in(words);
-    let kinds = Column {
-        at: 64,
-        width: 2,
-        count,
-    };
-    let bodies = Column {
-        at: 64 + count * 2,
-        width: dims as u64 * level as u64,
-        count,
-    };
     let there = at_address(edit, addr);
     kinds.put_field(words, &there, 2);
     bodies.put_row(words, &there, level, dims);

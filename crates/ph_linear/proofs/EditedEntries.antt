@@ -1,5 +1,6 @@
 -- The entries of a record with one edit: how many they are, and their values.
-use Rattle.std.proofs.Common.{◌≡◌, ℕ, ◌+◌, ◌-◌, ◌^◌, ◌≤◌, ◌<◌, ◌∙◌, ap, arith, List, ◌++◌, length, take, drop, replicate, Bool}
+use Rattle.std.proofs.Common.{◌≡◌, ℕ, zero, suc, ◌+◌, ◌-◌, ◌^◌, ◌≤◌, ◌<◌, refl, sym, ◌∙◌, ap, arith, List, [], ◌∷◌, ◌++◌, length, take, drop, replicate, Bool, true, false}
+use Rattle.std.specs.Prelude.{Some, None, if◌then◌else◌}
 use Rattle.std.specs.List.{AllByRecursion as Each}
 use Rattle.std.proofs.lemmas.List.{length-append, length-drop, length-replicate, length-take-le}
 use Rattle.ph_specs.specs.Layout.{IsRecord, entries_as, values_as}
@@ -9,8 +10,16 @@ use Rattle.ph_specs.specs.Pack.{values}
 use Rattle.ph_specs.specs.Record.{first_in}
 use Rattle.ph_bits.specs.Edits.{edited_as, flats, new_flat, count_edited}
 use Rattle.ph_bits.specs.declared.edits.Edit.{Edit}
+use Rattle.ph_linear.specs.Edited.{new_values}
 use Rattle.ph_linear.proofs.EditedLists.{edited-parts, values-append, values-front, values-back, points-low}
 use Rattle.ph_linear.proofs.OldTables.{IsTable, table-of}
+
+-- the values of so many copies of a new entry
+values-new : (child : Bool) (dims addr : ℕ) (body : List ℕ) (v more : ℕ) → values (replicate more (record { addr = addr; body = take dims body; value = if child then None else Some v })) ≡ (if child then [] else replicate more v)
+values-new true dims addr body v zero = refl
+values-new true dims addr body v (suc more) = values-new true dims addr body v more
+values-new false dims addr body v zero = refl
+values-new false dims addr body v (suc more) = ap {B = List ℕ} (λ t. v ∷ t) (values-new false dims addr body v more)
 
 module _ (cube : Bool) (dims : ℕ) (words : List ℕ) (e : Edit) (r : IsRecord cube dims words) (h : Each (λ x. x < 2 ^ 64) words) (l : e.place + e.less ≤ (first_in words).entries) where
   abbrev n : ℕ
@@ -59,11 +68,31 @@ module _ (cube : Bool) (dims : ℕ) (words : List ℕ) (e : Edit) (r : IsRecord 
 
   -- ---- the values
 
-  pub values-edited : values (edited_as cube dims words e) ≡ take (points_in (take e.place (entries_as cube dims words))) (values_as cube dims words) ++ (values (replicate e.more (new_flat dims e.entry e.value)) ++ drop (points_in (take (e.place + e.less) (entries_as cube dims words))) (values_as cube dims words))
+  pub values-edited : values (edited_as cube dims words e) ≡ take (points_in (take e.place (entries_as cube dims words))) (values_as cube dims words) ++ (new_values e ++ drop (points_in (take (e.place + e.less) (entries_as cube dims words))) (values_as cube dims words))
   values-edited =
       ap values parts-new ∙ values-append front (new ++ back) ∙ ap (λ t. values front ++ t) (values-append new back)
-      ∙ ap (λ t. t ++ (values new ++ values back)) (values-front (entries_as cube dims words) (values_as cube dims words) e.place table-old.points)
-      ∙ ap (λ t. take (points_in (take e.place (entries_as cube dims words))) (values_as cube dims words) ++ (values new ++ t)) (values-back (entries_as cube dims words) (values_as cube dims words) (e.place + e.less) table-old.points)
+      ∙ ap (λ t. values front ++ (t ++ values back)) (values-new e.entry.child dims e.entry.addr e.entry.body e.value e.more)
+      ∙ ap (λ t. t ++ (new_values e ++ values back)) (values-front (entries_as cube dims words) (values_as cube dims words) e.place table-old.points)
+      ∙ ap (λ t. take (points_in (take e.place (entries_as cube dims words))) (values_as cube dims words) ++ (new_values e ++ t)) (values-back (entries_as cube dims words) (values_as cube dims words) (e.place + e.less) table-old.points)
 
   pub points-within : (i : ℕ) → points_in (take i (entries_as cube dims words)) ≤ length (values_as cube dims words)
   points-within i = omega (arith, points-low (entries_as cube dims words) i, table-old.points)
+
+  -- the same with words and numbers that were worked out
+  pub values-put : (all : List ℕ) (front behind : ℕ) → all ≡ values_as cube dims words → front ≡ points_in (take e.place (entries_as cube dims words)) → behind ≡ points_in (take (e.place + e.less) (entries_as cube dims words))
+      → take front all ++ (new_values e ++ drop behind all) ≡ values (edited_as cube dims words e)
+  values-put all front behind p q k =
+      ap (λ t. take front t ++ (new_values e ++ drop behind t)) p
+      ∙ ap (λ t. take t (values_as cube dims words) ++ (new_values e ++ drop behind (values_as cube dims words))) q
+      ∙ ap (λ t. take (points_in (take e.place (entries_as cube dims words))) (values_as cube dims words) ++ (new_values e ++ drop t (values_as cube dims words))) k
+      ∙ sym values-edited
+
+  pub values-long : (all : List ℕ) (front behind : ℕ) → all ≡ values_as cube dims words → front ≡ points_in (take e.place (entries_as cube dims words)) → behind ≡ points_in (take (e.place + e.less) (entries_as cube dims words))
+      → length (values (edited_as cube dims words e)) ≡ front + length (new_values e) + (length all - behind)
+  values-long all front behind p q k =
+      ap length (sym (values-put all front behind p q k)) ∙ length-append (take front all) (new_values e ++ drop behind all)
+      ∙ ap (λ t. length (take front all) + t) (length-append (new_values e) (drop behind all))
+      ∙ sum _ _ _ _ (length (new_values e)) (length-take-le front all (omega (arith, q, ap length p, points-within e.place))) (length-drop behind all)
+    where
+      sum : (a b c d x : ℕ) → a ≡ b → c ≡ d → a + (x + c) ≡ b + x + d
+      sum a b c d x e f = omega (arith, e, f)

@@ -87,9 +87,9 @@ module _ (dims : ℕ) (words : List ℕ) (e : Edit) (r : IsRecord false dims wor
       ∙ ap (number_after s) (sym (ap g (parts-new false dims words e r h l) ∙ q front (new ++ back) ∙ ap (λ u. g front ++ u) (q new back)))
 
   pub kinds-edited : (c : Column) (s : ℕ) → c.at ≡ 64 → c.width ≡ 1 → c.count ≡ (first_in words).entries
-      → number_after s (column_edited words c e (replicate e.more (field 1 (if e.entry.child then 1 else 0)))) ≡ number_after s (kind_fields (edited_as false dims words e))
+      → number_after s (column_edited words c e (replicate e.more (field c.width (if e.entry.child then 1 else 0)))) ≡ number_after s (kind_fields (edited_as false dims words e))
   kinds-edited c s a cw cn =
-      ap (λ t. number_after s (column_edited words c e t)) (kinds-new e.more dims e.entry e.value)
+      ap (λ t. number_after s (column_edited words c e t)) (ap (λ t. replicate e.more (field t (if e.entry.child then 1 else 0))) cw ∙ kinds-new e.more dims e.entry e.value)
       ∙ column kind_fields 1 [] (address_fields dims es ++ bodies b (body_list es)) c s (map-append (λ (t : Flat). field 1 (child_mark t.value))) (digits-kinds front) (digits-kinds gone) (digits-kinds back)
       (append_assoc (kind_fields es) (address_fields dims es) (bodies b (body_list es))) (omega (arith, a)) cw cn
 

@@ -112,7 +112,7 @@ module _ (dims : ℕ) (words : List ℕ) (e : Edit) (r : IsRecord false dims wor
       → kinds.at ≡ 64 → kinds.width ≡ 1 → kinds.count ≡ (first_in words).entries
       → rows.at ≡ 64 + (first_in words).entries + (first_in words).entries * dims → rows.width ≡ dims * (first_in words).level → rows.count ≡ (first_in words).entries
       → length mid ≡ length words → length new ≡ length words → Each (λ x. x < 2 ^ 64) new
-      → IsColumnOver words kinds e (replicate e.more (field 1 (if e.entry.child then 1 else 0))) mid
+      → IsColumnOver words kinds e (replicate e.more (field kinds.width (if e.entry.child then 1 else 0))) mid
       → IsColumnOver mid rows e (bodies (first_in words).level (replicate e.more (take dims e.entry.body))) new
       → new ≡ slice_index_or words 0 0 ∷ words_of (linear_table dims (first_in words).level (edited_as false dims words e)) ++ values_as false dims words
   put-table mid new kinds rows up less more at ka kw kn ra rv rn lm ln nf p q =

@@ -1,8 +1,14 @@
--- The fields of a column of a record with one edit, by digits of the old words.
-use Rattle.std.specs.Prelude.{◌≡◌, ℕ, ◌+◌, ◌-◌, ◌*◌, ◌^◌, ◌≤◌, List, [], ◌∷◌, ◌++◌, length}
-use Rattle.ph_specs.specs.Digits.{Field, field, number_of, digits_at}
+-- The parts of a record with one edit, by those of the old one.
+use Rattle.std.specs.Prelude.{◌≡◌, ℕ, ◌+◌, ◌-◌, ◌*◌, ◌^◌, ◌≤◌, Bool, List, [], ◌∷◌, ◌++◌, length, take, drop, replicate, slice_index_or, slice_set, if◌then◌else◌}
+use Rattle.ph_specs.specs.Digits.{Field, field, number_of, digits_at, words_for, words_of}
+use Rattle.ph_specs.specs.Layout.{digits_as, entries_as, values_as}
+use Rattle.ph_specs.specs.NodeSize.{points_in}
+use Rattle.ph_specs.specs.Pack.{first_word, table}
+use Rattle.ph_specs.specs.Record.{first_in}
+use Rattle.ph_bits.specs.Edits.{edited_as}
 use Rattle.ph_bits.specs.declared.edits.Edit.{Edit}
 use Rattle.ph_linear.specs.declared.copies.Column.{Column}
+use Rattle.ph_linear.specs.declared.outlines.Outline.{Outline}
 
 -- a column within words, whose digits have places that do not overflow
 pub record IsColumn (words : List ℕ) (c : Column) : Type 0 where
@@ -26,3 +32,43 @@ pub record IsOver (old : List ℕ) (at width v : ℕ) (new : List ℕ) : Type 0 
 -- new words have the column with the edit, and otherwise the digits of the old ones
 abbrev pub IsColumnOver : List ℕ → Column → Edit → List Field → List ℕ → Type 0
 IsColumnOver old c e fs new = IsOver old c.at (c.count * c.width) (number_of (column_edited old c e fs)) new
+
+-- ---- the values
+
+-- the value of the new entry, where there is one and it is a point
+abbrev pub new_values : Edit → List ℕ
+new_values e = if e.entry.child then [] else replicate e.more e.value
+
+-- ---- where the record lies
+
+-- what is known of a record before an entry of it becomes a child
+pub record IsOutline (cube : Bool) (dims : ℕ) (words : List ℕ) (e : Edit) (o : Outline) : Type 0 where
+  pub level : o.level ≡ (first_in words).level
+  pub count : o.count ≡ (first_in words).entries
+  pub values : o.values ≡ 1 + words_for (digits_as cube dims (first_in words))
+  pub front : o.front ≡ points_in (take e.place (entries_as cube dims words))
+  pub until : o.until ≡ points_in (take (e.place + e.less) (entries_as cube dims words))
+
+-- its words with the table of the edit, and still with the first word and the values of the old entries
+abbrev pub with_table : Bool → ℕ → List ℕ → Edit → List ℕ
+with_table cube dims words e =
+    slice_index_or words 0 0 ∷ words_of (table cube dims (first_in words).level (edited_as cube dims words e)) ++ values_as cube dims words
+
+-- words without which the value between front and until, if there is one, leaves no more values than entries
+pub record IsOutlined (o : Outline) (words : List ℕ) : Type 0 where
+  pub order : o.front ≤ o.until
+  pub one : o.until ≤ o.front + 1
+  pub first : 1 ≤ o.values
+  pub within : o.values + o.until ≤ length words
+  pub points : length words - o.values - (o.until - o.front) ≤ o.count
+  pub few : o.count ≤ 2 ^ 16
+  pub low : o.level ≤ 61
+
+-- what is left of them then,
+abbrev pub values_left : Outline → List ℕ → List ℕ
+values_left o words = take (o.values + o.front) words ++ drop (o.values + o.until) words
+
+-- and the same with the first word that counts the values
+abbrev pub value_dropped : ℕ → Outline → List ℕ → List ℕ
+value_dropped layout o words =
+    slice_set (values_left o words) 0 (first_word o.level layout o.count (o.count - (length words - o.values - (o.until - o.front))))

@@ -7,11 +7,13 @@ ghost use Rattle.ph_specs.specs.NodeSize.{points_in};
 ghost use Rattle.ph_specs.specs.Pack.{values, linear_digits, linear_table, record_in};
 ghost use Rattle.ph_specs.specs.Record.{first_in};
 ghost use Rattle.ph_bits.specs.Block.{room_of, IsSamePlaces};
-ghost use Rattle.ph_bits.specs.Edits.{edited_as, new_flat};
+ghost use Rattle.ph_bits.specs.Edits.{edited_as};
 ghost use Rattle.ph_bits.specs.Written.{IsPen, digits_by, number_by};
+ghost use Rattle.ph_linear.specs.Edited.{IsColumn, IsOutline, new_values, with_table};
 
 use crate::copies::Column;
 use crate::heads::{children_in, count_in, first_of, level_in};
+use crate::outlines::{Outline, drop_value};
 use ph_bits::{Edit, Pen, Words, ones_before};
 
 /// Writes the record of the entries of an old record with one edit into the room of a block, whatever the block held before.
@@ -52,26 +54,63 @@ fn edit_columns(pen: &mut Pen, words: &mut Words, dims: usize, old: &[u64], edit
     ensures number { number_by words.new.words pen.new ≡ number_after (number_by words.old.words pen.old) (linear_table dims (first_in old.now).level (edited_as false dims old.now edit.now)) }
     ensures places { IsSamePlaces words.old words.new }
 {
-    let count = count_in(old);
+    let kinds = kinds_of(old, dims);
+    let addresses = addresses_of(old, dims);
+    let bodies = bodies_of(old, dims);
     let level = level_in(old);
-    let kinds = Column {
-        at: 64,
-        width: 1,
-        count,
-    };
-    let addresses = Column {
-        at: 64 + count,
-        width: dims as u64,
-        count,
-    };
-    let bodies = Column {
-        at: 64 + count + count * dims as u64,
-        width: dims as u64 * level as u64,
-        count,
-    };
     kinds.edit_fields(pen, words, old, edit, edit.entry.child as u64);
     addresses.edit_fields(pen, words, old, edit, edit.entry.addr as u64);
     bodies.edit_rows(pen, words, old, edit, level, dims);
+}
+
+// The column of the kinds of a record.
+#[inline(always)]
+fn kinds_of(old: &[u64], dims: usize) -> Column
+    requires { IsRecord false dims old.now }
+    ensures column { IsColumn old.now result }
+    ensures at { result.at ≡ 64 }
+    ensures width { result.width ≡ 1 }
+    ensures count { result.count ≡ (first_in old.now).entries }
+{
+    Column {
+        at: 64,
+        width: 1,
+        count: count_in(old),
+    }
+}
+
+// The column of the addresses.
+#[inline(always)]
+fn addresses_of(old: &[u64], dims: usize) -> Column
+    requires { IsRecord false dims old.now }
+    ensures column { IsColumn old.now result }
+    ensures at { result.at ≡ 64 + (first_in old.now).entries }
+    ensures width { result.width ≡ dims }
+    ensures count { result.count ≡ (first_in old.now).entries }
+{
+    let count = count_in(old);
+    Column {
+        at: 64 + count,
+        width: dims as u64,
+        count,
+    }
+}
+
+// The column of the bodies.
+#[inline(always)]
+fn bodies_of(old: &[u64], dims: usize) -> Column
+    requires { IsRecord false dims old.now }
+    ensures column { IsColumn old.now result }
+    ensures at { result.at ≡ 64 + (first_in old.now).entries + (first_in old.now).entries * dims }
+    ensures width { result.width ≡ dims * (first_in old.now).level }
+    ensures count { result.count ≡ (first_in old.now).entries }
+{
+    let count = count_in(old);
+    Column {
+        at: 64 + count + count * dims as u64,
+        width: dims as u64 * level_in(old) as u64,
+        count,
+    }
 }
 
 // The values.
@@ -85,7 +124,7 @@ fn edit_values(words: &mut Words, dims: usize, old: &[u64], edit: &Edit)
 {
     let front = points_before(old, dims, edit.place);
     let behind = points_before(old, dims, edit.place + edit.less);
-    put_edited_values(words, dims, values_of(old, dims), front, behind, edit);
+    put_edited_values(words, values_of(old, dims), front, behind, edit);
 }
 
 // The values of a record.
@@ -93,37 +132,29 @@ fn values_of(old: &[u64], dims: usize) -> &[u64]
     requires { IsRecord false dims old.now }
     ensures { result.now ≡ values_as false dims old.now }
 {
-    let points = (count_in(old) - children_in(old)) as usize;
-    &old[old.len() - points..]
+    &old[values_place(old, dims)..]
 }
 
 /// Writes the values of a record with one edit behind the words of a block: those up to `front`, the new one, where there is
 /// one, and those from `behind` on. It takes no memory.
-pub fn put_edited_values(
-    words: &mut Words,
-    dims: usize,
-    all: &[u64],
-    front: usize,
-    behind: usize,
-    edit: &Edit,
-)
+pub fn put_edited_values(words: &mut Words, all: &[u64], front: usize, behind: usize, edit: &Edit)
     requires front { front ≤ length all.now }
     requires behind { behind ≤ length all.now }
     requires few { edit.now.more ≤ 1 }
-    requires room { length words.old.words + (front + length (values (replicate edit.now.more (new_flat dims edit.now.entry edit.now.value))) + (length all.now - behind)) ≤ room_of words.old }
-    ensures words { words.new.words ≡ words.old.words ++ (take front all.now ++ (values (replicate edit.now.more (new_flat dims edit.now.entry edit.now.value)) ++ drop behind all.now)) }
+    requires room { length words.old.words + (front + length (new_values edit.now) + (length all.now - behind)) ≤ room_of words.old }
+    ensures words { words.new.words ≡ words.old.words ++ (take front all.now ++ (new_values edit.now ++ drop behind all.now)) }
     ensures places { IsSamePlaces words.old words.new }
 {
     words.extend(&all[..front]);
-    push_new(words, edit, dims);
+    push_new(words, edit);
     words.extend(&all[behind..]);
 }
 
 // Writes the value of the new entry, where there is one and it is a point.
-fn push_new(words: &mut Words, edit: &Edit, dims: usize)
+fn push_new(words: &mut Words, edit: &Edit)
     requires few { edit.now.more ≤ 1 }
-    requires room { length words.old.words + length (values (replicate edit.now.more (new_flat dims edit.now.entry edit.now.value))) ≤ room_of words.old }
-    ensures words { words.new.words ≡ words.old.words ++ values (replicate edit.now.more (new_flat dims edit.now.entry edit.now.value)) }
+    requires room { length words.old.words + length (new_values edit.now) ≤ room_of words.old }
+    ensures words { words.new.words ≡ words.old.words ++ new_values edit.now }
     ensures places { IsSamePlaces words.old words.new }
 {
     if edit.more > 0 {
@@ -156,16 +187,25 @@ pub fn put_child(words: &mut Words, dims: usize, edit: &Edit)
     ensures places { IsSamePlaces words.old words.new }
 {
     let old = words.as_slice();
-    let level = level_in(old);
-    let count = count_in(old) as usize;
-    let begun = values_place(old, dims);
-    let front = points_before(old, dims, edit.place);
-    let until = points_before(old, dims, edit.place + edit.less);
+    let outline = outline_of(old, dims, edit);
     put_columns(words.as_mut_slice(), dims, edit);
-    take_out(words, begun + front, begun + until);
-    let points = words.len() - begun;
-    let first = first_of(level, 0, count, (count - points) as u64);
-    words.set(0, first);
+    drop_value(words, 0, outline);
+}
+
+// What the end of the change has to know of the record before it.
+#[inline(always)]
+fn outline_of(old: &[u64], dims: usize, edit: &Edit) -> Outline
+    requires record { IsRecord false dims old.now }
+    requires within { edit.now.place + edit.now.less ≤ (first_in old.now).entries }
+    ensures { IsOutline false dims old.now edit.now result }
+{
+    Outline {
+        level: level_in(old),
+        count: count_in(old) as usize,
+        values: values_place(old, dims),
+        front: points_before(old, dims, edit.place),
+        until: points_before(old, dims, edit.place + edit.less),
+    }
 }
 
 // The kind and the body.
@@ -177,20 +217,11 @@ fn put_columns(words: &mut [u64], dims: usize, edit: &Edit)
     requires child { edit.now.entry.child ≡ true }
     requires address { slice_get (map read_address (entries_as false dims words.old)) edit.now.place ≡ Some edit.now.entry.addr }
     requires entries { AreRising dims (first_in words.old).level 0 (edited_as false dims words.old edit.now) }
-    ensures { words.new ≡ slice_index_or words.old 0 0 ∷ words_of (linear_table dims (first_in words.old).level (edited_as false dims words.old edit.now)) ++ values_as false dims words.old }
+    ensures { words.new ≡ with_table false dims words.old edit.now }
 {
-    let count = count_in(words);
+    let kinds = kinds_of(words, dims);
+    let bodies = bodies_of(words, dims);
     let level = level_in(words);
-    let kinds = Column {
-        at: 64,
-        width: 1,
-        count,
-    };
-    let bodies = Column {
-        at: 64 + count + count * dims as u64,
-        width: dims as u64 * level as u64,
-        count,
-    };
     kinds.put_field(words, edit, 1);
     bodies.put_row(words, edit, level, dims);
 }
@@ -202,17 +233,4 @@ fn values_place(old: &[u64], dims: usize) -> usize
 {
     let points = (count_in(old) - children_in(old)) as usize;
     old.len() - points
-}
-
-/// Takes out the word between two places of a block, where there is one. It takes no memory.
-pub fn take_out(words: &mut Words, from: usize, to: usize)
-    requires order { from ≤ to }
-    requires one { to ≤ from + 1 }
-    requires within { to ≤ length words.old.words }
-    ensures words { words.new.words ≡ take from words.old.words ++ drop to words.old.words }
-    ensures places { IsSamePlaces words.old words.new }
-{
-    if from < to {
-        words.remove(from);
-    }
 }

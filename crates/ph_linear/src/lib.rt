@@ -8,17 +8,19 @@ mod copies;
 mod edits;
 mod fixed;
 mod heads;
+mod outlines;
 mod parts;
 mod reads;
 mod searches;
 mod writes;
 
 pub use copies::Column;
-pub use edits::{put_edited_values, take_out};
+pub use edits::put_edited_values;
 pub use fixed::{
     address, bits_of, entry, find, find_entry, is_child, next_at_or_after, rank, write,
 };
 pub use heads::{children_in, count_in, first_of, level_in};
+pub use outlines::{Outline, drop_value};
 pub use writes::put_values;
 
 /// The calls by a number of dimensions that is handed in. All are inlined, so that it is a constant again where the caller

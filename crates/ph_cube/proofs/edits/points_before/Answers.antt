@@ -1,4 +1,4 @@
-use Rattle.std.proofs.Common.{◌≡◌, ◌+◌, ◌^◌, ◌≤◌, ℕ, List, length, arith, sym, ap, ◌∙◌, take, true}
+use Rattle.std.proofs.Common.{◌≡◌, ◌+◌, ◌^◌, ◌≤◌, List, length, arith, sym, ap, ◌∙◌, take, true}
 use Rattle.std.specs.Prelude.{nat_le}
 use Rattle.std.specs.List.{position_or_len}
 use Rattle.ph_specs.specs.Layout.{entries_as, read_address}

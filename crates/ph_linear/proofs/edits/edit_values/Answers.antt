@@ -1,17 +1,11 @@
-use Rattle.std.proofs.Common.{◌≡◌, ◌+◌, ◌-◌, ◌≤◌, ◌++◌, ℕ, List, length, take, drop, replicate, arith, sym, ap, ◌∙◌, false}
-use Rattle.std.proofs.lemmas.List.{length-append, length-drop, length-take-le}
-use Rattle.ph_specs.specs.Layout.{entries_as, values_as}
-use Rattle.ph_specs.specs.NodeSize.{points_in}
-use Rattle.ph_specs.specs.Pack.{values}
+use Rattle.std.proofs.Common.{◌≡◌, ◌+◌, ◌≤◌, ◌++◌, ℕ, length, arith, ap, ◌∙◌, false}
 use Rattle.ph_specs.proofs.laws.WordDigits.{each-fits}
-use Rattle.ph_bits.specs.Edits.{edited_as, new_flat}
-use Rattle.ph_linear.proofs.EditedEntries.{values-edited, points-within}
+use Rattle.ph_linear.proofs.EditedEntries.{values-put, values-long, points-within}
 use Rattle.ph_linear.proofs.edits.edit_values.Goals as goal
 
 pub put_edited_values-requires-clause-front : goal.put_edited_values-requires-clause-front
 put_edited_values-requires-clause-front c =
-    let e = c.args.edit.now in
-    let k = points-within false c.args.dims c.args.old.now e c.requires.record (each-fits c.args.old.now c.type_inv.old) c.requires.within e.place in
+    let k = points-within false c.args.dims c.args.old.now c.args.edit.now c.requires.record (each-fits c.args.old.now c.type_inv.old) c.requires.within c.args.edit.now.place in
     omega (arith, k, c.points_before-front.ensures, ap length c.values_of.ensures)
 
 pub put_edited_values-requires-clause-behind : goal.put_edited_values-requires-clause-behind
@@ -20,41 +14,15 @@ put_edited_values-requires-clause-behind c =
     let k = points-within false c.args.dims c.args.old.now e c.requires.record (each-fits c.args.old.now c.type_inv.old) c.requires.within (e.place + e.less) in
     omega (arith, k, c.points_before-behind.ensures, ap length c.values_of.ensures)
 
--- how long values with an edit are
-long : (vs xs all : List ℕ) (p q : ℕ) → p ≤ length vs → all ≡ take p vs ++ (xs ++ drop q vs) → length all ≡ p + length xs + (length vs - q)
-long vs xs all p q l e =
-    ap length e ∙ length-append (take p vs) (xs ++ drop q vs) ∙ ap (λ t. length (take p vs) + t) (length-append xs (drop q vs))
-    ∙ sum _ _ _ _ (length xs) (length-take-le p vs l) (length-drop q vs)
-  where
-    sum : (a b c d x : ℕ) → a ≡ b → c ≡ d → a + (x + c) ≡ b + x + d
-    sum a b c d x e f = omega (arith, e, f)
-
 pub put_edited_values-requires-clause-room : goal.put_edited_values-requires-clause-room
 put_edited_values-requires-clause-room c =
-    let e = c.args.edit.now in
-    let old = c.args.old.now in
-    let d = c.args.dims in
-    let fit = each-fits old c.type_inv.old in
-    let k : length (values (edited_as false d old e)) ≡ points_in (take e.place (entries_as false d old)) + length (values (replicate e.more (new_flat d e.entry e.value))) + (length (values_as false d old) - points_in (take (e.place + e.less) (entries_as false d old))) =
-    long (values_as false d old) (values (replicate e.more (new_flat d e.entry e.value))) (values (edited_as false d old e)) (points_in (take e.place (entries_as false d old))) (points_in (take (e.place + e.less) (entries_as false d old)))
-    (points-within false d old e c.requires.record fit c.requires.within e.place) (values-edited false d old e c.requires.record fit c.requires.within) in
-    room _ _ _ _ _ _ _ _ _ _ c.points_before-front.ensures c.points_before-behind.ensures (ap length c.values_of.ensures) k c.requires.room
+    let k = values-long false c.args.dims c.args.old.now c.args.edit.now c.requires.record (each-fits c.args.old.now c.type_inv.old) c.requires.within c.values_of.result.now c.points_before-front.result c.points_before-behind.result c.values_of.ensures c.points_before-front.ensures c.points_before-behind.ensures in
+    room _ _ _ _ k c.requires.room
   where
-    room : (w f q v x a b u y R : ℕ) → f ≡ a → q ≡ b → v ≡ u → y ≡ a + x + (u - b) → w + y ≤ R → w + (f + x + (v - q)) ≤ R
-    room w f q v x a b u y R g h i j l = omega (arith, g, h, i, j, l)
+    room : (w x y R : ℕ) → x ≡ y → w + x ≤ R → w + y ≤ R
+    room w x y R e l = omega (arith, e, l)
 
 pub returns-clause-words : goal.returns-clause-words
 returns-clause-words c =
-    let e = c.args.edit.now in
-    let old = c.args.old.now in
-    let d = c.args.dims in
-    let ws = c.args.words.now.words in
-    let new = values (replicate e.more (new_flat d e.entry e.value)) in
-    let f = c.points_before-front.result in
-    let q = c.points_before-behind.result in
-    let vs = values_as false d old in
     c.put_edited_values.ensures.words
-    ∙ ap (λ t. ws ++ (take f t ++ (new ++ drop q t))) c.values_of.ensures
-    ∙ ap (λ t. ws ++ (take t vs ++ (new ++ drop q vs))) c.points_before-front.ensures
-    ∙ ap (λ t. ws ++ (take (points_in (take e.place (entries_as false d old))) vs ++ (new ++ drop t vs))) c.points_before-behind.ensures
-    ∙ ap (λ t. ws ++ t) (sym (values-edited false d old e c.requires.record (each-fits old c.type_inv.old) c.requires.within))
+    ∙ ap (λ t. c.args.words.now.words ++ t) (values-put false c.args.dims c.args.old.now c.args.edit.now c.requires.record (each-fits c.args.old.now c.type_inv.old) c.requires.within c.values_of.result.now c.points_before-front.result c.points_before-behind.result c.values_of.ensures c.points_before-front.ensures c.points_before-behind.ensures)
