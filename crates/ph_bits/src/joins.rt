@@ -1,6 +1,6 @@
 //! Fields that are put behind digits that are known.
 
-ghost use Rattle.std.specs.Prelude.{◌≡◌, ◌+◌, ◌*◌, ◌^◌, ◌<◌, ◌≤◌, length, slice_index_or};
+ghost use Rattle.std.specs.Prelude.{◌≡◌, ◌+◌, ◌*◌, ◌^◌, ◌<◌, ◌≤◌, length, replicate, slice_index_or};
 ghost use Rattle.ph_specs.specs.Digits.{digits_at};
 ghost use Rattle.ph_specs.specs.Lawful.{IsBody, put_together};
 ghost use Rattle.ph_specs.specs.PutTree.{body_above};
@@ -26,6 +26,21 @@ pub fn join_row(words: &[u64], at: u64, level: u32, addr: u32, known: &mut [u64]
     for i in 0..dims {
         let below = piece(words, at, first, level, dims, i);
         known[i] = digits_above(level, known[i]) + address_digit(addr, dims - 1 - i, level) + below;
+    }
+}
+
+/// Puts the digits of an address at a level behind those that are known above the level, and zeros below it. What was known
+/// at the level and below it is lost.
+#[inline(always)]
+pub fn join_address(level: u32, addr: u32, known: &mut [u64])
+    requires few { length known.old ≤ 16 }
+    requires level { level ≤ 61 }
+    requires known { IsBody (length known.old) 62 known.old }
+    ensures { known.new ≡ put_together level addr (body_above level known.old) (replicate (length known.old) 0) }
+{
+    let dims = known.len();
+    for i in 0..dims {
+        known[i] = digits_above(level, known[i]) + address_digit(addr, dims - 1 - i, level);
     }
 }
 

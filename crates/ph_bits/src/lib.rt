@@ -24,7 +24,7 @@ pub use between::is_row_between;
 pub use edits::Edit;
 pub use entries::{Entries, Packed};
 pub use fields::{field, ones_before, part_of, set_field};
-pub use joins::join_row;
+pub use joins::{join_address, join_row};
 pub use pens::{Pen, are_words};
 pub use rows::row;
 pub use std::alloc::AllocError as NoMemory;

@@ -5,10 +5,11 @@ use Rattle.std.proofs.lemmas.Bool.{lt-leb}
 use Rattle.ph_specs.specs.BallSearch.{listed_below, opened_below, placed_at}
 use Rattle.ph_specs.specs.Coordinate.{IsPoint}
 use Rattle.ph_specs.specs.Distance.{distance}
-use Rattle.ph_specs.specs.Lawful.{IsBody, put_together, IsLawful}
+use Rattle.ph_specs.specs.Lawful.{IsBody, HasZerosFrom, put_together, IsLawful}
 use Rattle.ph_specs.specs.Node.{What, value, node, Entry, PlainNode, entries}
 use Rattle.ph_specs.specs.PutTree.{body_above}
 use Rattle.ph_specs.specs.WorkSets.{Placed}
+use Rattle.ph_specs.proofs.laws.DelEntries.{lawful-child}
 use Rattle.ph_specs.proofs.laws.EntryLists.{entry-lawful}
 use Rattle.ph_specs.proofs.lemmas.Bounds.{small-point}
 use Rattle.ph_node.specs.Shown.{shown}
@@ -21,7 +22,7 @@ use Rattle.ph_near.specs.BallSphere.{Sphere, center_of, reaches, IsOut}
 use Rattle.ph_near.specs.BallSweep.{Frame, Sweep, start_at, sweep_of, path_rows, path_nodes, root_rows, root_nodes, IsFrame, IsSweep, HasJoined, IsStep}
 use Rattle.ph_near.specs.declared.sweep.Step.TheVariants.{Found, Moved, Done}
 use Rattle.ph_near.proofs.BallStarts.{root-within}
-use Rattle.ph_near.proofs.BallSteps.{entered-rows, entered-nodes, entered-steps, entered-sweep, after-sweep, over-sweep as still-sweep, over-all, found-row, passed-row, row-nodes, row-steps, child-lower, child-lawful, child-over, below-rows, below-nodes, shut-rows, shut-nodes, below-steps}
+use Rattle.ph_near.proofs.BallSteps.{entered-rows, entered-nodes, entered-steps, entered-sweep, after-sweep, over-sweep as still-sweep, over-all, found-row, passed-row, row-nodes, row-steps, child-lower, child-lawful, child-over, below-rows, below-nodes, below-steps}
 
 module _ {d : ℕ} {s : Sphere} {root : Option PlainNode} {path : List Frame} {old : Sweep} (h : IsSweep d s root path) (v : sweep_of d s root path ≡ old) where
   was-rest : old.rest ≡ path_rows s path ++ root_rows d s root
@@ -122,6 +123,17 @@ module _ {d : ℕ} {s : Sphere} {root : Option PlainNode} {path : List Frame} {o
       pub body-there : IsBody d (shown f.node).level x.body
       body-there = (entry-lawful d (shown f.node).level 0 f.place (shown f.node).chain x top-sweep.way.0.lawful at).body
 
+      -- where it is a child
+      pub child-below : {n : PlainNode} → x.what ≡ node n → (r : NodeRefOf PlainNode) → shown r ≡ n → ((shown r).level < (shown f.node).level) × HasZerosFrom (shown r).level x.body
+      child-below is r shows =
+          let k = lawful-child d (shown f.node).level 0 (shown f.node).chain f.place x (shown r) top-sweep.way.0.lawful at (is ∙ ap node (sym shows)) in
+          (k.lower, k.zeros)
+
+      pub child-level : {n : PlainNode} → x.what ≡ node n → 1 ≤ (shown f.node).level
+      child-level {n = n} is =
+          let k = lawful-child d (shown f.node).level 0 (shown f.node).chain f.place x n top-sweep.way.0.lawful at is in
+          omega (arith, k.lower)
+
       module _ (out : IsOut s (shown f.node).level (put_together (shown f.node).level x.addr (body_above (shown f.node).level s.known) x.body) x.what) {new : List Frame} (into : new ≡ record { node = f.node; place = f.place + 1; note = f.note } ∷ fs) where
         over : (path_rows s (f ∷ fs) ≡ path_rows s (record { node = f.node; place = f.place + 1; note = f.note } ∷ fs)) × (path_nodes s (f ∷ fs) ≡ path_nodes s (record { node = f.node; place = f.place + 1; note = f.note } ∷ fs)) × (path_steps (record { node = f.node; place = f.place + 1; note = f.note } ∷ fs) < path_steps (f ∷ fs))
         over = over-all d s root f fs top-sweep x at out
@@ -191,63 +203,39 @@ module _ {d : ℕ} {s : Sphere} {root : Option PlainNode} {path : List Frame} {o
           pub row-visits : (sweep_of d c root new).visits ≡ old.visits
           row-visits = moved-to (λ c new. (sweep_of d c root new).visits ≡ old.visits) (unvisited (row-nodes d s root f fs top-sweep k.entry k.at u (sym k.holds ∙ is)))
 
-        -- a child
-        module _ {n : PlainNode} (is : o ≡ node n) {l : ℕ} (level : l ≡ (shown f.node).level) where
-          pub child-level : (1 ≤ l) × (l - 1 < c.width)
-          child-level =
+        -- a child that is visited
+        module _ {n : PlainNode} (is : o ≡ node n) (near : reaches next ((shown f.node).level - 1) ≡ true) (b : NodeRefOf PlainNode) (shows : shown b ≡ n) where
+          pub deep-room : length new < 62
+          deep-room =
               let low : n.level < (shown f.node).level = child-lower d s root f fs top-sweep k.entry k.at n (sym k.holds ∙ is) in
-              let w : c.width ≡ s.width = ap (λ c. c.width) k.joined in
-              (omega (arith, low, level), omega (arith, low, level, w, top-sweep.way.0.level))
+              let m : length new ≡ suc (length fs) = ap (λ t. length t) into in
+              let q : length fs + (shown f.node).level + 1 ≤ s.width = few-frames s.width (shown f.node).level (IsFrame d s.width) (λ f k. k.level) fs top-sweep.way.0.level top-sweep.way.1 top-sweep.way.2 in
+              omega (arith, low, m, q, h.sphere.known.narrow)
 
-          -- that is too far
-          module _ {t : Bool} (r : t ≡ reaches c (l - 1)) (e : t ≡ false) where
-            far : reaches next ((shown f.node).level - 1) ≡ false
-            far = ap (λ l. reaches next (l - 1)) (sym level) ∙ ap (λ c. reaches c (l - 1)) (sym k.joined) ∙ sym r ∙ e
+          entered : IsSweep d next root (start_at b ∷ on)
+          entered =
+              let low : n.level < (shown f.node).level = child-lower d s root f fs top-sweep k.entry k.at n (sym k.holds ∙ is) in
+              entered-sweep d next root b n on shows next-sweep (omega (arith, low, top-sweep.way.0.level)) (child-lawful d s root f fs top-sweep k.entry k.at n (sym k.holds ∙ is)) (child-over d s root f fs top-sweep k.entry k.at n (sym k.holds ∙ is))
 
-            pub far-step : IsStep old (sweep_of d c root new) Moved
-            far-step =
+          module _ {deep : List Frame} (into-child : deep ≡ start_at b ∷ new) where
+            deep-to : (P : Sphere → List Frame → Type 0) → P next (start_at b ∷ on) → P c deep
+            deep-to P p = subst (P c) (sym into-child) (moved-to (λ c new. P c (start_at b ∷ new)) p)
+
+            pub deep-sweep : IsSweep d c root deep
+            deep-sweep = deep-to (λ c new. IsSweep d c root new) entered
+
+            pub deep-step : IsStep old (sweep_of d c root deep) Moved
+            deep-step =
                 let l : suc (suc (entry_steps n.chain + path_steps on)) ≤ path_steps (f ∷ fs) = below-steps d s root f fs top-sweep k.entry k.at n (sym k.holds ∙ is) in
-                moved-to (λ c new. IsStep old (sweep_of d c root new) Moved) (passed (shut-rows d s root f fs top-sweep k.entry k.at n (sym k.holds ∙ is) far) (omega (arith, l)))
+                let y : path_steps (start_at b ∷ on) ≡ suc (entry_steps n.chain + path_steps on) = entered-steps d next root b n on shows in
+                deep-to (λ c new. IsStep old (sweep_of d c root new) Moved)
+                (passed-by (below-rows d s root f fs top-sweep k.entry k.at n (sym k.holds ∙ is) near ∙ sym (entered-rows d next root b n on shows)) (omega (arith, l, y)))
+              where
+                passed-by : path_rows s (f ∷ fs) ≡ path_rows next (start_at b ∷ on) → path_steps (start_at b ∷ on) < path_steps (f ∷ fs) → IsStep old (sweep_of d next root (start_at b ∷ on)) Moved
+                passed-by e l = (top-rest ∙ ap (λ t. t ++ root_rows d s root) e, was-center, omega (arith, top-steps, l))
 
-            pub far-visits : (sweep_of d c root new).visits ≡ old.visits
-            far-visits = moved-to (λ c new. (sweep_of d c root new).visits ≡ old.visits) (unvisited (shut-nodes d s root f fs top-sweep k.entry k.at n (sym k.holds ∙ is) far))
-
-          -- that is visited
-          module _ {t : Bool} (r : t ≡ reaches c (l - 1)) (e : t ≡ true) (b : NodeRefOf PlainNode) (shows : shown b ≡ n) where
-            near : reaches next ((shown f.node).level - 1) ≡ true
-            near = ap (λ l. reaches next (l - 1)) (sym level) ∙ ap (λ c. reaches c (l - 1)) (sym k.joined) ∙ sym r ∙ e
-
-            pub deep-room : length new < 62
-            deep-room =
-                let low : n.level < (shown f.node).level = child-lower d s root f fs top-sweep k.entry k.at n (sym k.holds ∙ is) in
-                let m : length new ≡ suc (length fs) = ap (λ t. length t) into in
-                let q : length fs + (shown f.node).level + 1 ≤ s.width = few-frames s.width (shown f.node).level (IsFrame d s.width) (λ f k. k.level) fs top-sweep.way.0.level top-sweep.way.1 top-sweep.way.2 in
-                omega (arith, low, m, q, h.sphere.known.narrow)
-
-            entered : IsSweep d next root (start_at b ∷ on)
-            entered =
-                let low : n.level < (shown f.node).level = child-lower d s root f fs top-sweep k.entry k.at n (sym k.holds ∙ is) in
-                entered-sweep d next root b n on shows next-sweep (omega (arith, low, top-sweep.way.0.level)) (child-lawful d s root f fs top-sweep k.entry k.at n (sym k.holds ∙ is)) (child-over d s root f fs top-sweep k.entry k.at n (sym k.holds ∙ is))
-
-            module _ {deep : List Frame} (into-child : deep ≡ start_at b ∷ new) where
-              deep-to : (P : Sphere → List Frame → Type 0) → P next (start_at b ∷ on) → P c deep
-              deep-to P p = subst (P c) (sym into-child) (moved-to (λ c new. P c (start_at b ∷ new)) p)
-
-              pub deep-sweep : IsSweep d c root deep
-              deep-sweep = deep-to (λ c new. IsSweep d c root new) entered
-
-              pub deep-step : IsStep old (sweep_of d c root deep) Moved
-              deep-step =
-                  let l : suc (suc (entry_steps n.chain + path_steps on)) ≤ path_steps (f ∷ fs) = below-steps d s root f fs top-sweep k.entry k.at n (sym k.holds ∙ is) in
-                  let y : path_steps (start_at b ∷ on) ≡ suc (entry_steps n.chain + path_steps on) = entered-steps d next root b n on shows in
-                  deep-to (λ c new. IsStep old (sweep_of d c root new) Moved)
-                  (passed-by (below-rows d s root f fs top-sweep k.entry k.at n (sym k.holds ∙ is) near ∙ sym (entered-rows d next root b n on shows)) (omega (arith, l, y)))
-                where
-                  passed-by : path_rows s (f ∷ fs) ≡ path_rows next (start_at b ∷ on) → path_steps (start_at b ∷ on) < path_steps (f ∷ fs) → IsStep old (sweep_of d next root (start_at b ∷ on)) Moved
-                  passed-by e l = (top-rest ∙ ap (λ t. t ++ root_rows d s root) e, was-center, omega (arith, top-steps, l))
-
-              pub deep-visits : suc (sweep_of d c root deep).visits ≡ old.visits
-              deep-visits =
-                  let a : path_nodes s (f ∷ fs) ≡ suc (length (opened_below s.width (center_of s) s.radius n.level (body_above n.level next.known) n.chain) + path_nodes next on) = below-nodes d s root f fs top-sweep k.entry k.at n (sym k.holds ∙ is) near in
-                  let y : path_nodes next (start_at b ∷ on) ≡ length (opened_below s.width (center_of s) s.radius n.level (body_above n.level next.known) n.chain) + path_nodes next on = entered-nodes d next root b n on shows in
-                  deep-to (λ c new. suc (sweep_of d c root new).visits ≡ old.visits) (omega (arith, top-visits, a, y))
+            pub deep-visits : suc (sweep_of d c root deep).visits ≡ old.visits
+            deep-visits =
+                let a : path_nodes s (f ∷ fs) ≡ suc (length (opened_below s.width (center_of s) s.radius n.level (body_above n.level next.known) n.chain) + path_nodes next on) = below-nodes d s root f fs top-sweep k.entry k.at n (sym k.holds ∙ is) near in
+                let y : path_nodes next (start_at b ∷ on) ≡ length (opened_below s.width (center_of s) s.radius n.level (body_above n.level next.known) n.chain) + path_nodes next on = entered-nodes d next root b n on shows in
+                deep-to (λ c new. suc (sweep_of d c root new).visits ≡ old.visits) (omega (arith, top-visits, a, y))

@@ -19,17 +19,13 @@ use Rattle.ph_path.proofs.Knowns.{joined-body, joined-above, joined-child}
 use Rattle.ph_path.proofs.Paths.{entry-first, found-behind, counted-behind, over-less}
 use Rattle.ph_near.specs.BallSphere.{Sphere, center_of, reaches, IsOut}
 use Rattle.ph_near.specs.Queue.{what_item}
-use Rattle.ph_near.specs.BallSweep.{Frame, start_at, path_rows, path_nodes, IsSweep, HasJoined}
+use Rattle.ph_near.specs.BallSweep.{Frame, start_at, path_rows, path_nodes, IsSweep}
 use Rattle.ph_near.proofs.BallEntries.{value-in, value-out, value-nodes, child-in, child-out, child-nodes-in, child-nodes-out}
 
 -- ---- a node that is entered
 
 pub pushed : {f g : Frame} {fs new : List Frame} → new ≡ f ∷ fs → f ≡ g → new ≡ g ∷ fs
 pushed {fs = fs} e h = e ∙ ap {B = List Frame} (λ f. f ∷ fs) h
-
--- an entry is joined at the place that its spot has
-pub joined-at : {s c : Sphere} {n : PlainNode} {o : What} {i place : ℕ} → HasJoined s n i c o → i ≡ place → HasJoined s n place c o
-joined-at {s} {c} {n} {o} h e = subst (λ i. HasJoined s n i c o) e h
 
 module _ (d : ℕ) (s : Sphere) (root : Option PlainNode) (r : NodeRefOf PlainNode) (n : PlainNode) (fs : List Frame) (shows : shown r ≡ n) where
   pub entered-rows : path_rows s (start_at r ∷ fs) ≡ listed_below s.width (center_of s) s.radius n.level (body_above n.level s.known) n.chain ++ path_rows s fs
@@ -165,18 +161,6 @@ module _ (d : ℕ) (s : Sphere) (root : Option PlainNode) (f : Frame) (fs : List
         let k : length (opened_below s.width (center_of s) s.radius n.level (body_above n.level joined) n.chain) ≡ length (opened_below s.width (center_of s) s.radius n.level joined n.chain) = ap (λ k. length (opened_below s.width (center_of s) s.radius n.level k n.chain)) all-known in
         let b : length (opened_below s.width (center_of s) s.radius level (body_above level s.known) behind) + path_nodes s fs ≡ path_nodes after moved = nodes-behind in
         omega (arith, a, k, b)
-
-    pub shut-rows : reaches after (level - 1) ≡ false → path_rows s (f ∷ fs) ≡ path_rows after moved
-    shut-rows t =
-        ap (λ e. listed_below s.width (center_of s) s.radius level (body_above level s.known) e ++ path_rows s fs) first
-        ∙ ap (λ r. r ++ path_rows s fs) (child-out s.width (center_of s) s.radius level (body_above level s.known) x behind n is t)
-        ∙ rows-behind
-
-    pub shut-nodes : reaches after (level - 1) ≡ false → path_nodes s (f ∷ fs) ≡ path_nodes after moved
-    shut-nodes t =
-        ap (λ e. length (opened_below s.width (center_of s) s.radius level (body_above level s.known) e) + path_nodes s fs) first
-        ∙ ap (λ r. length r + path_nodes s fs) (child-nodes-out s.width (center_of s) s.radius level (body_above level s.known) x behind n is t)
-        ∙ nodes-behind
 
     pub below-steps : suc (suc (entry_steps n.chain + path_steps moved)) ≤ path_steps (f ∷ fs)
     below-steps =

@@ -1,5 +1,5 @@
 //! Entries that are too far, told before their digits are joined.
-ghost use Rattle.std.specs.Prelude.{◌≡◌, ◌<◌, ◌≤◌, ◌*◌, ◌^◌, ◌-◌, ◌+◌, true, length};
+ghost use Rattle.std.specs.Prelude.{◌≡◌, ◌<◌, ◌≤◌, ◌*◌, ◌^◌, ◌-◌, ◌+◌, true, false, length};
 ghost use Rattle.ph_specs.specs.EntryEdits.{what_at};
 ghost use Rattle.ph_specs.specs.Lawful.{IsBody, put_together};
 ghost use Rattle.ph_specs.specs.Node.{entries};
@@ -14,29 +14,7 @@ use ph_coord::Dims;
 use ph_digits::{address_digit, digits_above};
 use ph_node::{NodeOf, NodeRefOf, Spot};
 
-// Whether an entry, a point or the region of a child, is farther from a center than a limit, which is a squared distance.
-#[inline(always)]
-pub(crate) fn is_beyond<P: Dims>(
-    node: NodeRefOf<'_, NodeOf<P>>,
-    spot: Spot,
-    known: &[u64],
-    center: &[u64],
-    limit: u128,
-) -> bool
-    requires few { P.D ≤ 16 }
-    requires spot { IsSpot (entries (shown node)) spot }
-    requires known { IsBody P.D 62 known.now }
-    requires center { IsBody P.D 62 center.now }
-    requires body { IsBody P.D (shown node).level (body_at (entries (shown node)) spot.place) }
-    ensures { result ≡ true → limit < entry_gap (shown node.entry).level (put_together (shown node.entry).level spot.addr (body_above (shown node.entry).level known.now) (body_at (entries (shown node.entry)) spot.place)) center.now (what_at (entries (shown node.entry)) spot.place) }
-{
-    if node.is_child(spot) {
-        return is_region_beyond(node.level(), spot.addr, known, center, limit);
-    }
-    is_point_beyond(node, spot, known, center, limit)
-}
-
-// The same of a point. Of a child it answers no.
+// Whether an entry is a point that is farther from a center than a limit, which is a squared distance. Of a child it answers no.
 #[inline(always)]
 pub(crate) fn is_point_beyond<P: Dims>(
     node: NodeRefOf<'_, NodeOf<P>>,
@@ -53,14 +31,21 @@ pub(crate) fn is_point_beyond<P: Dims>(
     !node.is_child(spot) && node.distance_within(spot, known, center, limit).is_none()
 }
 
-// Whether the region of a child with an address is farther than a limit. It stops at the first dimension that makes it so.
+// Whether the region of a child with an address is farther from a center than a limit. It stops at the first dimension that makes it so.
 #[inline(always)]
-fn is_region_beyond(level: u32, addr: u32, known: &[u64], center: &[u64], limit: u128) -> bool
+pub(crate) fn is_region_beyond(
+    level: u32,
+    addr: u32,
+    known: &[u64],
+    center: &[u64],
+    limit: u128,
+) -> bool
     requires few { length known.now ≤ 16 }
     requires level { level ≤ 61 }
     requires known { IsBody (length known.now) 62 known.now }
     requires center { IsBody (length known.now) 62 center.now }
-    ensures { result ≡ true → (1 ≤ level) × (limit < gaps_squared (level - 1) (corner_of level addr known.now) center.now) }
+    ensures beyond { result ≡ true → (1 ≤ level) × (limit < gaps_squared (level - 1) (corner_of level addr known.now) center.now) }
+    ensures within { result ≡ false → 1 ≤ level → gaps_squared (level - 1) (corner_of level addr known.now) center.now ≤ limit }
 {
     if level == 0 {
         return false;

@@ -1,22 +1,23 @@
 //! A point and a radius, and the digits that are known where a sweep stands.
-ghost use Rattle.std.specs.Prelude.{◌≡◌, ◌<◌, ◌≤◌, true, length, take, map, replicate};
+ghost use Rattle.std.specs.Prelude.{◌≡◌, ◌<◌, ◌≤◌, ◌-◌, true, false, take, map, replicate};
 ghost use Rattle.ph_specs.specs.Coordinate.{offset, IsPoint};
 ghost use Rattle.ph_specs.specs.Distance.{distance};
 ghost use Rattle.ph_specs.specs.EntryEdits.{what_at};
-ghost use Rattle.ph_specs.specs.Lawful.{IsBody, put_together};
+ghost use Rattle.ph_specs.specs.Lawful.{HasZerosFrom, IsBody, put_together};
 ghost use Rattle.ph_specs.specs.Node.{entries};
 ghost use Rattle.ph_specs.specs.PutTree.{body_above};
+ghost use Rattle.ph_node.specs.Kinds.{is_node};
 ghost use Rattle.ph_node.specs.Shown.{shown};
 ghost use Rattle.ph_node.specs.Split.{body_at};
 ghost use Rattle.ph_node.specs.Spots.{IsSpot};
 ghost use Rattle.ph_path.specs.Known.{known_at, point_at};
 ghost use Rattle.ph_near.specs.BallSphere.{sphere_at, reaches, IsOut};
 
-use crate::beyond::is_beyond;
+use crate::beyond::{is_point_beyond, is_region_beyond};
 use ph_coord::{Dims, Width, offsets_of};
 use ph_node::{NodeOf, NodeRefOf, Spot};
 use ph_path::KnownOf;
-use ph_zorder::{offset_distance, offset_least_distance};
+use ph_zorder::offset_distance;
 use std::marker::Model;
 
 // In up to so many dimensions digits are joined as fast as a distance is told without them.
@@ -64,15 +65,32 @@ impl<P: Dims> SphereOf<P> {
         &self.known
     }
 
-    // Whether an entry is a point outside of the ball, or a child without a point in it, told before anything is joined. In few
-    // dimensions it answers no.
+    // Whether an entry is a point outside of the ball, or a child without a point in it, told before anything is joined. Of a
+    // point in few dimensions it answers no.
     pub(crate) fn rules_out(&self, node: NodeRefOf<'_, NodeOf<P>>, spot: Spot) -> bool
         requires spot { IsSpot (entries (shown node)) spot }
         requires body { IsBody P.D (shown node).level (body_at (entries (shown node)) spot.place) }
-        ensures { result ≡ true → IsOut self.now (shown node.entry).level (put_together (shown node.entry).level spot.addr (body_above (shown node.entry).level self.now.known) (body_at (entries (shown node.entry)) spot.place)) (what_at (entries (shown node.entry)) spot.place) }
+        ensures far { result ≡ true → IsOut self.now (shown node.entry).level (put_together (shown node.entry).level spot.addr (body_above (shown node.entry).level self.now.known) (body_at (entries (shown node.entry)) spot.place)) (what_at (entries (shown node.entry)) spot.place) }
+        ensures near { result ≡ false → is_node (what_at (entries (shown node.entry)) spot.place) ≡ true → 1 ≤ (shown node.entry).level → reaches (record self.now { known = put_together (shown node.entry).level spot.addr (body_above (shown node.entry).level self.now.known) (body_at (entries (shown node.entry)) spot.place) }) ((shown node.entry).level - 1) ≡ true }
+    {
+        if node.is_child(spot) {
+            return self.is_far(node, spot);
+        }
+        let center = &self.center[..P::D];
+        P::D > FEW_DIMS && is_point_beyond(node, spot, self.known.digits(), center, self.radius)
+    }
+
+    // Whether the region of a child has no point within the radius.
+    fn is_far(&self, node: NodeRefOf<'_, NodeOf<P>>, spot: Spot) -> bool
+        requires spot { IsSpot (entries (shown node)) spot }
+        requires child { is_node (what_at (entries (shown node)) spot.place) ≡ true }
+        requires body { IsBody P.D (shown node).level (body_at (entries (shown node)) spot.place) }
+        ensures far { result ≡ true → IsOut self.now (shown node.entry).level (put_together (shown node.entry).level spot.addr (body_above (shown node.entry).level self.now.known) (body_at (entries (shown node.entry)) spot.place)) (what_at (entries (shown node.entry)) spot.place) }
+        ensures near { result ≡ false → 1 ≤ (shown node.entry).level → reaches (record self.now { known = put_together (shown node.entry).level spot.addr (body_above (shown node.entry).level self.now.known) (body_at (entries (shown node.entry)) spot.place) }) ((shown node.entry).level - 1) ≡ true }
     {
         let center = &self.center[..P::D];
-        P::D > FEW_DIMS && is_beyond(node, spot, self.known.digits(), center, self.radius)
+        let known = self.known.digits();
+        is_region_beyond(node.level(), spot.addr, known, center, self.radius)
     }
 
     // Puts the digits of an entry behind those that are known above its node's level.
@@ -86,22 +104,26 @@ impl<P: Dims> SphereOf<P> {
         let _digits = self.known.digits();
     }
 
+    // The same of an entry that is a child at the level `low`.
+    pub(crate) fn join_child(&mut self, node: NodeRefOf<'_, NodeOf<P>>, spot: Spot, low: u32)
+        requires level { (shown node).level < self.old.width }
+        requires spot { IsSpot (entries (shown node)) spot }
+        requires low { low < (shown node).level }
+        requires body { IsBody P.D (shown node).level (body_at (entries (shown node)) spot.place) }
+        requires zeros { HasZerosFrom low (body_at (entries (shown node)) spot.place) }
+        ensures { self.new ≡ record self.old { known = put_together (shown node.entry).level spot.addr (body_above (shown node.entry).level self.old.known) (body_at (entries (shown node.entry)) spot.place) } }
+    {
+        self.known.join_child(node, spot, low);
+        // A use that makes known that the digits fit the width.
+        let _digits = self.known.digits();
+    }
+
     // How far the point with the digits at hand is.
     pub(crate) fn distance(&self) -> u128
         ensures { result ≡ distance (point_at self.now.width self.now.known) (point_at self.now.width self.now.center) }
     {
         let center = &self.center[..P::D];
         offset_distance(self.known.width(), self.known.digits(), center)
-    }
-
-    // Whether the region of the digits at hand above a level has a point within the radius.
-    pub(crate) fn reaches(&self, level: u32) -> bool
-        requires { level < self.now.width }
-        ensures { result ≡ reaches self.now level }
-    {
-        let center = &self.center[..P::D];
-        let least = offset_least_distance(self.known.width(), level, self.known.digits(), center);
-        least <= self.radius
     }
 
     pub(crate) fn radius(&self) -> u128

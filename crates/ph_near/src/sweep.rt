@@ -1,18 +1,15 @@
 //! A sweep over the rows within a radius: node by node, in the order of the addresses.
-ghost use Rattle.std.specs.Prelude.{◌≡◌, ◌+◌, ◌<◌, ◌≤◌, length};
+ghost use Rattle.std.specs.Prelude.{◌≡◌, ◌+◌, ◌≤◌, length};
 ghost use Rattle.std.specs.Option.{option_copied};
 ghost use Rattle.ph_specs.specs.BallSearch.{ball_listed, ball_opened};
 ghost use Rattle.ph_specs.specs.Coordinate.{IsPoint};
 ghost use Rattle.ph_specs.specs.Lawful.{IsLawful};
-ghost use Rattle.ph_specs.specs.Node.{entries};
-ghost use Rattle.ph_node.specs.Shown.{shown, what_of};
-ghost use Rattle.ph_node.specs.Spots.{IsSpot};
 ghost use Rattle.ph_path.specs.Known.{known_at};
-ghost use Rattle.ph_near.specs.BallSweep.{HasJoined, IsStep, start_at};
+ghost use Rattle.ph_near.specs.BallSweep.{IsStep, start_at};
 
 use crate::sphere::SphereOf;
 use ph_coord::{Dims, Width};
-use ph_node::{NodeOf, NodeRefOf, Spot, WhatOf};
+use ph_node::{NodeOf, NodeRefOf, WhatOf};
 use ph_path::{FrameOf, KnownOf, PathOf};
 use ph_steps::Steps;
 use std::marker::Model;
@@ -99,8 +96,9 @@ impl<'t, P: Dims> SweepOf<'t, P> {
         if self.sphere.rules_out(node, spot) {
             return Step::Moved;
         }
-        match join_entry(&mut self.sphere, node, spot) {
+        match node.what(spot) {
             WhatOf::Value(value) => {
+                self.sphere.join(node, spot);
                 let distance = self.sphere.distance();
                 if distance > self.sphere.radius() {
                     return Step::Moved;
@@ -108,29 +106,13 @@ impl<'t, P: Dims> SweepOf<'t, P> {
                 Step::Found(value, distance)
             }
             WhatOf::Child(child) => {
-                if !self.sphere.reaches(node.level() - 1) {
-                    return Step::Moved;
-                }
                 let below = child.visit(visits);
+                self.sphere.join_child(node, spot, below.level());
                 self.path.push(at_start(below));
                 Step::Moved
             }
         }
     }
-}
-
-// Puts the digits of an entry behind those that are known above its node's level, and tells what it holds.
-fn join_entry<'t, P: Dims>(
-    sphere: &mut SphereOf<P>,
-    node: NodeRefOf<'t, NodeOf<P>>,
-    spot: Spot,
-) -> WhatOf<'t, NodeOf<P>>
-    requires spot { IsSpot (entries (shown node)) spot }
-    requires level { (shown node).level < sphere.old.width }
-    ensures { HasJoined sphere.old (shown node.entry) spot.place sphere.new (what_of result) }
-{
-    sphere.join(node, spot);
-    node.what(spot)
 }
 
 // A frame in front of all entries.

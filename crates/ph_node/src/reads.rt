@@ -5,7 +5,7 @@ ghost use Rattle.ph_specs.specs.Node.{entries, flat};
 ghost use Rattle.ph_specs.specs.Pack.{is_cube, pack};
 ghost use Rattle.ph_specs.proofs.laws.Unpacked.{child_nodes};
 ghost use Rattle.ph_specs.specs.EntryEdits.{has_address, what_at};
-ghost use Rattle.ph_specs.specs.Lawful.{IsBody, put_together};
+ghost use Rattle.ph_specs.specs.Lawful.{HasZerosFrom, IsBody, put_together};
 ghost use Rattle.ph_specs.specs.PutTree.{body_above, body_below, same_digits};
 ghost use Rattle.ph_bits.specs.Apart.{IsDistanceWithin};
 ghost use Rattle.ph_bits.specs.Between.{each_between};
@@ -23,7 +23,7 @@ ghost use Rattle.ph_node.specs.Spots.{IsSpot};
 use crate::node::{NodeOf, SlotOf};
 use crate::records;
 use crate::spots::Spot;
-use ph_bits::{is_row, is_row_between, join_row, row, row_distance};
+use ph_bits::{is_row, is_row_between, join_address, join_row, row, row_distance};
 use ph_coord::{Dim, Dims};
 use ph_linear::level_in;
 use ph_steps::Steps;
@@ -215,6 +215,26 @@ impl<'t, P: Dims> NodeRefOf<'t, NodeOf<P>> {
     {
         let at = self.body_place(spot);
         join_row(self.words(), at, self.level(), spot.addr, known);
+    }
+
+    /// The same of a child at the level `low`, which has no digits from there down. Of a child right below the node no digit of the
+    /// body is read.
+    #[inline(always)]
+    pub fn join_child(&self, spot: Spot, low: u32, known: &mut [u64])
+        requires spot { IsSpot (entries (shown self.now)) spot }
+        requires low { low < (shown self.now).level }
+        requires body { IsBody P.D (shown self.now).level (body_at (entries (shown self.now)) spot.place) }
+        requires zeros { HasZerosFrom low (body_at (entries (shown self.now)) spot.place) }
+        requires few { P.D ≤ 16 }
+        requires known { IsBody P.D 62 known.old }
+        ensures { known.new ≡ put_together (shown self.now).level spot.addr (body_above (shown self.now).level known.old) (body_at (entries (shown self.now)) spot.place) }
+    {
+        let level = self.level();
+        if low + 1 == level {
+            join_address(level, spot.addr, known);
+        } else {
+            self.join(spot, known);
+        }
     }
 
     /// Whether each number that [`join`](NodeRefOf::join) would make of those that are known lies between two bounds. It stops

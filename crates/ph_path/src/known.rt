@@ -1,7 +1,7 @@
 //! The digits that are known where a walk stands.
 ghost use Rattle.std.specs.Prelude.{◌≡◌, ◌<◌, ◌≤◌, length, take, replicate};
 ghost use Rattle.ph_specs.specs.Coordinate.{IsPoint};
-ghost use Rattle.ph_specs.specs.Lawful.{IsBody, put_together};
+ghost use Rattle.ph_specs.specs.Lawful.{HasZerosFrom, IsBody, put_together};
 ghost use Rattle.ph_specs.specs.Node.{entries};
 ghost use Rattle.ph_specs.specs.PutTree.{body_above};
 ghost use Rattle.ph_node.specs.Shown.{shown};
@@ -72,6 +72,19 @@ impl<P: Dims> KnownOf<P> {
     {
         let dims = P::D;
         node.join(spot, &mut self.digits[..dims]);
+    }
+
+    /// The same of an entry that is a child at the level `low`.
+    pub fn join_child(&mut self, node: NodeRefOf<'_, NodeOf<P>>, spot: Spot, low: u32)
+        requires level { (shown node).level < self.old.width }
+        requires spot { IsSpot (entries (shown node)) spot }
+        requires low { low < (shown node).level }
+        requires body { IsBody P.D (shown node).level (body_at (entries (shown node)) spot.place) }
+        requires zeros { HasZerosFrom low (body_at (entries (shown node)) spot.place) }
+        ensures { self.new ≡ known_at self.old.width (put_together (shown node.entry).level spot.addr (body_above (shown node.entry).level self.old.digits) (body_at (entries (shown node.entry)) spot.place)) }
+    {
+        let dims = P::D;
+        node.join_child(spot, low, &mut self.digits[..dims]);
     }
 }
 

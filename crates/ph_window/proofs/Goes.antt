@@ -3,11 +3,12 @@ use Rattle.std.proofs.Common.{◌≡◌, ℕ, suc, ◌+◌, ◌<◌, ◌≤◌, 
 use Rattle.std.specs.Prelude.{ℤ, Option, Some, None, slice_get, if◌then◌else◌}
 use Rattle.ph_specs.specs.Table.{Row, row}
 use Rattle.ph_specs.specs.Node.{value, node, Entry, PlainNode, entries}
-use Rattle.ph_specs.specs.Lawful.{put_together, IsLawful, IsLawfulFrom}
+use Rattle.ph_specs.specs.Lawful.{put_together, HasZerosFrom, IsBody, IsLawful, IsLawfulFrom}
 use Rattle.ph_specs.specs.Masks.{masks}
 use Rattle.ph_specs.specs.Window.{is_between}
 use Rattle.ph_specs.specs.WindowWalk.{node_region, listed_below, opened_below}
 use Rattle.ph_specs.specs.PutTree.{body_above}
+use Rattle.ph_specs.proofs.laws.DelEntries.{lawful-child}
 use Rattle.ph_node.specs.Kinds.{is_node}
 use Rattle.ph_node.specs.Shown.{shown}
 use Rattle.ph_node.specs.declared.reads.NodeRefOf.{NodeRefOf}
@@ -154,6 +155,13 @@ module _ {d : ℕ} {b : Bounds} {root : Option PlainNode} {path : List (FrameOf 
           let z : path_nodes b.width lo hi b.known (f ∷ fs) ≡ path_nodes b.width lo hi b.known (record { node = f.node; place = i + 1; note = f.note } ∷ fs) = passed-nodes d b root f fs top-walk i x at next point.0 point.1 in
           let y : path_nodes b.width lo hi b.known new ≡ path_nodes b.width lo hi b.known (record { node = f.node; place = i + 1; note = f.note } ∷ fs) = ap (path_nodes b.width lo hi b.known) into in
           omega (arith, top-visits, z, y)
+
+    -- a child that is at hand
+    pub child-below : (i : ℕ) (x : Entry) → slice_get (entries (shown f.node)) i ≡ Some x → {n : PlainNode} → x.what ≡ node n → (r : NodeRefOf PlainNode) → shown r ≡ n
+        → ((shown r).level < (shown f.node).level) × IsBody d (shown f.node).level x.body × HasZerosFrom (shown r).level x.body
+    child-below i x at is r shows =
+        let k = lawful-child d (shown f.node).level 0 (shown f.node).chain i x (shown r) top-lawful at (is ∙ ap node (sym shows)) in
+        (k.lower, k.body, k.zeros)
 
     -- an entry that is found, and the walk behind it
     module _ {i : ℕ} {x : Entry} (at : slice_get (entries (shown f.node)) i ≡ Some x) (next : IsNextEntry f.note.lower f.note.upper (entries (shown f.node)) f.place i) {c : Bounds} (to : c ≡ record { width = b.width; known = put_together (shown f.node).level x.addr (body_above (shown f.node).level b.known) x.body; low = b.low; high = b.high }) {new : List (FrameOf PlainNode)} (into : new ≡ record { node = f.node; place = i + 1; note = f.note } ∷ fs) where

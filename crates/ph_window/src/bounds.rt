@@ -2,7 +2,7 @@
 ghost use Rattle.std.specs.Prelude.{◌≡◌, ◌<◌, ◌≤◌, ◌&&◌, nat_le, true, false, length, take, map, replicate};
 ghost use Rattle.ph_specs.specs.Coordinate.{offset, IsPoint};
 ghost use Rattle.ph_specs.specs.EntryEdits.{what_at};
-ghost use Rattle.ph_specs.specs.Lawful.{put_together};
+ghost use Rattle.ph_specs.specs.Lawful.{HasZerosFrom, IsBody, put_together};
 ghost use Rattle.ph_specs.specs.Node.{entries};
 ghost use Rattle.ph_specs.specs.Window.{is_between as lies_between};
 ghost use Rattle.ph_specs.specs.Masks.{masks as the_masks};
@@ -116,6 +116,20 @@ impl<P: Dims> BoundsOf<P> {
         ensures { self.new ≡ record self.old { known = put_together (shown node.entry).level spot.addr (body_above (shown node.entry).level self.old.known) (body_at (entries (shown node.entry)) spot.place) } }
     {
         self.known.join(node, spot);
+        // A use that makes known that the digits fit the width.
+        let _digits = self.known.digits();
+    }
+
+    // The same of an entry that is a child at the level `low`.
+    pub(crate) fn join_child(&mut self, node: NodeRefOf<'_, NodeOf<P>>, spot: Spot, low: u32)
+        requires level { (shown node).level < self.old.width }
+        requires spot { IsSpot (entries (shown node)) spot }
+        requires low { low < (shown node).level }
+        requires body { IsBody P.D (shown node).level (body_at (entries (shown node)) spot.place) }
+        requires zeros { HasZerosFrom low (body_at (entries (shown node)) spot.place) }
+        ensures { self.new ≡ record self.old { known = put_together (shown node.entry).level spot.addr (body_above (shown node.entry).level self.old.known) (body_at (entries (shown node.entry)) spot.place) } }
+    {
+        self.known.join_child(node, spot, low);
         // A use that makes known that the digits fit the width.
         let _digits = self.known.digits();
     }

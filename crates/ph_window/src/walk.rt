@@ -152,9 +152,9 @@ impl<'t, P: Dims> WalkOf<'t, P> {
         if self.bounds.rules_out(node, spot) {
             return Step::Moved;
         }
-        self.bounds.join(node, spot);
         match node.what(spot) {
             WhatOf::Value(v) => {
+                self.bounds.join(node, spot);
                 if self.bounds.is_inside() {
                     Step::Found(v)
                 } else {
@@ -163,6 +163,7 @@ impl<'t, P: Dims> WalkOf<'t, P> {
             }
             WhatOf::Child(child) => {
                 let below = child.visit(visits);
+                self.bounds.join_child(node, spot, below.level());
                 enter(&mut self.path, below, &self.bounds);
                 Step::Moved
             }

@@ -1,8 +1,8 @@
-use Rattle.std.proofs.Common.{◌+◌, ◌-◌, ◌*◌, ◌/◌, ◌%◌, ◌^◌, ◌∙◌, ap, sym, arith, get_or, length}
+use Rattle.std.proofs.Common.{◌≡◌, ◌≤◌, ℕ, zero, suc, List, [], ◌∷◌, ◌+◌, ◌-◌, ◌*◌, ◌/◌, ◌%◌, ◌^◌, ◌∙◌, refl, ap, sym, arith, drop, get_or, length}
 use Rattle.std.proofs.Math.Nat.{mod-lt}
 use Rattle.ph_digits.proofs.Joins.{small-at}
 use Rattle.ph_node.specs.Apart.{greatest_square}
-use Rattle.ph_near.specs.Far.{corner_of}
+use Rattle.ph_near.specs.Far.{corner_of, gaps_squared}
 use Rattle.ph_near.proofs.FarRegions.{corner-room, corner-at, corner-long, low-whole, gap-whole, gaps-first, room-on}
 use Rattle.ph_near.proofs.beyond.is_region_beyond.Goals as goal
 
@@ -13,8 +13,8 @@ squared_gap-sum-requires-clause-low c =
     let room = corner-room c.args.level (get_or known c.loop-i.i 0) (digit % 2) c.requires.level (small-at 62 (length known) c.loop-i.i known c.requires.known) (mod-lt digit (omega arith)) in
     omega (arith, room, c.digits_above.ensures.value, c.address_digit-digit.ensures.value)
 
-pub returns-then-sum-limit : goal.returns-then-sum-limit
-returns-then-sum-limit c _ =
+pub returns-then-sum-limit-clause-beyond : goal.returns-then-sum-limit-clause-beyond
+returns-then-sum-limit-clause-beyond c _ =
     let known = c.args.known.now in
     let level = c.args.level in
     let i = c.loop-i.i in
@@ -37,5 +37,20 @@ loop-i-preserved c =
     (c.squared_gap-sum.ensures.value ∙ sym (ap (λ n. n * n) (gap-whole level _ (get_or c.args.center.now i 0) (omega (arith, c.if-level-eq0.false)) whole))) in
     record {
       value = omega (arith, c.loop-i.invariant.value, first);
+      within = omega (arith, c.if-sum-limit.false);
       limit = room-on c.loop-i.sum c.squared_gap-sum.result (length known - i) (length known - (i + 1)) greatest_square (omega (arith, l)) c.squared_gap-sum.ensures.limit c.loop-i.invariant.limit;
     }
+
+pub returns-clause-within : goal.returns-clause-within
+returns-clause-within c _ l =
+    let known = c.args.known.now in
+    let corner = corner_of c.args.level c.args.addr known in
+    let none : drop c.loop-i.i corner ≡ [] = drop-all c.loop-i.i corner (omega (arith, c.loop-i-test.false, corner-long c.args.level c.args.addr known)) in
+    let rest : gaps_squared (c.args.level - 1) (drop c.loop-i.i corner) (drop c.loop-i.i c.args.center.now) ≡ 0 = ap (λ t. gaps_squared (c.args.level - 1) t (drop c.loop-i.i c.args.center.now)) none in
+    omega (arith, c.loop-i.invariant.value, c.loop-i.invariant.within, rest)
+  where
+    drop-all : (i : ℕ) (xs : List ℕ) → length xs ≤ i → drop i xs ≡ []
+    drop-all zero [] l = refl
+    drop-all zero (x ∷ xs) l = absurd (omega (arith, l))
+    drop-all (suc i) [] l = refl
+    drop-all (suc i) (x ∷ xs) l = drop-all i xs (omega (arith, l))

@@ -8,5 +8,6 @@ invariant-loop-i l =
     let corner = corner_of l.level l.addr l.known in
     record {
       value : l.sum + gaps_squared (l.level - 1) (drop l.i corner) (drop l.i l.center) ≡ gaps_squared (l.level - 1) corner l.center;
+      within : l.sum ≤ l.limit;
       limit : l.sum + (length l.known - l.i) * greatest_square ≤ 16 * greatest_square;
     }

@@ -11,18 +11,18 @@ use Rattle.ph_near.specs.Far.{entry_gap}
 use Rattle.ph_near.proofs.FarRegions.{entry-distance}
 use Rattle.ph_near.proofs.sphere.SphereOf.rules_out.Goals as goal
 
-pub is_beyond-requires-clause-known : goal.is_beyond-requires-clause-known
-is_beyond-requires-clause-known g c =
+pub is_point_beyond-requires-clause-known : goal.is_point_beyond-requires-clause-known
+is_point_beyond-requires-clause-known g c =
     let k = c.self.invariant.known in
     subst (IsBody g.P.Dims.D 62) (sym c.digits.ensures.value) (wider g.P.Dims.D _ 62 _ k.narrow k.digits)
 
-pub is_beyond-requires-clause-center : goal.is_beyond-requires-clause-center
-is_beyond-requires-clause-center g c =
+pub is_point_beyond-requires-clause-center : goal.is_point_beyond-requires-clause-center
+is_point_beyond-requires-clause-center g c =
     subst (λ n. IsBody g.P.Dims.D 62 (take n c.self.inside.center)) (sym c.D.ensures)
     (wider g.P.Dims.D _ 62 _ c.self.invariant.known.narrow c.self.invariant.center)
 
-pub returns-then-D-gt-FEW_DIMS : goal.returns-then-D-gt-FEW_DIMS
-returns-then-D-gt-FEW_DIMS g c e =
+pub returns-then-D-gt-FEW_DIMS-clause-far : goal.returns-then-D-gt-FEW_DIMS-clause-far
+returns-then-D-gt-FEW_DIMS-clause-far g c e =
     let t = shown c.args.node in
     let a = c.args.spot.addr in
     let body = body_at (entries t) c.args.spot.place in
@@ -33,4 +33,4 @@ returns-then-D-gt-FEW_DIMS g c e =
     subst (λ (s : Sphere). IsOut s t.level (put_together t.level a (body_above t.level s.known) body) what) c.self.view_is
     (subst (λ n. c.self.inside.radius < n) (entry-distance w t.level (put_together t.level a (body_above t.level digits) body) center what c.self.invariant.known.wide c.self.invariant.center.1)
     (subst (λ (xs : List ℕ). c.self.inside.radius < entry_gap t.level (put_together t.level a (body_above t.level xs) body) center what) c.digits.ensures.value
-    (subst (λ n. c.self.inside.radius < entry_gap t.level (put_together t.level a (body_above t.level c.digits.result.now) body) (take n c.self.inside.center) what) c.D.ensures (c.is_beyond.ensures e))))
+    (subst (λ n. c.self.inside.radius < entry_gap t.level (put_together t.level a (body_above t.level c.digits.result.now) body) (take n c.self.inside.center) what) c.D.ensures (c.is_point_beyond.ensures e))))

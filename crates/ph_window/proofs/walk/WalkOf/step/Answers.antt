@@ -3,7 +3,7 @@ use Rattle.std.specs.Option.{option_copied}
 use Rattle.ph_node.specs.Shown.{what_of}
 use Rattle.ph_window.specs.Walk.{IsStep}
 use Rattle.ph_path.proofs.Paths.{no-frames, last-frame, read-entry}
-use Rattle.ph_window.proofs.Goes.{ended, root-room, root-walk, root-step, root-visits, top-walk, top-masks, top-lawful, done-step, done-visits, passed-walk, passed-step, passed-visits, new-walk, value-found, value-moved, value-visits, enter-room, deep-walk, deep-step, deep-visits}
+use Rattle.ph_window.proofs.Goes.{ended, root-room, root-walk, root-step, root-visits, top-walk, top-masks, top-lawful, done-step, done-visits, passed-walk, passed-step, passed-visits, child-below, new-walk, value-found, value-moved, value-visits, enter-room, deep-walk, deep-step, deep-visits}
 use Rattle.ph_window.proofs.Matches.{none_of}
 use Rattle.ph_window.proofs.walk.WalkOf.step.Goals.{then-is_inside, else-is_inside}
 use Rattle.ph_window.proofs.walk.WalkOf.step.Goals as goal
@@ -93,6 +93,19 @@ pub join-requires-clause-level : goal.join-requires-clause-level
 join-requires-clause-level g c =
     (top-walk c.self.invariant c.self.view_is (last-frame c.self.inside.path c.last.result c.in-Some.frame c.last.ensures c.in-Some.is)).way.0.level
 
+pub join_child-requires : goal.join_child-requires
+join_child-requires g c =
+    let front = last-frame c.self.inside.path c.last.result c.in-Some.frame c.last.ensures c.in-Some.is in
+    let entry = read-entry _ c.in-Some-seek.spot refl c.in-Some-seek.ensures.spot c.what.ensures in
+    let below = child-below c.self.invariant c.self.view_is front _ _ entry (ap what_of c.in-Child.is) c.visit-below.result c.visit-below.ensures.shows in
+    record {
+      level = (top-walk c.self.invariant c.self.view_is front).way.0.level;
+      spot = c.in-Some-seek.ensures.spot;
+      low = omega (arith, below.0, c.level.ensures.value);
+      body = below.1;
+      zeros = rw c.level.ensures.value below.2;
+    }
+
 pub invariant_of-self-in-Value : goal.invariant_of-self-in-Value
 invariant_of-self-in-Value g c =
     let front = last-frame c.self.inside.path c.last.result c.in-Some.frame c.last.ensures c.in-Some.is in
@@ -103,13 +116,13 @@ pub enter-requires-in-Child : goal.enter-requires-in-Child
 enter-requires-in-Child g c =
     let front = last-frame c.self.inside.path c.last.result c.in-Some.frame c.last.ensures c.in-Some.is in
     let entry = read-entry _ c.in-Some-seek.spot refl c.in-Some-seek.ensures.spot c.what.ensures in
-    (omega arith, enter-room c.self.invariant c.self.view_is front entry c.in-Some-seek.ensures.found c.join.ensures c.set_last.ensures (ap what_of c.in-Child.is) c.visit-below.result c.visit-below.ensures.shows)
+    (omega arith, enter-room c.self.invariant c.self.view_is front entry c.in-Some-seek.ensures.found c.join_child.ensures c.set_last.ensures (ap what_of c.in-Child.is) c.visit-below.result c.visit-below.ensures.shows)
 
 pub invariant_of-self-in-Child : goal.invariant_of-self-in-Child
 invariant_of-self-in-Child g c =
     let front = last-frame c.self.inside.path c.last.result c.in-Some.frame c.last.ensures c.in-Some.is in
     let entry = read-entry _ c.in-Some-seek.spot refl c.in-Some-seek.ensures.spot c.what.ensures in
-    deep-walk c.self.invariant c.self.view_is front entry c.in-Some-seek.ensures.found c.join.ensures c.set_last.ensures (ap what_of c.in-Child.is) c.visit-below.result c.visit-below.ensures.shows c.enter-in-Child.new.path c.enter-in-Child.ensures
+    deep-walk c.self.invariant c.self.view_is front entry c.in-Some-seek.ensures.found c.join_child.ensures c.set_last.ensures (ap what_of c.in-Child.is) c.visit-below.result c.visit-below.ensures.shows c.enter-in-Child.new.path c.enter-in-Child.ensures
 
 pub returns-after-is_inside-clause-step : goal.returns-after-is_inside-clause-step
 returns-after-is_inside-clause-step g c =
@@ -135,11 +148,11 @@ pub returns-in-Child-clause-step : goal.returns-in-Child-clause-step
 returns-in-Child-clause-step g c =
     let front = last-frame c.self.inside.path c.last.result c.in-Some.frame c.last.ensures c.in-Some.is in
     let entry = read-entry _ c.in-Some-seek.spot refl c.in-Some-seek.ensures.spot c.what.ensures in
-    deep-step c.self.invariant c.self.view_is front entry c.in-Some-seek.ensures.found c.join.ensures c.set_last.ensures (ap what_of c.in-Child.is) c.visit-below.result c.visit-below.ensures.shows c.enter-in-Child.new.path c.enter-in-Child.ensures
+    deep-step c.self.invariant c.self.view_is front entry c.in-Some-seek.ensures.found c.join_child.ensures c.set_last.ensures (ap what_of c.in-Child.is) c.visit-below.result c.visit-below.ensures.shows c.enter-in-Child.new.path c.enter-in-Child.ensures
 
 pub returns-in-Child-clause-cost : goal.returns-in-Child-clause-cost
 returns-in-Child-clause-cost g c =
     let front = last-frame c.self.inside.path c.last.result c.in-Some.frame c.last.ensures c.in-Some.is in
     let entry = read-entry _ c.in-Some-seek.spot refl c.in-Some-seek.ensures.spot c.what.ensures in
-    let visited = deep-visits c.self.invariant c.self.view_is front entry c.in-Some-seek.ensures.found c.join.ensures c.set_last.ensures (ap what_of c.in-Child.is) c.visit-below.result c.visit-below.ensures.shows c.enter-in-Child.new.path c.enter-in-Child.ensures in
+    let visited = deep-visits c.self.invariant c.self.view_is front entry c.in-Some-seek.ensures.found c.join_child.ensures c.set_last.ensures (ap what_of c.in-Child.is) c.visit-below.result c.visit-below.ensures.shows c.enter-in-Child.new.path c.enter-in-Child.ensures in
     omega (arith, visited, c.visit-below.ensures.cost)
