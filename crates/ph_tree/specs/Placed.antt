@@ -11,11 +11,12 @@ use Rattle.ph_tree.specs.declared.puts.Placed.TheVariants.{Joined, Present, Refu
 use Rattle.ph_tree.specs.declared.removals.Removed.{Removed}
 use Rattle.ph_tree.specs.declared.removals.Removed.TheVariants.{Nothing, Gone, Failed as Broken}
 
-abbrev pub outcome : Placed → Result Put PutError
-outcome Joined = Ok New
-outcome (Present old) = Ok (Old old)
-outcome Refused = Err Full
-outcome Failed = Err NoMemory
+-- with the value that the point had, where it was there
+abbrev pub outcome : Placed → ℕ → Result Put PutError
+outcome Joined v = Ok New
+outcome Present v = Ok (Old v)
+outcome Refused v = Err Full
+outcome Failed v = Err NoMemory
 
 -- with the value that went, where the point is gone
 abbrev pub value_gone : Removed → ℕ → Result (Option ℕ) AllocError

@@ -78,13 +78,14 @@ pub(crate) fn move_in<P: Dims, V: Ledger, C: Ledger>(
         there: Some(block),
         value: 0,
     };
-    let put = PutOf {
+    let mut put = PutOf {
         key: to,
         value: found.value,
         room: true,
         fresh: true,
+        former: 0,
     };
-    match put_in(root, alloc, &put, visits, changes) {
+    match put_in(root, alloc, &mut put, visits, changes) {
         Ok(Put::New) => match del_in(root, from, &mut removal, visits, changes) {
             Ok(_) => Ok(Moved::Done),
             Err(_) => unreachable!(),

@@ -33,15 +33,18 @@ pub(crate) struct PutOf<'t, P: Dims> {
     pub(crate) room: bool,
     // Whether only a new point is put: one that is there keeps its value.
     pub(crate) fresh: bool,
+    // The value that the point had, once it was found.
+    pub(crate) former: u64,
 }
 
-// What came of a put below the root. As a value with its kind it is small enough to be handed back in registers.
+// What came of a put below the root. The value that the point had stays in the put, so that this is one number: only then the
+// compiler makes a loop of `put_at`.
 #[derive(Clone, Copy)]
 pub(crate) enum Placed {
     // The point is new.
     Joined,
-    // The point was there, and had this value.
-    Present(u64),
+    // The point was there.
+    Present,
     // The point would be new, and there is no room.
     Refused,
     // There was no memory.
@@ -49,14 +52,14 @@ pub(crate) enum Placed {
 }
 
 impl Placed {
-    // The answer or the error.
+    // The answer, with the value that the point had, or the error.
     #[inline(always)]
-    fn outcome(self) -> Result<Put, PutError>
-        ensures { result ≡ outcome self }
+    fn outcome(self, former: u64) -> Result<Put, PutError>
+        ensures { result ≡ outcome self former }
     {
         match self {
             Placed::Joined => Ok(Put::New),
-            Placed::Present(old) => Ok(Put::Old(old)),
+            Placed::Present => Ok(Put::Old(former)),
             Placed::Refused => Err(PutError::Full),
             Placed::Failed => Err(PutError::NoMemory),
         }
@@ -67,34 +70,34 @@ impl Placed {
 pub(crate) fn put_in<P: Dims, V: Ledger, C: Ledger>(
     root: &mut Option<NodeOf<P>>,
     alloc: Global,
-    put: &PutOf<'_, P>,
+    put: &mut PutOf<'_, P>,
     visits: &mut Steps<V>,
     changes: &mut Steps<C>,
 ) -> Result<Put, PutError>
     requires some { 1 ≤ P.D }
     requires few { P.D ≤ 16 }
-    requires lawful { IsLawful put.now.key.now.width P.D root.old }
-    ensures answer { IfOk result (λ a. a ≡ put_answer (find_tree put.now.key.now.width P.D root.old put.now.key.now.point)) }
-    ensures put { put.now.fresh ≡ false → OnOk result (root.new ≡ put_tree put.now.key.now.width P.D root.old put.now.key.now.point put.now.value) }
-    ensures joined { find_tree put.now.key.now.width P.D root.old put.now.key.now.point ≡ None → OnOk result (root.new ≡ put_tree put.now.key.now.width P.D root.old put.now.key.now.point put.now.value) }
-    ensures held { put.now.fresh ≡ true → IsSome (find_tree put.now.key.now.width P.D root.old put.now.key.now.point) → root.new ≡ root.old }
+    requires lawful { IsLawful put.old.key.now.width P.D root.old }
+    ensures answer { IfOk result (λ a. a ≡ put_answer (find_tree put.old.key.now.width P.D root.old put.old.key.now.point)) }
+    ensures put { put.old.fresh ≡ false → OnOk result (root.new ≡ put_tree put.old.key.now.width P.D root.old put.old.key.now.point put.old.value) }
+    ensures joined { find_tree put.old.key.now.width P.D root.old put.old.key.now.point ≡ None → OnOk result (root.new ≡ put_tree put.old.key.now.width P.D root.old put.old.key.now.point put.old.value) }
+    ensures held { put.old.fresh ≡ true → IsSome (find_tree put.old.key.now.width P.D root.old put.old.key.now.point) → root.new ≡ root.old }
     ensures err { OnErr result (root.new ≡ root.old) }
-    ensures full { IsErrOf result PutError.Full → put.now.room ≡ false }
-    ensures absent { OnErr result (find_tree put.now.key.now.width P.D root.old put.now.key.now.point ≡ None) }
-    ensures refused { find_tree put.now.key.now.width P.D root.old put.now.key.now.point ≡ None → put.now.room ≡ false → IsErrOf result PutError.Full }
-    ensures visits { visits.new ≤ visits.old + 2 * opened_in put.now.key.now.width root.old put.now.key.now.point }
+    ensures full { IsErrOf result PutError.Full → put.old.room ≡ false }
+    ensures absent { OnErr result (find_tree put.old.key.now.width P.D root.old put.old.key.now.point ≡ None) }
+    ensures refused { find_tree put.old.key.now.width P.D root.old put.old.key.now.point ≡ None → put.old.room ≡ false → IsErrOf result PutError.Full }
+    ensures visits { visits.new ≤ visits.old + 2 * opened_in put.old.key.now.width root.old put.old.key.now.point }
     ensures later { visits.old ≤ visits.new }
     ensures changes { changes.new ≤ changes.old + 2 }
     ensures spared { OnErr result (changes.new ≡ changes.old) }
     ensures kept { changes.old ≤ changes.new }
     ensures made { IfOk result (λ a. a ≡ Put.New → changes.old + 1 ≤ changes.new) }
-    ensures replaced { put.now.fresh ≡ false → IsSome (find_tree put.now.key.now.width P.D root.old put.now.key.now.point) → changes.new ≡ changes.old + 1 }
-    ensures idle { put.now.fresh ≡ true → IsSome (find_tree put.now.key.now.width P.D root.old put.now.key.now.point) → changes.new ≡ changes.old }
+    ensures replaced { put.old.fresh ≡ false → IsSome (find_tree put.old.key.now.width P.D root.old put.old.key.now.point) → changes.new ≡ changes.old + 1 }
+    ensures idle { put.old.fresh ≡ true → IsSome (find_tree put.old.key.now.width P.D root.old put.old.key.now.point) → changes.new ≡ changes.old }
 {
     let key = put.key;
     let top = key.width() - 1;
     match root {
-        Some(node) => put_at(node, put, visits, changes).outcome(),
+        Some(node) => put_at(node, put, visits, changes).outcome(put.former),
         None => {
             if !put.room {
                 return Err(PutError::Full);
@@ -120,28 +123,28 @@ pub(crate) fn put_in<P: Dims, V: Ledger, C: Ledger>(
 // Puts a value at a point in a node or below it, as far as the put allows it.
 pub(crate) fn put_at<P: Dims, V: Ledger, C: Ledger>(
     cur: &mut NodeOf<P>,
-    put: &PutOf<'_, P>,
+    put: &mut PutOf<'_, P>,
     visits: &mut Steps<V>,
     changes: &mut Steps<C>,
 ) -> Placed
     requires lawful { IsLawfulFrom P.D cur.old.level 0 cur.old.chain }
-    requires level { cur.old.level < put.now.key.now.width }
-    ensures answer { IfOk (outcome result) (λ a. a ≡ put_answer (find_node put.now.key.now.width cur.old put.now.key.now.point)) }
-    ensures put { put.now.fresh ≡ false → OnOk (outcome result) (cur.new ≡ put_node put.now.key.now.width cur.old put.now.key.now.point put.now.value) }
-    ensures joined { find_node put.now.key.now.width cur.old put.now.key.now.point ≡ None → OnOk (outcome result) (cur.new ≡ put_node put.now.key.now.width cur.old put.now.key.now.point put.now.value) }
-    ensures held { put.now.fresh ≡ true → IsSome (find_node put.now.key.now.width cur.old put.now.key.now.point) → cur.new ≡ cur.old }
-    ensures err { OnErr (outcome result) (cur.new ≡ cur.old) }
-    ensures full { IsErrOf (outcome result) PutError.Full → put.now.room ≡ false }
-    ensures absent { OnErr (outcome result) (find_node put.now.key.now.width cur.old put.now.key.now.point ≡ None) }
-    ensures refused { find_node put.now.key.now.width cur.old put.now.key.now.point ≡ None → put.now.room ≡ false → IsErrOf (outcome result) PutError.Full }
-    ensures visits { visits.new ≤ visits.old + 2 * opened_below put.now.key.now.width cur.old.level cur.old.chain put.now.key.now.point + 1 }
+    requires level { cur.old.level < put.old.key.now.width }
+    ensures answer { IfOk (outcome result put.new.former) (λ a. a ≡ put_answer (find_node put.old.key.now.width cur.old put.old.key.now.point)) }
+    ensures put { put.old.fresh ≡ false → OnOk (outcome result put.new.former) (cur.new ≡ put_node put.old.key.now.width cur.old put.old.key.now.point put.old.value) }
+    ensures joined { find_node put.old.key.now.width cur.old put.old.key.now.point ≡ None → OnOk (outcome result put.new.former) (cur.new ≡ put_node put.old.key.now.width cur.old put.old.key.now.point put.old.value) }
+    ensures held { put.old.fresh ≡ true → IsSome (find_node put.old.key.now.width cur.old put.old.key.now.point) → cur.new ≡ cur.old }
+    ensures err { OnErr (outcome result put.new.former) (cur.new ≡ cur.old) }
+    ensures full { IsErrOf (outcome result put.new.former) PutError.Full → put.old.room ≡ false }
+    ensures absent { OnErr (outcome result put.new.former) (find_node put.old.key.now.width cur.old put.old.key.now.point ≡ None) }
+    ensures refused { find_node put.old.key.now.width cur.old put.old.key.now.point ≡ None → put.old.room ≡ false → IsErrOf (outcome result put.new.former) PutError.Full }
+    ensures visits { visits.new ≤ visits.old + 2 * opened_below put.old.key.now.width cur.old.level cur.old.chain put.old.key.now.point + 1 }
     ensures later { visits.old ≤ visits.new }
     ensures changes { changes.new ≤ changes.old + 2 }
-    ensures spared { OnErr (outcome result) (changes.new ≡ changes.old) }
+    ensures spared { OnErr (outcome result put.new.former) (changes.new ≡ changes.old) }
     ensures kept { changes.old ≤ changes.new }
-    ensures made { IfOk (outcome result) (λ a. a ≡ Put.New → changes.old + 1 ≤ changes.new) }
-    ensures replaced { put.now.fresh ≡ false → IsSome (find_node put.now.key.now.width cur.old put.now.key.now.point) → changes.new ≡ changes.old + 1 }
-    ensures idle { put.now.fresh ≡ true → IsSome (find_node put.now.key.now.width cur.old put.now.key.now.point) → changes.new ≡ changes.old }
+    ensures made { IfOk (outcome result put.new.former) (λ a. a ≡ Put.New → changes.old + 1 ≤ changes.new) }
+    ensures replaced { put.old.fresh ≡ false → IsSome (find_node put.old.key.now.width cur.old put.old.key.now.point) → changes.new ≡ changes.old + 1 }
+    ensures idle { put.old.fresh ≡ true → IsSome (find_node put.old.key.now.width cur.old put.old.key.now.point) → changes.new ≡ changes.old }
 {
     let node = cur.visit(visits);
     let level = node.level();
@@ -156,28 +159,30 @@ pub(crate) fn put_at<P: Dims, V: Ledger, C: Ledger>(
     }
 }
 
-// Gives a point entry of a node, which has an old value, the one that is put, unless only a new point is put. The choice has
-// a call of its own, since only then the compiler makes a loop of `put_at`.
+// Gives a point entry of a node, which has an old value, the one that is put, unless only a new point is put. The old one is
+// kept in the put.
 #[inline(never)]
 fn replace_value<P: Dims, C: Ledger>(
     cur: &mut NodeOf<P>,
     spot: Spot,
     old: u64,
-    put: &PutOf<'_, P>,
+    put: &mut PutOf<'_, P>,
     changes: &mut Steps<C>,
 ) -> Placed
     requires spot { IsSpot (entries cur.old) spot }
     requires point { IsValue (what_at (entries cur.old) spot.place) }
-    ensures answer { result ≡ Placed.Present old }
-    ensures put { put.now.fresh ≡ false → cur.new ≡ node_of cur.old.level (with_what (entries cur.old) spot.place (value put.now.value)) }
-    ensures held { put.now.fresh ≡ true → cur.new ≡ cur.old }
-    ensures replaced { put.now.fresh ≡ false → changes.new ≡ changes.old + 1 }
-    ensures idle { put.now.fresh ≡ true → changes.new ≡ changes.old }
+    ensures answer { result ≡ Placed.Present }
+    ensures former { put.new.former ≡ old }
+    ensures put { put.old.fresh ≡ false → cur.new ≡ node_of cur.old.level (with_what (entries cur.old) spot.place (value put.old.value)) }
+    ensures held { put.old.fresh ≡ true → cur.new ≡ cur.old }
+    ensures replaced { put.old.fresh ≡ false → changes.new ≡ changes.old + 1 }
+    ensures idle { put.old.fresh ≡ true → changes.new ≡ changes.old }
 {
     if !put.fresh {
         cur.set_value(spot, put.value, changes);
     }
-    Placed::Present(old)
+    put.former = old;
+    Placed::Present
 }
 
 // Adds a point to a node at a level that has no entry at its address, in the place of one.
@@ -193,15 +198,15 @@ fn add_point<P: Dims, C: Ledger>(
     requires below { level < put.now.key.now.width }
     requires absent { position (has_address (address put.now.key.now.width put.now.key.now.point level)) (entries cur.old) ≡ None }
     requires place { i ≡ place_for (address put.now.key.now.width put.now.key.now.point level) (entries cur.old) }
-    ensures answer { IfOk (outcome result) (λ a. a ≡ Put.New) }
-    ensures put { OnOk (outcome result) (cur.new ≡ put_node put.now.key.now.width cur.old put.now.key.now.point put.now.value) }
-    ensures err { OnErr (outcome result) (cur.new ≡ cur.old) }
-    ensures full { IsErrOf (outcome result) PutError.Full → put.now.room ≡ false }
-    ensures refused { put.now.room ≡ false → IsErrOf (outcome result) PutError.Full }
+    ensures answer { IfOk (outcome result put.now.former) (λ a. a ≡ Put.New) }
+    ensures put { OnOk (outcome result put.now.former) (cur.new ≡ put_node put.now.key.now.width cur.old put.now.key.now.point put.now.value) }
+    ensures err { OnErr (outcome result put.now.former) (cur.new ≡ cur.old) }
+    ensures full { IsErrOf (outcome result put.now.former) PutError.Full → put.now.room ≡ false }
+    ensures refused { put.now.room ≡ false → IsErrOf (outcome result put.now.former) PutError.Full }
     ensures changes { changes.new ≤ changes.old + 1 }
-    ensures spared { OnErr (outcome result) (changes.new ≡ changes.old) }
+    ensures spared { OnErr (outcome result put.now.former) (changes.new ≡ changes.old) }
     ensures kept { changes.old ≤ changes.new }
-    ensures made { IfOk (outcome result) (λ a. a ≡ Put.New → changes.old + 1 ≤ changes.new) }
+    ensures made { IfOk (outcome result put.now.former) (λ a. a ≡ Put.New → changes.old + 1 ≤ changes.new) }
 {
     if !put.room {
         return Placed::Refused;
@@ -231,15 +236,15 @@ fn split_entry<P: Dims, C: Ledger>(
     requires level { level ≡ cur.old.level }
     requires below { level < put.now.key.now.width }
     requires apart { IsApartAt put.now.key.now.width put.now.key.now.point cur.old spot }
-    ensures answer { IfOk (outcome result) (λ a. a ≡ Put.New) }
-    ensures put { OnOk (outcome result) (cur.new ≡ put_node put.now.key.now.width cur.old put.now.key.now.point put.now.value) }
-    ensures err { OnErr (outcome result) (cur.new ≡ cur.old) }
-    ensures full { IsErrOf (outcome result) PutError.Full → put.now.room ≡ false }
-    ensures refused { put.now.room ≡ false → IsErrOf (outcome result) PutError.Full }
+    ensures answer { IfOk (outcome result put.now.former) (λ a. a ≡ Put.New) }
+    ensures put { OnOk (outcome result put.now.former) (cur.new ≡ put_node put.now.key.now.width cur.old put.now.key.now.point put.now.value) }
+    ensures err { OnErr (outcome result put.now.former) (cur.new ≡ cur.old) }
+    ensures full { IsErrOf (outcome result put.now.former) PutError.Full → put.now.room ≡ false }
+    ensures refused { put.now.room ≡ false → IsErrOf (outcome result put.now.former) PutError.Full }
     ensures changes { changes.new ≤ changes.old + 2 }
-    ensures spared { OnErr (outcome result) (changes.new ≡ changes.old) }
+    ensures spared { OnErr (outcome result put.now.former) (changes.new ≡ changes.old) }
     ensures kept { changes.old ≤ changes.new }
-    ensures made { IfOk (outcome result) (λ a. a ≡ Put.New → changes.old + 1 ≤ changes.new) }
+    ensures made { IfOk (outcome result put.now.former) (λ a. a ≡ Put.New → changes.old + 1 ≤ changes.new) }
 {
     if !put.room {
         return Placed::Refused;

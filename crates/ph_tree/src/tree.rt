@@ -212,13 +212,14 @@ impl<const D: usize> PhTree<D> {
     {
         let key = KeyOf::new(self.width, p.as_slice());
         let room = self.len < self.max;
-        let put = PutOf {
+        let mut put = PutOf {
             key: &key,
             value: v,
             room,
             fresh: false,
+            former: 0,
         };
-        match put_in(&mut self.root, self.alloc, &put, visits, changes) {
+        match put_in(&mut self.root, self.alloc, &mut put, visits, changes) {
             Ok(Put::New) => {
                 self.len += 1;
                 Ok(Put::New)

@@ -3,6 +3,7 @@ use Rattle.std.specs.Prelude.{IsSome}
 use Rattle.ph_specs.specs.Node.{node}
 use Rattle.ph_specs.specs.EntryEdits.{with_child}
 use Rattle.ph_table.specs.Rows.{put_answer}
+use Rattle.ph_table.specs.declared.table.Put.TheVariants.{Old}
 use Rattle.ph_tree.specs.Placed.{outcome}
 use Rattle.ph_tree.proofs.Walks.{IsStepAt, step_at, answered, answered_new, on_ok, on_err, always_err, not_none, some_none, absent_found, same_found, same_value, same_spot, same_put, below_node, below_spot, below_rank, below_lent, way_below, other_found, other_opened}
 use Rattle.ph_tree.proofs.puts.+put_at.Given.{Over}
@@ -31,15 +32,15 @@ put_at-requires g t c κs within =
 
 pub returns-in-Absent-clause-answer : goal.returns-in-Absent-clause-answer
 returns-in-Absent-clause-answer g t c =
-    answered_new (outcome c.add_point.result) _ (absent_found (stepped g t (goal.at.returns-in-Absent-clause-answer g t c).After-step) c.in-Absent.is) c.add_point.ensures.answer
+    answered_new (outcome c.add_point.result c.args.put.now.former) _ (absent_found (stepped g t (goal.at.returns-in-Absent-clause-answer g t c).After-step) c.in-Absent.is) c.add_point.ensures.answer
 
 pub returns-in-Absent-clause-absent : goal.returns-in-Absent-clause-absent
 returns-in-Absent-clause-absent g t c =
-    always_err (outcome c.add_point.result) (absent_found (stepped g t (goal.at.returns-in-Absent-clause-absent g t c).After-step) c.in-Absent.is)
+    always_err (outcome c.add_point.result c.args.put.now.former) (absent_found (stepped g t (goal.at.returns-in-Absent-clause-absent g t c).After-step) c.in-Absent.is)
 
 pub returns-in-Same-clause-answer : goal.returns-in-Same-clause-answer
 returns-in-Same-clause-answer g t c =
-    rw c.replace_value.ensures.answer (ap put_answer (sym (same_found (stepped g t (goal.at.returns-in-Same-clause-answer g t c).After-step) c.in-Same.is)))
+    rw c.replace_value.ensures.answer (ap Old c.replace_value.ensures.former ∙ ap put_answer (sym (same_found (stepped g t (goal.at.returns-in-Same-clause-answer g t c).After-step) c.in-Same.is)))
 
 pub returns-in-Same-clause-put : goal.returns-in-Same-clause-put
 returns-in-Same-clause-put g t c stale =
@@ -60,13 +61,13 @@ returns-in-Below g t c =
     let put = c.put_at.ensures in
     let over = with_child c.args.cur.now c.in-Below.spot.place in
     record {
-      answer = answered (outcome c.put_at.result) _ _ (sym below.found) put.answer;
-      put = λ stale. on_ok (outcome c.put_at.result) (λ q. ap over q ∙ below.put c.args.put.now.value) (put.put stale);
-      joined = λ none. on_ok (outcome c.put_at.result) (λ q. ap over q ∙ below.put c.args.put.now.value) (put.joined (sym below.found ∙ none));
+      answer = answered (outcome c.put_at.result c.put_at.new.put.former) _ _ (sym below.found) put.answer;
+      put = λ stale. on_ok (outcome c.put_at.result c.put_at.new.put.former) (λ q. ap over q ∙ below.put c.args.put.now.value) (put.put stale);
+      joined = λ none. on_ok (outcome c.put_at.result c.put_at.new.put.former) (λ q. ap over q ∙ below.put c.args.put.now.value) (put.joined (sym below.found ∙ none));
       held = λ fresh some. ap over (put.held fresh (subst IsSome below.found some)) ∙ below.back;
-      err = on_err (outcome c.put_at.result) (λ q. ap over q ∙ below.back) put.err;
+      err = on_err (outcome c.put_at.result c.put_at.new.put.former) (λ q. ap over q ∙ below.back) put.err;
       full = put.full;
-      absent = on_err (outcome c.put_at.result) (λ q. below.found ∙ q) put.absent;
+      absent = on_err (outcome c.put_at.result c.put_at.new.put.former) (λ q. below.found ∙ q) put.absent;
       refused = λ none. put.refused (sym below.found ∙ none);
       visits = omega (arith, below.one, below.opened, c.in-Below.ensures.cost, put.visits, c.visit-node.ensures.cost);
       later = omega (arith, c.in-Below.ensures.cost, put.later, c.visit-node.ensures.cost);
@@ -104,11 +105,11 @@ returns-in-Other-clause-idle g t c fresh some =
 
 pub returns-in-Other-clause-answer : goal.returns-in-Other-clause-answer
 returns-in-Other-clause-answer g t c =
-    answered_new (outcome c.split_entry.result) _ (other_found (stepped g t (goal.at.returns-in-Other-clause-answer g t c).After-step) c.in-Other.is) c.split_entry.ensures.answer
+    answered_new (outcome c.split_entry.result c.args.put.now.former) _ (other_found (stepped g t (goal.at.returns-in-Other-clause-answer g t c).After-step) c.in-Other.is) c.split_entry.ensures.answer
 
 pub returns-in-Other-clause-absent : goal.returns-in-Other-clause-absent
 returns-in-Other-clause-absent g t c =
-    always_err (outcome c.split_entry.result) (other_found (stepped g t (goal.at.returns-in-Other-clause-absent g t c).After-step) c.in-Other.is)
+    always_err (outcome c.split_entry.result c.args.put.now.former) (other_found (stepped g t (goal.at.returns-in-Other-clause-absent g t c).After-step) c.in-Other.is)
 
 pub returns-in-Other-clause-visits : goal.returns-in-Other-clause-visits
 returns-in-Other-clause-visits g t c =
