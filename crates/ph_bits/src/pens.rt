@@ -119,7 +119,11 @@ impl Pen {
         requires pen { IsPen self }
         requires inside { digits_by words.old.words self ≤ 64 * room_of words.old }
         ensures length { length words.new.words ≡ words_for (digits_by words.old.words self) }
-        ensures table { (front : List ℕ) → (fs : List Field) → Each (λ x. x < 2 ^ 64) front → Each (λ f. f.number < 2 ^ f.width) fs → digits_by words.old.words self ≡ 64 * length front + digits_of fs → number_by words.old.words self ≡ number_after (number_in front) fs → words.new.words ≡ front ++ words_of fs }
+        ensures table { (front : List ℕ) → (fs : List Field) → Each (λ x. x < 2 ^ 64) front
+            → Each (λ f. f.number < 2 ^ f.width) fs
+            → digits_by words.old.words self ≡ 64 * length front + digits_of fs
+            → number_by words.old.words self ≡ number_after (number_in front) fs
+            → words.new.words ≡ front ++ words_of fs }
         ensures places { IsSamePlaces words.old words.new }
     {
         self.end(words);

@@ -154,7 +154,13 @@ pub(crate) fn release<A: Allocator>(
     places: Places,
     right: Right<A>,
 )
-    requires { (start.at ≡ places.at) × (length places.slots ≡ room) × (right.at ≡ places.at) × (right.room ≡ room) × (right.alloc ≡ alloc.now) × (0 < room) × (room < 2 ^ 32) }
+    requires { (start.at ≡ places.at)
+        × (length places.slots ≡ room)
+        × (right.at ≡ places.at)
+        × (right.room ≡ room)
+        × (right.alloc ≡ alloc.now)
+        × (0 < room)
+        × (room < 2 ^ 32) }
 {
     let Places { mark: _ } = places;
     let Right { mark: _ } = right;

@@ -1,6 +1,6 @@
 //! A block of words.
 
-ghost use Rattle.std.specs.Prelude.{◌≡◌, ◌+◌, ◌-◌, ◌<◌, ◌≤◌, ◌^◌, ◌∷◌, ◌++◌, [], length, take, replicate, slice_index_or, slice_set, IfOk};
+ghost use Rattle.std.specs.Prelude.{◌≡◌, ◌+◌, ◌-◌, ◌<◌, ◌≤◌, ◌^◌, ◌∷◌, ◌++◌, [], length, take, replicate, slice_index_or, slice_set, IfOk, IsOk};
 ghost use Rattle.std.specs.List.{remove};
 ghost use Rattle.ph_bits.specs.Block.{room_of, zeros, empty, IsSamePlaces};
 ghost use Rattle.ph_bits.specs.Written.{shifted};
@@ -59,10 +59,11 @@ impl Words {
     ghost use Rattle.std.specs.Borrow.{sem};
     ghost use Rattle.ph_bits.specs.LendsSlice.{lends_slice};
 
-    /// A block without words that has room for `room` of them. Its memory is not cleared.
+    /// A block without words that has room for `room` of them. Its memory is not cleared. No room takes no memory.
     pub fn with_room(alloc: Global, room: usize) -> Result<Words, NoMemory>
         requires { room < 2 ^ 32 }
-        ensures { IfOk result (λ w. w ≡ empty alloc room) }
+        ensures empty { IfOk result (λ w. w ≡ empty alloc room) }
+        ensures none { room ≡ 0 → IsOk result }
     {
         let (start, places, right) = if room > 0 {
             take(&alloc, room)?
@@ -82,7 +83,8 @@ impl Words {
     /// A block of `len` zeros, with no room for more.
     pub fn zeroed(alloc: Global, len: usize) -> Result<Words, NoMemory>
         requires { len < 2 ^ 32 }
-        ensures { IfOk result (λ w. w ≡ zeros alloc len) }
+        ensures zeros { IfOk result (λ w. w ≡ zeros alloc len) }
+        ensures none { len ≡ 0 → IsOk result }
     {
         let mut words = Words::with_room(alloc, len)?;
         words.reset(len);

@@ -52,7 +52,9 @@ fn edit_columns(pen: &mut Pen, words: &mut Words, dims: usize, old: &[u64], edit
     requires inside { digits_by words.old.words pen.old + cube_digits dims (first_in old.now).level ≤ 64 * room_of words.old }
     ensures pen { IsPen pen.new }
     ensures digits { digits_by words.new.words pen.new ≡ digits_by words.old.words pen.old + cube_digits dims (first_in old.now).level }
-    ensures number { number_by words.new.words pen.new ≡ number_after (number_by words.old.words pen.old) (cube_table dims (first_in old.now).level (edited_as true dims old.now edit.now)) }
+    ensures number { number_by words.new.words pen.new
+        ≡ number_after (number_by words.old.words pen.old)
+        (cube_table dims (first_in old.now).level (edited_as true dims old.now edit.now)) }
     ensures places { IsSamePlaces words.old words.new }
 {
     let kinds = kinds_of(old, dims);

@@ -60,7 +60,12 @@ pub fn find_entry<const D: usize>(words: &[u64], addr: u32) -> Option<Packed>
     requires record { IsRecord true D words.now }
     requires address { addr < 2 ^ D }
     ensures none { IsNone result → position (λ r. read_address r == addr) (entries_as true D words.now) ≡ None }
-    ensures entry { IfSome result (λ p. (i : ℕ) × (position (λ r. read_address r == addr) (entries_as true D words.now) ≡ Some i) × (slice_get (entries_as true D words.now) i ≡ Some (read_of D p)) × (p.rank ≡ rank_at p.child (entries_as true D words.now) i)) }
+    ensures entry { IfSome result
+        (λ p.
+        (i : ℕ)
+        × (position (λ r. read_address r == addr) (entries_as true D words.now) ≡ Some i)
+        × (slice_get (entries_as true D words.now) i ≡ Some (read_of D p))
+        × (p.rank ≡ rank_at p.child (entries_as true D words.now) i)) }
     ensures zeros { IfSome result (λ p. IsPadded D p.body) }
 {
     by_dims::find_entry(words, D, addr)

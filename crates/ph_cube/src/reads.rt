@@ -42,7 +42,12 @@ pub fn find_entry(words: &[u64], dims: usize, addr: u32) -> Option<Packed>
     requires record { IsRecord true dims words.now }
     requires address { addr < 2 ^ dims }
     ensures none { IsNone result → position (λ r. read_address r == addr) (entries_as true dims words.now) ≡ None }
-    ensures entry { IfSome result (λ p. (i : ℕ) × (position (λ r. read_address r == addr) (entries_as true dims words.now) ≡ Some i) × (slice_get (entries_as true dims words.now) i ≡ Some (read_of dims p)) × (p.rank ≡ rank_at p.child (entries_as true dims words.now) i)) }
+    ensures entry { IfSome result
+        (λ p.
+        (i : ℕ)
+        × (position (λ r. read_address r == addr) (entries_as true dims words.now) ≡ Some i)
+        × (slice_get (entries_as true dims words.now) i ≡ Some (read_of dims p))
+        × (p.rank ≡ rank_at p.child (entries_as true dims words.now) i)) }
     ensures zeros { IfSome result (λ p. IsPadded dims p.body) }
 {
     match find(words, dims, addr) {
@@ -76,7 +81,8 @@ pub fn is_child(words: &[u64], dims: usize, i: usize) -> bool
 pub fn rank(words: &[u64], dims: usize, i: usize) -> usize
     requires record { IsRecord true dims words.now }
     requires within { i < (first_in words.now).entries }
-    ensures { (child : Bool) → slice_get (map read_child_test (entries_as true dims words.now)) i ≡ Some child → result ≡ rank_at child (entries_as true dims words.now) i }
+    ensures { (child : Bool) → slice_get (map read_child_test (entries_as true dims words.now)) i ≡ Some child
+        → result ≡ rank_at child (entries_as true dims words.now) i }
 {
     let addr = address_of(words, dims, i);
     rank_of(words, dims, i, addr, child_at(words, addr))

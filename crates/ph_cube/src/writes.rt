@@ -100,7 +100,9 @@ fn put_bodies<P: Dims, E: Entries<P>>(pen: &mut Pen, words: &mut Words, from: &E
     requires inside { digits_by words.old.words pen.old + 2 ^ P.D * (P.D * level) ≤ 64 * room_of words.old }
     ensures pen { IsPen pen.new }
     ensures digits { digits_by words.new.words pen.new ≡ digits_by words.old.words pen.old + 2 ^ P.D * (P.D * level) }
-    ensures number { number_by words.new.words pen.new ≡ number_after (number_by words.old.words pen.old) (bodies level (map (place_body P.D) (places (2 ^ P.D) 0 (E.list from.now)))) }
+    ensures number { number_by words.new.words pen.new
+        ≡ number_after (number_by words.old.words pen.old)
+        (bodies level (map (place_body P.D) (places (2 ^ P.D) 0 (E.list from.now)))) }
     ensures places { IsSamePlaces words.old words.new }
 {
     let mut i = 0;
@@ -126,7 +128,9 @@ fn put_body<P: Dims, E: Entries<P>>(
     requires inside { digits_by words.old.words pen.old + P.D * level ≤ 64 * room_of words.old }
     ensures pen { IsPen pen.new }
     ensures digits { digits_by words.new.words pen.new ≡ digits_by words.old.words pen.old + P.D * level }
-    ensures number { number_by words.new.words pen.new ≡ number_after (number_by words.old.words pen.old) (body_fields level (place_body P.D (at_address addr (drop i (E.list from.now))))) }
+    ensures number { number_by words.new.words pen.new
+        ≡ number_after (number_by words.old.words pen.old)
+        (body_fields level (place_body P.D (at_address addr (drop i (E.list from.now))))) }
     ensures places { IsSamePlaces words.old words.new }
     ensures there { result ≡ is_there (at_address addr (drop i (E.list from.now))) }
 {

@@ -4,13 +4,13 @@ use Rattle.std.specs.Prelude.{ℤ, ◌&&◌, Result}
 use Rattle.std.specs.List.{list_all, AllByRecursion}
 use Rattle.std.proofs.lemmas.Bool.{and_parts}
 use Rattle.ph_io.specs.Giving.{Taken}
-use Rattle.ph_specs.specs.Boxes.{IsWindowFor}
+use Rattle.ph_specs.specs.Boxes.{IsWindowFor, AreBoxes}
 use Rattle.ph_specs.specs.Coordinate.{is_point, IsPoint, IsBox}
 use Rattle.ph_specs.specs.Table.{Row, is_rising, is_value, IsTable}
 use Rattle.ph_specs.specs.Window.{window}
 use Rattle.ph_specs.proofs.laws.Boxes.{window_lists}
 use Rattle.ph_engine.specs.Listing.{asks, answered, low_bound, high_bound, met, ListsRows, ListsWindow, ListsBoxes}
-use Rattle.ph_engine.specs.Slots.{AnyTable, AreBoxes}
+use Rattle.ph_engine.specs.Slots.{AnyTable}
 use Rattle.ph_engine.specs.declared.boxes.Question.{Question}
 use Rattle.ph_engine.specs.declared.status.Answer.{Answer}
 use Rattle.ph_engine.specs.declared.status.Stop.{Stop}

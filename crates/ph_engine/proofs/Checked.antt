@@ -8,9 +8,9 @@ use Rattle.ph_io.specs.Writing.{WritesFront}
 use Rattle.ph_io.specs.declared.files.FetchFault.{FetchFault}
 use Rattle.ph_io.specs.declared.files.FetchFault.TheVariants as unread
 use Rattle.ph_specs.specs.declared.Kind.{Kind}
-use Rattle.ph_specs.specs.Load.{Fault, bad_magic, bad_header, bad_dims, bad_short, bad_node, bad_extra, load_fault}
+use Rattle.ph_specs.specs.Load.{Fault, bad_magic, bad_header, bad_dims, bad_short, bad_node, bad_extra, named_width, load_fault}
 use Rattle.ph_specs.specs.Named.{lookup}
-use Rattle.ph_specs.specs.Program.{check_line, checked_words, named_kind, words_of_snapshot, words_of_file, words_unless}
+use Rattle.ph_specs.specs.Program.{check_line, checked_words, named_kind, own_fault, words_of_snapshot, words_of_file, words_unless}
 use Rattle.ph_specs.specs.Refusals.{fetch, bytes_of}
 use Rattle.ph_specs.specs.Reply.{Reply, line_of, reply_text, reply_words}
 use Rattle.ph_specs.specs.SavedTable.{fault_reply, read_unless, rows_saved}
@@ -22,7 +22,7 @@ use Rattle.ph_script.specs.declared.reply.Reply.{Reply as Told}
 use Rattle.ph_script.specs.Meaning.{reply_of}
 use Rattle.ph_snap.specs.Faults.{IsLoadFault}
 use Rattle.ph_snap.specs.declared.fault.LoadFault.{LoadFault}
-use Rattle.ph_engine.specs.Beside.{AreTold, Filings}
+use Rattle.ph_engine.specs.Beside.{AreTold, Filings, beside_sink}
 use Rattle.ph_engine.specs.Checking.{FileHasSizes, HasSizes, IsSavedAs, LineGiven, CheckDone, bytes_checked, nodes_saved, nodes_unless, status_of}
 use Rattle.ph_engine.specs.Filing.{TellsFault, TellsUnfetched}
 use Rattle.ph_engine.specs.Machine.{is_refusal, one_if}
@@ -41,36 +41,40 @@ use Rattle.ph_engine.proofs.Filed.{fetched, unfetched, failed-once, failed-never
 -- ---- bytes
 
 module _ (bytes : List ℕ) (kind : Kind) (t : AnyTable) (h : IsSavedAs bytes kind t) where
-  no-fault : load_fault kind t.dims bytes ≡ None
-  no-fault = none-from_snapshot kind t.dims bytes t.tree.table h.snapshot
+  no-fault : load_fault kind t.dims t.tree.width bytes ≡ None
+  no-fault = none-from_snapshot kind t.dims t.tree.width bytes t.tree.table h.snapshot
 
-  rows-by : (first : Option Fault) → first ≡ None → read_unless first t.dims bytes ≡ Ok t.tree.table → rows_saved t.dims bytes ≡ t.tree.table
+  rows-by : (first : Option Fault) → first ≡ None → read_unless first t.dims t.tree.width bytes ≡ Ok t.tree.table → rows_saved t.dims t.tree.width bytes ≡ t.tree.table
   rows-by None n r = cc
   rows-by (Some fault) n r = absurd (let clash : Some fault ≡ None = n in cc)
 
-  rows-are : rows_saved t.dims bytes ≡ t.tree.table
-  rows-are = rows-by (load_fault kind t.dims bytes) no-fault (read-from_snapshot kind t.dims bytes t.tree.table h.snapshot)
+  rows-are : rows_saved t.dims t.tree.width bytes ≡ t.tree.table
+  rows-are = rows-by (load_fault kind t.dims t.tree.width bytes) no-fault (read-from_snapshot kind t.dims t.tree.width bytes t.tree.table h.snapshot)
 
-  pub words-are : words_of_snapshot bytes ≡ checked_words kind t.dims (stats 32 t.dims t.tree.table)
+  -- of what is told by the header the same is told by the table
+  told-as : {A : Type 0} (f : Option Fault → Kind → ℕ → ℕ → A) → f (own_fault bytes) (named_kind bytes) (slice_index bytes 5) (named_width bytes) ≡ f None kind t.dims t.tree.width
+  told-as f =
+      ap (λ k. f (load_fault k (slice_index bytes 5) (named_width bytes) bytes) k (slice_index bytes 5) (named_width bytes)) h.kind_is
+      ∙ ap (λ d. f (load_fault kind d (named_width bytes) bytes) kind d (named_width bytes)) h.dims_are
+      ∙ ap (λ w. f (load_fault kind t.dims w bytes) kind t.dims w) h.width_is
+      ∙ ap (λ o. f o kind t.dims t.tree.width) no-fault
+
+  pub words-are : words_of_snapshot bytes ≡ checked_words kind t.dims (stats t.tree.width t.dims t.tree.table)
   words-are =
-      ap (λ k. words_unless (load_fault k (slice_index bytes 5) bytes) k (slice_index bytes 5) bytes) h.kind_is
-      ∙ ap (λ d. words_unless (load_fault kind d bytes) kind d bytes) h.dims_are
-      ∙ ap (λ o. words_unless o kind t.dims bytes) no-fault
-      ∙ ap (λ r. checked_words kind t.dims (stats 32 t.dims r)) rows-are
+      told-as (λ o k d w. words_unless o k d w bytes)
+      ∙ ap (λ r. checked_words kind t.dims (stats t.tree.width t.dims r)) rows-are
 
-  pub nodes-are : nodes_saved bytes ≡ length (all_nodes 32 t.dims t.tree.table)
+  pub nodes-are : nodes_saved bytes ≡ length (all_nodes t.tree.width t.dims t.tree.table)
   nodes-are =
-      ap (λ k. nodes_unless (load_fault k (slice_index bytes 5) bytes) (slice_index bytes 5) bytes) h.kind_is
-      ∙ ap (λ d. nodes_unless (load_fault kind d bytes) d bytes) h.dims_are
-      ∙ ap (λ o. nodes_unless o t.dims bytes) no-fault
-      ∙ ap (λ r. length (all_nodes 32 t.dims r)) rows-are
+      told-as (λ o k d w. nodes_unless o d w bytes)
+      ∙ ap (λ r. length (all_nodes t.tree.width t.dims r)) rows-are
 
   -- a text that was composed as its line
-  pub sizes-given : (sink now_sink : Taken) (said line : List ℕ) (result : Result Answer Stop) → said ≡ line → line ≡ line_of (checked_words kind t.dims (stats 32 t.dims t.tree.table)) → LineGiven sink now_sink said result → LineGiven sink now_sink (line_of (words_of_snapshot bytes)) result
+  pub sizes-given : (sink now_sink : Taken) (said line : List ℕ) (result : Result Answer Stop) → said ≡ line → line ≡ line_of (checked_words kind t.dims (stats t.tree.width t.dims t.tree.table)) → LineGiven sink now_sink said result → LineGiven sink now_sink (line_of (words_of_snapshot bytes)) result
   sizes-given sink now_sink said line result s l g = subst (λ x. LineGiven sink now_sink x result) (s ∙ l ∙ ap line_of (sym words-are)) g
 
   pub has-sizes : HasSizes bytes (line_of (words_of_snapshot bytes))
-  has-sizes = record { kind = kind; dims = t.dims; rows = t.tree.table; snapshot = h.snapshot; said = ap line_of words-are }
+  has-sizes = record { kind = kind; dims = t.dims; width = t.tree.width; rows = t.tree.table; snapshot = h.snapshot; said = ap line_of words-are }
 
 -- ---- a reply in place of the sizes
 
@@ -96,9 +100,9 @@ module _ (sink now_sink : Taken) where
 
 -- ---- the fault of bytes
 
-words-of_fault : (first : Option Fault) (kind : Kind) (dims : ℕ) (bytes : List ℕ) (reply : Reply) → option_map fault_reply first ≡ Some reply → words_unless first kind dims bytes ≡ reply_words reply
-words-of_fault None kind dims bytes reply h = absurd (let clash : None ≡ Some reply = h in cc)
-words-of_fault (Some fault) kind dims bytes reply h = let same : fault_reply fault ≡ reply = cc in ap reply_words same
+words-of_fault : (first : Option Fault) (kind : Kind) (dims width : ℕ) (bytes : List ℕ) (reply : Reply) → option_map fault_reply first ≡ Some reply → words_unless first kind dims width bytes ≡ reply_words reply
+words-of_fault None kind dims width bytes reply h = absurd (let clash : None ≡ Some reply = h in cc)
+words-of_fault (Some fault) kind dims width bytes reply h = let same : fault_reply fault ≡ reply = cc in ap reply_words same
 
 fault-refused : (first : Option Fault) (reply : Reply) → option_map fault_reply first ≡ Some reply → is_refusal (reply_text reply) ≡ true
 fault-refused None reply h = absurd (let clash : None ≡ Some reply = h in cc)
@@ -109,11 +113,11 @@ fault-refused (Some (bad_short at)) reply h = let same : Reply.BadShort at ≡ r
 fault-refused (Some (bad_node at)) reply h = let same : Reply.BadNode at ≡ reply = cc in rw (← same) refl
 fault-refused (Some (bad_extra at)) reply h = let same : Reply.BadExtra at ≡ reply = cc in rw (← same) refl
 
-module _ (bytes : List ℕ) (fault : LoadFault) (f : IsLoadFault (load_fault (named_kind bytes) (slice_index bytes 5) bytes) fault) (sink now_sink : Taken) where
+module _ (bytes : List ℕ) (fault : LoadFault) (f : IsLoadFault (own_fault bytes) fault) (sink now_sink : Taken) where
   fault-line : {E : Type 0} (reply : Result Told E) → TellsFault fault reply → IsReplyTo (line_of (words_of_snapshot bytes)) reply
   fault-line (Ok reply) h =
-      let first = load_fault (named_kind bytes) (slice_index bytes 5) bytes in
-      ap line_of (words-of_fault first (named_kind bytes) (slice_index bytes 5) bytes (reply_of reply) (h first f))
+      let first = own_fault bytes in
+      ap line_of (words-of_fault first (named_kind bytes) (slice_index bytes 5) (named_width bytes) bytes (reply_of reply) (h first f))
   fault-line (Err error) h = tt
 
   pub fault-given : {E : Type 0} (reply : Result Told E) (result : Result Answer Stop) → TellsFault fault reply → ToldOr sink now_sink reply result → LineGiven sink now_sink (line_of (words_of_snapshot bytes)) result
@@ -121,7 +125,7 @@ module _ (bytes : List ℕ) (fault : LoadFault) (f : IsLoadFault (load_fault (na
 
   pub fault-sizes : {P : Type 0} {E : Type 0} (reply : Result Told E) (result : Result Answer Stop) → TellsFault fault reply → ToldOr sink now_sink reply result → result ≡ Ok answer.Good → P
   fault-sizes {E = E} (Ok reply) result h t e =
-      let first = load_fault (named_kind bytes) (slice_index bytes 5) bytes in
+      let first = own_fault bytes in
       let told : Result Told E = Ok reply in
       never-good sink now_sink (reply_text (reply_of reply)) result (fault-refused first (reply_of reply) (h first f)) (reply-given sink now_sink (reply_text (reply_of reply)) told result refl t) e
   fault-sizes (Err error) (Ok answer) h t e = absurd t
@@ -192,7 +196,7 @@ no-work most file told v c = record {
 
 module _ (most : ℕ) (file : List ℕ) (told now_told : Option Files) (f now_f : ℕ) (sink now_sink : Taken) where
   -- by the line, which is that of the definition where the files were told
-  done-by : (v now_v c now_c : ℕ) (fault : Bool) (line : List ℕ) (result : Result Answer Stop) → Filings true (one_if fault) f now_f → Stays told now_told → (AreTold told → check_line most (told_files told) fault file ≡ line) → LineGiven sink now_sink line result → (AreTold told → result ≡ Ok answer.Good → FileHasSizes (told_files told) file line) → IsBounded most file told v now_v c now_c → CheckDone most file told now_told f now_f sink now_sink v now_v c now_c (status_of result)
+  done-by : (v now_v c now_c : ℕ) (fault : Bool) (line : List ℕ) (result : Result Answer Stop) → Filings true (one_if fault) f now_f → Stays told now_told → (AreTold told → check_line most (told_files told) fault file ≡ line) → LineGiven sink now_sink line result → (AreTold told → result ≡ Ok answer.Good → FileHasSizes (told_files told) file line) → IsBounded most file told v now_v c now_c → CheckDone most file (beside_sink sink told f v c) (beside_sink now_sink now_told now_f now_v now_c) (status_of result)
   done-by v now_v c now_c fault line result n k is g sizes b = record {
     fault = fault;
     counted = n;
@@ -214,13 +218,13 @@ module _ (most : ℕ) (file : List ℕ) (told now_told : Option Files) (f now_f 
   }
 
   -- a reply in place of the sizes: no file was read
-  unread-by : {E : Type 0} (v c : ℕ) (fault : Bool) (reply : Result Told E) (result : Result Answer Stop) → Filings true (one_if fault) f now_f → Stays told now_told → (AreTold told → check_line most (told_files told) fault file ≡ reply_text Reply.ErrorFile) → IsReplyTo (reply_text Reply.ErrorFile) reply → ToldOr sink now_sink reply result → CheckDone most file told now_told f now_f sink now_sink v v c c (status_of result)
+  unread-by : {E : Type 0} (v c : ℕ) (fault : Bool) (reply : Result Told E) (result : Result Answer Stop) → Filings true (one_if fault) f now_f → Stays told now_told → (AreTold told → check_line most (told_files told) fault file ≡ reply_text Reply.ErrorFile) → IsReplyTo (reply_text Reply.ErrorFile) reply → ToldOr sink now_sink reply result → CheckDone most file (beside_sink sink told f v c) (beside_sink now_sink now_told now_f v c) (status_of result)
   unread-by v c fault reply result n k is r t =
       let given : LineGiven sink now_sink (reply_text Reply.ErrorFile) result = reply-given sink now_sink (reply_text Reply.ErrorFile) reply result r t in
       done-by v v c c fault (reply_text Reply.ErrorFile) result n k is given (λ _. never-good sink now_sink (reply_text Reply.ErrorFile) result refl given) (no-work most file told v c)
 
   -- memory was missing
-  starved-by : (v c : ℕ) → now_f ≡ f → Stays told now_told → now_sink ≡ sink → CheckDone most file told now_told f now_f sink now_sink v v c c Memory
+  starved-by : (v c : ℕ) → now_f ≡ f → Stays told now_told → now_sink ≡ sink → CheckDone most file (beside_sink sink told f v c) (beside_sink now_sink now_told now_f v c) Memory
   starved-by v c n k s =
       done-by v v c c false (check_line most (told_files told) false file) (Err stop.NoMemory) (failed-never f now_f (omega (arith, n))) k (λ t. refl) s
       (λ t e. cc) (no-work most file told v c)
@@ -239,14 +243,14 @@ module _ {E : Type 0} (most : ℕ) (file bytes : List ℕ) (told now_told : Opti
   error-line (Ok r) fault h = ap reply_text (sym h.1)
   error-line (Err error) fault h = tt
 
-  starved-told : (reply : Result Told E) (result : Result Answer Stop) → TellsUnfetched unread.NoMemory reply → ToldOr sink now_sink reply result → now_f ≡ f → Stays told now_told → CheckDone most file told now_told f now_f sink now_sink v v c c (status_of result)
+  starved-told : (reply : Result Told E) (result : Result Answer Stop) → TellsUnfetched unread.NoMemory reply → ToldOr sink now_sink reply result → now_f ≡ f → Stays told now_told → CheckDone most file (beside_sink sink told f v c) (beside_sink now_sink now_told now_f v c) (status_of result)
   starved-told (Ok r) result h t n k = absurd (h.0 refl)
   starved-told (Err error) (Ok answer) h t n k = absurd t
   starved-told (Err error) (Err stop.WriteFault) h t n k = absurd (let clash : stop.WriteFault ≡ stop.NoMemory = t.0 in cc)
   starved-told (Err error) (Err stop.NoMemory) h t n k = starved-by most file told now_told f now_f sink now_sink v c n k t.1
 
   -- no file was read
-  pub unfetched-done : (fault : FetchFault) → TellsUnfetched fault reply → Fetches told file most bytes (Err fault) → FetchCounts f now_f (Err fault) → Stays told now_told → ToldOr sink now_sink reply result → CheckDone most file told now_told f now_f sink now_sink v v c c (status_of result)
+  pub unfetched-done : (fault : FetchFault) → TellsUnfetched fault reply → Fetches told file most bytes (Err fault) → FetchCounts f now_f (Err fault) → Stays told now_told → ToldOr sink now_sink reply result → CheckDone most file (beside_sink sink told f v c) (beside_sink now_sink now_told now_f v c) (status_of result)
   unfetched-done unread.Failed h g n k t =
       unread-by most file told now_told f now_f sink now_sink v c true reply result (failed-once f now_f n.0 n.1) k (λ _. refl) (error-line reply unread.Failed h) t
   unfetched-done unread.Absent h g n k t =
@@ -266,7 +270,7 @@ module _ (most : ℕ) (file bytes : List ℕ) where
   read-found (Some files) g t = g
 
 -- a file was read, and its bytes were checked
-pub fetched-done : (most : ℕ) (file bytes : List ℕ) (told now_told : Option Files) (f now_f : ℕ) (sink now_sink : Taken) (v now_v c now_c : ℕ) (result : Result Answer Stop) → Fetches told file most bytes (Ok tt) → length bytes ≤ most → now_f ≡ f → Stays told now_told → LineGiven sink now_sink (line_of (words_of_snapshot bytes)) result → (result ≡ Ok answer.Good → HasSizes bytes (line_of (words_of_snapshot bytes))) → v ≤ now_v → now_v ≤ v + nodes_saved bytes → 16 * now_v ≤ 16 * v + length bytes → c ≤ now_c → 16 * now_c ≤ 16 * c + length bytes → CheckDone most file told now_told f now_f sink now_sink v now_v c now_c (status_of result)
+pub fetched-done : (most : ℕ) (file bytes : List ℕ) (told now_told : Option Files) (f now_f : ℕ) (sink now_sink : Taken) (v now_v c now_c : ℕ) (result : Result Answer Stop) → Fetches told file most bytes (Ok tt) → length bytes ≤ most → now_f ≡ f → Stays told now_told → LineGiven sink now_sink (line_of (words_of_snapshot bytes)) result → (result ≡ Ok answer.Good → HasSizes bytes (line_of (words_of_snapshot bytes))) → v ≤ now_v → now_v ≤ v + nodes_saved bytes → 16 * now_v ≤ 16 * v + length bytes → c ≤ now_c → 16 * now_c ≤ 16 * c + length bytes → CheckDone most file (beside_sink sink told f v c) (beside_sink now_sink now_told now_f now_v now_c) (status_of result)
 fetched-done most file bytes told now_told f now_f sink now_sink v now_v c now_c result g short n k line sizes kept_v most_v few_v kept_c few_c =
     let is : AreTold told → fetch most (told_files told) file ≡ Some bytes = read-fetched most file bytes told g short in
     done-by most file told now_told f now_f sink now_sink v now_v c now_c false (line_of (words_of_snapshot bytes)) result

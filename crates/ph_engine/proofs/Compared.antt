@@ -1,5 +1,5 @@
 -- Slots that are compared.
-use Rattle.std.proofs.Common.{◌≡◌, ◌↔◌, ◌≤◌, ℕ, ◌+◌, Bool, true, false, List, [], ◌∷◌, length, refl, sym, subst, ◌∙◌}
+use Rattle.std.proofs.Common.{◌≡◌, ◌↔◌, ◌≤◌, ℕ, ◌+◌, Bool, true, false, List, [], ◌∷◌, length, refl, sym, subst, ◌∙◌, arith}
 use Rattle.std.specs.Prelude.{◌&&◌, ◌==◌, IsTrue}
 use Rattle.std.specs.Cmp.Lexicographic.{pointwise}
 use Rattle.std.proofs.lemmas.Bool.{and_parts, eqb-true, eq-eqb}
@@ -51,3 +51,16 @@ pub trees-compared : (d : ℕ) (t u : TreeTable) (visits now_visits : ℕ) (resu
 trees-compared d t u visits now_visits result e h later few all =
     let same : result ≡ same_slots (slot_of Points (table_at d t) []) (slot_of Points (table_at d u) []) = row-test result t.table u.table h ∙ same-frame-test d t.width u.width (pointwise same_row t.table u.table) e in
     record { same = same; later = later; few = few; all = λ k. all (same ∙ k) }
+
+not-equal : (v w : ℕ) → (v ≡ w → ⊥) → (v == w) ≡ false
+not-equal v w n = found (v == w) refl
+  where
+    found : (b : Bool) → (v == w) ≡ b → (v == w) ≡ false
+    found true e = absurd (n (eqb-true v w e))
+    found false e = e
+
+-- trees of two widths, of which nothing is visited
+pub widths-differ : (d : ℕ) (t u : TreeTable) (visits : ℕ) → (t.width ≡ u.width → ⊥) → IsCompared (slot_of Points (table_at d t) []) (slot_of Points (table_at d u) []) visits visits false
+widths-differ d t u visits n =
+    let same : false ≡ same_slots (slot_of Points (table_at d t) []) (slot_of Points (table_at d u) []) = rw (eq-eqb d d refl, not-equal t.width u.width n) refl in
+    record { same = same; later = omega arith; few = omega arith; all = λ k. absurd (let clash : false ≡ true = same ∙ k in cc) }

@@ -1,13 +1,14 @@
 -- How a call of the program ends.
-use Rattle.std.proofs.Common.{◌≡◌, ◌≤◌, ℕ, inl, inr, arith, List, length, refl}
+use Rattle.std.proofs.Common.{◌≡◌, ◌≤◌, ℕ, inl, inr, arith, List, length, refl, subst}
 use Rattle.std.specs.Prelude.{◌⊎◌, Some, None}
 use Rattle.std.specs.declared.option.Option.{Option}
 use Rattle.std.specs.Io.KnownBytes.{Consumes}
 use Rattle.std.proofs.lemmas.Grind.{common_steps}
 use Rattle.ph_io.specs.Causes.{Rose}
+use Rattle.ph_specs.specs.Program.{Task, Run}
 use Rattle.ph_engine.specs.Beside.{Beside}
 use Rattle.ph_engine.specs.ScriptMachine.{script_machine}
-use Rattle.ph_engine.specs.Ending.{RunEnds}
+use Rattle.ph_engine.specs.Ending.{RunEnds, TopEnds}
 use Rattle.ph_engine.specs.Outcomes.{Outcome}
 use Rattle.ph_engine.specs.Statuses.{IsRead, HasAtMost, HasCauses}
 use Rattle.ph_engine.specs.declared.status.Status.{Status}
@@ -45,3 +46,7 @@ run_ends limits before now status h c f = record {
   filings = f;
   complete = λ told. complete (script_machine limits.file_bytes) limits.script_bytes before.left now.left before.at.beside now.at.beside (whole_of before.at) (whole_of now.at) before.reads now.reads before.writes now.writes status (h told) c;
 }
+
+-- a run that was asked for
+pub ran : (limits : Limits) (asked : Task) (before now : Seen) (status : Status) → Run ≡ asked → RunEnds limits before now status → TopEnds limits asked before now status
+ran limits asked before now status e h = subst (λ t. TopEnds limits t before now status) e h

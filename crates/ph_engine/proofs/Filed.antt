@@ -24,10 +24,11 @@ use Rattle.ph_specs.specs.declared.Kind.{Kind}
 use Rattle.ph_specs.specs.declared.Kind.TheVariants.{Points, Boxes}
 use Rattle.ph_script.specs.declared.reply.Reply.{Reply as Told}
 use Rattle.ph_script.specs.Meaning.{reply_of}
-use Rattle.ph_engine.specs.Beside.{beside_sink, Filings, Tells, IsTold, StillTells}
+use Rattle.ph_engine.specs.Beside.{aside, beside_sink, Filings, Tells, IsTold, StillTells}
 use Rattle.ph_engine.specs.Doing.{Begun, Does, DoneOr, Knows, ServedOr, Leads, fetches, imported, is_page, cut_engine, starved_engine, takes_memory, uses_files}
-use Rattle.ph_engine.specs.Drafting.{Unfilled}
+use Rattle.ph_engine.specs.Drafting.{Shelf, Unfilled}
 use Rattle.ph_engine.specs.Filing.{Filed, Unfiled, FiledOr, Entered, LoadsOr, TellsUnfetched, read_table, read_reply}
+use Rattle.ph_engine.specs.Recording.{Unwritten}
 use Rattle.ph_engine.specs.Refusing.{or_else, early_refusal, late_refusal}
 use Rattle.ph_engine.specs.Slots.{AnyTable, slot_of, engine_of}
 use Rattle.ph_engine.specs.Working.{work, work_of, engine_bounds, least_unless, IsAtMost, IsAtLeast}
@@ -42,7 +43,7 @@ use Rattle.ph_engine.proofs.Refused.{refusal-parts}
 -- ---- once the reply was given to a sink
 
 module _ (most : ℕ) (e now : Engine) (command : Command) (told now_told : Option Files) (f now_f v now_v c now_c : ℕ) (sink now_sink : Taken) where
-  filed-said : (reply : Told) (result : Result Answer Stop) → now ≡ cut_engine e command now → Filed most e command told now_told f now_f v now_v c now_c now (reply_of reply) → Says sink now_sink reply result → DoneOr most e command (beside_sink sink told f v c) (beside_sink now_sink now_told now_f now_v now_c) now result
+  filed-said : (reply : Told) (result : Result Answer Stop) → now ≡ cut_engine e command now → Filed most e command (aside told f v c) (aside now_told now_f now_v now_c) now (reply_of reply) → Says sink now_sink reply result → DoneOr most e command (beside_sink sink told f v c) (beside_sink now_sink now_told now_f now_v now_c) now result
   filed-said reply (Ok answer) p h t = record {
     fault = h.fault;
     filings = h.counted;
@@ -67,7 +68,7 @@ module _ (most : ℕ) (e now : Engine) (command : Command) (told now_told : Opti
   }
   filed-said reply (Err NoMemory) p h t = absurd (let clash : NoMemory ≡ WriteFault = t.0 in cc)
 
-  unfiled-said : (stop : Stop) → stop ≡ NoMemory → now_sink ≡ sink → Unfiled most e command told now_told f now_f v now_v c now_c now → DoneOr most e command (beside_sink sink told f v c) (beside_sink now_sink now_told now_f now_v now_c) now (Err stop)
+  unfiled-said : (stop : Stop) → stop ≡ NoMemory → now_sink ≡ sink → Unfiled most e command (aside told f v c) (aside now_told now_f now_v now_c) now → DoneOr most e command (beside_sink sink told f v c) (beside_sink now_sink now_told now_f now_v now_c) now (Err stop)
   unfiled-said WriteFault s k h = absurd (let clash : WriteFault ≡ NoMemory = s in cc)
   unfiled-said NoMemory s k h = record {
     fault = h.fault;
@@ -80,7 +81,7 @@ module _ (most : ℕ) (e now : Engine) (command : Command) (told now_told : Opti
     most_work = h.most_work;
   }
 
-  pub done-filed : {E : Type 0} (reply : Result Told E) (result : Result Answer Stop) → is_page command ≡ false → FiledOr most e command told now_told f now_f v now_v c now_c now reply → ToldOr sink now_sink reply result → DoneOr most e command (beside_sink sink told f v c) (beside_sink now_sink now_told now_f now_v now_c) now result
+  pub done-filed : {E : Type 0} (reply : Result Told E) (result : Result Answer Stop) → is_page command ≡ false → FiledOr most e command (aside told f v c) (aside now_told now_f now_v now_c) now reply → ToldOr sink now_sink reply result → DoneOr most e command (beside_sink sink told f v c) (beside_sink now_sink now_told now_f now_v now_c) now result
   done-filed (Ok reply) result page h t = filed-said reply result (rw page refl) h t
   done-filed (Err error) (Ok answer) page h t = absurd t
   done-filed (Err error) (Err stop) page h t = unfiled-said stop t.0 t.1 h
@@ -90,7 +91,7 @@ module _ (most : ℕ) (e now : Engine) (command : Command) (told now_told : Opti
 leaves-filings : (command : Command) (f : ℕ) → Filings (uses_files command) 0 f f
 leaves-filings command f = record { told = inr (omega arith); later = omega arith; quiet = λ _. refl }
 
-filed-quietly : (most : ℕ) (e now : Engine) (command : Command) (reply : Reply) (told : Option Files) (f v now_v c now_c : ℕ) → Does e command now (reply ∷ []) → ((most : ℕ) (files : Files) (fault : Bool) → IsAtMost (work_of most e files fault command) v now_v c now_c) → ((most : ℕ) (files : Files) (fault : Bool) → IsAtLeast (work_of most e files fault command) v now_v c now_c) → Filed most e command told told f f v now_v c now_c now reply
+filed-quietly : (most : ℕ) (e now : Engine) (command : Command) (reply : Reply) (told : Option Files) (f v now_v c now_c : ℕ) → Does e command now (reply ∷ []) → ((most : ℕ) (files : Files) (fault : Bool) → IsAtMost (work_of most e files fault command) v now_v c now_c) → ((most : ℕ) (files : Files) (fault : Bool) → IsAtLeast (work_of most e files fault command) v now_v c now_c) → Filed most e command (aside told f v c) (aside told f now_v now_c) now reply
 filed-quietly most e now command reply told f v now_v c now_c does few enough = record {
   fault = false;
   counted = leaves-filings command f;
@@ -100,11 +101,11 @@ filed-quietly most e now command reply told f v now_v c now_c does few enough = 
 }
 
 -- a command that makes a slot another one
-pub filed-begun : (most : ℕ) (s now : Slot) (command : Command) (reply : Reply) (told : Option Files) (f v c : ℕ) → Begun s command now reply → Filed most (engine_of s) command told told f f v v c c (engine_of now) reply
+pub filed-begun : (most : ℕ) (s now : Slot) (command : Command) (reply : Reply) (told : Option Files) (f v c : ℕ) → Begun s command now reply → Filed most (engine_of s) command (aside told f v c) (aside told f v c) (engine_of now) reply
 filed-begun most s now command reply told f v c h = filed-quietly most (engine_of s) (engine_of now) command reply told f v v c c h.does (h.most v c) (h.least v c)
 
 -- a command about the rows of a table
-pub filed-served : {E : Type 0} (most : ℕ) (kind : Kind) (t now : AnyTable) (cursors : Named Cursor) (command : Command) (result : Result Told E) (told : Option Files) (f v now_v c now_c : ℕ) → IsPlain command → early_refusal (slot_of kind t cursors) command ≡ None → ServedOr t command now v now_v c now_c result → FiledOr most (engine_of (slot_of kind t cursors)) command told told f f v now_v c now_c (engine_of (slot_of kind now cursors)) result
+pub filed-served : {E : Type 0} (most : ℕ) (kind : Kind) (t now : AnyTable) (cursors : Named Cursor) (command : Command) (result : Result Told E) (told : Option Files) (f v now_v c now_c : ℕ) → IsPlain command → early_refusal (slot_of kind t cursors) command ≡ None → ServedOr t command now v now_v c now_c result → FiledOr most (engine_of (slot_of kind t cursors)) command (aside told f v c) (aside told f now_v now_c) (engine_of (slot_of kind now cursors)) result
 filed-served most kind t now cursors command (Ok reply) told f v now_v c now_c p u h =
     filed-quietly most (engine_of (slot_of kind t cursors)) (engine_of (slot_of kind now cursors)) command (reply_of reply) told f v now_v c now_c
     (does-at kind t now cursors command (reply_of reply) p u (h.does cursors))
@@ -170,42 +171,42 @@ module _ (command : Command) (name : List ℕ) (bytes : Slot → List ℕ) (repl
   unfilled-leads most s None now_told h files x = record { files = files; is = store-fails most s files; told_files = tt }
   unfilled-leads most s (Some old) now_told h files x = record { files = files; is = store-fails most s files; told_files = h ∙ ap Some x }
 
-  module _ (most : ℕ) (s : Slot) (told now_told : Option Files) (f now_f v now_v c : ℕ) where
+  module _ (most : ℕ) (s : Slot) (before now : Shelf) (v now_v c : ℕ) where
     store-most : (files : Files) (fault : Bool) → now_v ≤ v + length (all_nodes s.width s.dims s.table) → IsAtMost (work_of most (engine_of s) files fault command) v now_v c c
     store-most files fault few = rw (k.costs s files) (record { few_visits = few; few_changes = omega arith })
 
-    pub stored-filed : now_v ≡ v + length (all_nodes s.width s.dims s.table) → Entered told now_told f now_f name (bytes s) (length (bytes s)) → Filed most (engine_of s) command told now_told f now_f v now_v c c (engine_of s) (reply s)
+    pub stored-filed : now_v ≡ v + length (all_nodes s.width s.dims s.table) → Entered before now name (bytes s) (length (bytes s)) → Filed most (engine_of s) command (aside before.files before.faults v c) (aside now.files now.faults now_v c) (engine_of s) (reply s)
     stored-filed all h = record {
       fault = false;
-      counted = rw k.uses (failed-never f now_f h.later);
-      does = entered-leads most s told now_told h.entered;
+      counted = rw k.uses (failed-never before.faults now.faults h.later);
+      does = entered-leads most s before.files now.files h.entered;
       most_work = λ files x. store-most files false (omega (arith, all));
       least_work = λ files x. rw (k.costs s files, store-refusal most s files false) (record { enough_visits = omega (arith, all); enough_changes = omega arith });
     }
 
-    pub unstored-filed : v ≤ now_v → now_v ≤ v + length (all_nodes s.width s.dims s.table) → Unfilled told now_told f now_f → Filed most (engine_of s) command told now_told f now_f v now_v c c (engine_of s) Reply.ErrorFile
+    pub unstored-filed : v ≤ now_v → now_v ≤ v + length (all_nodes s.width s.dims s.table) → Unfilled before now → Filed most (engine_of s) command (aside before.files before.faults v c) (aside now.files now.faults now_v c) (engine_of s) Reply.ErrorFile
     unstored-filed later few h = record {
       fault = true;
-      counted = rw k.uses (failed-once f now_f h.later h.rose);
-      does = unfilled-leads most s told now_told h.stays;
+      counted = rw k.uses (failed-once before.faults now.faults h.later h.rose);
+      does = unfilled-leads most s before.files now.files h.stays;
       most_work = λ files x. store-most files true few;
       least_work = λ files x. rw (k.costs s files, store-refusal most s files true) (record { enough_visits = omega (arith, later); enough_changes = omega arith });
     }
 
-    pub starved-store : takes_memory s command ≡ true → ((files : Files) → imported s files command ≡ None) → now_v ≤ v + length (all_nodes s.width s.dims s.table) → f ≤ now_f → Stays told now_told → Unfiled most (engine_of s) command told now_told f now_f v now_v c c (engine_of s)
-    starved-store takes none few later stays = record {
+    pub starved-store : takes_memory s command ≡ true → ((files : Files) → imported s files command ≡ None) → now_v ≤ v + length (all_nodes s.width s.dims s.table) → Unwritten before now → Unfiled most (engine_of s) command (aside before.files before.faults v c) (aside now.files now.faults now_v c) (engine_of s)
+    starved-store takes none few h = record {
       fault = false;
-      counted = rw k.uses (failed-never f now_f later);
+      counted = rw k.uses (failed-never before.faults now.faults h.later);
       part = 0;
       state = λ files x. rw (none files) refl;
-      kept = λ files x. still-told told now_told files stays x;
+      kept = λ files x. still-told before.files now.files files h.stays x;
       wanted = rw (k.early s) takes;
       most_work = λ files x. store-most files false few;
     }
 
 -- ---- save
 
-store-save : (name : List ℕ) → IsStore (Command.Save name) name (λ s. snap s.kind s.dims s.table) (λ s. Reply.Saved (length (snap s.kind s.dims s.table)))
+store-save : (name : List ℕ) → IsStore (Command.Save name) name (λ s. snap s.kind s.dims s.width s.table) (λ s. Reply.Saved (length (snap s.kind s.dims s.width s.table)))
 store-save name = record {
   uses = refl;
   early = λ s. by-kind s.kind s.width s.dims s.max s.table s.cursors;
@@ -218,12 +219,12 @@ store-save name = record {
     by-kind Points width dims max table cursors = refl
     by-kind Boxes width dims max table cursors = refl
 
-module _ (most : ℕ) (s : Slot) (name : List ℕ) (told now_told : Option Files) (f now_f v now_v c : ℕ) where
-  pub saved-filed : (count : ℕ) → now_v ≡ v + length (all_nodes s.width s.dims s.table) → Entered told now_told f now_f name (snap s.kind s.dims s.table) count → Filed most (engine_of s) (Command.Save name) told now_told f now_f v now_v c c (engine_of s) (Reply.Saved count)
-  saved-filed count all h = rw h.counted (stored-filed (Command.Save name) name _ _ (store-save name) most s told now_told f now_f v now_v c all (record { counted = refl; later = h.later; entered = h.entered }))
+module _ (most : ℕ) (s : Slot) (name : List ℕ) (before now : Shelf) (v now_v c : ℕ) where
+  pub saved-filed : (count : ℕ) → now_v ≡ v + length (all_nodes s.width s.dims s.table) → Entered before now name (snap s.kind s.dims s.width s.table) count → Filed most (engine_of s) (Command.Save name) (aside before.files before.faults v c) (aside now.files now.faults now_v c) (engine_of s) (Reply.Saved count)
+  saved-filed count all h = rw h.counted (stored-filed (Command.Save name) name _ _ (store-save name) most s before now v now_v c all (record { counted = refl; later = h.later; entered = h.entered }))
 
-  pub unsaved-filed : v ≤ now_v → now_v ≤ v + length (all_nodes s.width s.dims s.table) → Unfilled told now_told f now_f → Filed most (engine_of s) (Command.Save name) told now_told f now_f v now_v c c (engine_of s) Reply.ErrorFile
-  unsaved-filed later few h = unstored-filed (Command.Save name) name _ _ (store-save name) most s told now_told f now_f v now_v c later few h
+  pub unsaved-filed : v ≤ now_v → now_v ≤ v + length (all_nodes s.width s.dims s.table) → Unfilled before now → Filed most (engine_of s) (Command.Save name) (aside before.files before.faults v c) (aside now.files now.faults now_v c) (engine_of s) Reply.ErrorFile
+  unsaved-filed later few h = unstored-filed (Command.Save name) name _ _ (store-save name) most s before now v now_v c later few h
 
 -- ---- commands that read a file
 
@@ -295,7 +296,7 @@ module _ (command : Command) (name : List ℕ) (k : IsFetch command name) where
     fetch-idle files fault h i = record { few_visits = omega (arith, h); few_changes = omega (arith, i) }
 
     -- a file was read, and what was to be done with its bytes is done
-    pub fetched-filed : (told now_told : Option Files) (now : Engine) (reply : Reply) → Fetches told name most bytes (Ok tt) → Stays told now_told → now_f ≡ f → ((files : Files) → lookup name files ≡ Some bytes → act most (engine_of s) files false command ≡ outcome now files (reply ∷ [])) → ((files : Files) → lookup name files ≡ Some bytes → IsAtMost (work_of most (engine_of s) files false command) v now_v c now_c) → v ≤ now_v → c ≤ now_c → Filed most (engine_of s) command told now_told f now_f v now_v c now_c now reply
+    pub fetched-filed : (told now_told : Option Files) (now : Engine) (reply : Reply) → Fetches told name most bytes (Ok tt) → Stays told now_told → now_f ≡ f → ((files : Files) → lookup name files ≡ Some bytes → act most (engine_of s) files false command ≡ outcome now files (reply ∷ [])) → ((files : Files) → lookup name files ≡ Some bytes → IsAtMost (work_of most (engine_of s) files false command) v now_v c now_c) → v ≤ now_v → c ≤ now_c → Filed most (engine_of s) command (aside told f v c) (aside now_told now_f now_v now_c) now reply
     fetched-filed None now_told now reply g st e does few h i = record {
       fault = false;
       counted = rw k.uses (failed-never f now_f (omega (arith, e)));
@@ -312,7 +313,7 @@ module _ (command : Command) (name : List ℕ) (k : IsFetch command name) where
     }
 
     -- no file could be read
-    unfetched-filed : (told now_told : Option Files) (fault : FetchFault) → (fault ≡ by.NoMemory → ⊥) → Fetches told name most bytes (Err fault) → FetchCounts f now_f (Err fault) → Stays told now_told → now_v ≡ v → now_c ≡ c → Filed most (engine_of s) command told now_told f now_f v now_v c now_c (engine_of s) Reply.ErrorFile
+    unfetched-filed : (told now_told : Option Files) (fault : FetchFault) → (fault ≡ by.NoMemory → ⊥) → Fetches told name most bytes (Err fault) → FetchCounts f now_f (Err fault) → Stays told now_told → now_v ≡ v → now_c ≡ c → Filed most (engine_of s) command (aside told f v c) (aside now_told now_f now_v now_c) (engine_of s) Reply.ErrorFile
     unfetched-filed told now_told by.Failed n g counts st h i = record {
       fault = true;
       counted = rw k.uses (failed-once f now_f counts.0 counts.1);
@@ -336,7 +337,7 @@ module _ (command : Command) (name : List ℕ) (k : IsFetch command name) where
     }
     unfetched-filed told now_told by.NoMemory n g counts st h i = absurd (n refl)
 
-    starved : (told now_told : Option Files) (now : Engine) (part : ℕ) → Stays told now_told → now_f ≡ f → ((files : Files) → Knows command told files → now ≡ starved_engine (engine_of s) files command part) → ((files : Files) → Knows command told files → IsAtMost (work_of most (engine_of s) files false command) v now_v c now_c) → Unfiled most (engine_of s) command told now_told f now_f v now_v c now_c now
+    starved : (told now_told : Option Files) (now : Engine) (part : ℕ) → Stays told now_told → now_f ≡ f → ((files : Files) → Knows command told files → now ≡ starved_engine (engine_of s) files command part) → ((files : Files) → Knows command told files → IsAtMost (work_of most (engine_of s) files false command) v now_v c now_c) → Unfiled most (engine_of s) command (aside told f v c) (aside now_told now_f now_v now_c) now
     starved told now_told now part st e is few = record {
       fault = false;
       counted = rw k.uses (failed-never f now_f (omega (arith, e)));
@@ -347,13 +348,13 @@ module _ (command : Command) (name : List ℕ) (k : IsFetch command name) where
       most_work = few;
     }
 
-    pub unfetched-filed-or : {E : Type 0} (told now_told : Option Files) (fault : FetchFault) (result : Result Told E) → TellsUnfetched fault result → Fetches told name most bytes (Err fault) → FetchCounts f now_f (Err fault) → Stays told now_told → now_v ≡ v → now_c ≡ c → FiledOr most (engine_of s) command told now_told f now_f v now_v c now_c (engine_of s) result
+    pub unfetched-filed-or : {E : Type 0} (told now_told : Option Files) (fault : FetchFault) (result : Result Told E) → TellsUnfetched fault result → Fetches told name most bytes (Err fault) → FetchCounts f now_f (Err fault) → Stays told now_told → now_v ≡ v → now_c ≡ c → FiledOr most (engine_of s) command (aside told f v c) (aside now_told now_f now_v now_c) (engine_of s) result
     unfetched-filed-or told now_told fault (Ok reply) t g counts st h i = rw t.1 (unfetched-filed told now_told fault t.0 g counts st h i)
     unfetched-filed-or told now_told fault (Err error) t g counts st h i =
         starved told now_told (engine_of s) 0 st (rw t at counts) (λ files x. sym (k.none_in s files)) (λ files x. fetch-idle files false h i)
 
     -- memory was missing behind a file that was read
-    pub fetched-starved : (told now_told : Option Files) (now : Engine) (part : ℕ) → Fetches told name most bytes (Ok tt) → Stays told now_told → now_f ≡ f → ((files : Files) → lookup name files ≡ Some bytes → now ≡ starved_engine (engine_of s) files command part) → ((files : Files) → lookup name files ≡ Some bytes → IsAtMost (work_of most (engine_of s) files false command) v now_v c now_c) → Unfiled most (engine_of s) command told now_told f now_f v now_v c now_c now
+    pub fetched-starved : (told now_told : Option Files) (now : Engine) (part : ℕ) → Fetches told name most bytes (Ok tt) → Stays told now_told → now_f ≡ f → ((files : Files) → lookup name files ≡ Some bytes → now ≡ starved_engine (engine_of s) files command part) → ((files : Files) → lookup name files ≡ Some bytes → IsAtMost (work_of most (engine_of s) files false command) v now_v c now_c) → Unfiled most (engine_of s) command (aside told f v c) (aside now_told now_f now_v now_c) now
     fetched-starved None now_told now part g st e is few = starved None now_told now part st e (λ files x. absurd (unknown files x)) (λ files x. absurd (unknown files x))
     fetched-starved (Some old) now_told now part g st e is few =
         starved (Some old) now_told now part st e (λ files x. is files (ap (lookup name) (sym x) ∙ g)) (λ files x. few files (ap (lookup name) (sym x) ∙ g))
@@ -385,11 +386,11 @@ by-read kind t cursors files name (Ok rows) h =
       | false ↦ ap (load_outcome (engine_of (slot_of kind t cursors)) files) h
     ]
 
-load-does : (most : ℕ) (kind : Kind) (t : AnyTable) (cursors : Named Cursor) (files : Files) (name bytes : List ℕ) → length bytes ≤ most → lookup name files ≡ Some bytes → let read = read_snapshot kind t.dims bytes in act most (engine_of (slot_of kind t cursors)) files false (Command.Load name) ≡ outcome (engine_of (slot_of kind (read_table t read) cursors)) files (read_reply t.tree.max read ∷ [])
+load-does : (most : ℕ) (kind : Kind) (t : AnyTable) (cursors : Named Cursor) (files : Files) (name bytes : List ℕ) → length bytes ≤ most → lookup name files ≡ Some bytes → let read = read_snapshot kind t.dims t.tree.width bytes in act most (engine_of (slot_of kind t cursors)) files false (Command.Load name) ≡ outcome (engine_of (slot_of kind (read_table t read) cursors)) files (read_reply t.tree.max read ∷ [])
 load-does most kind t cursors files name bytes short l =
     let s = slot_of kind t cursors in
     let read = table_read s files (Command.Load name) in
-    let is : read ≡ read_snapshot kind t.dims bytes = ap (λ x. read_snapshot kind t.dims (bytes_of x)) l in
+    let is : read ≡ read_snapshot kind t.dims t.tree.width bytes = ap (λ x. read_snapshot kind t.dims t.tree.width (bytes_of x)) l in
     fetched-act (Command.Load name) name (fetch-load name) most s files bytes l short
     ∙ by-read kind t cursors files name read refl
     ∙ ap (λ x. outcome (engine_of (slot_of kind (read_table t x) cursors)) files (read_reply t.tree.max x ∷ [])) is
@@ -398,7 +399,7 @@ module _ (most : ℕ) (kind : Kind) (t : AnyTable) (cursors : Named Cursor) (nam
   load-most : 16 * now_c ≤ 16 * c + length bytes → (files : Files) → lookup name files ≡ Some bytes → IsAtMost (work_of most (engine_of (slot_of kind t cursors)) files false (Command.Load name)) v v c now_c
   load-most few files l = rw l (record { few_visits = omega arith; few_changes = omega (arith, few) })
 
-  pub read-filed-or : {E : Type 0} (told now_told : Option Files) (now : AnyTable) (result : Result Told E) → Fetches told name most bytes (Ok tt) → length bytes ≤ most → Stays told now_told → now_f ≡ f → LoadsOr kind t bytes now result → c ≤ now_c → 16 * now_c ≤ 16 * c + length bytes → FiledOr most (engine_of (slot_of kind t cursors)) (Command.Load name) told now_told f now_f v v c now_c (engine_of (slot_of kind now cursors)) result
+  pub read-filed-or : {E : Type 0} (told now_told : Option Files) (now : AnyTable) (result : Result Told E) → Fetches told name most bytes (Ok tt) → length bytes ≤ most → Stays told now_told → now_f ≡ f → LoadsOr kind t bytes now result → c ≤ now_c → 16 * now_c ≤ 16 * c + length bytes → FiledOr most (engine_of (slot_of kind t cursors)) (Command.Load name) (aside told f v c) (aside now_told now_f v now_c) (engine_of (slot_of kind now cursors)) result
   read-filed-or told now_told now (Ok reply) g short st e h later few =
       fetched-filed (Command.Load name) name (fetch-load name) most (slot_of kind t cursors) bytes f now_f v v c now_c told now_told (engine_of (slot_of kind now cursors)) (reply_of reply) g st e
       (λ files l. load-does most kind t cursors files name bytes short l ∙ (λ i. outcome (engine_of (slot_of kind (sym h.0 i) cursors)) files (sym h.1 i ∷ [])))

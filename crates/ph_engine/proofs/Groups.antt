@@ -8,7 +8,7 @@ use Rattle.ph_specs.specs.declared.Kind.{Kind}
 use Rattle.ph_engine.specs.Doing.{is_tried, is_sure, is_listed}
 
 pub all-tried : (c : Command) → is_tried (command_of c) ≡ true → ((at : List Coord) (value : ℕ) → c ≡ by.Put at value → ⊥) → ((at : List Coord) → c ≡ by.Del at → ⊥) → ((from : List Coord) (to : List Coord) → c ≡ by.Relocate from to → ⊥) → ((file : List ℕ) → c ≡ by.Load file → ⊥) → ((file : List ℕ) (header : Bool) → c ≡ by.Import file header → ⊥) → ((file : List ℕ) → c ≡ by.Export file → ⊥) → ⊥
-all-tried (by.Begin kind k max) h n1 n2 n3 n4 n5 n6 = absurd cc
+all-tried (by.Begin kind k width max) h n1 n2 n3 n4 n5 n6 = absurd cc
 all-tried (by.Put at value) h n1 n2 n3 n4 n5 n6 = n1 at value refl
 all-tried (by.Get at) h n1 n2 n3 n4 n5 n6 = absurd cc
 all-tried (by.Del at) h n1 n2 n3 n4 n5 n6 = n2 at refl
@@ -31,8 +31,8 @@ all-tried by.Stats h n1 n2 n3 n4 n5 n6 = absurd cc
 all-tried (by.Select which) h n1 n2 n3 n4 n5 n6 = absurd cc
 all-tried by.Same h n1 n2 n3 n4 n5 n6 = absurd cc
 
-pub all-sure : (c : Command) → is_sure (command_of c) ≡ true → ((kind : Kind) (k : ℕ) (max : ℕ) → c ≡ by.Begin kind k max → ⊥) → ((at : List Coord) → c ≡ by.Get at → ⊥) → (c ≡ by.Count → ⊥) → (c ≡ by.Clear → ⊥) → ((name : List ℕ) (lo : List Coord) (hi : List Coord) → c ≡ by.Cursor name lo hi → ⊥) → ((file : List ℕ) → c ≡ by.Save file → ⊥) → ⊥
-all-sure (by.Begin kind k max) h n1 n2 n3 n4 n5 n6 = n1 kind k max refl
+pub all-sure : (c : Command) → is_sure (command_of c) ≡ true → ((kind : Kind) (k : ℕ) (width : ℕ) (max : ℕ) → c ≡ by.Begin kind k width max → ⊥) → ((at : List Coord) → c ≡ by.Get at → ⊥) → (c ≡ by.Count → ⊥) → (c ≡ by.Clear → ⊥) → ((name : List ℕ) (lo : List Coord) (hi : List Coord) → c ≡ by.Cursor name lo hi → ⊥) → ((file : List ℕ) → c ≡ by.Save file → ⊥) → ⊥
+all-sure (by.Begin kind k width max) h n1 n2 n3 n4 n5 n6 = n1 kind k width max refl
 all-sure (by.Put at value) h n1 n2 n3 n4 n5 n6 = absurd cc
 all-sure (by.Get at) h n1 n2 n3 n4 n5 n6 = n2 at refl
 all-sure (by.Del at) h n1 n2 n3 n4 n5 n6 = absurd cc
@@ -56,7 +56,7 @@ all-sure (by.Select which) h n1 n2 n3 n4 n5 n6 = absurd cc
 all-sure by.Same h n1 n2 n3 n4 n5 n6 = absurd cc
 
 pub all-lists : (c : Command) → is_listed (command_of c) ≡ true → ((lo : List Coord) (hi : List Coord) → c ≡ by.Window lo hi → ⊥) → ((name : List ℕ) (count : ℕ) → c ≡ by.Page name count → ⊥) → ((q : List Coord) (count : ℕ) → c ≡ by.Near q count → ⊥) → ((q : List Coord) (r : ℕ) → c ≡ by.Within q r → ⊥) → ((bounds : List Coord) → c ≡ by.Overlap bounds → ⊥) → ((bounds : List Coord) → c ≡ by.Inside bounds → ⊥) → ((bounds : List Coord) → c ≡ by.Covers bounds → ⊥) → (c ≡ by.Stats → ⊥) → ⊥
-all-lists (by.Begin kind k max) h n1 n2 n3 n4 n5 n6 n7 n8 = absurd cc
+all-lists (by.Begin kind k width max) h n1 n2 n3 n4 n5 n6 n7 n8 = absurd cc
 all-lists (by.Put at value) h n1 n2 n3 n4 n5 n6 n7 n8 = absurd cc
 all-lists (by.Get at) h n1 n2 n3 n4 n5 n6 n7 n8 = absurd cc
 all-lists (by.Del at) h n1 n2 n3 n4 n5 n6 n7 n8 = absurd cc

@@ -24,7 +24,6 @@ pub mod Loads
 pub mod OwnDims
 pub mod Checked
 pub mod Soaks
-pub mod Whole
 pub mod Ends
 pub mod Slotted
 pub mod Recorded

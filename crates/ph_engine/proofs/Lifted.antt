@@ -49,7 +49,7 @@ import-lifted e files (Ok rows) = refl
 import-lifted e files (Err fault) = stays e files (fault ∷ [])
 
 effect-lifted : (e : Engine) (files : Files) (cmd : Command) → is_on_slot cmd ≡ true → effect e files cmd ≡ lift e (effect (engine_of (current e)) files cmd)
-effect-lifted e files (Command.Begin kind k max) h = refl
+effect-lifted e files (Command.Begin kind k width max) h = refl
 effect-lifted e files (Command.Put p v) h = refl
 effect-lifted e files (Command.Get p) h = stays e files _
 effect-lifted e files (Command.Del p) h = refl
@@ -82,7 +82,7 @@ act-lifted most e files fault cmd h = unless-lifted (refusal most e files fault 
 -- ---- its work
 
 bounds-lifted : (e : Engine) (files : Files) (cmd : Command) → is_on_slot cmd ≡ true → engine_bounds e files cmd ≡ engine_bounds (engine_of (current e)) files cmd
-bounds-lifted e files (Command.Begin kind k max) h = refl
+bounds-lifted e files (Command.Begin kind k width max) h = refl
 bounds-lifted e files (Command.Put p v) h = refl
 bounds-lifted e files (Command.Get p) h = refl
 bounds-lifted e files (Command.Del p) h = refl
@@ -163,7 +163,7 @@ done-lifted most e s cmd b now_b (Err NoMemory) h d = record {
 
 -- the commands of the code but two are on a slot
 pub on-slot : (c : Written) → ((which : Which) → c ≡ by.Select which → ⊥) → (c ≡ by.Same → ⊥) → is_on_slot (command_of c) ≡ true
-on-slot (by.Begin kind k max) n m = refl
+on-slot (by.Begin kind k width max) n m = refl
 on-slot (by.Put at value) n m = refl
 on-slot (by.Get at) n m = refl
 on-slot (by.Del at) n m = refl

@@ -3,11 +3,11 @@ use Rattle.std.proofs.Common.{◌≡◌, ℕ, true, false, List, [], ◌∷◌, 
 use Rattle.std.specs.Prelude.{Option, Some, None, option_map, Result, Ok, Err, nat_lt, if◌then◌else◌}
 use Rattle.std.proofs.lemmas.Bool.{and_parts}
 use Rattle.ph_specs.specs.Coordinate.{is_box}
+use Rattle.ph_specs.specs.Boxes.{AreBoxes}
 use Rattle.ph_specs.specs.KindRows.{rows_fit}
-use Rattle.ph_specs.specs.Load.{Fault, dims_fit, load_fault}
+use Rattle.ph_specs.specs.Load.{Fault, load_fault}
 use Rattle.ph_specs.specs.Reply.{Reply}
 use Rattle.ph_specs.specs.SavedTable.{fault_reply, read_unless, read_snapshot}
-use Rattle.ph_specs.specs.Snapshot.{kind_byte}
 use Rattle.ph_specs.specs.Table.{Row}
 use Rattle.ph_specs.specs.declared.Kind.{Kind}
 use Rattle.ph_specs.specs.declared.Kind.TheVariants.{Points, Boxes}
@@ -16,28 +16,7 @@ use Rattle.ph_script.specs.Meaning.{reply_of}
 use Rattle.ph_snap.specs.Faults.{IsLoadFault}
 use Rattle.ph_snap.specs.declared.fault.LoadFault.{LoadFault}
 use Rattle.ph_engine.specs.Filing.{SameFrame, LoadsOr, TellsFault, loaded_table, read_table, read_reply}
-use Rattle.ph_engine.specs.Slots.{AnyTable, any_table, table_at, AreBoxes, IsOfKind}
-use Rattle.ph_engine.specs.declared.trees.AnyTree.{AnyTree}
-use Rattle.ph_engine.specs.declared.trees.AnyTree.TheVariants as by
-
--- the dimensions of a tree go with its kind
-pub kind-dims : (tree : AnyTree) (kind : Kind) → IsOfKind kind (any_table tree) → dims_fit 8 (kind_byte kind) (any_table tree).dims ≡ true
-kind-dims (by.D1 t) Points h = refl
-kind-dims (by.D2 t) Points h = refl
-kind-dims (by.D3 t) Points h = refl
-kind-dims (by.D4 t) Points h = refl
-kind-dims (by.D5 t) Points h = refl
-kind-dims (by.D6 t) Points h = refl
-kind-dims (by.D7 t) Points h = refl
-kind-dims (by.D8 t) Points h = refl
-kind-dims (by.D1 t) Boxes h = absurd (let odd : 1 ≡ 0 = h.0 in cc)
-kind-dims (by.D2 t) Boxes h = refl
-kind-dims (by.D3 t) Boxes h = absurd (let odd : 1 ≡ 0 = h.0 in cc)
-kind-dims (by.D4 t) Boxes h = refl
-kind-dims (by.D5 t) Boxes h = absurd (let odd : 1 ≡ 0 = h.0 in cc)
-kind-dims (by.D6 t) Boxes h = refl
-kind-dims (by.D7 t) Boxes h = absurd (let odd : 1 ≡ 0 = h.0 in cc)
-kind-dims (by.D8 t) Boxes h = refl
+use Rattle.ph_engine.specs.Slots.{AnyTable, table_at, IsOfKind}
 
 boxes-fit : (rows : List Row) → rows_fit Boxes rows ≡ true → AreBoxes rows
 boxes-fit [] h = tt
@@ -58,13 +37,13 @@ loaded-frame kind t rows h =
       | false ↦ record { width = refl; dims = refl; of_kind = rows-of-kind kind t rows h }
     ]
 
-told-fault : (first : Option Fault) (dims : ℕ) (bytes : List ℕ) (r : Reply) → option_map fault_reply first ≡ Some r → read_unless first dims bytes ≡ Err r
-told-fault None dims bytes r h = absurd (let no : None ≡ Some r = h in cc)
-told-fault (Some fault) dims bytes r h = let same : fault_reply fault ≡ r = cc in ap Err same
+told-fault : (first : Option Fault) (dims width : ℕ) (bytes : List ℕ) (r : Reply) → option_map fault_reply first ≡ Some r → read_unless first dims width bytes ≡ Err r
+told-fault None dims width bytes r h = absurd (let no : None ≡ Some r = h in cc)
+told-fault (Some fault) dims width bytes r h = let same : fault_reply fault ≡ r = cc in ap Err same
 
 -- bytes that are none
-pub loads-none : {E : Type 0} (kind : Kind) (t : AnyTable) (dims : ℕ) (bytes : List ℕ) (fault : LoadFault) (result : Result Told E) → dims ≡ t.dims → IsLoadFault (load_fault kind dims bytes) fault → TellsFault fault result → LoadsOr kind t bytes t result
-loads-none kind t dims bytes fault (Ok reply) d f h =
-    let read : read_snapshot kind t.dims bytes ≡ Err (reply_of reply) = ap (λ k. read_snapshot kind k bytes) (sym d) ∙ told-fault (load_fault kind dims bytes) dims bytes (reply_of reply) (h (load_fault kind dims bytes) f) in
+pub loads-none : {E : Type 0} (kind : Kind) (t : AnyTable) (dims w : ℕ) (bytes : List ℕ) (fault : LoadFault) (result : Result Told E) → dims ≡ t.dims → w ≡ t.tree.width → IsLoadFault (load_fault kind dims w bytes) fault → TellsFault fault result → LoadsOr kind t bytes t result
+loads-none kind t dims w bytes fault (Ok reply) d e f h =
+    let read : read_snapshot kind t.dims t.tree.width bytes ≡ Err (reply_of reply) = ap (λ k. read_snapshot kind k t.tree.width bytes) (sym d) ∙ ap (λ v. read_snapshot kind dims v bytes) (sym e) ∙ told-fault (load_fault kind dims w bytes) dims w bytes (reply_of reply) (h (load_fault kind dims w bytes) f) in
     (ap (read_table t) (sym read), ap (read_reply t.tree.max) (sym read))
-loads-none kind t dims bytes fault (Err error) d f h = refl
+loads-none kind t dims w bytes fault (Err error) d e f h = refl

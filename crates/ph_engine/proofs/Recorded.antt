@@ -5,6 +5,8 @@ use Rattle.ph_csv.specs.Faults.{IsFault}
 use Rattle.ph_csv.specs.declared.fault.CsvFault.{CsvFault}
 use Rattle.ph_io.specs.Shelf.{Stays, Fetches}
 use Rattle.ph_specs.specs.Command.{Command}
+use Rattle.ph_specs.proofs.laws.BoxRows.{boxes-put}
+use Rattle.ph_specs.specs.Boxes.{AreBoxes}
 use Rattle.ph_specs.specs.Csv.{csv_rows, csv_text}
 use Rattle.ph_specs.specs.Engine.{act, unless_refused, import_outcome}
 use Rattle.ph_specs.specs.Named.{Named, lookup}
@@ -20,14 +22,15 @@ use Rattle.ph_specs.specs.declared.Kind.TheVariants.{Points, Boxes}
 use Rattle.ph_script.specs.declared.reply.Reply.{Reply as Told}
 use Rattle.ph_script.specs.Meaning.{reply_of}
 use Rattle.ph_engine.specs.Doing.{rows_of, with_first}
-use Rattle.ph_engine.specs.Drafting.{Unfilled}
+use Rattle.ph_engine.specs.Beside.{aside}
+use Rattle.ph_engine.specs.Drafting.{Shelf, Unfilled}
 use Rattle.ph_engine.specs.Filing.{Entered, Filed, FiledOr, Unfiled, SameFrame}
 use Rattle.ph_engine.specs.Recording.{ImportsOr, TellsRecord, Unwritten, imported_table, imported_reply, is_overfull, table_with, table_with_first}
 use Rattle.ph_engine.specs.Refusing.{early_refusal}
-use Rattle.ph_engine.specs.Slots.{AnyTable, AreBoxes, slot_of, engine_of}
+use Rattle.ph_engine.specs.Slots.{AnyTable, slot_of, engine_of}
 use Rattle.ph_engine.specs.Working.{work_of, IsAtMost}
 use Rattle.ph_engine.proofs.Filed.{IsFetch, IsStore, fetched-act, fetched-filed, fetched-starved, stored-filed, unstored-filed, starved-store}
-use Rattle.ph_engine.proofs.Slotted.{boxes-put, of-kind-still}
+use Rattle.ph_engine.proofs.Slotted.{of-kind-still}
 
 -- ---- import
 
@@ -79,7 +82,7 @@ module _ (most : ℕ) (kind : Kind) (t : AnyTable) (cursors : Named Cursor) (nam
   import-most : now_v ≤ v + 4 * t.tree.width * read_length (csv_rows t.tree.width t.dims kind header bytes) → now_c ≤ c + 2 * read_length (csv_rows t.tree.width t.dims kind header bytes) → (files : Files) → lookup name files ≡ Some bytes → IsAtMost (work_of most (engine_of (slot_of kind t cursors)) files false (Command.Import name header)) v now_v c now_c
   import-most few less files l = rw l (record { few_visits = few; few_changes = less })
 
-  pub imported-filed-or : {E : Type 0} (told now_told : Option Files) (now : AnyTable) (result : Result Told E) → Fetches told name most bytes (Ok tt) → length bytes ≤ most → Stays told now_told → now_f ≡ f → ImportsOr t (csv_rows t.tree.width t.dims kind header bytes) now result → v ≤ now_v → now_v ≤ v + 4 * t.tree.width * read_length (csv_rows t.tree.width t.dims kind header bytes) → c ≤ now_c → now_c ≤ c + 2 * read_length (csv_rows t.tree.width t.dims kind header bytes) → FiledOr most (engine_of (slot_of kind t cursors)) (Command.Import name header) told now_told f now_f v now_v c now_c (engine_of (slot_of kind now cursors)) result
+  pub imported-filed-or : {E : Type 0} (told now_told : Option Files) (now : AnyTable) (result : Result Told E) → Fetches told name most bytes (Ok tt) → length bytes ≤ most → Stays told now_told → now_f ≡ f → ImportsOr t (csv_rows t.tree.width t.dims kind header bytes) now result → v ≤ now_v → now_v ≤ v + 4 * t.tree.width * read_length (csv_rows t.tree.width t.dims kind header bytes) → c ≤ now_c → now_c ≤ c + 2 * read_length (csv_rows t.tree.width t.dims kind header bytes) → FiledOr most (engine_of (slot_of kind t cursors)) (Command.Import name header) (aside told f v c) (aside now_told now_f now_v now_c) (engine_of (slot_of kind now cursors)) result
   imported-filed-or told now_told now (Ok reply) g short st e h later few kept less =
       fetched-filed (Command.Import name header) name (fetch-import name header) most (slot_of kind t cursors) bytes f now_f v now_v c now_c told now_told (engine_of (slot_of kind now cursors)) (reply_of reply) g st e
       (λ files l. import-does most kind t cursors files name bytes header short l ∙ (λ i. outcome (engine_of (slot_of kind (sym h.0 i) cursors)) files (sym h.1 i ∷ [])))
@@ -136,12 +139,12 @@ store-export name = record {
     by-kind Points width dims max table cursors = refl
     by-kind Boxes width dims max table cursors = refl
 
-module _ (most : ℕ) (s : Slot) (name : List ℕ) (told now_told : Option Files) (f now_f v now_v c : ℕ) where
-  pub exported-filed : (count : ℕ) → count ≡ length s.table → now_v ≡ v + length (all_nodes s.width s.dims s.table) → Entered told now_told f now_f name (csv_text s.table) (length (csv_text s.table)) → Filed most (engine_of s) (Command.Export name) told now_told f now_f v now_v c c (engine_of s) (Reply.Exported count)
-  exported-filed count n all h = rw n (stored-filed (Command.Export name) name _ _ (store-export name) most s told now_told f now_f v now_v c all h)
+module _ (most : ℕ) (s : Slot) (name : List ℕ) (before now : Shelf) (v now_v c : ℕ) where
+  pub exported-filed : (count : ℕ) → count ≡ length s.table → now_v ≡ v + length (all_nodes s.width s.dims s.table) → Entered before now name (csv_text s.table) (length (csv_text s.table)) → Filed most (engine_of s) (Command.Export name) (aside before.files before.faults v c) (aside now.files now.faults now_v c) (engine_of s) (Reply.Exported count)
+  exported-filed count n all h = rw n (stored-filed (Command.Export name) name _ _ (store-export name) most s before now v now_v c all h)
 
-  pub unexported-filed : v ≤ now_v → now_v ≤ v + length (all_nodes s.width s.dims s.table) → Unfilled told now_told f now_f → Filed most (engine_of s) (Command.Export name) told now_told f now_f v now_v c c (engine_of s) Reply.ErrorFile
-  unexported-filed later few h = unstored-filed (Command.Export name) name _ _ (store-export name) most s told now_told f now_f v now_v c later few h
+  pub unexported-filed : v ≤ now_v → now_v ≤ v + length (all_nodes s.width s.dims s.table) → Unfilled before now → Filed most (engine_of s) (Command.Export name) (aside before.files before.faults v c) (aside now.files now.faults now_v c) (engine_of s) Reply.ErrorFile
+  unexported-filed later few h = unstored-filed (Command.Export name) name _ _ (store-export name) most s before now v now_v c later few h
 
-  pub export-starved : now_v ≤ v + length (all_nodes s.width s.dims s.table) → Unwritten told now_told f now_f → Unfiled most (engine_of s) (Command.Export name) told now_told f now_f v now_v c c (engine_of s)
-  export-starved few h = starved-store (Command.Export name) name _ _ (store-export name) most s told now_told f now_f v now_v c refl (λ files. refl) few h.later h.stays
+  pub export-starved : now_v ≤ v + length (all_nodes s.width s.dims s.table) → Unwritten before now → Unfiled most (engine_of s) (Command.Export name) (aside before.files before.faults v c) (aside now.files now.faults now_v c) (engine_of s)
+  export-starved few h = starved-store (Command.Export name) name _ _ (store-export name) most s before now v now_v c refl (λ files. refl) few h

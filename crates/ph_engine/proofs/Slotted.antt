@@ -1,54 +1,36 @@
 -- What a slot keeps, a command keeps.
-use Rattle.std.proofs.Common.{◌≡◌, ◌≤◌, ◌+◌, ℕ, zero, suc, Bool, true, false, List, [], ◌∷◌, length, refl, ap, sym, subst, ◌∙◌, arith, cond}
-use Rattle.std.specs.Prelude.{Option, Some, None, Result, Ok, Err, ℤ, not, ◌&&◌, if◌then◌else◌}
+use Rattle.std.proofs.Common.{◌≡◌, ◌≤◌, ◌+◌, ℕ, Bool, true, false, List, [], ◌∷◌, length, refl, ap, sym, subst, ◌∙◌, arith, cond, get_or}
+use Rattle.std.specs.Prelude.{Option, Some, None, Result, Ok, Err, ℤ, not, ◌%◌, ◌-◌, ◌&&◌}
 use Rattle.std.specs.List.{AllByRecursion, list_all}
 use Rattle.std.specs.Ordering.{nat_cmp}
 use Rattle.std.specs.Cmp.Lexicographic.{slice_cmp}
 use Rattle.std.specs.FinMap.Entries.{is_sorted}
 use Rattle.std.proofs.Math.Dec.{T}
 use Rattle.ph_specs.specs.declared.Kind.{Kind}
+use Rattle.ph_specs.specs.Boxes.{AreBoxes}
 use Rattle.ph_specs.specs.declared.Kind.TheVariants.{Points, Boxes}
 use Rattle.ph_specs.specs.Command.{Command}
-use Rattle.ph_specs.specs.Coordinate.{same_point, is_box, IsBox}
+use Rattle.ph_specs.specs.Coordinate.{is_box, IsBox}
 use Rattle.ph_specs.specs.Named.{Named, has_name}
-use Rattle.ph_specs.specs.Table.{Row, row, put, del, move, move_value, find, has}
-use Rattle.ph_specs.specs.ZOrder.{before}
 use Rattle.ph_specs.specs.Reply.{Reply}
 use Rattle.ph_specs.specs.State.{current}
 use Rattle.ph_specs.specs.Refusals.{refusal, boxes_of}
 use Rattle.ph_specs.specs.Window.{Cursor}
-use Rattle.ph_specs.specs.Engine.{unless_refused}
+use Rattle.ph_specs.specs.Engine.{unless_refused, opened_dims}
 use Rattle.ph_script.specs.declared.reply.Reply.{Reply as Told}
+use Rattle.ph_specs.proofs.laws.BoxRows.{boxes-put, boxes-del, boxes-move}
 use Rattle.ph_engine.specs.Doing.{ServedOr}
 use Rattle.ph_engine.specs.Filing.{SameFrame}
-use Rattle.ph_engine.specs.Slots.{AnyTable, slot_of, engine_of, cursor_of, cursor_dims, named, entered, AreBoxes, IsOfKind, IsCursorIn, IsSlot}
+use Rattle.ph_engine.specs.Slots.{AnyTable, any_table, empty_table, slot_of, engine_of, cursor_of, cursor_dims, named, entered, IsOfKind, IsCursorIn, IsSlot}
 use Rattle.ph_engine.specs.Refusing.{early_refusal}
 use Rattle.ph_engine.specs.declared.cursors.Held.{Held}
 use Rattle.ph_engine.specs.declared.cursors.AnyCursor.{AnyCursor}
 use Rattle.ph_engine.specs.declared.cursors.AnyCursor.TheVariants as at
+use Rattle.ph_engine.specs.declared.trees.AnyTree.{AnyTree}
 use Rattle.ph_engine.proofs.Refused.{unreversed}
 use Rattle.ph_engine.proofs.Names.{true-is, is-true, sorted-entered, length-entered, all-entered}
 
 -- ---- rows that are boxes
-
-pub boxes-put : (w : ℕ) (rows : List Row) (p : List ℤ) (v : ℕ) → IsBox p → AreBoxes rows → AreBoxes (put w rows p v)
-boxes-put w [] p v b h = (b, tt)
-boxes-put w (r ∷ rows) p v b h =
-    elim (same_point r.point p) as (λ t. AreBoxes (if t then row p v ∷ rows else (if before w p r.point then row p v ∷ r ∷ rows else r ∷ put w rows p v))) [
-      | true ↦ (b, h.1)
-      | false ↦ elim (before w p r.point) as (λ t. AreBoxes (if t then row p v ∷ r ∷ rows else r ∷ put w rows p v)) [ true ↦ (b, h) | false ↦ (h.0, boxes-put w rows p v b h.1) ]
-    ]
-
-boxes-del : (rows : List Row) (p : List ℤ) → AreBoxes rows → AreBoxes (del rows p)
-boxes-del [] p h = h
-boxes-del (r ∷ rows) p h = elim (same_point r.point p) as (λ t. AreBoxes (if t then rows else r ∷ del rows p)) [ true ↦ h.1 | false ↦ (h.0, boxes-del rows p h.1) ]
-
-boxes-value : (w : ℕ) (rows : List Row) (p q : List ℤ) (v : Option ℕ) → IsBox q → AreBoxes rows → AreBoxes (move_value w rows p q v)
-boxes-value w rows p q None b h = h
-boxes-value w rows p q (Some v) b h = boxes-put w (del rows p) q v b (boxes-del rows p h)
-
-boxes-move : (w : ℕ) (rows : List Row) (p q : List ℤ) → IsBox q → AreBoxes rows → AreBoxes (move w rows p q)
-boxes-move w rows p q b h = elim (has rows q) as (λ t. AreBoxes (if t then rows else move_value w rows p q (find rows p))) [ true ↦ h | false ↦ boxes-value w rows p q (find rows p) b h ]
 
 is-box : (b : Bool) → not (b && true) ≡ false → b ≡ true
 is-box true h = refl
@@ -150,18 +132,15 @@ cursors-kept kind t now [] f h = h
 cursors-kept kind t now (x ∷ held) f h = (cursor-kept kind t now x.cursor f h.0, cursors-kept kind t now held f h.1)
 
 pub slot-keeps : (kind : Kind) (t now : AnyTable) (held : List Held) → SameFrame kind t now → IsSlot kind t held → IsSlot kind now held
-slot-keeps kind t now held f h = record { width = f.width ∙ h.width; of_kind = f.of_kind h.of_kind; few = h.few; sorted = h.sorted; serve = cursors-kept kind t now held f h.serve }
+slot-keeps kind t now held f h = record { of_kind = f.of_kind h.of_kind; few = h.few; sorted = h.sorted; serve = cursors-kept kind t now held f h.serve }
+
+-- the cursors of each number of dimensions, from 1 on
+abbrev variants : List (Cursor → AnyCursor)
+variants = at.D1 ∷ at.D2 ∷ at.D3 ∷ at.D4 ∷ at.D5 ∷ at.D6 ∷ at.D7 ∷ at.D8 ∷ at.D9 ∷ at.D10 ∷ at.D11 ∷ at.D12 ∷ at.D13 ∷ at.D14 ∷ at.D15 ∷ at.D16 ∷ []
 
 -- a cursor is known by its number of dimensions
 abbrev pub by_dims : ℕ → Cursor → AnyCursor
-by_dims (suc zero) c = at.D1 c
-by_dims (suc (suc zero)) c = at.D2 c
-by_dims (suc (suc (suc zero))) c = at.D3 c
-by_dims (suc (suc (suc (suc zero)))) c = at.D4 c
-by_dims (suc (suc (suc (suc (suc zero))))) c = at.D5 c
-by_dims (suc (suc (suc (suc (suc (suc zero)))))) c = at.D6 c
-by_dims (suc (suc (suc (suc (suc (suc (suc zero))))))) c = at.D7 c
-by_dims _ c = at.D8 c
+by_dims dims = get_or variants (dims - 1) at.D1
 
 pub by-dims : (c : AnyCursor) → c ≡ by_dims (cursor_dims c) (cursor_of c)
 by-dims (at.D1 c) = refl
@@ -172,6 +151,25 @@ by-dims (at.D5 c) = refl
 by-dims (at.D6 c) = refl
 by-dims (at.D7 c) = refl
 by-dims (at.D8 c) = refl
+by-dims (at.D9 c) = refl
+by-dims (at.D10 c) = refl
+by-dims (at.D11 c) = refl
+by-dims (at.D12 c) = refl
+by-dims (at.D13 c) = refl
+by-dims (at.D14 c) = refl
+by-dims (at.D15 c) = refl
+by-dims (at.D16 c) = refl
+
+-- a cursor that has as many dimensions as a tree
+pub cursor-at : (c : AnyCursor) (tree variant : AnyTree) → cursor_dims c ≡ (any_table tree).dims → tree ≡ variant → c ≡ by_dims (any_table variant).dims (cursor_of c)
+cursor-at c tree variant d e = by-dims c ∙ ap (λ n. by_dims n (cursor_of c)) (d ∙ ap (λ t. (any_table t).dims) e)
+
+-- ---- a slot that is opened
+
+pub slot-opened : (kind : Kind) (k dims w max : ℕ) → dims ≡ opened_dims kind k → IsSlot kind (empty_table dims w max) []
+slot-opened Points k dims w max e = record { of_kind = tt; few = omega arith; sorted = refl; serve = tt }
+slot-opened Boxes k dims w max e =
+    record { of_kind = (let even : dims % 2 ≡ 0 = omega (arith, e) in even, tt); few = omega arith; sorted = refl; serve = tt }
 
 -- ---- with a cursor more
 
@@ -189,7 +187,6 @@ pub slot-entered : (kind : Kind) (t : AnyTable) (h : Held) (held : List Held) �
 slot-entered kind t h held s c room =
     let sorted = names-sorted kind t held s in
     record {
-      width = s.width;
       of_kind = s.of_kind;
       few = rw (length-entered (λ x. x.name) (λ x. cursor_of x.cursor) h held sorted) (few-entered (has_name h.name (named held)) (length held) s.few room);
       sorted = is-true _ (sorted-entered (λ x. x.name) (λ x. cursor_of x.cursor) h held sorted);

@@ -18,7 +18,7 @@ use Rattle.ph_specs.specs.State.{Slot, Engine, Files, outcome, current, with_tab
 use Rattle.ph_specs.specs.Stats.{Stats, stats}
 use Rattle.ph_specs.specs.Table.{Row, put, del, move}
 use Rattle.ph_specs.specs.Engine.{act, after, effect, unless_refused}
-use Rattle.ph_engine.specs.Beside.{Beside, beside, Tells}
+use Rattle.ph_engine.specs.Beside.{Beside, alone, beside, Tells}
 use Rattle.ph_engine.specs.Doing.{Done, Undone, Leads, Knows, fetches, starved_engine}
 use Rattle.ph_engine.specs.Machine.{Work, one_if}
 use Rattle.ph_engine.specs.Soaking.{is_drawn, AreDrawn, sum_work, visits_most, Soaked, SoakedInPart, SoakDone}
@@ -273,7 +273,7 @@ module _ (most n start : ℕ) (e now : Engine) (visits counted_visits now_visits
   few-visits : (files : Files) → now_visits ≤ visits + visits_most most (opened e []) files (generate n start) + nodes_of (act_all most (opened e []) files (generate n start)).engine.a
   few-visits files = let s = soaked files in omega (arith, s.most_visits, sized, ap (λ x. nodes_of x.a) s.led)
 
-  pub soak_clean : (sink now_sink : Taken) → Given sink now_sink (slot_line n now.a bytes) → SoakDone most n start e now sink now_sink visits now_visits changes now_changes Clean
+  pub soak_clean : (sink now_sink : Taken) → Given sink now_sink (slot_line n now.a bytes) → SoakDone most n start e now (alone sink visits changes) (alone now_sink now_visits now_changes) Clean
   soak_clean sink now_sink given = record {
     ends = inl refl;
     told = λ files s. rw (sym (line-is files)) given;
@@ -287,7 +287,7 @@ module _ (most n start : ℕ) (e now : Engine) (visits counted_visits now_visits
     least_changes = λ files s. (soaked files).least_changes;
   }
 
-  pub soak_cut : (sink now_sink : Taken) → WritesFront sink now_sink (slot_line n now.a bytes) → SoakDone most n start e now sink now_sink visits now_visits changes now_changes WriteFault
+  pub soak_cut : (sink now_sink : Taken) → WritesFront sink now_sink (slot_line n now.a bytes) → SoakDone most n start e now (alone sink visits changes) (alone now_sink now_visits now_changes) WriteFault
   soak_cut sink now_sink front = record {
     ends = inr (inl refl);
     told = λ files s. absurd cc;

@@ -18,6 +18,25 @@ beside_sink sink files filings visits changes = record { sink = sink; files = fi
 abbrev pub beside : Option (List ℕ) → Option ℕ → Option Files → ℕ → ℕ → ℕ → Beside
 beside written amount files filings visits changes = beside_sink (taken_of written amount) files filings visits changes
 
+-- beside one where there is no sink: one that tells nothing stands in its place
+abbrev pub aside : Option Files → ℕ → ℕ → ℕ → Beside
+aside files filings visits changes = beside None None files filings visits changes
+
+-- beside one that does its commands over no files
+abbrev pub alone : Taken → ℕ → ℕ → Beside
+alone sink visits changes = beside_sink sink None 0 visits changes
+
+-- the same with no files
+abbrev pub without_files : Beside → Beside
+without_files b = alone b.sink b.visits b.changes
+
+-- and with other counts
+abbrev pub with_visits : ℕ → Beside → Beside
+with_visits visits b = record b { visits = visits }
+
+abbrev pub with_changes : ℕ → Beside → Beside
+with_changes changes b = record b { changes = changes }
+
 -- some files are told
 abbrev pub AreTold : Option Files → Type 0
 AreTold None = ⊥

@@ -6,9 +6,9 @@ use Rattle.ph_io.specs.Shelf.{Stays}
 use Rattle.ph_io.specs.Writing.{WritesFront}
 use Rattle.ph_specs.specs.declared.Kind.{Kind}
 use Rattle.ph_specs.specs.declared.Kind.TheVariants.{Points, Boxes}
-use Rattle.ph_specs.specs.Load.{Fault, load_fault}
+use Rattle.ph_specs.specs.Load.{Fault, named_width}
 use Rattle.ph_specs.specs.Named.{lookup}
-use Rattle.ph_specs.specs.Program.{check_line, checked_words, named_kind}
+use Rattle.ph_specs.specs.Program.{check_line, checked_words, named_kind, own_fault}
 use Rattle.ph_specs.specs.Refusals.{fetch, bytes_of}
 use Rattle.ph_specs.specs.Reply.{Reply, line_of, reply_text}
 use Rattle.ph_specs.specs.SavedTable.{rows_saved}
@@ -17,7 +17,7 @@ use Rattle.ph_specs.specs.State.{Files}
 use Rattle.ph_specs.specs.Stats.{stats}
 use Rattle.ph_specs.specs.Table.{Row}
 use Rattle.ph_specs.specs.WorkSets.{all_nodes}
-use Rattle.ph_engine.specs.Beside.{AreTold, Filings}
+use Rattle.ph_engine.specs.Beside.{Beside, AreTold, Filings}
 use Rattle.ph_engine.specs.Doing.{refuses}
 use Rattle.ph_engine.specs.Machine.{is_refusal, one_if}
 use Rattle.ph_engine.specs.ScriptMachine.{told_files}
@@ -41,24 +41,25 @@ front_of Boxes dims = codes "boxes" ++ 32 ∷ decimal (dims / 2) ++ 32 ∷ []
 pub record IsSavedAs (bytes : List ℕ) (kind : Kind) (t : AnyTable) : Type 0 where
   pub kind_is : named_kind bytes ≡ kind
   pub dims_are : slice_index bytes 5 ≡ t.dims
-  pub width : t.tree.width ≡ 32
-  pub snapshot : IsSnapshotOf kind t.dims bytes t.tree.table
+  pub width_is : named_width bytes ≡ t.tree.width
+  pub snapshot : IsSnapshotOf kind t.dims t.tree.width bytes t.tree.table
 
 -- the bytes are the snapshot of some table, and the line has its sizes
 pub record HasSizes (bytes line : List ℕ) : Type 0 where
   pub kind : Kind
   pub dims : ℕ
+  pub width : ℕ
   pub rows : List Row
-  pub snapshot : IsSnapshotOf kind dims bytes rows
-  pub said : line ≡ line_of (checked_words kind dims (stats 32 dims rows))
+  pub snapshot : IsSnapshotOf kind dims width bytes rows
+  pub said : line ≡ line_of (checked_words kind dims (stats width dims rows))
 
 -- the nodes of the table of which the bytes are the snapshot, if they are one
-abbrev pub nodes_unless : Option Fault → ℕ → List ℕ → ℕ
-nodes_unless (Some fault) dims bytes = 0
-nodes_unless None dims bytes = length (all_nodes 32 dims (rows_saved dims bytes))
+abbrev pub nodes_unless : Option Fault → (dims width : ℕ) → List ℕ → ℕ
+nodes_unless (Some fault) dims width bytes = 0
+nodes_unless None dims width bytes = length (all_nodes width dims (rows_saved dims width bytes))
 
 abbrev pub nodes_saved : List ℕ → ℕ
-nodes_saved bytes = let dims = slice_index bytes 5 in nodes_unless (load_fault (named_kind bytes) dims bytes) dims bytes
+nodes_saved bytes = nodes_unless (own_fault bytes) (slice_index bytes 5) (named_width bytes) bytes
 
 -- a line was given to the sink, or a front of it; without memory nothing was
 abbrev pub LineGiven : Taken → Taken → List ℕ → Result Answer Stop → Type 0
@@ -80,24 +81,24 @@ pub record FileHasSizes (files : Files) (file line : List ℕ) : Type 0 where
 
 -- A file was checked, and the files are as they were. Where they were told, the line is that of the definition, with a fault of
 -- the files or without; it never tells that the dimensions are others than were asked for, since none were.
-pub record CheckDone (most : ℕ) (file : List ℕ) (told now_told : Option Files) (filings now_filings : ℕ) (sink now_sink : Taken) (visits now_visits changes now_changes : ℕ) (status : Status) : Type 0 where
+pub record CheckDone (most : ℕ) (file : List ℕ) (b now_b : Beside) (status : Status) : Type 0 where
   pub fault : Bool
-  pub counted : Filings true (one_if fault) filings now_filings
-  pub kept : Stays told now_told
+  pub counted : Filings true (one_if fault) b.filings now_b.filings
+  pub kept : Stays b.files now_b.files
   pub ends : (status ≡ Clean) ⊎ ((status ≡ Refused) ⊎ ((status ≡ WriteFault) ⊎ (status ≡ Memory)))
-  pub whole : AreTold told → IsRead status → Given sink now_sink (check_line most (told_files told) fault file)
-  pub refusals : AreTold told → status ≡ Refused → is_refusal (check_line most (told_files told) fault file) ≡ true
-  pub cleans : AreTold told → status ≡ Clean → is_refusal (check_line most (told_files told) fault file) ≡ false
-  pub cut : AreTold told → status ≡ WriteFault → WritesFront sink now_sink (check_line most (told_files told) fault file)
-  pub unwritten : status ≡ Memory → now_sink ≡ sink
-  pub saved : AreTold told → status ≡ Clean → FileHasSizes (told_files told) file (check_line most (told_files told) fault file)
-  pub own_dims : AreTold told → check_line most (told_files told) fault file ≡ reply_text Reply.BadDims → ⊥
-  pub kept_visits : visits ≤ now_visits
-  pub kept_changes : changes ≤ now_changes
-  pub most_visits : AreTold told → now_visits ≤ visits + nodes_saved (bytes_checked most (told_files told) file)
-  pub most_changes : AreTold told → now_changes ≤ changes + length (bytes_checked most (told_files told) file) / 16
-  pub few_visits : now_visits ≤ visits + most / 16
-  pub few_changes : now_changes ≤ changes + most / 16
+  pub whole : AreTold b.files → IsRead status → Given b.sink now_b.sink (check_line most (told_files b.files) fault file)
+  pub refusals : AreTold b.files → status ≡ Refused → is_refusal (check_line most (told_files b.files) fault file) ≡ true
+  pub cleans : AreTold b.files → status ≡ Clean → is_refusal (check_line most (told_files b.files) fault file) ≡ false
+  pub cut : AreTold b.files → status ≡ WriteFault → WritesFront b.sink now_b.sink (check_line most (told_files b.files) fault file)
+  pub unwritten : status ≡ Memory → now_b.sink ≡ b.sink
+  pub saved : AreTold b.files → status ≡ Clean → FileHasSizes (told_files b.files) file (check_line most (told_files b.files) fault file)
+  pub own_dims : AreTold b.files → check_line most (told_files b.files) fault file ≡ reply_text Reply.BadDims → ⊥
+  pub kept_visits : b.visits ≤ now_b.visits
+  pub kept_changes : b.changes ≤ now_b.changes
+  pub most_visits : AreTold b.files → now_b.visits ≤ b.visits + nodes_saved (bytes_checked most (told_files b.files) file)
+  pub most_changes : AreTold b.files → now_b.changes ≤ b.changes + length (bytes_checked most (told_files b.files) file) / 16
+  pub few_visits : now_b.visits ≤ b.visits + most / 16
+  pub few_changes : now_b.changes ≤ b.changes + most / 16
 
 -- the status with which an answer to a check ends
 abbrev pub status_of : Result Answer Stop → Status
@@ -106,7 +107,7 @@ status_of (Err why) = stop_status why
 
 -- How a check of a file ends. The engine and the source are untouched.
 pub record CheckEnds (most : ℕ) (file : List ℕ) (before now : Seen) (status : Status) : Type 0 where
-  pub done : CheckDone most file before.at.beside.files now.at.beside.files before.at.beside.filings now.at.beside.filings before.at.beside.sink now.at.beside.sink before.at.beside.visits now.at.beside.visits before.at.beside.changes now.at.beside.changes status
+  pub done : CheckDone most file before.at.beside now.at.beside status
   pub write_cause : status ≡ WriteFault → Rose before.writes now.writes
   pub writes : before.writes ≤ now.writes
   pub engine : now.at.engine ≡ before.at.engine

@@ -76,7 +76,7 @@ is_tried _ = false
 
 -- and those that want none, on one slot
 abbrev pub is_sure : Command → Bool
-is_sure (Command.Begin kind k max) = true
+is_sure (Command.Begin kind k width max) = true
 is_sure (Command.Get p) = true
 is_sure Command.Count = true
 is_sure Command.Clear = true

@@ -35,19 +35,29 @@ pub record Follows (a b : Drafted) : Type 0 where
   pub none : b.works ≡ true → (a.works ≡ true) × (b.late ≡ a.late)
   pub fell : a.works ≡ true → b.works ≡ false → Rose a.faults b.faults
 
+-- What files tell: what they hold, the draft, how often calls of them have failed, and whether the draft is begun.
+pub record Shelf : Type 0 where
+  pub files : Option Map
+  pub draft : Option Draft
+  pub faults : ℕ
+  pub begun : Bool
+
+abbrev pub shelf : Option Map → Option Draft → ℕ → Bool → Shelf
+shelf files draft faults begun = record { files = files; draft = draft; faults = faults; begun = begun }
+
 -- the bytes were appended to the file that is begun, which still is
-pub record Filled (files now_files : Option Map) (draft now_draft : Option Draft) (before now : ℕ) (begun : Bool) (bytes : List ℕ) : Type 0 where
-  pub later : before ≤ now
-  pub begun_still : begun ≡ true
-  pub stays : Stays files now_files
-  pub grows : Grows draft now_draft bytes
+pub record Filled (before now : Shelf) (bytes : List ℕ) : Type 0 where
+  pub later : before.faults ≤ now.faults
+  pub begun_still : now.begun ≡ true
+  pub stays : Stays before.files now.files
+  pub grows : Grows before.draft now.draft bytes
 
 -- the files failed, and are as they were
-pub record Unfilled (files now_files : Option Map) (before now : ℕ) : Type 0 where
-  pub later : before ≤ now
-  pub rose : Rose before now
-  pub stays : Stays files now_files
+pub record Unfilled (before now : Shelf) : Type 0 where
+  pub later : before.faults ≤ now.faults
+  pub rose : Rose before.faults now.faults
+  pub stays : Stays before.files now.files
 
-abbrev pub FilledOr : Option Map → Option Map → Option Draft → Option Draft → ℕ → ℕ → Bool → List ℕ → Result ℕ Failed → Type 0
-FilledOr files now_files draft now_draft before now begun bytes (Ok count) = Filled files now_files draft now_draft before now begun bytes
-FilledOr files now_files draft now_draft before now begun bytes (Err _) = Unfilled files now_files before now
+abbrev pub FilledOr : Shelf → Shelf → List ℕ → Result ℕ Failed → Type 0
+FilledOr before now bytes (Ok count) = Filled before now bytes
+FilledOr before now bytes (Err _) = Unfilled before now

@@ -3,9 +3,12 @@ use Rattle.std.specs.Prelude.{◌≡◌, ◌≤◌, ◌⊎◌}
 use Rattle.ph_io.specs.Causes.{Rose}
 use Rattle.ph_io.specs.Giving.{Given, Taken}
 use Rattle.ph_io.specs.Writing.{WritesFront}
-use Rattle.ph_specs.specs.Program.{usage_line}
+use Rattle.ph_specs.specs.Program.{usage_line, Task, Run, Check, Soak}
+use Rattle.ph_specs.specs.Program as asked
 use Rattle.ph_engine.specs.ByDefinition.{RunsAsDefined}
+use Rattle.ph_engine.specs.Checking.{CheckEnds}
 use Rattle.ph_engine.specs.Seen.{Seen}
+use Rattle.ph_engine.specs.Soaking.{SoakEnds}
 use Rattle.ph_engine.specs.Serving.{ServesScript}
 use Rattle.ph_engine.specs.Standing.{IsKnown, whole_of}
 use Rattle.ph_engine.specs.Statuses.{IsRead, HasAtMost, HasWriteCause}
@@ -41,3 +44,10 @@ pub record UsageEnds (before now : Seen) (status : Status) : Type 0 where
   pub line : TellsUsage before.at.beside.sink now.at.beside.sink status
   pub cause : HasWriteCause before.writes now.writes status
   pub untouched : now ≡ after_writes before now
+
+-- What a call leaves, by what its words ask for.
+abbrev pub TopEnds : Limits → Task → Seen → Seen → Status → Type 0
+TopEnds limits Run before now status = RunEnds limits before now status
+TopEnds limits (Check file) before now status = CheckEnds limits.file_bytes file before now status
+TopEnds limits (Soak n start) before now status = SoakEnds limits.file_bytes n start before now status
+TopEnds limits asked.Usage before now status = UsageEnds before now status

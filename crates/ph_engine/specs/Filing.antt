@@ -18,56 +18,54 @@ use Rattle.ph_script.specs.Meaning.{reply_of}
 use Rattle.ph_snap.specs.Faults.{IsLoadFault}
 use Rattle.ph_snap.specs.declared.fault.LoadFault.{LoadFault}
 use Rattle.ph_snap.specs.declared.fault.LoadFault.TheVariants as by
-use Rattle.ph_engine.specs.Beside.{Filings, IsTold, StillTells}
+use Rattle.ph_engine.specs.Beside.{Beside, Filings, IsTold, StillTells, with_visits, with_changes}
 use Rattle.ph_engine.specs.Doing.{Knows, Leads, uses_files, wants_memory, starved_engine}
-use Rattle.ph_engine.specs.Drafting.{Unfilled}
+use Rattle.ph_engine.specs.Drafting.{Shelf, Unfilled}
 use Rattle.ph_engine.specs.Machine.{one_if}
 use Rattle.ph_engine.specs.Slots.{AnyTable, table_at, slot_of, engine_of, IsOfKind}
 use Rattle.ph_engine.specs.Working.{work_of, IsAtMost, IsAtLeast}
 
 -- A command has this reply and leads to this engine. The files failed in it or not.
-pub record Filed (most : ℕ) (e : Engine) (command : Command) (told now_told : Option Files) (filings now_filings visits now_visits changes now_changes : ℕ) (now : Engine) (reply : Reply) : Type 0 where
+pub record Filed (most : ℕ) (e : Engine) (command : Command) (b now_b : Beside) (now : Engine) (reply : Reply) : Type 0 where
   pub fault : Bool
-  pub counted : Filings (uses_files command) (one_if fault) filings now_filings
-  pub does : (files : Files) → Knows command told files → Leads (act most e files fault command) now told now_told (reply ∷ [])
-  pub most_work : (files : Files) → Knows command told files → IsAtMost (work_of most e files fault command) visits now_visits changes now_changes
-  pub least_work : (files : Files) → Knows command told files → IsAtLeast (work_of most e files fault command) visits now_visits changes now_changes
+  pub counted : Filings (uses_files command) (one_if fault) b.filings now_b.filings
+  pub does : (files : Files) → Knows command b.files files → Leads (act most e files fault command) now b.files now_b.files (reply ∷ [])
+  pub most_work : (files : Files) → Knows command b.files files → IsAtMost (work_of most e files fault command) b.visits now_b.visits b.changes now_b.changes
+  pub least_work : (files : Files) → Knows command b.files files → IsAtLeast (work_of most e files fault command) b.visits now_b.visits b.changes now_b.changes
 
 -- Memory was missing for it, which may want it. The files are as before.
-pub record Unfiled (most : ℕ) (e : Engine) (command : Command) (told now_told : Option Files) (filings now_filings visits now_visits changes now_changes : ℕ) (now : Engine) : Type 0 where
+pub record Unfiled (most : ℕ) (e : Engine) (command : Command) (b now_b : Beside) (now : Engine) : Type 0 where
   pub fault : Bool
-  pub counted : Filings (uses_files command) (one_if fault) filings now_filings
+  pub counted : Filings (uses_files command) (one_if fault) b.filings now_b.filings
   pub part : ℕ
-  pub state : (files : Files) → Knows command told files → now ≡ starved_engine e files command part
-  pub kept : (files : Files) → IsTold told files → StillTells told now_told files
+  pub state : (files : Files) → Knows command b.files files → now ≡ starved_engine e files command part
+  pub kept : (files : Files) → IsTold b.files files → StillTells b.files now_b.files files
   pub wanted : wants_memory (current e) command ≡ true
-  pub most_work : (files : Files) → Knows command told files → IsAtMost (work_of most e files fault command) visits now_visits changes now_changes
+  pub most_work : (files : Files) → Knows command b.files files → IsAtMost (work_of most e files fault command) b.visits now_b.visits b.changes now_b.changes
 
-abbrev pub FiledOr : {E : Type 0} → ℕ → Engine → Command → Option Files → Option Files → ℕ → ℕ → ℕ → ℕ → ℕ → ℕ → Engine → Result Told E → Type 0
-FiledOr most e command told now_told filings now_filings visits now_visits changes now_changes now (Ok reply) =
-    Filed most e command told now_told filings now_filings visits now_visits changes now_changes now (reply_of reply)
-FiledOr most e command told now_told filings now_filings visits now_visits changes now_changes now (Err error) =
-    Unfiled most e command told now_told filings now_filings visits now_visits changes now_changes now
+abbrev pub FiledOr : {E : Type 0} → ℕ → Engine → Command → Beside → Beside → Engine → Result Told E → Type 0
+FiledOr most e command b now_b now (Ok reply) = Filed most e command b now_b now (reply_of reply)
+FiledOr most e command b now_b now (Err error) = Unfiled most e command b now_b now
 
--- A command on a slot has this reply, whatever it counts of changes, of which it makes none, and however many bytes a file may have.
-pub record Replies (s : Slot) (command : Command) (told now_told : Option Files) (filings now_filings visits now_visits : ℕ) (now : Slot) (reply : Reply) : Type 0 where
-  pub filed : (most changes : ℕ) → Filed most (engine_of s) command told now_told filings now_filings visits now_visits changes changes (engine_of now) reply
+-- A command on a slot has this reply, whatever was counted of changes, of which it makes none, and however many bytes a file may have.
+pub record Replies (s : Slot) (command : Command) (b now_b : Beside) (now : Slot) (reply : Reply) : Type 0 where
+  pub filed : (most changes : ℕ) → Filed most (engine_of s) command (with_changes changes b) (with_changes changes now_b) (engine_of now) reply
 
 -- ---- a file that is written
 
 -- the bytes are a file under the name, and nothing failed
-pub record Entered (told now_told : Option Files) (before now : ℕ) (name bytes : List ℕ) (count : ℕ) : Type 0 where
+pub record Entered (before now : Shelf) (name bytes : List ℕ) (count : ℕ) : Type 0 where
   pub counted : count ≡ length bytes
-  pub later : before ≤ now
-  pub entered : (files : Files) → told ≡ Some files → now_told ≡ Some (enter name bytes files)
+  pub later : before.faults ≤ now.faults
+  pub entered : (files : Files) → before.files ≡ Some files → now.files ≡ Some (enter name bytes files)
 
-abbrev pub EnteredOr : Option Files → Option Files → ℕ → ℕ → List ℕ → List ℕ → Result ℕ Failed → Type 0
-EnteredOr told now_told before now name bytes (Ok count) = Entered told now_told before now name bytes count
-EnteredOr told now_told before now name bytes (Err _) = Unfilled told now_told before now
+abbrev pub EnteredOr : Shelf → Shelf → List ℕ → List ℕ → Result ℕ Failed → Type 0
+EnteredOr before now name bytes (Ok count) = Entered before now name bytes count
+EnteredOr before now name bytes (Err _) = Unfilled before now
 
--- a save of a table, whatever cursors stand beside it
-pub record TableSaved (kind : Kind) (t : AnyTable) (name : List ℕ) (told now_told : Option Files) (before now visits now_visits : ℕ) (reply : Reply) : Type 0 where
-  pub filed : (most changes : ℕ) (cursors : Named Cursor) → let e = engine_of (slot_of kind t cursors) in Filed most e (Command.Save name) told now_told before now visits now_visits changes changes e reply
+-- a save of a table, whatever cursors stand beside it and whatever was counted of changes
+pub record TableSaved (kind : Kind) (t : AnyTable) (name : List ℕ) (b now_b : Beside) (reply : Reply) : Type 0 where
+  pub filed : (most changes : ℕ) (cursors : Named Cursor) → let e = engine_of (slot_of kind t cursors) in Filed most e (Command.Save name) (with_changes changes b) (with_changes changes now_b) e reply
 
 -- ---- a file that is read
 
@@ -88,7 +86,7 @@ read_reply max (Err fault) = fault
 
 -- the bytes were read, or memory was missing for their table
 abbrev pub LoadsOr : {E : Type 0} → Kind → AnyTable → List ℕ → AnyTable → Result Told E → Type 0
-LoadsOr kind t bytes now (Ok reply) = let read = read_snapshot kind t.dims bytes in (now ≡ read_table t read) × (reply_of reply ≡ read_reply t.tree.max read)
+LoadsOr kind t bytes now (Ok reply) = let read = read_snapshot kind t.dims t.tree.width bytes in (now ≡ read_table t read) × (reply_of reply ≡ read_reply t.tree.max read)
 LoadsOr kind t bytes now (Err error) = now ≡ t
 
 -- a table of the same width, number of dimensions and kind
@@ -97,9 +95,9 @@ pub record SameFrame (kind : Kind) (t now : AnyTable) : Type 0 where
   pub dims : now.dims ≡ t.dims
   pub of_kind : IsOfKind kind t → IsOfKind kind now
 
--- a load of a table, whatever cursors stand beside it
-pub record TableLoaded {E : Type 0} (most : ℕ) (kind : Kind) (t : AnyTable) (name : List ℕ) (told now_told : Option Files) (before now_count changes now_changes : ℕ) (now : AnyTable) (result : Result Told E) : Type 0 where
-  pub filed : (visits : ℕ) (cursors : Named Cursor) → FiledOr most (engine_of (slot_of kind t cursors)) (Command.Load name) told now_told before now_count visits visits changes now_changes (engine_of (slot_of kind now cursors)) result
+-- a load of a table, whatever cursors stand beside it and whatever was counted of visits
+pub record TableLoaded {E : Type 0} (most : ℕ) (kind : Kind) (t : AnyTable) (name : List ℕ) (b now_b : Beside) (now : AnyTable) (result : Result Told E) : Type 0 where
+  pub filed : (visits : ℕ) (cursors : Named Cursor) → FiledOr most (engine_of (slot_of kind t cursors)) (Command.Load name) (with_visits visits b) (with_visits visits now_b) (engine_of (slot_of kind now cursors)) result
 
 -- a reply tells the first fault of bytes, or memory was missing for them
 abbrev pub TellsFault : {E : Type 0} → LoadFault → Result Told E → Type 0

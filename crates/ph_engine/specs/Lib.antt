@@ -29,3 +29,4 @@ pub mod Asking
 pub mod Soaking
 pub mod Ending
 pub mod Checking
+pub mod Told

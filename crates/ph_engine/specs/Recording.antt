@@ -1,22 +1,22 @@
 -- What imports and exports do, before their replies are told.
-use Rattle.std.specs.Prelude.{◌≡◌, ◌≤◌, ℕ, Bool, nat_lt, if◌then◌else◌, List, length, replicate, take, ℤ, Option, Result, Ok, Err}
+use Rattle.std.specs.Prelude.{◌≡◌, ◌≤◌, ℕ, Bool, nat_lt, if◌then◌else◌, List, length, take, Result, Ok, Err}
 use Rattle.ph_csv.specs.Faults.{IsFault}
 use Rattle.ph_csv.specs.declared.fault.CsvFault.{CsvFault}
 use Rattle.ph_csv.specs.declared.fault.CsvFault.TheVariants as csv
-use Rattle.ph_io.specs.Shelf.{Map, Draft, Stays}
+use Rattle.ph_io.specs.Shelf.{Stays}
 use Rattle.ph_specs.specs.Command.{Command}
-use Rattle.ph_specs.specs.Coordinate.{least, greatest}
+use Rattle.ph_specs.specs.Csv.{csv_rows}
 use Rattle.ph_specs.specs.Named.{Named}
 use Rattle.ph_specs.specs.Reply.{Reply}
 use Rattle.ph_specs.specs.Sets.{put_all}
-use Rattle.ph_specs.specs.State.{Files}
 use Rattle.ph_specs.specs.Table.{Row}
 use Rattle.ph_specs.specs.Window.{Cursor}
 use Rattle.ph_specs.specs.declared.Kind.{Kind}
 use Rattle.ph_script.specs.declared.reply.Reply.{Reply as Told}
 use Rattle.ph_script.specs.Meaning.{reply_of}
 use Rattle.ph_import.specs.Imported.{with_rows}
-use Rattle.ph_engine.specs.Drafting.{Filled, Unfilled}
+use Rattle.ph_engine.specs.Beside.{Beside, with_changes}
+use Rattle.ph_engine.specs.Drafting.{Shelf, Filled, Unfilled}
 use Rattle.ph_engine.specs.Filing.{Entered, FiledOr}
 use Rattle.ph_engine.specs.Slots.{AnyTable, table_at, slot_of, engine_of}
 use Rattle.ph_engine.specs.declared.records.ExportFault.{ExportFault}
@@ -30,6 +30,10 @@ table_with t rows = table_at t.dims (with_rows t.tree rows)
 
 abbrev pub is_overfull : AnyTable → List Row → Bool
 is_overfull t rows = nat_lt t.tree.max (length (put_all t.tree.width t.tree.table rows))
+
+-- the rows of a text for a table, or the reply to its fault
+abbrev pub rows_for : AnyTable → Kind → Bool → List ℕ → Result (List Row) Reply
+rows_for t kind header text = csv_rows t.tree.width t.dims kind header text
 
 -- what a table becomes by the rows that were read, or by their fault, and the reply
 abbrev pub imported_table : AnyTable → Result (List Row) Reply → AnyTable
@@ -51,8 +55,8 @@ ImportsOr t read now (Ok reply) = (now ≡ imported_table t read) × (reply_of r
 ImportsOr t read now (Err error) = (part : ℕ) × (now ≡ table_with_first t part read)
 
 -- an import into a table, whatever cursors stand beside it
-pub record TableImported {E : Type 0} (most : ℕ) (kind : Kind) (t : AnyTable) (name : List ℕ) (header : Bool) (told now_told : Option Files) (before now_count visits now_visits changes now_changes : ℕ) (now : AnyTable) (result : Result Told E) : Type 0 where
-  pub filed : (cursors : Named Cursor) → FiledOr most (engine_of (slot_of kind t cursors)) (Command.Import name header) told now_told before now_count visits now_visits changes now_changes (engine_of (slot_of kind now cursors)) result
+pub record TableImported {E : Type 0} (most : ℕ) (kind : Kind) (t : AnyTable) (name : List ℕ) (header : Bool) (b now_b : Beside) (now : AnyTable) (result : Result Told E) : Type 0 where
+  pub filed : (cursors : Named Cursor) → FiledOr most (engine_of (slot_of kind t cursors)) (Command.Import name header) b now_b (engine_of (slot_of kind now cursors)) result
 
 -- a reply tells the fault of a text, or memory was missing for its rows
 abbrev pub TellsRecord : {E : Type 0} → CsvFault → Result Told E → Type 0
@@ -61,30 +65,23 @@ TellsRecord fault (Err error) = fault ≡ csv.NoMemory
 
 -- ---- rows that are written
 
--- the corners of the window that has all points
-abbrev pub lowest : ℕ → ℕ → List ℤ
-lowest w d = replicate d (least w)
-
-abbrev pub highest : ℕ → ℕ → List ℤ
-highest w d = replicate d (greatest w)
-
 -- memory was missing, and the files are as they were
-pub record Unwritten (files now_files : Option Map) (before now : ℕ) : Type 0 where
-  pub later : before ≤ now
-  pub stays : Stays files now_files
+pub record Unwritten (before now : Shelf) : Type 0 where
+  pub later : before.faults ≤ now.faults
+  pub stays : Stays before.files now.files
 
 -- the bytes were appended to the file that is begun
-abbrev pub AppendedOr : Option Map → Option Map → Option Draft → Option Draft → ℕ → ℕ → Bool → List ℕ → Result Unit ExportFault → Type 0
-AppendedOr files now_files draft now_draft before now begun bytes (Ok _) = Filled files now_files draft now_draft before now begun bytes
-AppendedOr files now_files draft now_draft before now begun bytes (Err by.Failed) = Unfilled files now_files before now
-AppendedOr files now_files draft now_draft before now begun bytes (Err by.NoMemory) = Unwritten files now_files before now
+abbrev pub AppendedOr : Shelf → Shelf → List ℕ → Result Unit ExportFault → Type 0
+AppendedOr before now bytes (Ok _) = Filled before now bytes
+AppendedOr before now bytes (Err by.Failed) = Unfilled before now
+AppendedOr before now bytes (Err by.NoMemory) = Unwritten before now
 
 -- the bytes are a file under the name
-abbrev pub ExportedOr : Option Files → Option Files → ℕ → ℕ → List ℕ → List ℕ → Result Unit ExportFault → Type 0
-ExportedOr told now_told before now name bytes (Ok _) = Entered told now_told before now name bytes (length bytes)
-ExportedOr told now_told before now name bytes (Err by.Failed) = Unfilled told now_told before now
-ExportedOr told now_told before now name bytes (Err by.NoMemory) = Unwritten told now_told before now
+abbrev pub ExportedOr : Shelf → Shelf → List ℕ → List ℕ → Result Unit ExportFault → Type 0
+ExportedOr before now name bytes (Ok _) = Entered before now name bytes (length bytes)
+ExportedOr before now name bytes (Err by.Failed) = Unfilled before now
+ExportedOr before now name bytes (Err by.NoMemory) = Unwritten before now
 
--- an export of a table, of whatever kind and whatever cursors stand beside it
-pub record TableExported {E : Type 0} (t : AnyTable) (name : List ℕ) (told now_told : Option Files) (before now visits now_visits : ℕ) (result : Result Told E) : Type 0 where
-  pub filed : (most changes : ℕ) (kind : Kind) (cursors : Named Cursor) → let e = engine_of (slot_of kind t cursors) in FiledOr most e (Command.Export name) told now_told before now visits now_visits changes changes e result
+-- an export of a table, of whatever kind, whatever cursors stand beside it and whatever was counted of changes
+pub record TableExported {E : Type 0} (t : AnyTable) (name : List ℕ) (b now_b : Beside) (result : Result Told E) : Type 0 where
+  pub filed : (most changes : ℕ) (kind : Kind) (cursors : Named Cursor) → let e = engine_of (slot_of kind t cursors) in FiledOr most e (Command.Export name) (with_changes changes b) (with_changes changes now_b) e result

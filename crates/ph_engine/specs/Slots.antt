@@ -1,16 +1,16 @@
 -- The engine of the code as that of the definitions.
-use Rattle.std.specs.Prelude.{◌≡◌, ◌≤◌, ℕ, ◌-◌, ◌%◌, ◌^◌, List, [], length, IsTrue}
+use Rattle.std.specs.Prelude.{◌≡◌, ◌≤◌, ℕ, ◌%◌, List, [], length, IsTrue}
 use Rattle.std.specs.List.{AllByRecursion}
 use Rattle.std.specs.Ordering.{nat_cmp}
 use Rattle.std.specs.Cmp.Lexicographic.{slice_cmp}
 use Rattle.std.specs.FinMap.Entries.{is_sorted}
 use Rattle.ph_specs.specs.declared.Kind.{Kind}
+use Rattle.ph_specs.specs.Boxes.{AreBoxes}
 use Rattle.ph_specs.specs.declared.Kind.TheVariants.{Points, Boxes}
 use Rattle.ph_specs.specs.declared.Which.TheVariants.{A}
-use Rattle.ph_specs.specs.Coordinate.{IsPoint, IsBox}
-use Rattle.ph_specs.specs.Table.{Row}
+use Rattle.ph_specs.specs.Coordinate.{IsPoint}
 use Rattle.ph_specs.specs.Named.{Named}
-use Rattle.ph_specs.specs.State.{Slot, Engine, empty_slot}
+use Rattle.ph_specs.specs.State.{Slot, Engine, new_slot}
 use Rattle.ph_specs.specs.Window.{Cursor}
 use Rattle.ph_tree.specs.Tree.{TreeTable}
 use Rattle.ph_window.specs.Page.{IsLast}
@@ -38,6 +38,14 @@ any_table (tree.D5 t) = table_at 5 t
 any_table (tree.D6 t) = table_at 6 t
 any_table (tree.D7 t) = table_at 7 t
 any_table (tree.D8 t) = table_at 8 t
+any_table (tree.D9 t) = table_at 9 t
+any_table (tree.D10 t) = table_at 10 t
+any_table (tree.D11 t) = table_at 11 t
+any_table (tree.D12 t) = table_at 12 t
+any_table (tree.D13 t) = table_at 13 t
+any_table (tree.D14 t) = table_at 14 t
+any_table (tree.D15 t) = table_at 15 t
+any_table (tree.D16 t) = table_at 16 t
 
 -- the table of a new tree
 abbrev pub empty_table : ℕ → ℕ → ℕ → AnyTable
@@ -53,6 +61,14 @@ cursor_of (cursor.D5 c) = c
 cursor_of (cursor.D6 c) = c
 cursor_of (cursor.D7 c) = c
 cursor_of (cursor.D8 c) = c
+cursor_of (cursor.D9 c) = c
+cursor_of (cursor.D10 c) = c
+cursor_of (cursor.D11 c) = c
+cursor_of (cursor.D12 c) = c
+cursor_of (cursor.D13 c) = c
+cursor_of (cursor.D14 c) = c
+cursor_of (cursor.D15 c) = c
+cursor_of (cursor.D16 c) = c
 
 abbrev pub cursor_dims : AnyCursor → ℕ
 cursor_dims (cursor.D1 c) = 1
@@ -63,6 +79,14 @@ cursor_dims (cursor.D5 c) = 5
 cursor_dims (cursor.D6 c) = 6
 cursor_dims (cursor.D7 c) = 7
 cursor_dims (cursor.D8 c) = 8
+cursor_dims (cursor.D9 c) = 9
+cursor_dims (cursor.D10 c) = 10
+cursor_dims (cursor.D11 c) = 11
+cursor_dims (cursor.D12 c) = 12
+cursor_dims (cursor.D13 c) = 13
+cursor_dims (cursor.D14 c) = 14
+cursor_dims (cursor.D15 c) = 15
+cursor_dims (cursor.D16 c) = 16
 
 -- the cursors of a slot under their names
 abbrev pub named : List Held → Named Cursor
@@ -83,19 +107,14 @@ pub record IsCursorIn (t : AnyTable) (c : AnyCursor) : Type 0 where
   pub hi : IsPoint t.tree.width t.dims (cursor_of c).hi
   pub last : IsLast t.tree.width t.dims (cursor_of c).last
 
--- each row is a box
-abbrev pub AreBoxes : List Row → Type 0
-AreBoxes rows = AllByRecursion (λ r. IsBox r.point) rows
-
 -- the points of a table are of the kind: those of boxes have an even number of dimensions, half of them for the low corner, and each is a box
 abbrev pub IsOfKind : Kind → AnyTable → Type 0
 IsOfKind Points t = Unit {0}
 IsOfKind Boxes t = (t.dims % 2 ≡ 0) × AreBoxes t.tree.table
 
--- what a slot of the code keeps: its width, that its rows are of its kind, at most 16 cursors in the order of their names, which differ, and that
+-- what a slot of the code keeps: that its rows are of its kind, at most 16 cursors in the order of their names, which differ, and that
 -- each serves in its table
 pub record IsSlot (kind : Kind) (t : AnyTable) (held : List Held) : Type 0 where
-  pub width : t.tree.width ≡ 32
   pub of_kind : IsOfKind kind t
   pub few : length held ≤ 16
   pub sorted : IsTrue (is_sorted (slice_cmp nat_cmp) (named held))
@@ -103,4 +122,4 @@ pub record IsSlot (kind : Kind) (t : AnyTable) (held : List Held) : Type 0 where
 
 -- an engine whose current slot is this one, and whose other slot is new
 abbrev pub engine_of : Slot → Engine
-engine_of s = record { a = s; b = empty_slot Points 2 (2 ^ 64 - 1); current = A }
+engine_of s = record { a = s; b = new_slot; current = A }

@@ -2,7 +2,7 @@
 use Rattle.std.specs.Prelude.{◌≡◌, ◌≤◌, ◌⊎◌, ℕ, ◌+◌, Bool, true, false, List, [], ◌∷◌, take, Result, Ok, Err}
 use Rattle.std.specs.List.{list_all}
 use Rattle.ph_io.specs.Causes.{Rose}
-use Rattle.ph_io.specs.Giving.{Taken, Given}
+use Rattle.ph_io.specs.Giving.{Given}
 use Rattle.ph_io.specs.Writing.{WritesFront}
 use Rattle.ph_specs.specs.Command.{Command}
 use Rattle.ph_specs.specs.Generator.{generate}
@@ -10,7 +10,7 @@ use Rattle.ph_specs.specs.Program.{act_all, opened, soaked, soak_line}
 use Rattle.ph_specs.specs.Reply.{replies_text}
 use Rattle.ph_specs.specs.Engine.{act}
 use Rattle.ph_specs.specs.State.{Engine, Files}
-use Rattle.ph_engine.specs.Beside.{Beside}
+use Rattle.ph_engine.specs.Beside.{Beside, without_files}
 use Rattle.ph_engine.specs.Machine.{Work}
 use Rattle.ph_engine.specs.Working.{work_of, nodes_of}
 use Rattle.ph_engine.specs.Seen.{Seen}
@@ -71,21 +71,21 @@ SoakedOr most e commands b now_b now (Ok _) = (files : Files) → Soaked most e 
 SoakedOr most e commands b now_b now (Err _) = SoakedInPart most e commands b now_b now
 
 -- How a soak ends, with files of at most so many bytes: the engine, the sink and the counters before and behind it.
-pub record SoakDone (most n start : ℕ) (e now_e : Engine) (sink now_sink : Taken) (visits now_visits changes now_changes : ℕ) (status : Status) : Type 0 where
+pub record SoakDone (most n start : ℕ) (e now_e : Engine) (b now_b : Beside) (status : Status) : Type 0 where
   pub ends : (status ≡ Clean) ⊎ ((status ≡ WriteFault) ⊎ (status ≡ Memory))
-  pub told : (files : Files) → status ≡ Clean → Given sink now_sink (soak_line most e files n start)
-  pub cut : (files : Files) → status ≡ WriteFault → WritesFront sink now_sink (soak_line most e files n start)
-  pub none : status ≡ Memory → Given sink now_sink []
+  pub told : (files : Files) → status ≡ Clean → Given b.sink now_b.sink (soak_line most e files n start)
+  pub cut : (files : Files) → status ≡ WriteFault → WritesFront b.sink now_b.sink (soak_line most e files n start)
+  pub none : status ≡ Memory → Given b.sink now_b.sink []
   pub engine : (files : Files) → (status ≡ Clean) ⊎ (status ≡ WriteFault) → now_e ≡ (soaked most e files n start).engine
   pub part : status ≡ Memory → (k : ℕ) × ((files : Files) → now_e ≡ (act_all most (opened e files) files (take k (generate n start))).engine)
-  pub most_visits : (files : Files) → now_visits ≤ visits + visits_most most (opened e files) files (generate n start) + nodes_of (soaked most e files n start).engine.a
-  pub most_changes : (files : Files) → now_changes ≤ changes + changes_most most (opened e files) files (generate n start)
-  pub least_visits : (files : Files) → status ≡ Clean → visits + visits_least most (opened e files) files (generate n start) ≤ now_visits
-  pub least_changes : (files : Files) → status ≡ Clean → changes + changes_least most (opened e files) files (generate n start) ≤ now_changes
+  pub most_visits : (files : Files) → now_b.visits ≤ b.visits + visits_most most (opened e files) files (generate n start) + nodes_of (soaked most e files n start).engine.a
+  pub most_changes : (files : Files) → now_b.changes ≤ b.changes + changes_most most (opened e files) files (generate n start)
+  pub least_visits : (files : Files) → status ≡ Clean → b.visits + visits_least most (opened e files) files (generate n start) ≤ now_b.visits
+  pub least_changes : (files : Files) → status ≡ Clean → b.changes + changes_least most (opened e files) files (generate n start) ≤ now_b.changes
 
 -- How a call of the program for a soak ends. Nothing but the sink, the engine and the counters is touched.
 pub record SoakEnds (most n start : ℕ) (before now : Seen) (status : Status) : Type 0 where
-  pub done : SoakDone most n start before.at.engine now.at.engine before.at.beside.sink now.at.beside.sink before.at.beside.visits now.at.beside.visits before.at.beside.changes now.at.beside.changes status
+  pub done : SoakDone most n start before.at.engine now.at.engine (without_files before.at.beside) (without_files now.at.beside) status
   pub write_cause : status ≡ WriteFault → Rose before.writes now.writes
   pub later : before.writes ≤ now.writes
   pub left : now.left ≡ before.left

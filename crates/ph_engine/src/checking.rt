@@ -1,17 +1,16 @@
 //! The check of a file that holds a saved table.
-ghost use Rattle.std.specs.Prelude.{◌≡◌, ◌≤◌, ◌+◌, ◌*◌, [], false, length, slice_index, IfOk, IfErr, Ok};
+ghost use Rattle.std.specs.Prelude.{◌≡◌, ◌≤◌, ◌+◌, ◌*◌, [], false, length, IfOk, IfErr, Ok};
 ghost use Rattle.ph_io.specs.Causes.{Rose};
-ghost use Rattle.ph_io.specs.Giving.{taken_of};
-ghost use Rattle.ph_specs.specs.Load.{load_fault};
-ghost use Rattle.ph_specs.specs.Program.{checked_words, named_kind, words_of_snapshot};
+ghost use Rattle.ph_specs.specs.Program.{checked_words, own_fault, words_of_snapshot};
 ghost use Rattle.ph_specs.specs.Reply.{line_of};
 ghost use Rattle.ph_specs.specs.Stats.{stats};
-ghost use Rattle.ph_specs.specs.WorkSets.{all_nodes};
 ghost use Rattle.ph_snap.specs.Faults.{IsLoadFault};
 ghost use Rattle.ph_engine.specs.Checking.{CheckDone, HasSizes, IsSavedAs, LineGiven, front_of, nodes_saved, status_of};
+ghost use Rattle.ph_engine.specs.Listing.{node_count};
 ghost use Rattle.ph_engine.specs.Machine.{is_refusal};
 ghost use Rattle.ph_engine.specs.Slots.{any_table};
 ghost use Rattle.ph_engine.specs.Statuses.{StopHasCause};
+ghost use Rattle.ph_engine.specs.Told.{beside_by, taken_by};
 
 use crate::filing::{fault_reply, fetch_reply};
 use crate::output::tell;
@@ -19,7 +18,7 @@ use crate::sizes::{LINE, push_count, push_sizes};
 use crate::status::{Answer, Limits, Status, Stop};
 use crate::trees::AnyTree;
 use arrayvec::ArrayString;
-use ph_coord::Kind;
+use ph_coord::{Kind, Width};
 use ph_io::{Failed, Files, Sink, write_piece};
 use ph_script::{FileName, Text};
 use ph_snap::{LoadFault, read_header};
@@ -37,7 +36,10 @@ pub(crate) fn check<O: Sink, F: Files, V: Ledger, C: Ledger>(
     visits: &mut Steps<V>,
     changes: &mut Steps<C>,
 ) -> Status
-    ensures done { CheckDone limits.now.file_bytes file.now (F.files files.old) (F.files files.new) (F.faults files.old) (F.faults files.new) (taken_of (O.written out.old) (O.amount out.old)) (taken_of (O.written out.new) (O.amount out.new)) visits.old visits.new changes.old changes.new result }
+    ensures done { CheckDone limits.now.file_bytes file.now
+        (beside_by O.Sink F.Files out.old files.old visits.old changes.old)
+        (beside_by O.Sink F.Files out.new files.new visits.new changes.new)
+        result }
     ensures cause { result ≡ Status.WriteFault → Rose (O.faults out.old) (O.faults out.new) }
     ensures later { O.faults out.old ≤ O.faults out.new }
 {
@@ -58,7 +60,10 @@ fn check_file<O: Sink, F: Files, V: Ledger, C: Ledger>(
     visits: &mut Steps<V>,
     changes: &mut Steps<C>,
 ) -> Result<Answer, Stop>
-    ensures done { CheckDone limits.now.file_bytes file.now (F.files files.old) (F.files files.new) (F.faults files.old) (F.faults files.new) (taken_of (O.written out.old) (O.amount out.old)) (taken_of (O.written out.new) (O.amount out.new)) visits.old visits.new changes.old changes.new (status_of result) }
+    ensures done { CheckDone limits.now.file_bytes file.now
+        (beside_by O.Sink F.Files out.old files.old visits.old changes.old)
+        (beside_by O.Sink F.Files out.new files.new visits.new changes.new)
+        (status_of result) }
     ensures cause { StopHasCause (O.faults out.old) (O.faults out.new) result }
 {
     let mut bytes = Vec::new(alloc);
@@ -76,7 +81,7 @@ fn check_bytes<O: Sink, V: Ledger, C: Ledger>(
     visits: &mut Steps<V>,
     changes: &mut Steps<C>,
 ) -> Result<Answer, Stop>
-    ensures line { LineGiven (taken_of (O.written out.old) (O.amount out.old)) (taken_of (O.written out.new) (O.amount out.new)) (line_of (words_of_snapshot bytes.now)) result }
+    ensures line { LineGiven (taken_by O.Sink out.old) (taken_by O.Sink out.new) (line_of (words_of_snapshot bytes.now)) result }
     ensures sizes { result ≡ Ok Answer.Good → HasSizes bytes.now (line_of (words_of_snapshot bytes.now)) }
     ensures kept_visits { visits.old ≤ visits.new }
     ensures most_visits { visits.new ≤ visits.old + nodes_saved bytes.now }
@@ -98,21 +103,27 @@ fn read_tree<C: Ledger>(
     changes: &mut Steps<C>,
 ) -> Result<(Kind, AnyTree), LoadFault>
     ensures saved { IfOk result (λ r. IsSavedAs bytes.now r.0 (any_table r.1)) }
-    ensures fault { IfErr result (λ e. IsLoadFault (load_fault (named_kind bytes.now) (slice_index bytes.now 5) bytes.now) e) }
-    ensures nodes { IfOk result (λ r. changes.new ≡ changes.old + length (all_nodes 32 (any_table r.1).dims (any_table r.1).tree.table)) }
+    ensures fault { IfErr result (λ e. IsLoadFault (own_fault bytes.now) e) }
+    ensures nodes { IfOk result (λ r. changes.new ≡ changes.old + node_count (any_table r.1)) }
     ensures kept { changes.old ≤ changes.new }
     ensures few { 16 * changes.new ≤ 16 * changes.old + length bytes.now }
 {
-    let header = read_header(bytes)?;
-    let tree = AnyTree::load(alloc, bytes, header.kind, header.dims, changes)?;
+    let header = match read_header(bytes) {
+        Ok(header) => header,
+        Err(fault) => return Err(fault),
+    };
+    let Some(w) = Width::new(header.width) else {
+        unreachable!()
+    };
+    let tree = AnyTree::load(alloc, bytes, header.kind, header.dims, w, changes)?;
     Ok((header.kind, tree))
 }
 
 // The line of a table: what its rows are, with their dimensions, and the sizes of its tree.
 fn table_line<V: Ledger>(kind: Kind, tree: &AnyTree, visits: &mut Steps<V>) -> ArrayString<LINE>
-    requires { (any_table tree.now).tree.width ≡ 32 }
-    ensures line { result.bytes ≡ line_of (checked_words kind (any_table tree.now).dims (stats 32 (any_table tree.now).dims (any_table tree.now).tree.table)) }
-    ensures visits { visits.new ≡ visits.old + length (all_nodes 32 (any_table tree.now).dims (any_table tree.now).tree.table) }
+    ensures line { let t = any_table tree.now in
+        result.bytes ≡ line_of (checked_words kind t.dims (stats t.tree.width t.dims t.tree.table)) }
+    ensures visits { visits.new ≡ visits.old + node_count (any_table tree.now) }
 {
     let mut line = ArrayString::new();
     push_kind(&mut line, kind, tree.dims());
@@ -136,7 +147,7 @@ fn push_kind(line: &mut ArrayString<LINE>, kind: Kind, dims: u32)
 // Gives the sink a line that refuses nothing.
 fn say_line<O: Sink>(out: &mut O, line: &str) -> Result<Answer, Stop>
     requires { is_refusal line.now ≡ false }
-    ensures line { LineGiven (taken_of (O.written out.old) (O.amount out.old)) (taken_of (O.written out.new) (O.amount out.new)) line.now result }
+    ensures line { LineGiven (taken_by O.Sink out.old) (taken_by O.Sink out.new) line.now result }
     ensures cause { StopHasCause (O.faults out.old) (O.faults out.new) result }
 {
     match write_piece(out, line.as_bytes()) {

@@ -113,7 +113,8 @@ pub(crate) fn move_row<const D: usize, V: Ledger, C: Ledger>(
     requires from_range { list_all (fits tree.old.width) (numbers_of from.now) ≡ true }
     requires to_range { list_all (fits tree.old.width) (numbers_of to.now) ≡ true }
     requires limit { D ≤ 16 }
-    ensures { ServedOr (table_at D tree.old) (Asked.Relocate (numbers_of from.now) (numbers_of to.now)) (table_at D tree.new) visits.old visits.new changes.old changes.new result }
+    ensures { ServedOr (table_at D tree.old) (Asked.Relocate (numbers_of from.now) (numbers_of to.now)) (table_at D tree.new)
+        visits.old visits.new changes.old changes.new result }
 {
     let p = point_at(tree.width(), from);
     let q = point_at(tree.width(), to);
@@ -144,9 +145,13 @@ pub(crate) fn are_same<const D: usize, V: Ledger>(
     b: &PhTree<D>,
     visits: &mut Steps<V>,
 ) -> bool
-    requires { a.now.width ≡ b.now.width }
     ensures { IsCompared (slot_of Points (table_at D a.now) []) (slot_of Points (table_at D b.now) []) visits.old visits.new result }
 {
+    let bits = a.width().bits();
+    let others = b.width().bits();
+    if bits != others {
+        return false;
+    }
     a.same(b, visits)
 }
 

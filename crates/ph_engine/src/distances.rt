@@ -2,11 +2,11 @@
 ghost use Rattle.std.specs.Prelude.{◌≡◌, ◌≤◌, true, length};
 ghost use Rattle.std.specs.List.{list_all};
 ghost use Rattle.ph_specs.specs.Coordinate.{fits};
-ghost use Rattle.ph_io.specs.Giving.{taken_of};
 ghost use Rattle.ph_script.specs.Meaning.{numbers_of};
 ghost use Rattle.ph_engine.specs.Listing.{hit_replies, Lists, ListsNear, ListsBall};
 ghost use Rattle.ph_engine.specs.Slots.{table_at};
 ghost use Rattle.ph_engine.specs.Statuses.{StopHasCause};
+ghost use Rattle.ph_engine.specs.Told.{taken_by};
 
 use crate::commands::point_at;
 use crate::output::{say, say_hit};
@@ -32,7 +32,7 @@ pub(crate) fn list_near<const D: usize, O: Sink, V: Ledger>(
     requires dims { length q.now ≡ D }
     requires range { list_all (fits tree.now.width) (numbers_of q.now) ≡ true }
     requires limit { D ≤ 16 }
-    ensures lists { ListsNear (table_at D tree.now) (numbers_of q.now) n (taken_of (O.written out.old) (O.amount out.old)) (taken_of (O.written out.new) (O.amount out.new)) visits.old visits.new result }
+    ensures lists { ListsNear (table_at D tree.now) (numbers_of q.now) n (taken_by O.Sink out.old) (taken_by O.Sink out.new) visits.old visits.new result }
     ensures cause { StopHasCause (O.faults out.old) (O.faults out.new) result }
 {
     let Ok(hits) = nearest(alloc, tree, point_at(tree.width(), q), n, visits) else {
@@ -47,7 +47,7 @@ fn list_hits<const D: usize, O: Sink>(
     text: &mut Text,
 ) -> Result<Answer, Stop>
     requires limit { D ≤ 16 }
-    ensures lists { Lists (hit_replies hits.now) 0 0 (taken_of (O.written out.old) (O.amount out.old)) (taken_of (O.written out.new) (O.amount out.new)) 0 0 result }
+    ensures lists { Lists (hit_replies hits.now) 0 0 (taken_by O.Sink out.old) (taken_by O.Sink out.new) 0 0 result }
     ensures cause { StopHasCause (O.faults out.old) (O.faults out.new) result }
 {
     for hit in hits {
@@ -68,7 +68,7 @@ pub(crate) fn list_ball<const D: usize, O: Sink, V: Ledger>(
     requires dims { length q.now ≡ D }
     requires range { list_all (fits tree.now.width) (numbers_of q.now) ≡ true }
     requires limit { D ≤ 16 }
-    ensures lists { ListsBall (table_at D tree.now) (numbers_of q.now) r (taken_of (O.written out.old) (O.amount out.old)) (taken_of (O.written out.new) (O.amount out.new)) visits.old visits.new result }
+    ensures lists { ListsBall (table_at D tree.now) (numbers_of q.now) r (taken_by O.Sink out.old) (taken_by O.Sink out.new) visits.old visits.new result }
     ensures cause { StopHasCause (O.faults out.old) (O.faults out.new) result }
 {
     // A use that makes known that there are at most so many rows.

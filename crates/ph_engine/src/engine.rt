@@ -5,10 +5,10 @@ ghost use Rattle.ph_specs.specs.Reply.{Reply as Replied};
 ghost use Rattle.ph_specs.specs.State.{new_engine, current, slot_at};
 ghost use Rattle.ph_script.specs.Meaning.{command_of, reply_of};
 ghost use Rattle.ph_script.specs.Fit.{HasDims};
-ghost use Rattle.ph_engine.specs.Beside.{beside};
 ghost use Rattle.ph_engine.specs.Comparing.{Compares};
 ghost use Rattle.ph_engine.specs.Doing.{DoneOr};
 ghost use Rattle.ph_engine.specs.Statuses.{StopHasCause};
+ghost use Rattle.ph_engine.specs.Told.{beside_by};
 
 use crate::output::say;
 use crate::slot::Slot;
@@ -37,7 +37,7 @@ impl Model for Engine {
 }
 
 impl Engine {
-    /// An engine whose slots are empty tables of points of two dimensions, with any number of rows. It takes no memory.
+    /// An engine whose slots are empty tables of points of two dimensions and 32 bits, with any number of rows. It takes no memory.
     pub fn new(alloc: Global) -> Engine
         ensures { result ≡ new_engine }
     {
@@ -58,7 +58,7 @@ impl Engine {
         }
     }
 
-    // Makes slot `a` the current one, and a new table of points of two dimensions. It takes no memory.
+    // Makes slot `a` the current one, and a new table of points of two dimensions and 32 bits. It takes no memory.
     pub(crate) fn open_points(&mut self, alloc: Global)
         ensures { self.new ≡ opened self.old [] }
     {
@@ -66,11 +66,11 @@ impl Engine {
         self.current = Which::A;
     }
 
-    /// The number of dimensions of the current slot's points: 1 to 8. A box has its two corners.
+    /// The number of dimensions of the current slot's points: 1 to 16. A box has its two corners.
     pub fn dims(&self) -> u32
         ensures value { result ≡ (current self.now).dims }
         ensures some { 1 ≤ result }
-        ensures limit { result ≤ 8 }
+        ensures limit { result ≤ 16 }
     {
         match self.current {
             Which::A => self.a.dims(),
@@ -95,7 +95,10 @@ impl Engine {
     ) -> Result<Answer, Stop>
         requires dims { HasDims (current self.old).dims cmd.now }
         requires file { limits.now.file_bytes < 2 ^ 63 }
-        ensures done { DoneOr limits.now.file_bytes self.old (command_of cmd.now) (beside (O.written out.old) (O.amount out.old) (F.files files.old) (F.faults files.old) visits.old changes.old) (beside (O.written out.new) (O.amount out.new) (F.files files.new) (F.faults files.new) visits.new changes.new) self.new result }
+        ensures done { DoneOr limits.now.file_bytes self.old (command_of cmd.now)
+            (beside_by O.Sink F.Files out.old files.old visits.old changes.old)
+            (beside_by O.Sink F.Files out.new files.new visits.new changes.new)
+            self.new result }
         ensures cause { StopHasCause (O.faults out.old) (O.faults out.new) result }
     {
         self.exec_by(
@@ -124,7 +127,10 @@ impl Engine {
     ) -> Result<Answer, Stop>
         requires dims { HasDims (current self.old).dims cmd.now }
         requires file { limits.now.file_bytes < 2 ^ 63 }
-        ensures done { DoneOr limits.now.file_bytes self.old (command_of cmd.now) (beside (O.written out.old) (O.amount out.old) (F.files files.old) (F.faults files.old) visits.old changes.old) (beside (O.written out.new) (O.amount out.new) (F.files files.new) (F.faults files.new) visits.new changes.new) self.new result }
+        ensures done { DoneOr limits.now.file_bytes self.old (command_of cmd.now)
+            (beside_by O.Sink F.Files out.old files.old visits.old changes.old)
+            (beside_by O.Sink F.Files out.new files.new visits.new changes.new)
+            self.new result }
         ensures cause { StopHasCause (O.faults out.old) (O.faults out.new) result }
     {
         match cmd {
@@ -150,7 +156,7 @@ impl Engine {
         Reply::Using(slot)
     }
 
-    // Whether both slots have the same rows, of one kind and as many dimensions.
+    // Whether both slots have the same rows, of one kind, one width and as many dimensions.
     fn compare<V: Ledger>(&self, visits: &mut Steps<V>) -> Reply
         ensures { Compares self.now visits.old visits.new (reply_of result) }
     {

@@ -4,8 +4,9 @@ ghost use Rattle.std.specs.Io.{WritesAtMost};
 ghost use Rattle.std.specs.Io.KnownBytes.{WriteAppends};
 ghost use Rattle.ph_io.specs.Amounts.{WriteAdds};
 ghost use Rattle.ph_io.specs.Causes.{HasCause};
-ghost use Rattle.ph_engine.specs.Drafting.{draft_bytes, drafted, Follows};
+ghost use Rattle.ph_engine.specs.Drafting.{draft_bytes, Follows};
 ghost use Rattle.ph_engine.specs.DraftLaws.{follows_itself, follows_on};
+ghost use Rattle.ph_engine.specs.Told.{drafted_by};
 
 use ph_io::{Failed, Files, Sink};
 
@@ -41,11 +42,13 @@ impl<'f, F: Files> Sink for FileSink<'f, F> {
 
     ghost faults = { λ s. F.faults s.files.now + s.late };
 
-    ghost follows = { λ a b. Follows (drafted a.files.ghost_name (F.files a.files.now) (F.draft a.files.now) (F.faults a.files.now) a.late a.works) (drafted b.files.ghost_name (F.files b.files.now) (F.draft b.files.now) (F.faults b.files.now) b.late b.works) };
+    ghost follows = { λ a b. Follows
+        (drafted_by F.Files a.files.ghost_name a.files.now a.late a.works)
+        (drafted_by F.Files b.files.ghost_name b.files.now b.late b.works) };
 
-    ghost follows_itself = { λ s. follows_itself (drafted s.files.ghost_name (F.files s.files.now) (F.draft s.files.now) (F.faults s.files.now) s.late s.works) };
+    ghost follows_itself = { λ _. follows_itself _ };
 
-    ghost follows_on = { λ a b c. follows_on (drafted a.files.ghost_name (F.files a.files.now) (F.draft a.files.now) (F.faults a.files.now) a.late a.works) (drafted b.files.ghost_name (F.files b.files.now) (F.draft b.files.now) (F.faults b.files.now) b.late b.works) (drafted c.files.ghost_name (F.files c.files.now) (F.draft c.files.now) (F.faults c.files.now) c.late c.works) };
+    ghost follows_on = { λ _ _ _. follows_on _ _ _ };
 
     fn write(&mut self, piece: &[u8]) -> Result<usize, Failed>
         ensures bound { WritesAtMost result piece.now }
@@ -53,7 +56,9 @@ impl<'f, F: Files> Sink for FileSink<'f, F> {
         ensures bytes { WriteAppends (draft_bytes (F.draft self.old.files.now)) (draft_bytes (F.draft self.new.files.now)) result piece.now }
         ensures amount { WriteAdds None None result }
         ensures cause { HasCause (F.faults self.old.files.now + self.old.late) (F.faults self.new.files.now + self.new.late) result }
-        ensures follows { Follows (drafted self.old.files.ghost_name (F.files self.old.files.now) (F.draft self.old.files.now) (F.faults self.old.files.now) self.old.late self.old.works) (drafted self.new.files.ghost_name (F.files self.new.files.now) (F.draft self.new.files.now) (F.faults self.new.files.now) self.new.late self.new.works) }
+        ensures follows { Follows
+            (drafted_by F.Files self.old.files.ghost_name self.old.files.now self.old.late self.old.works)
+            (drafted_by F.Files self.new.files.ghost_name self.new.files.now self.new.late self.new.works) }
     {
         if !self.works {
             self.late = self.late.saturating_add(1);

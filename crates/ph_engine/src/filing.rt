@@ -1,12 +1,12 @@
 //! Commands on files: a table as a snapshot, and back.
 ghost use Rattle.std.specs.Prelude.{◌≡◌, ◌≤◌, ◌+◌, ◌*◌, true, length, IfOk, OnOk};
-ghost use Rattle.ph_specs.specs.Load.{dims_fit};
-ghost use Rattle.ph_specs.specs.Snapshot.{snap, kind_byte};
+ghost use Rattle.ph_specs.specs.Snapshot.{snap};
 ghost use Rattle.ph_specs.specs.WorkSets.{all_nodes};
 ghost use Rattle.ph_script.specs.Meaning.{reply_of};
 ghost use Rattle.ph_engine.specs.Drafting.{FilledOr};
 ghost use Rattle.ph_engine.specs.Filing.{EnteredOr, LoadsOr, SameFrame, TableLoaded, TableSaved, TellsFault, TellsUnfetched, loaded_reply, loaded_table};
 ghost use Rattle.ph_engine.specs.Slots.{IsOfKind, any_table};
+ghost use Rattle.ph_engine.specs.Told.{aside_by, shelf_by};
 
 use crate::file_sink::FileSink;
 use crate::status::Limits;
@@ -28,9 +28,10 @@ pub(crate) fn save_table<F: Files, V: Ledger>(
     files: &mut F,
     visits: &mut Steps<V>,
 ) -> Reply
-    requires width { (any_table tree.now).tree.width ≡ 32 }
-    requires of_kind { IsOfKind kind (any_table tree.now) }
-    ensures { TableSaved kind (any_table tree.now) file.now (F.files files.old) (F.files files.new) (F.faults files.old) (F.faults files.new) visits.old visits.new (reply_of result) }
+    ensures { TableSaved kind (any_table tree.now) file.now
+        (aside_by F.Files files.old visits.old 0)
+        (aside_by F.Files files.new visits.new 0)
+        (reply_of result) }
 {
     match tree.save(kind, file, files, visits) {
         Ok(count) => Reply::Saved(count),
@@ -46,12 +47,10 @@ pub(crate) fn save_tree<const D: usize, F: Files, V: Ledger>(
     files: &mut F,
     visits: &mut Steps<V>,
 ) -> Result<u128, Failed>
-    requires width { tree.now.width ≡ 32 }
-    requires dims { dims_fit 8 (kind_byte kind) D ≡ true }
-    ensures entered { EnteredOr (F.files files.old) (F.files files.new) (F.faults files.old) (F.faults files.new) file.now (snap kind D tree.now.table) result }
+    ensures entered { EnteredOr (shelf_by F.Files files.old) (shelf_by F.Files files.new) file.now (snap kind D tree.now.width tree.now.table) result }
     ensures kept { visits.old ≤ visits.new }
-    ensures few { visits.new ≤ visits.old + length (all_nodes 32 D tree.now.table) }
-    ensures all { OnOk result (visits.new ≡ visits.old + length (all_nodes 32 D tree.now.table)) }
+    ensures few { visits.new ≤ visits.old + length (all_nodes tree.now.width D tree.now.table) }
+    ensures all { OnOk result (visits.new ≡ visits.old + length (all_nodes tree.now.width D tree.now.table)) }
 {
     files.begin(file.as_str())?;
     let count = append_tree(tree, kind, files, visits)?;
@@ -66,14 +65,12 @@ fn append_tree<const D: usize, F: Files, V: Ledger>(
     files: &mut F,
     visits: &mut Steps<V>,
 ) -> Result<u128, Failed>
-    requires width { tree.now.width ≡ 32 }
-    requires dims { dims_fit 8 (kind_byte kind) D ≡ true }
     requires begun { F.is_begun files.old ≡ true }
-    ensures filled { FilledOr (F.files files.old) (F.files files.new) (F.draft files.old) (F.draft files.new) (F.faults files.old) (F.faults files.new) (F.is_begun files.new) (snap kind D tree.now.table) result }
-    ensures count { IfOk result (λ n. n ≡ length (snap kind D tree.now.table)) }
+    ensures filled { FilledOr (shelf_by F.Files files.old) (shelf_by F.Files files.new) (snap kind D tree.now.width tree.now.table) result }
+    ensures count { IfOk result (λ n. n ≡ length (snap kind D tree.now.width tree.now.table)) }
     ensures kept { visits.old ≤ visits.new }
-    ensures few { visits.new ≤ visits.old + length (all_nodes 32 D tree.now.table) }
-    ensures all { OnOk result (visits.new ≡ visits.old + length (all_nodes 32 D tree.now.table)) }
+    ensures few { visits.new ≤ visits.old + length (all_nodes tree.now.width D tree.now.table) }
+    ensures all { OnOk result (visits.new ≡ visits.old + length (all_nodes tree.now.width D tree.now.table)) }
 {
     let mut sink = FileSink::new(files);
     match save(tree, kind, &mut sink, visits) {
@@ -92,10 +89,12 @@ pub(crate) fn load_table<F: Files, C: Ledger>(
     limits: &Limits,
     changes: &mut Steps<C>,
 ) -> Result<Reply, NoMemory>
-    requires width { (any_table tree.old).tree.width ≡ 32 }
     requires of_kind { IsOfKind kind (any_table tree.old) }
     ensures frame { SameFrame kind (any_table tree.old) (any_table tree.new) }
-    ensures loaded { TableLoaded limits.now.file_bytes kind (any_table tree.old) file.now (F.files files.old) (F.files files.new) (F.faults files.old) (F.faults files.new) changes.old changes.new (any_table tree.new) result }
+    ensures loaded { TableLoaded limits.now.file_bytes kind (any_table tree.old) file.now
+        (aside_by F.Files files.old 0 changes.old)
+        (aside_by F.Files files.new 0 changes.new)
+        (any_table tree.new) result }
 {
     let mut bytes = Vec::new(alloc);
     match files.fetch(file.as_str(), limits.file_bytes, &mut bytes) {
@@ -121,14 +120,13 @@ fn load_bytes<C: Ledger>(
     bytes: &[u8],
     changes: &mut Steps<C>,
 ) -> Result<Reply, NoMemory>
-    requires width { (any_table tree.old).tree.width ≡ 32 }
     requires of_kind { IsOfKind kind (any_table tree.old) }
     ensures loads { LoadsOr kind (any_table tree.old) bytes.now (any_table tree.new) result }
     ensures frame { SameFrame kind (any_table tree.old) (any_table tree.new) }
     ensures kept { changes.old ≤ changes.new }
     ensures few { 16 * changes.new ≤ 16 * changes.old + length bytes.now }
 {
-    match AnyTree::load(alloc, bytes, kind, tree.dims(), changes) {
+    match AnyTree::load(alloc, bytes, kind, tree.dims(), tree.width(), changes) {
         Ok(loaded) => Ok(replace(tree, loaded)),
         Err(fault) => fault_reply(fault),
     }

@@ -1,6 +1,6 @@
 //! Replies, and the sink that takes their texts.
 ghost use Rattle.std.specs.Prelude.{◌≡◌, ◌≤◌, IfOk, IfErr, OnOk, OnErr};
-ghost use Rattle.ph_io.specs.Giving.{Given, taken_of};
+ghost use Rattle.ph_io.specs.Giving.{Given};
 ghost use Rattle.ph_specs.specs.Reply.{Reply as Replied, reply_text as text_of};
 ghost use Rattle.ph_script.specs.Meaning.{reply_of};
 ghost use Rattle.ph_engine.specs.Machine.{is_refusal};
@@ -9,6 +9,7 @@ ghost use Rattle.ph_engine.specs.Listing.{hit_said};
 ghost use Rattle.ph_engine.specs.Statuses.{StopHasCause};
 ghost use Rattle.ph_engine.specs.Telling.{ToldOr};
 ghost use Rattle.ph_io.specs.Writing.{WritesFront};
+ghost use Rattle.ph_engine.specs.Told.{taken_by};
 
 use crate::status::{Answer, Stop};
 use ph_coord::Row;
@@ -70,9 +71,9 @@ fn answer_of(reply: &Reply) -> Answer
 // Gives a reply to the sink, by way of a text that it fills.
 pub(crate) fn say<O: Sink>(out: &mut O, text: &mut Text, reply: &Reply) -> Result<Answer, Stop>
     ensures answer { IfOk result (λ answer. refuses answer ≡ is_refusal (text_of (reply_of reply.now))) }
-    ensures told { OnOk result (Given (taken_of (O.written out.old) (O.amount out.old)) (taken_of (O.written out.new) (O.amount out.new)) (text_of (reply_of reply.now))) }
+    ensures told { OnOk result (Given (taken_by O.Sink out.old) (taken_by O.Sink out.new) (text_of (reply_of reply.now))) }
     ensures err { IfErr result (λ stop. stop ≡ Stop.WriteFault) }
-    ensures front { OnErr result (WritesFront (taken_of (O.written out.old) (O.amount out.old)) (taken_of (O.written out.new) (O.amount out.new)) (text_of (reply_of reply.now))) }
+    ensures front { OnErr result (WritesFront (taken_by O.Sink out.old) (taken_by O.Sink out.new) (text_of (reply_of reply.now))) }
     ensures cause { StopHasCause (O.faults out.old) (O.faults out.new) result }
 {
     write_text(text, reply);
@@ -89,9 +90,9 @@ pub(crate) fn say_row<const D: usize, O: Sink>(
     row: &Row<D>,
 ) -> Result<(), Stop>
     requires { D ≤ 16 }
-    ensures told { OnOk result (Given (taken_of (O.written out.old) (O.amount out.old)) (taken_of (O.written out.new) (O.amount out.new)) (text_of (Replied.RowIs row.now))) }
+    ensures told { OnOk result (Given (taken_by O.Sink out.old) (taken_by O.Sink out.new) (text_of (Replied.RowIs row.now))) }
     ensures err { IfErr result (λ stop. stop ≡ Stop.WriteFault) }
-    ensures front { OnErr result (WritesFront (taken_of (O.written out.old) (O.amount out.old)) (taken_of (O.written out.new) (O.amount out.new)) (text_of (Replied.RowIs row.now))) }
+    ensures front { OnErr result (WritesFront (taken_by O.Sink out.old) (taken_by O.Sink out.new) (text_of (Replied.RowIs row.now))) }
     ensures cause { StopHasCause (O.faults out.old) (O.faults out.new) result }
 {
     write_row(text, row);
@@ -105,9 +106,9 @@ pub(crate) fn say_hit<const D: usize, O: Sink>(
     hit: &Hit<D>,
 ) -> Result<(), Stop>
     requires { D ≤ 16 }
-    ensures told { OnOk result (Given (taken_of (O.written out.old) (O.amount out.old)) (taken_of (O.written out.new) (O.amount out.new)) (text_of (hit_said hit.now))) }
+    ensures told { OnOk result (Given (taken_by O.Sink out.old) (taken_by O.Sink out.new) (text_of (hit_said hit.now))) }
     ensures err { IfErr result (λ stop. stop ≡ Stop.WriteFault) }
-    ensures front { OnErr result (WritesFront (taken_of (O.written out.old) (O.amount out.old)) (taken_of (O.written out.new) (O.amount out.new)) (text_of (hit_said hit.now))) }
+    ensures front { OnErr result (WritesFront (taken_by O.Sink out.old) (taken_by O.Sink out.new) (text_of (hit_said hit.now))) }
     ensures cause { StopHasCause (O.faults out.old) (O.faults out.new) result }
 {
     write_hit(text, hit.distance, &hit.row);
@@ -116,9 +117,9 @@ pub(crate) fn say_hit<const D: usize, O: Sink>(
 
 // Gives a line to the sink.
 pub(crate) fn send<O: Sink>(out: &mut O, line: &str) -> Result<(), Stop>
-    ensures told { OnOk result (Given (taken_of (O.written out.old) (O.amount out.old)) (taken_of (O.written out.new) (O.amount out.new)) line.now) }
+    ensures told { OnOk result (Given (taken_by O.Sink out.old) (taken_by O.Sink out.new) line.now) }
     ensures err { IfErr result (λ stop. stop ≡ Stop.WriteFault) }
-    ensures front { OnErr result (WritesFront (taken_of (O.written out.old) (O.amount out.old)) (taken_of (O.written out.new) (O.amount out.new)) line.now) }
+    ensures front { OnErr result (WritesFront (taken_by O.Sink out.old) (taken_by O.Sink out.new) line.now) }
     ensures cause { StopHasCause (O.faults out.old) (O.faults out.new) result }
 {
     match write_piece(out, line.as_bytes()) {
@@ -133,7 +134,7 @@ pub(crate) fn tell<O: Sink>(
     text: &mut Text,
     outcome: &Result<Reply, NoMemory>,
 ) -> Result<Answer, Stop>
-    ensures told { ToldOr (taken_of (O.written out.old) (O.amount out.old)) (taken_of (O.written out.new) (O.amount out.new)) outcome.now result }
+    ensures told { ToldOr (taken_by O.Sink out.old) (taken_by O.Sink out.new) outcome.now result }
     ensures cause { StopHasCause (O.faults out.old) (O.faults out.new) result }
 {
     match outcome {

@@ -1,12 +1,9 @@
 //! The program as one call.
-ghost use Rattle.std.specs.Prelude.{◌≡◌, ◌≢◌, ◌<◌, ◌^◌, ℕ, List, map, string_bytes};
+ghost use Rattle.std.specs.Prelude.{◌≡◌, ◌≢◌, ◌<◌, ◌^◌, map, string_bytes};
 ghost use Rattle.ph_specs.specs.Program.{Task as Asked, task};
-ghost use Rattle.ph_engine.specs.Checking.{CheckEnds};
-ghost use Rattle.ph_engine.specs.Ending.{RunEnds, UsageEnds, TellsUsage};
-ghost use Rattle.ph_engine.specs.Seen.{seen};
-ghost use Rattle.ph_engine.specs.Soaking.{SoakEnds};
+ghost use Rattle.ph_engine.specs.Ending.{TopEnds, TellsUsage};
 ghost use Rattle.ph_engine.specs.Statuses.{HasWriteCause};
-ghost use Rattle.ph_io.specs.Giving.{taken_of};
+ghost use Rattle.ph_engine.specs.Told.{seen_by, taken_by};
 
 use crate::checking::check;
 use crate::engine::Engine;
@@ -46,10 +43,10 @@ pub fn top<S: Source, O: Sink, F: Files, V: Ledger, C: Ledger>(
     requires script { limits.now.script_bytes < 2 ^ 63 }
     requires file { limits.now.file_bytes < 2 ^ 63 }
 
-    ensures run { task (map string_bytes words.now) ≡ Asked.Run → RunEnds limits.now (seen (S.left src.old) (S.faults src.old) (O.written out.old) (O.amount out.old) (O.faults out.old) (F.files files.old) (F.faults files.old) visits.old changes.old eng.old) (seen (S.left src.new) (S.faults src.new) (O.written out.new) (O.amount out.new) (O.faults out.new) (F.files files.new) (F.faults files.new) visits.new changes.new eng.new) result }
-    ensures check { (file : List ℕ) → task (map string_bytes words.now) ≡ Asked.Check file → CheckEnds limits.now.file_bytes file (seen (S.left src.old) (S.faults src.old) (O.written out.old) (O.amount out.old) (O.faults out.old) (F.files files.old) (F.faults files.old) visits.old changes.old eng.old) (seen (S.left src.new) (S.faults src.new) (O.written out.new) (O.amount out.new) (O.faults out.new) (F.files files.new) (F.faults files.new) visits.new changes.new eng.new) result }
-    ensures soak { (n start : ℕ) → task (map string_bytes words.now) ≡ Asked.Soak n start → SoakEnds limits.now.file_bytes n start (seen (S.left src.old) (S.faults src.old) (O.written out.old) (O.amount out.old) (O.faults out.old) (F.files files.old) (F.faults files.old) visits.old changes.old eng.old) (seen (S.left src.new) (S.faults src.new) (O.written out.new) (O.amount out.new) (O.faults out.new) (F.files files.new) (F.faults files.new) visits.new changes.new eng.new) result }
-    ensures usage { task (map string_bytes words.now) ≡ Asked.Usage → UsageEnds (seen (S.left src.old) (S.faults src.old) (O.written out.old) (O.amount out.old) (O.faults out.old) (F.files files.old) (F.faults files.old) visits.old changes.old eng.old) (seen (S.left src.new) (S.faults src.new) (O.written out.new) (O.amount out.new) (O.faults out.new) (F.files files.new) (F.faults files.new) visits.new changes.new eng.new) result }
+    ensures ends { TopEnds limits.now (task (map string_bytes words.now))
+        (seen_by S.Source O.Sink F.Files src.old out.old files.old visits.old changes.old eng.old)
+        (seen_by S.Source O.Sink F.Files src.new out.new files.new visits.new changes.new eng.new)
+        result }
     ensures source { task (map string_bytes words.now) ≢ Asked.Run → src.new ≡ src.old }
 {
     match task_of(words) {
@@ -62,7 +59,7 @@ pub fn top<S: Source, O: Sink, F: Files, V: Ledger, C: Ledger>(
 
 // Writes the usage line.
 fn tell_usage<O: Sink>(out: &mut O) -> Status
-    ensures told { TellsUsage (taken_of (O.written out.old) (O.amount out.old)) (taken_of (O.written out.new) (O.amount out.new)) result }
+    ensures told { TellsUsage (taken_by O.Sink out.old) (taken_by O.Sink out.new) result }
     ensures cause { HasWriteCause (O.faults out.old) (O.faults out.new) result }
 {
     match write_piece(out, USAGE.as_bytes()) {

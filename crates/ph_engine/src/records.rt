@@ -2,13 +2,15 @@
 ghost use Rattle.std.specs.Prelude.{◌≡◌, ◌≤◌, ◌+◌, ◌*◌, true, length, Ok, OnOk};
 ghost use Rattle.std.specs.List.{AllByRecursion as Each};
 ghost use Rattle.ph_specs.specs.Coordinate.{IsPoint};
+ghost use Rattle.ph_specs.specs.Window.{lowest, highest};
 ghost use Rattle.ph_specs.specs.Csv.{csv_rows, csv_line, csv_text};
 ghost use Rattle.ph_specs.specs.Refusals.{read_length};
 ghost use Rattle.ph_specs.specs.WorkSets.{all_nodes};
 ghost use Rattle.ph_script.specs.Meaning.{reply_of};
 ghost use Rattle.ph_engine.specs.Filing.{SameFrame};
-ghost use Rattle.ph_engine.specs.Recording.{AppendedOr, ExportedOr, ImportsOr, TableExported, TableImported, TellsRecord, lowest, highest};
+ghost use Rattle.ph_engine.specs.Recording.{AppendedOr, ExportedOr, ImportsOr, TableExported, TableImported, TellsRecord};
 ghost use Rattle.ph_engine.specs.Slots.{any_table, table_at};
+ghost use Rattle.ph_engine.specs.Told.{aside_by, shelf_by};
 
 use crate::filing::fetch_reply;
 use crate::status::Limits;
@@ -24,8 +26,8 @@ use ph_window::Window;
 use std::alloc::Global;
 use std::sync::ledger::Ledger;
 
-// The bytes of the longest line: 8 coordinates of 32 bits, each with a comma, a value of 64 bits and a line feed.
-const LONGEST: usize = 8 * (11 + 1) + 20 + 1;
+// The bytes of the longest line: 16 coordinates of 62 bits, each with a comma, a value of 64 bits and a line feed.
+const LONGEST: usize = 16 * (20 + 1) + 20 + 1;
 
 // Puts the rows of a file into a tree, once all of them are read and it has room for them.
 pub(crate) fn import_table<F: Files, V: Ledger, C: Ledger>(
@@ -40,7 +42,10 @@ pub(crate) fn import_table<F: Files, V: Ledger, C: Ledger>(
     changes: &mut Steps<C>,
 ) -> Result<Reply, NoMemory>
     ensures frame { SameFrame kind (any_table tree.old) (any_table tree.new) }
-    ensures imported { TableImported limits.now.file_bytes kind (any_table tree.old) file.now header (F.files files.old) (F.files files.new) (F.faults files.old) (F.faults files.new) visits.old visits.new changes.old changes.new (any_table tree.new) result }
+    ensures imported { TableImported limits.now.file_bytes kind (any_table tree.old) file.now header
+        (aside_by F.Files files.old visits.old changes.old)
+        (aside_by F.Files files.new visits.new changes.new)
+        (any_table tree.new) result }
 {
     let mut bytes = Vec::new(alloc);
     match files.fetch(file.as_str(), limits.file_bytes, &mut bytes) {
@@ -145,7 +150,10 @@ pub(crate) fn export_table<F: Files, V: Ledger>(
     files: &mut F,
     visits: &mut Steps<V>,
 ) -> Result<Reply, NoMemory>
-    ensures { TableExported (any_table tree.now) file.now (F.files files.old) (F.files files.new) (F.faults files.old) (F.faults files.new) visits.old visits.new result }
+    ensures { TableExported (any_table tree.now) file.now
+        (aside_by F.Files files.old visits.old 0)
+        (aside_by F.Files files.new visits.new 0)
+        result }
 {
     match tree.export(alloc, file, files, visits) {
         Ok(()) => Ok(Reply::Exported(tree.len())),
@@ -163,7 +171,7 @@ pub(crate) fn export_tree<const D: usize, F: Files, V: Ledger>(
     visits: &mut Steps<V>,
 ) -> Result<(), ExportFault>
     requires { D ≤ 16 }
-    ensures exported { ExportedOr (F.files files.old) (F.files files.new) (F.faults files.old) (F.faults files.new) file.now (csv_text tree.now.table) result }
+    ensures exported { ExportedOr (shelf_by F.Files files.old) (shelf_by F.Files files.new) file.now (csv_text tree.now.table) result }
     ensures later { visits.old ≤ visits.new }
     ensures few { visits.new ≤ visits.old + length (all_nodes tree.now.width D tree.now.table) }
     ensures all { OnOk result (visits.new ≡ visits.old + length (all_nodes tree.now.width D tree.now.table)) }
@@ -184,7 +192,7 @@ fn append_rows<const D: usize, F: Files, V: Ledger>(
 ) -> Result<(), ExportFault>
     requires limit { D ≤ 16 }
     requires begun { F.is_begun files.old ≡ true }
-    ensures appended { AppendedOr (F.files files.old) (F.files files.new) (F.draft files.old) (F.draft files.new) (F.faults files.old) (F.faults files.new) (F.is_begun files.new) (csv_text tree.now.table) result }
+    ensures appended { AppendedOr (shelf_by F.Files files.old) (shelf_by F.Files files.new) (csv_text tree.now.table) result }
     ensures later { visits.old ≤ visits.new }
     ensures few { visits.new ≤ visits.old + length (all_nodes tree.now.width D tree.now.table) }
     ensures all { OnOk result (visits.new ≡ visits.old + length (all_nodes tree.now.width D tree.now.table)) }
@@ -233,7 +241,7 @@ fn append_row<const D: usize, F: Files>(
 ) -> Result<(), ExportFault>
     requires limit { D ≤ 16 }
     requires begun { F.is_begun files.old ≡ true }
-    ensures { AppendedOr (F.files files.old) (F.files files.new) (F.draft files.old) (F.draft files.new) (F.faults files.old) (F.faults files.new) (F.is_begun files.new) (csv_line row.now) result }
+    ensures { AppendedOr (shelf_by F.Files files.old) (shelf_by F.Files files.new) (csv_line row.now) result }
 {
     line.clear();
     write_row(row, line)?;

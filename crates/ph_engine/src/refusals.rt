@@ -1,8 +1,9 @@
 //! Why a slot refuses a command, where that is told without files.
-ghost use Rattle.std.specs.Prelude.{◌≡◌, length};
+ghost use Rattle.std.specs.Prelude.{◌≡◌, ◌&&◌, nat_le, length};
 ghost use Rattle.std.specs.List.{list_all};
 ghost use Rattle.ph_specs.specs.Coordinate.{at_most, fits, is_box};
-ghost use Rattle.ph_specs.specs.Refusals.{has_wrong_dims as asks_wrong_dims, has_wrong_kind as asks_wrong_kind};
+ghost use Rattle.ph_specs.specs.Refusals.{most_dims, has_wrong_dims as asks_wrong_dims, has_wrong_kind as asks_wrong_kind};
+ghost use Rattle.ph_specs.specs.Load.{is_width};
 ghost use Rattle.ph_script.specs.Meaning.{command_of, number_of_coord, numbers_of, reply_of};
 ghost use Rattle.ph_engine.specs.Causes.{refusal_reply};
 ghost use Rattle.ph_engine.specs.Refusing.{names_points_outside, names_reversed};
@@ -37,24 +38,35 @@ impl Refusal {
     }
 }
 
-// Whether the command opens a slot with a number of dimensions that none has.
+// Whether the command opens a slot with a number of dimensions or a width that none has.
 pub(crate) fn has_wrong_dims(cmd: &Command<'_>) -> bool
     ensures { result ≡ asks_wrong_dims (command_of cmd.now) }
 {
     match cmd {
-        Command::Begin { kind, k, .. } => *k < 1 || most_dims(*kind) < *k,
+        Command::Begin { kind, k, width, .. } => !dims_fit(*kind, *k) || !is_width(*width),
         _ => false,
     }
 }
 
+fn dims_fit(kind: Kind, k: u32) -> bool
+    ensures { result ≡ (nat_le 1 k && nat_le k (most_dims kind)) }
+{
+    1 <= k && k <= most_dims(kind)
+}
+
+fn is_width(width: u32) -> bool
+    ensures { result ≡ is_width width }
+{
+    1 <= width && width <= 62
+}
+
 // The most dimensions that points or boxes have.
 fn most_dims(kind: Kind) -> u32
-    ensures points { kind ≡ Kind.Points → result ≡ 8 }
-    ensures boxes { kind ≡ Kind.Boxes → result ≡ 4 }
+    ensures { result ≡ most_dims kind }
 {
     match kind {
-        Kind::Points => 8,
-        Kind::Boxes => 4,
+        Kind::Points => 16,
+        Kind::Boxes => 8,
     }
 }
 

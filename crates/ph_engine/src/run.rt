@@ -2,7 +2,7 @@
 ghost use Rattle.std.specs.Prelude.{◌≡◌, ◌≤◌, ◌<◌, ◌+◌, ◌^◌, [], ◌||◌, IfOk, IfErr, length};
 ghost use Rattle.std.specs.Io.KnownBytes.{ReadConsumes, IsAtEnd};
 ghost use Rattle.ph_io.specs.Causes.{HasCause, Rose};
-ghost use Rattle.ph_io.specs.Giving.{Given, taken_of};
+ghost use Rattle.ph_io.specs.Giving.{Given};
 ghost use Rattle.ph_specs.specs.Reply.{reply_text as text_of};
 ghost use Rattle.ph_script.specs.Meaning.{reply_of, bad_reply as reply_to};
 ghost use Rattle.ph_engine.specs.Machine.{is_refusal};
@@ -10,8 +10,8 @@ ghost use Rattle.ph_io.specs.Writing.{WritesFront};
 ghost use Rattle.ph_engine.specs.Doing.{refuses};
 ghost use Rattle.ph_engine.specs.Serving.{ServesLine, ServesPiece, ServesEnd, ServesScript};
 ghost use Rattle.ph_engine.specs.Showing.{IsShort};
-ghost use Rattle.ph_engine.specs.Standing.{standing};
 ghost use Rattle.ph_engine.specs.Statuses.{StopHasCause, HasCauses, stop_status, read_status as status_of};
+ghost use Rattle.ph_engine.specs.Told.{standing_by, taken_by};
 
 use crate::engine::Engine;
 use crate::output::say;
@@ -37,7 +37,10 @@ pub(crate) fn run<S: Source, O: Sink, F: Files, V: Ledger, C: Ledger>(
 ) -> Status
     requires script { limits.now.script_bytes < 2 ^ 63 }
     requires file { limits.now.file_bytes < 2 ^ 63 }
-    ensures outcome { ServesScript limits.now.file_bytes limits.now.script_bytes (S.left src.old) (standing (O.written out.old) (O.amount out.old) (F.files files.old) (F.faults files.old) visits.old changes.old eng.old) (S.left src.new) (standing (O.written out.new) (O.amount out.new) (F.files files.new) (F.faults files.new) visits.new changes.new eng.new) result }
+    ensures outcome { ServesScript limits.now.file_bytes limits.now.script_bytes
+        (S.left src.old) (standing_by O.Sink F.Files out.old files.old visits.old changes.old eng.old)
+        (S.left src.new) (standing_by O.Sink F.Files out.new files.new visits.new changes.new eng.new)
+        result }
     ensures filings { F.faults files.old ≤ F.faults files.new }
     ensures causes { HasCauses (S.faults src.old) (S.faults src.new) (O.faults out.old) (O.faults out.new) result }
 {
@@ -79,7 +82,10 @@ fn run_pieces<S: Source, O: Sink, F: Files, V: Ledger, C: Ledger>(
     requires file { limits.now.file_bytes < 2 ^ 63 }
     requires lines { lines.old ≡ [] }
     requires room { 0 < length piece.old }
-    ensures outcome { ServesScript limits.now.file_bytes limits.now.script_bytes (S.left src.old) (standing (O.written out.old) (O.amount out.old) (F.files files.old) (F.faults files.old) visits.old changes.old eng.old) (S.left src.new) (standing (O.written out.new) (O.amount out.new) (F.files files.new) (F.faults files.new) visits.new changes.new eng.new) result }
+    ensures outcome { ServesScript limits.now.file_bytes limits.now.script_bytes
+        (S.left src.old) (standing_by O.Sink F.Files out.old files.old visits.old changes.old eng.old)
+        (S.left src.new) (standing_by O.Sink F.Files out.new files.new visits.new changes.new eng.new)
+        result }
     ensures filings { F.faults files.old ≤ F.faults files.new }
     ensures causes { HasCauses (S.faults src.old) (S.faults src.new) (O.faults out.old) (O.faults out.new) result }
 {
@@ -148,7 +154,9 @@ fn feed<O: Sink, F: Files, V: Ledger, C: Ledger>(
     changes: &mut Steps<C>,
 ) -> Result<bool, Stop>
     requires { limits.now.file_bytes < 2 ^ 63 }
-    ensures fed { ServesPiece limits.now.file_bytes (standing (O.written out.old) (O.amount out.old) (F.files files.old) (F.faults files.old) visits.old changes.old eng.old) lines.old piece.now (standing (O.written out.new) (O.amount out.new) (F.files files.new) (F.faults files.new) visits.new changes.new eng.new) lines.new result }
+    ensures fed { ServesPiece limits.now.file_bytes
+        (standing_by O.Sink F.Files out.old files.old visits.old changes.old eng.old) lines.old piece.now
+        (standing_by O.Sink F.Files out.new files.new visits.new changes.new eng.new) lines.new result }
     ensures filings { F.faults files.old ≤ F.faults files.new }
     ensures cause { StopHasCause (O.faults out.old) (O.faults out.new) result }
 {
@@ -189,7 +197,9 @@ fn finish<O: Sink, F: Files, V: Ledger, C: Ledger>(
     changes: &mut Steps<C>,
 ) -> Status
     requires { limits.now.file_bytes < 2 ^ 63 }
-    ensures ends { ServesEnd limits.now.file_bytes (standing (O.written out.old) (O.amount out.old) (F.files files.old) (F.faults files.old) visits.old changes.old eng.old) lines.old refused (standing (O.written out.new) (O.amount out.new) (F.files files.new) (F.faults files.new) visits.new changes.new eng.new) result }
+    ensures ends { ServesEnd limits.now.file_bytes
+        (standing_by O.Sink F.Files out.old files.old visits.old changes.old eng.old) lines.old refused
+        (standing_by O.Sink F.Files out.new files.new visits.new changes.new eng.new) result }
     ensures filings { F.faults files.old ≤ F.faults files.new }
     ensures cause { result ≡ Status.WriteFault → Rose (O.faults out.old) (O.faults out.new) }
     ensures read { (result ≡ Status.ReadFault → ⊥) × (result ≡ Status.Usage → ⊥) }
@@ -229,7 +239,9 @@ fn answer<O: Sink, F: Files, V: Ledger, C: Ledger>(
 ) -> Result<bool, Stop>
     requires short { IsShort line }
     requires file { limits.now.file_bytes < 2 ^ 63 }
-    ensures answered { ServesLine limits.now.file_bytes (standing (O.written out.old) (O.amount out.old) (F.files files.old) (F.faults files.old) visits.old changes.old eng.old) line.entry (standing (O.written out.new) (O.amount out.new) (F.files files.new) (F.faults files.new) visits.new changes.new eng.new) result }
+    ensures answered { ServesLine limits.now.file_bytes
+        (standing_by O.Sink F.Files out.old files.old visits.old changes.old eng.old) line.entry
+        (standing_by O.Sink F.Files out.new files.new visits.new changes.new eng.new) result }
     ensures filings { F.faults files.old ≤ F.faults files.new }
     ensures cause { StopHasCause (O.faults out.old) (O.faults out.new) result }
 {
@@ -261,8 +273,12 @@ fn bad_reply(bad: Bad) -> Reply
 
 // Refuses a line.
 fn refuse<O: Sink>(out: &mut O, text: &mut Text, reply: &Reply) -> Result<bool, Stop>
-    ensures told { IfOk result (λ refused. Given (taken_of (O.written out.old) (O.amount out.old)) (taken_of (O.written out.new) (O.amount out.new)) (text_of (reply_of reply.now)) × (refused ≡ is_refusal (text_of (reply_of reply.now)))) }
-    ensures front { IfErr result (λ stop. (stop ≡ Stop.WriteFault) × WritesFront (taken_of (O.written out.old) (O.amount out.old)) (taken_of (O.written out.new) (O.amount out.new)) (text_of (reply_of reply.now))) }
+    ensures told { IfOk result (λ refused.
+        Given (taken_by O.Sink out.old) (taken_by O.Sink out.new) (text_of (reply_of reply.now))
+        × (refused ≡ is_refusal (text_of (reply_of reply.now)))) }
+    ensures front { IfErr result (λ stop.
+        (stop ≡ Stop.WriteFault)
+        × WritesFront (taken_by O.Sink out.old) (taken_by O.Sink out.new) (text_of (reply_of reply.now))) }
     ensures cause { StopHasCause (O.faults out.old) (O.faults out.new) result }
 {
     match say(out, text, reply) {

@@ -1,17 +1,14 @@
 //! A table with what belongs to it, and what a command does to it.
-ghost use Rattle.std.specs.Prelude.{◌≡◌, ◌<◌, ◌≤◌, ◌+◌, ◌-◌, ◌^◌, None, true, false, not, ◌&&◌, nat_le, length, option_map};
-ghost use Rattle.ph_specs.specs.declared.Kind.TheVariants.{Points};
+ghost use Rattle.std.specs.Prelude.{◌≡◌, ◌<◌, ◌≤◌, ◌+◌, ◌^◌, None, true, false, not, ◌&&◌, nat_le, length, option_map};
 ghost use Rattle.ph_specs.specs.Command.Command.{Begin as AskBegin, Cursor as AskCursor, Page as AskPage};
 ghost use Rattle.ph_specs.specs.Named.{has_name};
 ghost use Rattle.ph_specs.specs.Refusals.{has_wrong_dims, lacks_cursor, has_too_many_cursors};
 ghost use Rattle.ph_specs.specs.Engine.{opened_dims};
-ghost use Rattle.ph_specs.specs.State.{empty_slot};
+ghost use Rattle.ph_specs.specs.State.{new_slot};
 ghost use Rattle.ph_specs.specs.Stats.{stats};
 ghost use Rattle.ph_script.specs.Meaning.{command_of, numbers_of, reply_of};
 ghost use Rattle.ph_script.specs.Fit.{HasDims};
 ghost use Rattle.ph_tree.specs.Stats.{stats_of};
-ghost use Rattle.ph_io.specs.Giving.{taken_of};
-ghost use Rattle.ph_engine.specs.Beside.{beside};
 ghost use Rattle.ph_engine.specs.Causes.{refusal_reply};
 ghost use Rattle.ph_engine.specs.Comparing.{IsCompared};
 ghost use Rattle.ph_engine.specs.Doing.{Begun, DoneWith, DoneOr, is_on_slot, is_sure, is_tried, is_listed};
@@ -20,6 +17,7 @@ ghost use Rattle.ph_engine.specs.Refusing.{early_refusal, cursor_refusal};
 ghost use Rattle.ph_engine.specs.Slots.{engine_of};
 ghost use Rattle.ph_engine.specs.Statuses.{StopHasCause};
 ghost use Rattle.ph_engine.specs.Working.{nodes_of};
+ghost use Rattle.ph_engine.specs.Told.{aside_by, beside_by, taken_by};
 
 use crate::boxes::Question;
 use crate::cursors::{CURSORS, Held, enter, place_of};
@@ -28,9 +26,9 @@ use crate::output::{say, tell};
 use crate::records::{export_table, import_table};
 use crate::refusals::{Refusal, has_wrong_dims, has_wrong_kind, is_out_of_range, is_reversed};
 use crate::status::{Answer, Limits, Stop};
-use crate::trees::{AnyTree, width};
+use crate::trees::AnyTree;
 use arrayvec::ArrayVec;
-use ph_coord::Kind;
+use ph_coord::{Kind, Width};
 use ph_io::{Files, Sink};
 use ph_script::{Command, Coords, Name, Reply, Text};
 use ph_steps::Steps;
@@ -39,7 +37,8 @@ use std::alloc::Global;
 use std::marker::Model;
 use std::sync::ledger::Ledger;
 
-/// A table of points or boxes of 32 bits, as a tree, and its cursors in the order of their names.
+/// A table of points or boxes, as a tree, and its cursors in the order of their names. Points have 1 to 16 dimensions, boxes 1 to 8, and
+/// each coordinate has 1 to 62 bits.
 #[derive(Drop)]
 pub struct Slot {
     kind: Kind,
@@ -59,27 +58,27 @@ impl Model for Slot {
 }
 
 impl Slot {
-    // An empty table of points of two dimensions, with any number of rows. It takes no memory.
+    // An empty table of points of two dimensions and 32 bits, with any number of rows. It takes no memory.
     pub(crate) fn new(alloc: Global) -> Slot
-        ensures { result ≡ empty_slot Points 2 (2 ^ 64 - 1) }
+        ensures { result ≡ new_slot }
     {
         Slot {
             kind: Kind::Points,
-            tree: AnyTree::new(alloc, width(), 2, u64::MAX),
+            tree: AnyTree::new(alloc, new_width(), 2, u64::MAX),
             cursors: ArrayVec::new(),
         }
     }
 
-    // The number of dimensions of the points: 1 to 8.
+    // The number of dimensions of the points: 1 to 16.
     pub(crate) fn dims(&self) -> u32
         ensures value { result ≡ self.now.dims }
         ensures some { 1 ≤ result }
-        ensures limit { result ≤ 8 }
+        ensures limit { result ≤ 16 }
     {
         self.tree.dims()
     }
 
-    // Whether another slot has the same rows, of the same kind and as many dimensions.
+    // Whether another slot has the same rows, of the same kind and width and as many dimensions.
     pub(crate) fn is_same<V: Ledger>(&self, other: &Slot, visits: &mut Steps<V>) -> bool
         ensures { IsCompared self.now other.now visits.old visits.new result }
     {
@@ -109,7 +108,10 @@ impl Slot {
         requires dims { HasDims self.old.dims cmd.now }
         requires file { limits.now.file_bytes < 2 ^ 63 }
         requires slot { is_on_slot (command_of cmd.now) ≡ true }
-        ensures done { DoneOr limits.now.file_bytes (engine_of self.old) (command_of cmd.now) (beside (O.written out.old) (O.amount out.old) (F.files files.old) (F.faults files.old) visits.old changes.old) (beside (O.written out.new) (O.amount out.new) (F.files files.new) (F.faults files.new) visits.new changes.new) (engine_of self.new) result }
+        ensures done { DoneOr limits.now.file_bytes (engine_of self.old) (command_of cmd.now)
+            (beside_by O.Sink F.Files out.old files.old visits.old changes.old)
+            (beside_by O.Sink F.Files out.new files.new visits.new changes.new)
+            (engine_of self.new) result }
         ensures cause { StopHasCause (O.faults out.old) (O.faults out.new) result }
     {
         if let Some(refusal) = self.refusal(cmd) {
@@ -160,7 +162,10 @@ impl Slot {
         requires file { limits.now.file_bytes < 2 ^ 63 }
         requires unrefused { early_refusal self.old (command_of cmd.now) ≡ None }
         requires tried { is_tried (command_of cmd.now) ≡ true }
-        ensures { FiledOr limits.now.file_bytes (engine_of self.old) (command_of cmd.now) (F.files files.old) (F.files files.new) (F.faults files.old) (F.faults files.new) visits.old visits.new changes.old changes.new (engine_of self.new) result }
+        ensures { FiledOr limits.now.file_bytes (engine_of self.old) (command_of cmd.now)
+            (aside_by F.Files files.old visits.old changes.old)
+            (aside_by F.Files files.new visits.new changes.new)
+            (engine_of self.new) result }
     {
         match cmd {
             Command::Put { at, value } => self.tree.put(at, *value, visits, changes),
@@ -202,10 +207,18 @@ impl Slot {
         requires dims { HasDims self.old.dims cmd.now }
         requires unrefused { early_refusal self.old (command_of cmd.now) ≡ None }
         requires sure { is_sure (command_of cmd.now) ≡ true }
-        ensures { Replies self.old (command_of cmd.now) (F.files files.old) (F.files files.new) (F.faults files.old) (F.faults files.new) visits.old visits.new self.new (reply_of result) }
+        ensures { Replies self.old (command_of cmd.now)
+            (aside_by F.Files files.old visits.old 0)
+            (aside_by F.Files files.new visits.new 0)
+            self.new (reply_of result) }
     {
         match cmd {
-            Command::Begin { kind, k, max } => self.begin(alloc, *kind, *k, *max),
+            Command::Begin {
+                kind,
+                k,
+                width,
+                max,
+            } => self.begin(alloc, *kind, *k, *width, *max),
             Command::Get { at } => self.tree.get(at, visits),
             Command::Count => self.tree.count(),
             Command::Clear => self.tree.clear(),
@@ -227,7 +240,7 @@ impl Slot {
         requires dims { HasDims self.old.dims cmd.now }
         requires unrefused { early_refusal self.old (command_of cmd.now) ≡ None }
         requires lists { is_listed (command_of cmd.now) ≡ true }
-        ensures done { DoneWith self.old (command_of cmd.now) (taken_of (O.written out.old) (O.amount out.old)) (taken_of (O.written out.new) (O.amount out.new)) visits.old visits.new self.new result }
+        ensures done { DoneWith self.old (command_of cmd.now) (taken_by O.Sink out.old) (taken_by O.Sink out.new) visits.old visits.new self.new result }
         ensures cause { StopHasCause (O.faults out.old) (O.faults out.new) result }
     {
         match cmd {
@@ -264,7 +277,7 @@ impl Slot {
         if has_wrong_kind(self.kind, cmd) {
             return Some(Refusal::Kind);
         }
-        if is_out_of_range(width(), cmd) {
+        if is_out_of_range(self.tree.width(), cmd) {
             return Some(Refusal::Range);
         }
         if is_reversed(self.kind, cmd) {
@@ -318,13 +331,16 @@ impl Slot {
         place_of(self.cursors.as_slice(), name).is_ok()
     }
 
-    // Makes it a new one for points or boxes of so many dimensions, without cursors.
-    fn begin(&mut self, alloc: Global, kind: Kind, k: u32, max: u64) -> Reply
-        requires { has_wrong_dims (AskBegin kind k max) ≡ false }
-        ensures { Begun self.old (AskBegin kind k max) self.new (reply_of result) }
+    // Makes it a new one for points or boxes of so many dimensions and bits, without cursors.
+    fn begin(&mut self, alloc: Global, kind: Kind, k: u32, width: u32, max: u64) -> Reply
+        requires { has_wrong_dims (AskBegin kind k width max) ≡ false }
+        ensures { Begun self.old (AskBegin kind k width max) self.new (reply_of result) }
     {
+        let Some(w) = Width::new(width) else {
+            unreachable!()
+        };
         self.kind = kind;
-        self.tree = AnyTree::new(alloc, width(), tree_dims(kind, k), max);
+        self.tree = AnyTree::new(alloc, w, tree_dims(kind, k), max);
         self.cursors.clear();
         Reply::Opened
     }
@@ -357,7 +373,7 @@ impl Slot {
         visits: &mut Steps<V>,
     ) -> Result<Answer, Stop>
         requires { early_refusal self.old (AskPage name.now n) ≡ None }
-        ensures done { DoneWith self.old (AskPage name.now n) (taken_of (O.written out.old) (O.amount out.old)) (taken_of (O.written out.new) (O.amount out.new)) visits.old visits.new self.new result }
+        ensures done { DoneWith self.old (AskPage name.now n) (taken_by O.Sink out.old) (taken_by O.Sink out.new) visits.old visits.new self.new result }
         ensures cause { StopHasCause (O.faults out.old) (O.faults out.new) result }
     {
         let Ok(i) = place_of(self.cursors.as_slice(), name) else {
@@ -382,13 +398,23 @@ impl Slot {
 
 // The dimensions of the tree of a slot that is opened with k. A box has its two corners.
 fn tree_dims(kind: Kind, k: u32) -> u32
-    requires { has_wrong_dims (AskBegin kind k 0) ≡ false }
+    requires { has_wrong_dims (AskBegin kind k 32 0) ≡ false }
     ensures value { result ≡ opened_dims kind k }
     ensures some { 1 ≤ result }
-    ensures limit { result ≤ 8 }
+    ensures limit { result ≤ 16 }
 {
     match kind {
         Kind::Points => k,
         Kind::Boxes => 2 * k,
+    }
+}
+
+// The width of a slot that is new.
+fn new_width() -> Width
+    ensures { result ≡ 32 }
+{
+    match Width::new(32) {
+        Some(w) => w,
+        None => unreachable!(),
     }
 }

@@ -1,12 +1,12 @@
 //! Runs of generated commands, with a line about what they leave.
 ghost use Rattle.std.specs.Prelude.{◌≡◌, ◌<◌, ◌≤◌, ◌++◌, ◌∷◌, [], ◌^◌, None, Some, codes, decimal};
 ghost use Rattle.ph_io.specs.Causes.{Rose};
-ghost use Rattle.ph_io.specs.Giving.{taken_of};
 ghost use Rattle.ph_specs.specs.Reply.{line_of, stats_words};
 ghost use Rattle.ph_specs.specs.State.{current};
 ghost use Rattle.ph_tree.specs.Stats.{stats_of};
 ghost use Rattle.ph_engine.specs.Beside.{beside};
 ghost use Rattle.ph_engine.specs.Soaking.{AreDrawn, SoakDone, SoakedOr};
+ghost use Rattle.ph_engine.specs.Told.{alone_by};
 
 use crate::engine::Engine;
 use crate::sizes::{LINE, push_count, push_sizes};
@@ -35,7 +35,10 @@ pub(crate) fn soak<O: Sink, V: Ledger, C: Ledger>(
     changes: &mut Steps<C>,
 ) -> Status
     requires { limits.now.file_bytes < 2 ^ 63 }
-    ensures done { SoakDone limits.now.file_bytes n start eng.old eng.new (taken_of (O.written out.old) (O.amount out.old)) (taken_of (O.written out.new) (O.amount out.new)) visits.old visits.new changes.old changes.new result }
+    ensures done { SoakDone limits.now.file_bytes n start eng.old eng.new
+        (alone_by O.Sink out.old visits.old changes.old)
+        (alone_by O.Sink out.new visits.new changes.new)
+        result }
     ensures later { O.faults out.old ≤ O.faults out.new }
     ensures cause { result ≡ Status.WriteFault → Rose (O.faults out.old) (O.faults out.new) }
 {
@@ -66,7 +69,10 @@ fn exec_all<V: Ledger, C: Ledger>(
     requires file { limits.now.file_bytes < 2 ^ 63 }
     requires dims { (current eng.old).dims ≡ 2 }
     requires drawn { AreDrawn commands }
-    ensures { SoakedOr limits.now.file_bytes eng.old commands (beside None (Some replies.old) None 0 visits.old changes.old) (beside None (Some replies.new) None 0 visits.new changes.new) eng.new result }
+    ensures { SoakedOr limits.now.file_bytes eng.old commands
+        (beside None (Some replies.old) None 0 visits.old changes.old)
+        (beside None (Some replies.new) None 0 visits.new changes.new)
+        eng.new result }
 {
     let mut files = CleanFiles::new();
     let mut text = Text::new();

@@ -3,12 +3,12 @@ ghost use Rattle.std.specs.Prelude.{◌≡◌, ◌≤◌, ◌+◌, ◌*◌, ◌�
 ghost use Rattle.std.specs.List.{list_all};
 ghost use Rattle.ph_specs.specs.Coordinate.{fits};
 ghost use Rattle.ph_specs.specs.Command.{Command as Asked};
-ghost use Rattle.ph_specs.specs.Csv.{csv_rows, csv_text};
+ghost use Rattle.ph_specs.specs.Csv.{csv_text};
 ghost use Rattle.ph_specs.specs.Refusals.{read_length};
 ghost use Rattle.ph_specs.specs.KindRows.{rows_fit};
-ghost use Rattle.ph_specs.specs.Load.{dims_fit, load_fault};
+ghost use Rattle.ph_specs.specs.Load.{load_fault};
 ghost use Rattle.ph_specs.specs.SavedTable.{read_snapshot};
-ghost use Rattle.ph_specs.specs.Snapshot.{snap, kind_byte};
+ghost use Rattle.ph_specs.specs.Snapshot.{snap};
 ghost use Rattle.ph_specs.specs.SnapshotOf.{IsSnapshotOf};
 ghost use Rattle.ph_specs.specs.Stats.{stats};
 ghost use Rattle.ph_specs.specs.WorkSets.{all_nodes};
@@ -18,12 +18,12 @@ ghost use Rattle.ph_snap.specs.Faults.{IsLoadFault};
 ghost use Rattle.ph_tree.specs.Stats.{stats_of};
 ghost use Rattle.ph_engine.specs.Doing.{Looked, Idled, ServedOr};
 ghost use Rattle.ph_engine.specs.Filing.{EnteredOr, SameFrame};
-ghost use Rattle.ph_engine.specs.Recording.{ExportedOr, ImportsOr};
-ghost use Rattle.ph_io.specs.Giving.{taken_of};
-ghost use Rattle.ph_engine.specs.Listing.{ListsWindow, ListsNear, ListsBall, ListsBoxes, ListsAnyPage, ListsSizes};
+ghost use Rattle.ph_engine.specs.Recording.{ExportedOr, ImportsOr, rows_for};
+ghost use Rattle.ph_engine.specs.Listing.{ListsWindow, ListsNear, ListsBall, ListsBoxes, ListsAnyPage, ListsSizes, node_count};
 ghost use Rattle.ph_engine.specs.Slots.{any_table, table_at, empty_table, cursor_of, cursor_dims, slot_of, IsCursorIn, IsOfKind};
 ghost use Rattle.ph_engine.specs.Comparing.{IsCompared};
 ghost use Rattle.ph_engine.specs.Statuses.{StopHasCause};
+ghost use Rattle.ph_engine.specs.Told.{shelf_by, taken_by};
 
 use crate::boxes::{Question, list_boxes};
 use crate::commands::{
@@ -45,7 +45,7 @@ use ph_tree::{NoMemory, PhTree, Stats};
 use std::alloc::Global;
 use std::sync::ledger::Ledger;
 
-/// A tree, by its number of dimensions.
+/// A tree, by its number of dimensions: 1 to 16.
 #[derive(Drop)]
 pub enum AnyTree {
     D1(PhTree<1>),
@@ -56,6 +56,14 @@ pub enum AnyTree {
     D6(PhTree<6>),
     D7(PhTree<7>),
     D8(PhTree<8>),
+    D9(PhTree<9>),
+    D10(PhTree<10>),
+    D11(PhTree<11>),
+    D12(PhTree<12>),
+    D13(PhTree<13>),
+    D14(PhTree<14>),
+    D15(PhTree<15>),
+    D16(PhTree<16>),
 }
 
 // Runs a body with the tree of whatever dimensions.
@@ -70,6 +78,14 @@ macro_rules! with_tree {
             AnyTree::D6($tree) => $body,
             AnyTree::D7($tree) => $body,
             AnyTree::D8($tree) => $body,
+            AnyTree::D9($tree) => $body,
+            AnyTree::D10($tree) => $body,
+            AnyTree::D11($tree) => $body,
+            AnyTree::D12($tree) => $body,
+            AnyTree::D13($tree) => $body,
+            AnyTree::D14($tree) => $body,
+            AnyTree::D15($tree) => $body,
+            AnyTree::D16($tree) => $body,
         }
     };
 }
@@ -86,6 +102,14 @@ macro_rules! with_cursor {
             (AnyTree::D6($tree), AnyCursor::D6($at)) => $body.map(AnyCursor::D6),
             (AnyTree::D7($tree), AnyCursor::D7($at)) => $body.map(AnyCursor::D7),
             (AnyTree::D8($tree), AnyCursor::D8($at)) => $body.map(AnyCursor::D8),
+            (AnyTree::D9($tree), AnyCursor::D9($at)) => $body.map(AnyCursor::D9),
+            (AnyTree::D10($tree), AnyCursor::D10($at)) => $body.map(AnyCursor::D10),
+            (AnyTree::D11($tree), AnyCursor::D11($at)) => $body.map(AnyCursor::D11),
+            (AnyTree::D12($tree), AnyCursor::D12($at)) => $body.map(AnyCursor::D12),
+            (AnyTree::D13($tree), AnyCursor::D13($at)) => $body.map(AnyCursor::D13),
+            (AnyTree::D14($tree), AnyCursor::D14($at)) => $body.map(AnyCursor::D14),
+            (AnyTree::D15($tree), AnyCursor::D15($at)) => $body.map(AnyCursor::D15),
+            (AnyTree::D16($tree), AnyCursor::D16($at)) => $body.map(AnyCursor::D16),
             _ => unreachable!(),
         }
     };
@@ -95,7 +119,7 @@ impl AnyTree {
     // An empty tree of so many dimensions, for at most so many rows. It takes no memory.
     pub(crate) fn new(alloc: Global, w: Width, dims: u32, max: u64) -> AnyTree
         requires some { 1 ≤ dims }
-        requires limit { dims ≤ 8 }
+        requires limit { dims ≤ 16 }
         ensures { any_table result ≡ empty_table dims w max }
     {
         match dims {
@@ -106,14 +130,22 @@ impl AnyTree {
             5 => AnyTree::D5(PhTree::new(alloc, w, max)),
             6 => AnyTree::D6(PhTree::new(alloc, w, max)),
             7 => AnyTree::D7(PhTree::new(alloc, w, max)),
-            _ => AnyTree::D8(PhTree::new(alloc, w, max)),
+            8 => AnyTree::D8(PhTree::new(alloc, w, max)),
+            9 => AnyTree::D9(PhTree::new(alloc, w, max)),
+            10 => AnyTree::D10(PhTree::new(alloc, w, max)),
+            11 => AnyTree::D11(PhTree::new(alloc, w, max)),
+            12 => AnyTree::D12(PhTree::new(alloc, w, max)),
+            13 => AnyTree::D13(PhTree::new(alloc, w, max)),
+            14 => AnyTree::D14(PhTree::new(alloc, w, max)),
+            15 => AnyTree::D15(PhTree::new(alloc, w, max)),
+            _ => AnyTree::D16(PhTree::new(alloc, w, max)),
         }
     }
 
     pub(crate) fn dims(&self) -> u32
         ensures value { result ≡ (any_table self.now).dims }
         ensures some { 1 ≤ result }
-        ensures limit { result ≤ 8 }
+        ensures limit { result ≤ 16 }
     {
         match self {
             AnyTree::D1(_) => 1,
@@ -124,6 +156,14 @@ impl AnyTree {
             AnyTree::D6(_) => 6,
             AnyTree::D7(_) => 7,
             AnyTree::D8(_) => 8,
+            AnyTree::D9(_) => 9,
+            AnyTree::D10(_) => 10,
+            AnyTree::D11(_) => 11,
+            AnyTree::D12(_) => 12,
+            AnyTree::D13(_) => 13,
+            AnyTree::D14(_) => 14,
+            AnyTree::D15(_) => 15,
+            AnyTree::D16(_) => 16,
         }
     }
 
@@ -173,7 +213,8 @@ impl AnyTree {
         requires to { length to.now ≡ (any_table self.old).dims }
         requires from_range { list_all (fits (any_table self.old).tree.width) (numbers_of from.now) ≡ true }
         requires to_range { list_all (fits (any_table self.old).tree.width) (numbers_of to.now) ≡ true }
-        ensures { ServedOr (any_table self.old) (Asked.Relocate (numbers_of from.now) (numbers_of to.now)) (any_table self.new) visits.old visits.new changes.old changes.new result }
+        ensures { ServedOr (any_table self.old) (Asked.Relocate (numbers_of from.now) (numbers_of to.now)) (any_table self.new)
+            visits.old visits.new changes.old changes.new result }
     {
         with_tree!(self, tree => move_row(tree, from, to, visits, changes))
     }
@@ -190,7 +231,7 @@ impl AnyTree {
         out: &mut O,
         visits: &mut Steps<V>,
     ) -> Result<Answer, Stop>
-        ensures lists { ListsSizes (any_table self.now) (taken_of (O.written out.old) (O.amount out.old)) (taken_of (O.written out.new) (O.amount out.new)) visits.old visits.new result }
+        ensures lists { ListsSizes (any_table self.now) (taken_by O.Sink out.old) (taken_by O.Sink out.new) visits.old visits.new result }
         ensures cause { StopHasCause (O.faults out.old) (O.faults out.new) result }
     {
         with_tree!(self, tree => list_sizes(tree, out, visits))
@@ -199,7 +240,7 @@ impl AnyTree {
     // Its sizes. Each node is visited once.
     pub(crate) fn sizes<V: Ledger>(&self, visits: &mut Steps<V>) -> Stats
         ensures sizes { stats_of result ≡ stats (any_table self.now).tree.width (any_table self.now).dims (any_table self.now).tree.table }
-        ensures visits { visits.new ≡ visits.old + length (all_nodes (any_table self.now).tree.width (any_table self.now).dims (any_table self.now).tree.table) }
+        ensures visits { visits.new ≡ visits.old + node_count (any_table self.now) }
     {
         with_tree!(self, tree => tree.stats(visits))
     }
@@ -239,12 +280,11 @@ impl AnyTree {
         files: &mut F,
         visits: &mut Steps<V>,
     ) -> Result<u128, Failed>
-        requires width { (any_table self.now).tree.width ≡ 32 }
-        requires dims { dims_fit 8 (kind_byte kind) (any_table self.now).dims ≡ true }
-        ensures entered { EnteredOr (F.files files.old) (F.files files.new) (F.faults files.old) (F.faults files.new) file.now (snap kind (any_table self.now).dims (any_table self.now).tree.table) result }
+        ensures entered { let t = any_table self.now in
+            EnteredOr (shelf_by F.Files files.old) (shelf_by F.Files files.new) file.now (snap kind t.dims t.tree.width t.tree.table) result }
         ensures kept { visits.old ≤ visits.new }
-        ensures few { visits.new ≤ visits.old + length (all_nodes 32 (any_table self.now).dims (any_table self.now).tree.table) }
-        ensures all { OnOk result (visits.new ≡ visits.old + length (all_nodes 32 (any_table self.now).dims (any_table self.now).tree.table)) }
+        ensures few { visits.new ≤ visits.old + node_count (any_table self.now) }
+        ensures all { OnOk result (visits.new ≡ visits.old + node_count (any_table self.now)) }
     {
         with_tree!(self, tree => save_tree(tree, kind, file, files, visits))
     }
@@ -259,12 +299,12 @@ impl AnyTree {
         visits: &mut Steps<V>,
         changes: &mut Steps<C>,
     ) -> Result<Reply, NoMemory>
-        ensures imports { ImportsOr (any_table self.old) (csv_rows (any_table self.old).tree.width (any_table self.old).dims kind header text.now) (any_table self.new) result }
+        ensures imports { ImportsOr (any_table self.old) (rows_for (any_table self.old) kind header text.now) (any_table self.new) result }
         ensures frame { SameFrame kind (any_table self.old) (any_table self.new) }
         ensures later { visits.old ≤ visits.new }
-        ensures few { visits.new ≤ visits.old + 4 * (any_table self.old).tree.width * read_length (csv_rows (any_table self.old).tree.width (any_table self.old).dims kind header text.now) }
+        ensures few { visits.new ≤ visits.old + 4 * (any_table self.old).tree.width * read_length (rows_for (any_table self.old) kind header text.now) }
         ensures kept { changes.old ≤ changes.new }
-        ensures changes { changes.new ≤ changes.old + 2 * read_length (csv_rows (any_table self.old).tree.width (any_table self.old).dims kind header text.now) }
+        ensures changes { changes.new ≤ changes.old + 2 * read_length (rows_for (any_table self.old) kind header text.now) }
     {
         with_tree!(self, tree => import_text(tree, alloc, text, kind, header, visits, changes))
     }
@@ -277,10 +317,10 @@ impl AnyTree {
         files: &mut F,
         visits: &mut Steps<V>,
     ) -> Result<(), ExportFault>
-        ensures exported { ExportedOr (F.files files.old) (F.files files.new) (F.faults files.old) (F.faults files.new) file.now (csv_text (any_table self.now).tree.table) result }
+        ensures exported { ExportedOr (shelf_by F.Files files.old) (shelf_by F.Files files.new) file.now (csv_text (any_table self.now).tree.table) result }
         ensures later { visits.old ≤ visits.new }
-        ensures few { visits.new ≤ visits.old + length (all_nodes (any_table self.now).tree.width (any_table self.now).dims (any_table self.now).tree.table) }
-        ensures all { OnOk result (visits.new ≡ visits.old + length (all_nodes (any_table self.now).tree.width (any_table self.now).dims (any_table self.now).tree.table)) }
+        ensures few { visits.new ≤ visits.old + node_count (any_table self.now) }
+        ensures all { OnOk result (visits.new ≡ visits.old + node_count (any_table self.now)) }
     {
         with_tree!(self, tree => export_tree(tree, alloc, file, files, visits))
     }
@@ -291,30 +331,38 @@ impl AnyTree {
         bytes: &[u8],
         kind: Kind,
         dims: u32,
+        w: Width,
         changes: &mut Steps<C>,
     ) -> Result<AnyTree, LoadFault>
         requires some { 1 ≤ dims }
-        requires limit { dims ≤ 8 }
-        requires fit { dims_fit 8 (kind_byte kind) dims ≡ true }
+        requires limit { dims ≤ 16 }
         ensures dims { IfOk result (λ t. (any_table t).dims ≡ dims) }
-        ensures width { IfOk result (λ t. (any_table t).tree.width ≡ 32) }
+        ensures width { IfOk result (λ t. (any_table t).tree.width ≡ w) }
         ensures rows { IfOk result (λ t. rows_fit kind (any_table t).tree.table ≡ true) }
-        ensures read { IfOk result (λ t. read_snapshot kind dims bytes.now ≡ Ok (any_table t).tree.table) }
-        ensures snapshot { IfOk result (λ t. IsSnapshotOf kind dims bytes.now (any_table t).tree.table) }
-        ensures nodes { IfOk result (λ t. changes.new ≡ changes.old + length (all_nodes 32 dims (any_table t).tree.table)) }
-        ensures fault { IfErr result (λ e. IsLoadFault (load_fault kind dims bytes.now) e) }
+        ensures read { IfOk result (λ t. read_snapshot kind dims w bytes.now ≡ Ok (any_table t).tree.table) }
+        ensures snapshot { IfOk result (λ t. IsSnapshotOf kind dims w bytes.now (any_table t).tree.table) }
+        ensures nodes { IfOk result (λ t. changes.new ≡ changes.old + length (all_nodes w dims (any_table t).tree.table)) }
+        ensures fault { IfErr result (λ e. IsLoadFault (load_fault kind dims w bytes.now) e) }
         ensures kept { changes.old ≤ changes.new }
         ensures few { 16 * changes.new ≤ 16 * changes.old + length bytes.now }
     {
         match dims {
-            1 => load(alloc, bytes, kind, width(), changes).map(AnyTree::D1),
-            2 => load(alloc, bytes, kind, width(), changes).map(AnyTree::D2),
-            3 => load(alloc, bytes, kind, width(), changes).map(AnyTree::D3),
-            4 => load(alloc, bytes, kind, width(), changes).map(AnyTree::D4),
-            5 => load(alloc, bytes, kind, width(), changes).map(AnyTree::D5),
-            6 => load(alloc, bytes, kind, width(), changes).map(AnyTree::D6),
-            7 => load(alloc, bytes, kind, width(), changes).map(AnyTree::D7),
-            8 => load(alloc, bytes, kind, width(), changes).map(AnyTree::D8),
+            1 => load(alloc, bytes, kind, w, changes).map(AnyTree::D1),
+            2 => load(alloc, bytes, kind, w, changes).map(AnyTree::D2),
+            3 => load(alloc, bytes, kind, w, changes).map(AnyTree::D3),
+            4 => load(alloc, bytes, kind, w, changes).map(AnyTree::D4),
+            5 => load(alloc, bytes, kind, w, changes).map(AnyTree::D5),
+            6 => load(alloc, bytes, kind, w, changes).map(AnyTree::D6),
+            7 => load(alloc, bytes, kind, w, changes).map(AnyTree::D7),
+            8 => load(alloc, bytes, kind, w, changes).map(AnyTree::D8),
+            9 => load(alloc, bytes, kind, w, changes).map(AnyTree::D9),
+            10 => load(alloc, bytes, kind, w, changes).map(AnyTree::D10),
+            11 => load(alloc, bytes, kind, w, changes).map(AnyTree::D11),
+            12 => load(alloc, bytes, kind, w, changes).map(AnyTree::D12),
+            13 => load(alloc, bytes, kind, w, changes).map(AnyTree::D13),
+            14 => load(alloc, bytes, kind, w, changes).map(AnyTree::D14),
+            15 => load(alloc, bytes, kind, w, changes).map(AnyTree::D15),
+            16 => load(alloc, bytes, kind, w, changes).map(AnyTree::D16),
             _ => unreachable!(),
         }
     }
@@ -337,6 +385,14 @@ impl AnyTree {
             AnyTree::D6(tree) => AnyCursor::D6(cursor_at(tree, lo, hi)),
             AnyTree::D7(tree) => AnyCursor::D7(cursor_at(tree, lo, hi)),
             AnyTree::D8(tree) => AnyCursor::D8(cursor_at(tree, lo, hi)),
+            AnyTree::D9(tree) => AnyCursor::D9(cursor_at(tree, lo, hi)),
+            AnyTree::D10(tree) => AnyCursor::D10(cursor_at(tree, lo, hi)),
+            AnyTree::D11(tree) => AnyCursor::D11(cursor_at(tree, lo, hi)),
+            AnyTree::D12(tree) => AnyCursor::D12(cursor_at(tree, lo, hi)),
+            AnyTree::D13(tree) => AnyCursor::D13(cursor_at(tree, lo, hi)),
+            AnyTree::D14(tree) => AnyCursor::D14(cursor_at(tree, lo, hi)),
+            AnyTree::D15(tree) => AnyCursor::D15(cursor_at(tree, lo, hi)),
+            AnyTree::D16(tree) => AnyCursor::D16(cursor_at(tree, lo, hi)),
         }
     }
 
@@ -352,15 +408,21 @@ impl AnyTree {
         requires hi { length hi.now ≡ (any_table self.now).dims }
         requires lo_range { list_all (fits (any_table self.now).tree.width) (numbers_of lo.now) ≡ true }
         requires hi_range { list_all (fits (any_table self.now).tree.width) (numbers_of hi.now) ≡ true }
-        ensures lists { ListsWindow (any_table self.now) (numbers_of lo.now) (numbers_of hi.now) (taken_of (O.written out.old) (O.amount out.old)) (taken_of (O.written out.new) (O.amount out.new)) visits.old visits.new result }
+        ensures lists { ListsWindow (any_table self.now) (numbers_of lo.now) (numbers_of hi.now)
+            (taken_by O.Sink out.old) (taken_by O.Sink out.new) visits.old visits.new result }
         ensures cause { StopHasCause (O.faults out.old) (O.faults out.new) result }
     {
         with_tree!(self, tree => list_window(tree, lo, hi, out, text, visits))
     }
 
-    // Whether another tree of the width has as many dimensions and the same rows.
+    pub(crate) fn width(&self) -> Width
+        ensures { result ≡ (any_table self.now).tree.width }
+    {
+        with_tree!(self, tree => tree.width())
+    }
+
+    // Whether another tree has as many dimensions, the same width and the same rows.
     pub(crate) fn is_same<V: Ledger>(&self, other: &AnyTree, visits: &mut Steps<V>) -> bool
-        requires { (any_table self.now).tree.width ≡ (any_table other.now).tree.width }
         ensures { IsCompared (slot_of Points (any_table self.now) []) (slot_of Points (any_table other.now) []) visits.old visits.new result }
     {
         match (self, other) {
@@ -372,6 +434,14 @@ impl AnyTree {
             (AnyTree::D6(a), AnyTree::D6(b)) => are_same(a, b, visits),
             (AnyTree::D7(a), AnyTree::D7(b)) => are_same(a, b, visits),
             (AnyTree::D8(a), AnyTree::D8(b)) => are_same(a, b, visits),
+            (AnyTree::D9(a), AnyTree::D9(b)) => are_same(a, b, visits),
+            (AnyTree::D10(a), AnyTree::D10(b)) => are_same(a, b, visits),
+            (AnyTree::D11(a), AnyTree::D11(b)) => are_same(a, b, visits),
+            (AnyTree::D12(a), AnyTree::D12(b)) => are_same(a, b, visits),
+            (AnyTree::D13(a), AnyTree::D13(b)) => are_same(a, b, visits),
+            (AnyTree::D14(a), AnyTree::D14(b)) => are_same(a, b, visits),
+            (AnyTree::D15(a), AnyTree::D15(b)) => are_same(a, b, visits),
+            (AnyTree::D16(a), AnyTree::D16(b)) => are_same(a, b, visits),
             _ => false,
         }
     }
@@ -387,7 +457,7 @@ impl AnyTree {
     ) -> Result<Answer, Stop>
         requires dims { length q.now ≡ (any_table self.now).dims }
         requires range { list_all (fits (any_table self.now).tree.width) (numbers_of q.now) ≡ true }
-        ensures lists { ListsNear (any_table self.now) (numbers_of q.now) n (taken_of (O.written out.old) (O.amount out.old)) (taken_of (O.written out.new) (O.amount out.new)) visits.old visits.new result }
+        ensures lists { ListsNear (any_table self.now) (numbers_of q.now) n (taken_by O.Sink out.old) (taken_by O.Sink out.new) visits.old visits.new result }
         ensures cause { StopHasCause (O.faults out.old) (O.faults out.new) result }
     {
         with_tree!(self, tree => list_near(tree, alloc, q, n, out, text, visits))
@@ -403,7 +473,7 @@ impl AnyTree {
     ) -> Result<Answer, Stop>
         requires dims { length q.now ≡ (any_table self.now).dims }
         requires range { list_all (fits (any_table self.now).tree.width) (numbers_of q.now) ≡ true }
-        ensures lists { ListsBall (any_table self.now) (numbers_of q.now) r (taken_of (O.written out.old) (O.amount out.old)) (taken_of (O.written out.new) (O.amount out.new)) visits.old visits.new result }
+        ensures lists { ListsBall (any_table self.now) (numbers_of q.now) r (taken_by O.Sink out.old) (taken_by O.Sink out.new) visits.old visits.new result }
         ensures cause { StopHasCause (O.faults out.old) (O.faults out.new) result }
     {
         with_tree!(self, tree => list_ball(tree, q, r, out, text, visits))
@@ -421,7 +491,7 @@ impl AnyTree {
         requires boxes { IsOfKind Boxes (any_table self.now) }
         requires dims { length asked.now ≡ (any_table self.now).dims }
         requires range { list_all (fits (any_table self.now).tree.width) (numbers_of asked.now) ≡ true }
-        ensures lists { ListsBoxes question (any_table self.now) (numbers_of asked.now) (taken_of (O.written out.old) (O.amount out.old)) (taken_of (O.written out.new) (O.amount out.new)) visits.old visits.new result }
+        ensures lists { ListsBoxes question (any_table self.now) (numbers_of asked.now) (taken_by O.Sink out.old) (taken_by O.Sink out.new) visits.old visits.new result }
         ensures cause { StopHasCause (O.faults out.old) (O.faults out.new) result }
     {
         match self {
@@ -429,6 +499,18 @@ impl AnyTree {
             AnyTree::D4(tree) => list_boxes::<2, 4, O, V>(tree, question, asked, out, text, visits),
             AnyTree::D6(tree) => list_boxes::<3, 6, O, V>(tree, question, asked, out, text, visits),
             AnyTree::D8(tree) => list_boxes::<4, 8, O, V>(tree, question, asked, out, text, visits),
+            AnyTree::D10(tree) => list_boxes::<5, 10, O, V>(
+                tree, question, asked, out, text, visits,
+            ),
+            AnyTree::D12(tree) => list_boxes::<6, 12, O, V>(
+                tree, question, asked, out, text, visits,
+            ),
+            AnyTree::D14(tree) => list_boxes::<7, 14, O, V>(
+                tree, question, asked, out, text, visits,
+            ),
+            AnyTree::D16(tree) => list_boxes::<8, 16, O, V>(
+                tree, question, asked, out, text, visits,
+            ),
             _ => unreachable!(),
         }
     }
@@ -442,19 +524,9 @@ impl AnyTree {
         visits: &mut Steps<V>,
     ) -> Result<AnyCursor, Stop>
         requires { IsCursorIn (any_table self.now) cursor.now }
-        ensures lists { ListsAnyPage (any_table self.now) cursor.now n (taken_of (O.written out.old) (O.amount out.old)) (taken_of (O.written out.new) (O.amount out.new)) visits.old visits.new result }
+        ensures lists { ListsAnyPage (any_table self.now) cursor.now n (taken_by O.Sink out.old) (taken_by O.Sink out.new) visits.old visits.new result }
         ensures cause { StopHasCause (O.faults out.old) (O.faults out.new) result }
     {
         with_cursor!(self, cursor, tree, at => list_page(tree, at, n, out, text, visits))
-    }
-}
-
-// The width of all coordinates.
-pub(crate) fn width() -> Width
-    ensures { result ≡ 32 }
-{
-    match Width::new(32) {
-        Some(w) => w,
-        None => unreachable!(),
     }
 }

@@ -9,6 +9,7 @@ mod files;
 mod records;
 mod sizes;
 mod soaks;
+mod widths;
 
 use ph_engine::{Engine, Limits, Status, top};
 use ph_io::{MemoryFiles, MemorySink, MemorySource};
@@ -152,7 +153,7 @@ fn extreme_coordinates(rt: HostRuntime) -> Result<(), Fail> {
 #[test]
 fn refused_words(rt: HostRuntime) -> Result<(), Fail> {
     let script = "fly 1 x\nput 1 2\nput 1 x 2\nput 1 2 -1\nopen boxes x\nopen boxes 9\n\
-        open points 9 max 1\nopen points 0\nput 1 2147483648 2\nmove 1 1 2\n\
+        open points 17 max 1\nopen points 0\nput 1 2147483648 2\nmove 1 1 2\n\
         move 1 1 2 x\nmove 1 1 2 -2147483649\nget 1\n\
         open points 3 max 0\nput 1 1 9999999999 1\nput 1 1 1 1\nget 1 1\n\
         page c/d 1\n";

@@ -33,7 +33,9 @@ impl Column {
         requires inside { digits_by words.old.words pen.old + count_edited self.count edit.now * self.width ≤ 64 * room_of words.old }
         ensures pen { IsPen pen.new }
         ensures digits { digits_by words.new.words pen.new ≡ digits_by words.old.words pen.old + count_edited self.count edit.now * self.width }
-        ensures number { number_by words.new.words pen.new ≡ number_after (number_by words.old.words pen.old) (column_edited old.now self edit.now (replicate edit.now.more (field self.width v))) }
+        ensures number { number_by words.new.words pen.new
+            ≡ number_after (number_by words.old.words pen.old)
+            (column_edited old.now self edit.now (replicate edit.now.more (field self.width v))) }
         ensures places { IsSamePlaces words.old words.new }
     {
         let place = edit.place as u64;
@@ -64,7 +66,10 @@ impl Column {
         requires inside { digits_by words.old.words pen.old + count_edited self.count edit.now * self.width ≤ 64 * room_of words.old }
         ensures pen { IsPen pen.new }
         ensures digits { digits_by words.new.words pen.new ≡ digits_by words.old.words pen.old + count_edited self.count edit.now * self.width }
-        ensures number { number_by words.new.words pen.new ≡ number_after (number_by words.old.words pen.old) (column_edited old.now self edit.now (bodies level (replicate edit.now.more (take dims edit.now.entry.body)))) }
+        ensures number { number_by words.new.words pen.new
+            ≡ number_after (number_by words.old.words pen.old)
+            (column_edited old.now self edit.now
+            (bodies level (replicate edit.now.more (take dims edit.now.entry.body)))) }
         ensures places { IsSamePlaces words.old words.new }
     {
         let place = edit.place as u64;
@@ -115,7 +120,9 @@ impl Column {
         requires inside { digits_by words.old.words pen.old + (to - from) * self.width ≤ 64 * room_of words.old }
         ensures pen { IsPen pen.new }
         ensures digits { digits_by words.new.words pen.new ≡ digits_by words.old.words pen.old + (to - from) * self.width }
-        ensures number { number_by words.new.words pen.new ≡ number_by words.old.words pen.old * 2 ^ ((to - from) * self.width) + digits_at old.now (self.at + from * self.width) ((to - from) * self.width) }
+        ensures number { number_by words.new.words pen.new
+            ≡ number_by words.old.words pen.old * 2 ^ ((to - from) * self.width)
+            + digits_at old.now (self.at + from * self.width) ((to - from) * self.width) }
         ensures places { IsSamePlaces words.old words.new }
     {
         if self.is_near() {
@@ -149,7 +156,9 @@ impl Column {
         requires inside { digits_by words.old.words pen.old + (to - from) * self.width ≤ 64 * room_of words.old }
         ensures pen { IsPen pen.new }
         ensures digits { digits_by words.new.words pen.new ≡ digits_by words.old.words pen.old + (to - from) * self.width }
-        ensures number { number_by words.new.words pen.new ≡ number_by words.old.words pen.old * 2 ^ ((to - from) * self.width) + digits_at old.now (self.at + from * self.width) ((to - from) * self.width) }
+        ensures number { number_by words.new.words pen.new
+            ≡ number_by words.old.words pen.old * 2 ^ ((to - from) * self.width)
+            + digits_at old.now (self.at + from * self.width) ((to - from) * self.width) }
         ensures places { IsSamePlaces words.old words.new }
     {
         let at = self.at + from * self.width;
@@ -185,7 +194,9 @@ fn put_new_row(pen: &mut Pen, words: &mut Words, edit: &Edit, level: u32, dims: 
     requires inside { digits_by words.old.words pen.old + edit.now.more * (dims * level) ≤ 64 * room_of words.old }
     ensures pen { IsPen pen.new }
     ensures digits { digits_by words.new.words pen.new ≡ digits_by words.old.words pen.old + edit.now.more * (dims * level) }
-    ensures number { number_by words.new.words pen.new ≡ number_after (number_by words.old.words pen.old) (bodies level (replicate edit.now.more (take dims edit.now.entry.body))) }
+    ensures number { number_by words.new.words pen.new
+        ≡ number_after (number_by words.old.words pen.old)
+        (bodies level (replicate edit.now.more (take dims edit.now.entry.body))) }
     ensures places { IsSamePlaces words.old words.new }
 {
     if edit.more > 0 {

@@ -24,7 +24,10 @@ pub fn write_edited(words: &mut Words, dims: usize, old: &[u64], edit: &Edit)
     requires within { edit.now.place + edit.now.less ≤ (first_in old.now).entries }
     requires few { edit.now.more ≤ 1 }
     requires entries { AreRising dims (first_in old.now).level 0 (edited_as false dims old.now edit.now) }
-    requires room { 1 + words_for (linear_digits dims (first_in old.now).level (length (edited_as false dims old.now edit.now))) + length (values (edited_as false dims old.now edit.now)) ≤ room_of words.old }
+    requires room { 1
+        + words_for (linear_digits dims (first_in old.now).level (length (edited_as false dims old.now edit.now)))
+        + length (values (edited_as false dims old.now edit.now))
+        ≤ room_of words.old }
     ensures words { words.new.words ≡ record_in false dims (first_in old.now).level (edited_as false dims old.now edit.now) }
     ensures places { IsSamePlaces words.old words.new }
 {
@@ -48,10 +51,16 @@ fn edit_columns(pen: &mut Pen, words: &mut Words, dims: usize, old: &[u64], edit
     requires within { edit.now.place + edit.now.less ≤ (first_in old.now).entries }
     requires few { edit.now.more ≤ 1 }
     requires entries { AreRising dims (first_in old.now).level 0 (edited_as false dims old.now edit.now) }
-    requires inside { digits_by words.old.words pen.old + linear_digits dims (first_in old.now).level (length (edited_as false dims old.now edit.now)) ≤ 64 * room_of words.old }
+    requires inside { digits_by words.old.words pen.old
+        + linear_digits dims (first_in old.now).level (length (edited_as false dims old.now edit.now))
+        ≤ 64 * room_of words.old }
     ensures pen { IsPen pen.new }
-    ensures digits { digits_by words.new.words pen.new ≡ digits_by words.old.words pen.old + linear_digits dims (first_in old.now).level (length (edited_as false dims old.now edit.now)) }
-    ensures number { number_by words.new.words pen.new ≡ number_after (number_by words.old.words pen.old) (linear_table dims (first_in old.now).level (edited_as false dims old.now edit.now)) }
+    ensures digits { digits_by words.new.words pen.new
+        ≡ digits_by words.old.words pen.old
+        + linear_digits dims (first_in old.now).level (length (edited_as false dims old.now edit.now)) }
+    ensures number { number_by words.new.words pen.new
+        ≡ number_after (number_by words.old.words pen.old)
+        (linear_table dims (first_in old.now).level (edited_as false dims old.now edit.now)) }
     ensures places { IsSamePlaces words.old words.new }
 {
     let kinds = kinds_of(old, dims);

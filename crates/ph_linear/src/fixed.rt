@@ -59,7 +59,12 @@ pub fn entry<const D: usize>(words: &[u64], i: usize) -> Packed
 pub fn find_entry<const D: usize>(words: &[u64], addr: u32) -> Option<Packed>
     requires record { IsRecord false D words.now }
     ensures none { IsNone result → position (λ r. read_address r == addr) (entries_as false D words.now) ≡ None }
-    ensures entry { IfSome result (λ p. (i : ℕ) × (position (λ r. read_address r == addr) (entries_as false D words.now) ≡ Some i) × (slice_get (entries_as false D words.now) i ≡ Some (read_of D p)) × (p.rank ≡ rank_at p.child (entries_as false D words.now) i)) }
+    ensures entry { IfSome result
+        (λ p.
+        (i : ℕ)
+        × (position (λ r. read_address r == addr) (entries_as false D words.now) ≡ Some i)
+        × (slice_get (entries_as false D words.now) i ≡ Some (read_of D p))
+        × (p.rank ≡ rank_at p.child (entries_as false D words.now) i)) }
     ensures zeros { IfSome result (λ p. IsPadded D p.body) }
 {
     by_dims::find_entry(words, D, addr)

@@ -41,7 +41,12 @@ pub fn entry(words: &[u64], dims: usize, i: usize) -> Packed
 pub fn find_entry(words: &[u64], dims: usize, addr: u32) -> Option<Packed>
     requires record { IsRecord false dims words.now }
     ensures none { IsNone result → position (λ r. read_address r == addr) (entries_as false dims words.now) ≡ None }
-    ensures entry { IfSome result (λ p. (i : ℕ) × (position (λ r. read_address r == addr) (entries_as false dims words.now) ≡ Some i) × (slice_get (entries_as false dims words.now) i ≡ Some (read_of dims p)) × (p.rank ≡ rank_at p.child (entries_as false dims words.now) i)) }
+    ensures entry { IfSome result
+        (λ p.
+        (i : ℕ)
+        × (position (λ r. read_address r == addr) (entries_as false dims words.now) ≡ Some i)
+        × (slice_get (entries_as false dims words.now) i ≡ Some (read_of dims p))
+        × (p.rank ≡ rank_at p.child (entries_as false dims words.now) i)) }
     ensures zeros { IfSome result (λ p. IsPadded dims p.body) }
 {
     match find(words, dims, addr) {
@@ -87,7 +92,8 @@ pub fn is_child(words: &[u64], dims: usize, i: usize) -> bool
 pub fn rank(words: &[u64], dims: usize, i: usize) -> usize
     requires record { IsRecord false dims words.now }
     requires within { i < (first_in words.now).entries }
-    ensures { (child : Bool) → slice_get (map read_child_test (entries_as false dims words.now)) i ≡ Some child → result ≡ rank_at child (entries_as false dims words.now) i }
+    ensures { (child : Bool) → slice_get (map read_child_test (entries_as false dims words.now)) i ≡ Some child
+        → result ≡ rank_at child (entries_as false dims words.now) i }
 {
     rank_of(words, dims, i, child_at(words, dims, i))
 }

@@ -1,6 +1,6 @@
 //! The rows that are nearest to a point, best first.
 
-ghost use Rattle.std.specs.Prelude.{◌≡◌, ◌+◌, ◌≤◌, length, map, IfOk};
+ghost use Rattle.std.specs.Prelude.{◌≡◌, ◌+◌, ◌≤◌, length, map, IfOk, IsOk};
 ghost use Rattle.std.specs.Option.{option_copied};
 ghost use Rattle.ph_specs.specs.Coordinate.{coordinate, IsPoint};
 ghost use Rattle.ph_specs.specs.Lawful.{IsBody, IsLawful, rows};
@@ -40,6 +40,7 @@ pub fn nearest<const D: usize, V: Ledger>(
 ) -> Result<Vec<Hit<D>>, NoMemory>
     requires point { IsPoint tree.now.width D q }
     ensures hits { IfOk result (λ hits. hits.items ≡ hits_of q.entry (near q.entry n tree.now.table)) }
+    ensures none { n ≡ 0 → IsOk result }
     ensures visits { visits.new ≤ visits.old + length (reach tree.now.width D tree.now.table q.entry n) }
     ensures grows { visits.old ≤ visits.new }
 {
@@ -60,7 +61,12 @@ fn search<const D: usize, V: Ledger>(
     requires few { D ≤ 16 }
     requires point { IsBody D w center.now }
     requires tree { IsLawful w D (option_copied root) }
-    ensures hits { IfOk result (λ hits. hits.items ≡ hits_of (map (coordinate w) center.now) (near (map (coordinate w) center.now) n (rows w D (option_copied root.entry)))) }
+    ensures hits { IfOk result
+        (λ hits.
+        hits.items
+        ≡ hits_of (map (coordinate w) center.now)
+        (near (map (coordinate w) center.now) n (rows w D (option_copied root.entry)))) }
+    ensures none { n ≡ 0 → IsOk result }
     ensures visits { visits.new ≤ visits.old + length (reach w D (rows w D (option_copied root.entry)) (map (coordinate w) center.now) n) }
     ensures grows { visits.old ≤ visits.new }
 {

@@ -1,13 +1,11 @@
 //! Entries that are too far, told before their digits are joined.
 ghost use Rattle.std.specs.Prelude.{◌≡◌, ◌<◌, ◌≤◌, ◌*◌, ◌^◌, ◌-◌, ◌+◌, true, false, length};
 ghost use Rattle.ph_specs.specs.EntryEdits.{what_at};
-ghost use Rattle.ph_specs.specs.Lawful.{IsBody, put_together};
+ghost use Rattle.ph_specs.specs.Lawful.{IsBody};
 ghost use Rattle.ph_specs.specs.Node.{entries};
-ghost use Rattle.ph_specs.specs.PutTree.{body_above};
 ghost use Rattle.ph_node.specs.Apart.{greatest_square};
 ghost use Rattle.ph_node.specs.Shown.{shown};
-ghost use Rattle.ph_node.specs.Split.{body_at};
-ghost use Rattle.ph_node.specs.Spots.{IsSpot};
+ghost use Rattle.ph_node.specs.Spots.{IsSpot, joined_digits};
 ghost use Rattle.ph_near.specs.Far.{corner_of, gap_above, gaps_squared, entry_gap};
 
 use ph_coord::Dims;
@@ -26,7 +24,10 @@ pub(crate) fn is_point_beyond<P: Dims>(
     requires spot { IsSpot (entries (shown node)) spot }
     requires known { IsBody P.D 62 known.now }
     requires center { IsBody P.D 62 center.now }
-    ensures { result ≡ true → limit < entry_gap (shown node.entry).level (put_together (shown node.entry).level spot.addr (body_above (shown node.entry).level known.now) (body_at (entries (shown node.entry)) spot.place)) center.now (what_at (entries (shown node.entry)) spot.place) }
+    ensures { result ≡ true
+        → limit
+        < entry_gap (shown node.entry).level (joined_digits (shown node.entry) spot known.now) center.now
+        (what_at (entries (shown node.entry)) spot.place) }
 {
     !node.is_child(spot) && node.distance_within(spot, known, center, limit).is_none()
 }

@@ -44,7 +44,10 @@ pub(crate) fn open<'t, const D: usize>(
     requires known { IsBody D w above.now }
     requires point { IsBody D w q.now }
     ensures n { bound.new.n ≡ bound.old.n }
-    ensures opened { OnOk result (IsOpened bound.old.n w D (map (coordinate w) q.now) (items_below w (shown node.entry).level above.now (shown node.entry).chain) (heap_items queue.old) (line_of next.new (heap_items queue.new)) (known bound.old) (known bound.new)) }
+    ensures opened { OnOk result
+        (IsOpened bound.old.n w D (map (coordinate w) q.now)
+        (items_below w (shown node.entry).level above.now (shown node.entry).chain) (heap_items queue.old)
+        (line_of next.new (heap_items queue.new)) (known bound.old) (known bound.new)) }
     ensures order { OnOk result (IsHeap waiting_cmp (heap_items queue.old) → IsHeap waiting_cmp (heap_items queue.new) × Leads next.new (heap_items queue.new)) }
 {
     *next = None;

@@ -3,13 +3,12 @@ ghost use Rattle.std.specs.Prelude.{◌≡◌, ◌<◌, ◌≤◌, ◌-◌, true
 ghost use Rattle.ph_specs.specs.Coordinate.{offset, IsPoint};
 ghost use Rattle.ph_specs.specs.Distance.{distance};
 ghost use Rattle.ph_specs.specs.EntryEdits.{what_at};
-ghost use Rattle.ph_specs.specs.Lawful.{HasZerosFrom, IsBody, put_together};
+ghost use Rattle.ph_specs.specs.Lawful.{HasZerosFrom, IsBody};
 ghost use Rattle.ph_specs.specs.Node.{entries};
-ghost use Rattle.ph_specs.specs.PutTree.{body_above};
 ghost use Rattle.ph_node.specs.Kinds.{is_node};
 ghost use Rattle.ph_node.specs.Shown.{shown};
 ghost use Rattle.ph_node.specs.Split.{body_at};
-ghost use Rattle.ph_node.specs.Spots.{IsSpot};
+ghost use Rattle.ph_node.specs.Spots.{IsSpot, joined_digits};
 ghost use Rattle.ph_path.specs.Known.{known_at, point_at};
 ghost use Rattle.ph_near.specs.BallSphere.{sphere_at, reaches, IsOut};
 
@@ -70,8 +69,14 @@ impl<P: Dims> SphereOf<P> {
     pub(crate) fn rules_out(&self, node: NodeRefOf<'_, NodeOf<P>>, spot: Spot) -> bool
         requires spot { IsSpot (entries (shown node)) spot }
         requires body { IsBody P.D (shown node).level (body_at (entries (shown node)) spot.place) }
-        ensures far { result ≡ true → IsOut self.now (shown node.entry).level (put_together (shown node.entry).level spot.addr (body_above (shown node.entry).level self.now.known) (body_at (entries (shown node.entry)) spot.place)) (what_at (entries (shown node.entry)) spot.place) }
-        ensures near { result ≡ false → is_node (what_at (entries (shown node.entry)) spot.place) ≡ true → 1 ≤ (shown node.entry).level → reaches (record self.now { known = put_together (shown node.entry).level spot.addr (body_above (shown node.entry).level self.now.known) (body_at (entries (shown node.entry)) spot.place) }) ((shown node.entry).level - 1) ≡ true }
+        ensures far { result ≡ true
+            → IsOut self.now (shown node.entry).level (joined_digits (shown node.entry) spot self.now.known)
+            (what_at (entries (shown node.entry)) spot.place) }
+        ensures near { result ≡ false → is_node (what_at (entries (shown node.entry)) spot.place) ≡ true
+            → 1 ≤ (shown node.entry).level
+            → reaches (record self.now { known = joined_digits (shown node.entry) spot self.now.known })
+            ((shown node.entry).level - 1)
+            ≡ true }
     {
         if node.is_child(spot) {
             return self.is_far(node, spot);
@@ -85,8 +90,13 @@ impl<P: Dims> SphereOf<P> {
         requires spot { IsSpot (entries (shown node)) spot }
         requires child { is_node (what_at (entries (shown node)) spot.place) ≡ true }
         requires body { IsBody P.D (shown node).level (body_at (entries (shown node)) spot.place) }
-        ensures far { result ≡ true → IsOut self.now (shown node.entry).level (put_together (shown node.entry).level spot.addr (body_above (shown node.entry).level self.now.known) (body_at (entries (shown node.entry)) spot.place)) (what_at (entries (shown node.entry)) spot.place) }
-        ensures near { result ≡ false → 1 ≤ (shown node.entry).level → reaches (record self.now { known = put_together (shown node.entry).level spot.addr (body_above (shown node.entry).level self.now.known) (body_at (entries (shown node.entry)) spot.place) }) ((shown node.entry).level - 1) ≡ true }
+        ensures far { result ≡ true
+            → IsOut self.now (shown node.entry).level (joined_digits (shown node.entry) spot self.now.known)
+            (what_at (entries (shown node.entry)) spot.place) }
+        ensures near { result ≡ false → 1 ≤ (shown node.entry).level
+            → reaches (record self.now { known = joined_digits (shown node.entry) spot self.now.known })
+            ((shown node.entry).level - 1)
+            ≡ true }
     {
         let center = &self.center[..P::D];
         let known = self.known.digits();
@@ -97,7 +107,7 @@ impl<P: Dims> SphereOf<P> {
     pub(crate) fn join(&mut self, node: NodeRefOf<'_, NodeOf<P>>, spot: Spot)
         requires level { (shown node).level < self.old.width }
         requires spot { IsSpot (entries (shown node)) spot }
-        ensures { self.new ≡ record self.old { known = put_together (shown node.entry).level spot.addr (body_above (shown node.entry).level self.old.known) (body_at (entries (shown node.entry)) spot.place) } }
+        ensures { self.new ≡ record self.old { known = joined_digits (shown node.entry) spot self.old.known } }
     {
         self.known.join(node, spot);
         // A use that makes known that the digits fit the width.
@@ -111,7 +121,7 @@ impl<P: Dims> SphereOf<P> {
         requires low { low < (shown node).level }
         requires body { IsBody P.D (shown node).level (body_at (entries (shown node)) spot.place) }
         requires zeros { HasZerosFrom low (body_at (entries (shown node)) spot.place) }
-        ensures { self.new ≡ record self.old { known = put_together (shown node.entry).level spot.addr (body_above (shown node.entry).level self.old.known) (body_at (entries (shown node.entry)) spot.place) } }
+        ensures { self.new ≡ record self.old { known = joined_digits (shown node.entry) spot self.old.known } }
     {
         self.known.join_child(node, spot, low);
         // A use that makes known that the digits fit the width.

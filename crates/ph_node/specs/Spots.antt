@@ -1,10 +1,18 @@
 -- Where an entry stands.
-use Rattle.std.specs.Prelude.{◌≡◌, ◌<◌, List, length}
-use Rattle.ph_specs.specs.Node.{Entry}
+use Rattle.std.specs.Prelude.{◌≡◌, ◌<◌, ℕ, List, length}
+use Rattle.ph_specs.specs.Node.{Entry, PlainNode, entries}
 use Rattle.ph_node.specs.Merge.{addr_at}
+use Rattle.ph_specs.specs.Lawful.{put_together}
+use Rattle.ph_specs.specs.PutTree.{body_above}
+use Rattle.ph_node.specs.Split.{body_at}
 use Rattle.ph_node.specs.declared.spots.Spot.{Spot}
 
 -- an entry stands there
 pub record IsSpot (es : List Entry) (s : Spot) : Type 0 where
   pub within : s.place < length es
   pub address : s.addr ≡ addr_at es s.place
+
+-- the digits that are known behind an entry of a node, where these are known above the node
+abbrev pub joined_digits : PlainNode → Spot → List ℕ → List ℕ
+joined_digits node spot known =
+    put_together node.level spot.addr (body_above node.level known) (body_at (entries node) spot.place)

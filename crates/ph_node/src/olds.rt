@@ -88,7 +88,9 @@ impl<P: Dims> NodeOf<P> {
     pub(crate) fn value_place(&self, spot: Spot) -> usize
         requires spot { IsSpot (entries self.now) spot }
         requires point { IsValue (what_at (entries self.now) spot.place) }
-        ensures { result + length (values (flats_of self.now)) ≡ length (record_of P.D self.now.level (flats_of self.now)) + length (values (take spot.place (flats_of self.now))) }
+        ensures { result + length (values (flats_of self.now))
+            ≡ length (record_of P.D self.now.level (flats_of self.now))
+            + length (values (take spot.place (flats_of self.now))) }
     {
         let len = self.words.len();
         let points = records::count(self.words.as_slice()) - self.children.len();
@@ -116,7 +118,9 @@ impl<P: Dims> NodeOf<P> {
     /// Writes the record of the node with an edit into the room of a block.
     pub(crate) fn write_edited(&self, edit: &Edit, block: &mut Words)
         requires edit { IsEdit P.D self.now edit.now }
-        requires room { words_wanted P.D self.now.level (length (edit_flats P.D self.now edit.now)) (length (values (edit_flats P.D self.now edit.now))) ≤ room_of block.old }
+        requires room { words_wanted P.D self.now.level (length (edit_flats P.D self.now edit.now))
+            (length (values (edit_flats P.D self.now edit.now)))
+            ≤ room_of block.old }
         ensures { block.new.words ≡ record_of P.D self.now.level (edit_flats P.D self.now edit.now) }
     {
         rewrites::write_edited::<P>(block, self.words.as_slice(), edit);

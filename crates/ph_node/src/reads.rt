@@ -5,7 +5,7 @@ ghost use Rattle.ph_specs.specs.Node.{entries, flat};
 ghost use Rattle.ph_specs.specs.Pack.{is_cube, pack};
 ghost use Rattle.ph_specs.proofs.laws.Unpacked.{child_nodes};
 ghost use Rattle.ph_specs.specs.EntryEdits.{has_address, what_at};
-ghost use Rattle.ph_specs.specs.Lawful.{HasZerosFrom, IsBody, put_together};
+ghost use Rattle.ph_specs.specs.Lawful.{HasZerosFrom, IsBody};
 ghost use Rattle.ph_specs.specs.PutTree.{body_above, body_below, same_digits};
 ghost use Rattle.ph_bits.specs.Apart.{IsDistanceWithin};
 ghost use Rattle.ph_bits.specs.Between.{each_between};
@@ -18,7 +18,7 @@ ghost use Rattle.ph_node.specs.Shown.{shown, entry_of, what_of};
 ghost use Rattle.ph_node.specs.Slots.{nodes_of};
 ghost use Rattle.ph_node.specs.OneEdit.{before};
 ghost use Rattle.ph_node.specs.Split.{IsNode, body_at};
-ghost use Rattle.ph_node.specs.Spots.{IsSpot};
+ghost use Rattle.ph_node.specs.Spots.{IsSpot, joined_digits};
 
 use crate::node::{NodeOf, SlotOf};
 use crate::records;
@@ -210,7 +210,7 @@ impl<'t, P: Dims> NodeRefOf<'t, NodeOf<P>> {
     pub fn join(&self, spot: Spot, known: &mut [u64])
         requires spot { IsSpot (entries (shown self.now)) spot }
         requires known { IsBody P.D 62 known.old }
-        ensures known { known.new ≡ put_together (shown self.now).level spot.addr (body_above (shown self.now).level known.old) (body_at (entries (shown self.now)) spot.place) }
+        ensures known { known.new ≡ joined_digits (shown self.now) spot known.old }
         ensures body { IsBody P.D (shown self.now).level (body_at (entries (shown self.now)) spot.place) }
     {
         let at = self.body_place(spot);
@@ -227,7 +227,7 @@ impl<'t, P: Dims> NodeRefOf<'t, NodeOf<P>> {
         requires zeros { HasZerosFrom low (body_at (entries (shown self.now)) spot.place) }
         requires few { P.D ≤ 16 }
         requires known { IsBody P.D 62 known.old }
-        ensures { known.new ≡ put_together (shown self.now).level spot.addr (body_above (shown self.now).level known.old) (body_at (entries (shown self.now)) spot.place) }
+        ensures { known.new ≡ joined_digits (shown self.now) spot known.old }
     {
         let level = self.level();
         if low + 1 == level {
@@ -245,7 +245,7 @@ impl<'t, P: Dims> NodeRefOf<'t, NodeOf<P>> {
         requires known { IsBody P.D 62 known.now }
         requires low { length low.now ≡ P.D }
         requires high { length high.now ≡ P.D }
-        ensures between { result ≡ each_between low.now high.now (put_together (shown self.now).level spot.addr (body_above (shown self.now).level known.now) (body_at (entries (shown self.now)) spot.place)) }
+        ensures between { result ≡ each_between low.now high.now (joined_digits (shown self.now) spot known.now) }
         ensures body { IsBody P.D (shown self.now).level (body_at (entries (shown self.now)) spot.place) }
     {
         let at = self.body_place(spot);
@@ -266,7 +266,7 @@ impl<'t, P: Dims> NodeRefOf<'t, NodeOf<P>> {
         requires spot { IsSpot (entries (shown self.now)) spot }
         requires known { IsBody P.D 62 known.now }
         requires others { IsBody P.D 62 others.now }
-        ensures { IsDistanceWithin limit (put_together (shown self.now).level spot.addr (body_above (shown self.now).level known.now) (body_at (entries (shown self.now)) spot.place)) others.now result }
+        ensures { IsDistanceWithin limit (joined_digits (shown self.now) spot known.now) others.now result }
     {
         let at = self.body_place(spot);
         let words = self.words();

@@ -1,6 +1,7 @@
 //! Records of either layout.
 
-ghost use Rattle.std.specs.Prelude.{◌≡◌, ◌+◌, ◌-◌, ◌*◌, ◌<◌, ◌≤◌, ◌^◌, ◌==◌, nat_le, true, None, Some, length, map, drop, position, slice_get, slice_index_or, IfOk, IfErr};
+ghost use Rattle.std.specs.Prelude.{◌≡◌, ◌+◌, ◌-◌, ◌*◌, ◌<◌, ◌≤◌, ◌^◌, ◌==◌, nat_le, true};
+ghost use Rattle.std.specs.Prelude.{None, Some, length, map, drop, position, slice_get, slice_index_or, IfOk, IfErr};
 ghost use Rattle.std.specs.List.{position_or_len};
 ghost use Rattle.ph_specs.specs.Layout.{read_address, is_child as read_child_test, AreRising};
 ghost use Rattle.ph_specs.specs.Pack.{is_cube, values, record_of};

@@ -109,7 +109,10 @@ impl<P: Dims> NodeOf<P> {
 fn lift_child<P: Dims>(children: &mut Vec<SlotOf<P>>, k: usize, child: bool)
     requires within { k < vec_len children.old }
     requires one { child ≡ true → length (nodes_held (entries (node_at (nodes_of children.old.items) k))) ≡ 1 }
-    ensures { nodes_of children.new.items ≡ edited k 1 (if child then 1 else 0) (node_at (nodes_held (entries (node_at (nodes_of children.old.items) k))) 0) (nodes_of children.old.items) }
+    ensures { nodes_of children.new.items
+        ≡ edited k 1 (if child then 1 else 0)
+        (node_at (nodes_held (entries (node_at (nodes_of children.old.items) k))) 0)
+        (nodes_of children.old.items) }
 {
     let SlotOf { node } = children.remove(k);
     if child {

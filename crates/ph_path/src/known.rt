@@ -1,12 +1,11 @@
 //! The digits that are known where a walk stands.
 ghost use Rattle.std.specs.Prelude.{◌≡◌, ◌<◌, ◌≤◌, length, take, replicate};
 ghost use Rattle.ph_specs.specs.Coordinate.{IsPoint};
-ghost use Rattle.ph_specs.specs.Lawful.{HasZerosFrom, IsBody, put_together};
+ghost use Rattle.ph_specs.specs.Lawful.{HasZerosFrom, IsBody};
 ghost use Rattle.ph_specs.specs.Node.{entries};
-ghost use Rattle.ph_specs.specs.PutTree.{body_above};
 ghost use Rattle.ph_node.specs.Shown.{shown};
 ghost use Rattle.ph_node.specs.Split.{body_at};
-ghost use Rattle.ph_node.specs.Spots.{IsSpot};
+ghost use Rattle.ph_node.specs.Spots.{IsSpot, joined_digits};
 ghost use Rattle.ph_path.specs.Known.{known_at, point_at};
 
 use ph_coord::{Dim, Dims, Point, Width};
@@ -68,7 +67,7 @@ impl<P: Dims> KnownOf<P> {
     pub fn join(&mut self, node: NodeRefOf<'_, NodeOf<P>>, spot: Spot)
         requires level { (shown node).level < self.old.width }
         requires spot { IsSpot (entries (shown node)) spot }
-        ensures { self.new ≡ known_at self.old.width (put_together (shown node.entry).level spot.addr (body_above (shown node.entry).level self.old.digits) (body_at (entries (shown node.entry)) spot.place)) }
+        ensures { self.new ≡ known_at self.old.width (joined_digits (shown node.entry) spot self.old.digits) }
     {
         let dims = P::D;
         node.join(spot, &mut self.digits[..dims]);
@@ -81,7 +80,7 @@ impl<P: Dims> KnownOf<P> {
         requires low { low < (shown node).level }
         requires body { IsBody P.D (shown node).level (body_at (entries (shown node)) spot.place) }
         requires zeros { HasZerosFrom low (body_at (entries (shown node)) spot.place) }
-        ensures { self.new ≡ known_at self.old.width (put_together (shown node.entry).level spot.addr (body_above (shown node.entry).level self.old.digits) (body_at (entries (shown node.entry)) spot.place)) }
+        ensures { self.new ≡ known_at self.old.width (joined_digits (shown node.entry) spot self.old.digits) }
     {
         let dims = P::D;
         node.join_child(spot, low, &mut self.digits[..dims]);

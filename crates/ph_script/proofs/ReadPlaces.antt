@@ -10,7 +10,7 @@ use Rattle.ph_specs.specs.Command.{Command, Place, form, number_fits, name_fits,
 use Rattle.ph_specs.specs.Command.Place.{Coordinate, Below, CursorName, FileName, OneOf}
 use Rattle.ph_script.specs.declared.coords.Coord.{Coord}
 use Rattle.ph_script.specs.declared.forms.Verb.{Verb}
-use Rattle.ph_script.specs.declared.forms.Verb.TheVariants.{Open, OpenMax, Put, Get, Del, Relocate, Count, Clear, Window, Cursor, Page, Near, Within, Overlap, Inside, Covers, Save, Load, Import, ImportHeader, Export, Stats, Select, Same}
+use Rattle.ph_script.specs.declared.forms.Verb.TheVariants.{Open, OpenBits, OpenMax, OpenBitsMax, Put, Get, Del, Relocate, Count, Clear, Window, Cursor, Page, Near, Within, Overlap, Inside, Covers, Save, Load, Import, ImportHeader, Export, Stats, Select, Same}
 use Rattle.ph_script.specs.Meaning.{number_of_coord, numbers_of}
 use Rattle.ph_script.specs.Forms.{places_by, command_by}
 use Rattle.ph_script.specs.Parts.{coords_at, counts_at, name_from, file_from, second_from}
@@ -77,9 +77,9 @@ unsaid-count : (got : Bool) (limit : ℕ) (behind : List Place) (ws : List (List
 unsaid-count got limit behind [] h = refl
 unsaid-count got limit behind (w ∷ ws) h = h ws
 
-unsaid-max : (got : Bool) (ws : List (List ℕ)) → second_from got (fixed (codes "max") ∷ value ∷ []) ws ≡ got
-unsaid-max got [] = refl
-unsaid-max got (w ∷ ws) = unsaid-count got (2 ^ 64) [] ws (λ vs. refl)
+unsaid-fixed : (got : Bool) (word : List ℕ) (limit : ℕ) (behind : List Place) (ws : List (List ℕ)) → ((vs : List (List ℕ)) → second_from got behind vs ≡ got) → second_from got (fixed word ∷ Below limit ∷ behind) ws ≡ got
+unsaid-fixed got word limit behind [] h = refl
+unsaid-fixed got word limit behind (w ∷ ws) h = unsaid-count got limit behind ws h
 
 -- one after another
 led-on : {places middle behind : List Place} {ws : List (List ℕ)} {cs ds : List Coord} {ns ms : List ℕ} {zs ys : List ℤ} → (a : Led places ws middle cs ns zs) → Led middle a.left behind ds ms ys → Led places ws behind (cs ++ ds) (ns ++ ms) (zs ++ ys)
@@ -152,13 +152,32 @@ reads Open dims (w ∷ ws) h =
     let a = led-fixed (codes "points" ∷ codes "boxes" ∷ []) (count ∷ []) (w ∷ ws) h in
     let b = led-count (2 ^ 32) [] a.left (lit≤ tt) a.fits in
     closing Open dims (w ∷ ws) (led-on a b.led) (refl, refl, b.below) refl (unsaid-count (bytes_eq w (codes "boxes")) (2 ^ 32) [] ws (λ vs. refl))
+reads OpenBits dims [] h = absurd (let k : false ≡ true = h in cc)
+reads OpenBits dims (w ∷ ws) h =
+    let a = led-fixed (codes "points" ∷ codes "boxes" ∷ []) (count ∷ fixed (codes "bits") ∷ count ∷ []) (w ∷ ws) h in
+    let b = led-count (2 ^ 32) (fixed (codes "bits") ∷ count ∷ []) a.left (lit≤ tt) a.fits in
+    let c = led-fixed (codes "bits" ∷ []) (count ∷ []) b.led.left b.led.fits in
+    let d = led-count (2 ^ 32) [] c.left (lit≤ tt) c.fits in
+    let second = bytes_eq w (codes "boxes") in
+    closing OpenBits dims (w ∷ ws) (led-on a (led-on b.led (led-on c d.led))) (refl, refl, b.below, d.below) refl (unsaid-count second (2 ^ 32) (fixed (codes "bits") ∷ count ∷ []) ws (λ vs. unsaid-fixed second (codes "bits") (2 ^ 32) [] vs (λ us. refl)))
 reads OpenMax dims [] h = absurd (let k : false ≡ true = h in cc)
 reads OpenMax dims (w ∷ ws) h =
     let a = led-fixed (codes "points" ∷ codes "boxes" ∷ []) (count ∷ fixed (codes "max") ∷ value ∷ []) (w ∷ ws) h in
     let b = led-count (2 ^ 32) (fixed (codes "max") ∷ value ∷ []) a.left (lit≤ tt) a.fits in
     let c = led-fixed (codes "max" ∷ []) (value ∷ []) b.led.left b.led.fits in
     let d = led-count (2 ^ 64) [] c.left (lit≤ tt) c.fits in
-    closing OpenMax dims (w ∷ ws) (led-on a (led-on b.led (led-on c d.led))) (refl, refl, b.below, d.below) refl (unsaid-count (bytes_eq w (codes "boxes")) (2 ^ 32) (fixed (codes "max") ∷ value ∷ []) ws (unsaid-max (bytes_eq w (codes "boxes"))))
+    closing OpenMax dims (w ∷ ws) (led-on a (led-on b.led (led-on c d.led))) (refl, refl, b.below, d.below) refl (unsaid-count (bytes_eq w (codes "boxes")) (2 ^ 32) (fixed (codes "max") ∷ value ∷ []) ws (λ vs. unsaid-fixed (bytes_eq w (codes "boxes")) (codes "max") (2 ^ 64) [] vs (λ us. refl)))
+reads OpenBitsMax dims [] h = absurd (let k : false ≡ true = h in cc)
+reads OpenBitsMax dims (w ∷ ws) h =
+    let a = led-fixed (codes "points" ∷ codes "boxes" ∷ []) (count ∷ fixed (codes "bits") ∷ count ∷ fixed (codes "max") ∷ value ∷ []) (w ∷ ws) h in
+    let b = led-count (2 ^ 32) (fixed (codes "bits") ∷ count ∷ fixed (codes "max") ∷ value ∷ []) a.left (lit≤ tt) a.fits in
+    let c = led-fixed (codes "bits" ∷ []) (count ∷ fixed (codes "max") ∷ value ∷ []) b.led.left b.led.fits in
+    let d = led-count (2 ^ 32) (fixed (codes "max") ∷ value ∷ []) c.left (lit≤ tt) c.fits in
+    let e = led-fixed (codes "max" ∷ []) (value ∷ []) d.led.left d.led.fits in
+    let f = led-count (2 ^ 64) [] e.left (lit≤ tt) e.fits in
+    let second = bytes_eq w (codes "boxes") in
+    closing OpenBitsMax dims (w ∷ ws) (led-on a (led-on b.led (led-on c (led-on d.led (led-on e f.led))))) (refl, refl, b.below, d.below, f.below) refl
+    (unsaid-count second (2 ^ 32) (fixed (codes "bits") ∷ count ∷ fixed (codes "max") ∷ value ∷ []) ws (λ vs. unsaid-fixed second (codes "bits") (2 ^ 32) (fixed (codes "max") ∷ value ∷ []) vs (λ us. unsaid-fixed second (codes "max") (2 ^ 64) [] us (λ ts. refl))))
 reads Put dims ws h =
     let p = led-point dims (value ∷ []) ws h in
     let b = led-count (2 ^ 64) [] p.led.left (lit≤ tt) p.led.fits in

@@ -6,14 +6,16 @@ use Rattle.ph_script.specs.declared.command.Bad.TheVariants.{Word, Count as BadC
 use Rattle.ph_script.specs.declared.command.Command.{Command}
 use Rattle.ph_script.specs.declared.command.Command.TheVariants as by
 use Rattle.ph_script.specs.declared.forms.Verb.{Verb}
-use Rattle.ph_script.specs.declared.forms.Verb.TheVariants.{Open, OpenMax, Put, Get, Del, Relocate, Count, Clear, Window, Cursor, Page, Near, Within, Overlap, Inside, Covers, Save, Load, Import, ImportHeader, Export, Stats, Select, Same}
+use Rattle.ph_script.specs.declared.forms.Verb.TheVariants.{Open, OpenBits, OpenMax, OpenBitsMax, Put, Get, Del, Relocate, Count, Clear, Window, Cursor, Page, Near, Within, Overlap, Inside, Covers, Save, Load, Import, ImportHeader, Export, Stats, Select, Same}
 use Rattle.std.specs.Cmp.Lexicographic.{pointwise}
 use Rattle.ph_specs.specs.Command.{Place, first_word, number_fits, name_fits}
 use Rattle.ph_script.specs.Parts.{coords_at, counts_at, name_from, file_from, second_from}
 
 abbrev pub IsFit : Verb → ℕ → List Coord → List ℕ → Option (List ℕ) → Option (List ℕ) → Type 0
 IsFit Open dims coords counts name file = (coords ≡ []) × (length counts ≡ 1) × (slice_index counts 0 < 2 ^ 32)
+IsFit OpenBits dims coords counts name file = (coords ≡ []) × (length counts ≡ 2) × (slice_index counts 0 < 2 ^ 32) × (slice_index counts 1 < 2 ^ 32)
 IsFit OpenMax dims coords counts name file = (coords ≡ []) × (length counts ≡ 2) × (slice_index counts 0 < 2 ^ 32) × (slice_index counts 1 < 2 ^ 64)
+IsFit OpenBitsMax dims coords counts name file = (coords ≡ []) × (length counts ≡ 3) × (slice_index counts 0 < 2 ^ 32) × (slice_index counts 1 < 2 ^ 32) × (slice_index counts 2 < 2 ^ 64)
 IsFit Put dims coords counts name file = (length coords ≡ dims) × (length counts ≡ 1) × (slice_index counts 0 < 2 ^ 64)
 IsFit Get dims coords counts name file = (length coords ≡ dims) × (counts ≡ [])
 IsFit Del dims coords counts name file = (length coords ≡ dims) × (counts ≡ [])
@@ -40,7 +42,9 @@ IsFit Same dims coords counts name file = Unit {0}
 -- the first of a command's words that are no numbers tells its name, its file's name, or which of two words it has
 abbrev pub IsNamed : Verb → Option (List ℕ) → Option (List ℕ) → Bool → List (List ℕ) → Type 0
 IsNamed Open name file second texts = second ≡ bytes_eq (first_word texts) (codes "boxes")
+IsNamed OpenBits name file second texts = second ≡ bytes_eq (first_word texts) (codes "boxes")
 IsNamed OpenMax name file second texts = second ≡ bytes_eq (first_word texts) (codes "boxes")
+IsNamed OpenBitsMax name file second texts = second ≡ bytes_eq (first_word texts) (codes "boxes")
 IsNamed Cursor name file second texts = name ≡ Some (first_word texts)
 IsNamed Page name file second texts = name ≡ Some (first_word texts)
 IsNamed Save name file second texts = file ≡ Some (first_word texts)
@@ -65,7 +69,7 @@ IsRead places ws coords counts name file second =
 
 -- each point of the command has so many coordinates
 abbrev pub HasDims : ℕ → Command → Type 0
-HasDims dims (by.Begin kind k max) = Unit {0}
+HasDims dims (by.Begin kind k width max) = Unit {0}
 HasDims dims (by.Put at value) = length at ≡ dims
 HasDims dims (by.Get at) = length at ≡ dims
 HasDims dims (by.Del at) = length at ≡ dims

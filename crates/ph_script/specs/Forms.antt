@@ -1,11 +1,14 @@
 -- The forms of the code's table in the definitions, and the search among forms.
-use Rattle.std.specs.Prelude.{◌≡◌, ℕ, ◌+◌, ◌-◌, ◌^◌, ◌==◌, Bool, true, false, if◌then◌else◌, List, [], ◌∷◌, ◌++◌, length, replicate, take, drop, codes, bytes_eq, ℤ}
-use Rattle.ph_specs.specs.Command.{Command as Asked, Place as Asks, Form as Spelling, Reading, form, read_form, count, value, radius, fixed, coordinates, number_at, first_word, kind_of, slot_of}
+use Rattle.std.specs.Prelude.{◌≡◌, ℕ, ◌+◌, ◌-◌, ◌^◌, ◌==◌, true, false, if◌then◌else◌, List, [], ◌∷◌, ◌++◌, length, replicate, take, drop, codes, bytes_eq, ℤ}
+use Rattle.std.specs.Cmp.Lexicographic.{pointwise}
+use Rattle.ph_specs.specs.Command.{Command as Asked, Place as Asks, Form as Spelling, Reading, form, read_form, number_fits, fixed_fits, count, value, radius, kinds, fixed, coordinates, number_at, first_word, kind_of, slot_of}
 use Rattle.ph_specs.specs.Command.Command.{Begin as AskBegin, Put as AskPut, Get as AskGet, Del as AskDel, Relocate as AskRelocate, Count as AskCount, Clear as AskClear, Window as AskWindow, Cursor as AskCursor, Page as AskPage, Near as AskNear, Within as AskWithin, Overlap as AskOverlap, Inside as AskInside, Covers as AskCovers, Save as AskSave, Load as AskLoad, Import as AskImport, Export as AskExport, Statistics as AskStatistics, Select as AskSelect, Compare as AskCompare}
 use Rattle.ph_specs.specs.Command.Place.{Coordinate as AsksCoordinate, Below, CursorName, FileName as AsksFileName, OneOf}
-use Rattle.ph_specs.specs.Reply.Reply.{ErrorWord, ErrorCount}
+use Rattle.ph_script.specs.declared.command.Bad.{Bad}
+use Rattle.ph_script.specs.declared.command.Bad.TheVariants.{Word as BadWord, Count as BadCount, Number as BadNumber, Name as BadName}
+use Rattle.ph_script.specs.Meaning.{bad_reply}
 use Rattle.ph_script.specs.declared.forms.Verb.{Verb}
-use Rattle.ph_script.specs.declared.forms.Verb.TheVariants.{Open, OpenMax, Put, Get, Del, Relocate, Count, Clear, Window, Cursor, Page, Near, Within, Overlap, Inside, Covers, Save, Load, Import, ImportHeader, Export, Stats, Select, Same}
+use Rattle.ph_script.specs.declared.forms.Verb.TheVariants.{Open, OpenBits, OpenMax, OpenBitsMax, Put, Get, Del, Relocate, Count, Clear, Window, Cursor, Page, Near, Within, Overlap, Inside, Covers, Save, Load, Import, ImportHeader, Export, Stats, Select, Same}
 use Rattle.ph_script.specs.declared.forms.Places.{Places}
 use Rattle.ph_script.specs.declared.forms.Places.TheVariants.{Coordinates, UpTo as AllUpTo, Name as AllName, FileName as AllFileName, Fixed as AllFixed, Either as AllEither}
 use Rattle.ph_script.specs.declared.forms.Place.{Place}
@@ -41,8 +44,10 @@ spread_of s = replicate s.times (place_of s.place) ++ places_of s.dims s.groups.
 
 -- the places of a command, and what it makes of the numbers and the words there
 abbrev pub places_by : Verb → ℕ → List Asks
-places_by Open dims = OneOf (codes "points" ∷ codes "boxes" ∷ []) ∷ count ∷ []
-places_by OpenMax dims = OneOf (codes "points" ∷ codes "boxes" ∷ []) ∷ count ∷ fixed (codes "max") ∷ value ∷ []
+places_by Open dims = kinds ∷ count ∷ []
+places_by OpenBits dims = kinds ∷ count ∷ fixed (codes "bits") ∷ count ∷ []
+places_by OpenMax dims = kinds ∷ count ∷ fixed (codes "max") ∷ value ∷ []
+places_by OpenBitsMax dims = kinds ∷ count ∷ fixed (codes "bits") ∷ count ∷ fixed (codes "max") ∷ value ∷ []
 places_by Put dims = coordinates dims ++ value ∷ []
 places_by Get dims = coordinates dims
 places_by Del dims = coordinates dims
@@ -67,8 +72,10 @@ places_by Select dims = OneOf (codes "a" ∷ codes "b" ∷ []) ∷ []
 places_by Same dims = []
 
 abbrev pub command_by : Verb → ℕ → List ℤ → List (List ℕ) → Asked
-command_by Open dims = λ n t. AskBegin (kind_of t) (number_at n 0) (2 ^ 64 - 1)
-command_by OpenMax dims = λ n t. AskBegin (kind_of t) (number_at n 0) (number_at n 1)
+command_by Open dims = λ n t. AskBegin (kind_of t) (number_at n 0) 32 (2 ^ 64 - 1)
+command_by OpenBits dims = λ n t. AskBegin (kind_of t) (number_at n 0) (number_at n 1) (2 ^ 64 - 1)
+command_by OpenMax dims = λ n t. AskBegin (kind_of t) (number_at n 0) 32 (number_at n 1)
+command_by OpenBitsMax dims = λ n t. AskBegin (kind_of t) (number_at n 0) (number_at n 1) (number_at n 2)
 command_by Put dims = λ n t. AskPut (take dims n) (number_at n dims)
 command_by Get dims = λ n t. AskGet n
 command_by Del dims = λ n t. AskDel n
@@ -99,9 +106,30 @@ form_of dims f = form f.word.now (places_of dims f.places.now) (command_by f.ver
 abbrev pub IsRow : Form → Type 0
 IsRow f = (dims : ℕ) → places_of dims f.places.now ≡ places_by f.verb dims
 
--- what the words behind a command's word are by the first form of the word that has so many places; and behind some forms of
--- the word with another number of places
-abbrev pub read_among : Bool → List ℕ → List (List ℕ) → List Spelling → Reading
-read_among seen word ws [] = Reading.Refused (if seen then ErrorCount else ErrorWord)
-read_among seen word ws (f ∷ fs) =
-    if bytes_eq f.word word then (if length f.places == length ws then read_form f ws else read_among true word ws fs) else read_among seen word ws fs
+-- what is wrong once a form of the word was seen that has another number of places
+abbrev pub counted : Bad → Bad
+counted BadWord = BadCount
+counted bad = bad
+
+-- what is wrong with words by a form whose own words are not there
+abbrev pub bad_in : Spelling → List (List ℕ) → Bad
+bad_in f ws = if pointwise number_fits f.places ws then BadName else BadNumber
+
+-- what the words behind a command's word are by the first form of the word that has so many places and whose own words are there; behind
+-- some forms that are not this one, by which so much is wrong
+unfoldable pub read_among : Bad → List ℕ → List (List ℕ) → List Spelling → Reading
+read_among bad word ws [] = Reading.Refused (bad_reply bad)
+read_among bad word ws (f ∷ fs) =
+    if bytes_eq f.word word
+    then (if length f.places == length ws then (if pointwise fixed_fits f.places ws then read_form f ws else read_among (bad_in f ws) word ws fs) else read_among (counted bad) word ws fs)
+    else read_among bad word ws fs
+
+-- a form of the word with these places is passed over, behind which so much is wrong
+abbrev pub IsPassed : Bad → Bad → List Asks → List (List ℕ) → Type 0
+IsPassed bad next places ws =
+    (f : Spelling) (word : List ℕ) (fs : List Spelling) → f.places ≡ places → bytes_eq f.word word ≡ true → read_among bad word ws (f ∷ fs) ≡ read_among next word ws fs
+
+-- it refuses the words
+abbrev pub IsRefusing : Bad → Bad → List Asks → List (List ℕ) → Type 0
+IsRefusing bad b places ws =
+    (f : Spelling) (word : List ℕ) (fs : List Spelling) → f.places ≡ places → bytes_eq f.word word ≡ true → read_among bad word ws (f ∷ fs) ≡ Reading.Refused (bad_reply b)

@@ -21,7 +21,7 @@ abbrev pub numbers_of : List Coord → List ℤ
 numbers_of cs = map number_of_coord cs
 
 abbrev pub command_of : Command → Asked
-command_of (Begin kind k max) = AskBegin kind k max
+command_of (Begin kind k width max) = AskBegin kind k width max
 command_of (Put at value) = AskPut (numbers_of at) value
 command_of (Get at) = AskGet (numbers_of at)
 command_of (Del at) = AskDel (numbers_of at)

@@ -8,10 +8,12 @@ use ph_specs::Which;
 /// What a line asks for. Its coordinates and the name of its file lie elsewhere, so that it is small.
 #[derive(Debug, Drop)]
 pub enum Command<'c> {
-    /// A new table for points or boxes of k dimensions, with at most so many rows.
+    /// A new table for points or boxes of k dimensions, whose coordinates have a width of so many bits, with at most so many
+    /// rows. Not each of these numbers is one that a table can have: its width is 1 to 62 and its dimensions are 1 to 16.
     Begin {
         kind: Kind,
         k: u32,
+        width: u32,
         max: u64,
     },
     Put {

@@ -8,7 +8,9 @@ ghost use Rattle.ph_script.specs.Forms.{place_of, group_of, form_of, IsRow};
 #[derive(Clone, Copy)]
 pub(crate) enum Verb {
     Open,
+    OpenBits,
     OpenMax,
+    OpenBitsMax,
     Put,
     Get,
     Del,
@@ -82,8 +84,12 @@ const RADIUS: u128 = u128::MAX;
 
 const KINDS: Places = Places::Either(b"points", b"boxes");
 
+const BITS: Places = Places::Fixed(b"bits");
+
+const MAX: Places = Places::Fixed(b"max");
+
 // The forms of all commands, in the order of the definitions. One more is a row here, a `Verb` and its command.
-static FORMS: [Form; 24] = [
+static FORMS: [Form; 26] = [
     Form {
         word: b"open",
         places: &[KINDS, Places::UpTo(COUNT)],
@@ -91,13 +97,25 @@ static FORMS: [Form; 24] = [
     },
     Form {
         word: b"open",
+        places: &[KINDS, Places::UpTo(COUNT), BITS, Places::UpTo(COUNT)],
+        verb: Verb::OpenBits,
+    },
+    Form {
+        word: b"open",
+        places: &[KINDS, Places::UpTo(COUNT), MAX, Places::UpTo(VALUE)],
+        verb: Verb::OpenMax,
+    },
+    Form {
+        word: b"open",
         places: &[
             KINDS,
             Places::UpTo(COUNT),
-            Places::Fixed(b"max"),
+            BITS,
+            Places::UpTo(COUNT),
+            MAX,
             Places::UpTo(VALUE),
         ],
-        verb: Verb::OpenMax,
+        verb: Verb::OpenBitsMax,
     },
     Form {
         word: b"put",

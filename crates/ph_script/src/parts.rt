@@ -9,7 +9,7 @@ use arrayvec::ArrayVec;
 /// whether it has the second of two words where it has one of two.
 #[derive(Drop)]
 pub(crate) struct Parts<'c> {
-    pub counts: ArrayVec<u128, 2>,
+    pub counts: ArrayVec<u128, 3>,
     pub name: Option<Name>,
     pub file: Option<FileName<'c>>,
     pub is_second: bool,

@@ -4,7 +4,7 @@ ghost use Rattle.std.specs.List.{sum_by};
 ghost use Rattle.std.specs.Cmp.Lexicographic.{pointwise};
 ghost use Rattle.arrayvec.specs.ArrayVec.{array_vec_len};
 ghost use Rattle.ph_specs.specs.Lines.{words};
-ghost use Rattle.ph_specs.specs.Command.{number_fits, name_fits};
+ghost use Rattle.ph_specs.specs.Command.{number_fits, name_fits, fixed_fits};
 ghost use Rattle.ph_script.specs.Forms.{place_of, spread_of};
 ghost use Rattle.ph_script.specs.Parts.{coords_in, counts_in, coords_room, counts_room, named, filed, second_in};
 ghost use Rattle.ph_script.specs.Fit.{IsFault, IsRead};
@@ -29,7 +29,7 @@ fn read_word<'c>(
 ) -> Result<(), Bad>
     requires number { IsNumbered word.text.now word.number }
     requires coords { length coords.old + coords_room (place_of place) ≤ MOST_OF_COMMAND }
-    requires counts { array_vec_len parts.old.counts + counts_room (place_of place) ≤ 2 }
+    requires counts { array_vec_len parts.old.counts + counts_room (place_of place) ≤ 3 }
     ensures fits { MatchResult result
         (λ _. (number_fits (place_of place) word.entry.text.now ≡ true) × (name_fits (place_of place) word.entry.text.now ≡ true))
         (λ b. IsFault b true (number_fits (place_of place) word.entry.text.now) (name_fits (place_of place) word.entry.text.now)) }
@@ -91,10 +91,12 @@ pub(crate) fn read_places<'c>(
 ) -> Result<(), Bad>
     requires empty { (coords.old ≡ []) × (parts.old.counts.items ≡ []) × (parts.old.name ≡ None) × (parts.old.file ≡ None) × (parts.old.is_second ≡ false) }
     requires coords { sum_by coords_room (spread_of places) ≤ MOST_OF_COMMAND }
-    requires counts { sum_by counts_room (spread_of places) ≤ 2 }
+    requires counts { sum_by counts_room (spread_of places) ≤ 3 }
     ensures { MatchResult result
         (λ _. IsRead (spread_of places) (words text.now) coords.new parts.new.counts.items parts.new.name parts.new.file parts.new.is_second)
-        (λ b. IsFault b (length (spread_of places) == length (words text.now)) (pointwise number_fits (spread_of places) (words text.now)) (pointwise name_fits (spread_of places) (words text.now))) }
+        (λ b. IsFault b (length (spread_of places) == length (words text.now))
+        (pointwise number_fits (spread_of places) (words text.now))
+        (pointwise name_fits (spread_of places) (words text.now))) }
 {
     let mut numbers_fit = true;
     let mut names_fit = true;
@@ -120,4 +122,33 @@ pub(crate) fn read_places<'c>(
         return Err(Bad::Name);
     }
     Ok(())
+}
+
+/// Whether each word is there that the places ask for by itself, in a text that has as many words as there are places.
+pub(crate) fn has_own_words(mut places: Spread, text: &[u8]) -> bool
+    requires { length (spread_of places) ≡ length (words text.now) }
+    ensures { result ≡ pointwise fixed_fits (spread_of places) (words text.now) }
+{
+    let mut rest = text;
+    while let Some(place) = places.next_place() {
+        let Some((word, behind)) = next_word(rest) else {
+            return false;
+        };
+        rest = behind;
+        if !is_own(place, word.text) {
+            return false;
+        }
+    }
+    true
+}
+
+// Whether a word is the one that its place asks for, if it asks for one word.
+fn is_own(place: Place, word: &[u8]) -> bool
+    ensures { result ≡ fixed_fits (place_of place) word.now }
+{
+    match place {
+        Place::Fixed(fixed) => word == fixed,
+        Place::Coordinate | Place::UpTo(_) | Place::Name | Place::FileName | Place::Either(..) =>
+            true,
+    }
 }

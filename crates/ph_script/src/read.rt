@@ -1,11 +1,14 @@
 //! The reading of a line.
-ghost use Rattle.std.specs.Prelude.{◌≡◌, ◌≤◌, ◌++◌, [], ℕ, List, length, map, pos, false, None, Some, IsSome, MatchResult};
+ghost use Rattle.std.specs.Prelude.{◌≡◌, ◌≤◌, ◌<◌, ◌^◌, ◌==◌, ◌++◌, [], ℕ, List, length, map, slice_index, pos, false, None, Some, IsSome, MatchResult};
+ghost use Rattle.std.specs.Cmp.Lexicographic.{pointwise};
 ghost use Rattle.ph_specs.specs.Lines.{words};
-ghost use Rattle.ph_specs.specs.Command.{form, forms, read_form as by_form, read_words, Reading};
-ghost use Rattle.ph_script.specs.Forms.{places_by, command_by, read_among};
+ghost use Rattle.ph_specs.specs.Command.{form, forms, number_fits, name_fits, read_form as by_form, read_words, Reading};
+ghost use Rattle.ph_script.specs.Forms.{places_by, command_by, read_among, spread_of, counted, IsPassed, IsRefusing};
+ghost use Rattle.ph_script.specs.declared.command.Bad.TheVariants.{Word as BadWord};
+ghost use Rattle.ph_script.specs.declared.command.Command.TheVariants.{Begin};
 ghost use Rattle.ph_script.specs.Parts.{kind_by, slot_by};
 ghost use Rattle.ph_script.specs.Meaning.{reading_of, command_of, numbers_of, bad_reply};
-ghost use Rattle.ph_script.specs.Fit.{IsFit, IsNamed, IsRead, HasDims, ReadsDims};
+ghost use Rattle.ph_script.specs.Fit.{IsFault, IsFit, IsNamed, IsRead, HasDims, ReadsDims};
 
 use crate::command::{Bad, Command};
 use crate::coords::{Coord, CoordBuffer, Coords};
@@ -13,7 +16,7 @@ use crate::file_name::FileName;
 use crate::forms::{Verb, forms};
 use crate::name::Name;
 use crate::parts::Parts;
-use crate::places::read_places;
+use crate::places::{has_own_words, read_places};
 use crate::spread::Spread;
 use crate::words::next_word;
 use ph_coord::Kind;
@@ -22,7 +25,11 @@ use ph_specs::Which;
 // The first byte of a comment.
 const COMMENT: u8 = b'#';
 
-// Reads the words behind a command's word in the places of the form of that word that has as many, and tells the form.
+// The bits of a coordinate where a line does not say how many.
+const WIDTH: u32 = 32;
+
+// Reads the words behind a command's word in the places of a form of that word that has as many, and tells the form. Of several such forms
+// the first counts whose own words are there, and else the last.
 fn read_form<'c>(
     word: &[u8],
     text: &'c [u8],
@@ -33,44 +40,75 @@ fn read_form<'c>(
     requires dims { dims ≤ 16 }
     requires empty { (coords.old ≡ []) × (parts.old.counts.items ≡ []) × (parts.old.name ≡ None) × (parts.old.file ≡ None) × (parts.old.is_second ≡ false) }
     ensures { MatchResult result
-        (λ verb. (read_among false word.now (words text.now) (forms dims) ≡ by_form (form word.now (places_by verb dims) (command_by verb dims)) (words text.now))
+        (λ verb. (read_among BadWord word.now (words text.now) (forms dims)
+        ≡ by_form (form word.now (places_by verb dims) (command_by verb dims)) (words text.now))
         × IsRead (places_by verb dims) (words text.now) coords.new parts.new.counts.items parts.new.name parts.new.file parts.new.is_second)
-        (λ b. read_among false word.now (words text.now) (forms dims) ≡ Reading.Refused (bad_reply b)) }
+        (λ b. read_among BadWord word.now (words text.now) (forms dims) ≡ Reading.Refused (bad_reply b)) }
 {
-    let mut seen = false;
-    for form in forms() {
-        if form.word == word {
-            match read_places(Spread::new(form.places, dims), text, coords, parts) {
-                Ok(()) => return Ok(form.verb),
-                Err(Bad::Count) => seen = true,
+    let mut refused = Bad::Word;
+    'forms: for form in forms() {
+        if form.word != word {
+            continue;
+        }
+        let places = Spread::new(form.places, dims);
+        match read_places(places, text, coords, parts) {
+            Ok(()) => return Ok(form.verb),
+            Err(bad) => match refused_by(places, text, refused, bad) {
+                Ok(next) => refused = next,
                 Err(bad) => return Err(bad),
+            },
+        }
+        coords.clear();
+        *parts = Parts::new();
+    }
+    Err(refused)
+}
+
+// What is wrong with words behind a form of these places, by which so much is wrong; as an error, if no other form may count.
+fn refused_by(places: Spread, text: &[u8], refused: Bad, bad: Bad) -> Result<Bad, Bad>
+    requires { IsFault bad (length (spread_of places) == length (words text.now))
+        (pointwise number_fits (spread_of places) (words text.now))
+        (pointwise name_fits (spread_of places) (words text.now)) }
+    ensures { MatchResult result
+        (λ next. IsPassed refused next (spread_of places) (words text.now))
+        (λ b. IsRefusing refused b (spread_of places) (words text.now)) }
+{
+    match bad {
+        Bad::Count => Ok(miscounted(refused)),
+        _ => {
+            if has_own_words(places, text) {
+                Err(bad)
+            } else {
+                Ok(bad)
             }
-            coords.clear();
-            *parts = Parts::new();
         }
     }
-    Err(if seen { Bad::Count } else { Bad::Word })
+}
+
+// What is wrong once a form of the word was seen that has another number of words.
+fn miscounted(refused: Bad) -> Bad
+    ensures { result ≡ counted refused }
+{
+    match refused {
+        Bad::Word => Bad::Count,
+        _ => refused,
+    }
 }
 
 // The command of a form, of its coordinates and of the other parts that its places have.
 fn command<'c>(verb: Verb, dims: usize, coords: &'c [Coord], parts: Parts<'c>) -> Command<'c>
     requires limit { dims ≤ 16 }
     requires fit { IsFit verb dims coords.now parts.counts.items parts.name parts.file }
-    ensures meaning { (texts : List (List ℕ)) → IsNamed verb parts.entry.name parts.entry.file parts.entry.is_second texts → command_of result ≡ command_by verb dims (numbers_of coords.now ++ map pos parts.entry.counts.items) texts }
+    ensures meaning { (texts : List (List ℕ)) → IsNamed verb parts.entry.name parts.entry.file parts.entry.is_second texts
+        → command_of result ≡ command_by verb dims (numbers_of coords.now ++ map pos parts.entry.counts.items) texts }
     ensures dims { HasDims dims result }
 {
     let counts = parts.counts.as_slice();
     match verb {
-        Verb::Open => Command::Begin {
-            kind: kind_in(&parts),
-            k: counts[0] as u32,
-            max: u64::MAX,
-        },
-        Verb::OpenMax => Command::Begin {
-            kind: kind_in(&parts),
-            k: counts[0] as u32,
-            max: counts[1] as u64,
-        },
+        Verb::Open => begin(&parts, WIDTH, u64::MAX),
+        Verb::OpenBits => begin(&parts, counts[1] as u32, u64::MAX),
+        Verb::OpenMax => begin(&parts, WIDTH, counts[1] as u64),
+        Verb::OpenBitsMax => begin(&parts, counts[1] as u32, counts[2] as u64),
         Verb::Put => Command::Put {
             at: Coords::new(coords),
             value: counts[0] as u64,
@@ -151,6 +189,20 @@ fn command<'c>(verb: Verb, dims: usize, coords: &'c [Coord], parts: Parts<'c>) -
     }
 }
 
+// A new table of the kind and of the dimensions that the parts say.
+fn begin<'c>(parts: &Parts<'_>, width: u32, max: u64) -> Command<'c>
+    requires some { 0 < length parts.now.counts.items }
+    requires small { slice_index parts.now.counts.items 0 < 2 ^ 32 }
+    ensures { result ≡ Begin (kind_by parts.now.is_second) (slice_index parts.now.counts.items 0) width max }
+{
+    Command::Begin {
+        kind: kind_in(parts),
+        k: parts.counts.as_slice()[0] as u32,
+        width,
+        max,
+    }
+}
+
 fn name_in(parts: &Parts<'_>) -> Name
     requires { IsSome parts.now.name }
     ensures { parts.now.name ≡ Some result }
@@ -189,8 +241,8 @@ fn slot_in(parts: &Parts<'_>) -> Which
     if parts.is_second { Which::B } else { Which::A }
 }
 
-/// Reads a line that has lost its line feed and a carriage return before it; points have so many dimensions. The coordinates
-/// of the command are read into a buffer, whatever it had before.
+/// Reads a line that has lost its line feed and a carriage return before it; points have so many dimensions, from 1 to 16. The
+/// coordinates of the command are read into a buffer, whatever it had before.
 ///
 /// `None` is a line with no command: one without a word, or a comment, whose first word begins with `#`.
 /// A refusal names the first fault in the order of `Bad`; the numbers of a line are tried before its names. It takes no memory.

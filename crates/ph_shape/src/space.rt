@@ -30,7 +30,8 @@ pub(crate) trait Space: Dims {
     fn top_difference(w: Width, first: &Self::Row, last: &Self::Row) -> Option<u32>
         requires first { IsPoint w Self.D (row_of first.now).point }
         requires last { IsPoint w Self.D (row_of last.now).point }
-        ensures { MatchOption result ((row_of first.now).point ≡ (row_of last.now).point) (λ place. IsTopDifference w (row_of first.now).point (row_of last.now).point place) };
+        ensures { MatchOption result ((row_of first.now).point ≡ (row_of last.now).point)
+            (λ place. IsTopDifference w (row_of first.now).point (row_of last.now).point place) };
 
     /// The body of a row's point entry.
     fn point_body(w: Width, row: &Self::Row, place: u32) -> [u64; 16]

@@ -13,5 +13,6 @@ mod Sizes
 mod EntryParts
 mod Bytes
 mod Framed
+mod Headings
 mod Loads
 mod Behind

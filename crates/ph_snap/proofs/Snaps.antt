@@ -1,18 +1,16 @@
 -- The bytes of a whole snapshot: its header, and behind it the nodes of the tree.
-use Rattle.std.proofs.Common.{◌≡◌, ℕ, ◌+◌, List, [], ◌∷◌, ◌++◌, length, Bool, true, refl, ap, sym, subst, ◌∙◌, append-nil, length-append, arith}
+use Rattle.std.proofs.Common.{◌≡◌, ℕ, ◌+◌, ◌≤◌, List, [], ◌∷◌, ◌++◌, length, Bool, refl, ap, sym, subst, ◌∙◌, append-nil, length-append, arith}
 use Rattle.std.specs.Prelude.{Option, Some, None, is_some, if◌then◌else◌}
 use Rattle.std.specs.Borrow.{Bor}
 use Rattle.std.specs.Option.{option_copied}
 use Rattle.ph_io.specs.Giving.{Taken, Given}
 use Rattle.ph_io.specs.Writing.{WritesFront}
 use Rattle.ph_specs.specs.declared.Kind.{Kind}
-use Rattle.ph_specs.specs.Load.{dims_fit}
 use Rattle.ph_specs.specs.Node.{PlainNode, nodes}
 use Rattle.ph_specs.specs.Shape.{shape}
 use Rattle.ph_specs.specs.Snapshot.{snap, kind_byte, magic, root_byte, records}
 use Rattle.ph_specs.specs.Table.{Row, IsTable}
 use Rattle.ph_specs.specs.WorkSets.{all_nodes}
-use Rattle.ph_specs.proofs.laws.Loads.{fit-few}
 use Rattle.ph_specs.proofs.laws.OneToOne.{snap-one}
 use Rattle.ph_tree.proofs.Compared.{length-nodes}
 use Rattle.ph_snap.specs.Saving.{saved, Passed}
@@ -22,28 +20,26 @@ root-flag : (root : Option (Bor PlainNode)) → root_byte (option_copied root) �
 root-flag None = refl
 root-flag (Some n) = refl
 
-root-shape : (w : ℕ) (table : List Row) (root : Option (Bor PlainNode)) → w ≡ 32 → option_copied root ≡ shape w table → option_copied root ≡ shape 32 table
-root-shape w table root e s = s ∙ ap (λ v. shape v table) e
-
-module _ (kind : Kind) (dims w : ℕ) (table : List Row) (root : Option (Bor PlainNode)) (flag : Bool) (header : List ℕ) (e : w ≡ 32) (s : option_copied root ≡ shape w table) (f : flag ≡ is_some root) (h : header ≡ magic 1 ++ (kind_byte kind ∷ dims ∷ (if flag then 1 else 0) ∷ 0 ∷ [])) where
-  pub snap-saved : snap kind dims table ≡ header ++ saved dims (nodes (option_copied root))
+module _ (kind : Kind) (dims w : ℕ) (table : List Row) (root : Option (Bor PlainNode)) (flag : Bool) (bits : ℕ) (header : List ℕ) (b : bits ≡ w) (s : option_copied root ≡ shape w table) (f : flag ≡ is_some root) (h : header ≡ magic 2 ++ (kind_byte kind ∷ dims ∷ bits ∷ (if flag then 1 else 0) ∷ [])) where
+  pub snap-saved : snap kind dims w table ≡ header ++ saved dims (nodes (option_copied root))
   unfolding saved
   snap-saved =
-      ap (λ t. magic 1 ++ (kind_byte kind ∷ dims ∷ root_byte t ∷ 0 ∷ []) ++ records dims t) (sym (root-shape w table root e s))
-      ∙ ap (λ b. magic 1 ++ (kind_byte kind ∷ dims ∷ b ∷ 0 ∷ []) ++ records dims (option_copied root)) (root-flag root ∙ ap (λ t. if t then 1 else 0) (sym f))
+      ap (λ t. magic 2 ++ (kind_byte kind ∷ dims ∷ w ∷ root_byte t ∷ []) ++ records dims t) (sym s)
+      ∙ ap (λ r. magic 2 ++ (kind_byte kind ∷ dims ∷ w ∷ r ∷ []) ++ records dims (option_copied root)) (root-flag root ∙ ap (λ t. if t then 1 else 0) (sym f))
+      ∙ ap (λ v. magic 2 ++ (kind_byte kind ∷ dims ∷ v ∷ (if flag then 1 else 0) ∷ []) ++ records dims (option_copied root)) (sym b)
       ∙ ap (λ xs. xs ++ records dims (option_copied root)) (sym h)
 
-  pub snap-size : (size : ℕ) → size ≡ length (saved dims (nodes (option_copied root))) → 8 + size ≡ length (snap kind dims table)
+  pub snap-size : (size : ℕ) → size ≡ length (saved dims (nodes (option_copied root))) → 8 + size ≡ length (snap kind dims w table)
   snap-size size k =
       let behind : List ℕ = saved dims (nodes (option_copied root)) in
-      let all : length (snap kind dims table) ≡ length header + length behind = ap length snap-saved ∙ length-append header behind in
+      let all : length (snap kind dims w table) ≡ length header + length behind = ap length snap-saved ∙ length-append header behind in
       let eight : length header ≡ 8 = ap length h in
       omega (arith, k, all, eight)
 
 -- the tree has the nodes of its table
-pub node-count : (dims w : ℕ) (table : List Row) (root : Option (Bor PlainNode)) → w ≡ 32 → option_copied root ≡ shape w table → length (nodes (option_copied root)) ≡ length (all_nodes 32 dims table)
-node-count dims w table root e s =
-    ap (λ t. length (nodes t)) (root-shape w table root e s) ∙ sym (length-nodes 32 dims (shape 32 table))
+pub node-count : (dims w : ℕ) (table : List Row) (root : Option (Bor PlainNode)) → option_copied root ≡ shape w table → length (nodes (option_copied root)) ≡ length (all_nodes w dims table)
+node-count dims w table root s =
+    ap (λ t. length (nodes t)) s ∙ sym (length-nodes w dims (shape w table))
 
 -- a header and what is behind it, by way of a block in which nothing waited
 module _ (a b c : Taken) (u v header behind whole : List ℕ) (empty : u ≡ []) (split : whole ≡ header ++ behind) (h : Passed a u b v header) where
@@ -65,7 +61,6 @@ module _ (a b c : Taken) (u v header behind whole : List ℕ) (empty : u ≡ [])
     given-whole l =
         subst (λ xs. Given a d xs) whole-is (passed-given a c d u w (header ++ behind) (passed-both a b c u v w header behind h k) l)
 
--- the snapshot is that of no other kind, dimensions or table
-pub snap-unique : (kind : Kind) (dims w : ℕ) (table : List Row) → w ≡ 32 → IsTable w dims table → dims_fit 8 (kind_byte kind) dims ≡ true → (m : Kind) (other : ℕ) (t : List Row) → IsTable 32 other t → snap kind dims table ≡ snap m other t → (kind ≡ m) × (dims ≡ other) × (table ≡ t)
-snap-unique kind dims w table e h d m other t k q =
-    snap-one kind m dims other table t (omega (arith, fit-few 8 (kind_byte kind) dims d)) (subst (λ v. IsTable v dims table) e h) k q
+-- the snapshot is that of no other kind, dimensions, width or table
+pub snap-unique : (kind : Kind) (dims w : ℕ) (table : List Row) → 1 ≤ w → w ≤ 62 → dims ≤ 16 → IsTable w dims table → (m : Kind) (other width : ℕ) (t : List Row) → IsTable width other t → snap kind dims w table ≡ snap m other width t → (kind ≡ m) × (dims ≡ other) × (w ≡ width) × (table ≡ t)
+snap-unique kind dims w table p l d h m other width t k q = snap-one kind m dims other w width table t p l d h k q

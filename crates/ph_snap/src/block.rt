@@ -44,7 +44,10 @@ impl Block {
 
     /// Lets eight bytes wait. Where there is no room for them, those that wait are given to the sink first.
     pub(crate) fn push<S: Sink>(&mut self, bytes: [u8; 8], sink: &mut S) -> Result<(), Failed>
-        ensures passed { OnOk result (Passed (taken_of (S.written sink.old) (S.amount sink.old)) self.old (taken_of (S.written sink.new) (S.amount sink.new)) self.new bytes) }
+        ensures passed { OnOk result (Passed
+            (taken_of (S.written sink.old) (S.amount sink.old)) self.old
+            (taken_of (S.written sink.new) (S.amount sink.new)) self.new
+            bytes) }
         ensures front { OnErr result (WritesFront (taken_of (S.written sink.old) (S.amount sink.old)) (taken_of (S.written sink.new) (S.amount sink.new)) self.old) }
         ensures cause { HasCause (S.faults sink.old) (S.faults sink.new) result }
         ensures follows { S.follows sink.old sink.new }
@@ -56,8 +59,14 @@ impl Block {
 
     /// Lets words wait, each by its eight bytes with the most significant first.
     pub(crate) fn put<S: Sink>(&mut self, words: &[u64], sink: &mut S) -> Result<(), Failed>
-        ensures passed { OnOk result (Passed (taken_of (S.written sink.old) (S.amount sink.old)) self.old (taken_of (S.written sink.new) (S.amount sink.new)) self.new (bytes_of words.now)) }
-        ensures front { OnErr result (WritesFront (taken_of (S.written sink.old) (S.amount sink.old)) (taken_of (S.written sink.new) (S.amount sink.new)) (self.old ++ bytes_of words.now)) }
+        ensures passed { OnOk result (Passed
+            (taken_of (S.written sink.old) (S.amount sink.old)) self.old
+            (taken_of (S.written sink.new) (S.amount sink.new)) self.new
+            (bytes_of words.now)) }
+        ensures front { OnErr result (WritesFront
+            (taken_of (S.written sink.old) (S.amount sink.old))
+            (taken_of (S.written sink.new) (S.amount sink.new))
+            (self.old ++ bytes_of words.now)) }
         ensures cause { HasCause (S.faults sink.old) (S.faults sink.new) result }
         ensures follows { S.follows sink.old sink.new }
     {
@@ -83,7 +92,10 @@ impl Block {
     // Sees to it that eight bytes more have room.
     fn make_room<S: Sink>(&mut self, sink: &mut S) -> Result<(), Failed>
         ensures room { OnOk result (length self.new + 8 ≤ 4096) }
-        ensures passed { OnOk result (Passed (taken_of (S.written sink.old) (S.amount sink.old)) self.old (taken_of (S.written sink.new) (S.amount sink.new)) self.new []) }
+        ensures passed { OnOk result (Passed
+            (taken_of (S.written sink.old) (S.amount sink.old)) self.old
+            (taken_of (S.written sink.new) (S.amount sink.new)) self.new
+            []) }
         ensures front { OnErr result (WritesFront (taken_of (S.written sink.old) (S.amount sink.old)) (taken_of (S.written sink.new) (S.amount sink.new)) self.old) }
         ensures cause { HasCause (S.faults sink.old) (S.faults sink.new) result }
         ensures follows { S.follows sink.old sink.new }

@@ -25,7 +25,9 @@ pub(crate) fn boxes_fit(words: &[u64], form: &Form, place: &Place) -> bool
     requires laid { IsLaidOut form.now.dims words.now }
     requires standing { IsStanding form.now.width form.now.dims place.now }
     requires clear { IsClear (first_in words.now).level form.now.dims place.now }
-    ensures { result ≡ the_boxes_fit form.now.kind form.now.width (first_in words.now).level (known form.now.dims (place_of form.now.dims place.now)) (entries_in form.now.dims words.now) }
+    ensures { result ≡ the_boxes_fit form.now.kind form.now.width (first_in words.now).level
+        (known form.now.dims (place_of form.now.dims place.now))
+        (entries_in form.now.dims words.now) }
 {
     match form.kind {
         Kind::Points => true,
@@ -39,7 +41,9 @@ fn are_boxes(words: &[u64], form: &Form, place: &Place) -> bool
     requires laid { IsLaidOut form.now.dims words.now }
     requires standing { IsStanding form.now.width form.now.dims place.now }
     requires clear { IsClear (first_in words.now).level form.now.dims place.now }
-    ensures { result ≡ list_all (the_box_fits form.now.width (first_in words.now).level (known form.now.dims (place_of form.now.dims place.now))) (entries_in form.now.dims words.now) }
+    ensures { result ≡ list_all
+        (the_box_fits form.now.width (first_in words.now).level (known form.now.dims (place_of form.now.dims place.now)))
+        (entries_in form.now.dims words.now) }
 {
     for i in 0..count_in(words) as usize {
         if !box_fits(words, form, place, i) {
@@ -57,7 +61,8 @@ fn box_fits(words: &[u64], form: &Form, place: &Place, i: usize) -> bool
     requires standing { IsStanding form.now.width form.now.dims place.now }
     requires clear { IsClear (first_in words.now).level form.now.dims place.now }
     requires within { i < (first_in words.now).entries }
-    ensures { (r : Read) × (slice_get (entries_in form.now.dims words.now) i ≡ Some r) × (result ≡ the_box_fits form.now.width (first_in words.now).level (known form.now.dims (place_of form.now.dims place.now)) r) }
+    ensures { (r : Read) × (slice_get (entries_in form.now.dims words.now) i ≡ Some r)
+        × (result ≡ the_box_fits form.now.width (first_in words.now).level (known form.now.dims (place_of form.now.dims place.now)) r) }
 {
     let entry = entry_at(words, form.dims, i);
     if entry.child {
@@ -76,7 +81,10 @@ pub(crate) fn place_under(words: &[u64], form: &Form, place: &Place, i: usize) -
     requires clear { IsClear (first_in words.now).level form.now.dims place.now }
     requires low { (first_in words.now).level < form.now.width }
     requires within { i < (first_in words.now).entries }
-    ensures place { let level = (first_in words.now).level in let above = known form.now.dims (place_of form.now.dims place.now) in let es = entries_in form.now.dims words.now in places_under level above (take (i + 1) es) ≡ places_under level above (take i es) ++ places_in form.now.dims result }
+    ensures place { let level = (first_in words.now).level in
+        let above = known form.now.dims (place_of form.now.dims place.now) in
+        let es = entries_in form.now.dims words.now in
+        places_under level above (take (i + 1) es) ≡ places_under level above (take i es) ++ places_in form.now.dims result }
     ensures standing { IfSome result (λ p. IsStanding form.now.width form.now.dims p) }
     ensures level { IfSome result (λ p. ceiling form.now.width (place_of form.now.dims p) ≡ (first_in words.now).level) }
 {
@@ -98,7 +106,9 @@ fn joined(words: &[u64], form: &Form, place: &Place, entry: &Entry) -> [u64; 16]
     requires clear { IsClear (first_in words.now).level form.now.dims place.now }
     requires inside { entry.now.body + form.now.dims * (first_in words.now).level ≤ 64 * length words.now }
     requires near { entry.now.body ≤ 2 ^ 62 }
-    ensures known { take form.now.dims result ≡ put_together (first_in words.now).level entry.now.addr (known form.now.dims (place_of form.now.dims place.now)) (digits_row words.now entry.now.body (first_in words.now).level form.now.dims) }
+    ensures known { take form.now.dims result ≡ put_together (first_in words.now).level entry.now.addr
+        (known form.now.dims (place_of form.now.dims place.now))
+        (digits_row words.now entry.now.body (first_in words.now).level form.now.dims) }
     ensures body { IsBody form.now.dims 62 (take form.now.dims result) }
 {
     let mut known = place.known(form);

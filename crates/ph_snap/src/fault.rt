@@ -5,13 +5,13 @@ use thiserror::Error;
 /// The first fault of bytes that were to be a tree. Numbers are the offset of the byte or of the record that shows it.
 #[derive(Clone, Copy, Debug, PartialEq, Eq, Error)]
 pub enum LoadFault {
-    /// They do not begin with the four bytes `PHT1`.
+    /// Their first four bytes are neither `PHT1` nor `PHT2`.
     #[error("Magic")]
     Magic,
-    /// A byte of the header, from 4 to 7, is missing or none of those that may stand there.
+    /// A byte of the header, from 4 to 7, is missing or none of those that may stand there in its version.
     #[error("Header")]
     Header(u64),
-    /// The header is that of another kind or of another number of dimensions than was asked for.
+    /// The header is that of another kind, of another number of dimensions or of another width than was asked for.
     #[error("Dims")]
     Dims,
     /// They end before the record that begins here does.

@@ -1,10 +1,9 @@
 //! The tree of a snapshot.
 
-ghost use Rattle.std.specs.Prelude.{◌≡◌, ◌+◌, ◌*◌, ◌-◌, ◌^◌, ◌≤◌, true, None, Some, Ok, length, drop, slice_index, IfOk, IfErr};
-ghost use Rattle.ph_specs.specs.Load.{load_fault, body_fault, dims_fit};
+ghost use Rattle.std.specs.Prelude.{◌≡◌, ◌+◌, ◌*◌, ◌-◌, ◌^◌, ◌≤◌, true, false, None, Some, Ok, length, drop, slice_index, IfOk, IfErr};
+ghost use Rattle.ph_specs.specs.Load.{load_fault, body_fault};
 ghost use Rattle.ph_specs.specs.NodeSize.{node_size};
 ghost use Rattle.ph_specs.specs.SavedTable.{first_node, read_nodes, read_snapshot};
-ghost use Rattle.ph_specs.specs.Snapshot.{kind_byte};
 ghost use Rattle.ph_specs.specs.SnapshotOf.{IsSnapshotOf};
 ghost use Rattle.ph_specs.specs.WorkSets.{all_nodes};
 ghost use Rattle.ph_snap.specs.Faults.{IsLoadFault};
@@ -13,7 +12,7 @@ ghost use Rattle.ph_snap.specs.Reads.{points};
 
 use crate::fault::LoadFault;
 use crate::form::Form;
-use crate::header::read_header;
+use crate::header::{Header, read_header};
 use crate::nodes::{Loaded, load_node};
 use crate::places::Place;
 use ph_coord::{Dim, Dims, Kind, Width};
@@ -23,7 +22,8 @@ use ph_tree::PhTree;
 use std::alloc::Global;
 use std::sync::ledger::Ledger;
 
-/// The tree of which the bytes are the snapshot, for at most 2^64 - 1 rows, or the first fault of the bytes.
+/// The tree of this kind and width of which the bytes are the snapshot, in version 1 or 2, for at most 2^64 - 1 rows, or the
+/// first fault of the bytes. A snapshot of version 1 has width 32 and at most 8 dimensions.
 ///
 /// It takes memory for the tree alone: no sorting, and no tree is built up by puts. The depth of its calls is at most the
 /// width. Each node that is made counts as a change.
@@ -34,22 +34,20 @@ pub fn load<const D: usize, C: Ledger>(
     w: Width,
     changes: &mut Steps<C>,
 ) -> Result<PhTree<D>, LoadFault>
-    requires width { w ≡ 32 }
-    requires dims { dims_fit 8 (kind_byte kind) D ≡ true }
-    ensures snapshot { IfOk result (λ t. IsSnapshotOf kind D bytes.now t.table) }
-    ensures read { IfOk result (λ t. read_snapshot kind D bytes.now ≡ Ok t.table) }
+    ensures snapshot { IfOk result (λ t. IsSnapshotOf kind D w bytes.now t.table) }
+    ensures read { IfOk result (λ t. read_snapshot kind D w bytes.now ≡ Ok t.table) }
     ensures width { IfOk result (λ t. t.width ≡ w) }
     ensures max { IfOk result (λ t. t.max ≡ 2 ^ 64 - 1) }
-    ensures fault { IfErr result (λ e. IsLoadFault (load_fault kind D bytes.now) e) }
+    ensures fault { IfErr result (λ e. IsLoadFault (load_fault kind D w bytes.now) e) }
     ensures changes { 16 * changes.new ≤ 16 * changes.old + length bytes.now }
-    ensures nodes { IfOk result (λ t. changes.new ≡ changes.old + length (all_nodes 32 D t.table)) }
+    ensures nodes { IfOk result (λ t. changes.new ≡ changes.old + length (all_nodes w D t.table)) }
     ensures kept { changes.old ≤ changes.new }
 {
     let header = match read_header(bytes) {
         Ok(header) => header,
         Err(fault) => return Err(fault),
     };
-    if header.kind != kind || header.dims as usize != D {
+    if !is_asked(&header, kind, D, w) {
         return Err(LoadFault::Dims);
     }
     if !header.root {
@@ -69,6 +67,14 @@ pub fn load<const D: usize, C: Ledger>(
     }
 }
 
+// Whether a header says this.
+fn is_asked(header: &Header, kind: Kind, dims: usize, w: Width) -> bool
+    ensures yes { result ≡ true → (header.now.kind ≡ kind) × (header.now.dims ≡ dims) × (header.now.width ≡ w) }
+    ensures no { result ≡ false → header.now.kind ≡ kind → header.now.dims ≡ dims → header.now.width ≡ w → ⊥ }
+{
+    header.kind == kind && header.dims as usize == dims && header.width == w.bits()
+}
+
 // The root whose records stand behind the header.
 fn load_root<P: Dims, C: Ledger>(
     alloc: Global,
@@ -78,13 +84,12 @@ fn load_root<P: Dims, C: Ledger>(
 ) -> Result<Loaded<NodeOf<P>>, LoadFault>
     requires form { IsForm form.now }
     requires dims { form.now.dims ≡ P.D }
-    requires width { form.now.width ≡ 32 }
     requires long { 8 ≤ length bytes.now }
-    ensures none { IfOk result (λ r. body_fault form.now.kind 32 form.now.dims 1 bytes.now ≡ None) }
+    ensures none { IfOk result (λ r. body_fault form.now.kind form.now.width form.now.dims 1 bytes.now ≡ None) }
     ensures tree { IfOk result (λ r. Some r.node ≡ first_node (read_nodes (length bytes.now) form.now.dims 1 (drop 8 bytes.now)).0) }
     ensures rows { IfOk result (λ r. r.rows ≡ points r.node) }
     ensures nodes { IfOk result (λ r. changes.new ≡ changes.old + node_size r.node) }
-    ensures err { IfErr result (λ f. IsLoadFault (body_fault form.now.kind 32 form.now.dims 1 bytes.now) f) }
+    ensures err { IfErr result (λ f. IsLoadFault (body_fault form.now.kind form.now.width form.now.dims 1 bytes.now) f) }
     ensures limit { 16 * changes.new ≤ 16 * changes.old + length bytes.now }
     ensures kept { changes.old ≤ changes.new }
 {

@@ -6,7 +6,6 @@ ghost use Rattle.ph_io.specs.Causes.{HasCause};
 ghost use Rattle.ph_io.specs.Giving.{Given, taken_of};
 ghost use Rattle.ph_io.specs.Writing.{WritesFront};
 ghost use Rattle.ph_specs.specs.declared.Kind.{Kind};
-ghost use Rattle.ph_specs.specs.Load.{dims_fit};
 ghost use Rattle.ph_specs.specs.Node.{nodes};
 ghost use Rattle.ph_specs.specs.Snapshot.{snap, kind_byte, magic};
 ghost use Rattle.ph_specs.specs.Table.{Row, IsTable};
@@ -22,7 +21,8 @@ use ph_steps::Steps;
 use ph_tree::PhTree;
 use std::sync::ledger::Ledger;
 
-/// Gives a sink the snapshot of a tree of width 32, and tells how many bytes it has.
+/// Gives a sink the snapshot of a tree and tells how many bytes it has. It is of version 2, whose header names the width, so
+/// that a tree of any width from 1 to 62 and of any number of dimensions from 1 to 16 has one.
 ///
 /// The nodes are visited once each, in preorder, by a recursion no deeper than a coordinate has bits. Their records are
 /// gathered on the stack and given in pieces of at most 4,096 bytes. It takes no memory. After an error a front of the
@@ -33,34 +33,41 @@ pub fn save<const D: usize, S: Sink, V: Ledger>(
     sink: &mut S,
     visits: &mut Steps<V>,
 ) -> Result<u128, Failed>
-    requires width { tree.now.width ≡ 32 }
-    requires dims { dims_fit 8 (kind_byte kind) D ≡ true }
-    ensures saved { OnOk result (Given (taken_of (S.written sink.old) (S.amount sink.old)) (taken_of (S.written sink.new) (S.amount sink.new)) (snap kind D tree.now.table)) }
-    ensures size { IfOk result (λ n. n ≡ length (snap kind D tree.now.table)) }
-    ensures front { OnErr result (WritesFront (taken_of (S.written sink.old) (S.amount sink.old)) (taken_of (S.written sink.new) (S.amount sink.new)) (snap kind D tree.now.table)) }
+    ensures saved { OnOk result (Given
+        (taken_of (S.written sink.old) (S.amount sink.old))
+        (taken_of (S.written sink.new) (S.amount sink.new))
+        (snap kind D tree.now.width tree.now.table)) }
+    ensures size { IfOk result (λ n. n ≡ length (snap kind D tree.now.width tree.now.table)) }
+    ensures front { OnErr result (WritesFront
+        (taken_of (S.written sink.old) (S.amount sink.old))
+        (taken_of (S.written sink.new) (S.amount sink.new))
+        (snap kind D tree.now.width tree.now.table)) }
     ensures cause { HasCause (S.faults sink.old) (S.faults sink.new) result }
     ensures follows { S.follows sink.old sink.new }
-    ensures visits { visits.new ≤ visits.old + length (all_nodes 32 D tree.now.table) }
-    ensures all { OnOk result (visits.new ≡ visits.old + length (all_nodes 32 D tree.now.table)) }
+    ensures visits { visits.new ≤ visits.old + length (all_nodes tree.now.width D tree.now.table) }
+    ensures all { OnOk result (visits.new ≡ visits.old + length (all_nodes tree.now.width D tree.now.table)) }
     ensures later { visits.old ≤ visits.new }
-    ensures unique { (m : Kind) (other : ℕ) (t : List Row) → IsTable 32 other t → snap kind D tree.now.table ≡ snap m other t → (kind ≡ m) × (D ≡ other) × (tree.now.table ≡ t) }
+    ensures unique { (m : Kind) (dims width : ℕ) (t : List Row) → IsTable width dims t
+        → snap kind D tree.now.width tree.now.table ≡ snap m dims width t
+        → (kind ≡ m) × (D ≡ dims) × (tree.now.width ≡ width) × (tree.now.table ≡ t) }
 {
     // A use that makes known how many rows there are at most.
     let _rows = tree.len();
     let root = tree.root();
     let mut block = Block::new();
-    block.push(header(kind, D as u8, root.is_some()), sink)?;
+    let bits = tree.width().bits();
+    block.push(header(kind, D as u8, bits as u8, root.is_some()), sink)?;
     let size = save_tree::<Dim<D>, S, V>(root, &mut block, sink, visits)?;
     block.give(sink)?;
     Ok(8 + size)
 }
 
-// The header of version 1.
-fn header(kind: Kind, dims: u8, root: bool) -> [u8; 8]
-    ensures { result ≡ magic 1 ++ (kind_byte kind ∷ dims ∷ (if root then 1 else 0) ∷ 0 ∷ []) }
+// The header of version 2.
+fn header(kind: Kind, dims: u8, width: u8, root: bool) -> [u8; 8]
+    ensures { result ≡ magic 2 ++ (kind_byte kind ∷ dims ∷ width ∷ (if root then 1 else 0) ∷ []) }
 {
-    let [p, h, t, one] = *b"PHT1";
-    [p, h, t, one, kind as u8, dims, u8::from(root), 0]
+    let [p, h, t, two] = *b"PHT2";
+    [p, h, t, two, kind as u8, dims, width, u8::from(root)]
 }
 
 // Gives the records of a tree by way of the block, and tells how many bytes they have.
@@ -71,8 +78,14 @@ fn save_tree<P: Dims, S: Sink, V: Ledger>(
     visits: &mut Steps<V>,
 ) -> Result<u128, Failed>
     requires { length (nodes (option_copied root)) ≤ 2 ^ 64 }
-    ensures passed { OnOk result (Passed (taken_of (S.written sink.old) (S.amount sink.old)) block.old (taken_of (S.written sink.new) (S.amount sink.new)) block.new (saved P.D (nodes (option_copied root.entry)))) }
-    ensures front { OnErr result (WritesFront (taken_of (S.written sink.old) (S.amount sink.old)) (taken_of (S.written sink.new) (S.amount sink.new)) (block.old ++ saved P.D (nodes (option_copied root.entry)))) }
+    ensures passed { OnOk result (Passed
+        (taken_of (S.written sink.old) (S.amount sink.old)) block.old
+        (taken_of (S.written sink.new) (S.amount sink.new)) block.new
+        (saved P.D (nodes (option_copied root.entry)))) }
+    ensures front { OnErr result (WritesFront
+        (taken_of (S.written sink.old) (S.amount sink.old))
+        (taken_of (S.written sink.new) (S.amount sink.new))
+        (block.old ++ saved P.D (nodes (option_copied root.entry)))) }
     ensures size { IfOk result (λ n. n ≡ length (saved P.D (nodes (option_copied root.entry)))) }
     ensures few { IfOk result (λ n. n ≤ 2 ^ 127) }
     ensures cause { HasCause (S.faults sink.old) (S.faults sink.new) result }
@@ -95,8 +108,14 @@ fn save_node<P: Dims, S: Sink, V: Ledger>(
     visits: &mut Steps<V>,
 ) -> Result<u128, Failed>
     requires { length (nodes (Some node.now)) ≤ 2 ^ 64 }
-    ensures passed { OnOk result (Passed (taken_of (S.written sink.old) (S.amount sink.old)) block.old (taken_of (S.written sink.new) (S.amount sink.new)) block.new (saved P.D (nodes (Some node.now)))) }
-    ensures front { OnErr result (WritesFront (taken_of (S.written sink.old) (S.amount sink.old)) (taken_of (S.written sink.new) (S.amount sink.new)) (block.old ++ saved P.D (nodes (Some node.now)))) }
+    ensures passed { OnOk result (Passed
+        (taken_of (S.written sink.old) (S.amount sink.old)) block.old
+        (taken_of (S.written sink.new) (S.amount sink.new)) block.new
+        (saved P.D (nodes (Some node.now)))) }
+    ensures front { OnErr result (WritesFront
+        (taken_of (S.written sink.old) (S.amount sink.old))
+        (taken_of (S.written sink.new) (S.amount sink.new))
+        (block.old ++ saved P.D (nodes (Some node.now)))) }
     ensures size { IfOk result (λ n. n ≡ length (saved P.D (nodes (Some node.now)))) }
     ensures few { IfOk result (λ n. n ≤ 2 ^ 63 * length (nodes (Some node.now))) }
     ensures cause { HasCause (S.faults sink.old) (S.faults sink.new) result }

@@ -1,11 +1,11 @@
 //! Snapshots whose bytes are known from outside.
 
-ghost use Rattle.std.specs.Prelude.{◌≡◌, ◌<◌};
-ghost use Rattle.ph_specs.specs.Coordinate.{IsPoint};
+ghost use Rattle.std.specs.Prelude.{◌≡◌, ◌<◌, ◌≤◌, length};
 
 mod digits;
 mod loads;
 mod plain;
+mod widths;
 
 use crate::{Header, LoadFault, read_header, save};
 use ph_coord::{Point, Width};
@@ -47,50 +47,60 @@ const THREE_ROWS: [u8; 72] = *b"PHT1\0\x02\x01\0\
 \0\0\0\0\0\0\0\x03\
 \0\0\0\0\0\0\0\x02";
 
-fn point(rt: &impl Abort, coords: [i64; 2]) -> Point<2>
-    ensures { IsPoint 32 2 result }
+// A snapshot of version 1 with a header of version 2, which names its width, in front of the same records.
+fn second_version(alloc: Global, first: &[u8]) -> Result<Vec<u8>, NoMemory>
+    requires { 8 ≤ length first.now }
 {
-    let Some(w) = Width::new(32) else {
-        panic!(rt; "no width")
-    };
-    let Some(p) = Point::from_slice(w, &coords) else {
-        panic!(rt; "no point")
-    };
-    p
+    let mut bytes = Vec::from_slice(alloc, first)?;
+    bytes[3] = b'2';
+    bytes[7] = bytes[6];
+    bytes[6] = 32;
+    Ok(bytes)
 }
 
-fn tree_of<V: Ledger, C: Ledger>(
-    rt: &impl Abort,
-    alloc: Global,
-    rows: &[([i64; 2], u64)],
-    visits: &mut Steps<V>,
-    changes: &mut Steps<C>,
-) -> PhTree<2>
-    ensures { result.width ≡ 32 }
+fn width(rt: &impl Abort, bits: u32) -> Width
+    ensures { result ≡ bits }
 {
-    let Some(w) = Width::new(32) else {
+    let Some(w) = Width::new(bits) else {
         panic!(rt; "no width")
     };
+    w
+}
+
+fn tree_of<const D: usize, V: Ledger, C: Ledger>(
+    rt: &impl Abort,
+    alloc: Global,
+    w: Width,
+    rows: &[([i64; D], u64)],
+    visits: &mut Steps<V>,
+    changes: &mut Steps<C>,
+) -> PhTree<D>
+    requires some { 1 ≤ D }
+    requires few { D ≤ 16 }
+    ensures { result.width ≡ w }
+{
     let mut tree = PhTree::new(alloc, w, 100);
     for (coords, value) in rows {
-        let done = tree.put(point(rt, *coords), *value, visits, changes);
+        let Some(point) = Point::from_slice(w, coords) else {
+            panic!(rt; "no point")
+        };
+        let done = tree.put(point, *value, visits, changes);
         assert!(rt; done.is_ok());
     }
     tree
 }
 
-fn is_saved_as<V: Ledger>(
+fn is_saved_as<const D: usize, V: Ledger>(
     rt: &impl Abort,
     alloc: Global,
-    tree: &PhTree<2>,
+    tree: &PhTree<D>,
+    kind: Kind,
     bytes: &[u8],
     visits: &mut Steps<V>,
-) -> Result<(), NoMemory>
-    requires { tree.now.width ≡ 32 }
-{
+) -> Result<(), NoMemory> {
     for piece in [3, 100] {
-        let mut sink = MemorySink::with_room(alloc, 100, piece, Vec::new(alloc))?;
-        let size = save(tree, Kind::Points, &mut sink, visits);
+        let mut sink = MemorySink::with_room(alloc, 200, piece, Vec::new(alloc))?;
+        let size = save(tree, kind, &mut sink, visits);
         assert_eq!(rt; size, Ok(bytes.len() as u128));
         assert_eq!(rt; sink.bytes(), bytes);
     }
@@ -108,20 +118,25 @@ fn saves<V: Ledger, C: Ledger>(
 {
     let mut visits: Steps<V> = Steps::new(visits);
     let mut changes: Steps<C> = Steps::new(changes);
+    let w = width(rt, 32);
     let rows = [([0, 0], 1), ([1, 1], 2), ([0, 1], 3)];
-    let empty = tree_of(rt, alloc, &[], &mut visits, &mut changes);
-    let one = tree_of(rt, alloc, &[([3, 4], 17)], &mut visits, &mut changes);
-    let two = tree_of(rt, alloc, &rows[..2], &mut visits, &mut changes);
-    let three = tree_of(rt, alloc, &rows, &mut visits, &mut changes);
-    is_saved_as(rt, alloc, &empty, &EMPTY, &mut visits)?;
-    is_saved_as(rt, alloc, &one, &ONE_ROW, &mut visits)?;
-    is_saved_as(rt, alloc, &two, &TWO_ROWS, &mut visits)?;
-    is_saved_as(rt, alloc, &three, &THREE_ROWS, &mut visits)?;
+    for (rows, first) in [
+        (&rows[..0], EMPTY.as_slice()),
+        (&[([3, 4], 17)], &ONE_ROW),
+        (&rows[..2], &TWO_ROWS),
+        (&rows, &THREE_ROWS),
+    ] {
+        let tree = tree_of::<2, V, C>(rt, alloc, w, rows, &mut visits, &mut changes);
+        let bytes = second_version(alloc, first)?;
+        is_saved_as(rt, alloc, &tree, Kind::Points, &bytes, &mut visits)?;
+    }
+    let two = tree_of::<2, V, C>(rt, alloc, w, &rows[..2], &mut visits, &mut changes);
     let fails = vec![in alloc; 2u64]?;
     let mut sink = MemorySink::with_room(alloc, 100, 40, fails)?;
     let size = save(&two, Kind::Points, &mut sink, &mut visits);
+    let bytes = second_version(alloc, &TWO_ROWS)?;
     assert_eq!(rt; size, Err(Failed));
-    assert_eq!(rt; sink.bytes(), &TWO_ROWS[..40]);
+    assert_eq!(rt; Some(sink.bytes()), bytes.get(..40));
     Ok(())
 }
 
@@ -133,14 +148,23 @@ fn saves_of_small_trees(rt: HostRuntime) -> Result<(), Fail> {
 
 #[test]
 fn headers(rt: HostRuntime) {
-    let header = |kind, dims, root| Ok(Header { kind, dims, root });
+    let first = |kind, dims, root| {
+        Ok(Header {
+            version: 1,
+            kind,
+            dims,
+            width: 32,
+            root,
+        })
+    };
     for (bytes, answer) in [
-        (EMPTY.as_slice(), header(Kind::Points, 2, false)),
-        (TWO_ROWS.as_slice(), header(Kind::Points, 2, true)),
-        (b"PHT1\x01\x08\x01\0", header(Kind::Boxes, 8, true)),
+        (EMPTY.as_slice(), first(Kind::Points, 2, false)),
+        (TWO_ROWS.as_slice(), first(Kind::Points, 2, true)),
+        (b"PHT1\x01\x08\x01\0", first(Kind::Boxes, 8, true)),
         (b"", Err(LoadFault::Magic)),
         (b"PHT", Err(LoadFault::Magic)),
-        (b"PHT2\0\x02\x01\0", Err(LoadFault::Magic)),
+        (b"PHT0\0\x02\x01\0", Err(LoadFault::Magic)),
+        (b"PHT3\0\x02\x20\x01", Err(LoadFault::Magic)),
         (b"PHT1", Err(LoadFault::Header(4))),
         (b"PHT1\x02\x02\x01\0", Err(LoadFault::Header(4))),
         (b"PHT1\0\x09\x01\0", Err(LoadFault::Header(5))),
@@ -148,6 +172,42 @@ fn headers(rt: HostRuntime) {
         (b"PHT1\0\x02\x02\0", Err(LoadFault::Header(6))),
         (b"PHT1\0\x02\x01\x01", Err(LoadFault::Header(7))),
         (b"PHT1\0\x02\x01", Err(LoadFault::Header(7))),
+    ] {
+        assert_eq!(rt; read_header(bytes), answer);
+    }
+}
+
+#[test]
+fn headers_that_name_a_width(rt: HostRuntime) {
+    let second = |kind, dims, width, root| {
+        Ok(Header {
+            version: 2,
+            kind,
+            dims,
+            width,
+            root,
+        })
+    };
+    for (bytes, answer) in [
+        (
+            b"PHT2\0\x02\x20\0".as_slice(),
+            second(Kind::Points, 2, 32, false),
+        ),
+        (b"PHT2\0\x01\x01\x01", second(Kind::Points, 1, 1, true)),
+        (b"PHT2\0\x09\x3e\x01", second(Kind::Points, 9, 62, true)),
+        (b"PHT2\x01\x10\x07\x01", second(Kind::Boxes, 16, 7, true)),
+        // the empty table of width 1
+        (b"PHT2\0\x02\x01\0", second(Kind::Points, 2, 1, false)),
+        (b"PHT2", Err(LoadFault::Header(4))),
+        (b"PHT2\x02\x02\x20\x01", Err(LoadFault::Header(4))),
+        (b"PHT2\0\0\x20\x01", Err(LoadFault::Header(5))),
+        (b"PHT2\0\x11\x20\x01", Err(LoadFault::Header(5))),
+        (b"PHT2\x01\x0f\x20\x01", Err(LoadFault::Header(5))),
+        (b"PHT2\0\x02\0\x01", Err(LoadFault::Header(6))),
+        (b"PHT2\0\x02\x3f\x01", Err(LoadFault::Header(6))),
+        (b"PHT2\0\x02", Err(LoadFault::Header(6))),
+        (b"PHT2\0\x02\x20\x02", Err(LoadFault::Header(7))),
+        (b"PHT2\0\x02\x20", Err(LoadFault::Header(7))),
     ] {
         assert_eq!(rt; read_header(bytes), answer);
     }

@@ -11,6 +11,7 @@ mod RowsProgram
 mod RowsSearches
 mod RowsSnapshots
 mod RowsTables
+mod RowsWide
 mod VectorsDel
 mod VectorsFaults
 mod VectorsLarge

@@ -6,6 +6,7 @@ pub mod Window
 pub mod Boxes
 pub mod Distance
 pub mod Sets
+pub mod Combined
 pub mod Past
 pub mod Lines
 pub mod Node
@@ -37,7 +38,6 @@ pub mod Command
 pub mod Named
 pub mod Csv
 pub mod SavedTable
-pub mod SavedTableEither
 pub mod State
 pub mod Refusals
 pub mod Engine

@@ -108,7 +108,8 @@ impl<const D: usize> Table<D> {
     pub fn near(&self, alloc: Global, q: &Point<D>, n: u32) -> Result<Vec<Hit<D>>, AllocError>
         requires dims { D ≤ 16 }
         requires point { IsPoint self.now.width D q.now }
-        ensures { IfOk result (λ hits. hits.items ≡ hits_of q.now (near q.now n self.now.rows)) }
+        ensures hits { IfOk result (λ hits. hits.items ≡ hits_of q.now (near q.now n self.now.rows)) }
+        ensures none { n ≡ 0 → IsOk result }
     {
         let _bits = self.width.bits();
         let most = n as usize;

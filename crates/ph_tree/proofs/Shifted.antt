@@ -1,17 +1,16 @@
 -- A tree with a row moved: it is put at its new point before it goes from the old one.
 use Rattle.std.proofs.Common.{◌≡◌, ℕ, ◌≤◌, List, [], ◌∷◌, length, true, false, cond, refl, arith, ap, sym, ◌∙◌, subst, inl, inr}
 use Rattle.std.specs.Prelude.{ℤ, Option, Some, None, is_some}
-use Rattle.std.specs.List.{list_all}
 use Rattle.std.proofs.lemmas.Bool.{and_parts}
 use Rattle.ph_specs.specs.Coordinate.{same_point}
-use Rattle.ph_specs.specs.Table.{Row, row, find, put, del, move, is_rising, is_value, IsTable}
+use Rattle.ph_specs.specs.Table.{Row, find, put, del, move, is_rising, is_value, IsTable}
 use Rattle.ph_specs.specs.ZOrder.{before}
 use Rattle.ph_specs.specs.Node.{PlainNode}
 use Rattle.ph_specs.specs.Lawful.{IsLawful, rows}
 use Rattle.ph_specs.specs.PutTree.{put_tree}
 use Rattle.ph_specs.specs.DelTree.{del_tree}
-use Rattle.ph_specs.proofs.laws.Put.{either, and, same_from_test, test_from_same, find-put}
-use Rattle.ph_specs.proofs.laws.Order.{before_trans, before_irrefl}
+use Rattle.ph_specs.proofs.laws.Put.{either, same_from_test, test_from_same, find-put, list_all_before, put-front}
+use Rattle.ph_specs.proofs.laws.Edits.{length-put}
 use Rattle.ph_specs.proofs.laws.FindTree.{not_same}
 use Rattle.ph_specs.proofs.laws.PutTree.{lawful-put_tree, rows-put_tree}
 use Rattle.ph_specs.proofs.laws.Del.{found-value}
@@ -23,27 +22,11 @@ use Rattle.ph_tree.specs.Key.{Key}
 use Rattle.ph_tree.specs.Tree.{TreeTable, tree_table, IsTree}
 use Rattle.ph_tree.specs.Moves.{answer_for, move_answer, with_moved}
 use Rattle.ph_tree.specs.declared.moves.Moved.TheVariants.{Done, Absent, Taken}
-use Rattle.ph_tree.proofs.Trees.{tree_of, IsKeyed, at_width, length-put}
+use Rattle.ph_tree.proofs.Trees.{tree_of, IsKeyed, at_width}
 use Rattle.ph_tree.proofs.Fewer.{length-del}
 use Rattle.ph_tree.proofs.Ways.{path-opened}
 
 -- ---- rows
-
-put-front : (w : ℕ) (rs : List Row) (p : List ℤ) (v : ℕ) → list_all (λ s. before w p s.point) rs ≡ true → put w rs p v ≡ row p v ∷ rs
-put-front w [] p v h = refl
-put-front w (s ∷ rs) p v h =
-    let b : before w p s.point ≡ true = (and_parts _ _ h).0 in
-    elim (either (same_point s.point p)) [
-      | inl same ↦
-          let e : s.point ≡ p = same_from_test s.point p same in
-          absurd (let no : true ≡ false = sym b ∙ ap (before w p) e ∙ before_irrefl w p in cc)
-      | inr other ↦ rw (other, b) refl
-    ]
-
-all-before : (w : ℕ) (p q : List ℤ) (rs : List Row) → before w p q ≡ true → list_all (λ s. before w q s.point) rs ≡ true → list_all (λ s. before w p s.point) rs ≡ true
-all-before w p q [] h k = refl
-all-before w p q (s ∷ rs) h k =
-    and _ _ (before_trans w p q s.point h (and_parts _ _ k).0) (all-before w p q rs h (and_parts _ _ k).1)
 
 apart : true ≡ false → ⊥
 apart e = cc
@@ -57,7 +40,7 @@ del-put w (r ∷ rs) p q v h n =
           let at : r.point ≡ q = same_from_test r.point q gone in
           let other : same_point r.point p ≡ false = not_same r.point p (λ e. apart (sym (test_from_same p q (sym e ∙ at)) ∙ n)) in
           elim (either (before w p r.point)) [
-            | inl first ↦ rw (other, first, n, gone) (sym (put-front w rs p v (all-before w p r.point rs first (and_parts _ _ h).0)))
+            | inl first ↦ rw (other, first, n, gone) (sym (put-front w rs p v (list_all_before w p r.point rs first (and_parts _ _ h).0)))
             | inr late ↦ rw (other, late, gone) refl
           ]
       | inr stays ↦

@@ -1,20 +1,17 @@
 -- Trees as tables.
-use Rattle.std.proofs.Common.{◌≡◌, ℕ, ◌+◌, ◌^◌, ◌<◌, ◌≤◌, ltb, lt-ltb, le-ltb, ltb-false, List, [], ◌∷◌, length, true, false, refl, arith, ap, sym, ◌∙◌, subst, inl, inr}
+use Rattle.std.proofs.Common.{◌≡◌, ℕ, ◌+◌, ◌^◌, ◌<◌, ◌≤◌, ltb, lt-ltb, le-ltb, ltb-false, List, [], length, true, false, refl, arith, ap, sym, ◌∙◌, subst, inl, inr}
 use Rattle.std.specs.Prelude.{◌↔◌, ℤ, Option, Some, None}
 use Rattle.std.specs.Borrow.{Bor}
 use Rattle.std.specs.Option.{option_copied}
-use Rattle.std.specs.List.{list_all}
 use Rattle.std.proofs.lemmas.Bool.{and_parts, cases_lt}
-use Rattle.ph_specs.specs.Coordinate.{same_point, is_point}
+use Rattle.ph_specs.specs.Coordinate.{is_point}
 use Rattle.ph_specs.specs.Table.{Row, find, put, is_rising, IsTable}
-use Rattle.ph_specs.specs.ZOrder.{before}
 use Rattle.ph_specs.specs.Node.{PlainNode}
 use Rattle.ph_specs.specs.Shape.{shape}
 use Rattle.ph_specs.specs.Lawful.{IsLawful, rows}
 use Rattle.ph_specs.specs.PutTree.{find_tree, put_tree}
 use Rattle.ph_specs.specs.WorkSets.{path}
-use Rattle.ph_specs.proofs.laws.Put.{either, same_from_test}
-use Rattle.ph_specs.proofs.laws.Order.{before_trans, before_irrefl}
+use Rattle.ph_specs.proofs.laws.Edits.{length-put, length-put_old}
 use Rattle.ph_specs.proofs.laws.FindTree.{find-tree}
 use Rattle.ph_specs.proofs.laws.PutTree.{lawful-put_tree, rows-put_tree}
 use Rattle.ph_specs.proofs.laws.Paths.{path-few}
@@ -26,45 +23,6 @@ use Rattle.ph_tree.specs.Opened.{opened_in}
 use Rattle.ph_tree.specs.Key.{Key}
 use Rattle.ph_tree.specs.Tree.{TreeTable, tree_table, with_row, IsTree}
 use Rattle.ph_tree.proofs.Ways.{path-opened}
-
--- a point that is put is a row more where it was absent, and none where it was there
-pub length-put : (w : ℕ) (rs : List Row) (p : List ℤ) (v : ℕ) → find rs p ≡ None → length (put w rs p v) ≡ length rs + 1
-length-put w [] p v h = refl
-length-put w (r ∷ rs) p v h =
-    elim (either (same_point r.point p)) [
-      | inl same ↦ absurd (let no : Some r.value ≡ None = rw same at h in cc)
-      | inr other ↦
-          let later : find rs p ≡ None = rw other at h in
-          elim (either (before w p r.point)) [
-            | inl first ↦ rw (other, first) (omega arith)
-            | inr late ↦ rw (other, late) (omega (arith, length-put w rs p v later))
-          ]
-    ]
-
--- a point that comes before a row stands at no row behind it
-none-later : (w : ℕ) (p q : List ℤ) (rs : List Row) → before w p q ≡ true → list_all (λ s. before w q s.point) rs ≡ true → find rs p ≡ None
-none-later w p q [] h k = refl
-none-later w p q (s ∷ rs) h k =
-    let b : before w p s.point ≡ true = before_trans w p q s.point h (and_parts _ _ k).0 in
-    elim (either (same_point s.point p)) [
-      | inl same ↦
-          let e : s.point ≡ p = same_from_test s.point p same in
-          absurd (let no : true ≡ false = sym b ∙ ap (before w p) e ∙ before_irrefl w p in cc)
-      | inr other ↦ rw other (none-later w p q rs h (and_parts _ _ k).1)
-    ]
-
-pub length-put_old : (w : ℕ) (rs : List Row) (p : List ℤ) (u v : ℕ) → is_rising w rs ≡ true → find rs p ≡ Some u → length (put w rs p v) ≡ length rs
-length-put_old w [] p u v k h = cc
-length-put_old w (r ∷ rs) p u v k h =
-    elim (either (same_point r.point p)) [
-      | inl same ↦ rw same refl
-      | inr other ↦
-          let later : find rs p ≡ Some u = rw other at h in
-          elim (either (before w p r.point)) [
-            | inl first ↦ absurd (let no : Some u ≡ None = sym later ∙ none-later w p r.point rs first (and_parts _ _ k).0 in cc)
-            | inr late ↦ rw (other, late) (omega (arith, length-put_old w rs p u v (and_parts _ _ k).1 later))
-          ]
-    ]
 
 -- another tree of the same width, within the same limit
 pub tree_of : {dims w max len more : ℕ} {t u : Option PlainNode} → IsTree dims w t max len → IsLawful w dims u → more ≡ length (rows w dims u) → more ≤ max → IsTree dims w u max more

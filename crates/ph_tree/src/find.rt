@@ -53,7 +53,8 @@ pub(crate) fn find_long<P: Dims, V: Ledger>(
 ) -> Option<Found>
     requires few { P.D ≤ 16 }
     requires lawful { IsLawful key.now.width P.D root.now }
-    ensures found { MatchOption result (find_tree key.now.width P.D root.now key.now.point ≡ None) (λ f. find_tree key.now.width P.D root.now key.now.point ≡ Some f.value) }
+    ensures found { MatchOption result (find_tree key.now.width P.D root.now key.now.point ≡ None)
+        (λ f. find_tree key.now.width P.D root.now key.now.point ≡ Some f.value) }
     ensures longest { IfSome result (λ f. f.longest ≡ longest_in key.now.width P.D root.now key.now.point) }
     ensures limit { IfSome result (λ f. f.longest < 2 ^ 31) }
     ensures cost { visits.new ≡ visits.old + opened_in key.now.width root.now key.now.point }
@@ -75,7 +76,8 @@ fn find_long_in<P: Dims, V: Ledger>(
     requires few { P.D ≤ 16 }
     requires lawful { IsLawfulFrom P.D (shown node).level 0 (shown node).chain }
     requires level { (shown node).level < key.now.width }
-    ensures found { MatchOption result (find_node key.now.width (shown node.entry) key.now.point ≡ None) (λ f. find_node key.now.width (shown node.entry) key.now.point ≡ Some f.value) }
+    ensures found { MatchOption result (find_node key.now.width (shown node.entry) key.now.point ≡ None)
+        (λ f. find_node key.now.width (shown node.entry) key.now.point ≡ Some f.value) }
     ensures longest { IfSome result (λ f. f.longest ≡ longest key.now.width P.D (shown node.entry) key.now.point) }
     ensures limit { IfSome result (λ f. f.longest < 2 ^ 31) }
     ensures cost { visits.new ≡ visits.old + opened_below key.now.width (shown node.entry).level (shown node.entry).chain key.now.point }

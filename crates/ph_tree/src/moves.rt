@@ -56,10 +56,19 @@ pub(crate) fn move_in<P: Dims, V: Ledger, C: Ledger>(
     requires short { found.longest < 2 ^ 31 }
     ensures taken { IsSome (find_tree to.now.width P.D root.old to.now.point) → result ≡ Ok Moved.Taken }
     ensures done { find_tree to.now.width P.D root.old to.now.point ≡ None → IfOk result (λ a. a ≡ Moved.Done) }
-    ensures moved { find_tree to.now.width P.D root.old to.now.point ≡ None → OnOk result (root.new ≡ del_tree from.now.width P.D (put_tree to.now.width P.D root.old to.now.point found.value) from.now.point) }
+    ensures moved { find_tree to.now.width P.D root.old to.now.point ≡ None
+        → OnOk result
+        (root.new
+        ≡ del_tree from.now.width P.D (put_tree to.now.width P.D root.old to.now.point found.value)
+        from.now.point) }
     ensures held { IsSome (find_tree to.now.width P.D root.old to.now.point) → root.new ≡ root.old }
     ensures err { OnErr result (root.new ≡ root.old) }
-    ensures visits { visits.new ≤ visits.old + 2 * opened_in to.now.width root.old to.now.point + 2 * opened_in from.now.width (put_tree to.now.width P.D root.old to.now.point found.value) from.now.point }
+    ensures visits { visits.new
+        ≤ visits.old
+        + 2 * opened_in to.now.width root.old to.now.point
+        + 2
+        * opened_in from.now.width (put_tree to.now.width P.D root.old to.now.point found.value)
+        from.now.point }
     ensures later { visits.old ≤ visits.new }
     ensures changes { changes.new ≤ changes.old + 4 }
     ensures spared { OnErr result (changes.new ≡ changes.old) }

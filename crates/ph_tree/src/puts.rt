@@ -79,7 +79,8 @@ pub(crate) fn put_in<P: Dims, V: Ledger, C: Ledger>(
     requires lawful { IsLawful put.old.key.now.width P.D root.old }
     ensures answer { IfOk result (λ a. a ≡ put_answer (find_tree put.old.key.now.width P.D root.old put.old.key.now.point)) }
     ensures put { put.old.fresh ≡ false → OnOk result (root.new ≡ put_tree put.old.key.now.width P.D root.old put.old.key.now.point put.old.value) }
-    ensures joined { find_tree put.old.key.now.width P.D root.old put.old.key.now.point ≡ None → OnOk result (root.new ≡ put_tree put.old.key.now.width P.D root.old put.old.key.now.point put.old.value) }
+    ensures joined { find_tree put.old.key.now.width P.D root.old put.old.key.now.point ≡ None
+        → OnOk result (root.new ≡ put_tree put.old.key.now.width P.D root.old put.old.key.now.point put.old.value) }
     ensures held { put.old.fresh ≡ true → IsSome (find_tree put.old.key.now.width P.D root.old put.old.key.now.point) → root.new ≡ root.old }
     ensures err { OnErr result (root.new ≡ root.old) }
     ensures full { IsErrOf result PutError.Full → put.old.room ≡ false }
@@ -131,12 +132,15 @@ pub(crate) fn put_at<P: Dims, V: Ledger, C: Ledger>(
     requires level { cur.old.level < put.old.key.now.width }
     ensures answer { IfOk (outcome result put.new.former) (λ a. a ≡ put_answer (find_node put.old.key.now.width cur.old put.old.key.now.point)) }
     ensures put { put.old.fresh ≡ false → OnOk (outcome result put.new.former) (cur.new ≡ put_node put.old.key.now.width cur.old put.old.key.now.point put.old.value) }
-    ensures joined { find_node put.old.key.now.width cur.old put.old.key.now.point ≡ None → OnOk (outcome result put.new.former) (cur.new ≡ put_node put.old.key.now.width cur.old put.old.key.now.point put.old.value) }
+    ensures joined { find_node put.old.key.now.width cur.old put.old.key.now.point ≡ None
+        → OnOk (outcome result put.new.former)
+        (cur.new ≡ put_node put.old.key.now.width cur.old put.old.key.now.point put.old.value) }
     ensures held { put.old.fresh ≡ true → IsSome (find_node put.old.key.now.width cur.old put.old.key.now.point) → cur.new ≡ cur.old }
     ensures err { OnErr (outcome result put.new.former) (cur.new ≡ cur.old) }
     ensures full { IsErrOf (outcome result put.new.former) PutError.Full → put.old.room ≡ false }
     ensures absent { OnErr (outcome result put.new.former) (find_node put.old.key.now.width cur.old put.old.key.now.point ≡ None) }
-    ensures refused { find_node put.old.key.now.width cur.old put.old.key.now.point ≡ None → put.old.room ≡ false → IsErrOf (outcome result put.new.former) PutError.Full }
+    ensures refused { find_node put.old.key.now.width cur.old put.old.key.now.point ≡ None → put.old.room ≡ false
+        → IsErrOf (outcome result put.new.former) PutError.Full }
     ensures visits { visits.new ≤ visits.old + 2 * opened_below put.old.key.now.width cur.old.level cur.old.chain put.old.key.now.point + 1 }
     ensures later { visits.old ≤ visits.new }
     ensures changes { changes.new ≤ changes.old + 2 }

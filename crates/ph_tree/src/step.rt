@@ -73,7 +73,9 @@ fn is_joined<P: Dims>(node: NodeRefOf<'_, NodeOf<P>>, spot: Spot, low: u32, key:
     requires low { low < (shown node).level }
     requires body { IsBody P.D (shown node).level (body_at (entries (shown node)) spot.place) }
     requires zeros { HasZerosFrom low (body_at (entries (shown node)) spot.place) }
-    ensures { result ≡ same_digits (body_at (entries (shown node.entry)) spot.place) (body_above low (body_below (shown node.entry).level (map (offset key.now.width) key.now.point))) }
+    ensures { result
+        ≡ same_digits (body_at (entries (shown node.entry)) spot.place)
+        (body_above low (body_below (shown node.entry).level (map (offset key.now.width) key.now.point))) }
 {
     let offsets = key.offsets();
     let level = node.level();

@@ -170,7 +170,11 @@ impl<const D: usize> PhTree<D> {
         requires { self.now.width ≡ other.now.width }
         ensures same { IsTrue result ↔ (self.now.table ≡ other.now.table) }
         ensures visits { visits.new ≤ visits.old + (length (all_nodes self.now.width D self.now.table) + length (all_nodes other.now.width D other.now.table)) }
-        ensures all { IsTrue result → visits.new ≡ visits.old + (length (all_nodes self.now.width D self.now.table) + length (all_nodes other.now.width D other.now.table)) }
+        ensures all { IsTrue result
+            → visits.new
+            ≡ visits.old
+            + (length (all_nodes self.now.width D self.now.table)
+            + length (all_nodes other.now.width D other.now.table)) }
         ensures spared { length self.now.table ≢ length other.now.table → visits.new ≡ visits.old }
         ensures later { visits.old ≤ visits.new }
     {

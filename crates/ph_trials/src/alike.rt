@@ -22,28 +22,28 @@ const EDITS: u64 = 48;
 const UNUSED: i64 = 5;
 
 // A tree and a table to which these rows are put from the last to the first.
-fn backwards<const D: usize, V: Ledger, C: Ledger>(
+fn backwards<const D: usize, const W: u32, V: Ledger, C: Ledger>(
     rt: &impl Abort,
     alloc: Global,
     rows: &[Row<D>],
     counters: &mut Counters<V, C>,
-) -> Result<Pair<D>, Fail>
+) -> Result<Pair<D, W>, Fail>
     requires some { 1 ≤ D }
     requires few { D ≤ 16 }
 {
-    let mut pair: Pair<D> = Pair::new(alloc, u64::MAX);
+    let mut pair: Pair<D, W> = Pair::new(rt, alloc, u64::MAX);
     for row in rows.iter().rev() {
-        let p = point(rt, row.point.as_slice());
+        let p = point::<D, W>(rt, row.point.as_slice());
         pair.put(rt, p, row.value, counters)?;
     }
     Ok(pair)
 }
 
 // Whether the trees are the same, asked of each of them, is to be answered so.
-fn assert_same<const D: usize, V: Ledger, C: Ledger>(
+fn assert_same<const D: usize, const W: u32, V: Ledger, C: Ledger>(
     rt: &impl Abort,
-    a: &Pair<D>,
-    b: &Pair<D>,
+    a: &Pair<D, W>,
+    b: &Pair<D, W>,
     expected: bool,
     counters: &mut Counters<V, C>,
 ) {
@@ -52,18 +52,18 @@ fn assert_same<const D: usize, V: Ledger, C: Ledger>(
 }
 
 // Edits one of two trees at a point of both, each time in one respect, and takes that back.
-fn edit_one<const D: usize, V: Ledger, C: Ledger>(
+fn edit_one<const D: usize, const W: u32, V: Ledger, C: Ledger>(
     rt: &impl Abort,
-    a: &Pair<D>,
-    b: &mut Pair<D>,
+    a: &Pair<D, W>,
+    b: &mut Pair<D, W>,
     p: Point<D>,
     v: u64,
     counters: &mut Counters<V, C>,
 ) -> Result<(), Fail>
     requires few { D ≤ 16 }
-    requires point { IsPoint 32 D p }
+    requires point { IsPoint W D p }
 {
-    let unused: Point<D> = point(rt, &[UNUSED; D]);
+    let unused = point::<D, W>(rt, &[UNUSED; D]);
     b.put(rt, p, v ^ 1, counters)?;
     assert_same(rt, a, b, false, counters);
     b.put(rt, p, v, counters)?;
@@ -80,7 +80,7 @@ fn edit_one<const D: usize, V: Ledger, C: Ledger>(
 }
 
 // Behind each random edit of a tree, another tree of the same rows.
-fn pairs<const D: usize, V: Ledger, C: Ledger>(
+fn pairs<const D: usize, const W: u32, V: Ledger, C: Ledger>(
     rt: &impl Abort,
     alloc: Global,
     choices: &[i64; 8],
@@ -90,14 +90,14 @@ fn pairs<const D: usize, V: Ledger, C: Ledger>(
     requires few { D ≤ 16 }
 {
     let mut rng = Xoshiro256PlusPlus::seed_from_u64(SEED);
-    let mut pair: Pair<D> = Pair::new(alloc, u64::MAX);
+    let mut pair: Pair<D, W> = Pair::new(rt, alloc, u64::MAX);
     for v in 0..EDITS {
         edit(rt, &mut pair, &mut rng, choices, v, counters)?;
         let rows = pair.table.rows();
         let mut other = backwards(rt, alloc, rows, counters)?;
         assert_same(rt, &pair, &other, true, counters);
         if let Some(row) = rows.get((v % 8) as usize) {
-            let p = point(rt, row.point.as_slice());
+            let p = point::<D, W>(rt, row.point.as_slice());
             edit_one(rt, &pair, &mut other, p, row.value, counters)?;
         }
     }
@@ -115,10 +115,12 @@ fn all_pairs<V: Ledger, C: Ledger>(
 {
     let mut counters: Counters<V, C> = Counters::new(visits, changes);
     let choices = [LEAST, -2, -1, 0, 0, 1, 2, GREATEST];
-    pairs::<1, V, C>(rt, alloc, &choices, &mut counters)?;
-    pairs::<2, V, C>(rt, alloc, &choices, &mut counters)?;
-    pairs::<3, V, C>(rt, alloc, &choices, &mut counters)?;
-    pairs::<8, V, C>(rt, alloc, &choices, &mut counters)
+    pairs::<1, 32, V, C>(rt, alloc, &choices, &mut counters)?;
+    pairs::<2, 32, V, C>(rt, alloc, &choices, &mut counters)?;
+    pairs::<3, 32, V, C>(rt, alloc, &choices, &mut counters)?;
+    pairs::<8, 32, V, C>(rt, alloc, &choices, &mut counters)?;
+    pairs::<9, 7, V, C>(rt, alloc, &[-64, -2, -1, 0, 0, 1, 2, 63], &mut counters)?;
+    pairs::<16, 62, V, C>(rt, alloc, &choices, &mut counters)
 }
 
 #[test]

@@ -55,9 +55,9 @@ fn is_listed<const K: usize, const D: usize>(
 }
 
 // The rows of the table that are listed.
-fn listed<const K: usize, const D: usize>(
+fn listed<const K: usize, const D: usize, const W: u32>(
     alloc: Global,
-    pair: &Pair<D>,
+    pair: &Pair<D, W>,
     question: Question,
     lo: &Point<K>,
     hi: &Point<K>,
@@ -74,18 +74,24 @@ fn listed<const K: usize, const D: usize>(
 }
 
 // The corners of a box.
-fn draw_box<const K: usize, R: Rng>(rt: &impl Abort, rng: &mut R) -> (Point<K>, Point<K>)
-    ensures lo { IsPoint 32 K result.0 }
-    ensures hi { IsPoint 32 K result.1 }
+fn draw_box<const K: usize, const W: u32, R: Rng>(
+    rt: &impl Abort,
+    rng: &mut R,
+) -> (Point<K>, Point<K>)
+    ensures lo { IsPoint W K result.0 }
+    ensures hi { IsPoint W K result.1 }
 {
-    let (a, b) = (draw(rt, rng, &CHOICES), draw(rt, rng, &CHOICES));
-    corners(rt, &a, &b, K)
+    let (a, b) = (
+        draw::<K, W, R>(rt, rng, &CHOICES),
+        draw::<K, W, R>(rt, rng, &CHOICES),
+    );
+    corners::<K, W>(rt, &a, &b, K)
 }
 
 // Stores random boxes.
-fn fill<const K: usize, const D: usize, R: Rng, V: Ledger, C: Ledger>(
+fn fill<const K: usize, const D: usize, const W: u32, R: Rng, V: Ledger, C: Ledger>(
     rt: &impl Abort,
-    pair: &mut Pair<D>,
+    pair: &mut Pair<D, W>,
     rng: &mut R,
     counters: &mut Counters<V, C>,
 ) -> Result<(), Fail>
@@ -93,7 +99,7 @@ fn fill<const K: usize, const D: usize, R: Rng, V: Ledger, C: Ledger>(
     requires few { D ≤ 16 }
 {
     for v in 0..STORED {
-        let (lo, hi) = draw_box::<K, R>(rt, rng);
+        let (lo, hi) = draw_box::<K, W, R>(rt, rng);
         let Some(p) = join_box(pair.table.width(), &lo, &hi) else {
             panic!(rt; "no box");
         };
@@ -124,7 +130,7 @@ fn bounds<const K: usize, const D: usize>(
 }
 
 // Asks the three questions about random boxes.
-fn boxes<const K: usize, const D: usize, V: Ledger, C: Ledger>(
+fn boxes<const K: usize, const D: usize, const W: u32, V: Ledger, C: Ledger>(
     rt: &impl Abort,
     alloc: Global,
     counters: &mut Counters<V, C>,
@@ -134,10 +140,10 @@ fn boxes<const K: usize, const D: usize, V: Ledger, C: Ledger>(
     requires few { D ≤ 16 }
 {
     let mut rng = Xoshiro256PlusPlus::seed_from_u64(SEED);
-    let mut pair: Pair<D> = Pair::new(alloc, u64::MAX);
-    fill::<K, D, Xoshiro256PlusPlus, V, C>(rt, &mut pair, &mut rng, counters)?;
+    let mut pair: Pair<D, W> = Pair::new(rt, alloc, u64::MAX);
+    fill::<K, D, W, Xoshiro256PlusPlus, V, C>(rt, &mut pair, &mut rng, counters)?;
     for _ in 0..ASKED {
-        let (lo, hi) = draw_box::<K, Xoshiro256PlusPlus>(rt, &mut rng);
+        let (lo, hi) = draw_box::<K, W, Xoshiro256PlusPlus>(rt, &mut rng);
         for question in [Question::Overlap, Question::Inside, Question::Cover] {
             let (low, high) = bounds(pair.table.width(), question, &lo, &hi);
             let rows = listed(alloc, &pair, question, &lo, &hi)?;
@@ -157,10 +163,12 @@ fn all_boxes<V: Ledger, C: Ledger>(
     requires changes { (changes.name ≡ C.name) × (changes.parts ≡ C.parts) × (0 < changes.parts) }
 {
     let mut counters: Counters<V, C> = Counters::new(visits, changes);
-    boxes::<1, 2, V, C>(rt, alloc, &mut counters)?;
-    boxes::<2, 4, V, C>(rt, alloc, &mut counters)?;
-    boxes::<3, 6, V, C>(rt, alloc, &mut counters)?;
-    boxes::<4, 8, V, C>(rt, alloc, &mut counters)
+    boxes::<1, 2, 32, V, C>(rt, alloc, &mut counters)?;
+    boxes::<2, 4, 32, V, C>(rt, alloc, &mut counters)?;
+    boxes::<3, 6, 32, V, C>(rt, alloc, &mut counters)?;
+    boxes::<4, 8, 32, V, C>(rt, alloc, &mut counters)?;
+    boxes::<5, 10, 7, V, C>(rt, alloc, &mut counters)?;
+    boxes::<8, 16, 62, V, C>(rt, alloc, &mut counters)
 }
 
 #[test]

@@ -17,29 +17,40 @@ const SEED: u64 = 2014;
 
 const EDITS: u64 = 2000;
 
+// With these, a node of nine dimensions and one bit becomes a cube.
+const FEWER_EDITS: u64 = 400;
+
+// The ends of 32 bits.
 pub(crate) const LEAST: i64 = -(1 << 31);
 
 pub(crate) const GREATEST: i64 = (1 << 31) - 1;
 
+// Coordinates of one bit, of seven and of 62, the ends among them.
+pub(crate) const BINARY: [i64; 8] = [-1, -1, -1, -1, 0, 0, 0, 0];
+
+const SEVEN_BITS: [i64; 8] = [-64, -64, -2, -1, 0, 0, 1, 63];
+
+pub(crate) const WIDEST: [i64; 8] = [-(1 << 61), 0, 0, 0, 0, 0, 1, (1 << 61) - 1];
+
 // A point whose coordinates are some of eight numbers.
-pub(crate) fn draw<const D: usize, R: Rng>(
+pub(crate) fn draw<const D: usize, const W: u32, R: Rng>(
     rt: &impl Abort,
     rng: &mut R,
     choices: &[i64; 8],
 ) -> Point<D>
-    ensures { IsPoint 32 D result }
+    ensures { IsPoint W D result }
 {
     let mut drawn = [0; D];
     for coord in drawn.iter_mut() {
         *coord = choices[(rng.next_u32() % 8) as usize];
     }
-    point(rt, &drawn)
+    point::<D, W>(rt, &drawn)
 }
 
 // One put, removal or move; puts are as many as both others.
-pub(crate) fn edit<const D: usize, R: Rng, V: Ledger, C: Ledger>(
+pub(crate) fn edit<const D: usize, const W: u32, R: Rng, V: Ledger, C: Ledger>(
     rt: &impl Abort,
-    pair: &mut Pair<D>,
+    pair: &mut Pair<D, W>,
     rng: &mut R,
     choices: &[i64; 8],
     v: u64,
@@ -47,21 +58,22 @@ pub(crate) fn edit<const D: usize, R: Rng, V: Ledger, C: Ledger>(
 ) -> Result<(), Fail>
     requires { D ≤ 16 }
 {
-    let p = draw(rt, rng, choices);
+    let p = draw::<D, W, R>(rt, rng, choices);
     match rng.next_u32() % 4 {
         0 => pair.del(rt, &p, counters),
         1 => {
-            let to = draw(rt, rng, choices);
+            let to = draw::<D, W, R>(rt, rng, choices);
             pair.relocate(rt, &p, &to, counters)
         }
         _ => pair.put(rt, p, v, counters),
     }
 }
 
-// Edits, and then the removal of all rows.
-fn edits<const D: usize, V: Ledger, C: Ledger>(
+// So many edits, and then the removal of all rows.
+fn edits<const D: usize, const W: u32, V: Ledger, C: Ledger>(
     rt: &impl Abort,
     alloc: Global,
+    count: u64,
     max: u64,
     choices: &[i64; 8],
     counters: &mut Counters<V, C>,
@@ -70,8 +82,8 @@ fn edits<const D: usize, V: Ledger, C: Ledger>(
     requires few { D ≤ 16 }
 {
     let mut rng = Xoshiro256PlusPlus::seed_from_u64(SEED);
-    let mut pair: Pair<D> = Pair::new(alloc, max);
-    for v in 0..EDITS {
+    let mut pair: Pair<D, W> = Pair::new(rt, alloc, max);
+    for v in 0..count {
         edit(rt, &mut pair, &mut rng, choices, v, counters)?;
         pair.compare(rt, alloc, counters)?;
     }
@@ -79,10 +91,10 @@ fn edits<const D: usize, V: Ledger, C: Ledger>(
 }
 
 // Deletes one row after the other.
-fn empty<const D: usize, R: Rng, V: Ledger, C: Ledger>(
+fn empty<const D: usize, const W: u32, R: Rng, V: Ledger, C: Ledger>(
     rt: &impl Abort,
     alloc: Global,
-    pair: &mut Pair<D>,
+    pair: &mut Pair<D, W>,
     rng: &mut R,
     counters: &mut Counters<V, C>,
 ) -> Result<(), Fail>
@@ -94,7 +106,7 @@ fn empty<const D: usize, R: Rng, V: Ledger, C: Ledger>(
         let Some(row) = pair.table.rows().get(i as usize) else {
             panic!(rt; "no row");
         };
-        let p = point(rt, row.point.as_slice());
+        let p = point::<D, W>(rt, row.point.as_slice());
         pair.del(rt, &p, counters)?;
         pair.compare(rt, alloc, counters)?;
     }
@@ -108,10 +120,11 @@ fn full_tree<V: Ledger, C: Ledger>(
     alloc: Global,
     counters: &mut Counters<V, C>,
 ) -> Result<(), Fail> {
-    let mut pair: Pair<2> = Pair::new(alloc, 2);
-    let (first, third) = (point(rt, &[0, 0]), point(rt, &[0, 1]));
+    let mut pair: Pair<2, 32> = Pair::new(rt, alloc, 2);
+    let first = point::<2, 32>(rt, &[0, 0]);
+    let third = point::<2, 32>(rt, &[0, 1]);
     pair.put(rt, first, 1, counters)?;
-    pair.put(rt, point(rt, &[1, 1]), 2, counters)?;
+    pair.put(rt, point::<2, 32>(rt, &[1, 1]), 2, counters)?;
     pair.put(rt, third, 3, counters)?;
     assert_eq!(rt; (pair.tree.len(), pair.table.get(&third)), (2, None));
     pair.relocate(rt, &first, &third, counters)?;
@@ -131,18 +144,54 @@ fn all_edits<V: Ledger, C: Ledger>(
 {
     let mut counters: Counters<V, C> = Counters::new(visits, changes);
     let line = [LEAST, LEAST + 1, -2, -1, 0, 1, 2, GREATEST];
-    edits::<1, V, C>(rt, alloc, u64::MAX, &line, &mut counters)?;
+    edits::<1, 32, V, C>(rt, alloc, EDITS, u64::MAX, &line, &mut counters)?;
     let square = [LEAST, LEAST, -2, -1, 0, 0, 1, GREATEST];
-    edits::<2, V, C>(rt, alloc, u64::MAX, &square, &mut counters)?;
-    edits::<2, V, C>(rt, alloc, 6, &square, &mut counters)?;
+    edits::<2, 32, V, C>(rt, alloc, EDITS, u64::MAX, &square, &mut counters)?;
+    edits::<2, 32, V, C>(rt, alloc, EDITS, 6, &square, &mut counters)?;
     let cube = [LEAST, -1, -1, 0, 0, 1, 1, GREATEST];
-    edits::<3, V, C>(rt, alloc, u64::MAX, &cube, &mut counters)?;
+    edits::<3, 32, V, C>(rt, alloc, EDITS, u64::MAX, &cube, &mut counters)?;
     let mostly_zero = [LEAST, 0, 0, 0, 0, 0, 0, 1];
-    edits::<8, V, C>(rt, alloc, u64::MAX, &mostly_zero, &mut counters)?;
+    edits::<8, 32, V, C>(rt, alloc, EDITS, u64::MAX, &mostly_zero, &mut counters)?;
     full_tree(rt, alloc, &mut counters)
+}
+
+// Mostly zero, so that points of many dimensions meet.
+fn rarely(coord: i64) -> [i64; 8] {
+    [coord, 0, 0, 0, 0, 0, 0, 0]
+}
+
+fn edits_by_width<V: Ledger, C: Ledger>(
+    rt: &impl Abort,
+    alloc: Global,
+    visits: Blank,
+    changes: Blank,
+) -> Result<(), Fail>
+    requires visits { (visits.name ≡ V.name) × (visits.parts ≡ V.parts) × (0 < visits.parts) }
+    requires changes { (changes.name ≡ C.name) × (changes.parts ≡ C.parts) × (0 < changes.parts) }
+{
+    let mut counters: Counters<V, C> = Counters::new(visits, changes);
+    let all = &mut counters;
+    let (count, max) = (FEWER_EDITS, u64::MAX);
+    edits::<1, 1, V, C>(rt, alloc, count, max, &BINARY, all)?;
+    edits::<9, 1, V, C>(rt, alloc, count, max, &BINARY, all)?;
+    edits::<16, 1, V, C>(rt, alloc, count, max, &rarely(-1), all)?;
+    edits::<2, 7, V, C>(rt, alloc, count, max, &SEVEN_BITS, all)?;
+    edits::<9, 7, V, C>(rt, alloc, count, max, &SEVEN_BITS, all)?;
+    edits::<16, 7, V, C>(rt, alloc, count, max, &rarely(63), all)?;
+    edits::<9, 32, V, C>(rt, alloc, count, max, &rarely(LEAST), all)?;
+    edits::<16, 32, V, C>(rt, alloc, count, max, &rarely(GREATEST), all)?;
+    edits::<1, 62, V, C>(rt, alloc, count, max, &WIDEST, all)?;
+    edits::<2, 62, V, C>(rt, alloc, count, max, &WIDEST, all)?;
+    edits::<9, 62, V, C>(rt, alloc, count, max, &WIDEST, all)?;
+    edits::<16, 62, V, C>(rt, alloc, count, max, &rarely(-(1 << 61)), all)
 }
 
 #[test]
 fn random_edits(rt: HostRuntime) -> Result<(), Fail> {
     all_edits::<Brand, Brand>(&rt, rt.alloc(), Blank::new(1), Blank::new(1))
+}
+
+#[test]
+fn random_edits_by_width(rt: HostRuntime) -> Result<(), Fail> {
+    edits_by_width::<Brand, Brand>(&rt, rt.alloc(), Blank::new(1), Blank::new(1))
 }

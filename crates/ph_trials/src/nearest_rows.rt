@@ -3,7 +3,7 @@
 ghost use Rattle.std.specs.Prelude.{◌≡◌, ◌<◌, ◌≤◌};
 ghost use Rattle.ph_specs.specs.Coordinate.{IsPoint};
 
-use crate::edits::{GREATEST, LEAST, draw, edit};
+use crate::edits::{BINARY, GREATEST, LEAST, WIDEST, draw, edit};
 use crate::pair::{Counters, Pair};
 use ph_coord::Point;
 use ph_near::{Ball, Hit, nearest};
@@ -20,15 +20,15 @@ const SEED: u64 = 1999;
 const EDITS: u64 = 100;
 
 // The nearest rows are to be those of the table, however many are asked for.
-fn compare<const D: usize, V: Ledger, C: Ledger>(
+fn compare<const D: usize, const W: u32, V: Ledger, C: Ledger>(
     rt: &impl Abort,
     alloc: Global,
-    pair: &Pair<D>,
+    pair: &Pair<D, W>,
     q: Point<D>,
     counters: &mut Counters<V, C>,
 ) -> Result<(), Fail>
     requires few { D ≤ 16 }
-    requires point { IsPoint 32 D q }
+    requires point { IsPoint W D q }
 {
     let all = u32::try_from(pair.table.rows().len())
         .ok()
@@ -52,15 +52,15 @@ fn square(p: &[i64], q: &[i64]) -> u128 {
 }
 
 // The rows within a radius are to be those of the table that are as near, in their order.
-fn compare_ball<const D: usize, V: Ledger, C: Ledger>(
+fn compare_ball<const D: usize, const W: u32, V: Ledger, C: Ledger>(
     rt: &impl Abort,
-    pair: &Pair<D>,
+    pair: &Pair<D, W>,
     q: Point<D>,
     r: u128,
     counters: &mut Counters<V, C>,
 )
     requires few { D ≤ 16 }
-    requires point { IsPoint 32 D q }
+    requires point { IsPoint W D q }
 {
     let mut ball = Ball::new(&pair.tree, q, r);
     for row in pair.table.rows() {
@@ -78,7 +78,7 @@ fn compare_ball<const D: usize, V: Ledger, C: Ledger>(
 }
 
 // Compares the nearest rows of some points, and those within some radii, between edits.
-fn compare_between_edits<const D: usize, V: Ledger, C: Ledger>(
+fn compare_between_edits<const D: usize, const W: u32, V: Ledger, C: Ledger>(
     rt: &impl Abort,
     alloc: Global,
     choices: &[i64; 8],
@@ -88,10 +88,10 @@ fn compare_between_edits<const D: usize, V: Ledger, C: Ledger>(
     requires few { D ≤ 16 }
 {
     let mut rng = Xoshiro256PlusPlus::seed_from_u64(SEED);
-    let mut pair: Pair<D> = Pair::new(alloc, u64::MAX);
+    let mut pair: Pair<D, W> = Pair::new(rt, alloc, u64::MAX);
     for v in 0..EDITS {
         edit(rt, &mut pair, &mut rng, choices, v, counters)?;
-        let q = draw(rt, &mut rng, choices);
+        let q = draw::<D, W, Xoshiro256PlusPlus>(rt, &mut rng, choices);
         compare(rt, alloc, &pair, q, counters)?;
         for r in [0, 1, 3, u128::MAX] {
             compare_ball(rt, &pair, q, r, counters);
@@ -111,13 +111,15 @@ fn all_dimensions<V: Ledger, C: Ledger>(
 {
     let mut counters: Counters<V, C> = Counters::new(visits, changes);
     let line = [LEAST, -3, -2, -1, 0, 1, 2, GREATEST];
-    compare_between_edits::<1, V, C>(rt, alloc, &line, &mut counters)?;
+    compare_between_edits::<1, 32, V, C>(rt, alloc, &line, &mut counters)?;
     let square = [LEAST, -2, -1, -1, 0, 0, 1, 2];
-    compare_between_edits::<2, V, C>(rt, alloc, &square, &mut counters)?;
+    compare_between_edits::<2, 32, V, C>(rt, alloc, &square, &mut counters)?;
     let cube = [-1, -1, -1, 0, 0, 0, 1, GREATEST];
-    compare_between_edits::<3, V, C>(rt, alloc, &cube, &mut counters)?;
+    compare_between_edits::<3, 32, V, C>(rt, alloc, &cube, &mut counters)?;
     let mostly_zero = [-1, 0, 0, 0, 0, 0, 0, 1];
-    compare_between_edits::<8, V, C>(rt, alloc, &mostly_zero, &mut counters)
+    compare_between_edits::<8, 32, V, C>(rt, alloc, &mostly_zero, &mut counters)?;
+    compare_between_edits::<9, 1, V, C>(rt, alloc, &BINARY, &mut counters)?;
+    compare_between_edits::<16, 62, V, C>(rt, alloc, &WIDEST, &mut counters)
 }
 
 #[test]

@@ -31,15 +31,15 @@ fn put_and_delete<V: Ledger, C: Ledger>(
     dels: &[usize],
     counters: &mut Counters<V, C>,
 ) -> Result<(), Fail> {
-    let mut pair: Pair<2> = Pair::new(alloc, puts.len() as u64);
+    let mut pair: Pair<2, 32> = Pair::new(rt, alloc, puts.len() as u64);
     for i in puts {
         let coords = points.get(*i).ok_or("no point")?;
-        pair.put(rt, point(rt, coords), *i as u64, counters)?;
+        pair.put(rt, point::<2, 32>(rt, coords), *i as u64, counters)?;
         pair.compare(rt, alloc, counters)?;
     }
     for i in dels {
         let coords = points.get(*i).ok_or("no point")?;
-        pair.del(rt, &point(rt, coords), counters)?;
+        pair.del(rt, &point::<2, 32>(rt, coords), counters)?;
         pair.compare(rt, alloc, counters)?;
     }
     assert!(rt; pair.tree.root().is_none());

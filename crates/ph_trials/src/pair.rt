@@ -36,42 +36,44 @@ impl<V: Ledger, C: Ledger> Counters<V, C> {
     }
 }
 
+// Of W bits a coordinate.
 #[derive(Drop)]
-pub(crate) struct Pair<const D: usize> {
+pub(crate) struct Pair<const D: usize, const W: u32> {
     pub tree: PhTree<D>,
     pub table: Table<D>,
-    ghost tree_width: { tree.width ≡ 32 },
-    ghost table_width: { table.width ≡ 32 },
+    ghost tree_width: { tree.width ≡ W },
+    ghost table_width: { table.width ≡ W },
 }
 
-// The point of these coordinates of 32 bits.
-pub(crate) fn point<const D: usize>(rt: &impl Abort, coords: &[i64]) -> Point<D>
-    ensures { IsPoint 32 D result }
+// The point of these coordinates of W bits.
+pub(crate) fn point<const D: usize, const W: u32>(rt: &impl Abort, coords: &[i64]) -> Point<D>
+    ensures { IsPoint W D result }
 {
-    let Some(p) = Point::from_slice(width(), coords) else {
+    let Some(p) = Point::from_slice(width::<W>(rt), coords) else {
         panic!(rt; "no point");
     };
     p
 }
 
-fn width() -> Width
-    ensures { result ≡ 32 }
+fn width<const W: u32>(rt: &impl Abort) -> Width
+    ensures { result ≡ W }
 {
-    match Width::new(32) {
-        Some(w) => w,
-        None => unreachable!(),
-    }
+    let Some(w) = Width::new(W) else {
+        panic!(rt; "no width");
+    };
+    w
 }
 
-impl<const D: usize> Pair<D> {
+impl<const D: usize, const W: u32> Pair<D, W> {
     // An empty tree of at most so many rows, and an empty table.
-    pub(crate) fn new(alloc: Global, max: u64) -> Pair<D>
+    pub(crate) fn new(rt: &impl Abort, alloc: Global, max: u64) -> Pair<D, W>
         requires some { 1 ≤ D }
         requires few { D ≤ 16 }
     {
+        let width = width::<W>(rt);
         Pair {
-            tree: PhTree::new(alloc, width(), max),
-            table: Table::new(alloc, width()),
+            tree: PhTree::new(alloc, width, max),
+            table: Table::new(alloc, width),
         }
     }
 
@@ -83,7 +85,7 @@ impl<const D: usize> Pair<D> {
         counters: &mut Counters<V, C>,
     ) -> Result<(), Fail>
         requires few { D ≤ 16 }
-        requires point { IsPoint 32 D p }
+        requires point { IsPoint W D p }
     {
         let is_full = self.table.rows().len() as u64 == self.tree.max();
         let is_refused = is_full && self.table.get(&p).is_none();
@@ -106,7 +108,7 @@ impl<const D: usize> Pair<D> {
         counters: &mut Counters<V, C>,
     ) -> Result<(), Fail>
         requires few { D ≤ 16 }
-        requires point { IsPoint 32 D p.now }
+        requires point { IsPoint W D p.now }
     {
         let answer = self
             .tree
@@ -124,8 +126,8 @@ impl<const D: usize> Pair<D> {
         counters: &mut Counters<V, C>,
     ) -> Result<(), Fail>
         requires few { D ≤ 16 }
-        requires from { IsPoint 32 D from.now }
-        requires to { IsPoint 32 D to.now }
+        requires from { IsPoint W D from.now }
+        requires to { IsPoint W D to.now }
     {
         let answer = self
             .tree
@@ -138,8 +140,8 @@ impl<const D: usize> Pair<D> {
     // Moves a row of the table.
     fn move_row(&mut self, from: &Point<D>, to: &Point<D>) -> Result<Moved, Fail>
         requires few { D ≤ 16 }
-        requires from { IsPoint 32 D from.now }
-        requires to { IsPoint 32 D to.now }
+        requires from { IsPoint W D from.now }
+        requires to { IsPoint W D to.now }
     {
         let Some(v) = self.table.get(from) else {
             return Ok(Moved::Absent);

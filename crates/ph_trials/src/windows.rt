@@ -4,7 +4,7 @@ ghost use Rattle.std.specs.Prelude.{◌≡◌, ◌<◌, ◌≤◌};
 ghost use Rattle.ph_specs.specs.Coordinate.{IsPoint};
 ghost use Rattle.ph_window.specs.Page.{IsLast};
 
-use crate::edits::{GREATEST, LEAST, draw, edit};
+use crate::edits::{BINARY, GREATEST, LEAST, WIDEST, draw, edit};
 use crate::pair::{Counters, Pair, point};
 use ph_coord::{Point, Row, z_before};
 use ph_window::{Cursor, Tail, Window};
@@ -24,14 +24,14 @@ const EDITS: u64 = 400;
 const CURSOR_EDITS: u64 = 16;
 
 // The corners of the least window with both points. In one dimension, if there is such a one, the bounds are reversed.
-pub(crate) fn corners<const D: usize>(
+pub(crate) fn corners<const D: usize, const W: u32>(
     rt: &impl Abort,
     a: &Point<D>,
     b: &Point<D>,
     reversed: usize,
 ) -> (Point<D>, Point<D>)
-    ensures lo { IsPoint 32 D result.0 }
-    ensures hi { IsPoint 32 D result.1 }
+    ensures lo { IsPoint W D result.0 }
+    ensures hi { IsPoint W D result.1 }
 {
     let mut lo = [0; D];
     let mut hi = [0; D];
@@ -46,21 +46,21 @@ pub(crate) fn corners<const D: usize>(
             hi[i] = greatest;
         }
     }
-    (point(rt, &lo), point(rt, &hi))
+    (point::<D, W>(rt, &lo), point::<D, W>(rt, &hi))
 }
 
 // Lists a window of the tree, which is to have these rows.
-pub(crate) fn list<const D: usize, V: Ledger, C: Ledger>(
+pub(crate) fn list<const D: usize, const W: u32, V: Ledger, C: Ledger>(
     rt: &impl Abort,
-    pair: &Pair<D>,
+    pair: &Pair<D, W>,
     lo: Point<D>,
     hi: Point<D>,
     rows: &[Row<D>],
     counters: &mut Counters<V, C>,
 )
     requires few { D ≤ 16 }
-    requires lo { IsPoint 32 D lo }
-    requires hi { IsPoint 32 D hi }
+    requires lo { IsPoint W D lo }
+    requires hi { IsPoint W D hi }
 {
     let mut window = Window::new(&pair.tree, lo, hi);
     for row in rows {
@@ -71,19 +71,19 @@ pub(crate) fn list<const D: usize, V: Ledger, C: Ledger>(
 }
 
 // Lists a page, which is to have the first of the rows that are left, and tells the last point behind it.
-fn page<const D: usize, V: Ledger, C: Ledger>(
+fn page<const D: usize, const W: u32, V: Ledger, C: Ledger>(
     rt: &impl Abort,
-    pair: &Pair<D>,
+    pair: &Pair<D, W>,
     cursor: &Cursor<D>,
     left: &[Row<D>],
     n: u32,
     counters: &mut Counters<V, C>,
 ) -> Option<Point<D>>
     requires few { D ≤ 16 }
-    requires lo { IsPoint 32 D cursor.now.lo }
-    requires hi { IsPoint 32 D cursor.now.hi }
-    requires last { IsLast 32 D cursor.now.last }
-    ensures { IsLast 32 D result }
+    requires lo { IsPoint W D cursor.now.lo }
+    requires hi { IsPoint W D cursor.now.hi }
+    requires last { IsLast W D cursor.now.last }
+    ensures { IsLast W D result }
 {
     let mut page = cursor.page(&pair.tree, n, &mut counters.visits);
     for row in left.iter().take(n as usize) {
@@ -94,15 +94,15 @@ fn page<const D: usize, V: Ledger, C: Ledger>(
     let is_more = page.tail(&mut counters.visits) == Tail::More;
     assert_eq!(rt; is_more, (n as usize) < left.len());
     match behind.last {
-        Some(last) => Some(point(rt, last.as_slice())),
+        Some(last) => Some(point::<D, W>(rt, last.as_slice())),
         None => None,
     }
 }
 
 // Lists a window of the tree by pages, which are to have these rows together.
-fn list_pages<const D: usize, V: Ledger, C: Ledger>(
+fn list_pages<const D: usize, const W: u32, V: Ledger, C: Ledger>(
     rt: &impl Abort,
-    pair: &Pair<D>,
+    pair: &Pair<D, W>,
     lo: Point<D>,
     hi: Point<D>,
     rows: &[Row<D>],
@@ -110,8 +110,8 @@ fn list_pages<const D: usize, V: Ledger, C: Ledger>(
     counters: &mut Counters<V, C>,
 )
     requires few { D ≤ 16 }
-    requires lo { IsPoint 32 D lo }
-    requires hi { IsPoint 32 D hi }
+    requires lo { IsPoint W D lo }
+    requires hi { IsPoint W D hi }
 {
     let mut left = rows;
     let mut last = None;
@@ -127,14 +127,14 @@ fn list_pages<const D: usize, V: Ledger, C: Ledger>(
 }
 
 // The rows of the table's window behind a point.
-fn rows_behind<const D: usize>(
+fn rows_behind<const D: usize, const W: u32>(
     rt: &impl Abort,
     alloc: Global,
-    pair: &Pair<D>,
+    pair: &Pair<D, W>,
     cursor: &Cursor<D>,
 ) -> Result<Vec<Row<D>>, Fail>
     requires few { D ≤ 16 }
-    requires last { IsLast 32 D cursor.now.last }
+    requires last { IsLast W D cursor.now.last }
 {
     let rows = pair.table.window(alloc, &cursor.lo, &cursor.hi)?;
     let Some(last) = cursor.last else {
@@ -142,7 +142,7 @@ fn rows_behind<const D: usize>(
     };
     let mut behind = Vec::new(alloc);
     for row in rows {
-        let p = point(rt, row.point.as_slice());
+        let p = point::<D, W>(rt, row.point.as_slice());
         if z_before(pair.table.width(), &last, &p) {
             behind.push(row)?;
         }
@@ -151,17 +151,17 @@ fn rows_behind<const D: usize>(
 }
 
 // Lists a window, at once and by pages of one, two and three rows.
-fn compare<const D: usize, V: Ledger, C: Ledger>(
+fn compare<const D: usize, const W: u32, V: Ledger, C: Ledger>(
     rt: &impl Abort,
     alloc: Global,
-    pair: &Pair<D>,
+    pair: &Pair<D, W>,
     lo: Point<D>,
     hi: Point<D>,
     counters: &mut Counters<V, C>,
 ) -> Result<(), Fail>
     requires few { D ≤ 16 }
-    requires lo { IsPoint 32 D lo }
-    requires hi { IsPoint 32 D hi }
+    requires lo { IsPoint W D lo }
+    requires hi { IsPoint W D hi }
 {
     let rows = pair.table.window(alloc, &lo, &hi)?;
     list(rt, pair, lo, hi, &rows, counters);
@@ -172,7 +172,7 @@ fn compare<const D: usize, V: Ledger, C: Ledger>(
 }
 
 // Compares windows and a page between edits.
-fn windows<const D: usize, V: Ledger, C: Ledger>(
+fn windows<const D: usize, const W: u32, V: Ledger, C: Ledger>(
     rt: &impl Abort,
     alloc: Global,
     choices: &[i64; 8],
@@ -182,15 +182,17 @@ fn windows<const D: usize, V: Ledger, C: Ledger>(
     requires few { D ≤ 16 }
 {
     let mut rng = Xoshiro256PlusPlus::seed_from_u64(SEED);
-    let mut pair: Pair<D> = Pair::new(alloc, u64::MAX);
-    let least = point(rt, &[LEAST; D]);
-    let greatest = point(rt, &[GREATEST; D]);
+    let mut pair: Pair<D, W> = Pair::new(rt, alloc, u64::MAX);
+    let width = pair.table.width();
+    let least = point::<D, W>(rt, &[width.least(); D]);
+    let greatest = point::<D, W>(rt, &[width.greatest(); D]);
     let mut last = None;
     for v in 0..EDITS {
         edit(rt, &mut pair, &mut rng, choices, v, counters)?;
-        let (a, b) = (draw(rt, &mut rng, choices), draw(rt, &mut rng, choices));
+        let a = draw::<D, W, Xoshiro256PlusPlus>(rt, &mut rng, choices);
+        let b = draw::<D, W, Xoshiro256PlusPlus>(rt, &mut rng, choices);
         for reversed in 0..=D {
-            let (lo, hi) = corners(rt, &a, &b, reversed);
+            let (lo, hi) = corners::<D, W>(rt, &a, &b, reversed);
             compare(rt, alloc, &pair, lo, hi, counters)?;
         }
         compare(rt, alloc, &pair, a, a, counters)?;
@@ -220,13 +222,15 @@ fn all_windows<V: Ledger, C: Ledger>(
 {
     let mut counters: Counters<V, C> = Counters::new(visits, changes);
     let line = [LEAST, LEAST + 1, -2, -1, 0, 1, 2, GREATEST];
-    windows::<1, V, C>(rt, alloc, &line, &mut counters)?;
+    windows::<1, 32, V, C>(rt, alloc, &line, &mut counters)?;
     let square = [LEAST, LEAST, -2, -1, 0, 0, 1, GREATEST];
-    windows::<2, V, C>(rt, alloc, &square, &mut counters)?;
+    windows::<2, 32, V, C>(rt, alloc, &square, &mut counters)?;
     let cube = [LEAST, -1, -1, 0, 0, 1, 1, GREATEST];
-    windows::<3, V, C>(rt, alloc, &cube, &mut counters)?;
+    windows::<3, 32, V, C>(rt, alloc, &cube, &mut counters)?;
     let mostly_zero = [LEAST, 0, 0, 0, 0, 0, 0, 1];
-    windows::<8, V, C>(rt, alloc, &mostly_zero, &mut counters)
+    windows::<8, 32, V, C>(rt, alloc, &mostly_zero, &mut counters)?;
+    windows::<2, 1, V, C>(rt, alloc, &BINARY, &mut counters)?;
+    windows::<9, 62, V, C>(rt, alloc, &WIDEST, &mut counters)
 }
 
 #[test]

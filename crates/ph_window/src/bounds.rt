@@ -2,7 +2,7 @@
 ghost use Rattle.std.specs.Prelude.{◌≡◌, ◌<◌, ◌≤◌, ◌&&◌, nat_le, true, false, length, take, map, replicate};
 ghost use Rattle.ph_specs.specs.Coordinate.{offset, IsPoint};
 ghost use Rattle.ph_specs.specs.EntryEdits.{what_at};
-ghost use Rattle.ph_specs.specs.Lawful.{HasZerosFrom, IsBody, put_together};
+ghost use Rattle.ph_specs.specs.Lawful.{HasZerosFrom, IsBody};
 ghost use Rattle.ph_specs.specs.Node.{entries};
 ghost use Rattle.ph_specs.specs.Window.{is_between as lies_between};
 ghost use Rattle.ph_specs.specs.Masks.{masks as the_masks};
@@ -13,7 +13,7 @@ ghost use Rattle.ph_node.specs.Between.{each_between};
 ghost use Rattle.ph_node.specs.Kinds.{is_node};
 ghost use Rattle.ph_node.specs.Shown.{shown};
 ghost use Rattle.ph_node.specs.Split.{body_at};
-ghost use Rattle.ph_node.specs.Spots.{IsSpot};
+ghost use Rattle.ph_node.specs.Spots.{IsSpot, joined_digits};
 ghost use Rattle.ph_path.specs.Known.{known_at, point_at};
 ghost use Rattle.ph_window.specs.Bounds.{bounds_at};
 ghost use Rattle.ph_window.specs.Resumed.{IsStand};
@@ -83,7 +83,9 @@ impl<P: Dims> BoundsOf<P> {
     // The masks of the window in a node at a level, below the digits that are known.
     pub(crate) fn masks(&self, level: u32) -> Option<(u32, u32)>
         requires { level < self.now.width }
-        ensures { result ≡ the_masks self.now.width (node_region self.now.width level (body_above level self.now.known)) (point_at self.now.width self.now.low) (point_at self.now.width self.now.high) }
+        ensures { result
+            ≡ the_masks self.now.width (node_region self.now.width level (body_above level self.now.known))
+            (point_at self.now.width self.now.low) (point_at self.now.width self.now.high) }
     {
         let dims = P::D;
         offset_masks(
@@ -99,7 +101,10 @@ impl<P: Dims> BoundsOf<P> {
         requires level { (shown node).level < self.now.width }
         requires spot { IsSpot (entries (shown node)) spot }
         ensures point { result ≡ true → is_node (what_at (entries (shown node.entry)) spot.place) ≡ false }
-        ensures outside { result ≡ true → lies_between (point_at self.now.width self.now.low) (point_at self.now.width self.now.high) (point_at self.now.width (put_together (shown node.entry).level spot.addr (body_above (shown node.entry).level self.now.known) (body_at (entries (shown node.entry)) spot.place))) ≡ false }
+        ensures outside { result ≡ true
+            → lies_between (point_at self.now.width self.now.low) (point_at self.now.width self.now.high)
+            (point_at self.now.width (joined_digits (shown node.entry) spot self.now.known))
+            ≡ false }
     {
         let known = self.known.digits();
         if known.len() <= FEW_DIMS || node.is_child(spot) {
@@ -113,7 +118,7 @@ impl<P: Dims> BoundsOf<P> {
     pub(crate) fn join(&mut self, node: NodeRefOf<'_, NodeOf<P>>, spot: Spot)
         requires level { (shown node).level < self.old.width }
         requires spot { IsSpot (entries (shown node)) spot }
-        ensures { self.new ≡ record self.old { known = put_together (shown node.entry).level spot.addr (body_above (shown node.entry).level self.old.known) (body_at (entries (shown node.entry)) spot.place) } }
+        ensures { self.new ≡ record self.old { known = joined_digits (shown node.entry) spot self.old.known } }
     {
         self.known.join(node, spot);
         // A use that makes known that the digits fit the width.
@@ -127,7 +132,7 @@ impl<P: Dims> BoundsOf<P> {
         requires low { low < (shown node).level }
         requires body { IsBody P.D (shown node).level (body_at (entries (shown node)) spot.place) }
         requires zeros { HasZerosFrom low (body_at (entries (shown node)) spot.place) }
-        ensures { self.new ≡ record self.old { known = put_together (shown node.entry).level spot.addr (body_above (shown node.entry).level self.old.known) (body_at (entries (shown node.entry)) spot.place) } }
+        ensures { self.new ≡ record self.old { known = joined_digits (shown node.entry) spot self.old.known } }
     {
         self.known.join_child(node, spot, low);
         // A use that makes known that the digits fit the width.

@@ -1,5 +1,5 @@
 //! Cursors, from which pages of a window begin.
-ghost use Rattle.std.specs.Prelude.{◌≡◌, ◌+◌, ◌≤◌, length};
+ghost use Rattle.std.specs.Prelude.{◌≡◌, ◌≢◌, ◌+◌, ◌<◌, ◌≤◌, None, [], length, IsSome};
 ghost use Rattle.ph_specs.specs.Coordinate.{IsPoint};
 ghost use Rattle.ph_specs.specs.Window.{rest};
 ghost use Rattle.ph_specs.specs.WorkSets.{meets};
@@ -47,6 +47,8 @@ impl<const D: usize> Cursor<D> {
         ensures cursor { result.cursor ≡ self.now }
         ensures visits { result.visits ≤ length (meets tree.now.width D tree.now.table self.now.lo self.now.hi) }
         ensures cost { visits.new ≤ visits.old + tree.now.width }
+        ensures first { self.now.last ≡ None → visits.new ≡ visits.old }
+        ensures resumed { IsSome self.now.last → tree.now.table ≢ [] → visits.old < visits.new }
         ensures grows { visits.old ≤ visits.new }
     {
         PageOf::new(self.window(tree, visits), *self, n)
@@ -60,6 +62,8 @@ impl<const D: usize> Cursor<D> {
         ensures rows { result.rows ≡ rest tree.now.width self.now tree.now.table }
         ensures visits { result.visits ≤ length (meets tree.now.width D tree.now.table self.now.lo self.now.hi) }
         ensures cost { visits.new ≤ visits.old + tree.now.width }
+        ensures first { self.now.last ≡ None → visits.new ≡ visits.old }
+        ensures resumed { IsSome self.now.last → tree.now.table ≢ [] → visits.old < visits.new }
         ensures grows { visits.old ≤ visits.new }
     {
         match self.last {

@@ -23,7 +23,12 @@ pub(crate) fn enter<'t, P: Dims>(
 )
     requires room { length path.old < 62 }
     requires level { (shown node).level < bounds.now.width }
-    ensures { IsEntered (the_masks bounds.now.width (node_region bounds.now.width (shown node.entry).level (body_above (shown node.entry).level bounds.now.known)) (point_at bounds.now.width bounds.now.low) (point_at bounds.now.width bounds.now.high)) node.entry path.old path.new }
+    ensures { IsEntered
+        (the_masks bounds.now.width
+        (node_region bounds.now.width (shown node.entry).level
+        (body_above (shown node.entry).level bounds.now.known))
+        (point_at bounds.now.width bounds.now.low) (point_at bounds.now.width bounds.now.high)) node.entry
+        path.old path.new }
 {
     if let Some((lower, upper)) = bounds.masks(node.level()) {
         path.push(FrameOf {

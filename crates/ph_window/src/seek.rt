@@ -28,7 +28,12 @@ pub(crate) fn seek<P: Dims>(frame: FrameOf<'_, NodeOf<P>, Masks>) -> Option<Spot
     requires masks { bit_and frame.note.lower frame.note.upper ≡ frame.note.lower }
     requires upper { frame.note.upper < 2 ^ P.D }
     requires lawful { IsLawfulFrom P.D (shown frame.node).level 0 (shown frame.node).chain }
-    ensures found { MatchOption result (AreShut frame.entry.note.lower frame.entry.note.upper (entries (shown frame.entry.node)) frame.entry.place (length (entries (shown frame.entry.node)))) (λ s. IsNextEntry frame.entry.note.lower frame.entry.note.upper (entries (shown frame.entry.node)) frame.entry.place s.place) }
+    ensures found { MatchOption result
+        (AreShut frame.entry.note.lower frame.entry.note.upper (entries (shown frame.entry.node))
+        frame.entry.place (length (entries (shown frame.entry.node))))
+        (λ s.
+        IsNextEntry frame.entry.note.lower frame.entry.note.upper (entries (shown frame.entry.node))
+        frame.entry.place s.place) }
     ensures spot { IfSome result (λ s. IsSpot (entries (shown frame.entry.node)) s) }
     ensures room { IfSome result (λ s. s.place + 1 < 2 ^ 64) }
 {
@@ -41,7 +46,12 @@ pub(crate) fn seek<P: Dims>(frame: FrameOf<'_, NodeOf<P>, Masks>) -> Option<Spot
 // The frame's place, or a later one before which no address has the digits of the lower mask.
 fn first_place<P: Dims>(frame: FrameOf<'_, NodeOf<P>, Masks>) -> Option<usize>
     requires { frame.note.lower < 2 ^ P.D }
-    ensures { MatchOption result (AreShut frame.entry.note.lower frame.entry.note.upper (entries (shown frame.entry.node)) frame.entry.place (length (entries (shown frame.entry.node)))) (λ i. IsPassed frame.entry.note.lower frame.entry.note.upper (entries (shown frame.entry.node)) frame.entry.place i) }
+    ensures { MatchOption result
+        (AreShut frame.entry.note.lower frame.entry.note.upper (entries (shown frame.entry.node))
+        frame.entry.place (length (entries (shown frame.entry.node))))
+        (λ i.
+        IsPassed frame.entry.note.lower frame.entry.note.upper (entries (shown frame.entry.node))
+        frame.entry.place i) }
 {
     if frame.place > 0 {
         return Some(frame.place);
@@ -58,7 +68,12 @@ fn seek_from<P: Dims>(frame: FrameOf<'_, NodeOf<P>, Masks>, mut place: usize) ->
     requires upper { frame.note.upper < 2 ^ P.D }
     requires lawful { IsLawfulFrom P.D (shown frame.node).level 0 (shown frame.node).chain }
     requires passed { IsPassed frame.note.lower frame.note.upper (entries (shown frame.node)) frame.place place }
-    ensures found { MatchOption result (AreShut frame.entry.note.lower frame.entry.note.upper (entries (shown frame.entry.node)) frame.entry.place (length (entries (shown frame.entry.node)))) (λ s. IsNextEntry frame.entry.note.lower frame.entry.note.upper (entries (shown frame.entry.node)) frame.entry.place s.place) }
+    ensures found { MatchOption result
+        (AreShut frame.entry.note.lower frame.entry.note.upper (entries (shown frame.entry.node))
+        frame.entry.place (length (entries (shown frame.entry.node))))
+        (λ s.
+        IsNextEntry frame.entry.note.lower frame.entry.note.upper (entries (shown frame.entry.node))
+        frame.entry.place s.place) }
     ensures spot { IfSome result (λ s. IsSpot (entries (shown frame.entry.node)) s) }
     ensures room { IfSome result (λ s. s.place + 1 < 2 ^ 64) }
 {

@@ -1,5 +1,5 @@
 //! A walk over the rows of a window: node by node, in the order of the addresses.
-ghost use Rattle.std.specs.Prelude.{◌≡◌, ◌+◌, ◌≤◌, length};
+ghost use Rattle.std.specs.Prelude.{◌≡◌, ◌+◌, ◌<◌, ◌≤◌, length, IsSome};
 ghost use Rattle.std.specs.Option.{option_copied};
 ghost use Rattle.ph_specs.specs.Coordinate.{IsPoint};
 ghost use Rattle.ph_specs.specs.Lawful.{IsLawful, rows};
@@ -96,6 +96,7 @@ impl<'t, P: Dims> WalkOf<'t, P> {
         ensures rest { result.rest ≡ the_rest w (behind lo.now hi.now last.now) (rows w P.D (option_copied root.entry)) }
         ensures visits { result.visits ≤ length (opened w P.D lo.now hi.now (option_copied root.entry)) }
         ensures cost { visits.new ≤ visits.old + w }
+        ensures counted { IsSome root.entry → visits.old < visits.new }
         ensures grows { visits.old ≤ visits.new }
     {
         let _bits = w.bits();

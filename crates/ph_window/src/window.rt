@@ -1,5 +1,5 @@
 //! The rows of a window, one after the other.
-ghost use Rattle.std.specs.Prelude.{◌≡◌, ◌+◌, ◌≤◌, length, drop, slice_get, None};
+ghost use Rattle.std.specs.Prelude.{◌≡◌, ◌≢◌, ◌+◌, ◌<◌, ◌≤◌, [], length, drop, slice_get, None};
 ghost use Rattle.ph_specs.specs.Coordinate.{IsPoint};
 ghost use Rattle.ph_specs.specs.Window.{window, rest};
 ghost use Rattle.ph_window.specs.Window.{behind};
@@ -60,6 +60,7 @@ impl<'t, const D: usize> WindowOf<'t, Dim<D>> {
         ensures rows { result.rows ≡ rest tree.now.width (behind lo.entry hi.entry last.entry) tree.now.table }
         ensures visits { result.visits ≤ length (meets tree.now.width D tree.now.table lo.entry hi.entry) }
         ensures cost { visits.new ≤ visits.old + tree.now.width }
+        ensures counted { tree.now.table ≢ [] → visits.old < visits.new }
         ensures grows { visits.old ≤ visits.new }
     {
         let w = tree.width();

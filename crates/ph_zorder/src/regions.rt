@@ -1,8 +1,9 @@
 //! Regions, and the masks by which a window tells their parts apart.
-ghost use Rattle.std.specs.Prelude.{◌≡◌, ◌+◌, ◌-◌, ◌<◌, ◌≤◌, ◌^◌, ◌&&◌, nat_le, length, if◌then◌else◌};
+ghost use Rattle.std.specs.Prelude.{◌≡◌, ◌↔◌, ◌+◌, ◌-◌, ◌<◌, ◌≤◌, ◌^◌, ◌&&◌, ℕ, ℤ, List, true, None, nat_le, length, IfSome, if◌then◌else◌};
 ghost use Rattle.std.specs.List.{AllByRecursion as Each};
 ghost use Rattle.ph_specs.specs.Coordinate.{IsPoint};
-ghost use Rattle.ph_specs.specs.Masks.{masks as the_masks};
+ghost use Rattle.ph_specs.specs.Masks.{fits_some, masks as the_masks, InPart};
+ghost use Rattle.ph_specs.specs.Region.{InBoth};
 ghost use Rattle.ph_zorder.specs.Sides.{side_masks};
 
 use ph_coord::{Point, Width};
@@ -41,7 +42,10 @@ pub fn masks<const D: usize>(
     requires level { r.now.level < w }
     requires lo { IsPoint w D lo.now }
     requires hi { IsPoint w D hi.now }
-    ensures { result ≡ the_masks w r.now lo.now hi.now }
+    ensures value { result ≡ the_masks w r.now lo.now hi.now }
+    ensures part { (h : ℕ) → h < 2 ^ D → fits_some result h ≡ true ↔ ((p : List ℤ) × InPart w D r.now h lo.now hi.now p) }
+    ensures none { result ≡ None ↔ ((p : List ℤ) → InBoth w D r.now lo.now hi.now p → ⊥) }
+    ensures small { IfSome result (λ m. (m.0 < 2 ^ D) × (m.1 < 2 ^ D)) }
 {
     let _bits = w.bits();
     offset_masks(

@@ -70,8 +70,8 @@ fn slots_beside_each_other(rt: HostRuntime) -> Result<(), Fail> {
 
 #[test]
 fn refused_dimensions_and_kinds(rt: HostRuntime) -> Result<(), Fail> {
-    let script = "open points 9\nopen boxes 5\noverlap 1 2\nopen boxes 1\nnear 0 0 3\n\
-        open points 8\ncount\n";
+    let script = "open points 17\nopen boxes 9\noverlap 1 2\nopen boxes 1\nnear 0 0 3\n\
+        open points 16\ncount\n";
     let output = "error dims\nerror dims\nerror kind\nopened\nerror kind\nopened\ncount 0\n";
     check(&rt, rt.alloc(), &run(script, output, Status::Refused))?;
     Ok(())
@@ -80,7 +80,7 @@ fn refused_dimensions_and_kinds(rt: HostRuntime) -> Result<(), Fail> {
 // Each line has several faults, and the first in the order of the refusals is told.
 #[test]
 fn refused_boxes(rt: HostRuntime) -> Result<(), Fail> {
-    let script = "overlap 9999999999 1\nopen boxes 5\nopen boxes 0\nopen boxes 1 max 1\n\
+    let script = "overlap 9999999999 1\nopen boxes 9\nopen boxes 0\nopen boxes 1 max 1\n\
         put 9999999999 1 1\nput 5 1 1\nget 5 1\ndel 5 1\nmove 1 5 5 1\n\
         move 5 1 9999999999 5\noverlap 5 1\ninside 1 9999999999\ncovers 1 0\n\
         window 5 1 1 5\ncursor c 5 1 1 5\npage d 1\nput 1 5 1\nput 2 1 1\nput 2 3 1\n\

@@ -1,11 +1,14 @@
 //! Checks of files, by the words of the program.
-use super::files::{ONE, REVERSED, TWO, altered, files_failing, preset};
+use super::files::{
+    BINARY, EIGHT_BY_EIGHT, ONE, REVERSED, SIXTEEN, TWO, WIDEST, altered, files_failing, migrated,
+    preset,
+};
 use super::{Case, check_over, run};
 use ph_engine::Status;
 use std::test::Fail;
 
 // A check in place of a run.
-fn check_of<'a>(words: &'a str, output: &'a str, status: Status) -> Case<'a> {
+pub(super) fn check_of<'a>(words: &'a str, output: &'a str, status: Status) -> Case<'a> {
     let mut case = run("", output, status);
     case.words = words;
     case
@@ -16,36 +19,60 @@ fn check_of_snapshots(rt: HostRuntime) -> Result<(), Fail> {
     let boxes = altered(rt.alloc(), TWO, 4, 1)?;
     let mut cut = Vec::from_slice(rt.alloc(), ONE)?;
     cut.truncate(39);
-    let cases = [
+    let second = migrated(rt.alloc(), TWO)?;
+    let cases: [(&[u8], &str, Status); 11] = [
         (
-            "check one.pht",
+            ONE,
             "points 2 rows 1 nodes 1 linear 1 cube 0 words 4\n",
             Status::Clean,
         ),
         (
-            "check boxes.pht",
+            &boxes,
             "boxes 1 rows 2 nodes 2 linear 2 cube 0 words 7\n",
             Status::Clean,
         ),
-        ("check rev.pht", "bad node 8\n", Status::Refused),
-        ("check cut.pht", "bad short 8\n", Status::Refused),
-        ("check none.pht", "bad magic\n", Status::Refused),
-        ("check gone.pht", "error file\n", Status::Refused),
+        (
+            &second,
+            "points 2 rows 2 nodes 2 linear 2 cube 0 words 7\n",
+            Status::Clean,
+        ),
+        (
+            BINARY,
+            "points 1 rows 2 nodes 1 linear 1 cube 0 words 4\n",
+            Status::Clean,
+        ),
+        (
+            SIXTEEN,
+            "points 16 rows 2 nodes 1 linear 1 cube 0 words 4\n",
+            Status::Clean,
+        ),
+        (
+            WIDEST,
+            "points 1 rows 1 nodes 1 linear 1 cube 0 words 3\n",
+            Status::Clean,
+        ),
+        (
+            EIGHT_BY_EIGHT,
+            "boxes 8 rows 1 nodes 1 linear 1 cube 0 words 3\n",
+            Status::Clean,
+        ),
+        (
+            b"PHT2\x00\x10\x3e\x00",
+            "points 16 rows 0 nodes 0 linear 0 cube 0 words 0\n",
+            Status::Clean,
+        ),
+        (REVERSED, "bad node 8\n", Status::Refused),
+        (&cut, "bad short 8\n", Status::Refused),
+        (b"", "bad magic\n", Status::Refused),
     ];
-    for (words, output, status) in cases {
+    for (bytes, output, status) in cases {
         let mut files = files_failing(rt.alloc(), 0)?;
-        preset(&rt, &mut files, "one.pht", ONE);
-        preset(&rt, &mut files, "boxes.pht", boxes.as_slice());
-        preset(&rt, &mut files, "rev.pht", REVERSED);
-        preset(&rt, &mut files, "cut.pht", cut.as_slice());
-        preset(&rt, &mut files, "none.pht", b"");
-        check_over(
-            &rt,
-            rt.alloc(),
-            &check_of(words, output, status),
-            &mut files,
-        )?;
+        preset(&rt, &mut files, "x.pht", bytes);
+        let case = check_of("check x.pht", output, status);
+        check_over(&rt, rt.alloc(), &case, &mut files)?;
     }
+    let case = check_of("check gone.pht", "error file\n", Status::Refused);
+    check_over(&rt, rt.alloc(), &case, &mut files_failing(rt.alloc(), 0)?)?;
     Ok(())
 }
 

@@ -1,4 +1,5 @@
 //! Scripts that save tables to files, and load them.
+use super::checks::check_of;
 use super::{check_over, run};
 use ph_engine::Status;
 use ph_io::MemoryFiles;
@@ -6,10 +7,13 @@ use std::alloc::{AllocError, Global};
 use std::process::Abort;
 use std::test::Fail;
 
-// A table of points of two dimensions without rows.
-const EMPTY: &[u8] = b"PHT1\x00\x02\x00\x00";
+// A table of points of two dimensions without rows, as it is saved.
+const EMPTY: &[u8] = b"PHT2\x00\x02\x20\x00";
 
-// The row (3, 4) with 17.
+// The header of what is saved of other such tables.
+const HEADER: &[u8] = b"PHT2\x00\x02\x20\x01";
+
+// Of version 1, as are those below: the row (3, 4) with 17.
 pub(super) const ONE: &[u8] = b"PHT1\x00\x02\x01\x00\
     \x1f\x00\x00\x00\x01\x00\x00\x00\
     \x60\x00\x00\x00\xc0\x00\x00\x02\
@@ -44,6 +48,32 @@ pub(super) const REVERSED: &[u8] = b"PHT1\x01\x02\x01\x00\
     \x80\x00\x00\x00\x00\x00\x00\x00\
     \x00\x00\x00\x00\x00\x00\x00\x01";
 
+// Of version 2: in 62 bits, -1 with 7.
+pub(super) const WIDEST: &[u8] = b"PHT2\x00\x01\x3e\x01\
+    \x3d\x00\x00\x00\x01\x00\x00\x00\
+    \x3f\xff\xff\xff\xff\xff\xff\xfe\
+    \x00\x00\x00\x00\x00\x00\x00\x07";
+
+// In one bit, 0 with 5 and -1 with 6.
+pub(super) const BINARY: &[u8] = b"PHT2\x00\x01\x01\x01\
+    \x00\x00\x00\x00\x02\x00\x00\x00\
+    \x10\x00\x00\x00\x00\x00\x00\x00\
+    \x00\x00\x00\x00\x00\x00\x00\x06\
+    \x00\x00\x00\x00\x00\x00\x00\x05";
+
+// The same in each of sixteen dimensions.
+pub(super) const SIXTEEN: &[u8] = b"PHT2\x00\x10\x01\x01\
+    \x00\x00\x00\x00\x02\x00\x00\x00\
+    \x00\x00\x3f\xff\xc0\x00\x00\x00\
+    \x00\x00\x00\x00\x00\x00\x00\x06\
+    \x00\x00\x00\x00\x00\x00\x00\x05";
+
+// A box of eight dimensions, from -1 to 0 in each of them, with 7.
+pub(super) const EIGHT_BY_EIGHT: &[u8] = b"PHT2\x01\x10\x01\x01\
+    \x00\x00\x00\x00\x01\x00\x00\x00\
+    \x00\x7f\x80\x00\x00\x00\x00\x00\
+    \x00\x00\x00\x00\x00\x00\x00\x07";
+
 // The same bytes but for one.
 pub(super) fn altered(
     alloc: Global,
@@ -60,6 +90,15 @@ pub(super) fn altered(
     Ok(altered)
 }
 
+// The same records behind the header of version 2.
+pub(super) fn migrated(alloc: Global, first: &[u8]) -> Result<Vec<u8>, AllocError> {
+    let mut second = Vec::from_slice(alloc, HEADER)?;
+    for byte in first.iter().skip(8) {
+        second.push(*byte)?;
+    }
+    Ok(second)
+}
+
 // Room for a few files, of whose calls one fails; none where its number is 0.
 pub(super) fn files_failing(alloc: Global, call: u64) -> Result<MemoryFiles, AllocError> {
     MemoryFiles::new(alloc, 6, 4096, vec![in alloc; call]?)
@@ -74,10 +113,97 @@ pub(super) fn preset(rt: &impl Abort, files: &mut MemoryFiles, name: &str, bytes
 fn saved_empty_and_one(rt: HostRuntime) -> Result<(), Fail> {
     let script = "save e.pht\nput 3 4 17\nsave one.pht\n";
     let case = run(script, "saved 8\nnew\nsaved 40\n", Status::Clean);
+    let one = migrated(rt.alloc(), ONE)?;
     let mut files = files_failing(rt.alloc(), 0)?;
     check_over(&rt, rt.alloc(), &case, &mut files)?;
     assert_eq!(rt; files.get("e.pht"), Some(EMPTY));
-    assert_eq!(rt; files.get("one.pht"), Some(ONE));
+    assert_eq!(rt; files.get("one.pht"), Some(one.as_slice()));
+    Ok(())
+}
+
+// The header names the kind, the dimensions and the width.
+#[test]
+fn saved_in_version_two(rt: HostRuntime) -> Result<(), Fail> {
+    let cases: [(&str, &str, &[u8]); 5] = [
+        (
+            "put 3 4 17\nsave x.pht\n",
+            "new\nsaved 40\n",
+            b"PHT2\x00\x02\x20\x01\
+            \x1f\x00\x00\x00\x01\x00\x00\x00\
+            \x60\x00\x00\x00\xc0\x00\x00\x02\
+            \x00\x00\x00\x00\x00\x00\x00\x00\
+            \x00\x00\x00\x00\x00\x00\x00\x11",
+        ),
+        (
+            "open boxes 8 bits 62\nsave x.pht\n",
+            "opened\nsaved 8\n",
+            b"PHT2\x01\x10\x3e\x00",
+        ),
+        (
+            "open points 1 bits 62\nput -1 7\nsave x.pht\n",
+            "opened\nnew\nsaved 32\n",
+            WIDEST,
+        ),
+        (
+            "open points 16 bits 1\nput 0 0 0 0 0 0 0 0 0 0 0 0 0 0 0 0 5\n\
+            put -1 -1 -1 -1 -1 -1 -1 -1 -1 -1 -1 -1 -1 -1 -1 -1 6\nsave x.pht\n",
+            "opened\nnew\nnew\nsaved 40\n",
+            SIXTEEN,
+        ),
+        (
+            "open boxes 8 bits 1\nput -1 -1 -1 -1 -1 -1 -1 -1 0 0 0 0 0 0 0 0 7\nsave x.pht\n",
+            "opened\nnew\nsaved 32\n",
+            EIGHT_BY_EIGHT,
+        ),
+    ];
+    for (script, output, bytes) in cases {
+        let mut files = files_failing(rt.alloc(), 0)?;
+        let case = run(script, output, Status::Clean);
+        check_over(&rt, rt.alloc(), &case, &mut files)?;
+        assert_eq!(rt; files.get("x.pht"), Some(bytes));
+    }
+    Ok(())
+}
+
+// A file of version 1 is loaded and saved, and that one is loaded.
+#[test]
+fn migrated_snapshot(rt: HostRuntime) -> Result<(), Fail> {
+    let second = migrated(rt.alloc(), TWO)?;
+    let mut files = files_failing(rt.alloc(), 0)?;
+    preset(&rt, &mut files, "two.pht", TWO);
+    let script = "load two.pht\nsave two2.pht\nload two2.pht\n";
+    let case = run(script, "loaded 2\nsaved 64\nloaded 2\n", Status::Clean);
+    check_over(&rt, rt.alloc(), &case, &mut files)?;
+    assert_eq!(rt; files.get("two2.pht"), Some(second.as_slice()));
+    Ok(())
+}
+
+// What a load and what a check say of two rows with one byte of the header changed. A check asks for no kind, dimensions or width.
+#[test]
+fn altered_headers(rt: HostRuntime) -> Result<(), Fail> {
+    let second = migrated(rt.alloc(), TWO)?;
+    let cases = [
+        (TWO, 3, 0x32, "bad dims\n", "bad extra 8\n"),
+        (TWO, 3, 0x33, "bad magic\n", "bad magic\n"),
+        (TWO, 6, 0x20, "bad header 6\n", "bad header 6\n"),
+        (&second, 3, 0x31, "bad header 6\n", "bad header 6\n"),
+        (&second, 5, 0x11, "bad header 5\n", "bad header 5\n"),
+        (&second, 5, 0x10, "bad dims\n", "bad short 8\n"),
+        (&second, 6, 0x00, "bad header 6\n", "bad header 6\n"),
+        (&second, 6, 0x3f, "bad header 6\n", "bad header 6\n"),
+        (&second, 6, 0x1f, "bad dims\n", "bad node 8\n"),
+        (&second, 7, 0x02, "bad header 7\n", "bad header 7\n"),
+        (&second, 7, 0x00, "bad extra 8\n", "bad extra 8\n"),
+    ];
+    for (bytes, at, byte, loaded, checked) in cases {
+        let changed = altered(rt.alloc(), bytes, at, byte)?;
+        let mut files = files_failing(rt.alloc(), 0)?;
+        preset(&rt, &mut files, "x.pht", changed.as_slice());
+        let case = run("load x.pht\n", loaded, Status::Refused);
+        check_over(&rt, rt.alloc(), &case, &mut files)?;
+        let case = check_of("check x.pht", checked, Status::Refused);
+        check_over(&rt, rt.alloc(), &case, &mut files)?;
+    }
     Ok(())
 }
 
@@ -179,7 +305,8 @@ fn snapshots_through_edits(rt: HostRuntime) -> Result<(), Fail> {
     preset(&rt, &mut files, "two.pht", TWO);
     let case = run(script, output, Status::Clean);
     check_over(&rt, rt.alloc(), &case, &mut files)?;
-    assert_eq!(rt; files.get("three.pht"), Some(THREE));
-    assert_eq!(rt; files.get("two2.pht"), Some(TWO));
+    let (two, three) = (migrated(rt.alloc(), TWO)?, migrated(rt.alloc(), THREE)?);
+    assert_eq!(rt; files.get("three.pht"), Some(three.as_slice()));
+    assert_eq!(rt; files.get("two2.pht"), Some(two.as_slice()));
     Ok(())
 }

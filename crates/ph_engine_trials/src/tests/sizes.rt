@@ -1,6 +1,10 @@
 //! Scripts about the sizes of a tree.
-use super::{check, run};
+ghost use Rattle.std.specs.Prelude.{◌≤◌};
+
+use super::files::preset;
+use super::{check, check_over, run};
 use ph_engine::Status;
+use ph_io::MemoryFiles;
 use std::alloc::AllocError;
 use std::test::Fail;
 
@@ -38,7 +42,9 @@ fn crowded_cube(rt: HostRuntime) -> Result<(), Fail> {
     let mut script = String::from_str(rt.alloc(), "open points 8\n")?;
     let mut output = String::from_str(rt.alloc(), "opened\n")?;
     for corner in 0..256 {
-        push_put(&mut script, corner)?;
+        script.push_str("put ")?;
+        push_corner(&mut script, corner, 8, ' ')?;
+        script.push_str("1\n")?;
         output.push_str("new\n")?;
     }
     script.push_str("stats\n")?;
@@ -49,11 +55,36 @@ fn crowded_cube(rt: HostRuntime) -> Result<(), Fail> {
     Ok(())
 }
 
-// A put at the point whose coordinates are eight binary digits.
-fn push_put(script: &mut String, digits: u32) -> Result<(), AllocError> {
-    script.push_str("put")?;
-    for place in 0..8u32 {
-        script.push_str(if digits >> place & 1 == 1 { " 1" } else { " 0" })?;
+// The least node of sixteen dimensions that is smaller as a cube.
+#[test]
+fn crowded_cube_of_sixteen_dimensions(rt: HostRuntime) -> Result<(), Fail> {
+    let mut records = String::new(rt.alloc());
+    for corner in 0..7710 {
+        push_corner(&mut records, corner, 16, ',')?;
+        records.push_str("1\n")?;
     }
-    script.push_str(" 1\n")
+    let script = "open points 16 bits 62\nimport corners.csv\nstats\n\
+        put 0 0 0 1 1 1 1 0 0 0 0 1 1 1 1 0 1\nstats\nsave cube.pht\n\
+        del 0 0 0 1 1 1 1 0 0 0 0 1 1 1 1 0\nstats\nload cube.pht\nstats\n";
+    let output = "opened\nimported 7710\nrows 7710 nodes 2 linear 2 cube 0 words 9776\n\
+        new\nrows 7711 nodes 2 linear 1 cube 1 words 9777\nsaved 78224\n\
+        gone 1\nrows 7710 nodes 2 linear 2 cube 0 words 9776\n\
+        loaded 7711\nrows 7711 nodes 2 linear 1 cube 1 words 9777\n";
+    let mut files = MemoryFiles::new(rt.alloc(), 2, 300_000, Vec::new(rt.alloc()))?;
+    preset(&rt, &mut files, "corners.csv", records.as_bytes());
+    let mut case = run(script, output, Status::Clean);
+    case.file_bytes = 300_000;
+    check_over(&rt, rt.alloc(), &case, &mut files)?;
+    Ok(())
+}
+
+// So many binary digits of a number, each with a mark behind it.
+fn push_corner(text: &mut String, corner: u32, dims: u32, mark: char) -> Result<(), AllocError>
+    requires { dims ≤ 32 }
+{
+    for place in (0..dims).rev() {
+        text.push(if corner >> place & 1 == 1 { '1' } else { '0' })?;
+        text.push(mark)?;
+    }
+    Ok(())
 }

@@ -82,17 +82,44 @@ fn read_commands_on_tables(rt: HostRuntime) -> Result<(), Fail> {
     let cases = [
         (
             b"open points 9".as_slice(),
-            "Begin { kind: Points, k: 9, max: 18446744073709551615 }",
-        ),
-        (
-            b"open points 4294967295 max 5",
-            "Begin { kind: Points, k: 4294967295, max: 5 }",
+            "Begin { kind: Points, k: 9, width: 32, max: 18446744073709551615 }",
         ),
         (
             b"open boxes 0",
-            "Begin { kind: Boxes, k: 0, max: 18446744073709551615 }",
+            "Begin { kind: Boxes, k: 0, width: 32, max: 18446744073709551615 }",
         ),
-        (b"open boxes 4 max 0", "Begin { kind: Boxes, k: 4, max: 0 }"),
+        (
+            b"open points 4294967295 max 5",
+            "Begin { kind: Points, k: 4294967295, width: 32, max: 5 }",
+        ),
+        (
+            b"open boxes 4 max 0",
+            "Begin { kind: Boxes, k: 4, width: 32, max: 0 }",
+        ),
+        (
+            b"open points 2 max 18446744073709551615",
+            "Begin { kind: Points, k: 2, width: 32, max: 18446744073709551615 }",
+        ),
+        (
+            b"open points 2 bits 63",
+            "Begin { kind: Points, k: 2, width: 63, max: 18446744073709551615 }",
+        ),
+        (
+            b"open boxes 8 bits 0",
+            "Begin { kind: Boxes, k: 8, width: 0, max: 18446744073709551615 }",
+        ),
+        (
+            b"open points 16 bits 4294967295",
+            "Begin { kind: Points, k: 16, width: 4294967295, max: 18446744073709551615 }",
+        ),
+        (
+            b"open points 2 bits 8 max 1",
+            "Begin { kind: Points, k: 2, width: 8, max: 1 }",
+        ),
+        (
+            b"open boxes 1 bits 4294967295 max 18446744073709551615",
+            "Begin { kind: Boxes, k: 1, width: 4294967295, max: 18446744073709551615 }",
+        ),
         (b"save a/b.pht!~", "Save { file: \"a/b.pht!~\" }"),
         (b" load\ttable ", "Load { file: \"table\" }"),
         (

@@ -46,6 +46,55 @@ fn refused_words(rt: HostRuntime) -> Result<(), Fail> {
     Ok(())
 }
 
+// The fourth word is a width where the third is `bits` or where six follow, and else a number of rows.
+#[test]
+fn refused_widths(rt: HostRuntime) -> Result<(), Fail> {
+    let cases = [
+        (b"open points".as_slice(), Bad::Count),
+        (b"open points 2 bits", Bad::Count),
+        (b"open points 2 max", Bad::Count),
+        (b"open points 2 bits 8 max", Bad::Count),
+        (b"open points 2 bits 8 max 1 1", Bad::Count),
+        (b"open lines x bits 8 fit", Bad::Count),
+        (b"open points x bits 8", Bad::Number),
+        (b"open points 2 bits x", Bad::Number),
+        (b"open points 2 bits -1", Bad::Number),
+        (b"open points 2 bits 4294967296", Bad::Number),
+        (b"open lines 2 bits 4294967296", Bad::Number),
+        (b"open points 2 max 18446744073709551616", Bad::Number),
+        (b"open points 2 fit 18446744073709551616", Bad::Number),
+        (b"open points 2 fit x", Bad::Number),
+        (b"open points 2 bits 4294967296 max 1", Bad::Number),
+        (b"open points 2 max 4294967296 bits 1", Bad::Number),
+        (b"open points 2 fit 8 max 18446744073709551616", Bad::Number),
+        (b"open lines 2 bits 8 max x", Bad::Number),
+    ];
+    for (line, bad) in cases {
+        let mut coords = CoordBuffer::new();
+        assert!(rt; matches!(read_command(line, 2, &mut coords), Err(fault) if fault == bad));
+    }
+    Ok(())
+}
+
+#[test]
+fn refused_words_behind_open(rt: HostRuntime) -> Result<(), Fail> {
+    for line in [
+        b"open lines 2 bits 8".as_slice(),
+        b"open points 2 fit 8",
+        b"open points 2 fit 4294967296",
+        b"open points 2 Bits 8",
+        b"open points 2 max 1 bits 8",
+        b"open points 2 bits 8 fit 1",
+        b"open points 2 fit 8 max 1",
+        b"open points 2 bits 8 bits 8",
+        b"open lines 2 bits 8 max 1",
+    ] {
+        let mut coords = CoordBuffer::new();
+        assert!(rt; matches!(read_command(line, 2, &mut coords), Err(Bad::Name)));
+    }
+    Ok(())
+}
+
 #[test]
 fn refused_names(rt: HostRuntime) -> Result<(), Fail> {
     let cases = [

@@ -32,8 +32,8 @@ impl Digits<'_> {
     }
 
     /// The next numbers, and zeros behind them.
-    pub(crate) fn numbers(&mut self, len: u8, count: u8) -> [u64; 8] {
-        let mut numbers = [0; 8];
+    pub(crate) fn numbers(&mut self, len: u8, count: u8) -> [u64; 16] {
+        let mut numbers = [0; 16];
         for number in numbers.iter_mut().take(usize::from(len)) {
             *number = self.number(count);
         }

@@ -1,11 +1,10 @@
 //! Trees of bytes from outside, and the first faults of bytes that were altered.
 
-ghost use Rattle.std.specs.Prelude.{◌≡◌, ◌<◌, true, length};
-ghost use Rattle.ph_specs.specs.Load.{dims_fit};
-ghost use Rattle.ph_specs.specs.Snapshot.{kind_byte};
+ghost use Rattle.std.specs.Prelude.{◌≡◌, ◌<◌, ◌≤◌, length};
 
 use super::plain::plain_fault;
-use super::{EMPTY, ONE_ROW, THREE_ROWS, TWO_ROWS};
+use super::widths::{NINE_DIMS, ONE_BIT, SEVEN_BITS, SIXTEEN_DIMS, SIXTY_TWO_BITS};
+use super::{EMPTY, ONE_ROW, THREE_ROWS, TWO_ROWS, second_version, width};
 use crate::{LoadFault, load};
 use ph_coord::{Kind, Point, Width};
 use ph_steps::Steps;
@@ -48,11 +47,20 @@ const ONE_BOX: [u8; 48] = *b"PHT1\x01\x04\x01\0\
 \0\0\0\0\0\0\0\0\
 \0\0\0\0\0\0\0\x05";
 
-// What becomes of bytes: the value at a point, or the fault.
+// A box of one dimension whose low corner is 7 and whose high one is 3.
+const REVERSED: [u8; 40] = *b"PHT1\x01\x02\x01\0\
+\x1f\0\0\0\x01\0\0\0\
+\x60\0\0\x01\xc0\0\0\x01\
+\x80\0\0\0\0\0\0\0\
+\0\0\0\0\0\0\0\x01";
+
+// What becomes of bytes that are to be a tree of two dimensions: the value at a point, or the fault.
 fn outcome_by<V: Ledger, C: Ledger>(
     rt: &impl Abort,
     alloc: Global,
     bytes: &[u8],
+    kind: Kind,
+    w: Width,
     at: [i64; 2],
     visits: Blank,
     changes: Blank,
@@ -62,16 +70,25 @@ fn outcome_by<V: Ledger, C: Ledger>(
 {
     let mut visits: Steps<V> = Steps::new(visits);
     let mut changes: Steps<C> = Steps::new(changes);
-    let Some(width) = Width::new(32) else {
-        panic!(rt; "no width");
-    };
-    let Some(point) = Point::from_slice(width, &at) else {
+    let Some(point) = Point::from_slice(w, &at) else {
         panic!(rt; "no point");
     };
-    match load::<2, C>(alloc, bytes, Kind::Points, width, &mut changes) {
+    match load::<2, C>(alloc, bytes, kind, w, &mut changes) {
         Ok(tree) => Ok(tree.get(&point, &mut visits)),
         Err(fault) => Err(fault),
     }
+}
+
+fn outcome_in(
+    rt: &impl Abort,
+    alloc: Global,
+    bytes: &[u8],
+    kind: Kind,
+    bits: u32,
+    at: [i64; 2],
+) -> Result<Option<u64>, LoadFault> {
+    let w = width(rt, bits);
+    outcome_by::<Brand, Brand>(rt, alloc, bytes, kind, w, at, Blank::new(1), Blank::new(1))
 }
 
 fn outcome(
@@ -80,22 +97,74 @@ fn outcome(
     bytes: &[u8],
     at: [i64; 2],
 ) -> Result<Option<u64>, LoadFault> {
-    outcome_by::<Brand, Brand>(rt, alloc, bytes, at, Blank::new(1), Blank::new(1))
+    outcome_in(rt, alloc, bytes, Kind::Points, 32, at)
 }
 
+// The same tree in both versions.
 #[test]
-fn rows_of_trees(rt: HostRuntime) {
+fn rows_of_trees(rt: HostRuntime) -> Result<(), Fail> {
     let alloc = rt.alloc();
-    assert_eq!(rt; outcome(&rt, alloc, &EMPTY, [0, 0]), Ok(None));
-    assert_eq!(rt; outcome(&rt, alloc, &ONE_ROW, [3, 4]), Ok(Some(17)));
-    assert_eq!(rt; outcome(&rt, alloc, &ONE_ROW, [4, 3]), Ok(None));
-    assert_eq!(rt; outcome(&rt, alloc, &TWO_ROWS, [0, 0]), Ok(Some(1)));
-    assert_eq!(rt; outcome(&rt, alloc, &TWO_ROWS, [1, 1]), Ok(Some(2)));
     // With other digits in its addresses it is another tree.
     let mut moved = TWO_ROWS;
     moved[40] = 0x08;
-    assert_eq!(rt; outcome(&rt, alloc, &moved, [1, 0]), Ok(Some(2)));
-    assert_eq!(rt; outcome(&rt, alloc, &moved, [1, 1]), Ok(None));
+    for (first, at, value) in [
+        (EMPTY.as_slice(), [0, 0], None),
+        (&ONE_ROW, [3, 4], Some(17)),
+        (&ONE_ROW, [4, 3], None),
+        (&TWO_ROWS, [0, 0], Some(1)),
+        (&TWO_ROWS, [1, 1], Some(2)),
+        (&THREE_ROWS, [0, 0], Some(1)),
+        (&THREE_ROWS, [0, 1], Some(3)),
+        (&THREE_ROWS, [1, 0], None),
+        (&THREE_ROWS, [1, 1], Some(2)),
+        (&moved, [1, 0], Some(2)),
+        (&moved, [1, 1], None),
+    ] {
+        assert!(rt; 8 <= first.len());
+        let second = second_version(alloc, first)?;
+        assert_eq!(rt; outcome(&rt, alloc, first, at), Ok(value));
+        assert_eq!(rt; outcome(&rt, alloc, &second, at), Ok(value));
+    }
+    Ok(())
+}
+
+#[test]
+fn reversed_boxes(rt: HostRuntime) {
+    let alloc = rt.alloc();
+    assert_eq!(rt;
+        outcome_in(&rt, alloc, &REVERSED, Kind::Boxes, 32, [7, 3]),
+        Err(LoadFault::Node(8))
+    );
+    // As points of two dimensions they are lawful.
+    let mut points = REVERSED;
+    points[4] = 0;
+    assert_eq!(rt; outcome(&rt, alloc, &points, [7, 3]), Ok(Some(1)));
+}
+
+#[test]
+fn trees_of_another_width(rt: HostRuntime) -> Result<(), Fail> {
+    let alloc = rt.alloc();
+    let second = second_version(alloc, &TWO_ROWS)?;
+    let mut narrower = second_version(alloc, &TWO_ROWS)?;
+    assert!(rt; 6 < narrower.len());
+    narrower[6] = 31;
+    for (bytes, bits, answer) in [
+        (TWO_ROWS.as_slice(), 31, Err(LoadFault::Dims)),
+        (&TWO_ROWS, 32, Ok(Some(2))),
+        (&TWO_ROWS, 33, Err(LoadFault::Dims)),
+        (second.as_slice(), 31, Err(LoadFault::Dims)),
+        (second.as_slice(), 32, Ok(Some(2))),
+        (second.as_slice(), 62, Err(LoadFault::Dims)),
+        (narrower.as_slice(), 32, Err(LoadFault::Dims)),
+        // its root has the level of width 32
+        (narrower.as_slice(), 31, Err(LoadFault::Node(8))),
+    ] {
+        assert_eq!(rt;
+            outcome_in(&rt, alloc, bytes, Kind::Points, bits, [1, 1]),
+            answer
+        );
+    }
+    Ok(())
 }
 
 #[test]
@@ -125,7 +194,8 @@ fn bytes_that_end_early_or_late(rt: HostRuntime) {
 fn altered_bytes(rt: HostRuntime) {
     let alloc = rt.alloc();
     for (at, byte, fault) in [
-        (3, 0x32, LoadFault::Magic),
+        // the empty tree of width 1, in version 2
+        (3, 0x32, LoadFault::Dims),
         (4, 0x02, LoadFault::Header(4)),
         (4, 0x01, LoadFault::Dims),
         (5, 0x00, LoadFault::Header(5)),
@@ -156,26 +226,47 @@ fn altered_bytes(rt: HostRuntime) {
     }
 }
 
+#[test]
+fn altered_bytes_of_version_two(rt: HostRuntime) -> Result<(), Fail> {
+    let alloc = rt.alloc();
+    for (at, byte, fault) in [
+        (3, 0x33, LoadFault::Magic),
+        (4, 0x02, LoadFault::Header(4)),
+        (4, 0x01, LoadFault::Dims),
+        (5, 0x11, LoadFault::Header(5)),
+        (5, 0x10, LoadFault::Dims),
+        (6, 0x00, LoadFault::Header(6)),
+        (6, 0x3f, LoadFault::Header(6)),
+        (6, 0x1f, LoadFault::Dims),
+        (7, 0x02, LoadFault::Header(7)),
+        (7, 0x00, LoadFault::Extra(8)),
+    ] {
+        let mut bytes = second_version(alloc, &TWO_ROWS)?;
+        assert!(rt; at < bytes.len());
+        bytes[at] = byte;
+        assert_eq!(rt; outcome(&rt, alloc, &bytes, [0, 0]), Err(fault));
+    }
+    Ok(())
+}
+
 // Loads bytes, and looks at them by the rules.
 fn assert_same_fault<const D: usize, C: Ledger>(
     rt: &impl Abort,
     alloc: Global,
     bytes: &[u8],
     kind: Kind,
+    w: Width,
     changes: &mut Steps<C>,
 )
-    requires dims { dims_fit 8 (kind_byte kind) D ≡ true }
+    requires { D ≤ 16 }
 {
-    let Some(width) = Width::new(32) else {
-        panic!(rt; "no width");
-    };
-    let fault = match load::<D, C>(alloc, bytes, kind, width, changes) {
+    let fault = match load::<D, C>(alloc, bytes, kind, w, changes) {
         Ok(_) => None,
         Err(fault) => Some(fault),
     };
     assert_eq!(rt;
         fault,
-        plain_fault(alloc, bytes, kind, D as u8),
+        plain_fault(alloc, bytes, kind, D as u8, w.bits() as u8),
         "{bytes:?}"
     );
 }
@@ -186,14 +277,15 @@ fn compare_fronts<const D: usize, C: Ledger>(
     alloc: Global,
     snapshot: &[u8],
     kind: Kind,
+    w: Width,
     changes: &mut Steps<C>,
 ) -> Result<(), AllocError>
-    requires dims { dims_fit 8 (kind_byte kind) D ≡ true }
+    requires { D ≤ 16 }
 {
     let mut longer = Vec::from_slice(alloc, snapshot)?;
     longer.push(0)?;
     for len in 0..=longer.len() {
-        assert_same_fault::<D, C>(rt, alloc, &longer[..len], kind, changes);
+        assert_same_fault::<D, C>(rt, alloc, &longer[..len], kind, w, changes);
     }
     Ok(())
 }
@@ -205,15 +297,16 @@ fn compare_bytes<const D: usize, C: Ledger>(
     snapshot: &[u8],
     at: usize,
     kind: Kind,
+    w: Width,
     changes: &mut Steps<C>,
 ) -> Result<(), AllocError>
-    requires dims { dims_fit 8 (kind_byte kind) D ≡ true }
+    requires dims { D ≤ 16 }
     requires at { at < length snapshot.now }
 {
     for byte in [0, u8::MAX, snapshot[at].wrapping_add(1)] {
         let mut altered = Vec::from_slice(alloc, snapshot)?;
         altered[at] = byte;
-        assert_same_fault::<D, C>(rt, alloc, &altered, kind, changes);
+        assert_same_fault::<D, C>(rt, alloc, &altered, kind, w, changes);
     }
     Ok(())
 }
@@ -223,40 +316,82 @@ fn compare_altered<const D: usize, C: Ledger>(
     alloc: Global,
     snapshot: &[u8],
     kind: Kind,
+    w: Width,
     changes: &mut Steps<C>,
 ) -> Result<(), AllocError>
-    requires dims { dims_fit 8 (kind_byte kind) D ≡ true }
+    requires { D ≤ 16 }
 {
-    compare_fronts::<D, C>(rt, alloc, snapshot, kind, changes)?;
+    compare_fronts::<D, C>(rt, alloc, snapshot, kind, w, changes)?;
     for at in 0..snapshot.len() {
-        compare_bytes::<D, C>(rt, alloc, snapshot, at, kind, changes)?;
+        compare_bytes::<D, C>(rt, alloc, snapshot, at, kind, w, changes)?;
     }
     Ok(())
 }
 
-fn compare_all<C: Ledger>(rt: &impl Abort, alloc: Global, changes: Blank) -> Result<(), AllocError>
+// A snapshot of points of two dimensions, and the same as one of boxes.
+fn compare_both_kinds<C: Ledger>(
+    rt: &impl Abort,
+    alloc: Global,
+    points: &[u8],
+    changes: &mut Steps<C>,
+) -> Result<(), AllocError> {
+    let w = width(rt, 32);
+    compare_altered::<2, C>(rt, alloc, points, Kind::Points, w, changes)?;
+    let mut boxes = Vec::from_slice(alloc, points)?;
+    assert!(rt; boxes.len() > 4);
+    boxes[4] = 1;
+    compare_altered::<2, C>(rt, alloc, &boxes, Kind::Boxes, w, changes)
+}
+
+fn compare_versions<C: Ledger>(
+    rt: &impl Abort,
+    alloc: Global,
+    changes: Blank,
+) -> Result<(), AllocError>
     requires { (changes.name ≡ C.name) × (changes.parts ≡ C.parts) × (0 < changes.parts) }
 {
     let mut changes: Steps<C> = Steps::new(changes);
-    for snapshot in [
+    for first in [
         EMPTY.as_slice(),
         ONE_ROW.as_slice(),
         TWO_ROWS.as_slice(),
         THREE_ROWS.as_slice(),
         NODES.as_slice(),
     ] {
-        compare_altered::<2, C>(rt, alloc, snapshot, Kind::Points, &mut changes)?;
-        let mut boxes = Vec::from_slice(alloc, snapshot)?;
-        assert!(rt; boxes.len() > 4);
-        boxes[4] = 1;
-        compare_altered::<2, C>(rt, alloc, &boxes, Kind::Boxes, &mut changes)?;
+        assert!(rt; 8 <= first.len());
+        let second = second_version(alloc, first)?;
+        compare_both_kinds(rt, alloc, first, &mut changes)?;
+        compare_both_kinds(rt, alloc, &second, &mut changes)?;
     }
-    compare_altered::<4, C>(rt, alloc, &ONE_BOX, Kind::Boxes, &mut changes)
+    let w = width(rt, 32);
+    compare_altered::<4, C>(rt, alloc, &ONE_BOX, Kind::Boxes, w, &mut changes)
+}
+
+fn compare_widths<C: Ledger>(
+    rt: &impl Abort,
+    alloc: Global,
+    changes: Blank,
+) -> Result<(), AllocError>
+    requires { (changes.name ≡ C.name) × (changes.parts ≡ C.parts) × (0 < changes.parts) }
+{
+    let mut changes: Steps<C> = Steps::new(changes);
+    let (one, seven, most) = (width(rt, 1), width(rt, 7), width(rt, 62));
+    compare_altered::<1, C>(rt, alloc, &ONE_BIT, Kind::Points, one, &mut changes)?;
+    compare_altered::<3, C>(rt, alloc, &SEVEN_BITS, Kind::Points, seven, &mut changes)?;
+    compare_altered::<2, C>(rt, alloc, &SIXTY_TWO_BITS, Kind::Points, most, &mut changes)?;
+    compare_altered::<9, C>(rt, alloc, &NINE_DIMS, Kind::Points, most, &mut changes)?;
+    compare_altered::<16, C>(rt, alloc, &SIXTEEN_DIMS, Kind::Boxes, seven, &mut changes)
 }
 
 // A load answers what the rules say of fronts of snapshots, and of snapshots with one byte altered.
 #[test]
 fn altered_snapshots(rt: HostRuntime) -> Result<(), Fail> {
-    compare_all::<Brand>(&rt, rt.alloc(), Blank::new(1))?;
+    compare_versions::<Brand>(&rt, rt.alloc(), Blank::new(1))?;
+    Ok(())
+}
+
+#[test]
+fn altered_snapshots_of_all_widths(rt: HostRuntime) -> Result<(), Fail> {
+    compare_widths::<Brand>(&rt, rt.alloc(), Blank::new(1))?;
     Ok(())
 }

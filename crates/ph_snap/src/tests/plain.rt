@@ -1,4 +1,4 @@
-//! The rules of a snapshot, looked at digit by digit.
+//! The rules of a snapshot of either version, looked at digit by digit.
 
 ghost use Rattle.std.specs.Prelude.{◌^◌, ◌<◌, ◌≤◌, IfOk};
 
@@ -13,12 +13,21 @@ const POINT: u64 = 1;
 
 const CHILD: u64 = 2;
 
-// What the rows of a snapshot are, and how many numbers each has.
+// The two headers that there are.
+#[derive(Clone, Copy)]
+enum Version {
+    First,
+    Second,
+}
+
+// What the rows of a snapshot are, how many numbers each has, and how many digits each of these.
 #[derive(Clone, Copy)]
 struct Form {
     kind: Kind,
     dims: u8,
-    ghost few: { dims ≤ 8 },
+    width: u8,
+    ghost few: { dims ≤ 16 },
+    ghost wide: { width ≤ 62 },
 }
 
 // Where a record stands: as the root, or under a node, at a level below another one. What is known of its points has zeros
@@ -27,8 +36,8 @@ struct Form {
 struct Standing {
     is_root: bool,
     below: u8,
-    known: [u64; 8],
-    ghost low: { below ≤ 32 },
+    known: [u64; 16],
+    ghost low: { below ≤ 62 },
 }
 
 // What the first word of a record says.
@@ -45,7 +54,7 @@ struct Head {
 struct Place {
     kind: u64,
     addr: u64,
-    body: [u64; 8],
+    body: [u64; 16],
 }
 
 // A record that keeps the rules, and how many bytes it has.
@@ -56,21 +65,31 @@ struct Record {
     size: usize,
 }
 
-/// The first fault of bytes that are to be a snapshot of this kind and of so many dimensions.
-pub(crate) fn plain_fault(alloc: Global, bytes: &[u8], kind: Kind, dims: u8) -> Option<LoadFault>
-    requires { dims ≤ 8 }
+/// The first fault of bytes that are to be a snapshot of this kind, of so many dimensions and of this width.
+pub(crate) fn plain_fault(
+    alloc: Global,
+    bytes: &[u8],
+    kind: Kind,
+    dims: u8,
+    width: u8,
+) -> Option<LoadFault>
+    requires few { dims ≤ 16 }
+    requires wide { width ≤ 62 }
 {
-    let form = Form { kind, dims };
-    if let Some(fault) = header_fault(bytes, &form) {
+    let form = Form { kind, dims, width };
+    let Some(version) = version_of(bytes) else {
+        return Some(LoadFault::Magic);
+    };
+    if let Some(fault) = header_fault(version, bytes, &form) {
         return Some(fault);
     }
-    if bytes.get(6) == Some(&0) {
+    if bytes.get(flag_place(version)) == Some(&0) {
         return fault_behind(bytes, 8);
     }
     let root = Standing {
         is_root: true,
-        below: 32,
-        known: [0; 8],
+        below: width,
+        known: [0; 16],
     };
     match end_of_node(alloc, bytes, 8, &form, &root) {
         Ok(end) => fault_behind(bytes, end),
@@ -86,14 +105,26 @@ fn fault_behind(bytes: &[u8], end: usize) -> Option<LoadFault> {
     None
 }
 
-fn header_fault(bytes: &[u8], form: &Form) -> Option<LoadFault> {
-    for (at, letter) in b"PHT1".iter().enumerate() {
-        if bytes.get(at) != Some(letter) {
-            return Some(LoadFault::Magic);
-        }
+fn version_of(bytes: &[u8]) -> Option<Version> {
+    match bytes {
+        [b'P', b'H', b'T', b'1', ..] => Some(Version::First),
+        [b'P', b'H', b'T', b'2', ..] => Some(Version::Second),
+        _ => None,
     }
+}
+
+// Where a header tells whether there is a root.
+fn flag_place(version: Version) -> usize {
+    match version {
+        Version::First => 6,
+        Version::Second => 7,
+    }
+}
+
+// The fault of what stands behind the first four bytes of a header.
+fn header_fault(version: Version, bytes: &[u8], form: &Form) -> Option<LoadFault> {
     for at in 4..8 {
-        if !is_header_byte(bytes, at) {
+        if !is_header_byte(version, bytes, at) {
             return Some(LoadFault::Header(at as u64));
         }
     }
@@ -101,22 +132,41 @@ fn header_fault(bytes: &[u8], form: &Form) -> Option<LoadFault> {
         Kind::Points => 0,
         Kind::Boxes => 1,
     };
-    if bytes.get(4) != Some(&kind) || bytes.get(5) != Some(&form.dims) {
-        return Some(LoadFault::Dims);
+    let is_wanted = bytes.get(4) == Some(&kind)
+        && bytes.get(5) == Some(&form.dims)
+        && width_in(version, bytes) == Some(&form.width);
+    if is_wanted {
+        None
+    } else {
+        Some(LoadFault::Dims)
     }
-    None
+}
+
+// The width that a header names. The first version has one width.
+fn width_in(version: Version, bytes: &[u8]) -> Option<&u8> {
+    match version {
+        Version::First => Some(&32),
+        Version::Second => bytes.get(6),
+    }
 }
 
 // Whether a byte of the header from 4 to 7 is there, and is one that may stand there.
-fn is_header_byte(bytes: &[u8], at: usize) -> bool {
+fn is_header_byte(version: Version, bytes: &[u8], at: usize) -> bool {
     let (Some(kind), Some(byte)) = (bytes.get(4), bytes.get(at)) else {
         return false;
     };
-    match at {
-        5 => 1 <= *byte && *byte <= 8 && (*kind == 0 || *byte % 2 == 0),
-        7 => *byte == 0,
+    match (at, version) {
+        (5, Version::First) => are_dims(8, *kind, *byte),
+        (5, Version::Second) => are_dims(16, *kind, *byte),
+        (6, Version::Second) => 1 <= *byte && *byte <= 62,
+        (7, Version::First) => *byte == 0,
         _ => *byte <= 1,
     }
+}
+
+// Whether so many dimensions, of which there may be `most`, go with the byte of a kind.
+fn are_dims(most: u8, kind: u8, dims: u8) -> bool {
+    1 <= dims && dims <= most && (kind == 0 || dims % 2 == 0)
 }
 
 // The end of the record that begins at a place and of those of all nodes below its own, or the first fault of these.
@@ -202,7 +252,7 @@ fn head_of(record: &[u8]) -> Option<Head> {
 // Whether a first word may begin the record.
 fn head_fits(head: &Head, form: &Form, standing: &Standing) -> bool {
     let least = if standing.is_root { 1 } else { 2 };
-    (!standing.is_root || head.level == 31)
+    (!standing.is_root || form.width.checked_sub(1) == Some(head.level))
         && least <= head.entries
         && u64::from(head.entries) <= addresses(form)
         && head.children <= head.entries
@@ -220,7 +270,7 @@ fn has_zeros_from(level: u8, numbers: &[u64]) -> bool {
 
 // How many addresses there are.
 fn addresses(form: &Form) -> u64
-    ensures { result ≤ 256 }
+    ensures { result ≤ 65536 }
 {
     1 << form.dims
 }
@@ -284,7 +334,7 @@ fn cube_places(
         places.push(Place {
             kind,
             addr,
-            body: [0; 8],
+            body: [0; 16],
         })?;
     }
     Ok(places)
@@ -303,7 +353,7 @@ fn linear_places(
         places.push(Place {
             kind,
             addr: 0,
-            body: [0; 8],
+            body: [0; 16],
         })?;
     }
     for place in &mut places {
@@ -331,7 +381,7 @@ fn is_place(place: &Place) -> bool {
 
 // Whether each point is a row.
 fn points_fit(places: &[Place], level: u8, form: &Form, standing: &Standing) -> bool
-    requires { level < 32 }
+    requires { level < 62 }
 {
     for place in places {
         if place.kind == POINT && !is_row(&known_behind(place, level, form, standing), form) {
@@ -342,7 +392,7 @@ fn points_fit(places: &[Place], level: u8, form: &Form, standing: &Standing) -> 
 }
 
 // Whether coordinates with their least digit moved to 0 may be those of a row.
-fn is_row(point: &[u64; 8], form: &Form) -> bool {
+fn is_row(point: &[u64; 16], form: &Form) -> bool {
     let half = usize::from(form.dims / 2);
     let (low, rest) = point.split_at(half);
     match form.kind {
@@ -352,8 +402,8 @@ fn is_row(point: &[u64; 8], form: &Form) -> bool {
 }
 
 // What is known of the points behind a place: what was known, then a digit of the address, and then the body.
-fn known_behind(place: &Place, level: u8, form: &Form, standing: &Standing) -> [u64; 8]
-    requires { level < 32 }
+fn known_behind(place: &Place, level: u8, form: &Form, standing: &Standing) -> [u64; 16]
+    requires { level < 62 }
 {
     let dims = usize::from(form.dims);
     let mut known = standing.known;

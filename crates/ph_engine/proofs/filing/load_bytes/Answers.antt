@@ -7,4 +7,4 @@ returns-in-Ok-clause-frame g c = rw c.replace.ensures.table (loaded-frame c.args
 
 pub returns-in-Err-clause-loads : goal.returns-in-Err-clause-loads
 returns-in-Err-clause-loads g c =
-    loads-none c.args.kind (any_table c.args.tree.now) c.dims.result c.args.bytes.now c.in-Err.fault c.fault_reply.result c.dims.ensures.value c.in-Err.ensures.fault c.fault_reply.ensures
+    loads-none c.args.kind (any_table c.args.tree.now) c.dims.result c.width.result c.args.bytes.now c.in-Err.fault c.fault_reply.result c.dims.ensures.value c.width.ensures c.in-Err.ensures.fault c.fault_reply.ensures

@@ -1,8 +1,7 @@
 use Rattle.std.proofs.Common.{◌≡◌, arith, ap, length, ◌∙◌}
-use Rattle.ph_specs.specs.Window.{window}
+use Rattle.ph_specs.specs.Window.{window, lowest, highest}
+use Rattle.ph_specs.proofs.laws.AllPoints.{whole-table, whole-nodes}
 use Rattle.ph_specs.specs.WorkSets.{meets}
-use Rattle.ph_engine.specs.Recording.{lowest, highest}
-use Rattle.ph_engine.proofs.Whole.{whole-table, whole-nodes}
 use Rattle.ph_engine.proofs.records.all_rows.Goals as goal
 
 pub returns-clause-rows : goal.returns-clause-rows

@@ -8,7 +8,7 @@ pub rows-preserved : goal.rows-preserved
 rows-preserved g c =
     let e = next-is c.rows.window.rows c.next.new.self.rows c.in-Some.row c.in-Some.ensures.row c.next.ensures.rest in
     record {
-      written = one-written _ c.rows.window.rows c.next.new.self.rows c.in-Some.row _ _ _ _ _ _ _ _ _ _ _ c.rows.invariant.written e c.in_ok-append_row.ensures;
+      written = one-written _ c.rows.window.rows c.next.new.self.rows c.in-Some.row _ _ _ c.rows.invariant.written e c.in_ok-append_row.ensures;
       cost = omega (arith, c.next.ensures.cost, c.rows.invariant.cost);
       later = omega (arith, c.rows.invariant.later, c.next.ensures.grows);
     }
@@ -18,7 +18,7 @@ returns-in_err-append_row-clause-few g c = omega (arith, c.rows.invariant.cost, 
 
 pub returns-clause-appended : goal.returns-clause-appended
 returns-clause-appended g c =
-    rw (← c.all_rows-window.ensures.rows) (all-written _ c.rows.window.rows _ _ _ _ _ _ _ c.rows.invariant.written (none-left c.rows.window.rows c.in_default.ensures.row))
+    rw (← c.all_rows-window.ensures.rows) (all-written _ c.rows.window.rows _ _ c.rows.invariant.written (none-left c.rows.window.rows c.in_default.ensures.row))
 
 pub returns-clause-few : goal.returns-clause-few
 returns-clause-few g c = omega (arith, c.rows.invariant.cost, c.next.ensures.cost, c.all_rows-window.ensures.visits)

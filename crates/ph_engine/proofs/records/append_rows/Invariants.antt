@@ -1,10 +1,11 @@
 use Rattle.std.proofs.Common.{◌≡◌, ◌≤◌, ◌+◌, length}
+use Rattle.ph_engine.specs.Told.{shelf_by}
 use Rattle.ph_engine.proofs.Drafts.{IsWritten}
 use Rattle.ph_engine.proofs.records.append_rows.Given as goal
 
 abbrev pub invariant-rows : goal.invariant-rows
 invariant-rows g l = record {
-  written : IsWritten l.initial.window.rows l.window.rows (g.F.Files.files l.initial.files) (g.F.Files.files l.files) (g.F.Files.draft l.initial.files) (g.F.Files.draft l.files) (g.F.Files.faults l.initial.files) (g.F.Files.faults l.files) (g.F.Files.is_begun l.files);
+  written : IsWritten l.initial.window.rows l.window.rows (shelf_by g.F.Files l.initial.files) (shelf_by g.F.Files l.files);
   cost : l.visits + l.window.visits ≡ l.initial.visits + l.initial.window.visits;
   later : l.initial.visits ≤ l.visits;
 }

@@ -1,7 +1,7 @@
 use Rattle.std.proofs.Common.{rules, ◌≡◌, subst, sym}
 use Rattle.ph_specs.specs.Coordinate.{IsPoint}
-use Rattle.ph_engine.specs.Recording.{highest}
-use Rattle.ph_engine.proofs.Whole.{highest-point}
+use Rattle.ph_specs.proofs.laws.AllPoints.{highest-point}
+use Rattle.ph_specs.specs.Window.{highest}
 use Rattle.ph_engine.proofs.records.greatest_corner.Goals as goal
 
 pub returns-clause-point : goal.returns-clause-point

@@ -1,5 +1,5 @@
+use Rattle.ph_specs.specs.Boxes.{AreBoxes}
 use Rattle.std.proofs.Common.{subst, sym}
-use Rattle.ph_engine.specs.Slots.{AreBoxes}
 use Rattle.ph_engine.proofs.Recorded.{imports-none, rows-frame}
 use Rattle.ph_engine.proofs.records.import_text.Goals as goal
 

@@ -1,7 +1,7 @@
 use Rattle.std.proofs.Common.{rules, ◌≡◌, subst, sym}
 use Rattle.ph_specs.specs.Coordinate.{IsPoint}
-use Rattle.ph_engine.specs.Recording.{lowest}
-use Rattle.ph_engine.proofs.Whole.{lowest-point}
+use Rattle.ph_specs.proofs.laws.AllPoints.{lowest-point}
+use Rattle.ph_specs.specs.Window.{lowest}
 use Rattle.ph_engine.proofs.records.least_corner.Goals as goal
 
 pub returns-clause-point : goal.returns-clause-point

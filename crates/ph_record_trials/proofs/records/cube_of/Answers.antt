@@ -5,7 +5,7 @@ use Rattle.ph_record_trials.proofs.records.cube_of.Goals as goal
 
 pub write-requires-clause-room : goal.write-requires-clause-room
 write-requires-clause-room g c =
-    let e : room_of c.in-Ok.words ≡ 64 = ap room_of c.in-Ok.ensures in
+    let e : room_of c.in-Ok.words ≡ 64 = ap room_of c.in-Ok.ensures.empty in
     omega (arith, e, cube-room g.row.D c.args.level c.args.items.now c.requires.some c.requires.few (c.is_writable.ensures c.if-not-is_writable.false))
 
 pub returns : goal.returns

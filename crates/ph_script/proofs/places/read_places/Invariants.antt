@@ -20,7 +20,7 @@ invariant-loop-place l = record {
   file : l.names_fit ≡ true → file_from l.parts.file (spread_of l.places) (words l.rest) ≡ file_from None (spread_of l.initial.places) (words l.text);
   second : second_from l.parts.is_second (spread_of l.places) (words l.rest) ≡ second_from false (spread_of l.initial.places) (words l.text);
   coords_fit : length l.coords + sum_by coords_room (spread_of l.places) ≤ 32;
-  counts_fit : array_vec_len l.parts.counts + sum_by counts_room (spread_of l.places) ≤ 2;
+  counts_fit : array_vec_len l.parts.counts + sum_by counts_room (spread_of l.places) ≤ 3;
 }
 
 abbrev pub decreases-loop-place : goal.decreases-loop-place

@@ -47,7 +47,7 @@ unreachable-requires g c =
     let made = subst (λ u. spare_wanted_in k.width D u f.point ≤ c.args.found.longest + more) (sym (between g at)) enough in
     let wanted = subst (λ n. spare_wanted_in n D c.put_in.new.root f.point ≤ c.args.found.longest + more) (sym c.requires.width) made in
     let few : c.more_words.result ≡ more_words c.args.to.now.width g.P.Dims.D = c.more_words.ensures.value ∙ ap (λ n. more_words n c.D.result) c.width.ensures.value ∙ ap (more_words c.args.to.now.width) c.D.ensures in
-    let taken : room_of c.in-Ok.block ≡ 0 + (c.args.found.longest + c.more_words.result) = ap (λ b. room_of b) c.in-Ok.ensures in
+    let taken : room_of c.in-Ok.block ≡ 0 + (c.args.found.longest + c.more_words.result) = ap (λ b. room_of b) c.in-Ok.ensures.empty in
     let room : c.args.found.longest + more_words c.args.to.now.width g.P.Dims.D ≡ room_of c.in-Ok.block = omega (arith, few, taken) in
     let no = c.in-Err-del_in.ensures.roomy (subst (λ n. spare_wanted_in f.width D c.put_in.new.root f.point ≤ n) room wanted) in
     cc

@@ -23,3 +23,27 @@ returns-in-D7-clause-lists g c = rw c.in-D7.is c.list_sizes-in-D7.ensures.lists
 
 pub returns-in-D8-clause-lists : goal.returns-in-D8-clause-lists
 returns-in-D8-clause-lists g c = rw c.in-D8.is c.list_sizes-in-D8.ensures.lists
+
+pub returns-in-D9-clause-lists : goal.returns-in-D9-clause-lists
+returns-in-D9-clause-lists g c = rw c.in-D9.is c.list_sizes-in-D9.ensures.lists
+
+pub returns-in-D10-clause-lists : goal.returns-in-D10-clause-lists
+returns-in-D10-clause-lists g c = rw c.in-D10.is c.list_sizes-in-D10.ensures.lists
+
+pub returns-in-D11-clause-lists : goal.returns-in-D11-clause-lists
+returns-in-D11-clause-lists g c = rw c.in-D11.is c.list_sizes-in-D11.ensures.lists
+
+pub returns-in-D12-clause-lists : goal.returns-in-D12-clause-lists
+returns-in-D12-clause-lists g c = rw c.in-D12.is c.list_sizes-in-D12.ensures.lists
+
+pub returns-in-D13-clause-lists : goal.returns-in-D13-clause-lists
+returns-in-D13-clause-lists g c = rw c.in-D13.is c.list_sizes-in-D13.ensures.lists
+
+pub returns-in-D14-clause-lists : goal.returns-in-D14-clause-lists
+returns-in-D14-clause-lists g c = rw c.in-D14.is c.list_sizes-in-D14.ensures.lists
+
+pub returns-in-D15-clause-lists : goal.returns-in-D15-clause-lists
+returns-in-D15-clause-lists g c = rw c.in-D15.is c.list_sizes-in-D15.ensures.lists
+
+pub returns-in-D16-clause-lists : goal.returns-in-D16-clause-lists
+returns-in-D16-clause-lists g c = rw c.in-D16.is c.list_sizes-in-D16.ensures.lists

@@ -1,4 +1,4 @@
 use Rattle.ph_snap.proofs.tests.loads.altered_snapshots.Given as goal
 
-abbrev pub ghosts-compare_all : goal.ghosts-compare_all
-ghosts-compare_all g a = record { name = a.changes.name; parts = a.changes.parts }
+abbrev pub ghosts-compare_versions : goal.ghosts-compare_versions
+ghosts-compare_versions g a = record { name = a.changes.name; parts = a.changes.parts }

@@ -1,0 +1,42 @@
+-- What sources, sinks and files tell, whatever they are.
+use Rattle.std.specs.Prelude.{ℕ, Bool}
+use Rattle.ph_io.specs.Giving.{Taken, taken_of}
+use Rattle.ph_io.specs.declared.files.Files.{Ghosts as FilesTell}
+use Rattle.ph_io.specs.declared.streams.Sink.{Ghosts as SinkTells}
+use Rattle.ph_io.specs.declared.streams.Source.{Ghosts as SourceTells}
+use Rattle.ph_specs.specs.State.{Engine}
+use Rattle.ph_engine.specs.Beside.{Beside, alone, aside, beside}
+use Rattle.ph_engine.specs.Drafting.{Drafted, Shelf, drafted, shelf}
+use Rattle.ph_engine.specs.Seen.{Seen, seen}
+use Rattle.ph_engine.specs.Standing.{Standing, standing}
+
+module _ {O : Type 0} (sink : SinkTells O) where
+  abbrev pub taken_by : O → Taken
+  taken_by out = taken_of (sink.written out) (sink.amount out)
+
+  abbrev pub alone_by : O → ℕ → ℕ → Beside
+  alone_by out visits changes = alone (taken_by out) visits changes
+
+module _ {F : Type 0} (store : FilesTell F) where
+  abbrev pub shelf_by : F → Shelf
+  shelf_by files = shelf (store.files files) (store.draft files) (store.faults files) (store.is_begun files)
+
+  -- a sink over the files, by its loan of them, the writes that came late, and whether none has failed
+  abbrev pub drafted_by : ℕ → F → ℕ → Bool → Drafted
+  drafted_by loan files late works = drafted loan (store.files files) (store.draft files) (store.faults files) late works
+
+  abbrev pub aside_by : F → ℕ → ℕ → Beside
+  aside_by files visits changes = aside (store.files files) (store.faults files) visits changes
+
+module _ {O F : Type 0} (sink : SinkTells O) (store : FilesTell F) where
+  abbrev pub beside_by : O → F → ℕ → ℕ → Beside
+  beside_by out files visits changes = beside (sink.written out) (sink.amount out) (store.files files) (store.faults files) visits changes
+
+  abbrev pub standing_by : O → F → ℕ → ℕ → Engine → Standing
+  standing_by out files visits changes engine =
+      standing (sink.written out) (sink.amount out) (store.files files) (store.faults files) visits changes engine
+
+module _ {S O F : Type 0} (source : SourceTells S) (sink : SinkTells O) (store : FilesTell F) where
+  abbrev pub seen_by : S → O → F → ℕ → ℕ → Engine → Seen
+  seen_by src out files visits changes engine =
+      seen (source.left src) (source.faults src) (sink.written out) (sink.amount out) (sink.faults out) (store.files files) (store.faults files) visits changes engine

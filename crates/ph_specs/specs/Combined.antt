@@ -1,0 +1,22 @@
+-- The three set operations on tables as one: two tables side by side in Z-order, of which some rows are kept.
+use Rattle.std.specs.Prelude.{ℕ, List, [], ◌∷◌, ◌++◌, filter, Bool, if◌then◌else◌}
+use Rattle.ph_specs.specs.ZOrder.{before}
+use Rattle.ph_specs.specs.Table.{Row, has}
+
+-- all rows or none
+abbrev pub chosen : Bool → List Row → List Row
+chosen keep rows = if keep then rows else []
+
+-- the rows that come before a row in Z-order, and those that come after it
+abbrev pub earlier : ℕ → Row → List Row → List Row
+earlier w x rows = filter (λ s. before w s.point x.point) rows
+
+abbrev pub later : ℕ → Row → List Row → List Row
+later w x rows = filter (λ s. before w x.point s.point) rows
+
+-- which rows of two tables are kept: those at points of the first alone (`left`), those of the first at points of both (`both`),
+-- and those at points of the second alone (`right`)
+abbrev pub combined : ℕ → Bool → Bool → Bool → List Row → List Row → List Row
+combined w left both right [] b = chosen right b
+combined w left both right (x ∷ a) b =
+    chosen right (earlier w x b) ++ (chosen (if has b x.point then both else left) (x ∷ []) ++ combined w left both right a (later w x b))
