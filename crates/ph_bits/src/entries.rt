@@ -18,17 +18,18 @@ pub struct Packed {
 
 /// Entries that are to be written.
 pub trait Entries<P: Dims> {
-    ghost use Rattle.ph_bits.specs.Packed.{read_of};
+    ghost use Rattle.ph_bits.specs.Packed.{read_of, IsPadded};
 
     ghost list: { Self → List Flat };
 
     fn count(&self) -> usize
         ensures { result ≡ length (list self.now) };
 
-    /// Entry `i`. Its rank is any number, and so are the numbers behind the fields of its body.
+    /// Entry `i`. Its rank is any number.
     fn at(&self, i: usize) -> Packed
         requires { i < length (list self.now) }
-        ensures entry { slice_get (map unvalued (list self.now)) i ≡ Some (read_of P.D result) };
+        ensures entry { slice_get (map unvalued (list self.now)) i ≡ Some (read_of P.D result) }
+        ensures zeros { IsPadded P.D result.body };
 
     /// The value of point entry `i`.
     fn value(&self, i: usize) -> u64

@@ -1,8 +1,9 @@
 -- Arrays with zeros behind the fields of a body.
-use Rattle.std.proofs.Common.{◌≡◌, ℕ, zero, suc, ◌-◌, ◌%◌, ◌^◌, List, ◌∷◌, ◌++◌, take, drop, map, refl, arith, ap, sym, ◌∙◌, replicate}
+use Rattle.std.proofs.Common.{◌≡◌, ℕ, zero, suc, ◌+◌, ◌-◌, ◌*◌, ◌/◌, ◌%◌, ◌^◌, List, ◌∷◌, ◌++◌, length, take, drop, map, refl, arith, ap, sym, ◌∙◌, replicate}
 use Rattle.std.specs.List.{take-map}
-use Rattle.std.proofs.lemmas.List.{map-append, take-append-drop}
-use Rattle.ph_specs.specs.PutTree.{body_below}
+use Rattle.std.proofs.lemmas.List.{map-append, take-append-drop, drop-map, drop_at}
+use Rattle.ph_specs.specs.PutTree.{body_below, body_above}
+use Rattle.ph_bits.specs.Packed.{IsPadded}
 use Rattle.ph_node.specs.Bodies.{IsFilled}
 
 -- ---- arrays
@@ -22,6 +23,23 @@ no_digit-below place = grind arith
 
 pub filled-below : (dims place : ℕ) (body : List ℕ) → IsFilled dims body → IsFilled dims (body_below place body)
 filled-below dims place body h = filled-map (λ x. x % 2 ^ place) dims body (no_digit-below place) h
+
+-- ---- zeros behind the fields
+
+padded-map : (f : ℕ → ℕ) (dims : ℕ) (body : List ℕ) → f 0 ≡ 0 → IsPadded dims body → IsPadded dims (map f body)
+padded-map f dims body z h = drop-map f dims body ∙ ap (λ u. map f u) h ∙ map-zeros f (16 - dims) z
+
+pub padded-below : (dims place : ℕ) (body : List ℕ) → IsPadded dims body → IsPadded dims (body_below place body)
+padded-below dims place body h = padded-map (λ x. x % 2 ^ place) dims body (no_digit-below place) h
+
+no_digit-above : (place : ℕ) → 0 / 2 ^ (place + 1) * 2 ^ (place + 1) ≡ 0
+no_digit-above place = grind arith
+
+pub padded-above : (dims place : ℕ) (body : List ℕ) → IsPadded dims body → IsPadded dims (body_above place body)
+padded-above dims place body h = padded-map (λ x. x / 2 ^ (place + 1) * 2 ^ (place + 1)) dims body (no_digit-above place) h
+
+pub padded-filled : (dims : ℕ) (body : List ℕ) → length (take dims body) ≡ dims → IsFilled dims body → IsPadded dims body
+padded-filled dims body many h = ap (λ u. drop dims u) h ∙ drop_at (take dims body) (replicate (16 - dims) 0) dims many
 
 -- zeros behind, of a list that is cut there
 pub filled-behind : (dims : ℕ) (body : List ℕ) → drop dims body ≡ replicate (16 - dims) 0 → IsFilled dims body

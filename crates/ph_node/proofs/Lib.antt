@@ -11,6 +11,7 @@ mod Fitting
 mod Full
 mod Halves
 mod Keeps
+mod Laid
 mod Lent
 mod Lifts
 mod Listings

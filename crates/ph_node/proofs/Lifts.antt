@@ -19,7 +19,8 @@ use Rattle.ph_node.proofs.Contents.{changed, merged-content, node_in, front_fits
 use Rattle.ph_node.proofs.Lent.{lent-is}
 use Rattle.ph_node.proofs.Listings.{length-nodes, get-nodes}
 use Rattle.ph_node.proofs.Lists.{Renewed, points_new}
-use Rattle.ph_node.proofs.Merges.{body-joined, joined}
+use Rattle.ph_bits.specs.Packed.{IsPadded}
+use Rattle.ph_node.proofs.Merges.{body-joined, joined, IsJoined}
 use Rattle.ph_node.proofs.OldNodes.{IsOld, node-one}
 use Rattle.ph_node.proofs.Slotted.{at-slot}
 use Rattle.ph_node.proofs.Spliced.{length-edited}
@@ -107,10 +108,16 @@ module _ (t : PlainNode) (i j : ℕ) (p : IsPair t.level (body_at (entries t) i)
       abbrev body : List ℕ
       body = known ++ drop n old.body
 
+      joins : IsJoined d x.level other.addr old.body other.body (known ++ drop n old.body)
+      joins =
+          joined d n m x.level other.addr old.body other.body known e f r.fields.0 q.fields.0 (subst (HasZerosFrom x.level) r.body child_zeros)
+          (join ∙ ap (λ l. put_together l other.addr (body_above l (take n old.body)) (take m other.body)) h)
+
+      pub merged_padded : IsPadded d (known ++ drop n old.body)
+      merged_padded = joins.behind ∙ r.padded
+
       made : take d (known ++ drop n old.body) ≡ put_together x.level other.addr (take d old.body) (take d other.body)
-      made =
-          (joined d n m x.level other.addr old.body other.body known e f r.fields.0 q.fields.0 (subst (HasZerosFrom x.level) r.body child_zeros)
-          (join ∙ ap (λ l. put_together l other.addr (body_above l (take n old.body)) (take m other.body)) h)).front
+      made = joins.front
 
       beside : take d (known ++ drop n old.body) ≡ body_beside (body_at (entries t) i) (what_at (entries t) i) j
       beside =

@@ -9,16 +9,15 @@ use Rattle.ph_node.specs.OneEdit.{held_by}
 use Rattle.ph_node.specs.Pairs.{below_flat, in_order, pair_flats, flats_in_pair, written_flat}
 use Rattle.ph_node.specs.declared.pairs.Written.{Written}
 use Rattle.ph_node.specs.declared.olds.OldEntry.{OldEntry}
-use Rattle.ph_node.specs.declared.pairs.PairOf.{PairOf}
 
 -- a pair in order, by its entries
 at-dims : (n d place : ℕ) (w : Written) (body : List ℕ) (o : Option ℕ) → n ≡ d → written_flat n w ≡ below_flat place (take n body) o → written_flat d w ≡ below_flat place (take d body) o
 at-dims n d place w body o e h = subst (λ m. written_flat m w ≡ below_flat place (take m body) o) e h
 
-pub pair_is : {P : Type 0} (d n m place : ℕ) (p : PairOf P) (a b : Written) (old : OldEntry) (body : List ℕ) (v : ℕ) → n ≡ d → m ≡ d
-    → written_flat n a ≡ below_flat place (take n old.body) (held_by old) → written_flat m b ≡ below_flat place (take m body) (Some v) → flats_in_pair d p ≡ in_order (written_flat d a) (written_flat d b)
-    → flats_in_pair d p ≡ pair_flats d place old body v
-pair_is d n m place p a b old body v e f g h q =
+pub pair_is : (d n m place : ℕ) (first second a b : Written) (old : OldEntry) (body : List ℕ) (v : ℕ) → n ≡ d → m ≡ d
+    → written_flat n a ≡ below_flat place (take n old.body) (held_by old) → written_flat m b ≡ below_flat place (take m body) (Some v) → flats_in_pair d first second ≡ in_order (written_flat d a) (written_flat d b)
+    → flats_in_pair d first second ≡ pair_flats d place old body v
+pair_is d n m place first second a b old body v e f g h q =
     q
     ∙ ap (λ x. in_order x (written_flat d b)) (at-dims n d place a old.body (held_by old) e g)
     ∙ ap (λ x. in_order (below_flat place (take d old.body) (held_by old)) x) (at-dims m d place b body (Some v) f h)

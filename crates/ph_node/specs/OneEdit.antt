@@ -68,6 +68,7 @@ pub record IsEdit (dims : ℕ) (n : PlainNode) (e : Edit) : Type 0 where
   pub front : e.place ≡ place_for e.entry.addr (entries n)
   pub behind : e.place + e.less ≡ place_for (e.entry.addr + 1) (entries n)
   pub rise : AreRising dims n.level 0 (edit_flats dims n e)
+  pub padded : IsPadded dims e.entry.body
 
 -- ---- an entry that was read
 

@@ -5,7 +5,6 @@ use Rattle.ph_specs.specs.PutTree.{body_address, body_below}
 use Rattle.ph_bits.specs.Edits.{new_flat}
 use Rattle.ph_node.specs.OneEdit.{held_by}
 use Rattle.ph_node.specs.declared.olds.OldEntry.{OldEntry}
-use Rattle.ph_node.specs.declared.pairs.PairOf.{PairOf}
 use Rattle.ph_node.specs.declared.pairs.Written.{Written}
 
 abbrev pub below_flat : ℕ → List ℕ → Option ℕ → Flat
@@ -23,5 +22,5 @@ pair_flats dims place old body v =
 abbrev pub written_flat : ℕ → Written → Flat
 written_flat dims w = new_flat dims w.entry w.value
 
-abbrev pub flats_in_pair : {P : Type 0} → ℕ → PairOf P → List Flat
-flats_in_pair dims p = written_flat dims p.first.now ∷ written_flat dims p.second.now ∷ []
+abbrev pub flats_in_pair : ℕ → Written → Written → List Flat
+flats_in_pair dims first second = written_flat dims first ∷ written_flat dims second ∷ []

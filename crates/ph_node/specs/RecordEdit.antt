@@ -6,6 +6,7 @@ use Rattle.ph_specs.specs.Node.{Flat}
 use Rattle.ph_specs.specs.Pack.{values, record_of}
 use Rattle.ph_specs.specs.Record.{first_in, entries_in}
 use Rattle.ph_bits.specs.Edits.{edit_of, words_wanted}
+use Rattle.ph_bits.specs.Packed.{IsPadded}
 use Rattle.ph_bits.specs.declared.edits.Edit.{Edit}
 use Rattle.ph_node.specs.Recorded.{IsSource}
 
@@ -34,3 +35,4 @@ pub record IsRecordEdit (dims : ℕ) (words : List ℕ) (e : Edit) : Type 0 wher
   pub front : e.place ≡ entries_before dims words e.entry.addr
   pub behind : e.place + e.less ≡ entries_before dims words (e.entry.addr + 1)
   pub rise : AreRising dims (first_in words).level 0 (with_edit dims words e)
+  pub padded : IsPadded dims e.entry.body

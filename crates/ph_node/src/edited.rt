@@ -2,6 +2,7 @@
 
 ghost use Rattle.std.specs.Prelude.{◌≡◌, ◌+◌, ◌^◌, ◌<◌, ◌≤◌, true, false};
 ghost use Rattle.ph_specs.specs.Record.{first_in};
+ghost use Rattle.ph_bits.specs.Packed.{IsPadded};
 ghost use Rattle.ph_node.specs.Recorded.{IsSource};
 
 use crate::records;
@@ -18,6 +19,7 @@ pub(crate) struct EditedOf<'t, P: Dims> {
     ghost source: { IsSource P.D old.now },
     ghost within: { edit.place + edit.less ≤ (first_in old.now).entries },
     ghost few: { edit.more ≤ 1 },
+    ghost padded: { IsPadded P.D edit.entry.body },
 }
 
 impl<'t, P: Dims> Entries<P> for EditedOf<'t, P> {

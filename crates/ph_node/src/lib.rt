@@ -9,6 +9,7 @@
 
 mod adds;
 mod assembles;
+mod builds;
 mod dissolves;
 mod edited;
 mod edits;

@@ -3,6 +3,7 @@
 ghost use Rattle.std.specs.Prelude.{◌≡◌, ◌≢◌, ◌<◌, ◌≤◌, take, length, if◌then◌else◌, Some, None, IfOk};
 ghost use Rattle.ph_specs.specs.Pack.{record_of};
 ghost use Rattle.ph_specs.specs.PutTree.{body_address};
+ghost use Rattle.ph_bits.specs.Packed.{IsPadded};
 ghost use Rattle.ph_node.specs.Pairs.{below_flat, in_order, pair_flats, flats_in_pair, written_flat};
 
 use crate::olds::OldEntry;
@@ -26,12 +27,14 @@ pub(crate) struct PairOf<'t, P: Dims> {
     first: &'t Written,
     second: &'t Written,
     dims: PhantomData<P>,
+    ghost first_padded: { IsPadded P.D first.now.entry.body },
+    ghost second_padded: { IsPadded P.D second.now.entry.body },
 }
 
 impl<'t, P: Dims> Entries<P> for PairOf<'t, P> {
     ghost use Rattle.ph_node.specs.Pairs.{flats_in_pair};
 
-    ghost list = { λ s. flats_in_pair P.D s };
+    ghost list = { λ s. flats_in_pair P.D s.first.now s.second.now };
 
     fn count(&self) -> usize {
         2
@@ -67,7 +70,9 @@ pub(crate) fn pair_below<P: Dims>(
     requires few { P.D ≤ 16 }
     requires low { level ≤ 61 }
     requires old { length (take P.D old.now.body) ≡ P.D }
+    requires old_padded { IsPadded P.D old.now.body }
     requires body { length (take P.D body.now) ≡ P.D }
+    requires body_padded { IsPadded P.D body.now }
     requires differ { body_address level (take P.D old.now.body) ≢ body_address level (take P.D body.now) }
     ensures { IfOk result (λ w. w.words ≡ record_of P.D level (pair_flats P.D level old.now body.now v)) }
 {
@@ -81,7 +86,9 @@ pub(crate) fn pair_below<P: Dims>(
 
 // Two entries in the order of their addresses.
 fn in_order<'t, P: Dims>(old: &'t Written, new: &'t Written) -> PairOf<'t, P>
-    ensures { flats_in_pair P.D result ≡ in_order (written_flat P.D old.now) (written_flat P.D new.now) }
+    requires old { IsPadded P.D old.now.entry.body }
+    requires new { IsPadded P.D new.now.entry.body }
+    ensures { flats_in_pair P.D result.first.now result.second.now ≡ in_order (written_flat P.D old.now) (written_flat P.D new.now) }
 {
     let (first, second) = if new.entry.addr < old.entry.addr {
         (new, old)
@@ -99,7 +106,9 @@ fn in_order<'t, P: Dims>(old: &'t Written, new: &'t Written) -> PairOf<'t, P>
 fn written_below(dims: usize, place: u32, child: bool, body: &[u64; 16], value: u64) -> Written
     requires place { place < 64 }
     requires few { dims ≤ 16 }
-    ensures { written_flat dims result ≡ below_flat place (take dims body.now) (if child then None else Some value) }
+    requires padded { IsPadded dims body.now }
+    ensures entry { written_flat dims result ≡ below_flat place (take dims body.now) (if child then None else Some value) }
+    ensures padded { IsPadded dims result.entry.body }
 {
     let entry = Packed {
         addr: body_address(place, &body[..dims]),

@@ -3,10 +3,11 @@
 ghost use Rattle.std.specs.Prelude.{◌≡◌, ◌+◌, ◌^◌, ◌<◌, ◌≤◌, [], ◌∷◌, take, OnErr, OnOk, IfOk};
 ghost use Rattle.ph_specs.specs.Node.{node_of};
 ghost use Rattle.ph_specs.specs.EntryEdits.{point_entry};
+ghost use Rattle.ph_bits.specs.Packed.{IsPadded};
 ghost use Rattle.ph_node.specs.Bodies.{IsBodyArray};
 
+use crate::NoMemory;
 use crate::node::NodeOf;
-use crate::{NoMemory, records};
 use ph_bits::{Entries, Packed};
 use ph_coord::Dims;
 use ph_steps::Steps;
@@ -21,6 +22,7 @@ struct OneOf<P: Dims> {
     body: [u64; 16],
     value: u64,
     dims: PhantomData<P>,
+    ghost padded: { IsPadded P.D body },
 }
 
 impl<P: Dims> Entries<P> for OneOf<P> {
@@ -71,19 +73,12 @@ impl<P: Dims> NodeOf<P> {
         ensures cost { OnOk result (changes.new ≡ changes.old + 1) }
         ensures spared { OnErr result (changes.new ≡ changes.old) }
     {
-        let mut words = records::block::<P>(alloc, level, 1, 1)?;
-        let from: OneOf<P> = OneOf {
+        let entries: OneOf<P> = OneOf {
             addr,
             body,
             value: v,
             dims: PhantomData,
         };
-        records::write::<P, OneOf<P>>(&mut words, level, &from);
-        changes.tick();
-        Ok(NodeOf {
-            words,
-            children: Vec::new(alloc),
-            dims: PhantomData,
-        })
+        NodeOf::from_entries::<OneOf<P>, C>(alloc, level, &entries, Vec::new(alloc), changes)
     }
 }

@@ -1,6 +1,7 @@
 //! Entries of at most two dimensions as a list.
 
-ghost use Rattle.std.specs.Prelude.{◌≡◌, ◌∷◌, ◌≤◌, true, length, replicate};
+ghost use Rattle.std.specs.Prelude.{◌≡◌, ◌∷◌, ◌≤◌, true, length, replicate, take};
+ghost use Rattle.ph_bits.specs.Packed.{IsPadded};
 ghost use Rattle.ph_record_trials.specs.Listed.{IsItem, IsWritable, body_of};
 
 use ph_bits::{Entries, Packed};
@@ -31,7 +32,7 @@ impl<'t, P: Dims> Entries<P> for Items<'t> {
 
     fn at(&self, i: usize) -> Packed {
         let item = &self.items[i];
-        let body = body_of(item.fields);
+        let body = body_of(P::D, item.fields);
         Packed {
             addr: item.addr,
             child: item.value.is_none(),
@@ -48,12 +49,17 @@ impl<'t, P: Dims> Entries<P> for Items<'t> {
     }
 }
 
-// A body of two fields.
-fn body_of(fields: (u64, u64)) -> [u64; 16]
-    ensures { result ≡ body_of fields }
+// A body of as many of two fields as there are dimensions.
+fn body_of(dims: usize, fields: (u64, u64)) -> [u64; 16]
+    ensures fields { take dims result ≡ take dims (body_of fields) }
+    ensures zeros { IsPadded dims result }
 {
     let (x, y) = fields;
-    [x, y, 0, 0, 0, 0, 0, 0, 0, 0, 0, 0, 0, 0, 0, 0]
+    match dims {
+        0 => [0; 16],
+        1 => [x, 0, 0, 0, 0, 0, 0, 0, 0, 0, 0, 0, 0, 0, 0, 0],
+        _ => [x, y, 0, 0, 0, 0, 0, 0, 0, 0, 0, 0, 0, 0, 0, 0],
+    }
 }
 
 // Whether entries can be written: from the last to the first, each address is below the next.

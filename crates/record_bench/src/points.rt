@@ -1,6 +1,6 @@
 //! The entries that are written.
 
-ghost use Rattle.std.specs.Prelude.{◌≡◌, ◌*◌, ◌^◌, ◌<◌, ◌≤◌};
+ghost use Rattle.std.specs.Prelude.{◌≡◌, ◌*◌, ◌^◌, ◌<◌, ◌≤◌, ◌++◌, drop, replicate};
 
 use ph_bits::{Entries, Packed};
 use ph_coord::Dims;
@@ -64,10 +64,11 @@ impl<P: Dims> Entries<P> for Points<P> {
     }
 
     fn at(&self, i: usize) -> Packed {
+        let body = body_of(P::D, self.field);
         Packed {
             addr: i as u32 * self.step,
             child: false,
-            body: [self.field; 16],
+            body,
             rank: 0,
         }
     }
@@ -75,4 +76,16 @@ impl<P: Dims> Entries<P> for Points<P> {
     fn value(&self, i: usize) -> u64 {
         i as u64 * self.step as u64
     }
+}
+
+// A body whose fields are one number.
+fn body_of(dims: usize, field: u64) -> [u64; 16]
+    requires { dims ≤ 16 }
+    ensures { result ≡ replicate dims field ++ drop dims (replicate 16 0) }
+{
+    let mut body = [0; 16];
+    'fields: for i in 0..dims {
+        body[i] = field;
+    }
+    body
 }

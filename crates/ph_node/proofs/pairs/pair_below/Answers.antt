@@ -16,5 +16,5 @@ pub write-requires-clause-rise : goal.write-requires-clause-rise
 write-requires-clause-rise g c =
     let r = c.requires in
     subst (AreRising g.P.Dims.D c.args.level 0)
-    (sym (pair_is g.P.Dims.D _ _ c.args.level c.in_order-pair.result c.written_below-was.result c.written_below-joins.result c.args.old.now c.args.body.now c.args.v c.D.ensures c.D-2.ensures c.written_below-was.ensures c.written_below-joins.ensures c.in_order-pair.ensures))
+    (sym (pair_is g.P.Dims.D _ _ c.args.level c.in_order-pair.result.first.now c.in_order-pair.result.second.now c.written_below-was.result c.written_below-joins.result c.args.old.now c.args.body.now c.args.v c.D.ensures c.D-2.ensures c.written_below-was.ensures.entry c.written_below-joins.ensures.entry c.in_order-pair.ensures))
     (rising-order g.P.Dims.D c.args.level (take g.P.Dims.D c.args.old.now.body) (take g.P.Dims.D c.args.body.now) (held_by c.args.old.now) (Some c.args.v) r.old r.body r.differ)

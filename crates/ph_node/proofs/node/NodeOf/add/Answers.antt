@@ -2,6 +2,7 @@ use Rattle.std.proofs.Common.{◌≡◌, ◌+◌, ◌∙◌, arith, take}
 use Rattle.ph_specs.proofs.laws.EntryEdits.{absent-by}
 use Rattle.ph_node.proofs.Additions.{added, place_within}
 use Rattle.ph_node.proofs.Addressed.{place_absent}
+use Rattle.ph_node.proofs.Filled.{padded-filled}
 use Rattle.ph_node.proofs.Listings.{length-nodes}
 use Rattle.ph_node.proofs.Lists.{rise_new, points_new, kept_new, seen_new}
 use Rattle.ph_node.proofs.OldNodes.{old}
@@ -19,6 +20,7 @@ edited-requires-clause-edit g c =
       front = c.requires.place;
       behind = (let z : c.args.i + 0 ≡ c.args.i = omega arith in z) ∙ c.requires.place ∙ place_absent c.args.addr _ (absent-by c.args.addr _ c.requires.absent);
       rise = rise_new _ _ _ _ _ r;
+      padded = padded-filled g.P.Dims.D c.args.body c.requires.body.fields.0 c.requires.body.filled;
     }
 
 pub edited-requires-clause-children : goal.edited-requires-clause-children

@@ -1,4 +1,5 @@
 use Rattle.std.proofs.Common.{arith, sym}
+use Rattle.std.proofs.lemmas.List.{drop-replicate}
 use Rattle.ph_node.proofs.Addressed.{address_low, front_at, behind_at}
 use Rattle.ph_node.proofs.Lists.{rise_new, kept_new, seen_new}
 use Rattle.ph_node.proofs.OldNodes.{old}
@@ -16,6 +17,7 @@ write_edited-requires-clause-edit g c =
       front = front_at _ _ _ _ o c.args.spot.place c.requires.spot.within _ (sym c.requires.spot.address);
       behind = behind_at _ _ _ _ o c.args.spot.place c.requires.spot.within _ (sym c.requires.spot.address);
       rise = rise_new _ _ _ _ _ (removed _ _ _ _ o c.args.spot.place _ c.requires.spot.within c.requires.point c.requires.many);
+      padded = drop-replicate g.P.Dims.D 16 0;
     }
 
 pub write_edited-requires-clause-room : goal.write_edited-requires-clause-room

@@ -12,7 +12,7 @@ use Rattle.ph_node.specs.Recorded.{IsRecorded}
 use Rattle.ph_node.specs.Slots.{nodes_of}
 use Rattle.ph_node.proofs.Addressed.{address_low, front_at, behind_at}
 use Rattle.ph_node.proofs.Contents.{node_in}
-use Rattle.ph_node.proofs.Lifts.{front_in, child_is, child_at, two, kids_one, lifted, merged_new, room_merged}
+use Rattle.ph_node.proofs.Lifts.{front_in, child_is, child_at, two, kids_one, lifted, merged_new, merged_padded, room_merged}
 use Rattle.ph_node.proofs.Lists.{rise_new, kept_new, seen_new}
 use Rattle.ph_node.proofs.Merges.{body-wider}
 use Rattle.ph_node.proofs.OldNodes.{old}
@@ -51,6 +51,7 @@ write_edited-requires-clause-edit g c =
       front = front_at _ _ _ _ o c.args.spot.place q.spot.within _ c.old_entry-old.ensures.addr;
       behind = behind_at _ _ _ _ o c.args.spot.place q.spot.within _ c.old_entry-old.ensures.addr;
       rise = rise_new _ _ _ _ _ (merged_new c.args.self.now c.args.spot.place c.args.j q.child q.one q.point c.index.result.now.node is _ _ _ o c.old_entry-old.result c.entry_beside-other.result c.old_entry-old.ensures c.entry_beside-other.ensures q.spot.within _ _ _ _ c.D.ensures c.D-2.ensures c.level.ensures.value c.join.ensures);
+      padded = merged_padded c.args.self.now c.args.spot.place c.args.j q.child q.one q.point c.index.result.now.node is _ _ _ o c.old_entry-old.result c.entry_beside-other.result c.old_entry-old.ensures c.entry_beside-other.ensures q.spot.within _ _ _ _ c.D.ensures c.D-2.ensures c.level.ensures.value c.join.ensures;
     }
 
 pub write_edited-requires-clause-room : goal.write_edited-requires-clause-room

@@ -6,6 +6,7 @@ use Rattle.ph_specs.specs.Pack.{record_of}
 use Rattle.ph_specs.specs.Record.{unpacked}
 use Rattle.ph_specs.proofs.laws.EntryLists.{node_of-entries}
 use Rattle.ph_bits.specs.Edits.{edited}
+use Rattle.ph_bits.specs.Packed.{IsPadded}
 use Rattle.ph_bits.specs.declared.edits.Edit.{Edit}
 use Rattle.ph_node.specs.OneEdit.{ones_of, before, edit_flats}
 use Rattle.ph_node.specs.RecordEdit.{IsRecordEdit, record_with}
@@ -13,6 +14,7 @@ use Rattle.ph_node.specs.Recorded.{IsRecorded}
 use Rattle.ph_node.specs.Slots.{nodes_of}
 use Rattle.ph_node.specs.Split.{body_at, split_node}
 use Rattle.ph_node.proofs.Addressed.{address_low, front_at, behind_at}
+use Rattle.ph_node.proofs.Filled.{padded-above, padded-filled}
 use Rattle.ph_node.proofs.Halves.{lower, part_there, addresses_differ, child_new, parent_new, pair_entries, front_within, place_left, kids_are, put_is}
 use Rattle.ph_node.proofs.Lists.{rise_new, kept_new, seen_new}
 use Rattle.ph_node.proofs.OldEdits.{source_at, count_at, moved}
@@ -39,6 +41,9 @@ body_above-requires g c =
     let o = old _ _ _ _ c.self.view_is c.self.invariant in
     omega (arith, o.kept.low, lower _ _ _ _ o c.args.spot.place c.old_entry-old.result c.old_entry-old.ensures q.spot.within c.place_apart-level.result c.args.v c.args.body.now q.body c.place_apart-level.ensures)
 
+pub pair_below-requires-clause-body_padded : goal.pair_below-requires-clause-body_padded
+pair_below-requires-clause-body_padded g c = padded-filled g.P.Dims.D c.args.body.now c.requires.body.fields.0 c.requires.body.filled
+
 -- the edit is one of the record
 record_edit : (g : Over) (c : After-D g) → IsRecordEdit g.P.Dims.D c.self.inside.words.words (record { place = c.args.spot.place; less = 1; more = 1; entry = record { addr = c.old_entry-old.result.addr; child = true; body = c.body_above.result; rank = 0 }; value = 0 })
 record_edit g c =
@@ -54,6 +59,7 @@ record_edit g c =
       front = front_at _ _ _ _ o i q.spot.within _ c.old_entry-old.ensures.addr ∙ sym (front-there _ _ _ _ _ _ c.self.view_is c.self.invariant refl refl c.old_entry-old.result.addr);
       behind = behind_at _ _ _ _ o i q.spot.within _ c.old_entry-old.ensures.addr ∙ sym (front-there _ _ _ _ _ _ c.self.view_is c.self.invariant refl refl (c.old_entry-old.result.addr + 1));
       rise = moved _ _ _ _ _ o refl e _ refl (λ l fs. AreRising g.P.Dims.D l 0 fs) (rise_new _ _ _ _ _ (parent_new _ _ _ _ o i c.old_entry-old.result c.old_entry-old.ensures q.spot.within c.place_apart-level.result c.args.v c.args.body.now q.body c.place_apart-level.ensures c.body_above.result c.body_above.ensures));
+      padded = subst (λ b. IsPadded g.P.Dims.D b) (sym c.body_above.ensures) (padded-above g.P.Dims.D c.place_apart-level.result c.args.body.now (padded-filled g.P.Dims.D c.args.body.now q.body.fields.0 q.body.filled));
     }
 
 pub put_child-requires-clause-edit : goal.put_child-requires-clause-edit

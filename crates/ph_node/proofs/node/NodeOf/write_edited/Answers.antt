@@ -21,6 +21,7 @@ write_edited-requires-clause-edit g c =
       front = c.requires.edit.front ∙ sym (front-there _ _ _ _ _ _ c.self.view_is c.self.invariant c.as_slice.ensures refl e.entry.addr);
       behind = c.requires.edit.behind ∙ sym (front-there _ _ _ _ _ _ c.self.view_is c.self.invariant c.as_slice.ensures refl (e.entry.addr + 1));
       rise = moved _ _ _ _ _ o c.as_slice.ensures e _ refl (λ l fs. AreRising g.P.Dims.D l 0 fs) c.requires.edit.rise;
+      padded = c.requires.edit.padded;
     }
 
 pub write_edited-requires-clause-room : goal.write_edited-requires-clause-room

@@ -1,6 +1,7 @@
 use Rattle.std.proofs.Common.{◌≡◌, ap, sym, ◌∙◌, take}
 use Rattle.std.specs.Prelude.{Some}
 use Rattle.ph_specs.specs.Record.{read}
+use Rattle.ph_node.proofs.Filled.{padded-filled}
 use Rattle.ph_node.specs.Shown.{shown, entry_of, what_of}
 use Rattle.ph_trials.proofs.Written.{holds_child, read-at}
 use Rattle.ph_trials.proofs.records.GatheredEntries.at.Goals as goal
@@ -17,4 +18,5 @@ returns g c =
     record {
       entry = read-at (shown c.args.self.now.node) c.args.i (entry_of g.P.Dims.D e) c.entry-entry.ensures.shows
           ∙ ap (λ b. Some (read b e.addr (take g.P.Dims.D e.body))) is;
+      zeros = padded-filled g.P.Dims.D e.body c.entry-entry.ensures.body.fields.0 c.entry-entry.ensures.body.filled;
     }
