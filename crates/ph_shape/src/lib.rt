@@ -4,6 +4,7 @@
 //! A tree is at most as many nodes deep as its coordinates have bits, so that no call recurses deeper than 62 nodes.
 #![tactic(auto)]
 
+mod cuts;
 mod plain;
 mod rows;
 mod shape;
@@ -11,7 +12,9 @@ mod space;
 #[cfg(test)]
 mod tests;
 
+pub use cuts::group_len;
 pub use plain::{Plain, PlainOf};
 pub use rows::rows_of;
 pub use shape::shape_of;
+pub use space::Space;
 pub use std::alloc::AllocError as NoMemory;

@@ -4,10 +4,11 @@ ghost use Rattle.ph_specs.specs.Lawful.{IsLawful, rows as rows_in};
 ghost use Rattle.ph_specs.specs.Shape.{node_at, node_below, shape};
 ghost use Rattle.ph_specs.specs.Table.{IsTable};
 ghost use Rattle.ph_shape.specs.Bodies.{IsFilled};
-ghost use Rattle.ph_shape.specs.Groups.{HaveAddress, IsGroup, IsCut, group_entry};
+ghost use Rattle.ph_shape.specs.Groups.{HaveAddress, IsGroup, group_entry};
 ghost use Rattle.ph_shape.specs.View.{entry_of};
 
 use crate::NoMemory;
+use crate::cuts::group_len;
 use crate::plain::{EntryOf, HeldOf, Plain, PlainOf};
 use crate::space::Space;
 use ph_coord::{Dim, Row, Width};
@@ -94,19 +95,4 @@ fn group_entry_of<P: Space>(
             Ok(EntryOf { addr, body, held })
         }
     }
-}
-
-// How many rows in front have an address at a place.
-fn group_len<P: Space>(w: Width, place: u32, addr: u32, rows: &[P::Row]) -> usize
-    requires dims { P.D ≤ 16 }
-    requires place { place < w }
-    requires rows { IsGroup w P.D (place + 1) (map P.row_of rows.now) }
-    ensures { IsCut w place addr (map P.row_of rows.now) result }
-{
-    for (i, row) in rows.iter().enumerate() {
-        if P::address(w, row, place) != addr {
-            return i;
-        }
-    }
-    rows.len()
 }

@@ -13,34 +13,40 @@ ghost use Rattle.ph_shape.specs.Bodies.{filled, AreBelow};
 use ph_coord::{Dim, Dims, Point, Row, Width, offsets_of};
 use ph_digits::{body_above, body_below};
 
-pub(crate) trait Space: Dims {
+/// Rows of points of so many dimensions, their addresses, and the bodies of their entries.
+pub trait Space: Dims {
+    /// A point of the dimensions, with a value.
     type Row: Drop;
 
     ghost row_of: { Self.Row → TableRow };
 
+    /// The hypercube address of a row's point at a place of the width.
     fn address(w: Width, row: &Self::Row, place: u32) -> u32
         requires dims { Self.D ≤ 16 }
         requires point { IsPoint w Self.D (row_of row.now).point }
         requires place { place < w }
         ensures { result ≡ address w (row_of row.now).point place };
 
+    /// The value of a row.
     fn value(row: &Self::Row) -> u64
         ensures { result ≡ (row_of row.now).value };
 
+    /// The greatest place at which the points of two rows differ, and none where they are one point.
     fn top_difference(w: Width, first: &Self::Row, last: &Self::Row) -> Option<u32>
         requires first { IsPoint w Self.D (row_of first.now).point }
         requires last { IsPoint w Self.D (row_of last.now).point }
         ensures { MatchOption result ((row_of first.now).point ≡ (row_of last.now).point)
             (λ place. IsTopDifference w (row_of first.now).point (row_of last.now).point place) };
 
-    /// The body of a row's point entry.
+    /// The body of a row's point entry in a node that splits at a place: the digits below the place, then zeros.
     fn point_body(w: Width, row: &Self::Row, place: u32) -> [u64; 16]
         requires dims { Self.D ≤ 16 }
         requires point { IsPoint w Self.D (row_of row.now).point }
         requires place { place < 64 }
         ensures { result ≡ filled (digits_below w place (row_of row.now).point) };
 
-    /// The body of the child entry that a row is behind.
+    /// The body of the child entry that a row is behind: the digits below the place and above `low`, the place at which the child
+    /// splits, then zeros.
     fn child_body(w: Width, row: &Self::Row, place: u32, low: u32) -> [u64; 16]
         requires dims { Self.D ≤ 16 }
         requires point { IsPoint w Self.D (row_of row.now).point }

@@ -7,6 +7,8 @@ mod alike;
 #[cfg(test)]
 mod boxes;
 #[cfg(test)]
+mod builds;
+#[cfg(test)]
 mod edits;
 #[cfg(test)]
 mod known;

@@ -1,0 +1,11 @@
+-- Lemmas on trees of many rows.
+mod Chains
+mod Flats
+mod Sorted
+mod Lasts
+mod Made
+mod Orders
+mod Parted
+mod Rises
+mod Rooted
+mod Rows

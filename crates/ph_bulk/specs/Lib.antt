@@ -1,0 +1,3 @@
+-- What the contracts of `ph_bulk` cite.
+pub mod Order
+pub mod Parts
