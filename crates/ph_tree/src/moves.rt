@@ -31,10 +31,9 @@ pub enum Moved {
     Taken,
 }
 
-// Puts the value at one point of a tree to another, and then takes the first out, where no row is at the other. The put
-// itself sees whether one is, and only where it gets no block the point is looked up. All memory is taken before the first
-// change: the block for the removal has room for the longest record on the way of the first point, and for what the put may
-// add to one.
+// Puts the value at one point of a tree to another, and then takes the first out, where no row is at the other. That is looked
+// up first, so a point that is taken takes no memory. All memory is taken before the first change: the block for the removal
+// has room for the longest record on the way of the first point, and for what the put may add to one.
 pub(crate) fn move_in<P: Dims, V: Ledger, C: Ledger>(
     root: &mut Option<NodeOf<P>>,
     alloc: Global,
@@ -65,7 +64,7 @@ pub(crate) fn move_in<P: Dims, V: Ledger, C: Ledger>(
     ensures err { OnErr result (root.new ≡ root.old) }
     ensures visits { visits.new
         ≤ visits.old
-        + 2 * opened_in to.now.width root.old to.now.point
+        + 3 * opened_in to.now.width root.old to.now.point
         + 2
         * opened_in from.now.width (put_tree to.now.width P.D root.old to.now.point found.value)
         from.now.point }
@@ -76,11 +75,11 @@ pub(crate) fn move_in<P: Dims, V: Ledger, C: Ledger>(
     ensures kept { changes.old ≤ changes.new }
     ensures made { find_tree to.now.width P.D root.old to.now.point ≡ None → OnOk result (changes.old + 1 ≤ changes.new) }
 {
+    if find_long(root, to, visits).is_some() {
+        return Ok(Moved::Taken);
+    }
     let Ok(block) = Words::with_room(alloc, found.longest + more_words(to.width(), P::D)) else {
-        return match find_long(root, to, visits) {
-            Some(_) => Ok(Moved::Taken),
-            None => Err(NoMemory),
-        };
+        return Err(NoMemory);
     };
     let mut removal = Removal {
         alloc,
