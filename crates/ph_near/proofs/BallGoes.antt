@@ -1,5 +1,5 @@
 -- How a sweep goes on.
-use Rattle.std.proofs.Common.{le-leb, ◌≡◌, ℕ, suc, ◌+◌, ◌-◌, ◌<◌, ◌≤◌, List, [], ◌∷◌, ◌++◌, length, replicate, refl, sym, ◌∙◌, ap, subst, arith, Bool, true, false, append-nil}
+use Rattle.std.proofs.Common.{le-leb, ◌≡◌, ℕ, suc, ◌+◌, ◌-◌, ◌<◌, ◌≤◌, List, [], ◌∷◌, ◌++◌, length, replicate, refl, sym, ◌∙◌, ap, subst, arith, true, false, append-nil}
 use Rattle.std.specs.Prelude.{Option, Some, None, slice_get, nat_le}
 use Rattle.std.proofs.lemmas.Bool.{lt-leb}
 use Rattle.ph_specs.specs.BallSearch.{listed_below, opened_below, placed_at}

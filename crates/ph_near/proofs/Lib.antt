@@ -5,6 +5,7 @@ pub mod Entering
 pub mod Steps
 pub mod Pruned
 pub mod Starts
+pub mod NearestRows
 mod Distances
 mod FarRegions
 mod TooFar

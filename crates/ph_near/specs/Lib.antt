@@ -5,3 +5,4 @@ pub mod BallSphere
 pub mod BallSweep
 pub mod Bound
 pub mod Far
+pub mod Nearest

@@ -5,6 +5,8 @@ ghost use Rattle.std.specs.Option.{option_copied};
 ghost use Rattle.ph_specs.specs.Coordinate.{coordinate, IsPoint};
 ghost use Rattle.ph_specs.specs.Lawful.{IsBody, IsLawful, rows};
 ghost use Rattle.ph_specs.specs.Distance.{near};
+ghost use Rattle.ph_specs.specs.Nearness.{IsNearest};
+ghost use Rattle.ph_near.specs.Nearest.{rows_hit};
 ghost use Rattle.ph_specs.specs.WorkSets.{reach};
 ghost use Rattle.ph_table.specs.Hits.{hits_of};
 
@@ -40,6 +42,7 @@ pub fn nearest<const D: usize, V: Ledger>(
 ) -> Result<Vec<Hit<D>>, NoMemory>
     requires point { IsPoint tree.now.width D q }
     ensures hits { IfOk result (λ hits. hits.items ≡ hits_of q.entry (near q.entry n tree.now.table)) }
+    ensures nearest { IfOk result (λ hits. IsNearest tree.now.width q.entry n tree.now.table (rows_hit hits.items)) }
     ensures none { n ≡ 0 → IsOk result }
     ensures visits { visits.new ≤ visits.old + length (reach tree.now.width D tree.now.table q.entry n) }
     ensures grows { visits.old ≤ visits.new }
