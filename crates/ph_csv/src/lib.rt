@@ -11,6 +11,6 @@ mod rows;
 mod tests;
 
 pub use fault::CsvFault;
-pub use line::write_row;
+pub use line::{LINE_BYTES, row_line};
 pub use rows::read_rows;
 pub use std::alloc::AllocError as NoMemory;

@@ -1,7 +1,7 @@
 //! Texts whose rows and faults are known.
 ghost use Rattle.std.specs.Prelude.{◌≤◌};
 
-use crate::{CsvFault, read_rows, write_row};
+use crate::{CsvFault, read_rows, row_line};
 use ph_coord::{Kind, Point, Row, Width};
 use std::alloc::Global;
 use std::test::Fail;
@@ -187,16 +187,12 @@ fn widths(rt: HostRuntime) -> Result<(), Fail> {
 
 #[test]
 fn lines(rt: HostRuntime) -> Result<(), Fail> {
-    let mut text = Vec::new(rt.alloc());
-    write_row(&row([4737, -854], 1), &mut text)?;
-    write_row(&row([0], u64::MAX), &mut text)?;
+    assert_eq!(rt; row_line(&row([4737, -854], 1)).as_str(), "4737,-854,1\n");
     assert_eq!(rt;
-        text.as_slice(),
-        b"4737,-854,1\n0,18446744073709551615\n".as_slice()
+        row_line(&row([0], u64::MAX)).as_str(),
+        "0,18446744073709551615\n"
     );
-    text.clear();
-    write_row(&row([i64::MIN; 16], u64::MAX), &mut text)?;
-    assert_eq!(rt; text.len(), 357);
+    assert_eq!(rt; row_line(&row([i64::MIN; 16], u64::MAX)).len(), 357);
     Ok(())
 }
 
@@ -205,7 +201,11 @@ fn lines(rt: HostRuntime) -> Result<(), Fail> {
 fn many_records(rt: HostRuntime) -> Result<(), Fail> {
     let mut text = Vec::new(rt.alloc());
     for i in 0..4000u32 {
-        write_row(&row([i64::from(i), -1], 1 << 63), &mut text)?;
+        text.extend_from_slice(
+            row_line(&row([i64::from(i), -1], 1 << 63))
+                .as_str()
+                .as_bytes(),
+        )?;
     }
     let rows: Vec<Row<2>> = read(rt.alloc(), &text, Kind::Points, false)?;
     assert_eq!(rt; rows.len(), 4000);

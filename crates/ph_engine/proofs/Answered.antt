@@ -1,6 +1,10 @@
 -- What the answer to one line is, by what the line was read as.
-use Rattle.std.proofs.Common.{◌≡◌, ◌≤◌, ◌+◌, ℕ, arith, Bool, false, List, [], ◌∷◌, ◌++◌, take, refl, ap, sym, ◌∙◌, append-nil, subst}
+use Rattle.std.proofs.Common.{◌≡◌, ◌≤◌, ◌+◌, ℕ, inl, inr, cond, arith, Bool, false, List, [], ◌∷◌, ◌++◌, take, refl, ap, sym, ◌∙◌, append-nil, subst}
 use Rattle.std.specs.Prelude.{Some, None, Ok, Err, Result, IfOk, IfErr}
+use Rattle.std.specs.Ordering.{is_eq}
+use Rattle.std.specs.Cmp.Lexicographic.{nat_list_cmp_total}
+use Rattle.std.proofs.lemmas.Cmp.{tied_itself}
+use Rattle.ph_io.specs.Shelf.{Stays}
 use denote.Ref.{Bor}
 use Rattle.ph_specs.specs.Lines.{words}
 use Rattle.std.specs.declared.option.Option.{Option}
@@ -14,14 +18,15 @@ use Rattle.ph_script.specs.declared.lines.Line.{Line}
 use Rattle.ph_script.specs.declared.lines.Line.TheVariants.{Text, Long}
 use Rattle.ph_script.specs.Shown.{IsLine}
 use Rattle.ph_script.proofs.Pieces.{line-reading, line-from_kept, text-limit}
-use Rattle.ph_engine.specs.Machine.{Machine, Turn, Work, turn, is_refusal, one_if, KEPT, KEPT-is}
+use Rattle.ph_engine.specs.Machine.{Machine, Turn, Met, Work, turn, met, unmet, is_refusal, one_if, KEPT, KEPT-is}
 use Rattle.ph_engine.specs.Costs.{Spent, Worked}
 use Rattle.ph_engine.specs.Working.{no_work, work_of, IsAtMost, IsAtLeast}
 use Rattle.ph_engine.specs.Answering.{Said, SaysOr}
-use Rattle.ph_engine.specs.ScriptMachine.{Whole, whole, told_files, reading_in, script_step, cut_by, starved_by, wants_by, uses_by, work_by, script_machine}
-use Rattle.ph_engine.specs.Beside.{Beside, AreTold, StillTells, Filings}
-use Rattle.ph_engine.specs.Doing.{Done, DoneOr, Knows, Leads, uses_files, cut_engine, starved_engine, refuses}
+use Rattle.ph_engine.specs.ScriptMachine.{Whole, whole, told_files, told_now, told_then, files_found, files_met, file_by, files_in, reading_in, script_step, cut_by, starved_by, wants_by, uses_by, work_by, script_machine}
+use Rattle.ph_engine.specs.Beside.{Beside, AreTold, IsTold, StillTells, Filings}
+use Rattle.ph_engine.specs.Doing.{Done, DoneOr, HoldsFound, Knows, Leads, file_read, uses_files, cut_engine, starved_engine, refuses}
 use Rattle.ph_io.specs.Writing.{WritesFront}
+use Rattle.ph_engine.specs.Serving.{StaysKnown}
 use Rattle.ph_engine.specs.Showing.{IsShort}
 use Rattle.ph_engine.specs.declared.status.Answer.{Answer}
 use Rattle.ph_engine.specs.declared.status.Stop.{Stop}
@@ -36,29 +41,43 @@ shown-short bytes (Text text) h = text-limit bytes text.now h.0 h.1
 shown-short bytes Long h = tt
 
 -- what a line does, by its reading
-step-is : (most : ℕ) (s : Whole) (t : Turn) (reading : Reading) → reading_in s t ≡ reading → script_step most s t ≡ act_on most s.engine s.files t.fault reading
-step-is most s t reading h = ap (act_on most s.engine s.files t.fault) h
+step-is : (most : ℕ) (s : Whole) (t : Turn) (reading : Reading) → reading_in s t ≡ reading → script_step most s t ≡ act_on most s.engine (files_in s t) t.met.fault reading
+step-is most s t reading h = ap (act_on most s.engine (files_in s t) t.met.fault) h
 
 one-text : (r : Reply) → replies_text (r ∷ []) ≡ reply_text r
 one-text r = append-nil (reply_text r)
 
--- the files that are told behind a command
-told-behind : (told now_told : Option Files) (files now_files : Files) → told ≡ Some files → StillTells told now_told now_files → now_files ≡ told_files now_told
-told-behind told now_told files now_files e h = let k : now_told ≡ Some now_files = rw e at h in rw k refl
+-- ---- the files that a line meets
 
-known : (command : Command) (told : Option Files) (files : Files) → told ≡ Some files → Knows command told files
-known command told files e = rw e refl
+holds-found : (name found : Option (List ℕ)) → HoldsFound name (files_found name found) found
+holds-found None found = tt
+holds-found (Some name) None = refl
+holds-found (Some name) (Some bytes) = ap (λ o. cond (is_eq o) (Some bytes) None) (tied_itself nat_list_cmp_total name)
+
+-- a command may have met them
+met-known : (command : Command) (known told : Option Files) (found : Option (List ℕ)) → Stays known told → Knows command told found (files_met known (file_read command) found)
+met-known command None told found fits = inr (holds-found (file_read command) found)
+met-known command (Some files) told found fits = inl fits
+
+-- those of a line that is a command
+files-are : (s : Whole) (t : Turn) (command : Command) → reading_in s t ≡ Do command → files_in s t ≡ files_met s.files (file_read command) t.met.found
+files-are s t command h = ap (λ r. files_met s.files (file_by r) t.met.found) h
+
+-- what is known behind it is told then
+known-then : (command : Command) (known told now_told : Option Files) (found : Option (List ℕ)) (after : Files) → Stays known told → (told ≡ Some (files_met known (file_read command) found) → now_told ≡ Some after) → told_now known now_told ≡ told_then known after
+known-then command None told now_told found after fits h = refl
+known-then command (Some files) told now_told found after fits h = h fits
 
 -- ---- the work of one line
 
-one-spent : (m : Machine Whole) (s : Whole) (t : Turn) (b now_b : Beside) (w : Work) → m.work s t ≡ w → Filings (m.uses s t) (one_if t.fault) b.filings now_b.filings → IsAtMost w b.visits now_b.visits b.changes now_b.changes → Spent m s (t ∷ []) b now_b
+one-spent : (m : Machine Whole) (s : Whole) (t : Turn) (b now_b : Beside) (w : Work) → m.work s t ≡ w → Filings (m.uses s t) (one_if t.met.fault) b.filings now_b.filings → IsAtMost w b.visits now_b.visits b.changes now_b.changes → Spent m s (t ∷ []) b now_b
 one-spent m s t b now_b w e f h = record {
-  filings = let z : one_if t.fault + 0 ≡ one_if t.fault = omega arith in rw (z, or_false (m.uses s t)) f;
+  filings = let z : one_if t.met.fault + 0 ≡ one_if t.met.fault = omega arith in rw (z, or_false (m.uses s t)) f;
   most_visits = omega (arith, h.few_visits, ap (λ x. x.most_visits) e);
   most_changes = omega (arith, h.few_changes, ap (λ x. x.most_changes) e);
 }
 
-one-worked : (m : Machine Whole) (s : Whole) (t : Turn) (b now_b : Beside) (w : Work) → m.work s t ≡ w → Filings (m.uses s t) (one_if t.fault) b.filings now_b.filings → IsAtMost w b.visits now_b.visits b.changes now_b.changes → IsAtLeast w b.visits now_b.visits b.changes now_b.changes → Worked m s (t ∷ []) b now_b
+one-worked : (m : Machine Whole) (s : Whole) (t : Turn) (b now_b : Beside) (w : Work) → m.work s t ≡ w → Filings (m.uses s t) (one_if t.met.fault) b.filings now_b.filings → IsAtMost w b.visits now_b.visits b.changes now_b.changes → IsAtLeast w b.visits now_b.visits b.changes now_b.changes → Worked m s (t ∷ []) b now_b
 one-worked m s t b now_b w e f h l = record {
   spent = one-spent m s t b now_b w e f h;
   least_visits = omega (arith, l.enough_visits, ap (λ x. x.least_visits) e);
@@ -73,9 +92,9 @@ pub record IsQuiet (b now_b : Beside) : Type 0 where
   pub changes : now_b.changes ≡ b.changes
 
 -- the work of a line that is no command
-quiet-work : (most : ℕ) (s : Whole) (line : List ℕ) (reading : Reading) (b now_b : Beside) → IsQuiet b now_b → reading_in s (turn line false) ≡ reading → uses_by reading ≡ false → ((most : ℕ) → work_by most s false reading ≡ no_work) → Worked (script_machine most) s (turn line false ∷ []) b now_b
+quiet-work : (most : ℕ) (s : Whole) (line : List ℕ) (reading : Reading) (b now_b : Beside) → IsQuiet b now_b → reading_in s (turn line unmet) ≡ reading → uses_by reading ≡ false → ((most : ℕ) (files : Files) → work_by most s files false reading ≡ no_work) → Worked (script_machine most) s (turn line unmet ∷ []) b now_b
 quiet-work most s line reading b now_b q h u w =
-    one-worked (script_machine most) s (turn line false) b now_b no_work (ap (work_by most s false) h ∙ w most) (rw (h, u, q.filings) (no-filings b.filings))
+    one-worked (script_machine most) s (turn line unmet) b now_b no_work (ap (work_by most s (files_in s (turn line unmet)) false) h ∙ w most (files_in s (turn line unmet))) (rw (h, u, q.filings) (no-filings b.filings))
     (record { few_visits = omega (arith, q.visits); few_changes = omega (arith, q.changes) })
     (record { enough_visits = omega (arith, q.visits); enough_changes = omega (arith, q.changes) })
 
@@ -83,106 +102,176 @@ quiet-work most s line reading b now_b q h u w =
 filed : (most : ℕ) (s : Whole) (t : Turn) (command : Command) (b now_b : Beside) (fault : Bool) → reading_in s t ≡ Do command → Filings (uses_files command) (one_if fault) b.filings now_b.filings → Filings ((script_machine most).uses s t) (one_if fault) b.filings now_b.filings
 filed most s t command b now_b fault h f = rw h f
 
+-- files of which nothing was heard
+pub known-still : (known told now_told : Option Files) → Stays known told → now_told ≡ told → told_now known now_told ≡ known
+known-still None told now_told fits e = refl
+known-still (Some files) told now_told fits e = e ∙ fits
+
+-- the files that a line meets which is no command are those that are known
+met-same : (known : Option Files) (name found : Option (List ℕ)) → told_then known (files_met known name found) ≡ known
+met-same None name found = refl
+met-same (Some files) name found = refl
+
+-- those that were told are told where memory was missing
+kept-told : (told now_told : Option Files) (files : Files) → told ≡ Some files → (IsTold told files → StillTells told now_told files) → now_told ≡ Some files
+kept-told None now_told files e h = absurd (let clash : None ≡ Some files = e in cc)
+kept-told (Some old) now_told files e h = let same : old ≡ files = cc in h same
+
+known-kept : (known told now_told : Option Files) → Stays known told → ((files : Files) → IsTold told files → StillTells told now_told files) → told_now known now_told ≡ known
+known-kept None told now_told fits h = refl
+known-kept (Some files) told now_told fits h = kept-told told now_told files fits (h files)
+
 -- ---- lines
 
 -- no command
-pub said-nothing : (most : ℕ) (s : Whole) (line : List ℕ) (b : Beside) → reading_in s (turn line false) ≡ Nothing → Said (script_machine most) s (turn line false) b b s false
-said-nothing most s line b h =
-    let o : script_step most s (turn line false) ≡ outcome s.engine s.files [] = step-is most s (turn line false) Nothing h in
+pub said-nothing : (most : ℕ) (e : Engine) (known : Option Files) (line : List ℕ) (b : Beside) → Stays known b.files → reading_in (whole e known) (turn line unmet) ≡ Nothing → Said (script_machine most) (whole e known) (turn line unmet) b b (whole e (told_now known b.files)) false
+said-nothing most e known line b fits h =
+    let s = whole e known in
+    let t = turn line unmet in
+    let o : script_step most s t ≡ outcome e (files_in s t) [] = step-is most s t Nothing h in
     record {
       told = rw o (given_none b.sink);
-      state = rw o refl;
+      state = rw o (ap (whole e) (known-still known b.files b.files fits refl ∙ sym (met-same known (file_by (reading_in s t)) None)));
       refusal = rw o refl;
-      worked = quiet-work most s line Nothing b b (record { files = refl; filings = refl; visits = refl; changes = refl }) h refl (λ _. refl);
+      worked = quiet-work most s line Nothing b b (record { files = refl; filings = refl; visits = refl; changes = refl }) h refl (λ _ _. refl);
     }
 
--- a command
-pub said-done : (most : ℕ) (e now : Engine) (files : Files) (line : List ℕ) (command : Command) (b now_b : Beside) (answer : Answer) (refused : Bool) → b.files ≡ Some files → (d : Done most e command b now_b now answer) → reading_in (whole e files) (turn line d.fault) ≡ Do command → refused ≡ refuses answer → Said (script_machine most) (whole e files) (turn line d.fault) b now_b (whole now (told_files now_b.files)) refused
-said-done most e now files line command b now_b answer refused told d h r =
-    let l : Leads (act most e files d.fault command) now b.files now_b.files d.replies = d.does files (known command b.files files told) in
-    let o : script_step most (whole e files) (turn line d.fault) ≡ outcome now l.files d.replies = step-is most (whole e files) (turn line d.fault) (Do command) h ∙ l.is in
-    record {
-      told = rw o d.told;
-      state = rw o (ap (whole now) (sym (told-behind b.files now_b.files files l.files told l.told_files)));
-      refusal = rw o (r ∙ d.refusal);
-      worked =
-          one-worked (script_machine most) (whole e files) (turn line d.fault) b now_b (work_of most e files d.fault command) (ap (work_by most (whole e files) d.fault) h) (filed most (whole e files) (turn line d.fault) command b now_b d.fault h d.filings)
-          (d.most_work files (known command b.files files told)) (d.least_work files (known command b.files files told));
-    }
+module _ (most : ℕ) (e now : Engine) (known : Option Files) (line : List ℕ) (command : Command) (b now_b : Beside) (fits : Stays known b.files) where
+  -- the files that the command meets, by what it found
+  abbrev met_with : Option (List ℕ) → Files
+  met_with found = files_met known (file_read command) found
 
-pub said-stopped : (most : ℕ) (e now : Engine) (files : Files) (line : List ℕ) (command : Command) (b now_b : Beside) (stop : Stop) → b.files ≡ Some files → ((fault : Bool) → reading_in (whole e files) (turn line fault) ≡ Do command) → DoneOr most e command b now_b now (Err stop) → SaysOr (script_machine most) (whole e files) line b now_b (whole now (told_files now_b.files)) (Err stop)
-said-stopped most e now files line command b now_b WriteFault told h d =
-    let l : Leads (act most e files d.fault command) d.after b.files now_b.files d.replies = d.does files (known command b.files files told) in
-    let o : script_step most (whole e files) (turn line d.fault) ≡ outcome d.after l.files d.replies = step-is most (whole e files) (turn line d.fault) (Do command) (h d.fault) ∙ l.is in
-    let c : cut_by most (whole e files) d.fault (reading_in (whole e files) (turn line d.fault)) ≡ whole (cut_engine e command d.after) l.files = ap (cut_by most (whole e files) d.fault) (h d.fault) ∙ ap (λ x. whole (cut_engine e command x.engine) x.files) l.is in
-    record {
-      fault = d.fault;
-      said = record {
-        count = d.count;
-        short = rw o d.short;
+  knows : (found : Option (List ℕ)) → Knows command b.files found (met_with found)
+  knows found = met-known command known b.files found fits
+
+  step-leads : (fault : Bool) (found : Option (List ℕ)) (after : Engine) (replies : List Reply) → reading_in (whole e known) (turn line (met fault found)) ≡ Do command → (l : Leads (act most e (met_with found) fault command) after (met_with found) b.files now_b.files replies) → script_step most (whole e known) (turn line (met fault found)) ≡ outcome after l.after replies
+  step-leads fault found after replies h l =
+      step-is most (whole e known) (turn line (met fault found)) (Do command) h
+      ∙ ap (λ f. act most e f fault command) (files-are (whole e known) (turn line (met fault found)) command h) ∙ l.is
+
+  work-is : (fault : Bool) (found : Option (List ℕ)) → reading_in (whole e known) (turn line (met fault found)) ≡ Do command → (script_machine most).work (whole e known) (turn line (met fault found)) ≡ work_of most e (met_with found) fault command
+  work-is fault found h =
+      let s = whole e known in
+      let t = turn line (met fault found) in
+      ap (work_by most s (files_in s t) fault) h ∙ ap (λ f. work_of most e f fault command) (files-are s t command h)
+
+  -- a command
+  pub said-done : (answer : Answer) (refused : Bool) → (d : Done most e command b now_b now answer) → reading_in (whole e known) (turn line (met d.fault d.found)) ≡ Do command → refused ≡ refuses answer → Said (script_machine most) (whole e known) (turn line (met d.fault d.found)) b now_b (whole now (told_now known now_b.files)) refused
+  said-done answer refused d h r =
+      let l = d.does (met_with d.found) (knows d.found) in
+      let o = step-leads d.fault d.found now d.replies h l in
+      record {
         told = rw o d.told;
-        state = ap (λ x. whole x (told_files now_b.files)) d.state ∙ ap (whole (cut_engine e command d.after)) (sym (told-behind b.files now_b.files files l.files told l.told_files)) ∙ sym c;
-        spent = one-spent (script_machine most) (whole e files) (turn line d.fault) b now_b (work_of most e files d.fault command) (ap (work_by most (whole e files) d.fault) (h d.fault)) (filed most (whole e files) (turn line d.fault) command b now_b d.fault (h d.fault) d.filings) (d.most_work files (known command b.files files told));
-      };
-    }
-said-stopped most e now files line command b now_b NoMemory told h d =
-    let same : files ≡ told_files now_b.files = told-behind b.files now_b.files files files told (d.files files (rw told refl)) in
-    record {
-      fault = d.fault;
-      said = record {
-        told = d.told;
-        part = d.part;
-        state = ap (λ x. whole x (told_files now_b.files)) (d.state files (known command b.files files told)) ∙ ap (whole (starved_engine e files command d.part)) (sym same) ∙ sym (ap (starved_by (whole e files) d.part) (h d.fault));
-        wanted = ap (wants_by (whole e files)) (h d.fault) ∙ d.wanted;
-        spent = one-spent (script_machine most) (whole e files) (turn line d.fault) b now_b (work_of most e files d.fault command) (ap (work_by most (whole e files) d.fault) (h d.fault)) (filed most (whole e files) (turn line d.fault) command b now_b d.fault (h d.fault) d.filings) (d.most_work files (known command b.files files told));
-      };
-    }
+        state = rw o (ap (whole now) (known-then command known b.files now_b.files d.found l.after fits l.told_files));
+        refusal = rw o (r ∙ d.refusal);
+        worked =
+            one-worked (script_machine most) (whole e known) (turn line (met d.fault d.found)) b now_b (work_of most e (met_with d.found) d.fault command) (work-is d.fault d.found h) (filed most (whole e known) (turn line (met d.fault d.found)) command b now_b d.fault h d.filings)
+            (d.most_work (met_with d.found) (knows d.found)) (d.least_work (met_with d.found) (knows d.found));
+      }
+
+  pub said-stopped : (stop : Stop) → ((met : Met) → reading_in (whole e known) (turn line met) ≡ Do command) → DoneOr most e command b now_b now (Err stop) → SaysOr (script_machine most) (whole e known) line b now_b (whole now (told_now known now_b.files)) (Err stop)
+  said-stopped WriteFault h d =
+      let s = whole e known in
+      let t = turn line (met d.fault d.found) in
+      let l = d.does (met_with d.found) (knows d.found) in
+      let o = step-leads d.fault d.found d.after d.replies (h (met d.fault d.found)) l in
+      let c : cut_by most s (files_in s t) d.fault (reading_in s t) ≡ whole (cut_engine e command d.after) (told_then known l.after) =
+      ap (cut_by most s (files_in s t) d.fault) (h (met d.fault d.found))
+      ∙ ap (λ f. cut_by most s f d.fault (Do command)) (files-are s t command (h (met d.fault d.found)))
+      ∙ ap (λ x. whole (cut_engine e command x.engine) (told_then known x.files)) l.is in
+      record {
+        met = met d.fault d.found;
+        said = record {
+          count = d.count;
+          short = rw o d.short;
+          told = rw o d.told;
+          state = ap (λ x. whole x (told_now known now_b.files)) d.state ∙ ap (whole (cut_engine e command d.after)) (known-then command known b.files now_b.files d.found l.after fits l.told_files) ∙ sym c;
+          spent = one-spent (script_machine most) s t b now_b (work_of most e (met_with d.found) d.fault command) (work-is d.fault d.found (h (met d.fault d.found))) (filed most s t command b now_b d.fault (h (met d.fault d.found)) d.filings) (d.most_work (met_with d.found) (knows d.found));
+        };
+      }
+  said-stopped NoMemory h d =
+      let s = whole e known in
+      let t = turn line (met d.fault d.found) in
+      let c : starved_by s (files_in s t) d.part (reading_in s t) ≡ whole (starved_engine e (met_with d.found) command d.part) known =
+      ap (starved_by s (files_in s t) d.part) (h (met d.fault d.found)) ∙ ap (λ f. starved_by s f d.part (Do command)) (files-are s t command (h (met d.fault d.found))) in
+      record {
+        met = met d.fault d.found;
+        said = record {
+          told = d.told;
+          part = d.part;
+          state = ap (λ x. whole x (told_now known now_b.files)) (d.state (met_with d.found) (knows d.found)) ∙ ap (whole (starved_engine e (met_with d.found) command d.part)) (known-kept known b.files now_b.files fits d.files) ∙ sym c;
+          wanted = ap (wants_by s) (h (met d.fault d.found)) ∙ d.wanted;
+          spent = one-spent (script_machine most) s t b now_b (work_of most e (met_with d.found) d.fault command) (work-is d.fault d.found (h (met d.fault d.found))) (filed most s t command b now_b d.fault (h (met d.fault d.found)) d.filings) (d.most_work (met_with d.found) (knows d.found));
+        };
+      }
 
 -- a line that is refused
-pub said-refused : (most : ℕ) (e : Engine) (files : Files) (line : List ℕ) (reply : Reply) (b now_b : Beside) (result : Result Bool Stop) → b.files ≡ Some files → IsQuiet b now_b → reading_in (whole e files) (turn line false) ≡ Refused reply → IfOk result (λ refused. Given b.sink now_b.sink (reply_text reply) × (refused ≡ is_refusal (reply_text reply))) → IfErr result (λ stop. (stop ≡ WriteFault) × WritesFront b.sink now_b.sink (reply_text reply)) → SaysOr (script_machine most) (whole e files) line b now_b (whole e (told_files now_b.files)) result
-said-refused most e files line reply b now_b (Ok refused) told q h k f =
-    let o : script_step most (whole e files) (turn line false) ≡ outcome e files (reply ∷ []) = step-is most (whole e files) (turn line false) (Refused reply) h in
-    record {
-      fault = false;
-      said = record {
-        told = rw (o, one-text reply) k.0;
-        state = rw o (ap (λ x. whole e (told_files x)) (q.files ∙ told));
-        refusal = rw (o, one-text reply) k.1;
-        worked = quiet-work most (whole e files) line (Refused reply) b now_b q h refl (λ _. refl);
-      };
-    }
-said-refused most e files line reply b now_b (Err WriteFault) told q h k f =
-    let o : script_step most (whole e files) (turn line false) ≡ outcome e files (reply ∷ []) = step-is most (whole e files) (turn line false) (Refused reply) h in
-    record {
-      fault = false;
-      said = record {
-        count = f.1.count;
-        short = rw (o, one-text reply) f.1.short;
-        told = rw (o, one-text reply) f.1.told;
-        state = ap (λ x. whole e (told_files x)) (q.files ∙ told) ∙ sym (ap (cut_by most (whole e files) false) h);
-        spent = (quiet-work most (whole e files) line (Refused reply) b now_b q h refl (λ _. refl)).spent;
-      };
-    }
-said-refused most e files line reply b now_b (Err NoMemory) told q h k f = absurd (let clash : NoMemory ≡ WriteFault = f.0 in cc)
+module _ (most : ℕ) (e : Engine) (known : Option Files) (line : List ℕ) (reply : Reply) (b now_b : Beside) (fits : Stays known b.files) (q : IsQuiet b now_b) (h : reading_in (whole e known) (turn line unmet) ≡ Refused reply) where
+  abbrev refused_files : Files
+  refused_files = files_in (whole e known) (turn line unmet)
 
--- ---- where the files are told
+  step-refused : script_step most (whole e known) (turn line unmet) ≡ outcome e refused_files (reply ∷ [])
+  step-refused = step-is most (whole e known) (turn line unmet) (Refused reply) h
+
+  known-refused : told_now known now_b.files ≡ known
+  known-refused = known-still known b.files now_b.files fits q.files
+
+  then-refused : told_then known refused_files ≡ known
+  then-refused = met-same known (file_by (reading_in (whole e known) (turn line unmet))) None
+
+  pub said-refused : (result : Result Bool Stop) → IfOk result (λ refused. Given b.sink now_b.sink (reply_text reply) × (refused ≡ is_refusal (reply_text reply))) → IfErr result (λ stop. (stop ≡ WriteFault) × WritesFront b.sink now_b.sink (reply_text reply)) → SaysOr (script_machine most) (whole e known) line b now_b (whole e (told_now known now_b.files)) result
+  said-refused (Ok refused) k f = record {
+    met = unmet;
+    said = record {
+      told = rw (step-refused, one-text reply) k.0;
+      state = rw step-refused (ap (whole e) (known-refused ∙ sym then-refused));
+      refusal = rw (step-refused, one-text reply) k.1;
+      worked = quiet-work most (whole e known) line (Refused reply) b now_b q h refl (λ _ _. refl);
+    };
+  }
+  said-refused (Err WriteFault) k f = record {
+    met = unmet;
+    said = record {
+      count = f.1.count;
+      short = rw (step-refused, one-text reply) f.1.short;
+      told = rw (step-refused, one-text reply) f.1.told;
+      state = ap (whole e) known-refused ∙ sym (ap (cut_by most (whole e known) refused_files false) h);
+      spent = (quiet-work most (whole e known) line (Refused reply) b now_b q h refl (λ _ _. refl)).spent;
+    };
+  }
+  said-refused (Err NoMemory) k f = absurd (let clash : NoMemory ≡ WriteFault = f.0 in cc)
+
+-- ---- what is known of the files
+
+-- it is told behind what leaves them
+pub known-left : (known told now_told : Option Files) → Stays known told → now_told ≡ told → StaysKnown known now_told
+known-left None told now_told fits e = tt
+known-left (Some files) told now_told fits e = subst AreTold (sym (e ∙ fits)) tt
+
+-- and may be used from there on
+pub known-right : (known now_told : Option Files) → StaysKnown known now_told → Stays (told_now known now_told) now_told
+known-right None now_told h = tt
+known-right (Some files) None h = absurd h
+known-right (Some files) (Some now) h = refl
+
+pub known-on : (P : Whole → Type 0) (e : Engine) (known middle now : Option Files) → StaysKnown known middle → StaysKnown (told_now known middle) now × P (whole e (told_now (told_now known middle) now)) → StaysKnown known now × P (whole e (told_now known now))
+known-on P e None middle now k h = h
+known-on P e (Some files) None now k h = absurd k
+known-on P e (Some files) (Some more) now k h = h
 
 pub told-is : (told : Option Files) → AreTold told → told ≡ Some (told_files told)
 told-is None h = absurd h
 told-is (Some files) h = refl
 
-tells : (told now_told : Option Files) (files : Files) → AreTold told → StillTells told now_told files → AreTold now_told
-tells None now_told files h k = absurd h
-tells (Some old) now_told files h k = rw k tt
-
--- files that were told are told behind a command
-pub done-told : (most : ℕ) (e now : Engine) (command : Command) (b now_b : Beside) (result : Result Answer Stop) → AreTold b.files → DoneOr most e command b now_b now result → AreTold now_b.files
-done-told most e now command b now_b (Ok answer) h d =
-    let l = d.does (told_files b.files) (known command b.files (told_files b.files) (told-is b.files h)) in tells b.files now_b.files l.files h l.told_files
-done-told most e now command b now_b (Err WriteFault) h d =
-    let l = d.does (told_files b.files) (known command b.files (told_files b.files) (told-is b.files h)) in tells b.files now_b.files l.files h l.told_files
-done-told most e now command b now_b (Err NoMemory) h d =
-    tells b.files now_b.files (told_files b.files) h (d.files (told_files b.files) (let t : b.files ≡ Some (told_files b.files) = told-is b.files h in rw t refl))
+-- what is known of files is told behind a command
+pub known-done : (most : ℕ) (e now : Engine) (command : Command) (known : Option Files) (b now_b : Beside) (result : Result Answer Stop) → Stays known b.files → DoneOr most e command b now_b now result → StaysKnown known now_b.files
+known-done most e now command None b now_b result fits d = tt
+known-done most e now command (Some files) b now_b (Ok answer) fits d =
+    let l = d.does files (inl fits) in subst AreTold (sym (l.told_files fits)) tt
+known-done most e now command (Some files) b now_b (Err WriteFault) fits d =
+    let l = d.does files (inl fits) in subst AreTold (sym (l.told_files fits)) tt
+known-done most e now command (Some files) b now_b (Err NoMemory) fits d =
+    subst AreTold (sym (kept-told b.files now_b.files files fits (d.files files))) tt
 
 -- whatever it did, the count of their faults did not fall
 pub done-later : (most : ℕ) (e now : Engine) (command : Command) (b now_b : Beside) (result : Result Answer Stop) → DoneOr most e command b now_b now result → b.filings ≤ now_b.filings

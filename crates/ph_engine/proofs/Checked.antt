@@ -8,6 +8,7 @@ use Rattle.ph_io.specs.Writing.{WritesFront}
 use Rattle.ph_io.specs.declared.files.FetchFault.{FetchFault}
 use Rattle.ph_io.specs.declared.files.FetchFault.TheVariants as unread
 use Rattle.ph_specs.specs.declared.Kind.{Kind}
+use Rattle.ph_specs.specs.declared.Kind.TheVariants.{Points, Boxes}
 use Rattle.ph_specs.specs.Load.{Fault, bad_magic, bad_header, bad_dims, bad_short, bad_node, bad_extra, named_width, load_fault}
 use Rattle.ph_specs.specs.Named.{lookup}
 use Rattle.ph_specs.specs.Program.{check_line, checked_words, named_kind, own_fault, words_of_snapshot, words_of_file, words_unless}
@@ -15,7 +16,7 @@ use Rattle.ph_specs.specs.Refusals.{fetch, bytes_of}
 use Rattle.ph_specs.specs.Reply.{Reply, line_of, reply_text, reply_words}
 use Rattle.ph_specs.specs.SavedTable.{fault_reply, read_unless, rows_saved}
 use Rattle.ph_specs.specs.State.{Files}
-use Rattle.ph_specs.specs.Stats.{stats}
+use Rattle.ph_specs.specs.Stats.{Stats, stats}
 use Rattle.ph_specs.specs.WorkSets.{all_nodes}
 use Rattle.ph_specs.proofs.laws.Snapshots.{none-from_snapshot, read-from_snapshot}
 use Rattle.ph_script.specs.declared.reply.Reply.{Reply as Told}
@@ -176,16 +177,34 @@ module _ (sink now_sink : Taken) (line : List ℕ) where
 
 -- ---- a file
 
-record IsBounded (most : ℕ) (file : List ℕ) (told : Option Files) (visits now_visits changes now_changes : ℕ) : Type 0 where
+-- the line of a snapshot is no refusal
+sizes-good : (kind : Kind) (dims : ℕ) (sizes : Stats) → is_refusal (line_of (checked_words kind dims sizes)) ≡ false
+sizes-good Points dims sizes = refl
+sizes-good Boxes dims sizes = refl
+
+words-good : (first : Option Fault) (kind : Kind) (dims width : ℕ) (bytes : List ℕ) → first ≡ None → is_refusal (line_of (words_unless first kind dims width bytes)) ≡ false
+words-good (Some fault) kind dims width bytes e = absurd (let no : Some fault ≡ None = e in cc)
+words-good None kind dims width bytes e = sizes-good kind dims (stats width dims (rows_saved dims width bytes))
+
+snapshot-clean : (most : ℕ) (files : Files) (fault : Bool) (file bytes : List ℕ) → fault ≡ false → fetch most files file ≡ Some bytes → own_fault bytes ≡ None → is_refusal (check_line most files fault file) ≡ true → ⊥
+snapshot-clean most files fault file bytes none fetched sound refused =
+    let line : check_line most files fault file ≡ line_of (words_of_snapshot bytes) = ap (λ b. check_line most files b file) none ∙ ap (λ o. line_of (words_of_file o)) fetched in
+    let good : is_refusal (line_of (words_of_snapshot bytes)) ≡ false = words-good (own_fault bytes) (named_kind bytes) (slice_index bytes 5) (named_width bytes) bytes sound in
+    let clash : true ≡ false = sym refused ∙ ap is_refusal line ∙ good in
+    cc
+
+record IsBounded (clean : Type 0) (most : ℕ) (file : List ℕ) (told : Option Files) (visits now_visits changes now_changes : ℕ) : Type 0 where
   kept_visits : visits ≤ now_visits
   kept_changes : changes ≤ now_changes
   most_visits : AreTold told → now_visits ≤ visits + nodes_saved (bytes_checked most (told_files told) file)
   most_changes : AreTold told → now_changes ≤ changes + length (bytes_checked most (told_files told) file) / 16
+  clean_changes : AreTold told → clean → now_changes ≤ changes + nodes_saved (bytes_checked most (told_files told) file)
   few_visits : now_visits ≤ visits + most / 16
   few_changes : now_changes ≤ changes + most / 16
 
-no-work : (most : ℕ) (file : List ℕ) (told : Option Files) (v c : ℕ) → IsBounded most file told v v c c
-no-work most file told v c = record {
+no-work : (clean : Type 0) (most : ℕ) (file : List ℕ) (told : Option Files) (v c : ℕ) → IsBounded clean most file told v v c c
+no-work clean most file told v c = record {
+  clean_changes = λ t e. omega arith;
   kept_visits = omega arith;
   kept_changes = omega arith;
   most_visits = λ t. omega arith;
@@ -196,7 +215,7 @@ no-work most file told v c = record {
 
 module _ (most : ℕ) (file : List ℕ) (told now_told : Option Files) (f now_f : ℕ) (sink now_sink : Taken) where
   -- by the line, which is that of the definition where the files were told
-  done-by : (v now_v c now_c : ℕ) (fault : Bool) (line : List ℕ) (result : Result Answer Stop) → Filings true (one_if fault) f now_f → Stays told now_told → (AreTold told → check_line most (told_files told) fault file ≡ line) → LineGiven sink now_sink line result → (AreTold told → result ≡ Ok answer.Good → FileHasSizes (told_files told) file line) → IsBounded most file told v now_v c now_c → CheckDone most file (beside_sink sink told f v c) (beside_sink now_sink now_told now_f now_v now_c) (status_of result)
+  done-by : (v now_v c now_c : ℕ) (fault : Bool) (line : List ℕ) (result : Result Answer Stop) → Filings true (one_if fault) f now_f → Stays told now_told → (AreTold told → check_line most (told_files told) fault file ≡ line) → LineGiven sink now_sink line result → (AreTold told → result ≡ Ok answer.Good → FileHasSizes (told_files told) file line) → IsBounded (result ≡ Ok answer.Good) most file told v now_v c now_c → CheckDone most file (beside_sink sink told f v c) (beside_sink now_sink now_told now_f now_v now_c) (status_of result)
   done-by v now_v c now_c fault line result n k is g sizes b = record {
     fault = fault;
     counted = n;
@@ -213,6 +232,8 @@ module _ (most : ℕ) (file : List ℕ) (told now_told : Option Files) (f now_f 
     kept_changes = b.kept_changes;
     most_visits = b.most_visits;
     most_changes = b.most_changes;
+    clean_changes = λ t e. b.clean_changes t (good-of sink now_sink line result e);
+    snapshot_clean = λ t none bytes fetched sound e. snapshot-clean most (told_files told) fault file bytes none fetched sound (ap is_refusal (is t) ∙ refused-of sink now_sink line result g e);
     few_visits = b.few_visits;
     few_changes = b.few_changes;
   }
@@ -221,13 +242,13 @@ module _ (most : ℕ) (file : List ℕ) (told now_told : Option Files) (f now_f 
   unread-by : {E : Type 0} (v c : ℕ) (fault : Bool) (reply : Result Told E) (result : Result Answer Stop) → Filings true (one_if fault) f now_f → Stays told now_told → (AreTold told → check_line most (told_files told) fault file ≡ reply_text Reply.ErrorFile) → IsReplyTo (reply_text Reply.ErrorFile) reply → ToldOr sink now_sink reply result → CheckDone most file (beside_sink sink told f v c) (beside_sink now_sink now_told now_f v c) (status_of result)
   unread-by v c fault reply result n k is r t =
       let given : LineGiven sink now_sink (reply_text Reply.ErrorFile) result = reply-given sink now_sink (reply_text Reply.ErrorFile) reply result r t in
-      done-by v v c c fault (reply_text Reply.ErrorFile) result n k is given (λ _. never-good sink now_sink (reply_text Reply.ErrorFile) result refl given) (no-work most file told v c)
+      done-by v v c c fault (reply_text Reply.ErrorFile) result n k is given (λ _. never-good sink now_sink (reply_text Reply.ErrorFile) result refl given) (no-work (result ≡ Ok answer.Good) most file told v c)
 
   -- memory was missing
   starved-by : (v c : ℕ) → now_f ≡ f → Stays told now_told → now_sink ≡ sink → CheckDone most file (beside_sink sink told f v c) (beside_sink now_sink now_told now_f v c) Memory
   starved-by v c n k s =
       done-by v v c c false (check_line most (told_files told) false file) (Err stop.NoMemory) (failed-never f now_f (omega (arith, n))) k (λ t. refl) s
-      (λ t e. cc) (no-work most file told v c)
+      (λ t e. cc) (no-work _ most file told v c)
 
 -- the line for a file that was not there, or too long
 unread-line : (most : ℕ) (file bytes : List ℕ) (told : Option Files) (fault : FetchFault) → (fault ≡ unread.NoMemory → ⊥) → (fault ≡ unread.Failed → ⊥) → Fetches told file most bytes (Err fault) → AreTold told → check_line most (told_files told) false file ≡ reply_text Reply.ErrorFile
@@ -270,8 +291,8 @@ module _ (most : ℕ) (file bytes : List ℕ) where
   read-found (Some files) g t = g
 
 -- a file was read, and its bytes were checked
-pub fetched-done : (most : ℕ) (file bytes : List ℕ) (told now_told : Option Files) (f now_f : ℕ) (sink now_sink : Taken) (v now_v c now_c : ℕ) (result : Result Answer Stop) → Fetches told file most bytes (Ok tt) → length bytes ≤ most → now_f ≡ f → Stays told now_told → LineGiven sink now_sink (line_of (words_of_snapshot bytes)) result → (result ≡ Ok answer.Good → HasSizes bytes (line_of (words_of_snapshot bytes))) → v ≤ now_v → now_v ≤ v + nodes_saved bytes → 16 * now_v ≤ 16 * v + length bytes → c ≤ now_c → 16 * now_c ≤ 16 * c + length bytes → CheckDone most file (beside_sink sink told f v c) (beside_sink now_sink now_told now_f now_v now_c) (status_of result)
-fetched-done most file bytes told now_told f now_f sink now_sink v now_v c now_c result g short n k line sizes kept_v most_v few_v kept_c few_c =
+pub fetched-done : (most : ℕ) (file bytes : List ℕ) (told now_told : Option Files) (f now_f : ℕ) (sink now_sink : Taken) (v now_v c now_c : ℕ) (result : Result Answer Stop) → Fetches told file most bytes (Ok tt) → length bytes ≤ most → now_f ≡ f → Stays told now_told → LineGiven sink now_sink (line_of (words_of_snapshot bytes)) result → (result ≡ Ok answer.Good → HasSizes bytes (line_of (words_of_snapshot bytes))) → v ≤ now_v → now_v ≤ v + nodes_saved bytes → 16 * now_v ≤ 16 * v + length bytes → c ≤ now_c → 16 * now_c ≤ 16 * c + length bytes → (result ≡ Ok answer.Good → now_c ≤ c + nodes_saved bytes) → CheckDone most file (beside_sink sink told f v c) (beside_sink now_sink now_told now_f now_v now_c) (status_of result)
+fetched-done most file bytes told now_told f now_f sink now_sink v now_v c now_c result g short n k line sizes kept_v most_v few_v kept_c few_c nodes =
     let is : AreTold told → fetch most (told_files told) file ≡ Some bytes = read-fetched most file bytes told g short in
     done-by most file told now_told f now_f sink now_sink v now_v c now_c false (line_of (words_of_snapshot bytes)) result
     (failed-never f now_f (omega (arith, n))) k (λ t. ap (λ o. line_of (words_of_file o)) (is t)) line
@@ -281,6 +302,7 @@ fetched-done most file bytes told now_told f now_f sink now_sink v now_v c now_c
       kept_changes = kept_c;
       most_visits = λ t. subst (λ o. now_v ≤ v + nodes_saved (bytes_of o)) (sym (is t)) most_v;
       most_changes = λ t. subst (λ o. now_c ≤ c + length (bytes_of o) / 16) (sym (is t)) (omega (arith, few_c));
+      clean_changes = λ t e. subst (λ o. now_c ≤ c + nodes_saved (bytes_of o)) (sym (is t)) (nodes e);
       few_visits = omega (arith, few_v, short);
       few_changes = omega (arith, few_c, short);
     })

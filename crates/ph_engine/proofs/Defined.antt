@@ -3,12 +3,13 @@ use Rattle.std.proofs.Common.{◌≡◌, ℕ, inl, inr, List, [], ◌∷◌, ◌
 use Rattle.std.specs.declared.option.Option.{Option}
 use Rattle.ph_specs.specs.Lines.{lines}
 use Rattle.ph_specs.specs.Reply.{replies_text}
-use Rattle.ph_specs.specs.State.{Outcome}
-use Rattle.ph_specs.specs.Engine.{written}
+use Rattle.ph_specs.specs.State.{Engine, Files, Outcome}
+use Rattle.ph_specs.specs.Engine.{run, written}
 use Rattle.ph_engine.proofs.Replies.{texts-append}
-use Rattle.ph_engine.specs.Beside.{Beside}
+use Rattle.std.specs.Prelude.{Some, None}
+use Rattle.ph_engine.specs.Beside.{Beside, AreTold}
 use Rattle.ph_engine.specs.Machine.{Turn, answers, after, lines_of}
-use Rattle.ph_engine.specs.ScriptMachine.{Whole, whole, script_step, script_run, script_machine}
+use Rattle.ph_engine.specs.ScriptMachine.{Whole, whole, script_step, script_machine}
 use Rattle.ph_engine.specs.ByDefinition.{RunsAsDefined}
 use Rattle.ph_engine.specs.Outcomes.{Answered, Outcome as Left}
 use Rattle.ph_engine.specs.Statuses.{IsRead}
@@ -16,56 +17,60 @@ use Rattle.ph_engine.specs.declared.status.Status.TheVariants.{Clean, Refused, U
 use Rattle.ph_engine.specs.declared.status.Status.{Status}
 
 -- in each line the files fail as they do in its turn
-abbrev pub run_of : ℕ → Whole → List Turn → Outcome
-run_of most s ts = script_run most s (map (λ t. t.fault) ts) (lines_of ts)
+abbrev pub run_of : ℕ → Engine → Files → List Turn → Outcome
+run_of most e files ts = run most e files (map (λ t. t.met.fault) ts) (lines_of ts)
 
-answers-run : (most : ℕ) (s : Whole) (ts : List Turn) → answers (script_machine most) s ts ≡ written (run_of most s ts)
-answers-run most s [] = refl
-answers-run most s (t ∷ ts) =
-    let o = script_step most s t in
-    let next = whole o.engine o.files in
-    let rest : answers (script_machine most) next ts ≡ written (run_of most next ts) = answers-run most next ts in
-    ap (λ x. replies_text o.replies ++ x) rest ∙ sym (texts-append o.replies (run_of most next ts).replies)
+answers-run : (most : ℕ) (e : Engine) (files : Files) (ts : List Turn) → answers (script_machine most) (whole e (Some files)) ts ≡ written (run_of most e files ts)
+answers-run most e files [] = refl
+answers-run most e files (t ∷ ts) =
+    let o = script_step most (whole e (Some files)) t in
+    let rest : answers (script_machine most) (whole o.engine (Some o.files)) ts ≡ written (run_of most o.engine o.files ts) = answers-run most o.engine o.files ts in
+    ap (λ x. replies_text o.replies ++ x) rest ∙ sym (texts-append o.replies (run_of most o.engine o.files ts).replies)
 
-after-run : (most : ℕ) (s : Whole) (ts : List Turn) → after (script_machine most) s ts ≡ whole (run_of most s ts).engine (run_of most s ts).files
-after-run most s [] = refl
-after-run most s (t ∷ ts) = let o = script_step most s t in after-run most (whole o.engine o.files) ts
+after-run : (most : ℕ) (e : Engine) (files : Files) (ts : List Turn) → after (script_machine most) (whole e (Some files)) ts ≡ whole (run_of most e files ts).engine (Some (run_of most e files ts).files)
+after-run most e files [] = refl
+after-run most e files (t ∷ ts) = let o = script_step most (whole e (Some files)) t in after-run most o.engine o.files ts
 
-pub as-defined : (file_bytes most : ℕ) (left now_left : Option (List ℕ)) (b now_b : Beside) (s now : Whole) (status : Status) → Answered (script_machine file_bytes) most left now_left b now_b s now status → RunsAsDefined file_bytes left now_left b now_b s now
-as-defined file_bytes most left now_left b now_b s now status h =
+pub as-defined : (file_bytes most : ℕ) (left now_left : Option (List ℕ)) (b now_b : Beside) (e : Engine) (files : Files) (now : Whole) (status : Status) → Answered (script_machine file_bytes) most left now_left b now_b (whole e (Some files)) now status → RunsAsDefined file_bytes left now_left b now_b (whole e (Some files)) now
+as-defined file_bytes most left now_left b now_b e files now status h =
     let a = h.answered in
-    let same : run_of file_bytes s a.turns ≡ script_run file_bytes s (map (λ t. t.fault) a.turns) (lines h.bytes) = ap (script_run file_bytes s (map (λ t. t.fault) a.turns)) a.all in
+    let faults = map (λ t. t.met.fault) a.turns in
+    let same : run_of file_bytes e files a.turns ≡ run file_bytes e files faults (lines h.bytes) = ap (run file_bytes e files faults) a.all in
     record {
       bytes = h.bytes;
       consumed = h.consumed;
       ended = h.ended;
-      faults = map (λ t. t.fault) a.turns;
-      told = rw (← same, ← answers-run file_bytes s a.turns) a.told;
-      engine = rw (← same) (ap (λ x. x.engine) (a.state ∙ after-run file_bytes s a.turns));
-      files = rw (← same) (ap (λ x. x.files) (a.state ∙ after-run file_bytes s a.turns));
+      faults = faults;
+      told = rw (← same, ← answers-run file_bytes e files a.turns) a.told;
+      engine = rw (← same) (ap (λ x. x.engine) (a.state ∙ after-run file_bytes e files a.turns));
+      files = rw (← same) (ap (λ x. x.files) (a.state ∙ after-run file_bytes e files a.turns));
       filings = a.worked.spent.filings.told;
     }
 
-pub outcome-defined : (file_bytes most : ℕ) (left now_left : Option (List ℕ)) (b now_b : Beside) (s now : Whole) (status : Status) → IsRead status → Left (script_machine file_bytes) most left now_left b now_b s now status → RunsAsDefined file_bytes left now_left b now_b s now
-outcome-defined file_bytes most left now_left b now_b s now Clean read h = as-defined file_bytes most left now_left b now_b s now Clean h
-outcome-defined file_bytes most left now_left b now_b s now Refused read h = as-defined file_bytes most left now_left b now_b s now Refused h
-outcome-defined file_bytes most left now_left b now_b s now Usage read h = absurd h
-outcome-defined file_bytes most left now_left b now_b s now ReadFault read h = absurd (other read)
+read-defined : (file_bytes most : ℕ) (left now_left : Option (List ℕ)) (b now_b : Beside) (e : Engine) (files : Option Files) (now : Whole) (status : Status) → AreTold files → Answered (script_machine file_bytes) most left now_left b now_b (whole e files) now status → RunsAsDefined file_bytes left now_left b now_b (whole e files) now
+read-defined file_bytes most left now_left b now_b e None now status told h = absurd told
+read-defined file_bytes most left now_left b now_b e (Some files) now status told h = as-defined file_bytes most left now_left b now_b e files now status h
+
+pub outcome-defined : (file_bytes most : ℕ) (left now_left : Option (List ℕ)) (b now_b : Beside) (e : Engine) (files : Option Files) (now : Whole) (status : Status) → AreTold files → IsRead status → Left (script_machine file_bytes) most left now_left b now_b (whole e files) now status → RunsAsDefined file_bytes left now_left b now_b (whole e files) now
+outcome-defined file_bytes most left now_left b now_b e files now Clean told read h = read-defined file_bytes most left now_left b now_b e files now Clean told h
+outcome-defined file_bytes most left now_left b now_b e files now Refused told read h = read-defined file_bytes most left now_left b now_b e files now Refused told h
+outcome-defined file_bytes most left now_left b now_b e files now Usage told read h = absurd h
+outcome-defined file_bytes most left now_left b now_b e files now ReadFault told read h = absurd (other read)
   where
     other : IsRead ReadFault → ⊥
     other (inl e) = cc
     other (inr e) = cc
-outcome-defined file_bytes most left now_left b now_b s now WriteFault read h = absurd (other read)
+outcome-defined file_bytes most left now_left b now_b e files now WriteFault told read h = absurd (other read)
   where
     other : IsRead WriteFault → ⊥
     other (inl e) = cc
     other (inr e) = cc
-outcome-defined file_bytes most left now_left b now_b s now Memory read h = absurd (other read)
+outcome-defined file_bytes most left now_left b now_b e files now Memory told read h = absurd (other read)
   where
     other : IsRead Memory → ⊥
     other (inl e) = cc
     other (inr e) = cc
-outcome-defined file_bytes most left now_left b now_b s now TooLong read h = absurd (other read)
+outcome-defined file_bytes most left now_left b now_b e files now TooLong told read h = absurd (other read)
   where
     other : IsRead TooLong → ⊥
     other (inl e) = cc

@@ -9,7 +9,6 @@ use Rattle.ph_specs.specs.Named.{enter}
 use Rattle.ph_specs.specs.Table.{Row}
 use Rattle.ph_engine.specs.DraftLaws.{stays_itself, stays_on}
 use Rattle.ph_engine.specs.Drafting.{Shelf, draft_bytes, draft_name, drafted, Follows, Filled, Unfilled}
-use Rattle.ph_engine.specs.Recording.{Unwritten}
 
 -- a draft of the same name whose bytes grew
 grown : (draft now : Option Draft) (bytes : List ℕ) → Stays (draft_name draft) (draft_name now) → Appends (draft_bytes draft) (draft_bytes now) bytes → Grows draft now bytes
@@ -74,12 +73,6 @@ filled-on a b c xs ys h k = record {
   stays = stays_on a.files b.files c.files h.stays k.stays;
   grows = grows-on a.draft b.draft c.draft xs ys h.grows k.grows;
 }
-
-pub unwritten-behind : (a b c : Shelf) → Stays a.files b.files → a.faults ≤ b.faults → Unwritten b c → Unwritten a c
-unwritten-behind a b c s l h = record { later = omega (arith, l, h.later); stays = stays_on a.files b.files c.files s h.stays }
-
-pub unwritten-still : (a : Shelf) → Unwritten a a
-unwritten-still a = record { later = omega arith; stays = stays_itself a.files }
 
 -- the lines of rows, and of one more
 texts-append : (rows more : List Row) → csv_text (rows ++ more) ≡ csv_text rows ++ csv_text more

@@ -5,7 +5,7 @@ use Rattle.ph_io.specs.Giving.{Given}
 use Rattle.ph_engine.specs.Beside.{Beside}
 use Rattle.ph_specs.specs.Lines.{LF, lines}
 use Rattle.ph_specs.proofs.laws.Put.{and}
-use Rattle.ph_engine.specs.Machine.{Machine, turn, answers, after, is_refusal, some_refused, lines_of, KEPT, KEPT-is}
+use Rattle.ph_engine.specs.Machine.{Machine, Met, turn, answers, after, is_refusal, some_refused, lines_of, KEPT, KEPT-is}
 use Rattle.ph_engine.specs.Cutting.{ended, is_unbroken}
 use Rattle.ph_engine.specs.Answering.{Said, SaidOr}
 use Rattle.ph_engine.specs.Feeding.{Fed, Cut, Starved, FedOr, Feeds, AtEnd, EndsOr}
@@ -112,25 +112,25 @@ line-split : (unended part : List ℕ) → unended ++ (part ++ LF ∷ []) ≡ en
 line-split unended part = sym (append_assoc unended part (LF ∷ [])) ∙ sym (append-nil ((unended ++ part) ++ LF ∷ []))
 
 -- a part and a line feed end a line, which is answered
-pub line-said : {S : Type 0} (m : Machine S) (s : S) (unended part : List ℕ) (fault : Bool) (b now_b : Beside) (now : S) (refused : Bool) → is_unbroken unended ≡ true → is_unbroken part ≡ true → Said m s (turn (unended ++ part) fault) b now_b now refused → Fed m s unended (part ++ LF ∷ []) b now_b now [] refused
-line-said m s unended part fault b now_b now refused u v h = record {
-  done = turn (unended ++ part) fault ∷ [];
+pub line-said : {S : Type 0} (m : Machine S) (s : S) (unended part : List ℕ) (met : Met) (b now_b : Beside) (now : S) (refused : Bool) → is_unbroken unended ≡ true → is_unbroken part ≡ true → Said m s (turn (unended ++ part) met) b now_b now refused → Fed m s unended (part ++ LF ∷ []) b now_b now [] refused
+line-said m s unended part met b now_b now refused u v h = record {
+  done = turn (unended ++ part) met ∷ [];
   rest = [];
   split = line-split unended part;
   unbroken_done = and _ _ (all-append _ unended part u v) refl;
   unbroken_rest = refl;
   told = rw append-nil h.told;
   state = h.state;
-  refusals = h.refusal ∙ sym (or_false (is_refusal (m.answer s (turn (unended ++ part) fault))));
+  refusals = h.refusal ∙ sym (or_false (is_refusal (m.answer s (turn (unended ++ part) met))));
   front = sym (take-empty KEPT);
   worked = h.worked;
 }
 
 -- the answer to it fails
-pub line-stopped : {S : Type 0} (m : Machine S) (s : S) (unended part last : List ℕ) (fault : Bool) (b now_b : Beside) (now : S) (stop : Stop) → is_unbroken unended ≡ true → is_unbroken part ≡ true → SaidOr m s (turn (unended ++ part) fault) b now_b now (Err stop) → FedOr m s unended (part ++ LF ∷ []) b now_b now last (Err stop)
-line-stopped m s unended part last fault b now_b now WriteFault u v h = record {
+pub line-stopped : {S : Type 0} (m : Machine S) (s : S) (unended part last : List ℕ) (met : Met) (b now_b : Beside) (now : S) (stop : Stop) → is_unbroken unended ≡ true → is_unbroken part ≡ true → SaidOr m s (turn (unended ++ part) met) b now_b now (Err stop) → FedOr m s unended (part ++ LF ∷ []) b now_b now last (Err stop)
+line-stopped m s unended part last met b now_b now WriteFault u v h = record {
   done = [];
-  last = turn (unended ++ part) fault;
+  last = turn (unended ++ part) met;
   more = [];
   count = h.count;
   split = line-split unended part;
@@ -141,9 +141,9 @@ line-stopped m s unended part last fault b now_b now WriteFault u v h = record {
   state = h.state;
   spent = h.spent;
 }
-line-stopped m s unended part last fault b now_b now NoMemory u v h = record {
+line-stopped m s unended part last met b now_b now NoMemory u v h = record {
   done = [];
-  last = turn (unended ++ part) fault;
+  last = turn (unended ++ part) met;
   more = [];
   part = h.part;
   split = line-split unended part;
@@ -173,18 +173,18 @@ end-none m s unended kept refused b k e =
     }
 
 -- the unended line is answered
-pub end-said : {S : Type 0} (m : Machine S) (s : S) (unended kept : List ℕ) (refused last fault : Bool) (b now_b : Beside) (now : S) → kept ≡ take KEPT unended → is_unbroken unended ≡ true → 0 < length kept → Said m s (turn unended fault) b now_b now last → AtEnd m s unended refused b now_b now (read_status (refused || last))
-end-said m s unended kept refused last fault b now_b now k u some h =
+pub end-said : {S : Type 0} (m : Machine S) (s : S) (unended kept : List ℕ) (refused last : Bool) (met : Met) (b now_b : Beside) (now : S) → kept ≡ take KEPT unended → is_unbroken unended ≡ true → 0 < length kept → Said m s (turn unended met) b now_b now last → AtEnd m s unended refused b now_b now (read_status (refused || last))
+end-said m s unended kept refused last met b now_b now k u some h =
     let l : lines unended ≡ unended ∷ [] = lines-unbroken unended u (kept-some unended kept k some) in
     record {
-      answered = record { turns = turn unended fault ∷ []; all = sym l; told = rw append-nil h.told; state = h.state; worked = h.worked };
-      refusals = ap (λ t. read_status (refused || t)) (h.refusal ∙ sym (or_false (is_refusal (m.answer s (turn unended fault)))));
+      answered = record { turns = turn unended met ∷ []; all = sym l; told = rw append-nil h.told; state = h.state; worked = h.worked };
+      refusals = ap (λ t. read_status (refused || t)) (h.refusal ∙ sym (or_false (is_refusal (m.answer s (turn unended met)))));
     }
 
 -- the answer to it fails
-pub end-stopped : {S : Type 0} (m : Machine S) (s : S) (unended kept : List ℕ) (refused fault : Bool) (b now_b : Beside) (now : S) (stop : Stop) → kept ≡ take KEPT unended → is_unbroken unended ≡ true → 0 < length kept → SaidOr m s (turn unended fault) b now_b now (Err stop) → EndsOr m s unended refused b now_b now (stop_status stop)
-end-stopped m s unended kept refused fault b now_b now WriteFault k u some h = record { some = lines-unbroken unended u (kept-some unended kept k some); fault = fault; said = h }
-end-stopped m s unended kept refused fault b now_b now NoMemory k u some h = record { some = lines-unbroken unended u (kept-some unended kept k some); fault = fault; unsaid = h }
+pub end-stopped : {S : Type 0} (m : Machine S) (s : S) (unended kept : List ℕ) (refused : Bool) (met : Met) (b now_b : Beside) (now : S) (stop : Stop) → kept ≡ take KEPT unended → is_unbroken unended ≡ true → 0 < length kept → SaidOr m s (turn unended met) b now_b now (Err stop) → EndsOr m s unended refused b now_b now (stop_status stop)
+end-stopped m s unended kept refused met b now_b now WriteFault k u some h = record { some = lines-unbroken unended u (kept-some unended kept k some); met = met; said = h }
+end-stopped m s unended kept refused met b now_b now NoMemory k u some h = record { some = lines-unbroken unended u (kept-some unended kept k some); met = met; unsaid = h }
 
 -- a status that the end of a script gives
 pub ends-read : {S : Type 0} (m : Machine S) (s : S) (unended : List ℕ) (refused : Bool) (b now_b : Beside) (now : S) (r : Bool) → AtEnd m s unended refused b now_b now (read_status r) → EndsOr m s unended refused b now_b now (read_status r)

@@ -1,8 +1,9 @@
 -- What commands on files do, and what they have done once their replies were given to a sink.
 use Rattle.std.proofs.Common.{◌≡◌, ◌≤◌, ◌+◌, ◌*◌, ℕ, inl, inr, arith, Bool, true, false, List, [], ◌∷◌, length, refl, ap, sym, ◌∙◌}
-use Rattle.std.specs.Prelude.{◌⊎◌, ◌<◌, ◌-◌, ◌^◌, ◌||◌, Some, None, is_none, nat_lt, if◌then◌else◌, Result, Ok, Err}
+use Rattle.std.specs.Prelude.{suc, replicate, ◌⊎◌, ◌<◌, ◌-◌, ◌^◌, ◌||◌, Some, None, is_none, nat_lt, if◌then◌else◌, Result, Ok, Err}
 use Rattle.std.specs.declared.option.Option.{Option}
 use Rattle.std.proofs.lemmas.Bool.{cases_lt, le-leb, lt-leb}
+use Rattle.std.proofs.lemmas.List.{length-replicate}
 use Rattle.ph_io.specs.Causes.{Rose}
 use Rattle.ph_io.specs.Giving.{Taken}
 use Rattle.ph_io.specs.Shelf.{Stays, Fetches, FetchCounts}
@@ -15,7 +16,7 @@ use Rattle.ph_specs.specs.Reply.{Reply}
 use Rattle.ph_specs.specs.Refusals.{refusal, fetch, short_enough, bytes_of, refuse_if, refuse_if_bad, has_file_fault, is_full, table_read, read_length}
 use Rattle.ph_specs.specs.SavedTable.{read_snapshot}
 use Rattle.ph_specs.specs.Snapshot.{snap}
-use Rattle.ph_specs.specs.State.{Slot, Engine, Files, outcome}
+use Rattle.ph_specs.specs.State.{Slot, Engine, Files, current, outcome}
 use Rattle.ph_specs.specs.Table.{Row}
 use Rattle.ph_specs.specs.Window.{Cursor}
 use Rattle.ph_specs.specs.WorkSets.{all_nodes}
@@ -25,10 +26,9 @@ use Rattle.ph_specs.specs.declared.Kind.TheVariants.{Points, Boxes}
 use Rattle.ph_script.specs.declared.reply.Reply.{Reply as Told}
 use Rattle.ph_script.specs.Meaning.{reply_of}
 use Rattle.ph_engine.specs.Beside.{aside, beside_sink, Filings, Tells, IsTold, StillTells}
-use Rattle.ph_engine.specs.Doing.{Begun, Does, DoneOr, Knows, ServedOr, Leads, fetches, imported, is_page, cut_engine, starved_engine, takes_memory, uses_files}
+use Rattle.ph_engine.specs.Doing.{Begun, Does, DoneOr, Knows, ServedOr, Leads, MakesNodes, HoldsFound, file_read, rows_loaded, rows_read, is_page, cut_engine, starved_engine, takes_memory, uses_files}
 use Rattle.ph_engine.specs.Drafting.{Shelf, Unfilled}
-use Rattle.ph_engine.specs.Filing.{Filed, Unfiled, FiledOr, Entered, LoadsOr, TellsUnfetched, read_table, read_reply}
-use Rattle.ph_engine.specs.Recording.{Unwritten}
+use Rattle.ph_engine.specs.Filing.{Filed, Unfiled, FiledOr, Entered, LoadsNodes, LoadsOr, TellsUnfetched, read_table, read_reply}
 use Rattle.ph_engine.specs.Refusing.{or_else, early_refusal, late_refusal}
 use Rattle.ph_engine.specs.Slots.{AnyTable, slot_of, engine_of}
 use Rattle.ph_engine.specs.Working.{work, work_of, engine_bounds, least_unless, IsAtMost, IsAtLeast}
@@ -36,7 +36,7 @@ use Rattle.ph_engine.specs.Telling.{Tells as Says, ToldOr}
 use Rattle.ph_engine.specs.declared.status.Answer.{Answer}
 use Rattle.ph_engine.specs.declared.status.Stop.{Stop}
 use Rattle.ph_engine.specs.declared.status.Stop.TheVariants.{WriteFault, NoMemory}
-use Rattle.ph_engine.proofs.Commanded.{known-told, one-text, told-told}
+use Rattle.ph_engine.proofs.Commanded.{one-text, told-told}
 use Rattle.ph_engine.proofs.Plain.{IsPlain, does-at, least-at, most-at, wants-at}
 use Rattle.ph_engine.proofs.Refused.{refusal-parts}
 
@@ -46,6 +46,7 @@ module _ (most : ℕ) (e now : Engine) (command : Command) (told now_told : Opti
   filed-said : (reply : Told) (result : Result Answer Stop) → now ≡ cut_engine e command now → Filed most e command (aside told f v c) (aside now_told now_f now_v now_c) now (reply_of reply) → Says sink now_sink reply result → DoneOr most e command (beside_sink sink told f v c) (beside_sink now_sink now_told now_f now_v now_c) now result
   filed-said reply (Ok answer) p h t = record {
     fault = h.fault;
+    found = h.found;
     filings = h.counted;
     replies = reply_of reply ∷ [];
     does = h.does;
@@ -53,9 +54,11 @@ module _ (most : ℕ) (e now : Engine) (command : Command) (told now_told : Opti
     refusal = rw (one-text (reply_of reply)) t.1;
     most_work = h.most_work;
     least_work = h.least_work;
+    nodes = h.nodes;
   }
   filed-said reply (Err WriteFault) p h t = record {
     fault = h.fault;
+    found = h.found;
     filings = h.counted;
     replies = reply_of reply ∷ [];
     after = now;
@@ -72,6 +75,7 @@ module _ (most : ℕ) (e now : Engine) (command : Command) (told now_told : Opti
   unfiled-said WriteFault s k h = absurd (let clash : WriteFault ≡ NoMemory = s in cc)
   unfiled-said NoMemory s k h = record {
     fault = h.fault;
+    found = h.found;
     filings = h.counted;
     part = h.part;
     state = h.state;
@@ -91,18 +95,20 @@ module _ (most : ℕ) (e now : Engine) (command : Command) (told now_told : Opti
 leaves-filings : (command : Command) (f : ℕ) → Filings (uses_files command) 0 f f
 leaves-filings command f = record { told = inr (omega arith); later = omega arith; quiet = λ _. refl }
 
-filed-quietly : (most : ℕ) (e now : Engine) (command : Command) (reply : Reply) (told : Option Files) (f v now_v c now_c : ℕ) → Does e command now (reply ∷ []) → ((most : ℕ) (files : Files) (fault : Bool) → IsAtMost (work_of most e files fault command) v now_v c now_c) → ((most : ℕ) (files : Files) (fault : Bool) → IsAtLeast (work_of most e files fault command) v now_v c now_c) → Filed most e command (aside told f v c) (aside told f now_v now_c) now reply
-filed-quietly most e now command reply told f v now_v c now_c does few enough = record {
+filed-quietly : (most : ℕ) (e now : Engine) (command : Command) (reply : Reply) (told : Option Files) (f v now_v c now_c : ℕ) → Does e command now (reply ∷ []) → ((most : ℕ) (files : Files) (fault : Bool) → IsAtMost (work_of most e files fault command) v now_v c now_c) → ((most : ℕ) (files : Files) (fault : Bool) → IsAtLeast (work_of most e files fault command) v now_v c now_c) → ((files : Files) → MakesNodes (current e) files command c now_c) → Filed most e command (aside told f v c) (aside told f now_v now_c) now reply
+filed-quietly most e now command reply told f v now_v c now_c does few enough made = record {
   fault = false;
+  found = None;
   counted = leaves-filings command f;
-  does = λ files k. record { files = files; is = does most files false; told_files = known-told command told told files refl k };
+  does = λ files k. record { after = files; is = does most files false; told_files = λ e. e };
   most_work = λ files k. few most files false;
   least_work = λ files k. enough most files false;
+  nodes = λ files k. made files;
 }
 
 -- a command that makes a slot another one
 pub filed-begun : (most : ℕ) (s now : Slot) (command : Command) (reply : Reply) (told : Option Files) (f v c : ℕ) → Begun s command now reply → Filed most (engine_of s) command (aside told f v c) (aside told f v c) (engine_of now) reply
-filed-begun most s now command reply told f v c h = filed-quietly most (engine_of s) (engine_of now) command reply told f v v c c h.does (h.most v c) (h.least v c)
+filed-begun most s now command reply told f v c h = filed-quietly most (engine_of s) (engine_of now) command reply told f v v c c h.does (h.most v c) (h.least v c) (λ files rows is. omega arith)
 
 -- a command about the rows of a table
 pub filed-served : {E : Type 0} (most : ℕ) (kind : Kind) (t now : AnyTable) (cursors : Named Cursor) (command : Command) (result : Result Told E) (told : Option Files) (f v now_v c now_c : ℕ) → IsPlain command → early_refusal (slot_of kind t cursors) command ≡ None → ServedOr t command now v now_v c now_c result → FiledOr most (engine_of (slot_of kind t cursors)) command (aside told f v c) (aside told f now_v now_c) (engine_of (slot_of kind now cursors)) result
@@ -111,8 +117,10 @@ filed-served most kind t now cursors command (Ok reply) told f v now_v c now_c p
     (does-at kind t now cursors command (reply_of reply) p u (h.does cursors))
     (most-at kind t cursors command _ _ _ _ p u (h.most cursors))
     (least-at kind t cursors command _ _ _ _ p u (h.least cursors))
+    (λ files rows is. absurd (let no : None ≡ Some rows = sym (p.no_load (slot_of kind t cursors) files) ∙ is in cc))
 filed-served most kind t now cursors command (Err error) told f v now_v c now_c p u h = record {
   fault = false;
+  found = None;
   counted = leaves-filings command f;
   part = 0;
   state = λ files k. rw (p.no_import (slot_of kind t cursors) files) (ap (λ x. engine_of (slot_of kind x cursors)) h.stays);
@@ -163,13 +171,11 @@ module _ (command : Command) (name : List ℕ) (bytes : Slot → List ℕ) (repl
   store-fails most s files = ap (λ r. unless_refused r (engine_of s) files command) (store-refusal most s files true)
 
   -- the files that it leads to: those that are told now, where some were told
-  entered-leads : (most : ℕ) (s : Slot) (told now_told : Option Files) → ((files : Files) → told ≡ Some files → now_told ≡ Some (enter name (bytes s) files)) → (files : Files) → Knows command told files → Leads (act most (engine_of s) files false command) (engine_of s) told now_told (reply s ∷ [])
-  entered-leads most s None now_told h files x = record { files = enter name (bytes s) files; is = store-does most s files; told_files = tt }
-  entered-leads most s (Some old) now_told h files x = record { files = enter name (bytes s) files; is = store-does most s files; told_files = h files (ap Some x) }
+  entered-leads : (most : ℕ) (s : Slot) (told now_told : Option Files) → ((files : Files) → told ≡ Some files → now_told ≡ Some (enter name (bytes s) files)) → (files : Files) → Leads (act most (engine_of s) files false command) (engine_of s) files told now_told (reply s ∷ [])
+  entered-leads most s told now_told h files = record { after = enter name (bytes s) files; is = store-does most s files; told_files = h files }
 
-  unfilled-leads : (most : ℕ) (s : Slot) (told now_told : Option Files) → Stays told now_told → (files : Files) → Knows command told files → Leads (act most (engine_of s) files true command) (engine_of s) told now_told (Reply.ErrorFile ∷ [])
-  unfilled-leads most s None now_told h files x = record { files = files; is = store-fails most s files; told_files = tt }
-  unfilled-leads most s (Some old) now_told h files x = record { files = files; is = store-fails most s files; told_files = h ∙ ap Some x }
+  unfilled-leads : (most : ℕ) (s : Slot) (told now_told : Option Files) → Stays told now_told → (files : Files) → Leads (act most (engine_of s) files true command) (engine_of s) files told now_told (Reply.ErrorFile ∷ [])
+  unfilled-leads most s told now_told h files = record { after = files; is = store-fails most s files; told_files = stays-told told now_told files h }
 
   module _ (most : ℕ) (s : Slot) (before now : Shelf) (v now_v c : ℕ) where
     store-most : (files : Files) (fault : Bool) → now_v ≤ v + length (all_nodes s.width s.dims s.table) → IsAtMost (work_of most (engine_of s) files fault command) v now_v c c
@@ -178,30 +184,23 @@ module _ (command : Command) (name : List ℕ) (bytes : Slot → List ℕ) (repl
     pub stored-filed : now_v ≡ v + length (all_nodes s.width s.dims s.table) → Entered before now name (bytes s) (length (bytes s)) → Filed most (engine_of s) command (aside before.files before.faults v c) (aside now.files now.faults now_v c) (engine_of s) (reply s)
     stored-filed all h = record {
       fault = false;
+      found = None;
       counted = rw k.uses (failed-never before.faults now.faults h.later);
-      does = entered-leads most s before.files now.files h.entered;
+      does = λ files x. entered-leads most s before.files now.files h.entered files;
       most_work = λ files x. store-most files false (omega (arith, all));
       least_work = λ files x. rw (k.costs s files, store-refusal most s files false) (record { enough_visits = omega (arith, all); enough_changes = omega arith });
+      nodes = λ files x rows is. omega arith;
     }
 
     pub unstored-filed : v ≤ now_v → now_v ≤ v + length (all_nodes s.width s.dims s.table) → Unfilled before now → Filed most (engine_of s) command (aside before.files before.faults v c) (aside now.files now.faults now_v c) (engine_of s) Reply.ErrorFile
     unstored-filed later few h = record {
       fault = true;
+      found = None;
       counted = rw k.uses (failed-once before.faults now.faults h.later h.rose);
-      does = unfilled-leads most s before.files now.files h.stays;
+      does = λ files x. unfilled-leads most s before.files now.files h.stays files;
       most_work = λ files x. store-most files true few;
       least_work = λ files x. rw (k.costs s files, store-refusal most s files true) (record { enough_visits = omega (arith, later); enough_changes = omega arith });
-    }
-
-    pub starved-store : takes_memory s command ≡ true → ((files : Files) → imported s files command ≡ None) → now_v ≤ v + length (all_nodes s.width s.dims s.table) → Unwritten before now → Unfiled most (engine_of s) command (aside before.files before.faults v c) (aside now.files now.faults now_v c) (engine_of s)
-    starved-store takes none few h = record {
-      fault = false;
-      counted = rw k.uses (failed-never before.faults now.faults h.later);
-      part = 0;
-      state = λ files x. rw (none files) refl;
-      kept = λ files x. still-told before.files now.files files h.stays x;
-      wanted = rw (k.early s) takes;
-      most_work = λ files x. store-most files false few;
+      nodes = λ files x rows is. omega arith;
     }
 
 -- ---- save
@@ -230,7 +229,7 @@ module _ (most : ℕ) (s : Slot) (name : List ℕ) (before now : Shelf) (v now_v
 
 -- A command reads a file, is refused for no cause before that, and may do nothing. Where memory is missing for the file, the engine stays.
 pub record IsFetch (command : Command) (name : List ℕ) : Type 0 where
-  pub reads : fetches command ≡ true
+  pub reads : file_read command ≡ Some name
   pub uses : uses_files command ≡ true
   pub early : (s : Slot) → early_refusal s command ≡ None
   pub faulty : (most : ℕ) (files : Files) (fault : Bool) → has_file_fault most files fault command ≡ (fault || is_none (fetch most files name))
@@ -254,8 +253,9 @@ none-least (Some r) n h = refl
 none-least None n h = h
 
 module _ (command : Command) (name : List ℕ) (k : IsFetch command name) where
-  unknown : (files : Files) → Knows command None files → ⊥
-  unknown files h = let clash : true ≡ false = sym k.reads ∙ h in cc
+  -- files that it may have met have what was found, unless they are those that are told
+  holds : (found : Option (List ℕ)) (files : Files) → HoldsFound (file_read command) files found → lookup name files ≡ found
+  holds found files h = rw k.reads at h
 
   -- what it is refused for behind a file that could not be read
   abbrev rest_refusal : Slot → Files → Option Reply
@@ -275,13 +275,28 @@ module _ (command : Command) (name : List ℕ) (k : IsFetch command name) where
       ap (λ r. unless_refused r (engine_of s) files command)
       (fetch-refusal most s files false ∙ ap (λ x. refuse_if (is_none x) Reply.ErrorFile (rest_refusal s files)) (fetched most files name bytes l h))
 
-  unread : (most : ℕ) (s : Slot) (told now_told : Option Files) (files : Files) (fault : Bool) → Stays told now_told → Knows command told files → (fault || is_none (fetch most files name)) ≡ true → Leads (act most (engine_of s) files fault command) (engine_of s) told now_told (Reply.ErrorFile ∷ [])
-  unread most s None now_told files fault st x h = absurd (unknown files x)
-  unread most s (Some old) now_told files fault st x h = record { files = files; is = none-fetched most s files fault h; told_files = st ∙ ap Some x }
+  unread : (most : ℕ) (s : Slot) (told now_told : Option Files) (files : Files) (fault : Bool) → Stays told now_told → (fault || is_none (fetch most files name)) ≡ true → Leads (act most (engine_of s) files fault command) (engine_of s) files told now_told (Reply.ErrorFile ∷ [])
+  unread most s told now_told files fault st h = record { after = files; is = none-fetched most s files fault h; told_files = stays-told told now_told files st }
 
-  not-there : (most : ℕ) (bytes : List ℕ) (told : Option Files) (files : Files) (fault : FetchFault) → (fault ≡ by.NoMemory → ⊥) → (fault ≡ by.Failed → ⊥) → Fetches told name most bytes (Err fault) → Knows command told files → (false || is_none (fetch most files name)) ≡ true
-  not-there most bytes None files fault n m g x = absurd (unknown files x)
-  not-there most bytes (Some old) files fault n m g x = ap (λ y. is_none (fetch most y name)) (sym x) ∙ unfetched most old name bytes fault n m g
+  -- the bytes of a file that is too long
+  abbrev long_bytes : ℕ → List ℕ
+  long_bytes most = replicate (suc most) 0
+
+  -- no file of the name is there, or one that is too long
+  none-there : (most : ℕ) (files : Files) → lookup name files ≡ None → (false || is_none (fetch most files name)) ≡ true
+  none-there most files h = ap (λ x. is_none (short_enough most x)) h
+
+  long-there : (most : ℕ) (files : Files) → lookup name files ≡ Some (long_bytes most) → (false || is_none (fetch most files name)) ≡ true
+  long-there most files h =
+      ap (λ x. is_none (short_enough most x)) h ∙ ap (λ b. is_none (if b then Some (long_bytes most) else None)) (lt-leb (length (long_bytes most)) most (omega (arith, length-replicate {A = ℕ} (suc most) 0)))
+
+  absent : (most : ℕ) (bytes : List ℕ) (told : Option Files) (files : Files) → Fetches told name most bytes (Err by.Absent) → Knows command told None files → (false || is_none (fetch most files name)) ≡ true
+  absent most bytes told files g (inl e) = none-there most files (let at : Fetches (Some files) name most bytes (Err by.Absent) = rw e at g in at)
+  absent most bytes told files g (inr h) = none-there most files (holds None files h)
+
+  over : (most : ℕ) (bytes : List ℕ) (told : Option Files) (files : Files) → Fetches told name most bytes (Err by.Over) → Knows command told (Some (long_bytes most)) files → (false || is_none (fetch most files name)) ≡ true
+  over most bytes told files g (inl e) = unfetched most files name bytes by.Over (λ no. cc) (λ no. cc) (rw e at g)
+  over most bytes told files g (inr h) = long-there most files (holds (Some (long_bytes most)) files h)
 
   module _ (most : ℕ) (s : Slot) (bytes : List ℕ) (f now_f v now_v c now_c : ℕ) where
     fetch-least : (files : Files) (fault : Bool) → v ≤ now_v → c ≤ now_c → IsAtLeast (work_of most (engine_of s) files fault command) v now_v c now_c
@@ -295,51 +310,58 @@ module _ (command : Command) (name : List ℕ) (k : IsFetch command name) where
     fetch-idle : (files : Files) (fault : Bool) → now_v ≡ v → now_c ≡ c → IsAtMost (work_of most (engine_of s) files fault command) v now_v c now_c
     fetch-idle files fault h i = record { few_visits = omega (arith, h); few_changes = omega (arith, i) }
 
+    -- files that it may have met have the bytes that were read
+    has-fetched : (told : Option Files) (files : Files) → Fetches told name most bytes (Ok tt) → Knows command told (Some bytes) files → lookup name files ≡ Some bytes
+    has-fetched told files g (inl e) = let at : Fetches (Some files) name most bytes (Ok tt) = rw e at g in at
+    has-fetched told files g (inr h) = holds (Some bytes) files h
+
     -- a file was read, and what was to be done with its bytes is done
-    pub fetched-filed : (told now_told : Option Files) (now : Engine) (reply : Reply) → Fetches told name most bytes (Ok tt) → Stays told now_told → now_f ≡ f → ((files : Files) → lookup name files ≡ Some bytes → act most (engine_of s) files false command ≡ outcome now files (reply ∷ [])) → ((files : Files) → lookup name files ≡ Some bytes → IsAtMost (work_of most (engine_of s) files false command) v now_v c now_c) → v ≤ now_v → c ≤ now_c → Filed most (engine_of s) command (aside told f v c) (aside now_told now_f now_v now_c) now reply
-    fetched-filed None now_told now reply g st e does few h i = record {
+    pub fetched-filed : (told now_told : Option Files) (now : Engine) (reply : Reply) → Fetches told name most bytes (Ok tt) → Stays told now_told → now_f ≡ f → ((files : Files) → lookup name files ≡ Some bytes → act most (engine_of s) files false command ≡ outcome now files (reply ∷ [])) → ((files : Files) → lookup name files ≡ Some bytes → IsAtMost (work_of most (engine_of s) files false command) v now_v c now_c) → v ≤ now_v → c ≤ now_c → ((files : Files) → lookup name files ≡ Some bytes → MakesNodes s files command c now_c) → Filed most (engine_of s) command (aside told f v c) (aside now_told now_f now_v now_c) now reply
+    fetched-filed told now_told now reply g st e does few h i made = record {
       fault = false;
+      found = Some bytes;
       counted = rw k.uses (failed-never f now_f (omega (arith, e)));
-      does = λ files x. absurd (unknown files x);
-      most_work = λ files x. absurd (unknown files x);
-      least_work = λ files x. absurd (unknown files x);
-    }
-    fetched-filed (Some old) now_told now reply g st e does few h i = record {
-      fault = false;
-      counted = rw k.uses (failed-never f now_f (omega (arith, e)));
-      does = λ files x. record { files = files; is = does files (ap (lookup name) (sym x) ∙ g); told_files = st ∙ ap Some x };
-      most_work = λ files x. few files (ap (lookup name) (sym x) ∙ g);
+      does = λ files x. record { after = files; is = does files (has-fetched told files g x); told_files = stays-told told now_told files st };
+      most_work = λ files x. few files (has-fetched told files g x);
       least_work = λ files x. fetch-least files false h i;
+      nodes = λ files x. made files (has-fetched told files g x);
     }
 
     -- no file could be read
     unfetched-filed : (told now_told : Option Files) (fault : FetchFault) → (fault ≡ by.NoMemory → ⊥) → Fetches told name most bytes (Err fault) → FetchCounts f now_f (Err fault) → Stays told now_told → now_v ≡ v → now_c ≡ c → Filed most (engine_of s) command (aside told f v c) (aside now_told now_f now_v now_c) (engine_of s) Reply.ErrorFile
     unfetched-filed told now_told by.Failed n g counts st h i = record {
       fault = true;
+      found = None;
       counted = rw k.uses (failed-once f now_f counts.0 counts.1);
-      does = λ files x. unread most s told now_told files true st x refl;
+      does = λ files x. unread most s told now_told files true st refl;
       most_work = λ files x. fetch-idle files true h i;
       least_work = λ files x. fetch-least files true (omega (arith, h)) (omega (arith, i));
+      nodes = λ files x rows is. omega (arith, i);
     }
     unfetched-filed told now_told by.Absent n g counts st h i = record {
       fault = false;
+      found = None;
       counted = rw k.uses (failed-never f now_f (omega (arith, counts)));
-      does = λ files x. unread most s told now_told files false st x (not-there most bytes told files by.Absent n (λ no. cc) g x);
+      does = λ files x. unread most s told now_told files false st (absent most bytes told files g x);
       most_work = λ files x. fetch-idle files false h i;
       least_work = λ files x. fetch-least files false (omega (arith, h)) (omega (arith, i));
+      nodes = λ files x rows is. omega (arith, i);
     }
     unfetched-filed told now_told by.Over n g counts st h i = record {
       fault = false;
+      found = Some (long_bytes most);
       counted = rw k.uses (failed-never f now_f (omega (arith, counts)));
-      does = λ files x. unread most s told now_told files false st x (not-there most bytes told files by.Over n (λ no. cc) g x);
+      does = λ files x. unread most s told now_told files false st (over most bytes told files g x);
       most_work = λ files x. fetch-idle files false h i;
       least_work = λ files x. fetch-least files false (omega (arith, h)) (omega (arith, i));
+      nodes = λ files x rows is. omega (arith, i);
     }
     unfetched-filed told now_told by.NoMemory n g counts st h i = absurd (n refl)
 
-    starved : (told now_told : Option Files) (now : Engine) (part : ℕ) → Stays told now_told → now_f ≡ f → ((files : Files) → Knows command told files → now ≡ starved_engine (engine_of s) files command part) → ((files : Files) → Knows command told files → IsAtMost (work_of most (engine_of s) files false command) v now_v c now_c) → Unfiled most (engine_of s) command (aside told f v c) (aside now_told now_f now_v now_c) now
-    starved told now_told now part st e is few = record {
+    starved : (told now_told : Option Files) (found : Option (List ℕ)) (now : Engine) (part : ℕ) → Stays told now_told → now_f ≡ f → ((files : Files) → Knows command told found files → now ≡ starved_engine (engine_of s) files command part) → ((files : Files) → Knows command told found files → IsAtMost (work_of most (engine_of s) files false command) v now_v c now_c) → Unfiled most (engine_of s) command (aside told f v c) (aside now_told now_f now_v now_c) now
+    starved told now_told found now part st e is few = record {
       fault = false;
+      found = found;
       counted = rw k.uses (failed-never f now_f (omega (arith, e)));
       part = part;
       state = is;
@@ -351,13 +373,12 @@ module _ (command : Command) (name : List ℕ) (k : IsFetch command name) where
     pub unfetched-filed-or : {E : Type 0} (told now_told : Option Files) (fault : FetchFault) (result : Result Told E) → TellsUnfetched fault result → Fetches told name most bytes (Err fault) → FetchCounts f now_f (Err fault) → Stays told now_told → now_v ≡ v → now_c ≡ c → FiledOr most (engine_of s) command (aside told f v c) (aside now_told now_f now_v now_c) (engine_of s) result
     unfetched-filed-or told now_told fault (Ok reply) t g counts st h i = rw t.1 (unfetched-filed told now_told fault t.0 g counts st h i)
     unfetched-filed-or told now_told fault (Err error) t g counts st h i =
-        starved told now_told (engine_of s) 0 st (rw t at counts) (λ files x. sym (k.none_in s files)) (λ files x. fetch-idle files false h i)
+        starved told now_told None (engine_of s) 0 st (rw t at counts) (λ files x. sym (k.none_in s files)) (λ files x. fetch-idle files false h i)
 
     -- memory was missing behind a file that was read
     pub fetched-starved : (told now_told : Option Files) (now : Engine) (part : ℕ) → Fetches told name most bytes (Ok tt) → Stays told now_told → now_f ≡ f → ((files : Files) → lookup name files ≡ Some bytes → now ≡ starved_engine (engine_of s) files command part) → ((files : Files) → lookup name files ≡ Some bytes → IsAtMost (work_of most (engine_of s) files false command) v now_v c now_c) → Unfiled most (engine_of s) command (aside told f v c) (aside now_told now_f now_v now_c) now
-    fetched-starved None now_told now part g st e is few = starved None now_told now part st e (λ files x. absurd (unknown files x)) (λ files x. absurd (unknown files x))
-    fetched-starved (Some old) now_told now part g st e is few =
-        starved (Some old) now_told now part st e (λ files x. is files (ap (lookup name) (sym x) ∙ g)) (λ files x. few files (ap (lookup name) (sym x) ∙ g))
+    fetched-starved told now_told now part g st e is few =
+        starved told now_told (Some bytes) now part st e (λ files x. is files (has-fetched told files g x)) (λ files x. few files (has-fetched told files g x))
 
 -- ---- load
 
@@ -399,12 +420,20 @@ module _ (most : ℕ) (kind : Kind) (t : AnyTable) (cursors : Named Cursor) (nam
   load-most : 16 * now_c ≤ 16 * c + length bytes → (files : Files) → lookup name files ≡ Some bytes → IsAtMost (work_of most (engine_of (slot_of kind t cursors)) files false (Command.Load name)) v v c now_c
   load-most few files l = rw l (record { few_visits = omega arith; few_changes = omega (arith, few) })
 
-  pub read-filed-or : {E : Type 0} (told now_told : Option Files) (now : AnyTable) (result : Result Told E) → Fetches told name most bytes (Ok tt) → length bytes ≤ most → Stays told now_told → now_f ≡ f → LoadsOr kind t bytes now result → c ≤ now_c → 16 * now_c ≤ 16 * c + length bytes → FiledOr most (engine_of (slot_of kind t cursors)) (Command.Load name) (aside told f v c) (aside now_told now_f v now_c) (engine_of (slot_of kind now cursors)) result
-  read-filed-or told now_told now (Ok reply) g short st e h later few =
+  -- the rows that a load has read are those of the bytes
+  rows-in : (read : Result (List Row) Reply) (rows : List Row) → rows_read read ≡ Some rows → read ≡ Ok rows
+  rows-in (Ok xs) rows h = cc
+  rows-in (Err fault) rows h = absurd (let no : None ≡ Some rows = h in cc)
+
+  read-rows : (files : Files) → lookup name files ≡ Some bytes → (rows : List Row) → rows_loaded (slot_of kind t cursors) files (Command.Load name) ≡ Some rows → read_snapshot kind t.dims t.tree.width bytes ≡ Ok rows
+  read-rows files l rows h = ap (λ x. read_snapshot kind t.dims t.tree.width (bytes_of x)) (sym l) ∙ rows-in (table_read (slot_of kind t cursors) files (Command.Load name)) rows h
+
+  pub read-filed-or : {E : Type 0} (told now_told : Option Files) (now : AnyTable) (result : Result Told E) → Fetches told name most bytes (Ok tt) → length bytes ≤ most → Stays told now_told → now_f ≡ f → LoadsOr kind t bytes now result → c ≤ now_c → 16 * now_c ≤ 16 * c + length bytes → LoadsNodes kind t bytes result c now_c → FiledOr most (engine_of (slot_of kind t cursors)) (Command.Load name) (aside told f v c) (aside now_told now_f v now_c) (engine_of (slot_of kind now cursors)) result
+  read-filed-or told now_told now (Ok reply) g short st e h later few made =
       fetched-filed (Command.Load name) name (fetch-load name) most (slot_of kind t cursors) bytes f now_f v v c now_c told now_told (engine_of (slot_of kind now cursors)) (reply_of reply) g st e
       (λ files l. load-does most kind t cursors files name bytes short l ∙ (λ i. outcome (engine_of (slot_of kind (sym h.0 i) cursors)) files (sym h.1 i ∷ [])))
-      (load-most few) (omega arith) later
-  read-filed-or told now_told now (Err error) g short st e h later few =
+      (load-most few) (omega arith) later (λ files l rows is. made rows (read-rows files l rows is))
+  read-filed-or told now_told now (Err error) g short st e h later few made =
       fetched-starved (Command.Load name) name (fetch-load name) most (slot_of kind t cursors) bytes f now_f v v c now_c told now_told (engine_of (slot_of kind now cursors)) 0 g st e
       (λ files l. ap (λ x. engine_of (slot_of kind x cursors)) h)
       (load-most few)

@@ -14,6 +14,7 @@ pub mod Runs
 pub mod Words
 pub mod Far
 pub mod Answered
+pub mod Known
 pub mod Defined
 pub mod Refused
 pub mod Plain

@@ -112,9 +112,9 @@ work-lifted most e files fault cmd h =
 
 -- ---- what a command of the code answers
 
-leads-lifted : (most : ℕ) (e after : Engine) (files : Files) (fault : Bool) (cmd : Command) (told now_told : Option Files) (replies : List Reply) → is_on_slot cmd ≡ true → Leads (act most (engine_of (current e)) files fault cmd) after told now_told replies → Leads (act most e files fault cmd) (with_slot e (current after)) told now_told replies
+leads-lifted : (most : ℕ) (e after : Engine) (files : Files) (fault : Bool) (cmd : Command) (told now_told : Option Files) (replies : List Reply) → is_on_slot cmd ≡ true → Leads (act most (engine_of (current e)) files fault cmd) after files told now_told replies → Leads (act most e files fault cmd) (with_slot e (current after)) files told now_told replies
 leads-lifted most e after files fault cmd told now_told replies h l = record {
-  files = l.files;
+  after = l.after;
   is = act-lifted most e files fault cmd h ∙ ap (lift e) l.is;
   told_files = l.told_files;
 }
@@ -130,6 +130,7 @@ first-lifted e n None = same e
 pub done-lifted : (most : ℕ) (e : Engine) (s : Slot) (cmd : Command) (b now_b : Beside) (result : Result Answer Stop) → is_on_slot cmd ≡ true → DoneOr most (engine_of (current e)) cmd b now_b (engine_of s) result → DoneOr most e cmd b now_b (with_slot e s) result
 done-lifted most e s cmd b now_b (Ok answer) h d = record {
   fault = d.fault;
+  found = d.found;
   filings = d.filings;
   replies = d.replies;
   does = λ files k. leads-lifted most e (engine_of s) files d.fault cmd b.files now_b.files d.replies h (d.does files k);
@@ -137,9 +138,11 @@ done-lifted most e s cmd b now_b (Ok answer) h d = record {
   refusal = d.refusal;
   most_work = λ files k. subst (λ w. IsAtMost w b.visits now_b.visits b.changes now_b.changes) (sym (work-lifted most e files d.fault cmd h)) (d.most_work files k);
   least_work = λ files k. subst (λ w. IsAtLeast w b.visits now_b.visits b.changes now_b.changes) (sym (work-lifted most e files d.fault cmd h)) (d.least_work files k);
+  nodes = d.nodes;
 }
 done-lifted most e s cmd b now_b (Err WriteFault) h d = record {
   fault = d.fault;
+  found = d.found;
   filings = d.filings;
   replies = d.replies;
   after = with_slot e (current d.after);
@@ -152,6 +155,7 @@ done-lifted most e s cmd b now_b (Err WriteFault) h d = record {
 }
 done-lifted most e s cmd b now_b (Err NoMemory) h d = record {
   fault = d.fault;
+  found = d.found;
   filings = d.filings;
   part = d.part;
   state = λ files k. ap (λ x. with_slot e (current x)) (d.state files k) ∙ first-lifted e d.part (imported (current e) files cmd);

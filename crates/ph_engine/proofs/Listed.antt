@@ -1,15 +1,15 @@
 -- Listings, row by row.
 use Rattle.std.proofs.Common.{◌≡◌, ◌≤◌, ◌+◌, ℕ, zero, suc, Bool, true, false, List, [], ◌∷◌, ◌++◌, length, map, take, drop, refl, ap, sym, ◌∙◌, subst, arith}
-use Rattle.std.specs.Prelude.{◌↔◌, ℤ, Option, Some, None, Ok, Err, Result, IfOk, IfErr, OnOk, OnErr, slice_get, filter, if◌then◌else◌}
+use Rattle.std.specs.Prelude.{◌↔◌, ◌<◌, ◌≢◌, IsSome, ℤ, Option, Some, None, Ok, Err, Result, IfOk, IfErr, OnOk, OnErr, slice_get, filter, if◌then◌else◌}
 use Rattle.std.specs.List.{list_all}
 use Rattle.std.proofs.lemmas.Bool.{and_parts}
 use Rattle.ph_io.specs.Giving.{Taken, Given}
 use Rattle.ph_specs.specs.Coordinate.{is_point}
-use Rattle.ph_specs.specs.Table.{Row}
+use Rattle.ph_specs.specs.Table.{Row, IsTable}
 use Rattle.ph_specs.specs.Reply.{Reply, reply_text, replies_text}
 use Rattle.ph_specs.specs.Engine.{row_replies, page_end}
 use Rattle.ph_specs.specs.Window.{Cursor, is_between, is_after, window, rest, page, has_more, last_listed, next_cursor}
-use Rattle.ph_specs.proofs.laws.Pages.{more-left}
+use Rattle.ph_specs.proofs.laws.Pages.{more-left, rest-behind-page}
 use Rattle.ph_window.specs.Page.{IsLast}
 use Rattle.ph_window.specs.declared.page.Tail.{Tail}
 use Rattle.ph_window.specs.declared.page.Tail.TheVariants.{More, End}
@@ -17,6 +17,7 @@ use Rattle.ph_engine.specs.Doing.{refuses}
 use Rattle.ph_engine.specs.Listing.{PageListed, Lists, met, page_replies, is_more}
 use Rattle.ph_engine.specs.Machine.{is_refusal}
 use Rattle.ph_engine.specs.Slots.{AnyTable}
+use Rattle.ph_engine.specs.Working.{most_to_resume, least_to_resume}
 use Rattle.ph_io.specs.Writing.{WritesFront}
 use Rattle.ph_engine.specs.declared.status.Answer.{Answer}
 use Rattle.ph_engine.specs.declared.status.Answer.TheVariants.{Good, Refused}
@@ -117,20 +118,33 @@ page-ended t c n rows0 rows left count more e none d counted m =
     ∙ ap (λ rs. row_replies rs ++ page_end (has_more w c n t.tree.table) (length rs) ∷ []) listed
 
 -- the whole page was given, and then its end
-pub page-said : (t : AnyTable) (c : Cursor) (n : ℕ) (rows0 rows : List Row) (left count v0 v : ℕ) (more : Bool) (behind : Cursor) (x y z : Taken) → rows0 ≡ rest t.tree.width c t.tree.table → ((tail : List Reply) → IsGiven (row_replies (take n rows0) ++ tail) (row_replies (take left rows) ++ tail) x y) → take left rows ≡ [] → drop left rows ≡ drop n rows0 → count ≡ length (take n rows0) → (more ≡ true) ↔ (rows ≡ [] → ⊥) → behind.lo ≡ c.lo → behind.hi ≡ c.hi → last_listed behind.last (take left rows) ≡ last_listed c.last (take n rows0) → IsLast t.tree.width t.dims c.last → list_all (λ r. is_point t.tree.width t.dims r.point) t.tree.table ≡ true → v0 ≤ v → v ≤ v0 + (t.tree.width + met t c.lo c.hi) → Given y z (reply_text (page_end more count)) → PageListed t c n x z v0 v behind
-page-said t c n rows0 rows left count v0 v more behind x y z e given none d counted m lo hi last start points grows cost told =
+pub page-said : (t : AnyTable) (c : Cursor) (n : ℕ) (rows0 rows : List Row) (left count v0 v : ℕ) (more : Bool) (behind : Cursor) (x y z : Taken) → rows0 ≡ rest t.tree.width c t.tree.table → ((tail : List Reply) → IsGiven (row_replies (take n rows0) ++ tail) (row_replies (take left rows) ++ tail) x y) → take left rows ≡ [] → drop left rows ≡ drop n rows0 → count ≡ length (take n rows0) → (more ≡ true) ↔ (rows ≡ [] → ⊥) → behind.lo ≡ c.lo → behind.hi ≡ c.hi → last_listed behind.last (take left rows) ≡ last_listed c.last (take n rows0) → IsLast t.tree.width t.dims c.last → IsTable t.tree.width t.dims t.tree.table → v0 + least_to_resume t.tree.table c.last ≤ v → v ≤ v0 + (most_to_resume t.tree.width c.last + met t c.lo c.hi) → Given y z (reply_text (page_end more count)) → PageListed t c n x z v0 v behind
+page-said t c n rows0 rows left count v0 v more behind x y z e given none d counted m lo hi last start whole grows cost told =
     let w = t.tree.width in
+    let points = (and_parts _ _ (and_parts _ _ whole).1).0 in
     let ended = page-ended t c n rows0 rows left count more e none d counted m in
+    let next : behind ≡ next_cursor w c n t.tree.table = same-cursor behind (next_cursor w c n t.tree.table) lo hi (ap (last_listed behind.last) (sym none) ∙ last ∙ ap (λ rs. last_listed c.last (take n rs)) e) in
     let stands : behind.last ≡ last_listed c.last (take n rows0) = ap (last_listed behind.last) (sym none) ∙ last in
     let inside : list_all (λ r. is_point w t.dims r.point) (take n rows0) ≡ true =
     all-taken (λ r. is_point w t.dims r.point) n rows0 (rw e (all-filtered (λ r. is_point w t.dims r.point) (λ r. is_after w c.last r.point) (window c.lo c.hi t.tree.table) (all-filtered (λ r. is_point w t.dims r.point) (λ r. is_between c.lo c.hi r.point) t.tree.table points))) in
     record {
       told = subst (λ rs. Given x z (replies_text rs)) ended (last-given Reply.RowIs _ (take left rows) (page_end more count) x y z (given (page_end more count ∷ [])) none told);
-      next = same-cursor behind (next_cursor w c n t.tree.table) lo hi (stands ∙ ap (λ rs. last_listed c.last (take n rs)) e);
+      next = next;
+      rest_behind = ap (λ x. rest w x t.tree.table) next ∙ rest-behind-page w t.dims c n t.tree.table whole;
       last = rw stands (last-point w t.dims c.last (take n rows0) start inside);
       grows = grows;
       visited = cost;
     }
+
+-- how many nodes are visited before its rows
+pub few-to-resume : (w v now_v : ℕ) (last : Option (List ℤ)) → (last ≡ None → now_v ≡ v) → now_v ≤ v + w → now_v ≤ v + most_to_resume w last
+few-to-resume w v now_v None h k = let e = h refl in omega (arith, e)
+few-to-resume w v now_v (Some last) h k = k
+
+pub some-to-resume : (rows : List Row) (v now_v : ℕ) (last : Option (List ℤ)) → v ≤ now_v → (IsSome last → rows ≢ [] → v < now_v) → v + least_to_resume rows last ≤ now_v
+some-to-resume rows v now_v None k h = omega (arith, k)
+some-to-resume [] v now_v (Some last) k h = omega (arith, k)
+some-to-resume (r ∷ rows) v now_v (Some last) k h = let less : v < now_v = h refl (λ e. cc) in omega (arith, less)
 
 -- the rows of the page were given, and a front of its end
 pub page-cut : (t : AnyTable) (c : Cursor) (n : ℕ) (rows0 rows : List Row) (left count : ℕ) (more : Bool) (x y z : Taken) → rows0 ≡ rest t.tree.width c t.tree.table → ((tail : List Reply) → IsGiven (row_replies (take n rows0) ++ tail) (row_replies (take left rows) ++ tail) x y) → take left rows ≡ [] → drop left rows ≡ drop n rows0 → count ≡ length (take n rows0) → (more ≡ true) ↔ (rows ≡ [] → ⊥) → WritesFront y z (reply_text (page_end more count)) → WritesFront x z (replies_text (page_replies t c n))

@@ -21,7 +21,8 @@ use Rattle.ph_engine.specs.Machine.{is_refusal}
 use Rattle.ph_engine.specs.Refusing.{early_refusal, late_refusal}
 use Rattle.ph_engine.specs.Naming.{place}
 use Rattle.ph_engine.specs.Slots.{AnyTable, slot_of, engine_of, cursor_of, named}
-use Rattle.ph_engine.specs.Working.{work, engine_bounds}
+use Rattle.std.proofs.lemmas.Bool.{lt-ltb}
+use Rattle.ph_engine.specs.Working.{work, engine_bounds, most_to_resume}
 use Rattle.ph_engine.specs.declared.status.Answer.{Answer}
 use Rattle.ph_engine.specs.declared.status.Answer.TheVariants.{Good}
 use Rattle.ph_engine.specs.declared.status.Stop.{Stop}
@@ -106,16 +107,16 @@ page-done kind t cursors after name n c behind sink now_sink v now_v h there e l
     let command = Command.Page name n in
     let rows = page t.tree.width c n t.tree.table in
     record {
-      done = λ most files filings changes. done-all most (engine_of s) (engine_of (slot_of kind t after)) (engine_of (slot_of kind t after)) command (page_replies t c n) (beside_sink sink files filings v changes) (beside_sink now_sink files filings now_v changes) (Ok Good) (record { files = refl; filings = refl }) refl tt (page-does kind t cursors after name n c h there (e ∙ ap (λ x. enter name x cursors) listed.next)) (λ most files fault. rw there (record { few_visits = listed.visited; few_changes = omega arith })) (λ most files fault. rw (unrefused most s files fault command h refl, there) (record { enough_visits = omega (arith, listed.grows); enough_changes = omega arith })) (sym (good-rows rows (has_more t.tree.width c n t.tree.table) (length rows))) listed.told tt tt;
+      done = λ most files filings changes. done-all most (engine_of s) (engine_of (slot_of kind t after)) (engine_of (slot_of kind t after)) command (page_replies t c n) (beside_sink sink files filings v changes) (beside_sink now_sink files filings now_v changes) (Ok Good) (record { files = refl; filings = refl }) refl refl tt (page-does kind t cursors after name n c h there (e ∙ ap (λ x. enter name x cursors) listed.next)) (λ most files fault. rw there (record { few_visits = listed.visited; few_changes = omega arith })) (λ most files fault. rw (unrefused most s files fault command h refl, there) (record { enough_visits = omega (arith, listed.grows); enough_changes = omega arith })) (sym (good-rows rows (has_more t.tree.width c n t.tree.table) (length rows))) listed.told tt tt;
     }
 
 -- a page in which a write failed
-pub page-stopped : (kind : Kind) (t : AnyTable) (cursors : Named Cursor) (name : List ℕ) (n : ℕ) (c : Cursor) (sink now_sink : Taken) (v now_v : ℕ) (stop : Stop) → early_refusal (slot_of kind t cursors) (Command.Page name n) ≡ None → lookup name cursors ≡ Some c → FrontListed (page_replies t c n) (t.tree.width + met t c.lo c.hi) sink now_sink v now_v stop → DoneWith (slot_of kind t cursors) (Command.Page name n) sink now_sink v now_v (slot_of kind t cursors) (Err stop)
+pub page-stopped : (kind : Kind) (t : AnyTable) (cursors : Named Cursor) (name : List ℕ) (n : ℕ) (c : Cursor) (sink now_sink : Taken) (v now_v : ℕ) (stop : Stop) → early_refusal (slot_of kind t cursors) (Command.Page name n) ≡ None → lookup name cursors ≡ Some c → FrontListed (page_replies t c n) (most_to_resume t.tree.width c.last + met t c.lo c.hi) sink now_sink v now_v stop → DoneWith (slot_of kind t cursors) (Command.Page name n) sink now_sink v now_v (slot_of kind t cursors) (Err stop)
 page-stopped kind t cursors name n c sink now_sink v now_v stop h there listed =
     let s = slot_of kind t cursors in
     let after = enter name (next_cursor t.tree.width c n t.tree.table) cursors in
     record {
-      done = λ most files filings changes. done-all most (engine_of s) (engine_of (slot_of kind t after)) (engine_of s) (Command.Page name n) (page_replies t c n) (beside_sink sink files filings v changes) (beside_sink now_sink files filings now_v changes) (Err stop) (record { files = refl; filings = refl }) tt refl (page-does kind t cursors after name n c h there refl) (λ most files fault. rw there (record { few_visits = listed.visited; few_changes = omega arith })) tt tt tt listed.fault listed.front;
+      done = λ most files filings changes. done-all most (engine_of s) (engine_of (slot_of kind t after)) (engine_of s) (Command.Page name n) (page_replies t c n) (beside_sink sink files filings v changes) (beside_sink now_sink files filings now_v changes) (Err stop) (record { files = refl; filings = refl }) refl tt refl (page-does kind t cursors after name n c h there refl) (λ most files fault. rw there (record { few_visits = listed.visited; few_changes = omega arith })) tt tt tt listed.fault listed.front;
     }
 
 -- ---- listings
@@ -130,11 +131,11 @@ module _ (s : Slot) (command : Command) (replies : List Reply) (least most_visit
 
   pub listing-done : (most : ℕ) (result : Result Answer Stop) → is_page command ≡ false → is_refusal (replies_text replies) ≡ false → Lists replies least most_visits sink now_sink v now_v result → DoneOr most (engine_of s) command (beside_sink sink files filings v changes) (beside_sink now_sink files filings now_v changes) (engine_of s) result
   listing-done most (Ok answer) page good listed =
-      done-all most (engine_of s) (engine_of s) (engine_of s) command replies (beside_sink sink files filings v changes) (beside_sink now_sink files filings now_v changes) (Ok answer) (record { files = refl; filings = refl }) refl tt does (most-of listed.few)
+      done-all most (engine_of s) (engine_of s) (engine_of s) command replies (beside_sink sink files filings v changes) (beside_sink now_sink files filings now_v changes) (Ok answer) (record { files = refl; filings = refl }) refl refl tt does (most-of listed.few)
       (λ most files fault. rw (unrefused most s files fault command h (late most files fault), w files) (record { enough_visits = listed.enough; enough_changes = omega arith }))
       (rw listed.good (sym good)) listed.told tt tt
   listing-done most (Err stop) page good listed =
-      done-all most (engine_of s) (engine_of s) (engine_of s) command replies (beside_sink sink files filings v changes) (beside_sink now_sink files filings now_v changes) (Err stop) (record { files = refl; filings = refl }) tt (rw page refl) does (most-of listed.visited)
+      done-all most (engine_of s) (engine_of s) (engine_of s) command replies (beside_sink sink files filings v changes) (beside_sink now_sink files filings now_v changes) (Err stop) (record { files = refl; filings = refl }) refl tt (rw page refl) does (most-of listed.visited)
       tt tt tt listed.fault listed.front
 
 pub rows-good : (rows : List Row) → is_refusal (replies_text (listing rows)) ≡ false
@@ -157,11 +158,12 @@ near-done most kind t cursors q n sink now_sink files filings v now_v changes (E
     listing-done (slot_of kind t cursors) (Command.Near q n) (hit_listing q (near q n t.tree.table)) 0 (reached t q n) sink now_sink files filings v now_v changes h (λ most files fault. refl) (λ files. refl) (λ files. refl) most (Err WriteFault) refl (hits-good q (near q n t.tree.table)) listed
 near-done most kind t cursors q n sink now_sink files filings v now_v changes (Err NoMemory) h listed = record {
   fault = false;
+  found = None;
   filings = no-faults (Command.Near q n) (beside_sink sink files filings v changes) (beside_sink now_sink files filings now_v changes) (record { files = refl; filings = refl });
   part = 0;
   state = λ files k. refl;
   files = λ known k. told-told files files known refl k;
   told = rw listed.unwritten (given_none sink);
-  wanted = rw h refl;
+  wanted = rw h (lt-ltb 0 n listed.some);
   most_work = λ files k. record { few_visits = listed.few; few_changes = omega arith };
 }

@@ -10,7 +10,7 @@ use Rattle.ph_specs.specs.State.{Slot, Files, Outcome, current}
 use Rattle.ph_specs.specs.Refusals.{refusal}
 use Rattle.ph_specs.specs.Engine.{act, effect, unless_refused}
 use Rattle.ph_specs.specs.Window.{Cursor}
-use Rattle.ph_engine.specs.Doing.{DoesAt, MostAt, LeastAt, takes_memory, wants_memory, is_page, imported}
+use Rattle.ph_engine.specs.Doing.{DoesAt, MostAt, LeastAt, takes_memory, wants_memory, is_page, imported, rows_loaded}
 use Rattle.ph_engine.specs.Refusing.{or_else, early_refusal, late_refusal}
 use Rattle.ph_engine.specs.Slots.{AnyTable, slot_of, engine_of}
 use Rattle.ph_engine.specs.Working.{work, work_of, engine_bounds, least_unless, IsAtMost, IsAtLeast}
@@ -29,6 +29,7 @@ pub record IsPlain (command : Command) : Type 0 where
   pub takes : (t : AnyTable) (cursors : Named Cursor) → takes_memory (slot_of Boxes t cursors) command ≡ takes_memory (slot_of Points t cursors) command
   pub no_page : is_page command ≡ false
   pub no_import : (s : Slot) (files : Files) → imported s files command ≡ None
+  pub no_load : (s : Slot) (files : Files) → rows_loaded s files command ≡ None
 
 pub plain-put : (p : List ℤ) (v : ℕ) → IsPlain (Command.Put p v)
 plain-put p v = record {
@@ -39,6 +40,7 @@ plain-put p v = record {
   takes = λ t cursors. refl;
   no_page = refl;
   no_import = λ s files. refl;
+  no_load = λ s files. refl;
 }
 
 pub plain-get : (p : List ℤ) → IsPlain (Command.Get p)
@@ -50,6 +52,7 @@ plain-get p = record {
   takes = λ t cursors. refl;
   no_page = refl;
   no_import = λ s files. refl;
+  no_load = λ s files. refl;
 }
 
 pub plain-del : (p : List ℤ) → IsPlain (Command.Del p)
@@ -61,6 +64,7 @@ plain-del p = record {
   takes = λ t cursors. refl;
   no_page = refl;
   no_import = λ s files. refl;
+  no_load = λ s files. refl;
 }
 
 pub plain-move : (p q : List ℤ) → IsPlain (Command.Relocate p q)
@@ -72,6 +76,7 @@ plain-move p q = record {
   takes = λ t cursors. refl;
   no_page = refl;
   no_import = λ s files. refl;
+  no_load = λ s files. refl;
 }
 
 pub plain-count : IsPlain Command.Count
@@ -83,6 +88,7 @@ plain-count = record {
   takes = λ t cursors. refl;
   no_page = refl;
   no_import = λ s files. refl;
+  no_load = λ s files. refl;
 }
 
 pub plain-clear : IsPlain Command.Clear
@@ -94,6 +100,7 @@ plain-clear = record {
   takes = λ t cursors. refl;
   no_page = refl;
   no_import = λ s files. refl;
+  no_load = λ s files. refl;
 }
 
 unless-boxed : (r : Option Reply) (t : AnyTable) (cursors : Named Cursor) (files : Files) (command : Command) → IsPlain command → unless_refused r (engine_of (slot_of Boxes t cursors)) files command ≡ boxed (unless_refused r (engine_of (slot_of Points t cursors)) files command)

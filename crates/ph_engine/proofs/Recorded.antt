@@ -1,5 +1,7 @@
 -- What imports and exports do.
-use Rattle.std.proofs.Common.{◌≡◌, ◌≤◌, ◌+◌, ◌*◌, ℕ, zero, suc, Bool, true, false, List, [], ◌∷◌, length, take, refl, ap, sym, ◌∙◌}
+use Rattle.std.proofs.lemmas.List.{take-take}
+use Rattle.std.proofs.lemmas.Bool.{cases_lt}
+use Rattle.std.proofs.Common.{◌≡◌, ◌<◌, ◌≤◌, ◌+◌, ◌-◌, ◌*◌, inl, inr, lt-ltb, le-ltb, arith, ℕ, zero, suc, Bool, true, false, List, [], ◌∷◌, length, take, refl, ap, sym, ◌∙◌}
 use Rattle.std.specs.Prelude.{Some, None, nat_lt, if◌then◌else◌, Result, Ok, Err, Option}
 use Rattle.ph_csv.specs.Faults.{IsFault}
 use Rattle.ph_csv.specs.declared.fault.CsvFault.{CsvFault}
@@ -21,26 +23,39 @@ use Rattle.ph_specs.specs.declared.Kind.{Kind}
 use Rattle.ph_specs.specs.declared.Kind.TheVariants.{Points, Boxes}
 use Rattle.ph_script.specs.declared.reply.Reply.{Reply as Told}
 use Rattle.ph_script.specs.Meaning.{reply_of}
-use Rattle.ph_engine.specs.Doing.{rows_of, with_first}
+use Rattle.ph_import.specs.Imported.{IsPart}
+use Rattle.ph_tree.specs.Tree.{TreeTable}
+use Rattle.ph_engine.specs.Doing.{first_rows, rows_put, with_first}
 use Rattle.ph_engine.specs.Beside.{aside}
 use Rattle.ph_engine.specs.Drafting.{Shelf, Unfilled}
-use Rattle.ph_engine.specs.Filing.{Entered, Filed, FiledOr, Unfiled, SameFrame}
-use Rattle.ph_engine.specs.Recording.{ImportsOr, TellsRecord, Unwritten, imported_table, imported_reply, is_overfull, table_with, table_with_first}
+use Rattle.ph_engine.specs.Filing.{Entered, Filed, FiledOr, SameFrame}
+use Rattle.ph_engine.specs.Recording.{ImportsOr, TellsRecord, imported_table, imported_reply, is_overfull, table_with, table_with_first}
 use Rattle.ph_engine.specs.Refusing.{early_refusal}
-use Rattle.ph_engine.specs.Slots.{AnyTable, slot_of, engine_of}
+use Rattle.ph_engine.specs.Slots.{AnyTable, table_at, slot_of, engine_of}
 use Rattle.ph_engine.specs.Working.{work_of, IsAtMost}
-use Rattle.ph_engine.proofs.Filed.{IsFetch, IsStore, fetched-act, fetched-filed, fetched-starved, stored-filed, unstored-filed, starved-store}
+use Rattle.ph_engine.proofs.Filed.{IsFetch, IsStore, fetched-act, fetched-filed, fetched-starved, stored-filed, unstored-filed}
 use Rattle.ph_engine.proofs.Slotted.{of-kind-still}
 
 -- ---- import
 
-some-first : (kind : Kind) (t : AnyTable) (cursors : Named Cursor) (part : ℕ) (read : Result (List Row) Reply) → engine_of (slot_of kind (table_with_first t part read) cursors) ≡ with_first (engine_of (slot_of kind t cursors)) part (rows_of read)
-some-first kind t cursors part (Ok rows) = refl
+-- the engine with some first rows is that of the table with them
+full-first : (kind : Kind) (t : AnyTable) (cursors : Named Cursor) (part : ℕ) (rows : List Row) → engine_of (slot_of kind (table_with_first t part (Ok rows)) cursors) ≡ with_first (engine_of (slot_of kind t cursors)) part (rows_put (slot_of kind t cursors) (Ok rows))
+full-first kind t cursors part rows =
+    elim (is_overfull t rows) as (λ b. engine_of (slot_of kind (if b then t else table_with t (first_rows part rows)) cursors) ≡ with_first (engine_of (slot_of kind t cursors)) part (if b then None else Some rows)) [
+      | true ↦ refl
+      | false ↦ refl
+    ]
+
+some-first : (kind : Kind) (t : AnyTable) (cursors : Named Cursor) (part : ℕ) (read : Result (List Row) Reply) → engine_of (slot_of kind (table_with_first t part read) cursors) ≡ with_first (engine_of (slot_of kind t cursors)) part (rows_put (slot_of kind t cursors) read)
+some-first kind t cursors part (Ok rows) = full-first kind t cursors part rows
 some-first kind t cursors part (Err fault) = refl
 
-none-first : (s : Slot) (read : Result (List Row) Reply) → with_first (engine_of s) 0 (rows_of read) ≡ engine_of s
-none-first s (Ok rows) = refl
-none-first s (Err fault) = refl
+none-put : (s : Slot) (rows : Option (List Row)) → with_first (engine_of s) 0 rows ≡ engine_of s
+none-put s (Some rows) = refl
+none-put s None = refl
+
+none-first : (s : Slot) (read : Result (List Row) Reply) → with_first (engine_of s) 0 (rows_put s read) ≡ engine_of s
+none-first s read = none-put s (rows_put s read)
 
 pub fetch-import : (name : List ℕ) (header : Bool) → IsFetch (Command.Import name header) name
 fetch-import name header = record {
@@ -86,7 +101,7 @@ module _ (most : ℕ) (kind : Kind) (t : AnyTable) (cursors : Named Cursor) (nam
   imported-filed-or told now_told now (Ok reply) g short st e h later few kept less =
       fetched-filed (Command.Import name header) name (fetch-import name header) most (slot_of kind t cursors) bytes f now_f v now_v c now_c told now_told (engine_of (slot_of kind now cursors)) (reply_of reply) g st e
       (λ files l. import-does most kind t cursors files name bytes header short l ∙ (λ i. outcome (engine_of (slot_of kind (sym h.0 i) cursors)) files (sym h.1 i ∷ [])))
-      (import-most few less) later kept
+      (import-most few less) later kept (λ files l rows is. absurd (let no : None ≡ Some rows = is in cc))
   imported-filed-or told now_told now (Err error) g short st e h later few kept less =
       fetched-starved (Command.Import name header) name (fetch-import name header) most (slot_of kind t cursors) bytes f now_f v now_v c now_c told now_told (engine_of (slot_of kind now cursors)) h.0 g st e
       (λ files l.
@@ -98,7 +113,7 @@ module _ (most : ℕ) (kind : Kind) (t : AnyTable) (cursors : Named Cursor) (nam
 -- a text without rows
 pub imports-none : {E : Type 0} (t : AnyTable) (read : Result (List Row) Reply) (fault : CsvFault) (result : Result Told E) → IsFault read fault → TellsRecord fault result → ImportsOr t read t result
 imports-none t read fault (Ok reply) f h = let is : read ≡ Err (reply_of reply) = h read f in (ap (imported_table t) (sym is), ap (imported_reply t) (sym is))
-imports-none t (Ok rows) fault (Err error) f h = (0, refl)
+imports-none t (Ok rows) fault (Err error) f h = (0, elim (is_overfull t rows) as (λ b. t ≡ (if b then t else table_with t (first_rows 0 rows))) [ true ↦ refl | false ↦ refl ])
 imports-none t (Err fault) by (Err error) f h = (0, refl)
 
 -- ---- rows of a kind
@@ -122,7 +137,29 @@ frame-still kind t = record { width = refl; dims = refl; of_kind = λ k. k }
 pub rows-frame : {E : Type 0} (kind : Kind) (t now : AnyTable) (rows : List Row) (result : Result Told E) → (kind ≡ Boxes → AreBoxes rows) → ImportsOr t (Ok rows) now result → SameFrame kind t now
 rows-frame kind t now rows (Ok reply) b h =
     rw h.0 (elim (is_overfull t rows) as (λ full. SameFrame kind t (if full then t else table_with t rows)) [ true ↦ frame-still kind t | false ↦ frame-with kind t rows b ])
-rows-frame kind t now rows (Err error) b h = rw h.1 (frame-with kind t (take h.0 rows) (λ e. boxes-take h.0 rows (b e)))
+rows-frame kind t now rows (Err error) b h =
+    rw h.1 (elim (is_overfull t rows) as (λ full. SameFrame kind t (if full then t else table_with t (first_rows h.0 rows))) [
+      | true ↦ frame-still kind t
+      | false ↦ frame-with kind t (first_rows h.0 rows) (λ e. boxes-take h.0 (take (length rows - 1) rows) (boxes-take (length rows - 1) rows (b e)))
+    ])
+
+-- memory was missing for some of the rows
+part-put : {E : Type 0} (t : AnyTable) (now : TreeTable) (rows : List Row) (error : E) → is_overfull t rows ≡ false → IsPart t.tree now rows → ImportsOr {E = E} t (Ok rows) (table_at t.dims now) (Err error)
+part-put t now rows error full h =
+    let front : first_rows h.part rows ≡ take h.part rows = take-take h.part (length rows - 1) rows (omega (arith, h.few)) in
+    (h.part, ap (table_at t.dims) h.state ∙ ap (λ x. table_with t x) (sym front) ∙ sym (ap (λ b. if b then t else table_with t (first_rows h.part rows)) full))
+
+-- or for the count of new points, where there is no room for them
+none-put-full : {E : Type 0} (t : AnyTable) (now : TreeTable) (rows : List Row) (error : E) → is_overfull t rows ≡ true → now ≡ t.tree → ImportsOr {E = E} t (Ok rows) (table_at t.dims now) (Err error)
+none-put-full t now rows error full same =
+    (0, ap (table_at t.dims) same ∙ sym (ap (λ b. if b then t else table_with t (first_rows 0 rows)) full))
+
+pub starved-put : {E : Type 0} (t : AnyTable) (now : TreeTable) (rows : List Row) (error : E) → (t.tree.max < length (put_all t.tree.width t.tree.table rows) → now ≡ t.tree) → IsPart t.tree now rows → ImportsOr {E = E} t (Ok rows) (table_at t.dims now) (Err error)
+starved-put t now rows error full part =
+    elim (cases_lt t.tree.max (length (put_all t.tree.width t.tree.table rows))) [
+      | inl h ↦ none-put-full t now rows error (lt-ltb _ _ h) (full h)
+      | inr h ↦ part-put t now rows error (le-ltb _ _ h) part
+    ]
 
 -- ---- export
 
@@ -145,6 +182,3 @@ module _ (most : ℕ) (s : Slot) (name : List ℕ) (before now : Shelf) (v now_v
 
   pub unexported-filed : v ≤ now_v → now_v ≤ v + length (all_nodes s.width s.dims s.table) → Unfilled before now → Filed most (engine_of s) (Command.Export name) (aside before.files before.faults v c) (aside now.files now.faults now_v c) (engine_of s) Reply.ErrorFile
   unexported-filed later few h = unstored-filed (Command.Export name) name _ _ (store-export name) most s before now v now_v c later few h
-
-  pub export-starved : now_v ≤ v + length (all_nodes s.width s.dims s.table) → Unwritten before now → Unfiled most (engine_of s) (Command.Export name) (aside before.files before.faults v c) (aside now.files now.faults now_v c) (engine_of s)
-  export-starved few h = starved-store (Command.Export name) name _ _ (store-export name) most s before now v now_v c refl (λ files. refl) few h

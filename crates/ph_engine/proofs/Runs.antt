@@ -91,28 +91,28 @@ end-or m most left now_left b now_b last_b s now last kept refused taken by.Writ
   consumed = h.consumed;
   within = omega (arith, h.count);
   done = h.fed.done;
-  last = turn h.fed.rest k.fault;
+  last = turn h.fed.rest k.met;
   more = [];
   count = k.said.count;
   taken = inr (a, fed-lines m s now h.bytes kept b now_b refused h.fed ∙ ap (λ t. lines_of h.fed.done ++ t) k.some);
   short = rw (← h.fed.state) k.said.short;
   told = rw (← h.fed.state) (given_both b.sink now_b.sink last_b.sink _ _ h.fed.told k.said.told);
-  state = k.said.state ∙ ap (λ t. m.cut t (turn h.fed.rest k.fault)) h.fed.state;
-  spent = spent_both m s now h.fed.done (turn h.fed.rest k.fault ∷ []) b now_b last_b h.fed.state h.fed.worked.spent k.said.spent;
+  state = k.said.state ∙ ap (λ t. m.cut t (turn h.fed.rest k.met)) h.fed.state;
+  spent = spent_both m s now h.fed.done (turn h.fed.rest k.met ∷ []) b now_b last_b h.fed.state h.fed.worked.spent k.said.spent;
 }
 end-or m most left now_left b now_b last_b s now last kept refused taken by.Memory h w a k = inr (record {
   bytes = h.bytes;
   consumed = h.consumed;
   within = omega (arith, h.count);
   done = h.fed.done;
-  last = turn h.fed.rest k.fault;
+  last = turn h.fed.rest k.met;
   more = [];
   part = k.unsaid.part;
   taken = inr (a, fed-lines m s now h.bytes kept b now_b refused h.fed ∙ ap (λ t. lines_of h.fed.done ++ t) k.some);
   told = let t : Given b.sink last_b.sink (answers m s h.fed.done ++ []) = given_both b.sink now_b.sink last_b.sink _ _ h.fed.told k.unsaid.told in rw append-nil at t;
-  state = k.unsaid.state ∙ ap (λ t. m.starved t (turn h.fed.rest k.fault) k.unsaid.part) h.fed.state;
+  state = k.unsaid.state ∙ ap (λ t. m.starved t (turn h.fed.rest k.met) k.unsaid.part) h.fed.state;
   wanted = rw (← h.fed.state) k.unsaid.wanted;
-  spent = spent_both m s now h.fed.done (turn h.fed.rest k.fault ∷ []) b now_b last_b h.fed.state h.fed.worked.spent k.unsaid.spent;
+  spent = spent_both m s now h.fed.done (turn h.fed.rest k.met ∷ []) b now_b last_b h.fed.state h.fed.worked.spent k.unsaid.spent;
 })
 end-or m most left now_left b now_b last_b s now last kept refused taken Usage h w a k = absurd k
 end-or m most left now_left b now_b last_b s now last kept refused taken ReadFault h w a k = absurd k

@@ -19,7 +19,7 @@ use Rattle.ph_specs.specs.Stats.{Stats, stats}
 use Rattle.ph_specs.specs.Table.{Row, put, del, move}
 use Rattle.ph_specs.specs.Engine.{act, after, effect, unless_refused}
 use Rattle.ph_engine.specs.Beside.{Beside, alone, beside, Tells}
-use Rattle.ph_engine.specs.Doing.{Done, Undone, Leads, Knows, fetches, starved_engine}
+use Rattle.ph_engine.specs.Doing.{Done, Undone, Leads, Knows, HoldsFound, file_read, starved_engine}
 use Rattle.ph_engine.specs.Machine.{Work, one_if}
 use Rattle.ph_engine.specs.Soaking.{is_drawn, AreDrawn, sum_work, visits_most, Soaked, SoakedInPart, SoakDone}
 use Rattle.ph_engine.specs.Working.{work_of, nodes_of, IsAtMost, IsAtLeast}
@@ -64,10 +64,10 @@ all_drawn (suc n) state =
     both (is_drawn (command_of_draws (draw_of t) (draw_of u) (draw_of v) (draw_of r))) (list_all is_drawn (generate_from n r)) (draws-drawn (draw_of t) (draw_of u) (draw_of v) (draw_of r)) (all_drawn n r)
 
 -- they read no file
-drawn-fetches : (command : Command) → is_drawn command ≡ true → fetches command ≡ false
-drawn-fetches (Command.Load name) h = absurd cc
-drawn-fetches (Command.Import name header) h = absurd cc
-drawn-fetches command h = refl
+drawn-reads : (command : Command) → is_drawn command ≡ true → file_read command ≡ None
+drawn-reads (Command.Load name) h = absurd cc
+drawn-reads (Command.Import name header) h = absurd cc
+drawn-reads command h = refl
 
 drawn-starved : (e : Engine) (files : Files) (command : Command) (part : ℕ) → is_drawn command ≡ true → starved_engine e files command part ≡ e
 drawn-starved e files (Command.Import name header) part h = absurd cc
@@ -159,16 +159,16 @@ no-fault true (inl h) = absurd (omega (arith, h))
 no-fault true (inr h) = absurd (omega (arith, h))
 
 -- files that are not told are known well enough
-drawn-knows : (command : Command) (told : Option Files) (files : Files) → is_drawn command ≡ true → told ≡ None → Knows command told files
-drawn-knows command told files h n = rw n (drawn-fetches command h)
+drawn-knows : (command : Command) (told : Option Files) (found : Option (List ℕ)) (files : Files) → is_drawn command ≡ true → Knows command told found files
+drawn-knows command told found files h = inr (let at : HoldsFound None files found = tt in rw (drawn-reads command h) at)
 
 soaked-more : (most : ℕ) (e now next : Engine) (files : Files) (commands : List Command) (command : Command) (start b now_b : Beside) (answer : Answer) → is_drawn command ≡ true → b.files ≡ None → b.filings ≡ 0 → now_b.filings ≡ 0 → Soaked most e files commands start b now → Done most now command b now_b next answer → Soaked most e files (commands ++ command ∷ []) start now_b next
 soaked-more most e now next files commands command start b now_b answer drawn untold none stand h d =
-    let knows = drawn-knows command b.files files drawn untold in
+    let knows = drawn-knows command b.files d.found files drawn in
     let f : d.fault ≡ false = no-fault d.fault (let t : Tells b.filings now_b.filings (one_if d.fault) = d.filings.told in rw (none, stand) at t) in
-    let l : Leads (act most now files d.fault command) next b.files now_b.files d.replies = d.does files knows in
-    let led : act most now files false command ≡ outcome next l.files d.replies = ap (λ x. act most now files x command) (sym f) ∙ l.is in
-    let same : files ≡ l.files = sym (drawn-files most now files command drawn) ∙ ap (λ x. x.files) led in
+    let l : Leads (act most now files d.fault command) next files b.files now_b.files d.replies = d.does files knows in
+    let led : act most now files false command ≡ outcome next l.after d.replies = ap (λ x. act most now files x command) (sym f) ∙ l.is in
+    let same : files ≡ l.after = sym (drawn-files most now files command drawn) ∙ ap (λ x. x.files) led in
     let before = act_all most e files commands in
     let o : act most before.engine before.files false command ≡ outcome next files d.replies =
     ap (λ x. act most x before.files false command) (sym h.led) ∙ ap (λ x. act most now x false command) (sym h.kept) ∙ led ∙ ap (λ x. outcome next x d.replies) (sym same) in
@@ -206,7 +206,7 @@ pub soak_next : (most : ℕ) (e now next : Engine) (all : List Command) (command
 soak_next most e now next all command rest start b now_b answer untold none stand h d =
     let drawn = both-first (is_drawn command) (list_all is_drawn rest) h.drawn in
     let soaked = λ (files : Files). soaked-more most e now next files h.finished command start b now_b answer drawn untold none stand (h.soaked files) d in
-    let l : Leads (act most now [] d.fault command) next b.files now_b.files d.replies = d.does [] (drawn-knows command b.files [] drawn untold) in
+    let l : Leads (act most now [] d.fault command) next [] b.files now_b.files d.replies = d.does [] (drawn-knows command b.files d.found [] drawn) in
     let f : d.fault ≡ false = no-fault d.fault (let t : Tells b.filings now_b.filings (one_if d.fault) = d.filings.told in rw (none, stand) at t) in
     record {
       finished = h.finished ++ command ∷ [];
@@ -219,7 +219,7 @@ soak_next most e now next all command rest start b now_b answer untold none stan
 pub soak_starved : (most : ℕ) (e now next : Engine) (all : List Command) (command : Command) (rest : List Command) (start b now_b : Beside) → b.files ≡ None → SoakedSoFar most e all start b now (command ∷ rest) → Undone most now command b now_b next → SoakedInPart most e all start now_b next
 soak_starved most e now next all command rest start b now_b untold h d =
     let drawn = both-first (is_drawn command) (list_all is_drawn rest) h.drawn in
-    let knows = λ (files : Files). drawn-knows command b.files files drawn untold in
+    let knows = λ (files : Files). drawn-knows command b.files d.found files drawn in
     let stays : next ≡ now = d.state [] (knows []) ∙ drawn-starved now [] command d.part drawn in
     let front : take (length h.finished) all ≡ h.finished = ap (take (length h.finished)) (sym h.cut) ∙ take-front h.finished (command ∷ rest) in
     record {

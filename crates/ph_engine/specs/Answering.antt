@@ -2,7 +2,7 @@
 use Rattle.std.specs.Prelude.{◌≡◌, ◌<◌, ℕ, Bool, true, List, [], ◌∷◌, length, take, Result, Ok, Err}
 use Rattle.ph_io.specs.Giving.{Given}
 use Rattle.ph_engine.specs.Beside.{Beside}
-use Rattle.ph_engine.specs.Machine.{Machine, Turn, is_refusal, answers, after, lines_of}
+use Rattle.ph_engine.specs.Machine.{Machine, Met, Turn, turn, is_refusal, answers, after, lines_of}
 use Rattle.ph_engine.specs.Costs.{Spent, Worked}
 use Rattle.ph_engine.specs.declared.status.Stop.{Stop}
 use Rattle.ph_engine.specs.declared.status.Stop.TheVariants.{WriteFault, NoMemory}
@@ -35,10 +35,10 @@ SaidOr m s t b now_b now (Ok refused) = Said m s t b now_b now refused
 SaidOr m s t b now_b now (Err WriteFault) = SaidFront m s t b now_b now
 SaidOr m s t b now_b now (Err NoMemory) = Unsaid m s t b now_b now
 
--- the same of a line in which the files failed or did not
+-- the same of a line, whatever it met of the files
 pub record SaysOr {S : Type 0} (m : Machine S) (s : S) (line : List ℕ) (b now_b : Beside) (now : S) (result : Result Bool Stop) : Type 0 where
-  pub fault : Bool
-  pub said : SaidOr m s (record { line = line; fault = fault }) b now_b now result
+  pub met : Met
+  pub said : SaidOr m s (turn line met) b now_b now result
 
 -- These lines were answered, and no other.
 pub record Answers {S : Type 0} (m : Machine S) (ls : List (List ℕ)) (b now_b : Beside) (s now : S) : Type 0 where

@@ -1,5 +1,5 @@
--- A run over a source, by the definition of a script's run.
-use Rattle.std.specs.Prelude.{◌≡◌, ℕ, List, Bool, Option}
+-- A run over a source, by the definition of a script's run, where the files are told.
+use Rattle.std.specs.Prelude.{◌≡◌, ℕ, List, Bool, Option, Some}
 use Rattle.std.specs.Io.KnownBytes.{Consumes, IsAtEnd}
 use Rattle.ph_io.specs.Giving.{Given}
 use Rattle.ph_specs.specs.Lines.{lines}
@@ -17,5 +17,5 @@ pub record RunsAsDefined (most : ℕ) (left now_left : Option (List ℕ)) (b now
   pub faults : List Bool
   pub told : Given b.sink now_b.sink (written (script_run most s faults (lines bytes)))
   pub engine : now.engine ≡ (script_run most s faults (lines bytes)).engine
-  pub files : now.files ≡ (script_run most s faults (lines bytes)).files
+  pub files : now.files ≡ Some (script_run most s faults (lines bytes)).files
   pub filings : Tells b.filings now_b.filings (faults_of faults)

@@ -81,6 +81,7 @@ pub record FileHasSizes (files : Files) (file line : List ℕ) : Type 0 where
 
 -- A file was checked, and the files are as they were. Where they were told, the line is that of the definition, with a fault of
 -- the files or without; it never tells that the dimensions are others than were asked for, since none were.
+-- A file that is a snapshot is not refused, and where it is told so no more changes are counted than its tree has nodes.
 pub record CheckDone (most : ℕ) (file : List ℕ) (b now_b : Beside) (status : Status) : Type 0 where
   pub fault : Bool
   pub counted : Filings true (one_if fault) b.filings now_b.filings
@@ -97,6 +98,8 @@ pub record CheckDone (most : ℕ) (file : List ℕ) (b now_b : Beside) (status :
   pub kept_changes : b.changes ≤ now_b.changes
   pub most_visits : AreTold b.files → now_b.visits ≤ b.visits + nodes_saved (bytes_checked most (told_files b.files) file)
   pub most_changes : AreTold b.files → now_b.changes ≤ b.changes + length (bytes_checked most (told_files b.files) file) / 16
+  pub clean_changes : AreTold b.files → status ≡ Clean → now_b.changes ≤ b.changes + nodes_saved (bytes_checked most (told_files b.files) file)
+  pub snapshot_clean : AreTold b.files → fault ≡ false → (bytes : List ℕ) → fetch most (told_files b.files) file ≡ Some bytes → own_fault bytes ≡ None → status ≡ Refused → ⊥
   pub few_visits : now_b.visits ≤ b.visits + most / 16
   pub few_changes : now_b.changes ≤ b.changes + most / 16
 

@@ -1,15 +1,16 @@
 -- What a command of the code does, by the definition of commands.
-use Rattle.std.specs.Prelude.{◌≡◌, ◌<◌, ℕ, Bool, true, false, not, ◌&&◌, nat_lt, if◌then◌else◌, List, [], ◌∷◌, length, take, Option, Some, None, is_none, Result, Ok, Err}
+use Rattle.std.specs.Prelude.{◌≡◌, ◌⊎◌, ◌<◌, ◌≤◌, ℕ, ◌+◌, ◌-◌, Bool, true, false, not, ◌&&◌, nat_lt, if◌then◌else◌, List, [], ◌∷◌, length, take, Option, Some, None, is_none, Result, Ok, Err}
 use Rattle.ph_io.specs.Giving.{Taken, Given}
 use Rattle.ph_specs.specs.Command.{Command}
 use Rattle.ph_specs.specs.Reply.{Reply, replies_text}
 use Rattle.ph_specs.specs.declared.Kind.TheVariants.{Points}
 use Rattle.ph_specs.specs.Table.{Row, has}
 use Rattle.ph_specs.specs.Sets.{put_all}
-use Rattle.ph_specs.specs.Refusals.{import_rows}
+use Rattle.ph_specs.specs.Refusals.{import_rows, table_read}
 use Rattle.ph_specs.specs.State.{Slot, Engine, Files, Outcome, outcome, current, with_table}
 use Rattle.ph_specs.specs.Engine.{act}
-use Rattle.ph_specs.specs.Named.{Named}
+use Rattle.ph_specs.specs.WorkSets.{all_nodes}
+use Rattle.ph_specs.specs.Named.{Named, lookup}
 use Rattle.ph_specs.specs.Window.{Cursor}
 use Rattle.ph_script.specs.declared.reply.Reply.{Reply as Told}
 use Rattle.ph_script.specs.Meaning.{reply_of}
@@ -44,13 +45,7 @@ LeastAt s command visits now_visits changes now_changes =
 
 -- ---- all commands
 
--- whether a command reads a file
-abbrev pub fetches : Command → Bool
-fetches (Command.Load name) = true
-fetches (Command.Import name header) = true
-fetches _ = false
-
--- whether it asks for a file
+-- whether a command asks for a file
 abbrev pub uses_files : Command → Bool
 uses_files (Command.Save name) = true
 uses_files (Command.Load name) = true
@@ -71,7 +66,6 @@ is_tried (Command.Del p) = true
 is_tried (Command.Relocate p q) = true
 is_tried (Command.Load name) = true
 is_tried (Command.Import name header) = true
-is_tried (Command.Export name) = true
 is_tried _ = false
 
 -- and those that want none, on one slot
@@ -82,6 +76,7 @@ is_sure Command.Count = true
 is_sure Command.Clear = true
 is_sure (Command.Cursor name lo hi) = true
 is_sure (Command.Save name) = true
+is_sure (Command.Export name) = true
 is_sure _ = false
 
 -- the commands whose replies list rows or sizes
@@ -96,16 +91,39 @@ is_listed (Command.Covers q) = true
 is_listed Command.Statistics = true
 is_listed _ = false
 
--- files that are known well enough for the command: those that are told, and any where it reads none
-abbrev pub Knows : Command → Option Files → Files → Type 0
-Knows command None files = fetches command ≡ false
-Knows command (Some told) files = told ≡ files
+-- the name of the file that it reads
+abbrev pub file_read : Command → Option (List ℕ)
+file_read (Command.Load name) = Some name
+file_read (Command.Import name header) = Some name
+file_read _ = None
 
--- An outcome has these replies and this engine. Where the files were told, its files are those that are told now.
-pub record Leads (o : Outcome) (now : Engine) (told now_told : Option Files) (replies : List Reply) : Type 0 where
-  pub files : Files
-  pub is : o ≡ outcome now files replies
-  pub told_files : StillTells told now_told files
+-- under a name the files have what was found, or nothing where nothing was
+abbrev pub HoldsFound : Option (List ℕ) → Files → Option (List ℕ) → Type 0
+HoldsFound None files found = Unit {0}
+HoldsFound (Some name) files found = lookup name files ≡ found
+
+-- files that a command may have met: those that are told, and any that have what it found under the name that it reads
+abbrev pub Knows : Command → Option Files → Option (List ℕ) → Files → Type 0
+Knows command told found files = (told ≡ Some files) ⊎ HoldsFound (file_read command) files found
+
+-- An outcome over files has these replies and this engine. Where these files were told, those of the outcome are told now.
+pub record Leads (o : Outcome) (now : Engine) (files : Files) (told now_told : Option Files) (replies : List Reply) : Type 0 where
+  pub after : Files
+  pub is : o ≡ outcome now after replies
+  pub told_files : told ≡ Some files → now_told ≡ Some after
+
+-- the rows that a load has read, if it could
+abbrev pub rows_read : Result (List Row) Reply → Option (List Row)
+rows_read (Ok rows) = Some rows
+rows_read (Err fault) = None
+
+abbrev pub rows_loaded : Slot → Files → Command → Option (List Row)
+rows_loaded s files (Command.Load name) = rows_read (table_read s files (Command.Load name))
+rows_loaded s files _ = None
+
+-- A command that loads rows counts no more changes than their tree has nodes.
+abbrev pub MakesNodes : Slot → Files → Command → ℕ → ℕ → Type 0
+MakesNodes s files command changes now_changes = (rows : List Row) → rows_loaded s files command ≡ Some rows → now_changes ≤ changes + length (all_nodes s.width s.dims rows)
 
 -- whether a command takes memory on a slot: a put of a row that is new and has room, a removal of a row that is there, a move to another point,
 -- and what keeps nodes, rows or bytes in memory while it goes
@@ -113,10 +131,9 @@ abbrev pub takes_memory : Slot → Command → Bool
 takes_memory s (Command.Put p v) = not (has s.table p) && nat_lt (length s.table) s.max
 takes_memory s (Command.Del p) = has s.table p
 takes_memory s (Command.Relocate p q) = has s.table p && not (has s.table q)
-takes_memory s (Command.Near q n) = true
+takes_memory s (Command.Near q n) = nat_lt 0 n
 takes_memory s (Command.Load name) = true
 takes_memory s (Command.Import name header) = true
-takes_memory s (Command.Export name) = true
 takes_memory s _ = false
 
 -- whether it may want memory: it takes some, and is not refused before
@@ -161,18 +178,22 @@ is_page _ = false
 abbrev pub cut_engine : Engine → Command → Engine → Engine
 cut_engine e command after = if is_page command then e else after
 
--- the rows that an import has read, if it could
-abbrev pub rows_of : Result (List Row) Reply → Option (List Row)
-rows_of (Ok rows) = Some rows
-rows_of (Err fault) = None
+-- the rows that an import puts, if it has read them and the table may have them
+abbrev pub rows_put : Slot → Result (List Row) Reply → Option (List Row)
+rows_put s (Ok rows) = if nat_lt s.max (length (put_all s.width s.table rows)) then None else Some rows
+rows_put s (Err fault) = None
 
 abbrev pub imported : Slot → Files → Command → Option (List Row)
-imported s files (Command.Import name header) = rows_of (import_rows s files name header)
+imported s files (Command.Import name header) = rows_put s (import_rows s files name header)
 imported s files _ = None
 
--- the engine in which memory is missing: of an import some first rows are in
+-- at most so many rows in front, and never all
+abbrev pub first_rows : ℕ → List Row → List Row
+first_rows n rows = take n (take (length rows - 1) rows)
+
+-- the engine in which memory is missing: of an import that would be done some first rows are in, and not all
 abbrev pub with_first : Engine → ℕ → Option (List Row) → Engine
-with_first e n (Some rows) = let s = current e in with_table e (put_all s.width s.table (take n rows))
+with_first e n (Some rows) = let s = current e in with_table e (put_all s.width s.table (first_rows n rows))
 with_first e n None = e
 
 abbrev pub starved_engine : Engine → Files → Command → ℕ → Engine
@@ -185,37 +206,41 @@ refuses Refused = true
 -- The command was done, and its replies written. The files failed in it or not.
 pub record Done (most : ℕ) (e : Engine) (command : Command) (b now_b : Beside) (now : Engine) (answer : Answer) : Type 0 where
   pub fault : Bool
+  pub found : Option (List ℕ)
   pub filings : Filings (uses_files command) (one_if fault) b.filings now_b.filings
   pub replies : List Reply
-  pub does : (files : Files) → Knows command b.files files → Leads (act most e files fault command) now b.files now_b.files replies
+  pub does : (files : Files) → Knows command b.files found files → Leads (act most e files fault command) now files b.files now_b.files replies
   pub told : Given b.sink now_b.sink (replies_text replies)
   pub refusal : refuses answer ≡ is_refusal (replies_text replies)
-  pub most_work : (files : Files) → Knows command b.files files → IsAtMost (work_of most e files fault command) b.visits now_b.visits b.changes now_b.changes
-  pub least_work : (files : Files) → Knows command b.files files → IsAtLeast (work_of most e files fault command) b.visits now_b.visits b.changes now_b.changes
+  pub most_work : (files : Files) → Knows command b.files found files → IsAtMost (work_of most e files fault command) b.visits now_b.visits b.changes now_b.changes
+  pub least_work : (files : Files) → Knows command b.files found files → IsAtLeast (work_of most e files fault command) b.visits now_b.visits b.changes now_b.changes
+  pub nodes : (files : Files) → Knows command b.files found files → MakesNodes (current e) files command b.changes now_b.changes
 
 -- The command was done, and a front of its replies written.
 pub record DoneInPart (most : ℕ) (e : Engine) (command : Command) (b now_b : Beside) (now : Engine) : Type 0 where
   pub fault : Bool
+  pub found : Option (List ℕ)
   pub filings : Filings (uses_files command) (one_if fault) b.filings now_b.filings
   pub replies : List Reply
   pub after : Engine
-  pub does : (files : Files) → Knows command b.files files → Leads (act most e files fault command) after b.files now_b.files replies
+  pub does : (files : Files) → Knows command b.files found files → Leads (act most e files fault command) after files b.files now_b.files replies
   pub state : now ≡ cut_engine e command after
   pub count : ℕ
   pub short : count < length (replies_text replies)
   pub told : Given b.sink now_b.sink (take count (replies_text replies))
-  pub most_work : (files : Files) → Knows command b.files files → IsAtMost (work_of most e files fault command) b.visits now_b.visits b.changes now_b.changes
+  pub most_work : (files : Files) → Knows command b.files found files → IsAtMost (work_of most e files fault command) b.visits now_b.visits b.changes now_b.changes
 
 -- Memory was missing, in a command that may want it. Nothing was written, and the files are as before.
 pub record Undone (most : ℕ) (e : Engine) (command : Command) (b now_b : Beside) (now : Engine) : Type 0 where
   pub fault : Bool
+  pub found : Option (List ℕ)
   pub filings : Filings (uses_files command) (one_if fault) b.filings now_b.filings
   pub part : ℕ
-  pub state : (files : Files) → Knows command b.files files → now ≡ starved_engine e files command part
+  pub state : (files : Files) → Knows command b.files found files → now ≡ starved_engine e files command part
   pub files : (files : Files) → IsTold b.files files → StillTells b.files now_b.files files
   pub told : Given b.sink now_b.sink []
   pub wanted : wants_memory (current e) command ≡ true
-  pub most_work : (files : Files) → Knows command b.files files → IsAtMost (work_of most e files fault command) b.visits now_b.visits b.changes now_b.changes
+  pub most_work : (files : Files) → Knows command b.files found files → IsAtMost (work_of most e files fault command) b.visits now_b.visits b.changes now_b.changes
 
 abbrev pub DoneOr : ℕ → Engine → Command → Beside → Beside → Engine → Result Answer Stop → Type 0
 DoneOr most e command b now_b now (Ok answer) = Done most e command b now_b now answer

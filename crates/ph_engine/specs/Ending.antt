@@ -1,5 +1,6 @@
 -- How a call of the program ends, by what its words ask for.
-use Rattle.std.specs.Prelude.{◌≡◌, ◌≤◌, ◌⊎◌}
+use Rattle.std.specs.Prelude.{◌≡◌, ◌≤◌, ◌+◌, ◌⊎◌, ℕ, List, length, Option}
+use Rattle.std.specs.Io.KnownBytes.{Consumes}
 use Rattle.ph_io.specs.Causes.{Rose}
 use Rattle.ph_io.specs.Giving.{Given, Taken}
 use Rattle.ph_io.specs.Writing.{WritesFront}
@@ -16,17 +17,26 @@ use Rattle.ph_engine.specs.declared.status.Limits.{Limits}
 use Rattle.ph_engine.specs.declared.status.Status.{Status}
 use Rattle.ph_engine.specs.declared.status.Status.TheVariants.{Usage, ReadFault, WriteFault, Memory}
 
--- A run of a script. Where the files were told, it ends in one of the ways of a run over them; one that is read to its end is
--- the run of the definition. A fault is answered only where its count rose, and no count of faults of the files falls. A script that is short enough, with no fault, is
--- read to its end unless memory is missing.
+-- A run takes some bytes of the source, and no more than so many.
+pub record TakesAtMost (most : ℕ) (left now_left : Option (List ℕ)) : Type 0 where
+  pub bytes : List ℕ
+  pub consumed : Consumes left now_left bytes
+  pub within : length bytes ≤ most
+
+-- A run of a script. It takes at most one byte more than a script may have, and ends in one of the ways of a run: over the files where they are told, and else over
+-- what each line found in the one that it reads. One that is read to its end over files that are told is the run of the definition. A fault is answered only where its
+-- count rose, and no count of faults falls. A script that is short enough, with no fault, is read to its end unless memory is missing.
 pub record RunEnds (limits : Limits) (before now : Seen) (status : Status) : Type 0 where
   pub outcome : ServesScript limits.file_bytes limits.script_bytes before.left before.at now.left now.at status
+  pub taken : TakesAtMost (limits.script_bytes + 1) before.left now.left
   pub defined : IsKnown before.at → IsRead status → RunsAsDefined limits.file_bytes before.left now.left before.at.beside now.at.beside (whole_of before.at) (whole_of now.at)
   pub read_cause : status ≡ ReadFault → Rose before.reads now.reads
   pub write_cause : status ≡ WriteFault → Rose before.writes now.writes
   pub is_run : status ≡ Usage → ⊥
+  pub reads : before.reads ≤ now.reads
+  pub writes : before.writes ≤ now.writes
   pub filings : before.at.beside.filings ≤ now.at.beside.filings
-  pub complete : IsKnown before.at → (Rose before.reads now.reads → ⊥) → (Rose before.writes now.writes → ⊥) → HasAtMost limits.script_bytes before.left → IsRead status ⊎ (status ≡ Memory)
+  pub complete : (Rose before.reads now.reads → ⊥) → (Rose before.writes now.writes → ⊥) → HasAtMost limits.script_bytes before.left → IsRead status ⊎ (status ≡ Memory)
 
 -- what is seen after no more than bytes were given to the sink
 abbrev pub after_writes : Seen → Seen → Seen

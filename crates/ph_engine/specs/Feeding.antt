@@ -2,7 +2,7 @@
 use Rattle.std.specs.Prelude.{◌≡◌, ◌<◌, ℕ, Bool, true, ◌||◌, List, [], ◌∷◌, ◌++◌, length, take, Result, Ok, Err}
 use Rattle.ph_io.specs.Giving.{Given}
 use Rattle.ph_engine.specs.Beside.{Beside}
-use Rattle.ph_engine.specs.Machine.{Machine, Turn, turn, answers, after, some_refused, lines_of, KEPT}
+use Rattle.ph_engine.specs.Machine.{Machine, Met, Turn, turn, answers, after, some_refused, lines_of, KEPT}
 use Rattle.ph_engine.specs.Costs.{Spent, Worked}
 use Rattle.ph_engine.specs.Cutting.{ended, is_unbroken, are_unbroken}
 use Rattle.ph_engine.specs.Answering.{Answers, SaidFront, Unsaid}
@@ -74,14 +74,14 @@ pub record AtEnd {S : Type 0} (m : Machine S) (s : S) (unended : List ℕ) (refu
 -- There is an unended line, and a write failed in its answer.
 pub record CutAtEnd {S : Type 0} (m : Machine S) (s : S) (unended : List ℕ) (b now_b : Beside) (now : S) : Type 0 where
   pub some : lines unended ≡ unended ∷ []
-  pub fault : Bool
-  pub said : SaidFront m s (turn unended fault) b now_b now
+  pub met : Met
+  pub said : SaidFront m s (turn unended met) b now_b now
 
 -- There is an unended line, for which memory was missing.
 pub record StarvedAtEnd {S : Type 0} (m : Machine S) (s : S) (unended : List ℕ) (b now_b : Beside) (now : S) : Type 0 where
   pub some : lines unended ≡ unended ∷ []
-  pub fault : Bool
-  pub unsaid : Unsaid m s (turn unended fault) b now_b now
+  pub met : Met
+  pub unsaid : Unsaid m s (turn unended met) b now_b now
 
 -- what the end of a script leads to, by the status
 abbrev pub EndsOr : {S : Type 0} → Machine S → S → List ℕ → Bool → Beside → Beside → S → Status → Type 0

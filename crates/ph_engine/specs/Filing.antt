@@ -1,5 +1,5 @@
 -- What commands of one reply do, before it is told, and those on files among them.
-use Rattle.std.specs.Prelude.{◌≡◌, ◌≤◌, ℕ, Bool, true, nat_lt, if◌then◌else◌, List, [], ◌∷◌, length, Option, Some, option_map, Result, Ok, Err}
+use Rattle.std.specs.Prelude.{◌≡◌, ◌≤◌, ◌+◌, ℕ, OnOk, Bool, true, nat_lt, if◌then◌else◌, List, [], ◌∷◌, length, Option, Some, option_map, Result, Ok, Err}
 use Rattle.ph_io.specs.declared.files.FetchFault.{FetchFault}
 use Rattle.ph_io.specs.declared.files.FetchFault.TheVariants as unread
 use Rattle.ph_io.specs.declared.streams.Failed.{Failed}
@@ -13,13 +13,14 @@ use Rattle.ph_specs.specs.State.{Slot, Engine, Files, current}
 use Rattle.ph_specs.specs.Table.{Row}
 use Rattle.ph_specs.specs.Window.{Cursor}
 use Rattle.ph_specs.specs.Engine.{act}
+use Rattle.ph_specs.specs.WorkSets.{all_nodes}
 use Rattle.ph_script.specs.declared.reply.Reply.{Reply as Told}
 use Rattle.ph_script.specs.Meaning.{reply_of}
 use Rattle.ph_snap.specs.Faults.{IsLoadFault}
 use Rattle.ph_snap.specs.declared.fault.LoadFault.{LoadFault}
 use Rattle.ph_snap.specs.declared.fault.LoadFault.TheVariants as by
 use Rattle.ph_engine.specs.Beside.{Beside, Filings, IsTold, StillTells, with_visits, with_changes}
-use Rattle.ph_engine.specs.Doing.{Knows, Leads, uses_files, wants_memory, starved_engine}
+use Rattle.ph_engine.specs.Doing.{Knows, Leads, MakesNodes, uses_files, wants_memory, starved_engine}
 use Rattle.ph_engine.specs.Drafting.{Shelf, Unfilled}
 use Rattle.ph_engine.specs.Machine.{one_if}
 use Rattle.ph_engine.specs.Slots.{AnyTable, table_at, slot_of, engine_of, IsOfKind}
@@ -28,20 +29,23 @@ use Rattle.ph_engine.specs.Working.{work_of, IsAtMost, IsAtLeast}
 -- A command has this reply and leads to this engine. The files failed in it or not.
 pub record Filed (most : ℕ) (e : Engine) (command : Command) (b now_b : Beside) (now : Engine) (reply : Reply) : Type 0 where
   pub fault : Bool
+  pub found : Option (List ℕ)
   pub counted : Filings (uses_files command) (one_if fault) b.filings now_b.filings
-  pub does : (files : Files) → Knows command b.files files → Leads (act most e files fault command) now b.files now_b.files (reply ∷ [])
-  pub most_work : (files : Files) → Knows command b.files files → IsAtMost (work_of most e files fault command) b.visits now_b.visits b.changes now_b.changes
-  pub least_work : (files : Files) → Knows command b.files files → IsAtLeast (work_of most e files fault command) b.visits now_b.visits b.changes now_b.changes
+  pub does : (files : Files) → Knows command b.files found files → Leads (act most e files fault command) now files b.files now_b.files (reply ∷ [])
+  pub most_work : (files : Files) → Knows command b.files found files → IsAtMost (work_of most e files fault command) b.visits now_b.visits b.changes now_b.changes
+  pub least_work : (files : Files) → Knows command b.files found files → IsAtLeast (work_of most e files fault command) b.visits now_b.visits b.changes now_b.changes
+  pub nodes : (files : Files) → Knows command b.files found files → MakesNodes (current e) files command b.changes now_b.changes
 
 -- Memory was missing for it, which may want it. The files are as before.
 pub record Unfiled (most : ℕ) (e : Engine) (command : Command) (b now_b : Beside) (now : Engine) : Type 0 where
   pub fault : Bool
+  pub found : Option (List ℕ)
   pub counted : Filings (uses_files command) (one_if fault) b.filings now_b.filings
   pub part : ℕ
-  pub state : (files : Files) → Knows command b.files files → now ≡ starved_engine e files command part
+  pub state : (files : Files) → Knows command b.files found files → now ≡ starved_engine e files command part
   pub kept : (files : Files) → IsTold b.files files → StillTells b.files now_b.files files
   pub wanted : wants_memory (current e) command ≡ true
-  pub most_work : (files : Files) → Knows command b.files files → IsAtMost (work_of most e files fault command) b.visits now_b.visits b.changes now_b.changes
+  pub most_work : (files : Files) → Knows command b.files found files → IsAtMost (work_of most e files fault command) b.visits now_b.visits b.changes now_b.changes
 
 abbrev pub FiledOr : {E : Type 0} → ℕ → Engine → Command → Beside → Beside → Engine → Result Told E → Type 0
 FiledOr most e command b now_b now (Ok reply) = Filed most e command b now_b now (reply_of reply)
@@ -88,6 +92,11 @@ read_reply max (Err fault) = fault
 abbrev pub LoadsOr : {E : Type 0} → Kind → AnyTable → List ℕ → AnyTable → Result Told E → Type 0
 LoadsOr kind t bytes now (Ok reply) = let read = read_snapshot kind t.dims t.tree.width bytes in (now ≡ read_table t read) × (reply_of reply ≡ read_reply t.tree.max read)
 LoadsOr kind t bytes now (Err error) = now ≡ t
+
+-- the bytes are no snapshot, or no more changes were counted than their tree has nodes
+abbrev pub LoadsNodes : {T E : Type 0} → Kind → AnyTable → List ℕ → Result T E → ℕ → ℕ → Type 0
+LoadsNodes kind t bytes result changes now_changes =
+    (rows : List Row) → read_snapshot kind t.dims t.tree.width bytes ≡ Ok rows → OnOk result (now_changes ≤ changes + length (all_nodes t.tree.width t.dims rows))
 
 -- a table of the same width, number of dimensions and kind
 pub record SameFrame (kind : Kind) (t now : AnyTable) : Type 0 where

@@ -1,5 +1,5 @@
 -- Replies that list rows, or the sizes of a tree.
-use Rattle.std.specs.Prelude.{◌≡◌, ◌≤◌, ◌+◌, ℕ, Bool, true, false, List, [], ◌∷◌, ◌++◌, length, map, ℤ, filter, Result, Ok, Err}
+use Rattle.std.specs.Prelude.{◌≡◌, ◌<◌, ◌≤◌, ◌+◌, ℕ, Bool, true, false, List, [], ◌∷◌, ◌++◌, length, map, drop, ℤ, filter, Result, Ok, Err}
 use Rattle.ph_io.specs.Giving.{Taken, Given}
 use Rattle.ph_specs.specs.Boxes.{overlaps, is_inside, covers, overlaps_low, overlaps_high, inside_low, inside_high, covers_low, covers_high}
 use Rattle.ph_specs.specs.Coordinate.{low_corner, high_corner}
@@ -8,13 +8,14 @@ use Rattle.ph_specs.specs.Reply.{Reply, replies_text}
 use Rattle.ph_specs.specs.Stats.{stats}
 use Rattle.ph_specs.specs.Table.{Row}
 use Rattle.ph_specs.specs.Engine.{listing, hit_listing, row_replies, page_end}
-use Rattle.ph_specs.specs.Window.{Cursor, window, page, has_more, next_cursor}
+use Rattle.ph_specs.specs.Window.{Cursor, window, rest, page, has_more, next_cursor}
 use Rattle.ph_specs.specs.WorkSets.{all_nodes, meets, reach, ball}
 use Rattle.ph_table.specs.Hits.{TableHit}
 use Rattle.ph_window.specs.Page.{IsLast}
 use Rattle.ph_window.specs.declared.page.Tail.{Tail}
 use Rattle.ph_window.specs.declared.page.Tail.TheVariants.{More, End}
 use Rattle.ph_engine.specs.Slots.{AnyTable, cursor_of, cursor_dims}
+use Rattle.ph_engine.specs.Working.{most_to_resume, least_to_resume}
 use Rattle.ph_io.specs.Writing.{WritesFront}
 use Rattle.ph_engine.specs.declared.cursors.AnyCursor.{AnyCursor}
 use Rattle.ph_engine.specs.declared.boxes.Question.{Question}
@@ -108,14 +109,15 @@ ListsBall t q r sink now_sink visits now_visits result =
 abbrev pub reached : AnyTable → List ℤ → ℕ → ℕ
 reached t q n = length (reach t.tree.width t.dims t.tree.table q n)
 
--- memory was missing before anything was written
-pub record Unlisted (most : ℕ) (sink now_sink : Taken) (visits now_visits : ℕ) : Type 0 where
+-- memory was missing before anything was written, for some rows that were asked for
+pub record Unlisted (asked most : ℕ) (sink now_sink : Taken) (visits now_visits : ℕ) : Type 0 where
+  pub some : 0 < asked
   pub unwritten : now_sink ≡ sink
   pub few : now_visits ≤ visits + most
 
 -- the nearest rows, or what stands where memory was missing for them
 abbrev pub ListsNear : AnyTable → List ℤ → ℕ → Taken → Taken → ℕ → ℕ → Result Answer Stop → Type 0
-ListsNear t q n sink now_sink visits now_visits (Err NoMemory) = Unlisted (reached t q n) sink now_sink visits now_visits
+ListsNear t q n sink now_sink visits now_visits (Err NoMemory) = Unlisted n (reached t q n) sink now_sink visits now_visits
 ListsNear t q n sink now_sink visits now_visits result = Lists (hit_listing q (near q n t.tree.table)) 0 (reached t q n) sink now_sink visits now_visits result
 
 -- ---- pages
@@ -130,18 +132,19 @@ page_replies t c n =
 pub record PageListed (t : AnyTable) (c : Cursor) (n : ℕ) (sink now_sink : Taken) (visits now_visits : ℕ) (behind : Cursor) : Type 0 where
   pub told : Given sink now_sink (replies_text (page_replies t c n))
   pub next : behind ≡ next_cursor t.tree.width c n t.tree.table
+  pub rest_behind : rest t.tree.width behind t.tree.table ≡ drop n (rest t.tree.width c t.tree.table)
   pub last : IsLast t.tree.width t.dims behind.last
-  pub grows : visits ≤ now_visits
-  pub visited : now_visits ≤ visits + (t.tree.width + met t c.lo c.hi)
+  pub grows : visits + least_to_resume t.tree.table c.last ≤ now_visits
+  pub visited : now_visits ≤ visits + (most_to_resume t.tree.width c.last + met t c.lo c.hi)
 
 abbrev pub ListsPage : AnyTable → Cursor → ℕ → Taken → Taken → ℕ → ℕ → Result Cursor Stop → Type 0
 ListsPage t c n sink now_sink visits now_visits (Ok behind) = PageListed t c n sink now_sink visits now_visits behind
-ListsPage t c n sink now_sink visits now_visits (Err stop) = FrontListed (page_replies t c n) (t.tree.width + met t c.lo c.hi) sink now_sink visits now_visits stop
+ListsPage t c n sink now_sink visits now_visits (Err stop) = FrontListed (page_replies t c n) (most_to_resume t.tree.width c.last + met t c.lo c.hi) sink now_sink visits now_visits stop
 
 -- the same by cursors of any number of dimensions
 abbrev pub ListsAnyPage : AnyTable → AnyCursor → ℕ → Taken → Taken → ℕ → ℕ → Result AnyCursor Stop → Type 0
 ListsAnyPage t c n sink now_sink visits now_visits (Ok behind) = (cursor_dims behind ≡ t.dims) × PageListed t (cursor_of c) n sink now_sink visits now_visits (cursor_of behind)
-ListsAnyPage t c n sink now_sink visits now_visits (Err stop) = FrontListed (page_replies t (cursor_of c) n) (t.tree.width + met t (cursor_of c).lo (cursor_of c).hi) sink now_sink visits now_visits stop
+ListsAnyPage t c n sink now_sink visits now_visits (Err stop) = FrontListed (page_replies t (cursor_of c) n) (most_to_resume t.tree.width (cursor_of c).last + met t (cursor_of c).lo (cursor_of c).hi) sink now_sink visits now_visits stop
 
 abbrev pub is_more : Tail → Bool
 is_more More = true

@@ -1,14 +1,26 @@
--- A machine that answers lines, one after another. In each of them the files fail or do not.
-use Rattle.std.specs.Prelude.{◌≡◌, ℕ, ◌+◌, Bool, true, false, ◌||◌, List, [], ◌∷◌, ◌++◌, map, nat_eq, codes, refl}
+-- A machine that answers lines, one after another, and what each of them meets of the files.
+use Rattle.std.specs.Prelude.{◌≡◌, ℕ, ◌+◌, Bool, true, false, ◌||◌, List, [], ◌∷◌, ◌++◌, map, nat_eq, codes, Option, None, refl}
 use Rattle.std.specs.List.{starts_with}
 
--- a line, and whether the files fail in it
+-- what a line meets of the files: whether they fail in it, and the bytes of the file that it reads, where there is one
+pub record Met : Type 0 where
+  pub fault : Bool
+  pub found : Option (List ℕ)
+
+abbrev pub met : Bool → Option (List ℕ) → Met
+met fault found = record { fault = fault; found = found }
+
+-- nothing of them
+abbrev pub unmet : Met
+unmet = met false None
+
+-- a line, and what it meets
 pub record Turn : Type 0 where
   pub line : List ℕ
-  pub fault : Bool
+  pub met : Met
 
-abbrev pub turn : List ℕ → Bool → Turn
-turn line fault = record { line = line; fault = fault }
+abbrev pub turn : List ℕ → Met → Turn
+turn line met = record { line = line; met = met }
 
 -- bounds of the nodes visited and of the changes made
 pub record Work : Type 0 where
@@ -70,7 +82,7 @@ faults_of [] = 0
 faults_of (fault ∷ faults) = one_if fault + faults_of faults
 
 abbrev pub faults_in : List Turn → ℕ
-faults_in ts = faults_of (map (λ t. t.fault) ts)
+faults_in ts = faults_of (map (λ t. t.met.fault) ts)
 
 -- the most bytes of a line that are told apart, and one more, which tells that a line is too long
 unfoldable pub KEPT : ℕ

@@ -1,9 +1,8 @@
 -- What imports and exports do, before their replies are told.
-use Rattle.std.specs.Prelude.{◌≡◌, ◌≤◌, ℕ, Bool, nat_lt, if◌then◌else◌, List, length, take, Result, Ok, Err}
+use Rattle.std.specs.Prelude.{◌≡◌, ℕ, Bool, nat_lt, if◌then◌else◌, List, length, Result, Ok, Err}
 use Rattle.ph_csv.specs.Faults.{IsFault}
 use Rattle.ph_csv.specs.declared.fault.CsvFault.{CsvFault}
 use Rattle.ph_csv.specs.declared.fault.CsvFault.TheVariants as csv
-use Rattle.ph_io.specs.Shelf.{Stays}
 use Rattle.ph_specs.specs.Command.{Command}
 use Rattle.ph_specs.specs.Csv.{csv_rows}
 use Rattle.ph_specs.specs.Named.{Named}
@@ -16,11 +15,11 @@ use Rattle.ph_script.specs.declared.reply.Reply.{Reply as Told}
 use Rattle.ph_script.specs.Meaning.{reply_of}
 use Rattle.ph_import.specs.Imported.{with_rows}
 use Rattle.ph_engine.specs.Beside.{Beside, with_changes}
+use Rattle.ph_engine.specs.Doing.{first_rows}
 use Rattle.ph_engine.specs.Drafting.{Shelf, Filled, Unfilled}
-use Rattle.ph_engine.specs.Filing.{Entered, FiledOr}
+use Rattle.ph_engine.specs.Filing.{Entered, Filed, FiledOr}
 use Rattle.ph_engine.specs.Slots.{AnyTable, table_at, slot_of, engine_of}
-use Rattle.ph_engine.specs.declared.records.ExportFault.{ExportFault}
-use Rattle.ph_engine.specs.declared.records.ExportFault.TheVariants as by
+use Rattle.ph_io.specs.declared.streams.Failed.{Failed}
 
 -- ---- rows that are put
 
@@ -44,9 +43,9 @@ abbrev pub imported_reply : AnyTable → Result (List Row) Reply → Reply
 imported_reply t (Ok rows) = if is_overfull t rows then Reply.ErrorFull else Reply.Imported (length rows)
 imported_reply t (Err fault) = fault
 
--- the table with the first rows of those that were read, if they were
+-- the table with some first rows of those that were read, and not all of them, if the import would be done
 abbrev pub table_with_first : AnyTable → ℕ → Result (List Row) Reply → AnyTable
-table_with_first t part (Ok rows) = table_with t (take part rows)
+table_with_first t part (Ok rows) = if is_overfull t rows then t else table_with t (first_rows part rows)
 table_with_first t part (Err fault) = t
 
 -- the rows were put, or memory was missing for some of them
@@ -65,23 +64,16 @@ TellsRecord fault (Err error) = fault ≡ csv.NoMemory
 
 -- ---- rows that are written
 
--- memory was missing, and the files are as they were
-pub record Unwritten (before now : Shelf) : Type 0 where
-  pub later : before.faults ≤ now.faults
-  pub stays : Stays before.files now.files
-
 -- the bytes were appended to the file that is begun
-abbrev pub AppendedOr : Shelf → Shelf → List ℕ → Result Unit ExportFault → Type 0
+abbrev pub AppendedOr : Shelf → Shelf → List ℕ → Result Unit Failed → Type 0
 AppendedOr before now bytes (Ok _) = Filled before now bytes
-AppendedOr before now bytes (Err by.Failed) = Unfilled before now
-AppendedOr before now bytes (Err by.NoMemory) = Unwritten before now
+AppendedOr before now bytes (Err _) = Unfilled before now
 
 -- the bytes are a file under the name
-abbrev pub ExportedOr : Shelf → Shelf → List ℕ → List ℕ → Result Unit ExportFault → Type 0
+abbrev pub ExportedOr : Shelf → Shelf → List ℕ → List ℕ → Result Unit Failed → Type 0
 ExportedOr before now name bytes (Ok _) = Entered before now name bytes (length bytes)
-ExportedOr before now name bytes (Err by.Failed) = Unfilled before now
-ExportedOr before now name bytes (Err by.NoMemory) = Unwritten before now
+ExportedOr before now name bytes (Err _) = Unfilled before now
 
 -- an export of a table, of whatever kind, whatever cursors stand beside it and whatever was counted of changes
-pub record TableExported {E : Type 0} (t : AnyTable) (name : List ℕ) (b now_b : Beside) (result : Result Told E) : Type 0 where
-  pub filed : (most changes : ℕ) (kind : Kind) (cursors : Named Cursor) → let e = engine_of (slot_of kind t cursors) in FiledOr most e (Command.Export name) (with_changes changes b) (with_changes changes now_b) e result
+pub record TableExported (t : AnyTable) (name : List ℕ) (b now_b : Beside) (reply : Reply) : Type 0 where
+  pub filed : (most changes : ℕ) (kind : Kind) (cursors : Named Cursor) → let e = engine_of (slot_of kind t cursors) in Filed most e (Command.Export name) (with_changes changes b) (with_changes changes now_b) e reply

@@ -2,7 +2,7 @@
 use Rattle.std.specs.Prelude.{ℕ, List, Option}
 use Rattle.ph_specs.specs.State.{Engine, Files}
 use Rattle.ph_engine.specs.Beside.{Beside, beside, AreTold}
-use Rattle.ph_engine.specs.ScriptMachine.{Whole, whole, told_files}
+use Rattle.ph_engine.specs.ScriptMachine.{Whole, whole}
 
 pub record Standing : Type 0 where
   pub engine : Engine
@@ -11,9 +11,9 @@ pub record Standing : Type 0 where
 abbrev pub standing : Option (List ℕ) → Option ℕ → Option Files → ℕ → ℕ → ℕ → Engine → Standing
 standing written amount files filings visits changes engine = record { engine = engine; beside = beside written amount files filings visits changes }
 
--- the engine, and the files as they are told
+-- the engine, and the files where they are told
 abbrev pub whole_of : Standing → Whole
-whole_of st = whole st.engine (told_files st.beside.files)
+whole_of st = whole st.engine st.beside.files
 
 -- the files are told
 abbrev pub IsKnown : Standing → Type 0

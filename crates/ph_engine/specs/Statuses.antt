@@ -27,8 +27,10 @@ pub record HasWriteCause (before now : ℕ) (status : Status) : Type 0 where
   pub later : before ≤ now
   pub write : status ≡ WriteFault → Rose before now
 
--- a fault is answered only where its count rose, and a run never answers that it is none
+-- no count falls, a fault is answered only where its count rose, and a run never answers that it is none
 pub record HasCauses (reads now_reads writes now_writes : ℕ) (status : Status) : Type 0 where
+  pub later_reads : reads ≤ now_reads
+  pub later_writes : writes ≤ now_writes
   pub read : status ≡ ReadFault → Rose reads now_reads
   pub write : status ≡ WriteFault → Rose writes now_writes
   pub is_run : status ≡ Usage → ⊥

@@ -1,8 +1,8 @@
 -- The work of a command: bounds of the nodes that it visits and of the changes that it makes.
-use Rattle.std.specs.Prelude.{◌≤◌, ℕ, ◌+◌, ◌*◌, ◌/◌, Bool, not, ◌&&◌, if◌then◌else◌, List, length, ℤ, Option, Some, None}
+use Rattle.std.specs.Prelude.{◌≤◌, ℕ, ◌+◌, ◌*◌, ◌/◌, Bool, not, ◌&&◌, if◌then◌else◌, List, [], ◌∷◌, length, ℤ, Option, Some, None}
 use Rattle.ph_specs.specs.Command.{Command}
 use Rattle.ph_specs.specs.Reply.{Reply}
-use Rattle.ph_specs.specs.Table.{has}
+use Rattle.ph_specs.specs.Table.{Row, has}
 use Rattle.ph_specs.specs.WorkSets.{path, meets, reach, ball, all_nodes}
 use Rattle.ph_specs.specs.Coordinate.{low_corner, high_corner}
 use Rattle.ph_specs.specs.Boxes.{overlaps_low, overlaps_high, inside_low, inside_high, covers_low, covers_high}
@@ -20,9 +20,19 @@ work most_visits least_visits most_changes least_changes =
 abbrev pub no_work : Work
 no_work = work 0 0 0 0
 
--- those of a page under a cursor, which may have to be found again
+-- the nodes that are visited to find the place of a cursor again: none where nothing was listed, or else those on the way of a point, and the root at least
+abbrev pub most_to_resume : ℕ → Option (List ℤ) → ℕ
+most_to_resume width None = 0
+most_to_resume width (Some last) = width
+
+abbrev pub least_to_resume : List Row → Option (List ℤ) → ℕ
+least_to_resume rows None = 0
+least_to_resume [] (Some last) = 0
+least_to_resume (r ∷ rows) (Some last) = 1
+
+-- those of a page under a cursor
 abbrev pub page_bounds : Slot → Option Cursor → Work
-page_bounds s (Some c) = work (s.width + length (meets s.width s.dims s.table c.lo c.hi)) 0 0 0
+page_bounds s (Some c) = work (most_to_resume s.width c.last + length (meets s.width s.dims s.table c.lo c.hi)) (least_to_resume s.table c.last) 0 0
 page_bounds s None = no_work
 
 -- those of a listing of a window

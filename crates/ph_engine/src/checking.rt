@@ -88,6 +88,7 @@ fn check_bytes<O: Sink, V: Ledger, C: Ledger>(
     ensures few_visits { 16 * visits.new ≤ 16 * visits.old + length bytes.now }
     ensures kept_changes { changes.old ≤ changes.new }
     ensures few_changes { 16 * changes.new ≤ 16 * changes.old + length bytes.now }
+    ensures nodes { result ≡ Ok Answer.Good → changes.new ≤ changes.old + nodes_saved bytes.now }
     ensures cause { StopHasCause (O.faults out.old) (O.faults out.new) result }
 {
     match read_tree(alloc, bytes, changes) {

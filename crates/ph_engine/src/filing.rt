@@ -4,7 +4,7 @@ ghost use Rattle.ph_specs.specs.Snapshot.{snap};
 ghost use Rattle.ph_specs.specs.WorkSets.{all_nodes};
 ghost use Rattle.ph_script.specs.Meaning.{reply_of};
 ghost use Rattle.ph_engine.specs.Drafting.{FilledOr};
-ghost use Rattle.ph_engine.specs.Filing.{EnteredOr, LoadsOr, SameFrame, TableLoaded, TableSaved, TellsFault, TellsUnfetched, loaded_reply, loaded_table};
+ghost use Rattle.ph_engine.specs.Filing.{EnteredOr, LoadsNodes, LoadsOr, SameFrame, TableLoaded, TableSaved, TellsFault, TellsUnfetched, loaded_reply, loaded_table};
 ghost use Rattle.ph_engine.specs.Slots.{IsOfKind, any_table};
 ghost use Rattle.ph_engine.specs.Told.{aside_by, shelf_by};
 
@@ -125,6 +125,7 @@ fn load_bytes<C: Ledger>(
     ensures frame { SameFrame kind (any_table tree.old) (any_table tree.new) }
     ensures kept { changes.old ≤ changes.new }
     ensures few { 16 * changes.new ≤ 16 * changes.old + length bytes.now }
+    ensures nodes { LoadsNodes kind (any_table tree.old) bytes.now result changes.old changes.new }
 {
     match AnyTree::load(alloc, bytes, kind, tree.dims(), tree.width(), changes) {
         Ok(loaded) => Ok(replace(tree, loaded)),

@@ -16,7 +16,7 @@ use crate::filing::fetch_reply;
 use crate::status::Limits;
 use crate::trees::AnyTree;
 use ph_coord::{Kind, Point, Row, Width};
-use ph_csv::{CsvFault, read_rows, write_row};
+use ph_csv::{CsvFault, read_rows, row_line};
 use ph_import::{ImportFault, put_rows};
 use ph_io::{Failed, Files};
 use ph_script::{FileName, Reply};
@@ -25,9 +25,6 @@ use ph_tree::{NoMemory, PhTree};
 use ph_window::Window;
 use std::alloc::Global;
 use std::sync::ledger::Ledger;
-
-// The bytes of the longest line: 16 coordinates of 62 bits, each with a comma, a value of 64 bits and a line feed.
-const LONGEST: usize = 16 * (20 + 1) + 20 + 1;
 
 // Puts the rows of a file into a tree, once all of them are read and it has room for them.
 pub(crate) fn import_table<F: Files, V: Ledger, C: Ledger>(
@@ -113,83 +110,49 @@ fn record_reply(fault: CsvFault) -> Result<Reply, NoMemory>
     }
 }
 
-// Why a table was not exported.
-#[derive(Clone, Copy)]
-pub(crate) enum ExportFault {
-    // The files failed.
-    Failed,
-    // There was no memory for a line. The file may be left begun.
-    NoMemory,
-}
-
-impl From<Failed> for ExportFault {
-    ghost use Rattle.ph_engine.specs.declared.records.ExportFault.TheVariants.{Failed as FilesFailed};
-
-    ghost from_gives = { λ _ fault. fault ≡ FilesFailed };
-
-    fn from(_: Failed) -> ExportFault {
-        ExportFault::Failed
-    }
-}
-
-impl From<NoMemory> for ExportFault {
-    ghost use Rattle.ph_engine.specs.declared.records.ExportFault.TheVariants.{NoMemory as LineMemory};
-
-    ghost from_gives = { λ _ fault. fault ≡ LineMemory };
-
-    fn from(_: NoMemory) -> ExportFault {
-        ExportFault::NoMemory
-    }
-}
-
 // Writes the rows of a tree to a file of this name, in place of one that has it.
 pub(crate) fn export_table<F: Files, V: Ledger>(
     tree: &AnyTree,
-    alloc: Global,
     file: &FileName<'_>,
     files: &mut F,
     visits: &mut Steps<V>,
-) -> Result<Reply, NoMemory>
+) -> Reply
     ensures { TableExported (any_table tree.now) file.now
         (aside_by F.Files files.old visits.old 0)
         (aside_by F.Files files.new visits.new 0)
-        result }
+        (reply_of result) }
 {
-    match tree.export(alloc, file, files, visits) {
-        Ok(()) => Ok(Reply::Exported(tree.len())),
-        Err(ExportFault::Failed) => Ok(Reply::ErrorFile),
-        Err(ExportFault::NoMemory) => Err(NoMemory),
+    match tree.export(file, files, visits) {
+        Ok(()) => Reply::Exported(tree.len()),
+        Err(Failed) => Reply::ErrorFile,
     }
 }
 
-// The same of a tree of D dimensions. Where it does not succeed, a file of the name stays as it was.
+// The same of a tree of D dimensions. Where the files fail, one of the name stays as it was.
 pub(crate) fn export_tree<const D: usize, F: Files, V: Ledger>(
     tree: &PhTree<D>,
-    alloc: Global,
     file: &FileName<'_>,
     files: &mut F,
     visits: &mut Steps<V>,
-) -> Result<(), ExportFault>
+) -> Result<(), Failed>
     requires { D ≤ 16 }
     ensures exported { ExportedOr (shelf_by F.Files files.old) (shelf_by F.Files files.new) file.now (csv_text tree.now.table) result }
     ensures later { visits.old ≤ visits.new }
     ensures few { visits.new ≤ visits.old + length (all_nodes tree.now.width D tree.now.table) }
     ensures all { OnOk result (visits.new ≡ visits.old + length (all_nodes tree.now.width D tree.now.table)) }
 {
-    let mut line = Vec::with_capacity(alloc, LONGEST)?;
     files.begin(file.as_str())?;
-    append_rows(tree, &mut line, files, visits)?;
+    append_rows(tree, files, visits)?;
     files.finish()?;
     Ok(())
 }
 
-// Appends the lines of all rows to the file that is begun, by way of a line in memory.
+// Appends the lines of all rows to the file that is begun.
 fn append_rows<const D: usize, F: Files, V: Ledger>(
     tree: &PhTree<D>,
-    line: &mut Vec<u8>,
     files: &mut F,
     visits: &mut Steps<V>,
-) -> Result<(), ExportFault>
+) -> Result<(), Failed>
     requires limit { D ≤ 16 }
     requires begun { F.is_begun files.old ≡ true }
     ensures appended { AppendedOr (shelf_by F.Files files.old) (shelf_by F.Files files.new) (csv_text tree.now.table) result }
@@ -199,7 +162,7 @@ fn append_rows<const D: usize, F: Files, V: Ledger>(
 {
     let mut window = all_rows(tree);
     'rows: while let Some(row) = window.next(visits) {
-        append_row(&row, line, files)?;
+        append_row(&row, files)?;
     }
     Ok(())
 }
@@ -234,17 +197,10 @@ fn greatest_corner<const D: usize>(w: Width) -> Point<D>
 }
 
 // Appends the line of a row to the file that is begun.
-fn append_row<const D: usize, F: Files>(
-    row: &Row<D>,
-    line: &mut Vec<u8>,
-    files: &mut F,
-) -> Result<(), ExportFault>
+fn append_row<const D: usize, F: Files>(row: &Row<D>, files: &mut F) -> Result<(), Failed>
     requires limit { D ≤ 16 }
     requires begun { F.is_begun files.old ≡ true }
     ensures { AppendedOr (shelf_by F.Files files.old) (shelf_by F.Files files.new) (csv_line row.now) result }
 {
-    line.clear();
-    write_row(row, line)?;
-    files.append(line.as_slice())?;
-    Ok(())
+    files.append(row_line(row).as_str().as_bytes())
 }

@@ -201,6 +201,7 @@ fn finish<O: Sink, F: Files, V: Ledger, C: Ledger>(
         (standing_by O.Sink F.Files out.old files.old visits.old changes.old eng.old) lines.old refused
         (standing_by O.Sink F.Files out.new files.new visits.new changes.new eng.new) result }
     ensures filings { F.faults files.old ≤ F.faults files.new }
+    ensures writes { O.faults out.old ≤ O.faults out.new }
     ensures cause { result ≡ Status.WriteFault → Rose (O.faults out.old) (O.faults out.new) }
     ensures read { (result ≡ Status.ReadFault → ⊥) × (result ≡ Status.Usage → ⊥) }
 {

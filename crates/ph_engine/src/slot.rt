@@ -122,8 +122,7 @@ impl Slot {
             | Command::Del { .. }
             | Command::Relocate { .. }
             | Command::Load { .. }
-            | Command::Import { .. }
-            | Command::Export { .. } => {
+            | Command::Import { .. } => {
                 let outcome = self.try_reply(alloc, cmd, files, limits, visits, changes);
                 tell(out, text, &outcome)
             }
@@ -132,7 +131,8 @@ impl Slot {
             | Command::Count
             | Command::Clear
             | Command::Cursor { .. }
-            | Command::Save { .. } => {
+            | Command::Save { .. }
+            | Command::Export { .. } => {
                 let reply = self.reply(alloc, cmd, files, visits);
                 say(out, text, &reply)
             }
@@ -191,7 +191,6 @@ impl Slot {
                 visits,
                 changes,
             ),
-            Command::Export { file } => export_table(&self.tree, alloc, file, files, visits),
             _ => unreachable!(),
         }
     }
@@ -224,6 +223,7 @@ impl Slot {
             Command::Clear => self.tree.clear(),
             Command::Cursor { name, lo, hi } => self.set_cursor(name, lo, hi),
             Command::Save { file } => save_table(&self.tree, self.kind, file, files, visits),
+            Command::Export { file } => export_table(&self.tree, file, files, visits),
             _ => unreachable!(),
         }
     }

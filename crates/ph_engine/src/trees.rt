@@ -33,7 +33,7 @@ use crate::cursors::AnyCursor;
 use crate::distances::{list_ball, list_near};
 use crate::filing::save_tree;
 use crate::listing::{list_page, list_window};
-use crate::records::{ExportFault, export_tree, import_text};
+use crate::records::{export_tree, import_text};
 use crate::sizes::list_sizes;
 use crate::status::{Answer, Stop};
 use ph_coord::{Kind, Width};
@@ -312,17 +312,16 @@ impl AnyTree {
     // Writes its rows to a file of this name.
     pub(crate) fn export<F: Files, V: Ledger>(
         &self,
-        alloc: Global,
         file: &FileName<'_>,
         files: &mut F,
         visits: &mut Steps<V>,
-    ) -> Result<(), ExportFault>
+    ) -> Result<(), Failed>
         ensures exported { ExportedOr (shelf_by F.Files files.old) (shelf_by F.Files files.new) file.now (csv_text (any_table self.now).tree.table) result }
         ensures later { visits.old ≤ visits.new }
         ensures few { visits.new ≤ visits.old + node_count (any_table self.now) }
         ensures all { OnOk result (visits.new ≡ visits.old + node_count (any_table self.now)) }
     {
-        with_tree!(self, tree => export_tree(tree, alloc, file, files, visits))
+        with_tree!(self, tree => export_tree(tree, file, files, visits))
     }
 
     // The tree of so many dimensions of which the bytes are the snapshot, for any number of rows.

@@ -16,6 +16,14 @@ pub returns-in-Ok-clause-most_visits : goal.returns-in-Ok-clause-most_visits
 returns-in-Ok-clause-most_visits g c =
     omega (arith, c.table_line.ensures.visits, nodes-are c.args.bytes.now c.in-Ok.kind (any_table c.in-Ok.tree) c.in-Ok.ensures.saved)
 
+pub returns-in-Ok-clause-nodes : goal.returns-in-Ok-clause-nodes
+returns-in-Ok-clause-nodes g c e = omega (arith, c.in-Ok.ensures.nodes, nodes-are c.args.bytes.now c.in-Ok.kind (any_table c.in-Ok.tree) c.in-Ok.ensures.saved)
+
+pub returns-in-Err-clause-nodes : goal.returns-in-Err-clause-nodes
+returns-in-Err-clause-nodes g c e =
+    fault-sizes c.args.bytes.now c.in-Err.fault c.in-Err.ensures.fault (taken_of (g.O.Sink.written c.args.out.now) (g.O.Sink.amount c.args.out.now)) (taken_of (g.O.Sink.written c.tell.new.out) (g.O.Sink.amount c.tell.new.out))
+    c.fault_reply.result c.tell.result c.fault_reply.ensures c.tell.ensures.told e
+
 pub returns-in-Err-clause-line : goal.returns-in-Err-clause-line
 returns-in-Err-clause-line g c =
     fault-given c.args.bytes.now c.in-Err.fault c.in-Err.ensures.fault (taken_of (g.O.Sink.written c.args.out.now) (g.O.Sink.amount c.args.out.now)) (taken_of (g.O.Sink.written c.tell.new.out) (g.O.Sink.amount c.tell.new.out))

@@ -1,5 +1,5 @@
 use Rattle.ph_engine.specs.Slots.{any_table}
-use Rattle.ph_engine.proofs.Loads.{loaded-frame, loads-none}
+use Rattle.ph_engine.proofs.Loads.{loaded-frame, loads-none, nodes-loaded, nodes-none}
 use Rattle.ph_engine.proofs.filing.load_bytes.Goals as goal
 
 pub returns-in-Ok-clause-frame : goal.returns-in-Ok-clause-frame
@@ -8,3 +8,12 @@ returns-in-Ok-clause-frame g c = rw c.replace.ensures.table (loaded-frame c.args
 pub returns-in-Err-clause-loads : goal.returns-in-Err-clause-loads
 returns-in-Err-clause-loads g c =
     loads-none c.args.kind (any_table c.args.tree.now) c.dims.result c.width.result c.args.bytes.now c.in-Err.fault c.fault_reply.result c.dims.ensures.value c.width.ensures c.in-Err.ensures.fault c.fault_reply.ensures
+
+pub returns-in-Ok-clause-nodes : goal.returns-in-Ok-clause-nodes
+returns-in-Ok-clause-nodes g c rows is =
+    let t = any_table c.args.tree.now in
+    nodes-loaded c.args.kind t c.dims.result c.width.result c.args.bytes.now (any_table c.in-Ok.loaded).tree.table rows c.args.changes.now c.load.new.changes c.dims.ensures.value c.width.ensures c.in-Ok.ensures.read is c.in-Ok.ensures.nodes
+
+pub returns-in-Err-clause-nodes : goal.returns-in-Err-clause-nodes
+returns-in-Err-clause-nodes g c rows is =
+    nodes-none c.args.kind (any_table c.args.tree.now) c.dims.result c.width.result c.args.bytes.now c.in-Err.fault c.fault_reply.result rows _ _ c.dims.ensures.value c.width.ensures c.in-Err.ensures.fault c.fault_reply.ensures is

@@ -14,7 +14,7 @@ returns-in-Ok-clause-loaded g c =
     record {
       filed = λ visits cursors.
           read-filed-or c.args.limits.now.file_bytes c.args.kind t cursors c.args.file.now c.as_slice.result.now (g.F.Files.faults c.args.files.now) (g.F.Files.faults c.fetch.new.self) visits c.args.changes.now c.load_bytes.new.changes
-          (g.F.Files.files c.args.files.now) (g.F.Files.files c.fetch.new.self) (any_table c.load_bytes.new.tree) c.load_bytes.result (rw (slice, ← c.as_str.ensures.value) e.fetches) (rw slice e.within) e.files e.counts loads.loads loads.kept loads.few;
+          (g.F.Files.files c.args.files.now) (g.F.Files.files c.fetch.new.self) (any_table c.load_bytes.new.tree) c.load_bytes.result (rw (slice, ← c.as_str.ensures.value) e.fetches) (rw slice e.within) e.files e.counts loads.loads loads.kept loads.few loads.nodes;
     }
 
 pub returns : goal.returns

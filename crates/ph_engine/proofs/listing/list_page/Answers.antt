@@ -1,6 +1,5 @@
 use Rattle.std.proofs.Common.{◌≡◌, ◌≤◌, List, [], ◌∷◌, ◌++◌, length, take, drop, ap, sym, ◌∙◌, subst, refl, arith}
 use Rattle.std.specs.Prelude.{◌↔◌}
-use Rattle.std.proofs.lemmas.Bool.{and_parts}
 use Rattle.std.proofs.lemmas.Result.{err_from_is_err_and}
 use Rattle.ph_io.specs.Giving.{taken_of}
 use Rattle.ph_specs.specs.Reply.{Reply, replies_text}
@@ -11,7 +10,7 @@ use Rattle.ph_engine.specs.Listing.{is_more, met}
 use Rattle.ph_engine.specs.Slots.{table_at}
 use Rattle.ph_io.specs.Writing.{WritesFront}
 use Rattle.ph_engine.proofs.Replies.{none_given}
-use Rattle.ph_engine.proofs.Listed.{item-given, item-front, none-left, page-step, page-rest, page-said, page-cut, more-by}
+use Rattle.ph_engine.proofs.Listed.{item-given, item-front, none-left, page-step, page-rest, page-said, page-cut, more-by, few-to-resume, some-to-resume}
 use Rattle.ph_engine.proofs.listing.list_page.Goals as goal
 
 pub rows-init : goal.rows-init
@@ -58,13 +57,14 @@ returns-in_err-say_row-clause-lists g c =
     let tail : List Reply = page_end (has_more t.tree.width cursor c.args.n t.tree.table) (length listed) ∷ [] in
     let whole : take first.left first.rows ≡ listed = ap (λ k. take k first.rows) c.page-page.ensures.left ∙ ap (take c.args.n) c.page-page.ensures.rows in
     let few : first.visits ≤ met t cursor.lo cursor.hi = c.page-page.ensures.visits in
+    let start = few-to-resume t.tree.width _ _ cursor.last c.page-page.ensures.first c.page-page.ensures.cost in
     let is = err_from_is_err_and c.from_residual.result c.from_residual.ensures.1 in
     rw (is.1, is.2)
     (record {
       front = subst (λ rs. WritesFront (taken_of (g.O.Sink.written c.args.out.now) (g.O.Sink.amount c.args.out.now)) (taken_of (g.O.Sink.written c.say_row.new.out) (g.O.Sink.amount c.say_row.new.out)) (replies_text (row_replies rs ++ tail))) whole
           (item-front Reply.RowIs _ tail (take old.left old.rows) (take new.left new.rows) c.in-Some.row _ _ _ (c.rows.invariant.given tail) e c.in_err-say_row.ensures.front);
       fault = c.in_err-say_row.ensures.err;
-      visited = omega (arith, c.rows.invariant.cost, c.next.ensures.cost, few, c.page-page.ensures.cost);
+      visited = omega (arith, c.rows.invariant.cost, c.next.ensures.cost, few, start);
     })
 
 pub returns-clause-lists : goal.returns-clause-lists
@@ -76,6 +76,7 @@ returns-clause-lists g c =
     let same = c.in_default.ensures.goes in
     let n = c.page-page.ensures.left in
     let few : first.visits ≤ met t cursor.lo cursor.hi = c.page-page.ensures.visits in
+    let start = few-to-resume t.tree.width _ _ cursor.last c.page-page.ensures.first c.page-page.ensures.cost in
     let none = none-left (take old.left old.rows) c.in_default.ensures.row in
     let more = more-by c.tail.result (old.rows ≡ [] → ⊥) (subst (λ rs. (c.tail.result ≡ More) ↔ (rs ≡ [] → ⊥)) same.0 c.tail.ensures.more) in
     page-said t cursor c.args.n first.rows old.rows old.left c.rows.count c.args.visits.now c.tail.new.visits (is_more c.tail.result) c.cursor-behind.result (taken_of (g.O.Sink.written c.args.out.now) (g.O.Sink.amount c.args.out.now)) (taken_of (g.O.Sink.written c.rows.out) (g.O.Sink.amount c.rows.out)) (taken_of (g.O.Sink.written c.say.new.out) (g.O.Sink.amount c.say.new.out)) c.page-page.ensures.rows
@@ -88,9 +89,9 @@ returns-clause-lists g c =
     (ap (λ x. x.hi) (c.cursor-behind.ensures ∙ same.2) ∙ c.rows.invariant.hi ∙ ap (λ x. x.hi) c.page-page.ensures.cursor)
     (ap (λ x. last_listed x.last (take old.left old.rows)) (c.cursor-behind.ensures ∙ same.2) ∙ c.rows.invariant.last ∙ ap (λ x. last_listed x.last (take first.left first.rows)) c.page-page.ensures.cursor ∙ ap (λ k. last_listed cursor.last (take k first.rows)) n)
     c.requires.last
-    (and_parts _ _ (and_parts _ _ c.root-root.ensures.table).1).0
-    (omega (arith, c.page-page.ensures.grows, c.rows.invariant.grows, c.next.ensures.grows, c.tail.ensures.grows))
-    (omega (arith, c.rows.invariant.cost, c.next.ensures.cost, c.tail.ensures.cost, few, c.page-page.ensures.cost))
+    c.root-root.ensures.table
+    (omega (arith, some-to-resume t.tree.table _ _ cursor.last c.page-page.ensures.grows c.page-page.ensures.resumed, c.rows.invariant.grows, c.next.ensures.grows, c.tail.ensures.grows))
+    (omega (arith, c.rows.invariant.cost, c.next.ensures.cost, c.tail.ensures.cost, few, start))
     (rw (← c.page_end.ensures) c.in_ok-say.ensures.told)
 
 pub returns-in_err-say-clause-lists : goal.returns-in_err-say-clause-lists
@@ -102,6 +103,7 @@ returns-in_err-say-clause-lists g c =
     let same = c.in_default.ensures.goes in
     let n = c.page-page.ensures.left in
     let few : first.visits ≤ met t cursor.lo cursor.hi = c.page-page.ensures.visits in
+    let start = few-to-resume t.tree.width _ _ cursor.last c.page-page.ensures.first c.page-page.ensures.cost in
     let none = none-left (take old.left old.rows) c.in_default.ensures.row in
     let more = more-by c.tail.result (old.rows ≡ [] → ⊥) (subst (λ rs. (c.tail.result ≡ More) ↔ (rs ≡ [] → ⊥)) same.0 c.tail.ensures.more) in
     let is = err_from_is_err_and c.from_residual-in_err-say.result c.from_residual-in_err-say.ensures.1 in
@@ -115,5 +117,5 @@ returns-in_err-say-clause-lists g c =
           more
           (rw (← c.page_end.ensures) c.in_err-say.ensures.front);
       fault = c.in_err-say.ensures.err;
-      visited = omega (arith, c.rows.invariant.cost, c.next.ensures.cost, c.tail.ensures.cost, few, c.page-page.ensures.cost);
+      visited = omega (arith, c.rows.invariant.cost, c.next.ensures.cost, c.tail.ensures.cost, few, start);
     })

@@ -1,6 +1,7 @@
 use Rattle.std.proofs.Common.{◌+◌, ◌-◌, ◌≤◌}
 use Rattle.ph_engine.specs.ScriptMachine.{script_machine}
-use Rattle.ph_engine.specs.Standing.{standing, whole_of, IsKnown}
+use Rattle.ph_engine.specs.Serving.{FromKnown}
+use Rattle.ph_engine.specs.Standing.{standing}
 use Rattle.ph_engine.proofs.Runs.{Reached}
 use Rattle.ph_engine.proofs.run.run_pieces.Given as goal
 
@@ -13,7 +14,7 @@ invariant-pieces g l =
       reads : g.S.Source.faults l.initial.src ≤ g.S.Source.faults l.src;
       writes : g.O.Sink.faults l.initial.out ≤ g.O.Sink.faults l.out;
       filings : g.F.Files.faults l.initial.files ≤ g.F.Files.faults l.files;
-      reached : IsKnown st → IsKnown now × Reached (script_machine l.limits.file_bytes) (g.S.Source.left l.initial.src) (g.S.Source.left l.src) st.beside now.beside (whole_of st) (whole_of now) l.lines l.refused l.taken;
+      reached : FromKnown st now (λ s after. Reached (script_machine l.limits.file_bytes) (g.S.Source.left l.initial.src) (g.S.Source.left l.src) st.beside now.beside s after l.lines l.refused l.taken);
     }
 
 abbrev pub decreases-pieces : goal.decreases-pieces

@@ -10,7 +10,7 @@ use Rattle.ph_engine.proofs.Slotted.{slot-keeps, same-frame, clear-frame}
 use Rattle.ph_engine.proofs.slot.Slot.reply.Goals as goal
 
 pub unreachable-requires : goal.unreachable-requires
-unreachable-requires g c = all-sure c.args.cmd.now c.requires.sure c.in_default.not-Begin c.in_default.not-Get c.in_default.not-Count c.in_default.not-Clear c.in_default.not-Cursor c.in_default.not-Save
+unreachable-requires g c = all-sure c.args.cmd.now c.requires.sure c.in_default.not-Begin c.in_default.not-Get c.in_default.not-Count c.in_default.not-Clear c.in_default.not-Cursor c.in_default.not-Save c.in_default.not-Export
 
 pub invariant_of-self : goal.invariant_of-self
 invariant_of-self g c =
@@ -27,6 +27,9 @@ returns-in-Cursor g c = rw c.in-Cursor.is (record { filed = λ most changes. fil
 
 pub returns-in-Save : goal.returns-in-Save
 returns-in-Save g c = rw (c.in-Save.is, ← c.self-in-Save.view_is) (record { filed = λ most changes. c.save_table.ensures.filed most changes (named c.self-in-Save.inside.cursors.items) })
+
+pub returns-in-Export : goal.returns-in-Export
+returns-in-Export g c = rw (c.in-Export.is, ← c.self-in-Export.view_is) (record { filed = λ most changes. c.export_table.ensures.filed most changes c.self-in-Export.inside.kind (named c.self-in-Export.inside.cursors.items) })
 
 pub returns-in-Get : goal.returns-in-Get
 returns-in-Get g c =

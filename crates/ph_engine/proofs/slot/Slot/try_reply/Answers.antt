@@ -9,7 +9,7 @@ use Rattle.ph_engine.proofs.Slotted.{slot-keeps, same-frame, put-frame, del-fram
 use Rattle.ph_engine.proofs.slot.Slot.try_reply.Goals as goal
 
 pub unreachable-requires : goal.unreachable-requires
-unreachable-requires g c = all-tried c.args.cmd.now c.requires.tried c.in_default.not-Put c.in_default.not-Del c.in_default.not-Relocate c.in_default.not-Load c.in_default.not-Import c.in_default.not-Export
+unreachable-requires g c = all-tried c.args.cmd.now c.requires.tried c.in_default.not-Put c.in_default.not-Del c.in_default.not-Relocate c.in_default.not-Load c.in_default.not-Import
 
 pub invariant_of-self : goal.invariant_of-self
 invariant_of-self g c =
@@ -75,6 +75,3 @@ returns-in-Load g c = rw (c.in-Load.is, ← c.self.view_is) (c.load_table.ensure
 
 pub returns-in-Import : goal.returns-in-Import
 returns-in-Import g c = rw (c.in-Import.is, ← c.self.view_is) (c.import_table.ensures.imported.filed (named c.self.inside.cursors.items))
-
-pub returns-in-Export : goal.returns-in-Export
-returns-in-Export g c = rw (c.in-Export.is, ← c.self.view_is) (c.export_table.ensures.filed c.args.limits.now.file_bytes c.args.changes.now c.self.inside.kind (named c.self.inside.cursors.items))

@@ -1,0 +1,10 @@
+use Rattle.std.proofs.Common.{ap}
+use Rattle.std.specs.Prelude.{Err}
+use Rattle.ph_engine.specs.Slots.{table_at}
+use Rattle.ph_engine.proofs.Recorded.{starved-put}
+use Rattle.ph_engine.proofs.records.put_read.Goals as goal
+
+pub returns-in-Err-NoMemory-clause-imports : goal.returns-in-Err-NoMemory-clause-imports
+returns-in-Err-NoMemory-clause-imports g c =
+    let e = c.in-Err-NoMemory.ensures in
+    starved-put (table_at g.row.D c.args.tree.now) c.put_rows.new.tree c.args.rows.now c.in-Err-NoMemory.field-0 e.unchanged (e.fault (ap Err c.in-Err-NoMemory.field-0-is))
