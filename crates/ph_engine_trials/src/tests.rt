@@ -3,7 +3,9 @@ ghost use Rattle.std.specs.Prelude.{◌≡◌, ◌<◌};
 
 mod boxes;
 mod checks;
+mod commands;
 mod cursors;
+mod devices;
 mod distances;
 mod files;
 mod records;
@@ -25,6 +27,7 @@ struct Case<'a> {
     words: &'a str,
     script: &'a str,
     piece: usize,
+    written_piece: usize,
     failing_read: u64,
     failing_write: u64,
     script_bytes: u64,
@@ -33,12 +36,13 @@ struct Case<'a> {
     status: Status,
 }
 
-// A run in pieces of 4,096 bytes, without a fault.
+// A run in pieces of 4,096 bytes, whose replies are taken whole, without a fault.
 fn run<'a>(script: &'a str, output: &'a str, status: Status) -> Case<'a> {
     Case {
         words: "run",
         script,
         piece: 4096,
+        written_piece: 1000,
         failing_read: 0,
         failing_write: 0,
         script_bytes: 4096,
@@ -60,17 +64,30 @@ fn check_over(
     case: &Case<'_>,
     files: &mut MemoryFiles,
 ) -> Result<(), AllocError> {
-    check_counted::<Brand, Brand>(rt, alloc, case, files, Blank::new(1), Blank::new(1))
+    let (status, sink) = answer_over(rt, alloc, case, files)?;
+    assert_eq!(rt; sink.bytes(), case.output.as_bytes());
+    assert_eq!(rt; status, case.status);
+    Ok(())
 }
 
-fn check_counted<V: Ledger, C: Ledger>(
+// Runs a case, and gives its status and what was written.
+fn answer_over(
+    rt: &impl Abort,
+    alloc: Global,
+    case: &Case<'_>,
+    files: &mut MemoryFiles,
+) -> Result<(Status, MemorySink), AllocError> {
+    answer_counted::<Brand, Brand>(rt, alloc, case, files, Blank::new(1), Blank::new(1))
+}
+
+fn answer_counted<V: Ledger, C: Ledger>(
     rt: &impl Abort,
     alloc: Global,
     case: &Case<'_>,
     files: &mut MemoryFiles,
     visits: Blank,
     changes: Blank,
-) -> Result<(), AllocError>
+) -> Result<(Status, MemorySink), AllocError>
     requires visits { (visits.name ≡ V.name) × (visits.parts ≡ V.parts) × (0 < visits.parts) }
     requires changes { (changes.name ≡ C.name) × (changes.parts ≡ C.parts) × (0 < changes.parts) }
 {
@@ -81,13 +98,14 @@ fn check_counted<V: Ledger, C: Ledger>(
         words.push(String::from_str(alloc, word)?)?;
     }
     assert!(rt; 0 < case.piece);
+    assert!(rt; 0 < case.written_piece);
     assert!(rt; case.script_bytes < 1 << 63);
     assert!(rt; case.file_bytes < 1 << 63);
     let script = Vec::from_slice(alloc, case.script.as_bytes())?;
     let failing_reads = vec![in alloc; case.failing_read]?;
     let failing_writes = vec![in alloc; case.failing_write]?;
     let mut source = MemorySource::new(script, case.piece, failing_reads);
-    let mut sink = MemorySink::with_room(alloc, 2000, 1000, failing_writes)?;
+    let mut sink = MemorySink::with_room(alloc, 2000, case.written_piece, failing_writes)?;
     let mut engine = Engine::new(alloc);
     let limits = Limits {
         script_bytes: case.script_bytes,
@@ -104,9 +122,7 @@ fn check_counted<V: Ledger, C: Ledger>(
         &mut visits,
         &mut changes,
     );
-    assert_eq!(rt; sink.bytes(), case.output.as_bytes());
-    assert_eq!(rt; status, case.status);
-    Ok(())
+    Ok((status, sink))
 }
 
 #[test]

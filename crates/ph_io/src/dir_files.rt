@@ -7,9 +7,10 @@ ghost use Rattle.ph_io.specs.Shelf.{Map, Draft, Stays, Begins, Grows, Gains, Fet
 use crate::files::{FetchFault, Files};
 use crate::streams::Failed;
 use arrayvec::ArrayString;
-use std::io::{Read, Write};
+use std::fs::{Metadata, OpenFile};
+use std::io::{ErrorKind, Read, Write};
 use std::marker::Model;
-use std::{fs, rt};
+use std::{fs, io, rt};
 
 const PIECE_BYTES: usize = 4096;
 
@@ -20,11 +21,17 @@ const PIECE_BYTES: usize = 4096;
 /// is taken away again if the runtime lets it; whether it did is not told. So a user should know:
 ///
 /// - What is not there cannot be told from what cannot be opened, and `Absent` is never answered.
-/// - To save `x` writes over a file `x.part`.
+/// - To save `x` writes over a file `x.part`, and fails where that is a link or no file.
+/// - A link is followed where it is fetched. Where a file is finished under its name, the file takes the
+///   place of the link.
 /// - Where a path may have names of at most 255 bytes, one of more than 250 can be fetched and not
 ///   saved.
 /// - A name is a path, and leads wherever the program may read and write, also out of its folder.
 /// - A file that is begun when the program ends leaves its `.part` file.
+///
+/// What is no regular file (a folder, a pipe, a device) is neither fetched nor replaced, so that no call
+/// waits for the other end of a pipe. It is looked at before it is opened, and what is fetched once more when
+/// it is open. A name that becomes a pipe between the look and the opening may still make a call wait.
 ///
 /// What the files hold is never known. That a file has the bytes that were appended, and that a
 /// rename puts it in the place of the former one as a whole, is trusted of std and of the operating
@@ -97,6 +104,38 @@ fn part_of(name: &str) -> ArrayString<260>
     path
 }
 
+/// Whether something was found that is no regular file. Where nothing was found, opening it decides.
+fn is_special(found: io::Result<Metadata>) -> bool {
+    match found {
+        Ok(found) => !found.is_file(),
+        Err(_) => false,
+    }
+}
+
+/// Opens a regular file, and nothing else. A link is followed.
+fn open_regular<R: rt::Files>(rt: &R, name: &str) -> io::Result<R::File> {
+    if is_special(fs::metadata(rt, name)) {
+        return Err(io::Error::from(ErrorKind::InvalidInput));
+    }
+    let file = fs::open(rt, name)?;
+    if is_special(file.metadata()) {
+        return Err(io::Error::from(ErrorKind::InvalidInput));
+    }
+    Ok(file)
+}
+
+/// Creates the `.part` file of a name, where what has this name is a regular file or leads to one, or is not
+/// there. A `.part` file that is a link is not followed.
+fn create_part<R: rt::Files>(rt: &R, name: &str) -> io::Result<R::File>
+    requires { length name.now ≤ 255 }
+{
+    let path = part_of(name);
+    if is_special(fs::metadata(rt, name)) || is_special(fs::symlink_metadata(rt, path.as_str())) {
+        return Err(io::Error::from(ErrorKind::InvalidInput));
+    }
+    fs::create(rt, path.as_str())
+}
+
 /// Makes `into` the bytes of an open file, which may be `most`.
 fn read_file<F: Read>(file: &mut F, most: u64, into: &mut Vec<u8>) -> Result<(), FetchFault>
     ensures { OnOk result (length into.new.items ≤ most) }
@@ -136,7 +175,7 @@ impl<'r, R: rt::Files> Files for DirFiles<'r, R> {
         ensures counts { FetchCounts self.old.faults self.new.faults result }
         ensures is_begun { self.new.is_begun ≡ self.old.is_begun }
     {
-        let fetched = match fs::open(self.rt, name) {
+        let fetched = match open_regular(self.rt, name) {
             Ok(mut file) => read_file(&mut file, most, into),
             Err(_) => Err(FetchFault::Failed),
         };
@@ -157,7 +196,7 @@ impl<'r, R: rt::Files> Files for DirFiles<'r, R> {
         self.drop_draft();
         self.name.clear();
         self.name.push_str(name);
-        match fs::create(self.rt, part_of(name).as_str()) {
+        match create_part(self.rt, name) {
             Ok(file) => {
                 self.file = Some(file);
                 Ok(())
@@ -262,11 +301,11 @@ mod tests {
         let mut files = DirFiles::new(&rt);
         let mut into = Vec::new(rt.alloc());
         fs::write(&rt, "former.pht", "old")?;
-        // What is written there meets a full disk.
-        symlink(&rt, "/dev/full", "former.pht.part")?;
+        // No file is begun in place of a link, also where that leads to a file, nor in place of a folder.
+        symlink(&rt, "former.pht", "former.pht.part")?;
         assert_eq!(rt; save_to(&mut files, "former.pht", b"ab"), Err(Failed));
-        assert_eq!(rt; fs::exists(&rt, "former.pht.part")?, false);
-        // No file can be begun in place of a folder.
+        assert_eq!(rt; fs::exists(&rt, "former.pht.part")?, true);
+        fs::remove_file(&rt, "former.pht.part")?;
         fs::create_dir(&rt, "former.pht.part")?;
         assert_eq!(rt; save_to(&mut files, "former.pht", b"ab"), Err(Failed));
         assert_eq!(rt; files.faults, 2);
@@ -294,6 +333,41 @@ mod tests {
         );
         assert_eq!(rt; into.as_slice(), b"old".as_slice());
         fs::remove_dir_all(&rt, "folder.pht")?;
+        Ok(())
+    }
+
+    // A device that never ends, and a link to it.
+    #[test]
+    fn fails_for_a_device(rt: HostRuntime) -> Result<(), Fail> {
+        let mut files = DirFiles::new(&rt);
+        let mut into = Vec::new(rt.alloc());
+        symlink(&rt, "/dev/zero", "device.pht")?;
+        for name in ["/dev/zero", "device.pht"] {
+            let device = fetch_from(&mut files, name, 9, &mut into);
+            assert_eq!(rt; device, Err(FetchFault::Failed));
+        }
+        assert_eq!(rt; save_to(&mut files, "device.pht", b"ab"), Err(Failed));
+        assert_eq!(rt; files.faults, 3);
+        assert_eq!(rt; fs::exists(&rt, "device.pht.part")?, false);
+        fs::remove_file(&rt, "device.pht")?;
+        Ok(())
+    }
+
+    // The link becomes a file, and what it led to stays.
+    #[test]
+    fn replaces_a_link(rt: HostRuntime) -> Result<(), Fail> {
+        let mut files = DirFiles::new(&rt);
+        let mut into = Vec::new(rt.alloc());
+        fs::write(&rt, "led_to.pht", "old")?;
+        symlink(&rt, "led_to.pht", "link.pht")?;
+        assert_eq!(rt; fetch_from(&mut files, "link.pht", 3, &mut into), Ok(()));
+        assert_eq!(rt; into.as_slice(), b"old".as_slice());
+        assert_eq!(rt; save_to(&mut files, "link.pht", b"ab"), Ok(()));
+        for (name, bytes) in [("led_to.pht", b"old".as_slice()), ("link.pht", b"abab")] {
+            assert_eq!(rt; fetch_from(&mut files, name, 4, &mut into), Ok(()));
+            assert_eq!(rt; into.as_slice(), bytes);
+            fs::remove_file(&rt, name)?;
+        }
         Ok(())
     }
 

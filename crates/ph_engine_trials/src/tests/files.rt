@@ -8,7 +8,7 @@ use std::process::Abort;
 use std::test::Fail;
 
 // A table of points of two dimensions without rows, as it is saved.
-const EMPTY: &[u8] = b"PHT2\x00\x02\x20\x00";
+pub(super) const EMPTY: &[u8] = b"PHT2\x00\x02\x20\x00";
 
 // The header of what is saved of other such tables.
 const HEADER: &[u8] = b"PHT2\x00\x02\x20\x01";
@@ -31,7 +31,7 @@ pub(super) const TWO: &[u8] = b"PHT1\x00\x02\x01\x00\
     \x00\x00\x00\x00\x00\x00\x00\x02";
 
 // The same and (0, 1) with 3.
-const THREE: &[u8] = b"PHT1\x00\x02\x01\x00\
+pub(super) const THREE: &[u8] = b"PHT1\x00\x02\x01\x00\
     \x1f\x00\x00\x00\x01\x00\x00\x01\
     \xe0\x00\x00\x00\x00\x00\x00\x00\
     \x00\x00\x00\x00\x00\x00\x00\x00\

@@ -36,6 +36,25 @@ fn deepest_path(rt: HostRuntime) -> Result<(), Fail> {
     Ok(())
 }
 
+// A side of the square has one point of its diagonal, far down.
+#[test]
+fn diagonal_window(rt: HostRuntime) -> Result<(), Fail> {
+    let mut script = String::new(rt.alloc());
+    let mut output = String::new(rt.alloc());
+    for i in 0..256 {
+        script.push_str(format!(in rt.alloc(); "put {i} {i} 1\n")?.as_str())?;
+        output.push_str("new\n")?;
+    }
+    script.push_str("stats\nwindow 0 0 255 0\n")?;
+    output.push_str("rows 256 nodes 256 linear 256 cube 0 words 769\nrow 0 0 1\nend 1\n")?;
+    check(
+        &rt,
+        rt.alloc(),
+        &run(script.as_str(), output.as_str(), Status::Clean),
+    )?;
+    Ok(())
+}
+
 // Each point of zeros and ones.
 #[test]
 fn crowded_cube(rt: HostRuntime) -> Result<(), Fail> {

@@ -1,0 +1,91 @@
+//! Commands that an engine does, one by one.
+ghost use Rattle.std.specs.Prelude.{◌≡◌, ◌<◌};
+
+use ph_engine::{Answer, Engine, Limits};
+use ph_io::{MemoryFiles, MemorySink};
+use ph_script::{CoordBuffer, read_command};
+use ph_steps::Steps;
+use std::alloc::{AllocError, Global};
+use std::marker::Brand;
+use std::process::Abort;
+use std::sync::ledger::{Blank, Ledger};
+use std::test::Fail;
+
+// Does the command of a line, and gives what it wrote.
+fn written_by<V: Ledger, C: Ledger>(
+    rt: &impl Abort,
+    alloc: Global,
+    engine: &mut Engine,
+    line: &str,
+    answer: Answer,
+    visits: &mut Steps<V>,
+    changes: &mut Steps<C>,
+) -> Result<MemorySink, AllocError> {
+    let limits = Limits {
+        script_bytes: 4096,
+        file_bytes: 4096,
+    };
+    let mut sink = MemorySink::with_room(alloc, 100, 100, Vec::new(alloc))?;
+    let mut files = MemoryFiles::new(alloc, 0, 0, Vec::new(alloc))?;
+    let mut coords = CoordBuffer::new();
+    assert!(rt; line.len() <= 4096);
+    let command = read_command(line.as_bytes(), engine.dims(), &mut coords);
+    let Ok(Some(command)) = command else {
+        assert!(rt; false, "{line} is no command");
+        return Ok(sink);
+    };
+    let done = engine.exec(
+        alloc, &command, &mut sink, &mut files, &limits, visits, changes,
+    );
+    assert_eq!(rt; done, Ok(answer), "{line}");
+    Ok(sink)
+}
+
+fn check_each<V: Ledger, C: Ledger>(
+    rt: &impl Abort,
+    alloc: Global,
+    cases: &[(&str, &str, Answer)],
+    visits: Blank,
+    changes: Blank,
+) -> Result<(), AllocError>
+    requires visits { (visits.name ≡ V.name) × (visits.parts ≡ V.parts) × (0 < visits.parts) }
+    requires changes { (changes.name ≡ C.name) × (changes.parts ≡ C.parts) × (0 < changes.parts) }
+{
+    let mut visits: Steps<V> = Steps::new(visits);
+    let mut changes: Steps<C> = Steps::new(changes);
+    let mut engine = Engine::new(alloc);
+    for (line, reply, answer) in cases {
+        let sink = written_by(
+            rt,
+            alloc,
+            &mut engine,
+            line,
+            *answer,
+            &mut visits,
+            &mut changes,
+        )?;
+        assert_eq!(rt; sink.bytes(), reply.as_bytes(), "{line}");
+    }
+    Ok(())
+}
+
+// Those of a full table.
+#[test]
+fn each_command_by_itself(rt: HostRuntime) -> Result<(), Fail> {
+    let cases = [
+        ("open points 2 max 1", "opened\n", Answer::Good),
+        ("put 0 0 1", "new\n", Answer::Good),
+        ("put 1 1 1", "error full\n", Answer::Refused),
+        ("put 0 0 2", "old 1\n", Answer::Good),
+        ("move 0 0 1 1", "moved\n", Answer::Good),
+        ("count", "count 1\n", Answer::Good),
+        ("del 0 0", "none\n", Answer::Good),
+        ("del 1 1", "gone 2\n", Answer::Good),
+        ("put 1 1 1", "new\n", Answer::Good),
+        ("clear", "cleared\n", Answer::Good),
+        ("put 5 5 1", "new\n", Answer::Good),
+        ("put 6 6 1", "error full\n", Answer::Refused),
+    ];
+    check_each::<Brand, Brand>(&rt, rt.alloc(), &cases, Blank::new(1), Blank::new(1))?;
+    Ok(())
+}
