@@ -2,7 +2,7 @@
 use Rattle.std.proofs.lemmas.List.{take-take}
 use Rattle.std.proofs.lemmas.Bool.{cases_lt}
 use Rattle.std.proofs.Common.{◌≡◌, ◌<◌, ◌≤◌, ◌+◌, ◌-◌, ◌*◌, inl, inr, lt-ltb, le-ltb, arith, ℕ, zero, suc, Bool, true, false, List, [], ◌∷◌, length, take, refl, ap, sym, ◌∙◌}
-use Rattle.std.specs.Prelude.{Some, None, nat_lt, if◌then◌else◌, Result, Ok, Err, Option}
+use Rattle.std.specs.Prelude.{◌⊎◌, ◌||◌, Some, None, nat_lt, if◌then◌else◌, Result, Ok, Err, Option}
 use Rattle.ph_csv.specs.Faults.{IsFault}
 use Rattle.ph_csv.specs.declared.fault.CsvFault.{CsvFault}
 use Rattle.ph_io.specs.Shelf.{Stays, Fetches}
@@ -25,14 +25,14 @@ use Rattle.ph_script.specs.declared.reply.Reply.{Reply as Told}
 use Rattle.ph_script.specs.Meaning.{reply_of}
 use Rattle.ph_import.specs.Imported.{IsPart}
 use Rattle.ph_tree.specs.Tree.{TreeTable}
-use Rattle.ph_engine.specs.Doing.{first_rows, rows_put, with_first}
+use Rattle.ph_engine.specs.Doing.{first_rows, has_none, rows_put, with_first}
 use Rattle.ph_engine.specs.Beside.{aside}
 use Rattle.ph_engine.specs.Drafting.{Shelf, Unfilled}
 use Rattle.ph_engine.specs.Filing.{Entered, Filed, FiledOr, SameFrame}
-use Rattle.ph_engine.specs.Recording.{ImportsOr, TellsRecord, imported_table, imported_reply, is_overfull, table_with, table_with_first}
+use Rattle.ph_engine.specs.Recording.{import_changes, import_visits, ImportsOr, TellsRecord, imported_table, imported_reply, is_overfull, table_with, table_with_first}
 use Rattle.ph_engine.specs.Refusing.{early_refusal}
 use Rattle.ph_engine.specs.Slots.{AnyTable, table_at, slot_of, engine_of}
-use Rattle.ph_engine.specs.Working.{work_of, IsAtMost}
+use Rattle.ph_engine.specs.Working.{import_bounds, work_of, IsAtMost}
 use Rattle.ph_engine.proofs.Filed.{IsFetch, IsStore, fetched-act, fetched-filed, fetched-starved, stored-filed, unstored-filed}
 use Rattle.ph_engine.proofs.Slotted.{of-kind-still}
 
@@ -41,7 +41,7 @@ use Rattle.ph_engine.proofs.Slotted.{of-kind-still}
 -- the engine with some first rows is that of the table with them
 full-first : (kind : Kind) (t : AnyTable) (cursors : Named Cursor) (part : ℕ) (rows : List Row) → engine_of (slot_of kind (table_with_first t part (Ok rows)) cursors) ≡ with_first (engine_of (slot_of kind t cursors)) part (rows_put (slot_of kind t cursors) (Ok rows))
 full-first kind t cursors part rows =
-    elim (is_overfull t rows) as (λ b. engine_of (slot_of kind (if b then t else table_with t (first_rows part rows)) cursors) ≡ with_first (engine_of (slot_of kind t cursors)) part (if b then None else Some rows)) [
+    elim (is_overfull t rows || has_none t.tree.table) as (λ b. engine_of (slot_of kind (if b then t else table_with t (first_rows part rows)) cursors) ≡ with_first (engine_of (slot_of kind t cursors)) part (if b then None else Some rows)) [
       | true ↦ refl
       | false ↦ refl
     ]
@@ -57,6 +57,14 @@ none-put s None = refl
 none-first : (s : Slot) (read : Result (List Row) Reply) → with_first (engine_of s) 0 (rows_put s read) ≡ engine_of s
 none-first s read = none-put s (rows_put s read)
 
+no-least-visits : (s : Slot) (read : Result (List Row) Reply) → (import_bounds s.width s.dims s.table read).least_visits ≡ 0
+no-least-visits s (Ok rows) = refl
+no-least-visits s (Err fault) = refl
+
+no-least-changes : (s : Slot) (read : Result (List Row) Reply) → (import_bounds s.width s.dims s.table read).least_changes ≡ 0
+no-least-changes s (Ok rows) = refl
+no-least-changes s (Err fault) = refl
+
 pub fetch-import : (name : List ℕ) (header : Bool) → IsFetch (Command.Import name header) name
 fetch-import name header = record {
   reads = refl;
@@ -65,8 +73,8 @@ fetch-import name header = record {
   faulty = λ most files fault. refl;
   takes = λ s. refl;
   none_in = λ s files. none-first s (import_rows s files name header);
-  least_visits = λ s files. refl;
-  least_changes = λ s files. refl;
+  least_visits = λ s files. no-least-visits s (import_rows s files name header);
+  least_changes = λ s files. no-least-changes s (import_rows s files name header);
 }
   where
     by-kind : (kind : Kind) (width dims max : ℕ) (table : List Row) (cursors : Named Cursor) → early_refusal (record { kind = kind; dims = dims; width = width; max = max; table = table; cursors = cursors }) (Command.Import name header) ≡ None
@@ -94,10 +102,10 @@ import-does most kind t cursors files name bytes header short l =
     ∙ ap (λ x. outcome (engine_of (slot_of kind (imported_table t x) cursors)) files (imported_reply t x ∷ [])) (read-is kind t cursors files name bytes header l)
 
 module _ (most : ℕ) (kind : Kind) (t : AnyTable) (cursors : Named Cursor) (name bytes : List ℕ) (header : Bool) (f now_f v now_v c now_c : ℕ) where
-  import-most : now_v ≤ v + 4 * t.tree.width * read_length (csv_rows t.tree.width t.dims kind header bytes) → now_c ≤ c + 2 * read_length (csv_rows t.tree.width t.dims kind header bytes) → (files : Files) → lookup name files ≡ Some bytes → IsAtMost (work_of most (engine_of (slot_of kind t cursors)) files false (Command.Import name header)) v now_v c now_c
+  import-most : now_v ≤ v + import_visits t (csv_rows t.tree.width t.dims kind header bytes) → now_c ≤ c + import_changes t (csv_rows t.tree.width t.dims kind header bytes) → (files : Files) → lookup name files ≡ Some bytes → IsAtMost (work_of most (engine_of (slot_of kind t cursors)) files false (Command.Import name header)) v now_v c now_c
   import-most few less files l = rw l (record { few_visits = few; few_changes = less })
 
-  pub imported-filed-or : {E : Type 0} (told now_told : Option Files) (now : AnyTable) (result : Result Told E) → Fetches told name most bytes (Ok tt) → length bytes ≤ most → Stays told now_told → now_f ≡ f → ImportsOr t (csv_rows t.tree.width t.dims kind header bytes) now result → v ≤ now_v → now_v ≤ v + 4 * t.tree.width * read_length (csv_rows t.tree.width t.dims kind header bytes) → c ≤ now_c → now_c ≤ c + 2 * read_length (csv_rows t.tree.width t.dims kind header bytes) → FiledOr most (engine_of (slot_of kind t cursors)) (Command.Import name header) (aside told f v c) (aside now_told now_f now_v now_c) (engine_of (slot_of kind now cursors)) result
+  pub imported-filed-or : {E : Type 0} (told now_told : Option Files) (now : AnyTable) (result : Result Told E) → Fetches told name most bytes (Ok tt) → length bytes ≤ most → Stays told now_told → now_f ≡ f → ImportsOr t (csv_rows t.tree.width t.dims kind header bytes) now result → v ≤ now_v → now_v ≤ v + import_visits t (csv_rows t.tree.width t.dims kind header bytes) → c ≤ now_c → now_c ≤ c + import_changes t (csv_rows t.tree.width t.dims kind header bytes) → FiledOr most (engine_of (slot_of kind t cursors)) (Command.Import name header) (aside told f v c) (aside now_told now_f now_v now_c) (engine_of (slot_of kind now cursors)) result
   imported-filed-or told now_told now (Ok reply) g short st e h later few kept less =
       fetched-filed (Command.Import name header) name (fetch-import name header) most (slot_of kind t cursors) bytes f now_f v now_v c now_c told now_told (engine_of (slot_of kind now cursors)) (reply_of reply) g st e
       (λ files l. import-does most kind t cursors files name bytes header short l ∙ (λ i. outcome (engine_of (slot_of kind (sym h.0 i) cursors)) files (sym h.1 i ∷ [])))
@@ -113,7 +121,7 @@ module _ (most : ℕ) (kind : Kind) (t : AnyTable) (cursors : Named Cursor) (nam
 -- a text without rows
 pub imports-none : {E : Type 0} (t : AnyTable) (read : Result (List Row) Reply) (fault : CsvFault) (result : Result Told E) → IsFault read fault → TellsRecord fault result → ImportsOr t read t result
 imports-none t read fault (Ok reply) f h = let is : read ≡ Err (reply_of reply) = h read f in (ap (imported_table t) (sym is), ap (imported_reply t) (sym is))
-imports-none t (Ok rows) fault (Err error) f h = (0, elim (is_overfull t rows) as (λ b. t ≡ (if b then t else table_with t (first_rows 0 rows))) [ true ↦ refl | false ↦ refl ])
+imports-none t (Ok rows) fault (Err error) f h = (0, elim (is_overfull t rows || has_none t.tree.table) as (λ b. t ≡ (if b then t else table_with t (first_rows 0 rows))) [ true ↦ refl | false ↦ refl ])
 imports-none t (Err fault) by (Err error) f h = (0, refl)
 
 -- ---- rows of a kind
@@ -138,27 +146,42 @@ pub rows-frame : {E : Type 0} (kind : Kind) (t now : AnyTable) (rows : List Row)
 rows-frame kind t now rows (Ok reply) b h =
     rw h.0 (elim (is_overfull t rows) as (λ full. SameFrame kind t (if full then t else table_with t rows)) [ true ↦ frame-still kind t | false ↦ frame-with kind t rows b ])
 rows-frame kind t now rows (Err error) b h =
-    rw h.1 (elim (is_overfull t rows) as (λ full. SameFrame kind t (if full then t else table_with t (first_rows h.0 rows))) [
+    rw h.1 (elim (is_overfull t rows || has_none t.tree.table) as (λ full. SameFrame kind t (if full then t else table_with t (first_rows h.0 rows))) [
       | true ↦ frame-still kind t
       | false ↦ frame-with kind t (first_rows h.0 rows) (λ e. boxes-take h.0 (take (length rows - 1) rows) (boxes-take (length rows - 1) rows (b e)))
     ])
 
 -- memory was missing for some of the rows
-part-put : {E : Type 0} (t : AnyTable) (now : TreeTable) (rows : List Row) (error : E) → is_overfull t rows ≡ false → IsPart t.tree now rows → ImportsOr {E = E} t (Ok rows) (table_at t.dims now) (Err error)
-part-put t now rows error full h =
+part-put : {E : Type 0} (t : AnyTable) (now : TreeTable) (rows : List Row) (error : E) → (is_overfull t rows || has_none t.tree.table) ≡ false → IsPart t.tree now rows → ImportsOr {E = E} t (Ok rows) (table_at t.dims now) (Err error)
+part-put t now rows error none h =
     let front : first_rows h.part rows ≡ take h.part rows = take-take h.part (length rows - 1) rows (omega (arith, h.few)) in
-    (h.part, ap (table_at t.dims) h.state ∙ ap (λ x. table_with t x) (sym front) ∙ sym (ap (λ b. if b then t else table_with t (first_rows h.part rows)) full))
+    (h.part, ap (table_at t.dims) h.state ∙ ap (λ x. table_with t x) (sym front) ∙ sym (ap (λ b. if b then t else table_with t (first_rows h.part rows)) none))
 
--- or for the count of new points, where there is no room for them
-none-put-full : {E : Type 0} (t : AnyTable) (now : TreeTable) (rows : List Row) (error : E) → is_overfull t rows ≡ true → now ≡ t.tree → ImportsOr {E = E} t (Ok rows) (table_at t.dims now) (Err error)
-none-put-full t now rows error full same =
-    (0, ap (table_at t.dims) same ∙ sym (ap (λ b. if b then t else table_with t (first_rows 0 rows)) full))
+-- or before the first of them
+unput : {E : Type 0} (t : AnyTable) (now : TreeTable) (rows : List Row) (error : E) → (is_overfull t rows || has_none t.tree.table) ≡ true → now ≡ t.tree → ImportsOr {E = E} t (Ok rows) (table_at t.dims now) (Err error)
+unput t now rows error first same =
+    (0, ap (table_at t.dims) same ∙ sym (ap (λ b. if b then t else table_with t (first_rows 0 rows)) first))
 
-pub starved-put : {E : Type 0} (t : AnyTable) (now : TreeTable) (rows : List Row) (error : E) → (t.tree.max < length (put_all t.tree.width t.tree.table rows) → now ≡ t.tree) → IsPart t.tree now rows → ImportsOr {E = E} t (Ok rows) (table_at t.dims now) (Err error)
-starved-put t now rows error full part =
-    elim (cases_lt t.tree.max (length (put_all t.tree.width t.tree.table rows))) [
-      | inl h ↦ none-put-full t now rows error (lt-ltb _ _ h) (full h)
-      | inr h ↦ part-put t now rows error (le-ltb _ _ h) part
+-- a table has rows, or none
+some-or-none : (rows : List Row) → (rows ≡ []) ⊎ ((rows ≡ [] → ⊥) × (has_none rows ≡ false))
+some-or-none [] = inl refl
+some-or-none (r ∷ rows) = inr (λ e. cc, refl)
+
+either-true : (a : Bool) → (a || true) ≡ true
+either-true true = refl
+either-true false = refl
+
+none-behind : (a b : Bool) → a ≡ false → b ≡ false → (a || b) ≡ false
+none-behind a b h k = ap (λ x. x || b) h ∙ k
+
+pub starved-put : {E : Type 0} (t : AnyTable) (now : TreeTable) (rows : List Row) (error : E) → (t.tree.max < length (put_all t.tree.width t.tree.table rows) → now ≡ t.tree) → (t.tree.table ≡ [] → now ≡ t.tree) → ((t.tree.table ≡ [] → ⊥) → IsPart t.tree now rows) → ImportsOr {E = E} t (Ok rows) (table_at t.dims now) (Err error)
+starved-put t now rows error full empty part =
+    elim (some-or-none t.tree.table) [
+      | inl none ↦ unput t now rows error (ap (λ xs. is_overfull t rows || has_none xs) none ∙ either-true (is_overfull t rows)) (empty none)
+      | inr some ↦ elim (cases_lt t.tree.max (length (put_all t.tree.width t.tree.table rows))) [
+        | inl h ↦ unput t now rows error (ap (λ b. b || has_none t.tree.table) (lt-ltb _ _ h)) (full h)
+        | inr h ↦ part-put t now rows error (none-behind _ _ (le-ltb _ _ h) some.1) (part some.0)
+      ]
     ]
 
 -- ---- export

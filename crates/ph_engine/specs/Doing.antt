@@ -1,5 +1,5 @@
 -- What a command of the code does, by the definition of commands.
-use Rattle.std.specs.Prelude.{◌≡◌, ◌⊎◌, ◌<◌, ◌≤◌, ℕ, ◌+◌, ◌-◌, Bool, true, false, not, ◌&&◌, nat_lt, if◌then◌else◌, List, [], ◌∷◌, length, take, Option, Some, None, is_none, Result, Ok, Err}
+use Rattle.std.specs.Prelude.{◌≡◌, ◌⊎◌, ◌<◌, ◌≤◌, ℕ, ◌+◌, ◌-◌, Bool, true, false, not, ◌&&◌, ◌||◌, nat_lt, if◌then◌else◌, List, [], ◌∷◌, length, take, Option, Some, None, is_none, Result, Ok, Err}
 use Rattle.ph_io.specs.Giving.{Taken, Given}
 use Rattle.ph_specs.specs.Command.{Command}
 use Rattle.ph_specs.specs.Reply.{Reply, replies_text}
@@ -178,9 +178,14 @@ is_page _ = false
 abbrev pub cut_engine : Engine → Command → Engine → Engine
 cut_engine e command after = if is_page command then e else after
 
--- the rows that an import puts, if it has read them and the table may have them
+-- whether a table has no row
+abbrev pub has_none : List Row → Bool
+has_none [] = true
+has_none (r ∷ rows) = false
+
+-- the rows that an import puts one after another, if it has read them and the table has some and may have them too
 abbrev pub rows_put : Slot → Result (List Row) Reply → Option (List Row)
-rows_put s (Ok rows) = if nat_lt s.max (length (put_all s.width s.table rows)) then None else Some rows
+rows_put s (Ok rows) = if nat_lt s.max (length (put_all s.width s.table rows)) || has_none s.table then None else Some rows
 rows_put s (Err fault) = None
 
 abbrev pub imported : Slot → Files → Command → Option (List Row)
@@ -191,7 +196,7 @@ imported s files _ = None
 abbrev pub first_rows : ℕ → List Row → List Row
 first_rows n rows = take n (take (length rows - 1) rows)
 
--- the engine in which memory is missing: of an import that would be done some first rows are in, and not all
+-- the engine in which memory is missing: of an import into rows that would be done some first rows are in, and not all
 abbrev pub with_first : Engine → ℕ → Option (List Row) → Engine
 with_first e n (Some rows) = let s = current e in with_table e (put_all s.width s.table (first_rows n rows))
 with_first e n None = e

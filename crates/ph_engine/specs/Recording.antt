@@ -1,5 +1,5 @@
 -- What imports and exports do, before their replies are told.
-use Rattle.std.specs.Prelude.{◌≡◌, ℕ, Bool, nat_lt, if◌then◌else◌, List, length, Result, Ok, Err}
+use Rattle.std.specs.Prelude.{◌≡◌, ℕ, Bool, ◌||◌, nat_lt, if◌then◌else◌, List, length, Result, Ok, Err}
 use Rattle.ph_csv.specs.Faults.{IsFault}
 use Rattle.ph_csv.specs.declared.fault.CsvFault.{CsvFault}
 use Rattle.ph_csv.specs.declared.fault.CsvFault.TheVariants as csv
@@ -15,7 +15,8 @@ use Rattle.ph_script.specs.declared.reply.Reply.{Reply as Told}
 use Rattle.ph_script.specs.Meaning.{reply_of}
 use Rattle.ph_import.specs.Imported.{with_rows}
 use Rattle.ph_engine.specs.Beside.{Beside, with_changes}
-use Rattle.ph_engine.specs.Doing.{first_rows}
+use Rattle.ph_engine.specs.Doing.{first_rows, has_none}
+use Rattle.ph_engine.specs.Working.{import_bounds}
 use Rattle.ph_engine.specs.Drafting.{Shelf, Filled, Unfilled}
 use Rattle.ph_engine.specs.Filing.{Entered, Filed, FiledOr}
 use Rattle.ph_engine.specs.Slots.{AnyTable, table_at, slot_of, engine_of}
@@ -43,10 +44,17 @@ abbrev pub imported_reply : AnyTable → Result (List Row) Reply → Reply
 imported_reply t (Ok rows) = if is_overfull t rows then Reply.ErrorFull else Reply.Imported (length rows)
 imported_reply t (Err fault) = fault
 
--- the table with some first rows of those that were read, and not all of them, if the import would be done
+-- the table with some first rows of those that were read, and not all of them, if it has rows and the import would be done
 abbrev pub table_with_first : AnyTable → ℕ → Result (List Row) Reply → AnyTable
-table_with_first t part (Ok rows) = if is_overfull t rows then t else table_with t (first_rows part rows)
+table_with_first t part (Ok rows) = if is_overfull t rows || has_none t.tree.table then t else table_with t (first_rows part rows)
 table_with_first t part (Err fault) = t
+
+-- the bounds of an import
+abbrev pub import_visits : AnyTable → Result (List Row) Reply → ℕ
+import_visits t read = (import_bounds t.tree.width t.dims t.tree.table read).most_visits
+
+abbrev pub import_changes : AnyTable → Result (List Row) Reply → ℕ
+import_changes t read = (import_bounds t.tree.width t.dims t.tree.table read).most_changes
 
 -- the rows were put, or memory was missing for some of them
 abbrev pub ImportsOr : {E : Type 0} → AnyTable → Result (List Row) Reply → AnyTable → Result Told E → Type 0

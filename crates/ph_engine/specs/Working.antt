@@ -1,5 +1,5 @@
 -- The work of a command: bounds of the nodes that it visits and of the changes that it makes.
-use Rattle.std.specs.Prelude.{◌≤◌, ℕ, ◌+◌, ◌*◌, ◌/◌, Bool, not, ◌&&◌, if◌then◌else◌, List, [], ◌∷◌, length, ℤ, Option, Some, None}
+use Rattle.std.specs.Prelude.{◌≤◌, ℕ, ◌+◌, ◌*◌, ◌/◌, Bool, not, ◌&&◌, if◌then◌else◌, List, [], ◌∷◌, length, ℤ, Option, Some, None, Result, Ok, Err}
 use Rattle.ph_specs.specs.Command.{Command}
 use Rattle.ph_specs.specs.Reply.{Reply}
 use Rattle.ph_specs.specs.Table.{Row, has}
@@ -9,7 +9,8 @@ use Rattle.ph_specs.specs.Boxes.{overlaps_low, overlaps_high, inside_low, inside
 use Rattle.ph_specs.specs.Engine.{same_slots}
 use Rattle.ph_specs.specs.Named.{lookup}
 use Rattle.ph_specs.specs.Window.{Cursor}
-use Rattle.ph_specs.specs.Refusals.{refusal, bytes_of, read_length, import_rows}
+use Rattle.ph_specs.specs.Refusals.{refusal, bytes_of, import_rows}
+use Rattle.ph_import.specs.Imported.{most_visits, most_changes}
 use Rattle.ph_specs.specs.State.{Slot, Engine, Files, current}
 use Rattle.ph_engine.specs.Machine.{Work, one_if}
 
@@ -39,6 +40,11 @@ page_bounds s None = no_work
 abbrev pub window_bounds : Slot → List ℤ → List ℤ → Work
 window_bounds s lo hi = let n = length (meets s.width s.dims s.table lo hi) in work n n 0 0
 
+-- those of an import of rows that were read, or of their fault
+abbrev pub import_bounds : ℕ → ℕ → List Row → Result (List Row) Reply → Work
+import_bounds width dims table (Ok rows) = work (most_visits width table (length rows)) 0 (most_changes width dims table rows) 0
+import_bounds width dims table (Err fault) = no_work
+
 -- the nodes of a slot's tree
 abbrev pub nodes_of : Slot → ℕ
 nodes_of s = length (all_nodes s.width s.dims s.table)
@@ -58,7 +64,7 @@ bounds s files (Command.Covers q) = window_bounds s (covers_low s.width (low_cor
 bounds s files (Command.Page name n) = page_bounds s (lookup name s.cursors)
 bounds s files (Command.Save name) = let n = nodes_of s in work n n 0 0
 bounds s files (Command.Load name) = work 0 0 (length (bytes_of (lookup name files)) / 16) 0
-bounds s files (Command.Import name header) = let n = read_length (import_rows s files name header) in work (4 * s.width * n) 0 (2 * n) 0
+bounds s files (Command.Import name header) = import_bounds s.width s.dims s.table (import_rows s files name header)
 bounds s files (Command.Export name) = let n = nodes_of s in work n n 0 0
 bounds s files Command.Statistics = let n = nodes_of s in work n n 0 0
 bounds s files _ = no_work

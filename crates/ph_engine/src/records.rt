@@ -1,14 +1,13 @@
 //! Commands on files of records: rows as comma-separated fields, a line each.
-ghost use Rattle.std.specs.Prelude.{◌≡◌, ◌≤◌, ◌+◌, ◌*◌, true, length, Ok, OnOk};
+ghost use Rattle.std.specs.Prelude.{◌≡◌, ◌≤◌, ◌+◌, true, length, Ok, OnOk};
 ghost use Rattle.std.specs.List.{AllByRecursion as Each};
 ghost use Rattle.ph_specs.specs.Coordinate.{IsPoint};
 ghost use Rattle.ph_specs.specs.Window.{lowest, highest};
 ghost use Rattle.ph_specs.specs.Csv.{csv_rows, csv_line, csv_text};
-ghost use Rattle.ph_specs.specs.Refusals.{read_length};
 ghost use Rattle.ph_specs.specs.WorkSets.{all_nodes};
 ghost use Rattle.ph_script.specs.Meaning.{reply_of};
 ghost use Rattle.ph_engine.specs.Filing.{SameFrame};
-ghost use Rattle.ph_engine.specs.Recording.{AppendedOr, ExportedOr, ImportsOr, TableExported, TableImported, TellsRecord};
+ghost use Rattle.ph_engine.specs.Recording.{import_changes, import_visits, AppendedOr, ExportedOr, ImportsOr, TableExported, TableImported, TellsRecord};
 ghost use Rattle.ph_engine.specs.Slots.{any_table, table_at};
 ghost use Rattle.ph_engine.specs.Told.{aside_by, shelf_by};
 
@@ -17,7 +16,7 @@ use crate::status::Limits;
 use crate::trees::AnyTree;
 use ph_coord::{Kind, Point, Row, Width};
 use ph_csv::{CsvFault, read_rows, row_line};
-use ph_import::{ImportFault, put_rows};
+use ph_import::{ImportFault, import_rows};
 use ph_io::{Failed, Files};
 use ph_script::{FileName, Reply};
 use ph_steps::Steps;
@@ -65,12 +64,12 @@ pub(crate) fn import_text<const D: usize, V: Ledger, C: Ledger>(
     ensures imports { ImportsOr (table_at D tree.old) (csv_rows tree.old.width D kind header text.now) (table_at D tree.new) result }
     ensures frame { SameFrame kind (table_at D tree.old) (table_at D tree.new) }
     ensures later { visits.old ≤ visits.new }
-    ensures few { visits.new ≤ visits.old + 4 * tree.old.width * read_length (csv_rows tree.old.width D kind header text.now) }
+    ensures few { visits.new ≤ visits.old + import_visits (table_at D tree.old) (csv_rows tree.old.width D kind header text.now) }
     ensures kept { changes.old ≤ changes.new }
-    ensures changes { changes.new ≤ changes.old + 2 * read_length (csv_rows tree.old.width D kind header text.now) }
+    ensures changes { changes.new ≤ changes.old + import_changes (table_at D tree.old) (csv_rows tree.old.width D kind header text.now) }
 {
     match read_rows(alloc, text, tree.width(), kind, header) {
-        Ok(rows) => put_read(tree, alloc, rows.as_slice(), visits, changes),
+        Ok(rows) => put_read(tree, alloc, rows, visits, changes),
         Err(fault) => record_reply(fault),
     }
 }
@@ -79,19 +78,20 @@ pub(crate) fn import_text<const D: usize, V: Ledger, C: Ledger>(
 fn put_read<const D: usize, V: Ledger, C: Ledger>(
     tree: &mut PhTree<D>,
     alloc: Global,
-    rows: &[Row<D>],
+    rows: Vec<Row<D>>,
     visits: &mut Steps<V>,
     changes: &mut Steps<C>,
 ) -> Result<Reply, NoMemory>
-    requires { Each (λ r. IsPoint tree.old.width D r.point) rows.now }
-    ensures imports { ImportsOr (table_at D tree.old) (Ok rows.now) (table_at D tree.new) result }
+    requires { Each (λ r. IsPoint tree.old.width D r.point) rows.items }
+    ensures imports { ImportsOr (table_at D tree.old) (Ok rows.entry.items) (table_at D tree.new) result }
     ensures later { visits.old ≤ visits.new }
-    ensures few { visits.new ≤ visits.old + 4 * tree.old.width * length rows.now }
+    ensures few { visits.new ≤ visits.old + import_visits (table_at D tree.old) (Ok rows.entry.items) }
     ensures kept { changes.old ≤ changes.new }
-    ensures changes { changes.new ≤ changes.old + 2 * length rows.now }
+    ensures changes { changes.new ≤ changes.old + import_changes (table_at D tree.old) (Ok rows.entry.items) }
 {
-    match put_rows(alloc, tree, rows, visits, changes) {
-        Ok(()) => Ok(Reply::Imported(rows.len() as u64)),
+    let count = rows.len() as u64;
+    match import_rows(alloc, tree, rows, visits, changes) {
+        Ok(()) => Ok(Reply::Imported(count)),
         Err(ImportFault::Full) => Ok(Reply::ErrorFull),
         Err(ImportFault::NoMemory) => Err(NoMemory),
     }

@@ -18,7 +18,7 @@ ghost use Rattle.ph_snap.specs.Faults.{IsLoadFault};
 ghost use Rattle.ph_tree.specs.Stats.{stats_of};
 ghost use Rattle.ph_engine.specs.Doing.{Looked, Idled, ServedOr};
 ghost use Rattle.ph_engine.specs.Filing.{EnteredOr, SameFrame};
-ghost use Rattle.ph_engine.specs.Recording.{ExportedOr, ImportsOr, rows_for};
+ghost use Rattle.ph_engine.specs.Recording.{ExportedOr, ImportsOr, import_changes, import_visits, rows_for};
 ghost use Rattle.ph_engine.specs.Listing.{ListsWindow, ListsNear, ListsBall, ListsBoxes, ListsAnyPage, ListsSizes, node_count};
 ghost use Rattle.ph_engine.specs.Slots.{any_table, table_at, empty_table, cursor_of, cursor_dims, slot_of, IsCursorIn, IsOfKind};
 ghost use Rattle.ph_engine.specs.Comparing.{IsCompared};
@@ -302,9 +302,9 @@ impl AnyTree {
         ensures imports { ImportsOr (any_table self.old) (rows_for (any_table self.old) kind header text.now) (any_table self.new) result }
         ensures frame { SameFrame kind (any_table self.old) (any_table self.new) }
         ensures later { visits.old ≤ visits.new }
-        ensures few { visits.new ≤ visits.old + 4 * (any_table self.old).tree.width * read_length (rows_for (any_table self.old) kind header text.now) }
+        ensures few { visits.new ≤ visits.old + import_visits (any_table self.old) (rows_for (any_table self.old) kind header text.now) }
         ensures kept { changes.old ≤ changes.new }
-        ensures changes { changes.new ≤ changes.old + 2 * read_length (rows_for (any_table self.old) kind header text.now) }
+        ensures changes { changes.new ≤ changes.old + import_changes (any_table self.old) (rows_for (any_table self.old) kind header text.now) }
     {
         with_tree!(self, tree => import_text(tree, alloc, text, kind, header, visits, changes))
     }

@@ -1,12 +1,23 @@
 -- What a tree is after rows were put into it.
-use Rattle.std.specs.Prelude.{◌≡◌, ℕ, ◌<◌, List, length, take}
+use Rattle.std.specs.Prelude.{◌≡◌, ℕ, ◌*◌, ◌<◌, List, [], ◌∷◌, length, take}
 use Rattle.ph_specs.specs.Table.{Row}
-use Rattle.ph_specs.specs.Sets.{put_all}
+use Rattle.ph_specs.specs.Sets.{put_all, table_of}
+use Rattle.ph_specs.specs.WorkSets.{all_nodes}
 use Rattle.ph_tree.specs.Tree.{TreeTable}
 
 -- the same tree with all rows put, in their order
 abbrev pub with_rows : TreeTable → List Row → TreeTable
 with_rows t rows = record t { table = put_all t.width t.table rows }
+
+-- the most nodes that are visited to put so many rows into a table: none where it is empty
+abbrev pub most_visits : ℕ → List Row → ℕ → ℕ
+most_visits width [] n = 0
+most_visits width (r ∷ table) n = 4 * width * n
+
+-- the most changes: the nodes of the result where it is empty
+abbrev pub most_changes : ℕ → ℕ → List Row → List Row → ℕ
+most_changes width dims [] rows = length (all_nodes width dims (table_of width rows))
+most_changes width dims (r ∷ table) rows = 2 * length rows
 
 -- some first rows are put, and at least one is not
 pub record IsPart (before after : TreeTable) (rows : List Row) : Type 0 where

@@ -2,10 +2,12 @@
 #![tactic(auto)]
 
 mod fault;
+mod fills;
+mod imports;
 mod room;
 mod rows;
 #[cfg(test)]
 mod tests;
 
 pub use fault::ImportFault;
-pub use rows::put_rows;
+pub use imports::import_rows;

@@ -13,12 +13,12 @@ use ph_tree::{NoMemory, PhTree, PutError};
 use std::alloc::Global;
 use std::sync::ledger::Ledger;
 
-/// Puts rows into a tree, in their order: a later row at the same point replaces the value of an earlier one.
-///
-/// Before the first is put it is known that the tree has room for all of them. So `Full` leaves it as it was, and
-/// `NoMemory` leaves the rows in it that were put before memory was missing. Where the tree would have room for as many
-/// new points as there are rows, none is looked up before. Otherwise that takes memory for a set of the new points.
-pub fn put_rows<const D: usize, V: Ledger, C: Ledger>(
+// Puts rows into a tree, in their order: a later row at the same point replaces the value of an earlier one.
+//
+// Before the first is put it is known that the tree has room for all of them. So `Full` leaves it as it was, and
+// `NoMemory` leaves the rows in it that were put before memory was missing. Where the tree would have room for as many
+// new points as there are rows, none is looked up before. Otherwise that takes memory for a set of the new points.
+pub(crate) fn put_rows<const D: usize, V: Ledger, C: Ledger>(
     alloc: Global,
     tree: &mut PhTree<D>,
     rows: &[Row<D>],

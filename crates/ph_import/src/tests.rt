@@ -2,7 +2,8 @@
 ghost use Rattle.std.specs.Prelude.{◌≡◌, ◌<◌};
 ghost use Rattle.ph_specs.specs.Coordinate.{IsPoint};
 
-use crate::{ImportFault, put_rows};
+use crate::ImportFault;
+use crate::rows::put_rows;
 use ph_coord::{Point, Row, Width};
 use ph_steps::Steps;
 use ph_tree::PhTree;

@@ -81,8 +81,19 @@ fn all_builds<V: Ledger, C: Ledger>(
     builds::<1, 32, V, C>(rt, alloc, &CHOICES, &mut counters)?;
     builds::<2, 32, V, C>(rt, alloc, &CHOICES, &mut counters)?;
     builds::<3, 1, V, C>(rt, alloc, &BINARY, &mut counters)?;
+    builds::<4, 62, V, C>(rt, alloc, &WIDEST, &mut counters)?;
+    builds::<5, 32, V, C>(rt, alloc, &CHOICES, &mut counters)?;
+    builds::<6, 1, V, C>(rt, alloc, &BINARY, &mut counters)?;
+    builds::<7, 32, V, C>(rt, alloc, &CHOICES, &mut counters)?;
     builds::<8, 62, V, C>(rt, alloc, &WIDEST, &mut counters)?;
     builds::<8, 1, V, C>(rt, alloc, &BINARY, &mut counters)?;
+    builds::<9, 32, V, C>(rt, alloc, &CHOICES, &mut counters)?;
+    builds::<10, 32, V, C>(rt, alloc, &CHOICES, &mut counters)?;
+    builds::<11, 62, V, C>(rt, alloc, &WIDEST, &mut counters)?;
+    builds::<12, 1, V, C>(rt, alloc, &BINARY, &mut counters)?;
+    builds::<13, 32, V, C>(rt, alloc, &CHOICES, &mut counters)?;
+    builds::<14, 32, V, C>(rt, alloc, &CHOICES, &mut counters)?;
+    builds::<15, 32, V, C>(rt, alloc, &CHOICES, &mut counters)?;
     builds::<16, 32, V, C>(rt, alloc, &CHOICES, &mut counters)
 }
 

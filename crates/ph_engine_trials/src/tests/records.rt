@@ -14,6 +14,9 @@ const SORTED: &[u8] = b"-1205,-7704,3\n-18,-7848,6\n-3387,15121,5\n5151,-13,2\n4
 // Two points, or as boxes one that is reversed behind one that is not.
 const TWO: &[u8] = b"1,5,7\n9,2,8\n";
 
+// Three records, of which two are of one point.
+const TWICE: &[u8] = b"1,1,5\n0,0,6\n1,1,7\n";
+
 #[test]
 fn cities_by_csv(rt: HostRuntime) -> Result<(), Fail> {
     let script = "import cities.csv header\nexport out.csv\nnear 4800 700 2\nimport cities.csv\n";
@@ -35,6 +38,50 @@ fn reversed_csv_box(rt: HostRuntime) -> Result<(), Fail> {
     preset(&rt, &mut files, "b.csv", TWO);
     let case = run(script, output, Status::Refused);
     check_over(&rt, rt.alloc(), &case, &mut files)?;
+    Ok(())
+}
+
+// Into an empty slot, where one point stands twice: the tree is that of single puts.
+#[test]
+fn bulk_import(rt: HostRuntime) -> Result<(), Fail> {
+    let cases = [
+        (
+            "import dup.csv\nstats\nuse b\nput 1 1 7\nput 0 0 6\nsame\n",
+            "imported 3\nrows 2 nodes 2 linear 2 cube 0 words 7\nusing b\nnew\nnew\nsame\n",
+            Status::Clean,
+        ),
+        (
+            "open points 2 max 2\nimport dup.csv\nput 5 5 5\nclear\nimport dup.csv\nget 1 1\n",
+            "opened\nimported 3\nerror full\ncleared 2\nimported 3\nvalue 7\n",
+            Status::Refused,
+        ),
+        (
+            "import none.csv\ncount\n",
+            "imported 0\ncount 0\n",
+            Status::Clean,
+        ),
+    ];
+    for (script, output, status) in cases {
+        let mut files = files_failing(rt.alloc(), 0)?;
+        preset(&rt, &mut files, "dup.csv", TWICE);
+        preset(&rt, &mut files, "none.csv", b"");
+        check_over(&rt, rt.alloc(), &run(script, output, status), &mut files)?;
+    }
+    Ok(())
+}
+
+#[test]
+fn bulk_import_full(rt: HostRuntime) -> Result<(), Fail> {
+    let script = "open points 2 max 1\nimport dup.csv\ncount\n";
+    let output = "opened\nerror full\ncount 0\n";
+    let mut files = files_failing(rt.alloc(), 0)?;
+    preset(&rt, &mut files, "dup.csv", TWICE);
+    check_over(
+        &rt,
+        rt.alloc(),
+        &run(script, output, Status::Refused),
+        &mut files,
+    )?;
     Ok(())
 }
 

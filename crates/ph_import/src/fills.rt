@@ -1,0 +1,47 @@
+//! Rows into a tree that has none.
+ghost use Rattle.std.specs.Prelude.{◌≡◌, ◌+◌, ◌<◌, ◌≤◌, [], length, OnErr, OnOk, IsErr, IsErrOf};
+ghost use Rattle.std.specs.List.{AllByRecursion as Each};
+ghost use Rattle.ph_specs.specs.Coordinate.{IsPoint};
+ghost use Rattle.ph_specs.specs.Sets.{put_all, table_of};
+ghost use Rattle.ph_specs.specs.WorkSets.{all_nodes};
+ghost use Rattle.ph_import.specs.Imported.{with_rows};
+
+use crate::fault::ImportFault;
+use ph_bulk::{build, last_rows};
+use ph_coord::Row;
+use ph_steps::Steps;
+use ph_tree::PhTree;
+use std::alloc::Global;
+use std::sync::ledger::Ledger;
+
+// Puts rows into a tree that has none: the rows are sorted and each node is made once. That there are too many is told before the
+// first is made. After an error the tree is as it was.
+pub(crate) fn fill<const D: usize, C: Ledger>(
+    alloc: Global,
+    tree: &mut PhTree<D>,
+    rows: Vec<Row<D>>,
+    changes: &mut Steps<C>,
+) -> Result<(), ImportFault>
+    requires empty { tree.old.table ≡ [] }
+    requires points { Each (λ r. IsPoint tree.old.width D r.point) rows.items }
+    ensures ok { OnOk result (tree.new ≡ with_rows tree.old rows.entry.items) }
+    ensures full { IsErrOf result ImportFault.Full → tree.old.max < length (put_all tree.old.width tree.old.table rows.entry.items) }
+    ensures refused { tree.old.max < length (put_all tree.old.width tree.old.table rows.entry.items) → IsErr result }
+    ensures err { OnErr result (tree.new ≡ tree.old) }
+    ensures changes { changes.new ≤ changes.old + length (all_nodes tree.old.width D (table_of tree.old.width rows.entry.items)) }
+    ensures untouched { tree.old.max < length (put_all tree.old.width tree.old.table rows.entry.items) → changes.new ≡ changes.old }
+    ensures kept { changes.old ≤ changes.new }
+{
+    let w = tree.width();
+    let max = tree.max();
+    // A use that makes the number of dimensions known.
+    let _root = tree.root();
+    let last = last_rows(alloc, w, rows)?;
+    if last.len() as u64 > max {
+        return Err(ImportFault::Full);
+    }
+    let mut built = build(alloc, w, last.as_slice(), changes)?;
+    built.set_max(max);
+    *tree = built;
+    Ok(())
+}
