@@ -2,7 +2,6 @@
 ghost use Rattle.std.specs.Prelude.{◌≡◌, ◌≤◌, ◌+◌, true, length, Ok, OnOk};
 ghost use Rattle.std.specs.List.{AllByRecursion as Each};
 ghost use Rattle.ph_specs.specs.Coordinate.{IsPoint};
-ghost use Rattle.ph_specs.specs.Window.{lowest, highest};
 ghost use Rattle.ph_specs.specs.Csv.{csv_rows, csv_line, csv_text};
 ghost use Rattle.ph_specs.specs.WorkSets.{all_nodes};
 ghost use Rattle.ph_script.specs.Meaning.{reply_of};
@@ -14,7 +13,7 @@ ghost use Rattle.ph_engine.specs.Told.{aside_by, shelf_by};
 use crate::filing::fetch_reply;
 use crate::status::Limits;
 use crate::trees::AnyTree;
-use ph_coord::{Kind, Point, Row, Width};
+use ph_coord::{Kind, Row};
 use ph_csv::{CsvFault, read_rows, row_line};
 use ph_import::{ImportFault, import_rows};
 use ph_io::{Failed, Files};
@@ -160,40 +159,11 @@ fn append_rows<const D: usize, F: Files, V: Ledger>(
     ensures few { visits.new ≤ visits.old + length (all_nodes tree.now.width D tree.now.table) }
     ensures all { OnOk result (visits.new ≡ visits.old + length (all_nodes tree.now.width D tree.now.table)) }
 {
-    let mut window = all_rows(tree);
+    let mut window = Window::whole(tree);
     'rows: while let Some(row) = window.next(visits) {
         append_row(&row, files)?;
     }
     Ok(())
-}
-
-// The window of all rows of a tree.
-fn all_rows<const D: usize>(tree: &PhTree<D>) -> Window<'_, D>
-    requires { D ≤ 16 }
-    ensures rows { result.rows ≡ tree.now.table }
-    ensures visits { result.visits ≡ length (all_nodes tree.now.width D tree.now.table) }
-{
-    let w = tree.width();
-    // Uses that make known that the rows are those of a table, of a width from 1 to 62.
-    let _root = tree.root();
-    let _bits = w.bits();
-    Window::new(tree, least_corner(w), greatest_corner(w))
-}
-
-fn least_corner<const D: usize>(w: Width) -> Point<D>
-    requires { D ≤ 16 }
-    ensures value { result ≡ lowest w D }
-    ensures point { IsPoint w D result }
-{
-    Point::new([w.least(); D])
-}
-
-fn greatest_corner<const D: usize>(w: Width) -> Point<D>
-    requires { D ≤ 16 }
-    ensures value { result ≡ highest w D }
-    ensures point { IsPoint w D result }
-{
-    Point::new([w.greatest(); D])
 }
 
 // Appends the line of a row to the file that is begun.

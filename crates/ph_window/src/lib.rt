@@ -11,6 +11,7 @@ mod parting;
 mod resume;
 mod seek;
 mod walk;
+mod whole;
 mod window;
 
 pub use cursor::Cursor;

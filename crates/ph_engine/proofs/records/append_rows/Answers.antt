@@ -14,14 +14,14 @@ rows-preserved g c =
     }
 
 pub returns-in_err-append_row-clause-few : goal.returns-in_err-append_row-clause-few
-returns-in_err-append_row-clause-few g c = omega (arith, c.rows.invariant.cost, c.next.ensures.cost, c.all_rows-window.ensures.visits)
+returns-in_err-append_row-clause-few g c = omega (arith, c.rows.invariant.cost, c.next.ensures.cost, c.whole-window.ensures.visits)
 
 pub returns-clause-appended : goal.returns-clause-appended
 returns-clause-appended g c =
-    rw (← c.all_rows-window.ensures.rows) (all-written _ c.rows.window.rows _ _ c.rows.invariant.written (none-left c.rows.window.rows c.in_default.ensures.row))
+    rw (← c.whole-window.ensures.rows) (all-written _ c.rows.window.rows _ _ c.rows.invariant.written (none-left c.rows.window.rows c.in_default.ensures.row))
 
 pub returns-clause-few : goal.returns-clause-few
-returns-clause-few g c = omega (arith, c.rows.invariant.cost, c.next.ensures.cost, c.all_rows-window.ensures.visits)
+returns-clause-few g c = omega (arith, c.rows.invariant.cost, c.next.ensures.cost, c.whole-window.ensures.visits)
 
 pub returns-clause-all : goal.returns-clause-all
-returns-clause-all g c = omega (arith, c.rows.invariant.cost, c.next.ensures.cost, c.all_rows-window.ensures.visits, c.in_default.ensures.end refl)
+returns-clause-all g c = omega (arith, c.rows.invariant.cost, c.next.ensures.cost, c.whole-window.ensures.visits, c.in_default.ensures.end refl)

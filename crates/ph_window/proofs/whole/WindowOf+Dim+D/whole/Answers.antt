@@ -2,7 +2,7 @@ use Rattle.std.proofs.Common.{◌≡◌, arith, ap, length, ◌∙◌}
 use Rattle.ph_specs.specs.Window.{window, lowest, highest}
 use Rattle.ph_specs.proofs.laws.AllPoints.{whole-table, whole-nodes}
 use Rattle.ph_specs.specs.WorkSets.{meets}
-use Rattle.ph_engine.proofs.records.all_rows.Goals as goal
+use Rattle.ph_window.proofs.whole.WindowOf+Dim+D.whole.Goals as goal
 
 pub returns-clause-rows : goal.returns-clause-rows
 returns-clause-rows g c =

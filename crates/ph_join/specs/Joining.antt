@@ -1,0 +1,35 @@
+-- What a join has still to list.
+use Rattle.std.specs.Prelude.{◌≡◌, ℕ, ◌+◌, ◌*◌, ◌++◌, [], List, Option, Some, None}
+use Rattle.std.specs.List.{AllByRecursion}
+use Rattle.ph_specs.specs.Boxes.{AreBoxes}
+use Rattle.ph_specs.specs.Coordinate.{IsPoint}
+use Rattle.ph_specs.specs.Sets.{pairs}
+use Rattle.ph_specs.specs.Table.{Row}
+use Rattle.ph_specs.specs.WorkSets.{partner_visits}
+use Rattle.ph_tree.specs.Tree.{TreeTable}
+use Rattle.ph_window.specs.Window.{Listing}
+
+-- the pairs that are left, and how many nodes will be visited for them
+pub record Joining : Type 0 where
+  pub pairs : List (Row × Row)
+  pub visits : ℕ
+
+-- those of the row at hand, if there is one
+abbrev pub pairs_at : Option Joining → List (Row × Row)
+pairs_at None = []
+pairs_at (Some p) = p.pairs
+
+abbrev pub visits_at : Option Joining → ℕ
+visits_at None = 0
+visits_at (Some p) = p.visits
+
+-- and those of the rows behind it
+abbrev pub joining : ℕ → Option Joining → Listing → TreeTable → Joining
+joining d at firsts second =
+    record { pairs = pairs_at at ++ pairs firsts.rows second.table; visits = visits_at at + (firsts.visits + partner_visits second.width d second.table firsts.rows) }
+
+-- what a join keeps: each row that is left of the first table is a point of the width, and each of the second is a box
+pub record IsJoin (k d : ℕ) (firsts : List Row) (second : TreeTable) : Type 0 where
+  pub dims : k * 2 ≡ d
+  pub points : AllByRecursion (λ r. IsPoint second.width d r.point) firsts
+  pub boxes : AreBoxes second.table

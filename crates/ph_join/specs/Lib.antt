@@ -1,0 +1,2 @@
+-- What the clauses of joins cite.
+pub mod Joining

@@ -1,0 +1,10 @@
+//! The pairs of overlapping boxes of two trees, one after another.
+#![tactic(auto)]
+
+mod join;
+mod partners;
+mod seen;
+#[cfg(test)]
+mod tests;
+
+pub use join::{Join, JoinOf};

@@ -1,0 +1,5 @@
+//! Joins of small trees.
+
+mod boxes;
+mod known_pairs;
+mod random_pairs;
