@@ -52,7 +52,7 @@ fn bulk_import(rt: HostRuntime) -> Result<(), Fail> {
         ),
         (
             "open points 2 max 2\nimport dup.csv\nput 5 5 5\nclear\nimport dup.csv\nget 1 1\n",
-            "opened\nimported 3\nerror full\ncleared 2\nimported 3\nvalue 7\n",
+            "opened\nimported 3\nerror full\ncleared\nimported 3\nvalue 7\n",
             Status::Refused,
         ),
         (
