@@ -13,7 +13,7 @@ use Rattle.ph_io.proofs.Appending.{given_none}
 use Rattle.ph_specs.specs.Command.{Command}
 use Rattle.ph_specs.specs.Named.{Named, lookup, enter}
 use Rattle.ph_specs.specs.Reply.{Reply}
-use Rattle.ph_specs.specs.Refusals.{refusal, fetch, short_enough, bytes_of, refuse_if, refuse_if_bad, has_file_fault, is_full, table_read, read_length}
+use Rattle.ph_specs.specs.Refusals.{or_else, refusal, fetch, short_enough, bytes_of, refuse_if, refuse_if_bad, has_file_fault, is_full, table_read, read_length}
 use Rattle.ph_specs.specs.SavedTable.{read_snapshot}
 use Rattle.ph_specs.specs.Snapshot.{snap}
 use Rattle.ph_specs.specs.State.{Slot, Engine, Files, current, outcome}
@@ -26,10 +26,10 @@ use Rattle.ph_specs.specs.declared.Kind.TheVariants.{Points, Boxes}
 use Rattle.ph_script.specs.declared.reply.Reply.{Reply as Told}
 use Rattle.ph_script.specs.Meaning.{reply_of}
 use Rattle.ph_engine.specs.Beside.{aside, beside_sink, Filings, Tells, IsTold, StillTells}
-use Rattle.ph_engine.specs.Doing.{Begun, Does, DoneOr, Knows, ServedOr, Leads, MakesNodes, HoldsFound, file_read, rows_loaded, rows_read, is_page, cut_engine, starved_engine, takes_memory, uses_files}
+use Rattle.ph_engine.specs.Doing.{is_on_slot, Begun, Does, DoneOr, Knows, ServedOr, Leads, MakesNodes, HoldsFound, file_read, rows_loaded, rows_read, is_page, cut_engine, starved_engine, takes_memory, uses_files}
 use Rattle.ph_engine.specs.Drafting.{Shelf, Unfilled}
 use Rattle.ph_engine.specs.Filing.{Filed, Unfiled, FiledOr, Entered, LoadsNodes, LoadsOr, TellsUnfetched, read_table, read_reply}
-use Rattle.ph_engine.specs.Refusing.{or_else, early_refusal, late_refusal}
+use Rattle.ph_engine.specs.Refusing.{early_refusal, late_refusal}
 use Rattle.ph_engine.specs.Slots.{AnyTable, slot_of, engine_of}
 use Rattle.ph_engine.specs.Working.{work, work_of, engine_bounds, least_unless, IsAtMost, IsAtLeast}
 use Rattle.ph_engine.specs.Telling.{Tells as Says, ToldOr}
@@ -38,7 +38,7 @@ use Rattle.ph_engine.specs.declared.status.Stop.{Stop}
 use Rattle.ph_engine.specs.declared.status.Stop.TheVariants.{WriteFault, NoMemory}
 use Rattle.ph_engine.proofs.Commanded.{one-text, told-told}
 use Rattle.ph_engine.proofs.Plain.{IsPlain, does-at, least-at, most-at, wants-at}
-use Rattle.ph_engine.proofs.Refused.{refusal-parts}
+use Rattle.ph_engine.proofs.Refused.{refusal-parts, alone}
 
 -- ---- once the reply was given to a sink
 
@@ -92,10 +92,10 @@ module _ (most : ℕ) (e now : Engine) (command : Command) (told now_told : Opti
 
 -- ---- commands that ask for no file
 
-leaves-filings : (command : Command) (f : ℕ) → Filings (uses_files command) 0 f f
+pub leaves-filings : (command : Command) (f : ℕ) → Filings (uses_files command) 0 f f
 leaves-filings command f = record { told = inr (omega arith); later = omega arith; quiet = λ _. refl }
 
-filed-quietly : (most : ℕ) (e now : Engine) (command : Command) (reply : Reply) (told : Option Files) (f v now_v c now_c : ℕ) → Does e command now (reply ∷ []) → ((most : ℕ) (files : Files) (fault : Bool) → IsAtMost (work_of most e files fault command) v now_v c now_c) → ((most : ℕ) (files : Files) (fault : Bool) → IsAtLeast (work_of most e files fault command) v now_v c now_c) → ((files : Files) → MakesNodes (current e) files command c now_c) → Filed most e command (aside told f v c) (aside told f now_v now_c) now reply
+pub filed-quietly : (most : ℕ) (e now : Engine) (command : Command) (reply : Reply) (told : Option Files) (f v now_v c now_c : ℕ) → Does e command now (reply ∷ []) → ((most : ℕ) (files : Files) (fault : Bool) → IsAtMost (work_of most e files fault command) v now_v c now_c) → ((most : ℕ) (files : Files) (fault : Bool) → IsAtLeast (work_of most e files fault command) v now_v c now_c) → ((files : Files) → MakesNodes (current e) files command c now_c) → Filed most e command (aside told f v c) (aside told f now_v now_c) now reply
 filed-quietly most e now command reply told f v now_v c now_c does few enough made = record {
   fault = false;
   found = None;
@@ -154,6 +154,7 @@ still-told (Some old) now_told files s k = s ∙ ap Some k
 
 -- A command makes a file of these bytes and has this reply, is refused only where the files fail, and visits all nodes.
 pub record IsStore (command : Command) (name : List ℕ) (bytes : Slot → List ℕ) (reply : Slot → Reply) : Type 0 where
+  pub on_slot : is_on_slot command ≡ true
   pub uses : uses_files command ≡ true
   pub early : (s : Slot) → early_refusal s command ≡ None
   pub late : (most : ℕ) (s : Slot) (files : Files) (fault : Bool) → late_refusal most s files fault command ≡ refuse_if fault Reply.ErrorFile None
@@ -162,7 +163,7 @@ pub record IsStore (command : Command) (name : List ℕ) (bytes : Slot → List 
 
 module _ (command : Command) (name : List ℕ) (bytes : Slot → List ℕ) (reply : Slot → Reply) (k : IsStore command name bytes reply) where
   store-refusal : (most : ℕ) (s : Slot) (files : Files) (fault : Bool) → refusal most (engine_of s) files fault command ≡ refuse_if fault Reply.ErrorFile None
-  store-refusal most s files fault = refusal-parts most (engine_of s) files fault command ∙ ap (λ r. or_else r (late_refusal most s files fault command)) (k.early s) ∙ k.late most s files fault
+  store-refusal most s files fault = refusal-parts most (engine_of s) files fault command k.on_slot ∙ ap (λ r. or_else r (late_refusal most s files fault command)) (k.early s) ∙ k.late most s files fault
 
   store-does : (most : ℕ) (s : Slot) (files : Files) → act most (engine_of s) files false command ≡ outcome (engine_of s) (enter name (bytes s) files) (reply s ∷ [])
   store-does most s files = ap (λ r. unless_refused r (engine_of s) files command) (store-refusal most s files false) ∙ k.makes s files
@@ -207,6 +208,7 @@ module _ (command : Command) (name : List ℕ) (bytes : Slot → List ℕ) (repl
 
 store-save : (name : List ℕ) → IsStore (Command.Save name) name (λ s. snap s.kind s.dims s.width s.table) (λ s. Reply.Saved (length (snap s.kind s.dims s.width s.table)))
 store-save name = record {
+  on_slot = refl;
   uses = refl;
   early = λ s. by-kind s.kind s.width s.dims s.max s.table s.cursors;
   late = λ most s files fault. refl;
@@ -229,6 +231,7 @@ module _ (most : ℕ) (s : Slot) (name : List ℕ) (before now : Shelf) (v now_v
 
 -- A command reads a file, is refused for no cause before that, and may do nothing. Where memory is missing for the file, the engine stays.
 pub record IsFetch (command : Command) (name : List ℕ) : Type 0 where
+  pub on_slot : is_on_slot command ≡ true
   pub reads : file_read command ≡ Some name
   pub uses : uses_files command ≡ true
   pub early : (s : Slot) → early_refusal s command ≡ None
@@ -263,7 +266,7 @@ module _ (command : Command) (name : List ℕ) (k : IsFetch command name) where
 
   fetch-refusal : (most : ℕ) (s : Slot) (files : Files) (fault : Bool) → refusal most (engine_of s) files fault command ≡ refuse_if (fault || is_none (fetch most files name)) Reply.ErrorFile (rest_refusal s files)
   fetch-refusal most s files fault =
-      refusal-parts most (engine_of s) files fault command ∙ ap (λ r. or_else r (late_refusal most s files fault command)) (k.early s)
+      refusal-parts most (engine_of s) files fault command k.on_slot ∙ ap (λ r. or_else r (late_refusal most s files fault command)) (k.early s)
       ∙ ap (λ b. refuse_if b Reply.ErrorFile (rest_refusal s files)) (k.faulty most files fault)
 
   none-fetched : (most : ℕ) (s : Slot) (files : Files) (fault : Bool) → (fault || is_none (fetch most files name)) ≡ true → act most (engine_of s) files fault command ≡ outcome (engine_of s) files (Reply.ErrorFile ∷ [])
@@ -366,7 +369,7 @@ module _ (command : Command) (name : List ℕ) (k : IsFetch command name) where
       part = part;
       state = is;
       kept = λ files x. still-told told now_told files st x;
-      wanted = rw (k.early s) (k.takes s);
+      wanted = rw ((alone (engine_of s) command k.on_slot).1, k.early s) (k.takes s);
       most_work = few;
     }
 
@@ -384,6 +387,7 @@ module _ (command : Command) (name : List ℕ) (k : IsFetch command name) where
 
 pub fetch-load : (name : List ℕ) → IsFetch (Command.Load name) name
 fetch-load name = record {
+  on_slot = refl;
   reads = refl;
   uses = refl;
   early = λ s. by-kind s.kind s.width s.dims s.max s.table s.cursors;

@@ -30,6 +30,8 @@ all-tried (by.Export file) h n1 n2 n3 n4 n5 = absurd cc
 all-tried by.Stats h n1 n2 n3 n4 n5 = absurd cc
 all-tried (by.Select which) h n1 n2 n3 n4 n5 = absurd cc
 all-tried by.Same h n1 n2 n3 n4 n5 = absurd cc
+all-tried by.Join h n1 n2 n3 n4 n5 = absurd cc
+all-tried (by.Combine operation) h n1 n2 n3 n4 n5 = absurd cc
 
 pub all-sure : (c : Command) → is_sure (command_of c) ≡ true → ((kind : Kind) (k : ℕ) (width : ℕ) (max : ℕ) → c ≡ by.Begin kind k width max → ⊥) → ((at : List Coord) → c ≡ by.Get at → ⊥) → (c ≡ by.Count → ⊥) → (c ≡ by.Clear → ⊥) → ((name : List ℕ) (lo : List Coord) (hi : List Coord) → c ≡ by.Cursor name lo hi → ⊥) → ((file : List ℕ) → c ≡ by.Save file → ⊥) → ((file : List ℕ) → c ≡ by.Export file → ⊥) → ⊥
 all-sure (by.Begin kind k width max) h n1 n2 n3 n4 n5 n6 n7 = n1 kind k width max refl
@@ -54,6 +56,8 @@ all-sure (by.Export file) h n1 n2 n3 n4 n5 n6 n7 = n7 file refl
 all-sure by.Stats h n1 n2 n3 n4 n5 n6 n7 = absurd cc
 all-sure (by.Select which) h n1 n2 n3 n4 n5 n6 n7 = absurd cc
 all-sure by.Same h n1 n2 n3 n4 n5 n6 n7 = absurd cc
+all-sure by.Join h n1 n2 n3 n4 n5 n6 n7 = absurd cc
+all-sure (by.Combine operation) h n1 n2 n3 n4 n5 n6 n7 = absurd cc
 
 pub all-lists : (c : Command) → is_listed (command_of c) ≡ true → ((lo : List Coord) (hi : List Coord) → c ≡ by.Window lo hi → ⊥) → ((name : List ℕ) (count : ℕ) → c ≡ by.Page name count → ⊥) → ((q : List Coord) (count : ℕ) → c ≡ by.Near q count → ⊥) → ((q : List Coord) (r : ℕ) → c ≡ by.Within q r → ⊥) → ((bounds : List Coord) → c ≡ by.Overlap bounds → ⊥) → ((bounds : List Coord) → c ≡ by.Inside bounds → ⊥) → ((bounds : List Coord) → c ≡ by.Covers bounds → ⊥) → (c ≡ by.Stats → ⊥) → ⊥
 all-lists (by.Begin kind k width max) h n1 n2 n3 n4 n5 n6 n7 n8 = absurd cc
@@ -78,3 +82,5 @@ all-lists (by.Export file) h n1 n2 n3 n4 n5 n6 n7 n8 = absurd cc
 all-lists by.Stats h n1 n2 n3 n4 n5 n6 n7 n8 = n8 refl
 all-lists (by.Select which) h n1 n2 n3 n4 n5 n6 n7 n8 = absurd cc
 all-lists by.Same h n1 n2 n3 n4 n5 n6 n7 n8 = absurd cc
+all-lists by.Join h n1 n2 n3 n4 n5 n6 n7 n8 = absurd cc
+all-lists (by.Combine operation) h n1 n2 n3 n4 n5 n6 n7 n8 = absurd cc

@@ -27,8 +27,9 @@ pub mod Checked
 pub mod Soaks
 pub mod Ends
 pub mod Slotted
-pub mod Recorded
 pub mod Paged
 pub mod Lifted
+pub mod Pairings
+pub mod Recorded
 pub mod Groups
 mod Fields

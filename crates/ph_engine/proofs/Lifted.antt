@@ -1,6 +1,6 @@
 -- A command on a slot does the same whatever the other slot is.
 use Rattle.std.proofs.Common.{◌≡◌, ℕ, Bool, true, false, List, [], ◌∷◌, refl, ap, sym, subst, ◌∙◌}
-use Rattle.std.specs.Prelude.{Option, Some, None, Result, Ok, Err, if◌then◌else◌}
+use Rattle.std.specs.Prelude.{Option, Some, None, Result, Ok, Err, ◌&&◌, if◌then◌else◌}
 use Rattle.ph_specs.specs.Command.{Command}
 use Rattle.ph_specs.specs.Reply.{Reply}
 use Rattle.ph_specs.specs.Table.{Row}
@@ -8,16 +8,18 @@ use Rattle.ph_specs.specs.Window.{Cursor}
 use Rattle.ph_specs.specs.Named.{lookup}
 use Rattle.ph_specs.specs.declared.Which.TheVariants.{A, B}
 use Rattle.ph_specs.specs.declared.Which.{Which}
+use Rattle.ph_specs.specs.declared.SetOperation.{SetOperation}
 use Rattle.ph_specs.specs.State.{Slot, Engine, Files, Outcome, current, with_slot, slot_at, put_slot, outcome}
-use Rattle.ph_specs.specs.Refusals.{refusal, table_read, import_rows}
+use Rattle.ph_specs.specs.Refusals.{refusal, slot_refusal, or_else, table_read, import_rows}
 use Rattle.ph_specs.specs.Engine.{act, effect, unless_refused, page_outcome, load_outcome, import_outcome}
 use Rattle.ph_script.specs.declared.command.Command.{Command as Written}
 use Rattle.ph_script.specs.declared.command.Command.TheVariants as by
 use Rattle.ph_script.specs.Meaning.{command_of}
 use Rattle.ph_engine.specs.Beside.{Beside}
-use Rattle.ph_engine.specs.Doing.{Leads, DoneOr, is_on_slot, is_page, imported, with_first}
+use Rattle.ph_engine.specs.Doing.{Leads, DoneOr, is_on_slot, is_page, imported, slot_wants, with_first}
 use Rattle.ph_engine.specs.Slots.{engine_of}
 use Rattle.ph_engine.specs.Working.{work, work_of, engine_bounds, least_unless, IsAtMost, IsAtLeast}
+use Rattle.ph_engine.proofs.Refused.{alone}
 use Rattle.ph_engine.specs.declared.status.Answer.{Answer}
 use Rattle.ph_engine.specs.declared.status.Stop.{Stop}
 use Rattle.ph_engine.specs.declared.status.Stop.TheVariants.{WriteFault, NoMemory}
@@ -30,7 +32,7 @@ put-same : (which : Which) (e : Engine) → put_slot which e (slot_at which e) �
 put-same A e = refl
 put-same B e = refl
 
-same : (e : Engine) → with_slot e (current e) ≡ e
+pub same : (e : Engine) → with_slot e (current e) ≡ e
 same e = put-same e.current e
 
 stays : (e : Engine) (files : Files) (replies : List Reply) → outcome e files replies ≡ lift e (outcome (engine_of (current e)) files replies)
@@ -71,13 +73,20 @@ effect-lifted e files (Command.Export name) h = stays e _ _
 effect-lifted e files Command.Statistics h = stays e files _
 effect-lifted e files (Command.Select which) h = absurd cc
 effect-lifted e files Command.Compare h = absurd cc
+effect-lifted e files Command.Join h = absurd cc
+effect-lifted e files (Command.Combine operation) h = absurd cc
 
 unless-lifted : (r : Option Reply) (e : Engine) (files : Files) (cmd : Command) → is_on_slot cmd ≡ true → unless_refused r e files cmd ≡ lift e (unless_refused r (engine_of (current e)) files cmd)
 unless-lifted (Some r) e files cmd h = stays e files (r ∷ [])
 unless-lifted None e files cmd h = effect-lifted e files cmd h
 
+refusal-lifted : (most : ℕ) (e : Engine) (files : Files) (fault : Bool) (cmd : Command) → is_on_slot cmd ≡ true → refusal most e files fault cmd ≡ refusal most (engine_of (current e)) files fault cmd
+refusal-lifted most e files fault cmd h =
+    ap (λ r. or_else r (slot_refusal most (current e) files fault cmd)) ((alone e cmd h).0 ∙ sym (alone (engine_of (current e)) cmd h).0)
+
 pub act-lifted : (most : ℕ) (e : Engine) (files : Files) (fault : Bool) (cmd : Command) → is_on_slot cmd ≡ true → act most e files fault cmd ≡ lift e (act most (engine_of (current e)) files fault cmd)
-act-lifted most e files fault cmd h = unless-lifted (refusal most e files fault cmd) e files cmd h
+act-lifted most e files fault cmd h =
+    ap (λ r. unless_refused r e files cmd) (refusal-lifted most e files fault cmd h) ∙ unless-lifted (refusal most (engine_of (current e)) files fault cmd) e files cmd h
 
 -- ---- its work
 
@@ -104,11 +113,15 @@ bounds-lifted e files (Command.Export name) h = refl
 bounds-lifted e files Command.Statistics h = refl
 bounds-lifted e files (Command.Select which) h = refl
 bounds-lifted e files Command.Compare h = absurd cc
+bounds-lifted e files Command.Join h = absurd cc
+bounds-lifted e files (Command.Combine operation) h = absurd cc
 
 work-lifted : (most : ℕ) (e : Engine) (files : Files) (fault : Bool) (cmd : Command) → is_on_slot cmd ≡ true → work_of most e files fault cmd ≡ work_of most (engine_of (current e)) files fault cmd
 work-lifted most e files fault cmd h =
-    let r = refusal most e files fault cmd in
-    ap (λ w. work w.most_visits (least_unless r w.least_visits) w.most_changes (least_unless r w.least_changes)) (bounds-lifted e files cmd h)
+    (λ i.
+    let r = refusal-lifted most e files fault cmd h i in
+    let w = bounds-lifted e files cmd h i in
+    work w.most_visits (least_unless r w.least_visits) w.most_changes (least_unless r w.least_changes))
 
 -- ---- what a command of the code answers
 
@@ -161,34 +174,36 @@ done-lifted most e s cmd b now_b (Err NoMemory) h d = record {
   state = λ files k. ap (λ x. with_slot e (current x)) (d.state files k) ∙ first-lifted e d.part (imported (current e) files cmd);
   files = d.files;
   told = d.told;
-  wanted = d.wanted;
+  wanted = ap (λ t. t && slot_wants (current e) cmd) ((alone e cmd h).1 ∙ sym (alone (engine_of (current e)) cmd h).1) ∙ d.wanted;
   most_work = λ files k. subst (λ w. IsAtMost w b.visits now_b.visits b.changes now_b.changes) (sym (work-lifted most e files d.fault cmd h)) (d.most_work files k);
 }
 
--- the commands of the code but two are on a slot
-pub on-slot : (c : Written) → ((which : Which) → c ≡ by.Select which → ⊥) → (c ≡ by.Same → ⊥) → is_on_slot (command_of c) ≡ true
-on-slot (by.Begin kind k width max) n m = refl
-on-slot (by.Put at value) n m = refl
-on-slot (by.Get at) n m = refl
-on-slot (by.Del at) n m = refl
-on-slot (by.Relocate from to) n m = refl
-on-slot by.Count n m = refl
-on-slot by.Clear n m = refl
-on-slot (by.Window lo hi) n m = refl
-on-slot (by.Cursor name lo hi) n m = refl
-on-slot (by.Page name count) n m = refl
-on-slot (by.Near q count) n m = refl
-on-slot (by.Within q r) n m = refl
-on-slot (by.Overlap bounds) n m = refl
-on-slot (by.Inside bounds) n m = refl
-on-slot (by.Covers bounds) n m = refl
-on-slot (by.Save file) n m = refl
-on-slot (by.Load file) n m = refl
-on-slot (by.Import file header) n m = refl
-on-slot (by.Export file) n m = refl
-on-slot by.Stats n m = refl
-on-slot (by.Select which) n m = absurd (n which refl)
-on-slot by.Same n m = absurd (m refl)
+-- the commands of the code but four are on a slot
+pub on-slot : (c : Written) → ((which : Which) → c ≡ by.Select which → ⊥) → (c ≡ by.Same → ⊥) → (c ≡ by.Join → ⊥) → ((operation : SetOperation) → c ≡ by.Combine operation → ⊥) → is_on_slot (command_of c) ≡ true
+on-slot (by.Begin kind k width max) n m o p = refl
+on-slot (by.Put at value) n m o p = refl
+on-slot (by.Get at) n m o p = refl
+on-slot (by.Del at) n m o p = refl
+on-slot (by.Relocate from to) n m o p = refl
+on-slot by.Count n m o p = refl
+on-slot by.Clear n m o p = refl
+on-slot (by.Window lo hi) n m o p = refl
+on-slot (by.Cursor name lo hi) n m o p = refl
+on-slot (by.Page name count) n m o p = refl
+on-slot (by.Near q count) n m o p = refl
+on-slot (by.Within q r) n m o p = refl
+on-slot (by.Overlap bounds) n m o p = refl
+on-slot (by.Inside bounds) n m o p = refl
+on-slot (by.Covers bounds) n m o p = refl
+on-slot (by.Save file) n m o p = refl
+on-slot (by.Load file) n m o p = refl
+on-slot (by.Import file header) n m o p = refl
+on-slot (by.Export file) n m o p = refl
+on-slot by.Stats n m o p = refl
+on-slot (by.Select which) n m o p = absurd (n which refl)
+on-slot by.Same n m o p = absurd (m refl)
+on-slot by.Join n m o p = absurd (o refl)
+on-slot (by.Combine operation) n m o p = absurd (p operation refl)
 
 -- the same by the fields of the code's engine
 pub done-at-a : (most : ℕ) (e : Engine) (a b s : Slot) (which : Which) (cmd : Command) (d now_d : Beside) (result : Result Answer Stop) → record { a = a; b = b; current = which } ≡ e → which ≡ A → is_on_slot cmd ≡ true → DoneOr most (engine_of a) cmd d now_d (engine_of s) result → DoneOr most e cmd d now_d (record { a = s; b = b; current = which }) result

@@ -11,11 +11,12 @@ use Rattle.ph_specs.specs.Engine.{effect, unless_refused, page_outcome, listing,
 use Rattle.ph_specs.specs.Distance.{distance, near}
 use Rattle.ph_specs.specs.Named.{Named, lookup, enter, has_name}
 use Rattle.ph_specs.specs.Reply.{Reply, reply_text, replies_text}
-use Rattle.ph_specs.specs.State.{Slot, Files, outcome}
+use Rattle.ph_specs.specs.Refusals.{refusal}
+use Rattle.ph_specs.specs.State.{Engine, Slot, Files, outcome}
 use Rattle.ph_specs.specs.Table.{Row}
 use Rattle.ph_specs.specs.Window.{Cursor, next_cursor, page, has_more}
 use Rattle.ph_engine.specs.Beside.{beside_sink}
-use Rattle.ph_engine.specs.Doing.{Begun, Does, DoneOr, DoneWith, is_page}
+use Rattle.ph_engine.specs.Doing.{is_on_slot, Begun, Does, DoneOr, DoneWith, is_page}
 use Rattle.ph_engine.specs.Listing.{Lists, ListsNear, reached, FrontListed, PageListed, page_replies, met}
 use Rattle.ph_engine.specs.Machine.{is_refusal}
 use Rattle.ph_engine.specs.Refusing.{early_refusal, late_refusal}
@@ -59,9 +60,9 @@ pub cursor-begun : (s : Slot) (name : List ℕ) (lo hi : List ℤ) (cursors : Na
 cursor-begun s name lo hi cursors h e =
     let command = Command.Cursor name lo hi in
     record {
-      does = λ most files fault. ap (λ r. unless_refused r (engine_of s) files command) (unrefused most s files fault command h refl) ∙ ap (λ x. outcome (engine_of (record s { cursors = x })) files (Reply.Ready ∷ [])) (sym e);
+      does = λ most files fault. ap (λ r. unless_refused r (engine_of s) files command) (unrefused most s files fault command refl h refl) ∙ ap (λ x. outcome (engine_of (record s { cursors = x })) files (Reply.Ready ∷ [])) (sym e);
       most = λ visits changes most files fault. record { few_visits = omega arith; few_changes = omega arith };
-      least = λ visits changes most files fault. rw (unrefused most s files fault command h refl) (record { enough_visits = omega arith; enough_changes = omega arith });
+      least = λ visits changes most files fault. rw (unrefused most s files fault command refl h refl) (record { enough_visits = omega arith; enough_changes = omega arith });
     }
 
 -- ---- a page
@@ -96,7 +97,7 @@ page-does : (kind : Kind) (t : AnyTable) (cursors after : Named Cursor) (name : 
 page-does kind t cursors after name n c h there e most files fault =
     let s = slot_of kind t cursors in
     let command = Command.Page name n in
-    ap (λ r. unless_refused r (engine_of s) files command) (unrefused most s files fault command h refl)
+    ap (λ r. unless_refused r (engine_of s) files command) (unrefused most s files fault command refl h refl)
     ∙ ap (page_outcome (engine_of s) files name n) there
     ∙ ap (λ x. outcome (engine_of (slot_of kind t x)) files (page_replies t c n)) (sym e)
 
@@ -107,7 +108,7 @@ page-done kind t cursors after name n c behind sink now_sink v now_v h there e l
     let command = Command.Page name n in
     let rows = page t.tree.width c n t.tree.table in
     record {
-      done = λ most files filings changes. done-all most (engine_of s) (engine_of (slot_of kind t after)) (engine_of (slot_of kind t after)) command (page_replies t c n) (beside_sink sink files filings v changes) (beside_sink now_sink files filings now_v changes) (Ok Good) (record { files = refl; filings = refl }) refl refl tt (page-does kind t cursors after name n c h there (e ∙ ap (λ x. enter name x cursors) listed.next)) (λ most files fault. rw there (record { few_visits = listed.visited; few_changes = omega arith })) (λ most files fault. rw (unrefused most s files fault command h refl, there) (record { enough_visits = omega (arith, listed.grows); enough_changes = omega arith })) (sym (good-rows rows (has_more t.tree.width c n t.tree.table) (length rows))) listed.told tt tt;
+      done = λ most files filings changes. done-all most (engine_of s) (engine_of (slot_of kind t after)) (engine_of (slot_of kind t after)) command (page_replies t c n) (beside_sink sink files filings v changes) (beside_sink now_sink files filings now_v changes) (Ok Good) (record { files = refl; filings = refl }) refl refl tt (page-does kind t cursors after name n c h there (e ∙ ap (λ x. enter name x cursors) listed.next)) (λ most files fault. rw there (record { few_visits = listed.visited; few_changes = omega arith })) (λ most files fault. rw (unrefused most s files fault command refl h refl, there) (record { enough_visits = omega (arith, listed.grows); enough_changes = omega arith })) (sym (good-rows rows (has_more t.tree.width c n t.tree.table) (length rows))) listed.told tt tt;
     }
 
 -- a page in which a write failed
@@ -121,22 +122,27 @@ page-stopped kind t cursors name n c sink now_sink v now_v stop h there listed =
 
 -- ---- listings
 
--- a command that lists what it found, and is not refused
-module _ (s : Slot) (command : Command) (replies : List Reply) (least most_visits : ℕ) (sink now_sink : Taken) (files : Option Files) (filings v now_v changes : ℕ) (h : early_refusal s command ≡ None) (late : (most : ℕ) (files : Files) (fault : Bool) → late_refusal most s files fault command ≡ None) (e : (files : Files) → effect (engine_of s) files command ≡ outcome (engine_of s) files replies) (w : (files : Files) → engine_bounds (engine_of s) files command ≡ work most_visits least 0 0) where
-  does : Does (engine_of s) command (engine_of s) replies
-  does most files fault = ap (λ r. unless_refused r (engine_of s) files command) (unrefused most s files fault command h (late most files fault)) ∙ e files
+-- a command that lists what it found in an engine, and is not refused
+module _ (e : Engine) (command : Command) (replies : List Reply) (least most_visits : ℕ) (sink now_sink : Taken) (files : Option Files) (filings v now_v changes : ℕ) (h : (most : ℕ) (files : Files) (fault : Bool) → refusal most e files fault command ≡ None) (is : (files : Files) → effect e files command ≡ outcome e files replies) (w : (files : Files) → engine_bounds e files command ≡ work most_visits least 0 0) where
+  does : Does e command e replies
+  does most files fault = ap (λ r. unless_refused r e files command) (h most files fault) ∙ is files
 
-  most-of : now_v ≤ v + most_visits → Most (engine_of s) command (beside_sink sink files filings v changes) (beside_sink now_sink files filings now_v changes)
+  most-of : now_v ≤ v + most_visits → Most e command (beside_sink sink files filings v changes) (beside_sink now_sink files filings now_v changes)
   most-of few most files fault = rw (w files) (record { few_visits = few; few_changes = omega arith })
 
-  pub listing-done : (most : ℕ) (result : Result Answer Stop) → is_page command ≡ false → is_refusal (replies_text replies) ≡ false → Lists replies least most_visits sink now_sink v now_v result → DoneOr most (engine_of s) command (beside_sink sink files filings v changes) (beside_sink now_sink files filings now_v changes) (engine_of s) result
-  listing-done most (Ok answer) page good listed =
-      done-all most (engine_of s) (engine_of s) (engine_of s) command replies (beside_sink sink files filings v changes) (beside_sink now_sink files filings now_v changes) (Ok answer) (record { files = refl; filings = refl }) refl refl tt does (most-of listed.few)
-      (λ most files fault. rw (unrefused most s files fault command h (late most files fault), w files) (record { enough_visits = listed.enough; enough_changes = omega arith }))
+  pub listing-beside : (most : ℕ) (result : Result Answer Stop) → is_page command ≡ false → is_refusal (replies_text replies) ≡ false → Lists replies least most_visits sink now_sink v now_v result → DoneOr most e command (beside_sink sink files filings v changes) (beside_sink now_sink files filings now_v changes) e result
+  listing-beside most (Ok answer) page good listed =
+      done-all most e e e command replies (beside_sink sink files filings v changes) (beside_sink now_sink files filings now_v changes) (Ok answer) (record { files = refl; filings = refl }) refl refl tt does (most-of listed.few)
+      (λ most files fault. rw (h most files fault, w files) (record { enough_visits = listed.enough; enough_changes = omega arith }))
       (rw listed.good (sym good)) listed.told tt tt
-  listing-done most (Err stop) page good listed =
-      done-all most (engine_of s) (engine_of s) (engine_of s) command replies (beside_sink sink files filings v changes) (beside_sink now_sink files filings now_v changes) (Err stop) (record { files = refl; filings = refl }) refl tt (rw page refl) does (most-of listed.visited)
+  listing-beside most (Err stop) page good listed =
+      done-all most e e e command replies (beside_sink sink files filings v changes) (beside_sink now_sink files filings now_v changes) (Err stop) (record { files = refl; filings = refl }) refl tt (rw page refl) does (most-of listed.visited)
       tt tt tt listed.fault listed.front
+
+-- the same on a slot
+pub listing-done : (s : Slot) (command : Command) (replies : List Reply) (least most_visits : ℕ) (sink now_sink : Taken) (files : Option Files) (filings v now_v changes : ℕ) → early_refusal s command ≡ None → is_on_slot command ≡ true → ((most : ℕ) (files : Files) (fault : Bool) → late_refusal most s files fault command ≡ None) → ((files : Files) → effect (engine_of s) files command ≡ outcome (engine_of s) files replies) → ((files : Files) → engine_bounds (engine_of s) files command ≡ work most_visits least 0 0) → (most : ℕ) (result : Result Answer Stop) → is_page command ≡ false → is_refusal (replies_text replies) ≡ false → Lists replies least most_visits sink now_sink v now_v result → DoneOr most (engine_of s) command (beside_sink sink files filings v changes) (beside_sink now_sink files filings now_v changes) (engine_of s) result
+listing-done s command replies least most_visits sink now_sink files filings v now_v changes h on late is w most result page good listed =
+    listing-beside (engine_of s) command replies least most_visits sink now_sink files filings v now_v changes (λ most files fault. unrefused most s files fault command on h (late most files fault)) is w most result page good listed
 
 pub rows-good : (rows : List Row) → is_refusal (replies_text (listing rows)) ≡ false
 rows-good rows = good-rows rows false (length rows)
@@ -153,9 +159,9 @@ hits-good q (r ∷ rows) = good-hit (distance r.point q) r (replies_text (hit_li
 -- the nearest rows, or where memory was missing for them
 pub near-done : (most : ℕ) (kind : Kind) (t : AnyTable) (cursors : Named Cursor) (q : List ℤ) (n : ℕ) (sink now_sink : Taken) (files : Option Files) (filings v now_v changes : ℕ) (result : Result Answer Stop) → early_refusal (slot_of kind t cursors) (Command.Near q n) ≡ None → ListsNear t q n sink now_sink v now_v result → DoneOr most (engine_of (slot_of kind t cursors)) (Command.Near q n) (beside_sink sink files filings v changes) (beside_sink now_sink files filings now_v changes) (engine_of (slot_of kind t cursors)) result
 near-done most kind t cursors q n sink now_sink files filings v now_v changes (Ok answer) h listed =
-    listing-done (slot_of kind t cursors) (Command.Near q n) (hit_listing q (near q n t.tree.table)) 0 (reached t q n) sink now_sink files filings v now_v changes h (λ most files fault. refl) (λ files. refl) (λ files. refl) most (Ok answer) refl (hits-good q (near q n t.tree.table)) listed
+    listing-done (slot_of kind t cursors) (Command.Near q n) (hit_listing q (near q n t.tree.table)) 0 (reached t q n) sink now_sink files filings v now_v changes h refl (λ most files fault. refl) (λ files. refl) (λ files. refl) most (Ok answer) refl (hits-good q (near q n t.tree.table)) listed
 near-done most kind t cursors q n sink now_sink files filings v now_v changes (Err WriteFault) h listed =
-    listing-done (slot_of kind t cursors) (Command.Near q n) (hit_listing q (near q n t.tree.table)) 0 (reached t q n) sink now_sink files filings v now_v changes h (λ most files fault. refl) (λ files. refl) (λ files. refl) most (Err WriteFault) refl (hits-good q (near q n t.tree.table)) listed
+    listing-done (slot_of kind t cursors) (Command.Near q n) (hit_listing q (near q n t.tree.table)) 0 (reached t q n) sink now_sink files filings v now_v changes h refl (λ most files fault. refl) (λ files. refl) (λ files. refl) most (Err WriteFault) refl (hits-good q (near q n t.tree.table)) listed
 near-done most kind t cursors q n sink now_sink files filings v now_v changes (Err NoMemory) h listed = record {
   fault = false;
   found = None;

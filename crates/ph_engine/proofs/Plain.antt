@@ -7,14 +7,14 @@ use Rattle.ph_specs.specs.Command.{Command}
 use Rattle.ph_specs.specs.Named.{Named}
 use Rattle.ph_specs.specs.Reply.{Reply}
 use Rattle.ph_specs.specs.State.{Slot, Files, Outcome, current}
-use Rattle.ph_specs.specs.Refusals.{refusal}
+use Rattle.ph_specs.specs.Refusals.{refusal, or_else}
 use Rattle.ph_specs.specs.Engine.{act, effect, unless_refused}
 use Rattle.ph_specs.specs.Window.{Cursor}
-use Rattle.ph_engine.specs.Doing.{DoesAt, MostAt, LeastAt, takes_memory, wants_memory, is_page, imported, rows_loaded}
-use Rattle.ph_engine.specs.Refusing.{or_else, early_refusal, late_refusal}
+use Rattle.ph_engine.specs.Doing.{DoesAt, MostAt, LeastAt, takes_memory, wants_memory, is_on_slot, is_page, imported, rows_loaded}
+use Rattle.ph_engine.specs.Refusing.{early_refusal, late_refusal}
 use Rattle.ph_engine.specs.Slots.{AnyTable, slot_of, engine_of}
 use Rattle.ph_engine.specs.Working.{work, work_of, engine_bounds, least_unless, IsAtMost, IsAtLeast}
-use Rattle.ph_engine.proofs.Refused.{refusal-parts, in-range}
+use Rattle.ph_engine.proofs.Refused.{refusal-parts, alone, in-range}
 
 -- an outcome whose current slot is one of boxes
 abbrev boxed : Outcome → Outcome
@@ -22,6 +22,7 @@ boxed o = record o { engine = engine_of (record (current o.engine) { kind = Boxe
 
 -- a command of one reply that knows of a slot no more than its rows
 pub record IsPlain (command : Command) : Type 0 where
+  pub on_slot : is_on_slot command ≡ true
   pub unrefused : (t : AnyTable) (cursors : Named Cursor) → early_refusal (slot_of Boxes t cursors) command ≡ None → early_refusal (slot_of Points t cursors) command ≡ None
   pub late : (most : ℕ) (t : AnyTable) (cursors : Named Cursor) (files : Files) (fault : Bool) → late_refusal most (slot_of Boxes t cursors) files fault command ≡ late_refusal most (slot_of Points t cursors) files fault command
   pub effect : (t : AnyTable) (cursors : Named Cursor) (files : Files) → effect (engine_of (slot_of Boxes t cursors)) files command ≡ boxed (effect (engine_of (slot_of Points t cursors)) files command)
@@ -33,6 +34,7 @@ pub record IsPlain (command : Command) : Type 0 where
 
 pub plain-put : (p : List ℤ) (v : ℕ) → IsPlain (Command.Put p v)
 plain-put p v = record {
+  on_slot = refl;
   unrefused = λ t cursors h. rw (in-range (slot_of Boxes t cursors) (Command.Put p v) h) refl;
   late = λ most t cursors files fault. refl;
   effect = λ t cursors files. refl;
@@ -45,6 +47,7 @@ plain-put p v = record {
 
 pub plain-get : (p : List ℤ) → IsPlain (Command.Get p)
 plain-get p = record {
+  on_slot = refl;
   unrefused = λ t cursors h. rw (in-range (slot_of Boxes t cursors) (Command.Get p) h) refl;
   late = λ most t cursors files fault. refl;
   effect = λ t cursors files. refl;
@@ -57,6 +60,7 @@ plain-get p = record {
 
 pub plain-del : (p : List ℤ) → IsPlain (Command.Del p)
 plain-del p = record {
+  on_slot = refl;
   unrefused = λ t cursors h. rw (in-range (slot_of Boxes t cursors) (Command.Del p) h) refl;
   late = λ most t cursors files fault. refl;
   effect = λ t cursors files. refl;
@@ -69,6 +73,7 @@ plain-del p = record {
 
 pub plain-move : (p q : List ℤ) → IsPlain (Command.Relocate p q)
 plain-move p q = record {
+  on_slot = refl;
   unrefused = λ t cursors h. rw (in-range (slot_of Boxes t cursors) (Command.Relocate p q) h) refl;
   late = λ most t cursors files fault. refl;
   effect = λ t cursors files. refl;
@@ -81,6 +86,7 @@ plain-move p q = record {
 
 pub plain-count : IsPlain Command.Count
 plain-count = record {
+  on_slot = refl;
   unrefused = λ t cursors h. refl;
   late = λ most t cursors files fault. refl;
   effect = λ t cursors files. refl;
@@ -93,6 +99,7 @@ plain-count = record {
 
 pub plain-clear : IsPlain Command.Clear
 plain-clear = record {
+  on_slot = refl;
   unrefused = λ t cursors h. refl;
   late = λ most t cursors files fault. refl;
   effect = λ t cursors files. refl;
@@ -112,11 +119,11 @@ module _ (t : AnyTable) (cursors : Named Cursor) (command : Command) (p : IsPlai
   same-refusal most files fault =
       let boxes = slot_of Boxes t cursors in
       let points = slot_of Points t cursors in
-      refusal-parts most (engine_of boxes) files fault command
+      refusal-parts most (engine_of boxes) files fault command p.on_slot
       ∙ ap (λ r. or_else r (late_refusal most boxes files fault command)) h
       ∙ p.late most t cursors files fault
       ∙ ap (λ r. or_else r (late_refusal most points files fault command)) (sym (p.unrefused t cursors h))
-      ∙ sym (refusal-parts most (engine_of points) files fault command)
+      ∙ sym (refusal-parts most (engine_of points) files fault command p.on_slot)
 
   same-act : (most : ℕ) (files : Files) (fault : Bool) → act most (engine_of (slot_of Boxes t cursors)) files fault command ≡ boxed (act most (engine_of (slot_of Points t cursors)) files fault command)
   same-act most files fault =
@@ -147,5 +154,5 @@ takes-at : (kind : Kind) (t : AnyTable) (cursors : Named Cursor) (command : Comm
 takes-at Points t cursors command p = refl
 takes-at Boxes t cursors command p = p.takes t cursors
 
-pub wants-at : (kind : Kind) (t : AnyTable) (cursors : Named Cursor) (command : Command) → IsPlain command → early_refusal (slot_of kind t cursors) command ≡ None → takes_memory (slot_of Points t cursors) command ≡ true → wants_memory (slot_of kind t cursors) command ≡ true
-wants-at kind t cursors command p h w = rw h (takes-at kind t cursors command p ∙ w)
+pub wants-at : (kind : Kind) (t : AnyTable) (cursors : Named Cursor) (command : Command) → IsPlain command → early_refusal (slot_of kind t cursors) command ≡ None → takes_memory (slot_of Points t cursors) command ≡ true → wants_memory (engine_of (slot_of kind t cursors)) command ≡ true
+wants-at kind t cursors command p h w = rw ((alone (engine_of (slot_of kind t cursors)) command p.on_slot).1, h) (takes-at kind t cursors command p ∙ w)

@@ -1,13 +1,12 @@
 -- What imports and exports do.
 use Rattle.std.proofs.lemmas.List.{take-take}
 use Rattle.std.proofs.lemmas.Bool.{cases_lt}
-use Rattle.std.proofs.Common.{◌≡◌, ◌<◌, ◌≤◌, ◌+◌, ◌-◌, ◌*◌, inl, inr, lt-ltb, le-ltb, arith, ℕ, zero, suc, Bool, true, false, List, [], ◌∷◌, length, take, refl, ap, sym, ◌∙◌}
+use Rattle.std.proofs.Common.{◌≡◌, ◌<◌, ◌≤◌, ◌+◌, ◌-◌, inl, inr, lt-ltb, le-ltb, arith, ℕ, zero, suc, Bool, true, false, List, [], ◌∷◌, length, take, refl, ap, sym, ◌∙◌}
 use Rattle.std.specs.Prelude.{◌⊎◌, ◌||◌, Some, None, nat_lt, if◌then◌else◌, Result, Ok, Err, Option}
 use Rattle.ph_csv.specs.Faults.{IsFault}
 use Rattle.ph_csv.specs.declared.fault.CsvFault.{CsvFault}
 use Rattle.ph_io.specs.Shelf.{Stays, Fetches}
 use Rattle.ph_specs.specs.Command.{Command}
-use Rattle.ph_specs.proofs.laws.BoxRows.{boxes-put}
 use Rattle.ph_specs.specs.Boxes.{AreBoxes}
 use Rattle.ph_specs.specs.Csv.{csv_rows, csv_text}
 use Rattle.ph_specs.specs.Engine.{act, unless_refused, import_outcome}
@@ -16,7 +15,7 @@ use Rattle.ph_specs.specs.Refusals.{bytes_of, import_rows, put_all_read, read_le
 use Rattle.ph_specs.specs.Reply.{Reply}
 use Rattle.ph_specs.specs.Sets.{put_all}
 use Rattle.ph_specs.specs.State.{Slot, Files, outcome}
-use Rattle.ph_specs.specs.Table.{Row, put}
+use Rattle.ph_specs.specs.Table.{Row}
 use Rattle.ph_specs.specs.Window.{Cursor}
 use Rattle.ph_specs.specs.WorkSets.{all_nodes}
 use Rattle.ph_specs.specs.declared.Kind.{Kind}
@@ -33,6 +32,7 @@ use Rattle.ph_engine.specs.Recording.{import_changes, import_visits, ImportsOr, 
 use Rattle.ph_engine.specs.Refusing.{early_refusal}
 use Rattle.ph_engine.specs.Slots.{AnyTable, table_at, slot_of, engine_of}
 use Rattle.ph_engine.specs.Working.{import_bounds, work_of, IsAtMost}
+use Rattle.ph_engine.proofs.Pairings.{boxes-put-all}
 use Rattle.ph_engine.proofs.Filed.{IsFetch, IsStore, fetched-act, fetched-filed, fetched-starved, stored-filed, unstored-filed}
 use Rattle.ph_engine.proofs.Slotted.{of-kind-still}
 
@@ -67,6 +67,7 @@ no-least-changes s (Err fault) = refl
 
 pub fetch-import : (name : List ℕ) (header : Bool) → IsFetch (Command.Import name header) name
 fetch-import name header = record {
+  on_slot = refl;
   reads = refl;
   uses = refl;
   early = λ s. by-kind s.kind s.width s.dims s.max s.table s.cursors;
@@ -126,10 +127,6 @@ imports-none t (Err fault) by (Err error) f h = (0, refl)
 
 -- ---- rows of a kind
 
-boxes-put-all : (w : ℕ) (rows table : List Row) → AreBoxes table → AreBoxes rows → AreBoxes (put_all w table rows)
-boxes-put-all w [] table h k = h
-boxes-put-all w (r ∷ rows) table h k = boxes-put-all w rows (put w table r.point r.value) (boxes-put w table r.point r.value k.0 h) k.1
-
 boxes-take : (n : ℕ) (rows : List Row) → AreBoxes rows → AreBoxes (take n rows)
 boxes-take zero rows h = tt
 boxes-take (suc n) [] h = h
@@ -188,6 +185,7 @@ starved-put t now rows error full empty part =
 
 store-export : (name : List ℕ) → IsStore (Command.Export name) name (λ s. csv_text s.table) (λ s. Reply.Exported (length s.table))
 store-export name = record {
+  on_slot = refl;
   uses = refl;
   early = λ s. by-kind s.kind s.width s.dims s.max s.table s.cursors;
   late = λ most s files fault. refl;

@@ -4,21 +4,20 @@ use Rattle.std.specs.Prelude.{Option, Some, None}
 use Rattle.ph_specs.specs.Command.{Command}
 use Rattle.ph_specs.specs.Reply.{Reply}
 use Rattle.ph_specs.specs.State.{Slot, Engine, Files, current}
-use Rattle.ph_specs.specs.Refusals.{refusal, refuse_if, has_wrong_dims, has_wrong_kind, is_out_of_range, is_reversed, lacks_cursor, has_too_many_cursors}
-use Rattle.ph_engine.specs.Refusing.{or_else, early_refusal, late_refusal}
+use Rattle.ph_specs.specs.Refusals.{refusal, slot_refusal, slots_refusal, or_else, refuse_if, has_wrong_dims, has_wrong_kind, is_out_of_range, is_reversed, lacks_cursor, has_too_many_cursors}
+use Rattle.ph_engine.specs.Refusing.{early_refusal, late_refusal}
 use Rattle.ph_script.specs.declared.command.Command.{Command as Written}
 use Rattle.ph_script.specs.Meaning.{command_of}
 use Rattle.ph_engine.specs.Slots.{engine_of}
-use Rattle.ph_engine.specs.Doing.{Begun}
+use Rattle.ph_engine.specs.Doing.{Begun, is_on_slot, goes_together}
 
 -- a cause behind which others are looked for
 refuse-or : (b : Bool) (r : Reply) (x y : Option Reply) → refuse_if b r (or_else x y) ≡ or_else (refuse_if b r x) y
 refuse-or true r x y = refl
 refuse-or false r x y = refl
 
-pub refusal-parts : (most : ℕ) (e : Engine) (files : Files) (fault : Bool) (cmd : Command) → refusal most e files fault cmd ≡ or_else (early_refusal (current e) cmd) (late_refusal most (current e) files fault cmd)
-refusal-parts most e files fault cmd =
-    let s = current e in
+slot-parts : (most : ℕ) (s : Slot) (files : Files) (fault : Bool) (cmd : Command) → slot_refusal most s files fault cmd ≡ or_else (early_refusal s cmd) (late_refusal most s files fault cmd)
+slot-parts most s files fault cmd =
     let late = late_refusal most s files fault cmd in
     ap (refuse_if (has_wrong_dims cmd) Reply.ErrorDims)
     (ap (refuse_if (has_wrong_kind s.kind cmd) Reply.ErrorKind)
@@ -31,17 +30,48 @@ refusal-parts most e files fault cmd =
     ∙ refuse-or (has_wrong_kind s.kind cmd) Reply.ErrorKind _ late)
     ∙ refuse-or (has_wrong_dims cmd) Reply.ErrorDims _ late
 
+-- a command on one slot has no cause of both, and wants nothing of the other
+pub alone : (e : Engine) (cmd : Command) → is_on_slot cmd ≡ true → (slots_refusal e cmd ≡ None) × (goes_together e cmd ≡ true)
+alone e (Command.Begin kind k width max) h = (refl, refl)
+alone e (Command.Put p v) h = (refl, refl)
+alone e (Command.Get p) h = (refl, refl)
+alone e (Command.Del p) h = (refl, refl)
+alone e (Command.Relocate p q) h = (refl, refl)
+alone e Command.Count h = (refl, refl)
+alone e Command.Clear h = (refl, refl)
+alone e (Command.Window lo hi) h = (refl, refl)
+alone e (Command.Cursor name lo hi) h = (refl, refl)
+alone e (Command.Page name n) h = (refl, refl)
+alone e (Command.Near q n) h = (refl, refl)
+alone e (Command.Within q r) h = (refl, refl)
+alone e (Command.Overlap q) h = (refl, refl)
+alone e (Command.Inside q) h = (refl, refl)
+alone e (Command.Covers q) h = (refl, refl)
+alone e (Command.Save name) h = (refl, refl)
+alone e (Command.Load name) h = (refl, refl)
+alone e (Command.Import name header) h = (refl, refl)
+alone e (Command.Export name) h = (refl, refl)
+alone e Command.Statistics h = (refl, refl)
+alone e (Command.Select which) h = absurd cc
+alone e Command.Compare h = absurd cc
+alone e Command.Join h = absurd cc
+alone e (Command.Combine operation) h = absurd cc
+
+pub refusal-parts : (most : ℕ) (e : Engine) (files : Files) (fault : Bool) (cmd : Command) → is_on_slot cmd ≡ true → refusal most e files fault cmd ≡ or_else (early_refusal (current e) cmd) (late_refusal most (current e) files fault cmd)
+refusal-parts most e files fault cmd on =
+    ap (λ r. or_else r (slot_refusal most (current e) files fault cmd)) (alone e cmd on).0 ∙ slot-parts most (current e) files fault cmd
+
 -- a command that is refused so has this reply and no work
-pub refused-begun : (s : Slot) (cmd : Command) (r : Reply) → early_refusal s cmd ≡ Some r → Begun s cmd s r
-refused-begun s cmd r h = record {
-  does = λ most files fault. rw (refusal-parts most (engine_of s) files fault cmd, h) refl;
+pub refused-begun : (s : Slot) (cmd : Command) (r : Reply) → is_on_slot cmd ≡ true → early_refusal s cmd ≡ Some r → Begun s cmd s r
+refused-begun s cmd r on h = record {
+  does = λ most files fault. rw (refusal-parts most (engine_of s) files fault cmd on, h) refl;
   most = λ visits changes most files fault. record { few_visits = omega arith; few_changes = omega arith };
-  least = λ visits changes most files fault. rw (refusal-parts most (engine_of s) files fault cmd, h) (record { enough_visits = omega arith; enough_changes = omega arith });
+  least = λ visits changes most files fault. rw (refusal-parts most (engine_of s) files fault cmd on, h) (record { enough_visits = omega arith; enough_changes = omega arith });
 }
 
 -- a command that is not refused at all
-pub unrefused : (most : ℕ) (s : Slot) (files : Files) (fault : Bool) (cmd : Command) → early_refusal s cmd ≡ None → late_refusal most s files fault cmd ≡ None → refusal most (engine_of s) files fault cmd ≡ None
-unrefused most s files fault cmd h k = refusal-parts most (engine_of s) files fault cmd ∙ ap (λ r. or_else r (late_refusal most s files fault cmd)) h ∙ k
+pub unrefused : (most : ℕ) (s : Slot) (files : Files) (fault : Bool) (cmd : Command) → is_on_slot cmd ≡ true → early_refusal s cmd ≡ None → late_refusal most s files fault cmd ≡ None → refusal most (engine_of s) files fault cmd ≡ None
+unrefused most s files fault cmd on h k = refusal-parts most (engine_of s) files fault cmd on ∙ ap (λ r. or_else r (late_refusal most s files fault cmd)) h ∙ k
 
 -- what is known of a command that is not refused so
 right-dims : (a : Bool) (later : Option Reply) → refuse_if a Reply.ErrorDims later ≡ None → a ≡ false

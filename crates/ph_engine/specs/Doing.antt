@@ -7,7 +7,7 @@ use Rattle.ph_specs.specs.declared.Kind.TheVariants.{Points}
 use Rattle.ph_specs.specs.Table.{Row, has}
 use Rattle.ph_specs.specs.Sets.{put_all}
 use Rattle.ph_specs.specs.Refusals.{import_rows, table_read}
-use Rattle.ph_specs.specs.State.{Slot, Engine, Files, Outcome, outcome, current, with_table}
+use Rattle.ph_specs.specs.State.{Slot, Engine, Files, Outcome, outcome, current, other, with_table}
 use Rattle.ph_specs.specs.Engine.{act}
 use Rattle.ph_specs.specs.WorkSets.{all_nodes}
 use Rattle.ph_specs.specs.Named.{Named, lookup}
@@ -16,7 +16,7 @@ use Rattle.ph_script.specs.declared.reply.Reply.{Reply as Told}
 use Rattle.ph_script.specs.Meaning.{reply_of}
 use Rattle.ph_engine.specs.Beside.{Beside, beside_sink, IsTold, StillTells, Filings}
 use Rattle.ph_engine.specs.Machine.{is_refusal, one_if}
-use Rattle.ph_engine.specs.Refusing.{early_refusal}
+use Rattle.ph_engine.specs.Refusing.{early_refusal, frame_refusal}
 use Rattle.ph_engine.specs.Working.{work_of, IsAtMost, IsAtLeast}
 use Rattle.ph_engine.specs.Slots.{AnyTable, slot_of, engine_of}
 use Rattle.ph_engine.specs.declared.status.Answer.{Answer}
@@ -57,6 +57,8 @@ uses_files _ = false
 abbrev pub is_on_slot : Command → Bool
 is_on_slot (Command.Select which) = false
 is_on_slot Command.Compare = false
+is_on_slot Command.Join = false
+is_on_slot (Command.Combine operation) = false
 is_on_slot _ = true
 
 -- the commands of one reply that may want memory
@@ -134,11 +136,21 @@ takes_memory s (Command.Relocate p q) = has s.table p && not (has s.table q)
 takes_memory s (Command.Near q n) = nat_lt 0 n
 takes_memory s (Command.Load name) = true
 takes_memory s (Command.Import name header) = true
+takes_memory s (Command.Combine operation) = true
 takes_memory s _ = false
 
--- whether it may want memory: it takes some, and is not refused before
-abbrev pub wants_memory : Slot → Command → Bool
-wants_memory s command = is_none (early_refusal s command) && takes_memory s command
+-- whether it may want memory on a slot: it takes some, and is not refused before
+abbrev pub slot_wants : Slot → Command → Bool
+slot_wants s command = is_none (early_refusal s command) && takes_memory s command
+
+-- whether both slots go together, where a command knows both and takes memory
+abbrev pub goes_together : Engine → Command → Bool
+goes_together e (Command.Combine operation) = is_none (frame_refusal (current e) (other e))
+goes_together e _ = true
+
+-- whether it may want memory in an engine
+abbrev pub wants_memory : Engine → Command → Bool
+wants_memory e command = goes_together e command && slot_wants (current e) command
 
 -- A command on a table of points, whatever cursors stand beside it, has this reply and leads to this table. What it does to boxes is the same,
 -- where it is not refused.
@@ -244,7 +256,7 @@ pub record Undone (most : ℕ) (e : Engine) (command : Command) (b now_b : Besid
   pub state : (files : Files) → Knows command b.files found files → now ≡ starved_engine e files command part
   pub files : (files : Files) → IsTold b.files files → StillTells b.files now_b.files files
   pub told : Given b.sink now_b.sink []
-  pub wanted : wants_memory (current e) command ≡ true
+  pub wanted : wants_memory e command ≡ true
   pub most_work : (files : Files) → Knows command b.files found files → IsAtMost (work_of most e files fault command) b.visits now_b.visits b.changes now_b.changes
 
 abbrev pub DoneOr : ℕ → Engine → Command → Beside → Beside → Engine → Result Answer Stop → Type 0
@@ -255,3 +267,7 @@ DoneOr most e command b now_b now (Err NoMemory) = Undone most e command b now_b
 -- the same of a slot, of a command that asks for no file and counts no changes
 pub record DoneWith (s : Slot) (command : Command) (sink now_sink : Taken) (visits now_visits : ℕ) (now : Slot) (result : Result Answer Stop) : Type 0 where
   pub done : (most : ℕ) (files : Option Files) (filings changes : ℕ) → DoneOr most (engine_of s) command (beside_sink sink files filings visits changes) (beside_sink now_sink files filings now_visits changes) (engine_of now) result
+
+-- the same of an engine that stays as it was
+pub record DoneBeside (e : Engine) (command : Command) (sink now_sink : Taken) (visits now_visits : ℕ) (result : Result Answer Stop) : Type 0 where
+  pub done : (most : ℕ) (files : Option Files) (filings changes : ℕ) → DoneOr most e command (beside_sink sink files filings visits changes) (beside_sink now_sink files filings now_visits changes) e result

@@ -19,7 +19,7 @@ use Rattle.ph_script.specs.Meaning.{reply_of}
 use Rattle.ph_snap.specs.Faults.{IsLoadFault}
 use Rattle.ph_snap.specs.declared.fault.LoadFault.{LoadFault}
 use Rattle.ph_snap.specs.declared.fault.LoadFault.TheVariants as by
-use Rattle.ph_engine.specs.Beside.{Beside, Filings, IsTold, StillTells, with_visits, with_changes}
+use Rattle.ph_engine.specs.Beside.{Beside, Filings, IsTold, StillTells, aside, with_visits, with_changes}
 use Rattle.ph_engine.specs.Doing.{Knows, Leads, MakesNodes, uses_files, wants_memory, starved_engine}
 use Rattle.ph_engine.specs.Drafting.{Shelf, Unfilled}
 use Rattle.ph_engine.specs.Machine.{one_if}
@@ -44,12 +44,16 @@ pub record Unfiled (most : ℕ) (e : Engine) (command : Command) (b now_b : Besi
   pub part : ℕ
   pub state : (files : Files) → Knows command b.files found files → now ≡ starved_engine e files command part
   pub kept : (files : Files) → IsTold b.files files → StillTells b.files now_b.files files
-  pub wanted : wants_memory (current e) command ≡ true
+  pub wanted : wants_memory e command ≡ true
   pub most_work : (files : Files) → Knows command b.files found files → IsAtMost (work_of most e files fault command) b.visits now_b.visits b.changes now_b.changes
 
 abbrev pub FiledOr : {E : Type 0} → ℕ → Engine → Command → Beside → Beside → Engine → Result Told E → Type 0
 FiledOr most e command b now_b now (Ok reply) = Filed most e command b now_b now (reply_of reply)
 FiledOr most e command b now_b now (Err error) = Unfiled most e command b now_b now
+
+-- A command that asks for no file has this reply, or memory is missing for it.
+pub record QuietOr {E : Type 0} (e : Engine) (command : Command) (visits now_visits changes now_changes : ℕ) (now : Engine) (result : Result Told E) : Type 0 where
+  pub filed : (most : ℕ) (files : Option Files) (filings : ℕ) → FiledOr most e command (aside files filings visits changes) (aside files filings now_visits now_changes) now result
 
 -- A command on a slot has this reply, whatever was counted of changes, of which it makes none, and however many bytes a file may have.
 pub record Replies (s : Slot) (command : Command) (b now_b : Beside) (now : Slot) (reply : Reply) : Type 0 where

@@ -14,6 +14,7 @@ pub mod Comparing
 pub mod Refusing
 pub mod Causes
 pub mod Listing
+pub mod Pairing
 pub mod Doing
 pub mod Drafting
 pub mod DraftLaws

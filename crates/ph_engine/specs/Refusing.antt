@@ -1,17 +1,12 @@
 -- The refusals of a command in two parts: those that need no files to be told, and those behind them.
-use Rattle.std.specs.Prelude.{ℕ, Bool, not, Option, Some, None}
+use Rattle.std.specs.Prelude.{ℕ, Bool, not, Option, None}
 use Rattle.std.specs.List.{list_all}
 use Rattle.ph_specs.specs.Coordinate.{fits, is_box}
 use Rattle.ph_specs.specs.declared.Kind.{Kind}
 use Rattle.ph_specs.specs.Command.{Command}
 use Rattle.ph_specs.specs.Reply.{Reply}
 use Rattle.ph_specs.specs.State.{Slot, Files}
-use Rattle.ph_specs.specs.Refusals.{points_of, boxes_of, refuse_if, refuse_if_bad, has_wrong_dims, has_wrong_kind, is_out_of_range, is_reversed, lacks_cursor, has_too_many_cursors, has_file_fault, table_read, is_full}
-
--- the first refusal, or where there is none the second
-abbrev pub or_else : Option Reply → Option Reply → Option Reply
-or_else (Some r) later = Some r
-or_else None later = later
+use Rattle.ph_specs.specs.Refusals.{points_of, boxes_of, refuse_if, refuse_if_bad, has_wrong_dims, has_wrong_kind, is_out_of_range, is_reversed, lacks_cursor, has_too_many_cursors, has_file_fault, table_read, is_full, points_differ, same_kind}
 
 -- some point of the command has a coordinate that the width has not
 abbrev pub names_points_outside : ℕ → Command → Bool
@@ -41,3 +36,7 @@ late_refusal most s files fault cmd =
     refuse_if (has_file_fault most files fault cmd) Reply.ErrorFile
     (refuse_if_bad (table_read s files cmd)
     (refuse_if (is_full s files cmd) Reply.ErrorFull None))
+
+-- the causes for which the tables of two slots are not combined, but for the room of a union
+abbrev pub frame_refusal : Slot → Slot → Option Reply
+frame_refusal s t = refuse_if (points_differ s t) Reply.ErrorDims (refuse_if (not (same_kind s.kind t.kind)) Reply.ErrorKind None)

@@ -68,7 +68,7 @@ starved_by s files part (Do command) = whole (starved_engine s.engine files comm
 starved_by s files part _ = s
 
 abbrev pub wants_by : Whole → Reading → Bool
-wants_by s (Do command) = wants_memory (current s.engine) command
+wants_by s (Do command) = wants_memory s.engine command
 wants_by s _ = false
 
 abbrev pub uses_by : Reading → Bool

@@ -3,15 +3,17 @@ use Rattle.std.specs.Prelude.{◌≤◌, ℕ, ◌+◌, ◌*◌, ◌/◌, Bool, n
 use Rattle.ph_specs.specs.Command.{Command}
 use Rattle.ph_specs.specs.Reply.{Reply}
 use Rattle.ph_specs.specs.Table.{Row, has}
-use Rattle.ph_specs.specs.WorkSets.{path, meets, reach, ball, all_nodes}
+use Rattle.ph_specs.specs.WorkSets.{path, meets, reach, ball, all_nodes, join_visits, combine_visits}
 use Rattle.ph_specs.specs.Coordinate.{low_corner, high_corner}
 use Rattle.ph_specs.specs.Boxes.{overlaps_low, overlaps_high, inside_low, inside_high, covers_low, covers_high}
+use Rattle.ph_specs.specs.declared.SetOperation.{SetOperation}
+use Rattle.ph_specs.specs.Sets.{combine}
 use Rattle.ph_specs.specs.Engine.{same_slots}
 use Rattle.ph_specs.specs.Named.{lookup}
 use Rattle.ph_specs.specs.Window.{Cursor}
 use Rattle.ph_specs.specs.Refusals.{refusal, bytes_of, import_rows}
 use Rattle.ph_import.specs.Imported.{most_visits, most_changes}
-use Rattle.ph_specs.specs.State.{Slot, Engine, Files, current}
+use Rattle.ph_specs.specs.State.{Slot, Engine, Files, current, other}
 use Rattle.ph_engine.specs.Machine.{Work, one_if}
 
 abbrev pub work : ℕ → ℕ → ℕ → ℕ → Work
@@ -69,9 +71,21 @@ bounds s files (Command.Export name) = let n = nodes_of s in work n n 0 0
 bounds s files Command.Statistics = let n = nodes_of s in work n n 0 0
 bounds s files _ = no_work
 
+-- those of a join: as many visits as it takes, whatever it finds
+abbrev pub join_bounds : Slot → Slot → Work
+join_bounds a b = let n = join_visits a.width a.dims a.table b.table in work n n 0 0
+
+-- those of a set operation, whose result's nodes are made one by one
+abbrev pub combine_bounds : SetOperation → Slot → Slot → Work
+combine_bounds operation s t =
+    let n = length (all_nodes s.width s.dims (combine operation s.width s.table t.table)) in
+    work (combine_visits operation s.width s.dims s.table t.table) 0 n n
+
 -- the bounds of a command of an engine: a comparison visits no more than all nodes of both trees, and these where the slots are the same
 abbrev pub engine_bounds : Engine → Files → Command → Work
 engine_bounds e files Command.Compare = let n = nodes_of e.a + nodes_of e.b in work n (if same_slots e.a e.b then n else 0) 0 0
+engine_bounds e files Command.Join = join_bounds e.a e.b
+engine_bounds e files (Command.Combine operation) = combine_bounds operation (current e) (other e)
 engine_bounds e files command = bounds (current e) files command
 
 -- a command that is refused has no least bound but 0

@@ -1,21 +1,24 @@
 //! The state of the program, and what a command does to it.
 ghost use Rattle.std.specs.Prelude.{◌≡◌, ◌<◌, ◌≤◌, ◌^◌, []};
+ghost use Rattle.ph_specs.specs.Command.{Command as Asked};
 ghost use Rattle.ph_specs.specs.Program.{opened};
 ghost use Rattle.ph_specs.specs.Reply.{Reply as Replied};
 ghost use Rattle.ph_specs.specs.State.{new_engine, current, slot_at};
 ghost use Rattle.ph_script.specs.Meaning.{command_of, reply_of};
 ghost use Rattle.ph_script.specs.Fit.{HasDims};
 ghost use Rattle.ph_engine.specs.Comparing.{Compares};
-ghost use Rattle.ph_engine.specs.Doing.{DoneOr};
+ghost use Rattle.ph_engine.specs.Doing.{DoneOr, DoneBeside};
+ghost use Rattle.ph_engine.specs.Filing.{QuietOr};
 ghost use Rattle.ph_engine.specs.Statuses.{StopHasCause};
-ghost use Rattle.ph_engine.specs.Told.{beside_by};
+ghost use Rattle.ph_engine.specs.Told.{beside_by, taken_by};
 
-use crate::output::say;
+use crate::output::{say, tell};
 use crate::slot::Slot;
 use crate::status::{Answer, Limits, Stop};
 use ph_io::{Files, Sink};
-use ph_script::{Command, Reply, Text, Which};
+use ph_script::{Command, Reply, SetOperation, Text, Which};
 use ph_steps::Steps;
+use ph_tree::NoMemory;
 use std::alloc::Global;
 use std::marker::Model;
 use std::sync::ledger::Ledger;
@@ -79,7 +82,7 @@ impl Engine {
     }
 
     /// Does a command, and gives its replies to the sink. It may want memory for a row that is new or moves, for the rows that are
-    /// nearest to a point, and for a file that is read with its table, and for no other command.
+    /// nearest to a point, for a file that is read with its table, and for a table that is made of both slots, and for no other command.
     ///
     /// After a write fault the command is done, but a page leaves its cursor as it was; a front of the replies is written.
     /// Without memory nothing is done or written.
@@ -136,6 +139,11 @@ impl Engine {
         match cmd {
             Command::Select { slot } => say(out, text, &self.select(*slot)),
             Command::Same => say(out, text, &self.compare(visits)),
+            Command::Join => self.join(out, text, visits),
+            Command::Combine { operation } => {
+                let outcome = self.combine(alloc, *operation, visits, changes);
+                tell(out, text, &outcome)
+            }
             _ => match self.current {
                 Which::A => self
                     .a
@@ -164,6 +172,38 @@ impl Engine {
             Reply::Same
         } else {
             Reply::Differ
+        }
+    }
+
+    // Lists the pairs of a box of slot a and one of slot b that overlap, unless they cannot be joined.
+    fn join<O: Sink, V: Ledger>(
+        &self,
+        out: &mut O,
+        text: &mut Text,
+        visits: &mut Steps<V>,
+    ) -> Result<Answer, Stop>
+        ensures done { DoneBeside self.now Asked.Join (taken_by O.Sink out.old) (taken_by O.Sink out.new) visits.old visits.new result }
+        ensures cause { StopHasCause (O.faults out.old) (O.faults out.new) result }
+    {
+        match self.a.join_refusal(&self.b) {
+            Some(refusal) => say(out, text, &refusal.reply()),
+            None => self.a.join(&self.b, out, text, visits),
+        }
+    }
+
+    // Takes the table that an operation makes of the current slot and the other one into the current one.
+    fn combine<V: Ledger, C: Ledger>(
+        &mut self,
+        alloc: Global,
+        operation: SetOperation,
+        visits: &mut Steps<V>,
+        changes: &mut Steps<C>,
+    ) -> Result<Reply, NoMemory>
+        ensures { QuietOr self.old (Asked.Combine operation) visits.old visits.new changes.old changes.new self.new result }
+    {
+        match self.current {
+            Which::A => self.a.combine(&self.b, alloc, operation, visits, changes),
+            Which::B => self.b.combine(&self.a, alloc, operation, visits, changes),
         }
     }
 }

@@ -3,6 +3,7 @@
 
 mod boxes;
 mod checking;
+mod combining;
 mod commands;
 mod cursors;
 mod distances;
@@ -11,6 +12,7 @@ mod file_sink;
 mod filing;
 mod listing;
 mod output;
+mod pairs;
 mod program;
 mod records;
 mod refusals;

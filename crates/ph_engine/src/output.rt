@@ -15,7 +15,7 @@ use crate::status::{Answer, Stop};
 use ph_coord::Row;
 use ph_io::{Failed, Sink, write_piece};
 use ph_near::Hit;
-use ph_script::{Reply, Text, write_hit, write_row, write_text};
+use ph_script::{Reply, Text, write_hit, write_pair, write_row, write_text};
 use ph_tree::NoMemory;
 
 fn answer_of(reply: &Reply) -> Answer
@@ -41,7 +41,8 @@ fn answer_of(reply: &Reply) -> Answer
         | Reply::Exported(_)
         | Reply::Using(_)
         | Reply::Same
-        | Reply::Differ => Answer::Good,
+        | Reply::Differ
+        | Reply::Combined(_) => Answer::Good,
         Reply::ErrorLong
         | Reply::ErrorWord
         | Reply::ErrorCount
@@ -96,6 +97,23 @@ pub(crate) fn say_row<const D: usize, O: Sink>(
     ensures cause { StopHasCause (O.faults out.old) (O.faults out.new) result }
 {
     write_row(text, row);
+    send(out, text.as_str())
+}
+
+// The same of two rows whose boxes overlap.
+pub(crate) fn say_pair<const D: usize, O: Sink>(
+    out: &mut O,
+    text: &mut Text,
+    first: &Row<D>,
+    second: &Row<D>,
+) -> Result<(), Stop>
+    requires { D ≤ 16 }
+    ensures told { OnOk result (Given (taken_by O.Sink out.old) (taken_by O.Sink out.new) (text_of (Replied.PairIs first.now second.now))) }
+    ensures err { IfErr result (λ stop. stop ≡ Stop.WriteFault) }
+    ensures front { OnErr result (WritesFront (taken_by O.Sink out.old) (taken_by O.Sink out.new) (text_of (Replied.PairIs first.now second.now))) }
+    ensures cause { StopHasCause (O.faults out.old) (O.faults out.new) result }
+{
+    write_pair(text, first, second);
     send(out, text.as_str())
 }
 

@@ -109,7 +109,9 @@ pub(crate) fn is_out_of_range(w: Width, cmd: &Command<'_>) -> bool
         | Command::Export { .. }
         | Command::Stats
         | Command::Select { .. }
-        | Command::Same => false,
+        | Command::Same
+        | Command::Join
+        | Command::Combine { .. } => false,
     }
 }
 

@@ -10,7 +10,6 @@ ghost use Rattle.ph_script.specs.Meaning.{command_of, numbers_of, reply_of};
 ghost use Rattle.ph_script.specs.Fit.{HasDims};
 ghost use Rattle.ph_tree.specs.Stats.{stats_of};
 ghost use Rattle.ph_engine.specs.Causes.{refusal_reply};
-ghost use Rattle.ph_engine.specs.Comparing.{IsCompared};
 ghost use Rattle.ph_engine.specs.Doing.{Begun, DoneWith, DoneOr, is_on_slot, is_sure, is_tried, is_listed};
 ghost use Rattle.ph_engine.specs.Filing.{FiledOr, Replies};
 ghost use Rattle.ph_engine.specs.Refusing.{early_refusal, cursor_refusal};
@@ -36,6 +35,8 @@ use ph_tree::{NoMemory, Stats};
 use std::alloc::Global;
 use std::marker::Model;
 use std::sync::ledger::Ledger;
+
+mod both;
 
 /// A table of points or boxes, as a tree, and its cursors in the order of their names. Points have 1 to 16 dimensions, boxes 1 to 8, and
 /// each coordinate has 1 to 62 bits.
@@ -76,13 +77,6 @@ impl Slot {
         ensures limit { result ≤ 16 }
     {
         self.tree.dims()
-    }
-
-    // Whether another slot has the same rows, of the same kind and width and as many dimensions.
-    pub(crate) fn is_same<V: Ledger>(&self, other: &Slot, visits: &mut Steps<V>) -> bool
-        ensures { IsCompared self.now other.now visits.old visits.new result }
-    {
-        self.kind == other.kind && self.tree.is_same(&other.tree, visits)
     }
 
     // The sizes of its tree. Each node is visited once.
@@ -144,7 +138,9 @@ impl Slot {
             | Command::Inside { .. }
             | Command::Covers { .. }
             | Command::Stats => self.list(alloc, cmd, out, text, visits),
-            Command::Select { .. } | Command::Same => unreachable!(),
+            Command::Select { .. } | Command::Same | Command::Join | Command::Combine { .. } => {
+                unreachable!()
+            }
         }
     }
 

@@ -21,14 +21,11 @@ ghost use Rattle.ph_engine.specs.Filing.{EnteredOr, SameFrame};
 ghost use Rattle.ph_engine.specs.Recording.{ExportedOr, ImportsOr, import_changes, import_visits, rows_for};
 ghost use Rattle.ph_engine.specs.Listing.{ListsWindow, ListsNear, ListsBall, ListsBoxes, ListsAnyPage, ListsSizes, node_count};
 ghost use Rattle.ph_engine.specs.Slots.{any_table, table_at, empty_table, cursor_of, cursor_dims, slot_of, IsCursorIn, IsOfKind};
-ghost use Rattle.ph_engine.specs.Comparing.{IsCompared};
 ghost use Rattle.ph_engine.specs.Statuses.{StopHasCause};
 ghost use Rattle.ph_engine.specs.Told.{shelf_by, taken_by};
 
 use crate::boxes::{Question, list_boxes};
-use crate::commands::{
-    are_same, clear_rows, count_rows, cursor_at, del_row, get_row, move_row, put_row,
-};
+use crate::commands::{clear_rows, count_rows, cursor_at, del_row, get_row, move_row, put_row};
 use crate::cursors::AnyCursor;
 use crate::distances::{list_ball, list_near};
 use crate::filing::save_tree;
@@ -44,6 +41,8 @@ use ph_steps::Steps;
 use ph_tree::{NoMemory, PhTree, Stats};
 use std::alloc::Global;
 use std::sync::ledger::Ledger;
+
+mod both;
 
 /// A tree, by its number of dimensions: 1 to 16.
 #[derive(Drop)]
@@ -418,31 +417,6 @@ impl AnyTree {
         ensures { result ≡ (any_table self.now).tree.width }
     {
         with_tree!(self, tree => tree.width())
-    }
-
-    // Whether another tree has as many dimensions, the same width and the same rows.
-    pub(crate) fn is_same<V: Ledger>(&self, other: &AnyTree, visits: &mut Steps<V>) -> bool
-        ensures { IsCompared (slot_of Points (any_table self.now) []) (slot_of Points (any_table other.now) []) visits.old visits.new result }
-    {
-        match (self, other) {
-            (AnyTree::D1(a), AnyTree::D1(b)) => are_same(a, b, visits),
-            (AnyTree::D2(a), AnyTree::D2(b)) => are_same(a, b, visits),
-            (AnyTree::D3(a), AnyTree::D3(b)) => are_same(a, b, visits),
-            (AnyTree::D4(a), AnyTree::D4(b)) => are_same(a, b, visits),
-            (AnyTree::D5(a), AnyTree::D5(b)) => are_same(a, b, visits),
-            (AnyTree::D6(a), AnyTree::D6(b)) => are_same(a, b, visits),
-            (AnyTree::D7(a), AnyTree::D7(b)) => are_same(a, b, visits),
-            (AnyTree::D8(a), AnyTree::D8(b)) => are_same(a, b, visits),
-            (AnyTree::D9(a), AnyTree::D9(b)) => are_same(a, b, visits),
-            (AnyTree::D10(a), AnyTree::D10(b)) => are_same(a, b, visits),
-            (AnyTree::D11(a), AnyTree::D11(b)) => are_same(a, b, visits),
-            (AnyTree::D12(a), AnyTree::D12(b)) => are_same(a, b, visits),
-            (AnyTree::D13(a), AnyTree::D13(b)) => are_same(a, b, visits),
-            (AnyTree::D14(a), AnyTree::D14(b)) => are_same(a, b, visits),
-            (AnyTree::D15(a), AnyTree::D15(b)) => are_same(a, b, visits),
-            (AnyTree::D16(a), AnyTree::D16(b)) => are_same(a, b, visits),
-            _ => false,
-        }
     }
 
     pub(crate) fn list_near<O: Sink, V: Ledger>(

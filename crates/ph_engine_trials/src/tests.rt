@@ -8,6 +8,7 @@ mod cursors;
 mod devices;
 mod distances;
 mod files;
+mod pairs;
 mod records;
 mod sizes;
 mod soaks;

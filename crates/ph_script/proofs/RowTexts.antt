@@ -4,9 +4,10 @@ use Rattle.std.specs.Prelude.{ℤ, decimal}
 use Rattle.std.specs.Fmt.{signed_decimal}
 use Rattle.std.specs.List.{join_with_byte}
 use Rattle.std.proofs.lemmas.List.{append-nil}
+use Rattle.std.proofs.lemmas.Grind.{flat_map-append}
 use Rattle.ph_specs.specs.Table.{Row}
 use Rattle.ph_specs.specs.Reply.{row_words, line_of}
-use Rattle.ph_script.specs.RowNumbers.{spaced, numbers_line}
+use Rattle.ph_script.specs.RowNumbers.{spaced, row_numbers, numbers_line}
 
 joined : (word : List ℕ) (ws : List (List ℕ)) → join_with_byte 32 (word ∷ ws) ≡ word ++ flat_map (λ w. 32 ∷ w) ws
 joined word [] = sym (append-nil word)
@@ -17,6 +18,9 @@ numbers-spaced [] last = append-nil (32 ∷ last)
 numbers-spaced (c ∷ p) last = ap (λ bytes. spaced c ++ bytes) (numbers-spaced p last) ∙ sym (append_assoc (spaced c) (flat_map spaced p) (32 ∷ last))
 
 -- behind what stands on the line already
+pub row-behind : (front : List ℕ) (r : Row) → (front ++ flat_map spaced r.point) ++ (32 ∷ decimal r.value) ≡ front ++ row_numbers r
+row-behind front r = append_assoc front (flat_map spaced r.point) (32 ∷ decimal r.value)
+
 pub numbers-behind : (front : List ℕ) (r : Row) → ((front ++ flat_map spaced r.point) ++ (32 ∷ decimal r.value)) ++ 10 ∷ [] ≡ front ++ numbers_line r
 numbers-behind front r =
     ap (λ bytes. bytes ++ 10 ∷ []) (append_assoc front (flat_map spaced r.point) (32 ∷ decimal r.value))
@@ -31,3 +35,14 @@ row-line word r =
 -- behind a word and a number
 pub hit-line : (word number : List ℕ) (r : Row) → (word ++ (32 ∷ number)) ++ numbers_line r ≡ line_of (word ∷ number ∷ row_words r)
 hit-line word number r = append_assoc word (32 ∷ number) (numbers_line r) ∙ ap (λ bytes. word ++ (32 ∷ bytes)) (row-line number r) ∙ sym (append_assoc word (32 ∷ join_with_byte 32 (number ∷ row_words r)) (10 ∷ []))
+
+-- two rows behind a word
+spaced-append : (xs ys : List (List ℕ)) → flat_map (λ w. 32 ∷ w) (xs ++ ys) ≡ flat_map (λ w. 32 ∷ w) xs ++ flat_map (λ w. 32 ∷ w) ys
+spaced-append xs ys = flat_map-append (λ w. 32 ∷ w) xs ys
+
+pub pair-line : (word : List ℕ) (r s : Row) → ((word ++ row_numbers r) ++ row_numbers s) ++ 10 ∷ [] ≡ line_of (word ∷ row_words r ++ row_words s)
+pair-line word r s =
+    ap (λ bytes. bytes ++ 10 ∷ [])
+    (append_assoc word (row_numbers r) (row_numbers s)
+    ∙ ap (λ bytes. word ++ bytes) ((λ i. sym (numbers-spaced r.point (decimal r.value)) i ++ sym (numbers-spaced s.point (decimal s.value)) i) ∙ sym (spaced-append (row_words r) (row_words s)))
+    ∙ sym (joined word (row_words r ++ row_words s)))

@@ -6,7 +6,7 @@ use Rattle.ph_script.specs.declared.command.Bad.TheVariants.{Word, Count as BadC
 use Rattle.ph_script.specs.declared.command.Command.{Command}
 use Rattle.ph_script.specs.declared.command.Command.TheVariants as by
 use Rattle.ph_script.specs.declared.forms.Verb.{Verb}
-use Rattle.ph_script.specs.declared.forms.Verb.TheVariants.{Open, OpenBits, OpenMax, OpenBitsMax, Put, Get, Del, Relocate, Count, Clear, Window, Cursor, Page, Near, Within, Overlap, Inside, Covers, Save, Load, Import, ImportHeader, Export, Stats, Select, Same}
+use Rattle.ph_script.specs.declared.forms.Verb.TheVariants.{Open, OpenBits, OpenMax, OpenBitsMax, Put, Get, Del, Relocate, Count, Clear, Window, Cursor, Page, Near, Within, Overlap, Inside, Covers, Save, Load, Import, ImportHeader, Export, Stats, Select, Same, Join, Combine}
 use Rattle.std.specs.Cmp.Lexicographic.{pointwise}
 use Rattle.ph_specs.specs.Command.{Place, first_word, number_fits, name_fits}
 use Rattle.ph_script.specs.Parts.{coords_at, counts_at, name_from, file_from, second_from}
@@ -38,6 +38,8 @@ IsFit Export dims coords counts name file = IsSome file
 IsFit Stats dims coords counts name file = Unit {0}
 IsFit Select dims coords counts name file = Unit {0}
 IsFit Same dims coords counts name file = Unit {0}
+IsFit Join dims coords counts name file = Unit {0}
+IsFit (Combine operation) dims coords counts name file = Unit {0}
 
 -- the first of a command's words that are no numbers tells its name, its file's name, or which of two words it has
 abbrev pub IsNamed : Verb → Option (List ℕ) → Option (List ℕ) → Bool → List (List ℕ) → Type 0
@@ -91,6 +93,8 @@ HasDims dims (by.Export file) = Unit {0}
 HasDims dims by.Stats = Unit {0}
 HasDims dims (by.Select slot) = Unit {0}
 HasDims dims by.Same = Unit {0}
+HasDims dims by.Join = Unit {0}
+HasDims dims (by.Combine operation) = Unit {0}
 
 -- the same of the command that was read, if there is one
 abbrev pub ReadsDims : ℕ → Result (Option Command) Bad → Type 0

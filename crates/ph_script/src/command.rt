@@ -3,7 +3,7 @@ use crate::coords::Coords;
 use crate::file_name::FileName;
 use crate::name::Name;
 use ph_coord::Kind;
-use ph_specs::Which;
+use ph_specs::{SetOperation, Which};
 
 /// What a line asks for. Its coordinates and the name of its file lie elsewhere, so that it is small.
 #[derive(Debug, Drop)]
@@ -95,6 +95,12 @@ pub enum Command<'c> {
     },
     /// Whether both tables are the same.
     Same,
+    /// The pairs of a box of slot a and one of slot b that overlap.
+    Join,
+    /// In place of the current table, what is made of it and the other one.
+    Combine {
+        operation: SetOperation,
+    },
 }
 
 /// The first fault of a line, in the order in which they are looked for.

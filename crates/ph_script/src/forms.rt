@@ -4,6 +4,8 @@ ghost use Rattle.std.specs.List.{AllByRecursion};
 ghost use Rattle.ph_specs.specs.Command.{forms as all_forms};
 ghost use Rattle.ph_script.specs.Forms.{place_of, group_of, form_of, IsRow};
 
+use ph_specs::SetOperation;
+
 /// A command, by its form.
 #[derive(Clone, Copy)]
 pub(crate) enum Verb {
@@ -33,6 +35,8 @@ pub(crate) enum Verb {
     Stats,
     Select,
     Same,
+    Join,
+    Combine(SetOperation),
 }
 
 /// What a form has behind its word, in one place or in several.
@@ -89,7 +93,7 @@ const BITS: Places = Places::Fixed(b"bits");
 const MAX: Places = Places::Fixed(b"max");
 
 // The forms of all commands, in the order of the definitions. One more is a row here, a `Verb` and its command.
-static FORMS: [Form; 26] = [
+static FORMS: [Form; 30] = [
     Form {
         word: b"open",
         places: &[KINDS, Places::UpTo(COUNT)],
@@ -226,6 +230,26 @@ static FORMS: [Form; 26] = [
         word: b"same",
         places: &[],
         verb: Verb::Same,
+    },
+    Form {
+        word: b"join",
+        places: &[],
+        verb: Verb::Join,
+    },
+    Form {
+        word: b"union",
+        places: &[],
+        verb: Verb::Combine(SetOperation::Union),
+    },
+    Form {
+        word: b"common",
+        places: &[],
+        verb: Verb::Combine(SetOperation::Common),
+    },
+    Form {
+        word: b"minus",
+        places: &[],
+        verb: Verb::Combine(SetOperation::Minus),
     },
 ];
 

@@ -186,6 +186,8 @@ fn command<'c>(verb: Verb, dims: usize, coords: &'c [Coord], parts: Parts<'c>) -
             slot: slot_in(&parts),
         },
         Verb::Same => Command::Same,
+        Verb::Join => Command::Join,
+        Verb::Combine(operation) => Command::Combine { operation },
     }
 }
 

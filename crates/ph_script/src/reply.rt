@@ -1,7 +1,7 @@
 //! The replies to commands.
 use ph_specs::Which;
 
-/// The answer to a command, but for the rows that it lists and the sizes of a tree. Each is one line of the output.
+/// The answer to a command, but for the rows and the pairs of rows that it lists and the sizes of a tree. Each is one line of the output.
 ///
 /// It is small, since one is made for each command.
 #[derive(Clone, Copy, Debug, PartialEq, Eq)]
@@ -40,6 +40,8 @@ pub enum Reply {
     /// Both slots have the same rows, of the same kind and dimensions.
     Same,
     Differ,
+    /// The number of rows of the table that was made of both slots' tables; its line begins with `result`.
+    Combined(u64),
     ErrorLong,
     ErrorWord,
     ErrorCount,

@@ -1,8 +1,8 @@
 //! The texts of replies.
-ghost use Rattle.std.specs.Prelude.{◌≡◌, ◌≤◌, ◌+◌, ◌∷◌, [], ◌++◌, length, codes, decimal};
+ghost use Rattle.std.specs.Prelude.{◌≡◌, ◌≤◌, ◌+◌, ◌*◌, ◌∷◌, [], ◌++◌, length, codes, decimal};
 ghost use Rattle.ph_specs.specs.Reply.{Reply as Replied, reply_text as text_of_reply, row_words, line_of};
 ghost use Rattle.ph_script.specs.Meaning.{reply_of};
-ghost use Rattle.ph_script.specs.RowNumbers.{numbers_line};
+ghost use Rattle.ph_script.specs.RowNumbers.{numbers_line, row_numbers};
 
 use crate::reply::Reply;
 use arrayvec::ArrayString;
@@ -11,9 +11,9 @@ use ph_coord::Row;
 use ph_specs::Which;
 use std::marker::Model;
 
-// The bytes of the longest line that the script language has: `hit`, a distance of 128 bits, 16 coordinates and a value of
-// 64 bits, with a space before each number, and a line feed.
-const LONGEST: usize = 3 + (1 + 39) + 16 * (1 + 20) + (1 + 20) + 1;
+// The bytes of the longest line that the script language has: `pair`, twice 16 coordinates and a value of 64 bits, with a
+// space before each number, and a line feed.
+const LONGEST: usize = 4 + 2 * (16 * (1 + 20) + (1 + 20)) + 1;
 
 /// The line of a reply with its line feed. Its bytes lie in the value itself, and it is seen as these bytes.
 ///
@@ -86,6 +86,7 @@ pub fn write_text(text: &mut Text, reply: &Reply)
         Reply::Using(Which::B) => line.push_str("using b\n"),
         Reply::Same => line.push_str("same\n"),
         Reply::Differ => line.push_str("differ\n"),
+        Reply::Combined(count) => push_numbered(line, "result", *count),
         Reply::ErrorLong => line.push_str("error long\n"),
         Reply::ErrorWord => line.push_str("error word\n"),
         Reply::ErrorCount => line.push_str("error count\n"),
@@ -128,6 +129,15 @@ pub fn write_hit<const D: usize>(text: &mut Text, distance: u128, row: &Row<D>)
 {
     text.line.clear();
     push_hit(&mut text.line, distance, row);
+}
+
+/// Makes a text the line of two rows whose boxes overlap, whatever it was before. The line begins with `pair`.
+pub fn write_pair<const D: usize>(text: &mut Text, first: &Row<D>, second: &Row<D>)
+    requires { D ≤ 16 }
+    ensures { text.new ≡ text_of_reply (Replied.PairIs first.now second.now) }
+{
+    text.line.clear();
+    push_pair(&mut text.line, first, second);
 }
 
 // A word, a number and a line feed.
@@ -185,15 +195,37 @@ fn push_hit<const D: usize>(line: &mut ArrayString<LONGEST>, distance: u128, row
     push_numbers(line, row);
 }
 
+// The line of two rows.
+fn push_pair<const D: usize>(line: &mut ArrayString<LONGEST>, first: &Row<D>, second: &Row<D>)
+    requires dims { D ≤ 16 }
+    requires empty { line.old.bytes ≡ [] }
+    ensures { line.new.bytes ≡ line_of (codes "pair" ∷ row_words first.now ++ row_words second.now) }
+{
+    line.push_str("pair");
+    push_row_numbers(line, first);
+    push_row_numbers(line, second);
+    line.push_str("\n");
+}
+
 // The numbers of a row, with a space before each, and a line feed.
 fn push_numbers<const D: usize>(line: &mut ArrayString<LONGEST>, row: &Row<D>)
     requires dims { D ≤ 16 }
     requires room { length line.old.bytes ≤ 3 + 40 }
     ensures { line.new.bytes ≡ line.old.bytes ++ numbers_line row.now }
 {
+    push_row_numbers(line, row);
+    line.push_str("\n");
+}
+
+// The numbers of a row, with a space before each.
+fn push_row_numbers<const D: usize>(line: &mut ArrayString<LONGEST>, row: &Row<D>)
+    requires dims { D ≤ 16 }
+    requires room { length line.old.bytes ≤ 4 + 17 * 21 }
+    ensures bytes { line.new.bytes ≡ line.old.bytes ++ row_numbers row.now }
+    ensures len { length line.new.bytes ≤ length line.old.bytes + 17 * 21 }
+{
     for coordinate in row.point.as_slice() {
         push_number(line, *coordinate);
     }
     push_number(line, row.value);
-    line.push_str("\n");
 }

@@ -134,6 +134,10 @@ fn read_commands_on_tables(rt: HostRuntime) -> Result<(), Fail> {
         (b"use a", "Select { slot: A }"),
         (b"use b", "Select { slot: B }"),
         (b"same", "Same"),
+        (b"join", "Join"),
+        (b"union", "Combine { operation: Union }"),
+        (b"common", "Combine { operation: Common }"),
+        (b"minus", "Combine { operation: Minus }"),
         (b"stats", "Stats"),
     ];
     let mut coords = CoordBuffer::new();

@@ -34,6 +34,7 @@ fn texts_of_replies(rt: HostRuntime) -> Result<(), Fail> {
         (Reply::Using(Which::B), "using b\n"),
         (Reply::Same, "same\n"),
         (Reply::Differ, "differ\n"),
+        (Reply::Combined(3), "result 3\n"),
         (Reply::ErrorLong, "error long\n"),
         (Reply::ErrorWord, "error word\n"),
         (Reply::ErrorCount, "error count\n"),

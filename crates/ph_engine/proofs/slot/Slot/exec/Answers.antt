@@ -13,7 +13,7 @@ returns-in-Some-clause-done g c =
     let s = c.args.self.now in
     let cmd = command_of c.args.cmd.now in
     let told = tells-said _ _ c.reply.result c.say.result c.say.ensures.answer c.say.ensures.told c.say.ensures.err c.say.ensures.front in
-    let begun = refused-begun s cmd (reply_of c.reply.result) (sym c.in-Some.ensures ∙ ap Some (sym c.reply.ensures)) in
+    let begun = refused-begun s cmd (reply_of c.reply.result) c.requires.slot (sym c.in-Some.ensures ∙ ap Some (sym c.reply.ensures)) in
     done-refused c.args.limits.now.file_bytes s cmd c.reply.result _ _ (g.F.Files.files c.args.files.now) (g.F.Files.faults c.args.files.now) c.args.visits.now c.args.changes.now c.say.result begun told
 
 pub returns-in-Put-clause-done : goal.returns-in-Put-clause-done

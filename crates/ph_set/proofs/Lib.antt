@@ -1,0 +1,8 @@
+-- The laws of set operations.
+pub mod Sights
+pub mod Parting
+mod Walking
+mod Joining
+mod Descending
+mod Meetings
+mod Rooted

@@ -1,0 +1,5 @@
+-- What the clauses of set operations cite.
+pub mod Held
+pub mod Meeting
+pub mod Parts
+pub mod Sides

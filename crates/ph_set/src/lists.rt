@@ -1,0 +1,174 @@
+//! All rows of a part of a tree.
+ghost use Rattle.std.specs.Prelude.{◌≡◌, ◌+◌, ◌≤◌, ◌++◌, [], length, map, take, OnOk};
+ghost use Rattle.ph_specs.specs.Node.{entries, node as held_node};
+ghost use Rattle.ph_node.specs.Shown.{shown};
+ghost use Rattle.ph_specs.specs.Combined.{chosen};
+ghost use Rattle.ph_specs.specs.WorkSets.{seen_nodes};
+ghost use Rattle.ph_set.specs.Held.{held_what};
+ghost use Rattle.ph_specs.specs.EntryEdits.{what_at};
+ghost use Rattle.ph_specs.specs.Lawful.{IsBody};
+ghost use Rattle.ph_specs.specs.PutTree.{body_above, digits_from};
+ghost use Rattle.ph_node.specs.Spots.{IsSpot, joined_digits};
+ghost use Rattle.ph_set.specs.Parts.{IsPart, openings, part_rows, part_nodes, rows_in, nodes_in, stretch};
+
+use crate::NoMemory;
+use crate::part::{HeldOf, PartOf, join_entry};
+use crate::side::SideOf;
+use ph_coord::Width;
+use ph_node::{NodeOf, NodeRefOf, Spot, WhatOf};
+use ph_shape::Space;
+use ph_steps::Steps;
+use std::sync::ledger::Ledger;
+
+/// Puts the rows of a part behind others.
+pub(crate) fn list_part<P: Space, V: Ledger>(
+    w: Width,
+    part: &PartOf<'_, NodeOf<P>>,
+    rows: &mut Vec<P::Row>,
+    visits: &mut Steps<V>,
+) -> Result<(), NoMemory>
+    requires dims { P.D ≤ 16 }
+    requires part { IsPart w P.D (take P.D part.now.digits) (held_what part.now.held) }
+    ensures rows { OnOk result (map P.row_of rows.new.items ≡ map P.row_of rows.old.items ++ part_rows w (take P.D part.now.digits) (held_what part.now.held)) }
+    ensures visits { visits.new ≤ visits.old + length (part_nodes w (take P.D part.now.digits) (held_what part.now.held)) }
+    ensures later { visits.old ≤ visits.new }
+{
+    match part.held {
+        HeldOf::Value(value) => {
+            rows.push(P::with_offsets(w, &part.digits, value))?;
+            Ok(())
+        }
+        HeldOf::Node(node) => {
+            list_stretch::<P, V>(w, node, &part.digits, 0, node.len(), rows, visits)
+        }
+    }
+}
+
+// Puts the rows of the entries of a node from one place up to another behind others.
+fn list_stretch<P: Space, V: Ledger>(
+    w: Width,
+    node: NodeRefOf<'_, NodeOf<P>>,
+    digits: &[u64; 16],
+    from: usize,
+    to: usize,
+    rows: &mut Vec<P::Row>,
+    visits: &mut Steps<V>,
+) -> Result<(), NoMemory>
+    requires dims { P.D ≤ 16 }
+    requires part { IsPart w P.D (take P.D digits.now) (held_node (shown node)) }
+    requires within { to ≤ length (entries (shown node)) }
+    ensures rows { OnOk result (map P.row_of rows.new.items ≡ map P.row_of rows.old.items ++ rows_in w (shown node.entry).level (take P.D digits.now) (stretch from to (entries (shown node.entry)))) }
+    ensures visits { visits.new ≤ visits.old + length (nodes_in w (shown node.entry).level (take P.D digits.now) (stretch from to (entries (shown node.entry)))) }
+    ensures later { visits.old ≤ visits.new }
+{
+    let mut known = *digits;
+    list_entries::<P, V>(w, node, &mut known, from, to, rows, visits)
+}
+
+// The same, where digits are known above the level of the node. What is known there does not change while digits are joined below it, so
+// one array serves all that is below a node.
+#[cycle(lists)]
+fn list_entries<P: Space, V: Ledger>(
+    w: Width,
+    node: NodeRefOf<'_, NodeOf<P>>,
+    known: &mut [u64; 16],
+    from: usize,
+    to: usize,
+    rows: &mut Vec<P::Row>,
+    visits: &mut Steps<V>,
+) -> Result<(), NoMemory>
+    requires dims { P.D ≤ 16 }
+    requires known { IsBody P.D w (take P.D known.old) }
+    requires part { IsPart w P.D (body_above (shown node).level (take P.D known.old)) (held_node (shown node)) }
+    requires within { to ≤ length (entries (shown node)) }
+    ensures rows { OnOk result (map P.row_of rows.new.items ≡ map P.row_of rows.old.items ++ rows_in w (shown node.entry).level (body_above (shown node.entry).level (take P.D known.old)) (stretch from to (entries (shown node.entry)))) }
+    ensures visits { visits.new ≤ visits.old + length (nodes_in w (shown node.entry).level (body_above (shown node.entry).level (take P.D known.old)) (stretch from to (entries (shown node.entry)))) }
+    ensures later { visits.old ≤ visits.new }
+    ensures known { OnOk result (IsBody P.D w (take P.D known.new)) }
+    ensures above { OnOk result (digits_from ((shown node.entry).level + 1) (take P.D known.new) ≡ digits_from ((shown node.entry).level + 1) (take P.D known.old)) }
+{
+    for i in from..to {
+        list_entry::<P, V>(w, node, node.spot(i), known, rows, visits)?;
+    }
+    Ok(())
+}
+
+// The same of one entry.
+#[cycle(lists)]
+fn list_entry<P: Space, V: Ledger>(
+    w: Width,
+    node: NodeRefOf<'_, NodeOf<P>>,
+    spot: Spot,
+    known: &mut [u64; 16],
+    rows: &mut Vec<P::Row>,
+    visits: &mut Steps<V>,
+) -> Result<(), NoMemory>
+    requires dims { P.D ≤ 16 }
+    requires spot { IsSpot (entries (shown node)) spot }
+    requires known { IsBody P.D w (take P.D known.old) }
+    requires part { IsPart w P.D (body_above (shown node).level (take P.D known.old)) (held_node (shown node)) }
+    ensures rows { OnOk result (map P.row_of rows.new.items ≡ map P.row_of rows.old.items ++ part_rows w (joined_digits (shown node.entry) spot (take P.D known.old)) (what_at (entries (shown node.entry)) spot.place)) }
+    ensures visits { visits.new ≤ visits.old + (openings (what_at (entries (shown node.entry)) spot.place) + length (part_nodes w (joined_digits (shown node.entry) spot (take P.D known.old)) (what_at (entries (shown node.entry)) spot.place))) }
+    ensures later { visits.old ≤ visits.new }
+    ensures known { OnOk result (IsBody P.D w (take P.D known.new)) }
+    ensures above { OnOk result (digits_from ((shown node.entry).level + 1) (take P.D known.new) ≡ digits_from ((shown node.entry).level + 1) (take P.D known.old)) }
+{
+    // A use that makes the range of the width known.
+    let _bits = w.bits();
+    join_entry(node, spot, known);
+    match node.what(spot) {
+        WhatOf::Value(value) => {
+            rows.push(P::with_offsets(w, known, value))?;
+            Ok(())
+        }
+        WhatOf::Child(child) => {
+            let below = child.visit(visits);
+            list_entries::<P, V>(w, below, known, 0, below.len(), rows, visits)
+        }
+    }
+}
+
+/// The same as [`list_part`] where the rows are kept, and else nothing.
+pub(crate) fn list_part_if<P: Space, V: Ledger>(
+    keep: bool,
+    w: Width,
+    part: &PartOf<'_, NodeOf<P>>,
+    rows: &mut Vec<P::Row>,
+    visits: &mut Steps<V>,
+) -> Result<(), NoMemory>
+    requires dims { P.D ≤ 16 }
+    requires part { IsPart w P.D (take P.D part.now.digits) (held_what part.now.held) }
+    ensures rows { OnOk result (map P.row_of rows.new.items ≡ map P.row_of rows.old.items ++ chosen keep (part_rows w (take P.D part.now.digits) (held_what part.now.held))) }
+    ensures visits { visits.new ≤ visits.old + seen_nodes w keep [] (part_nodes w (take P.D part.now.digits) (held_what part.now.held)) }
+    ensures later { visits.old ≤ visits.new }
+{
+    if keep {
+        list_part::<P, V>(w, part, rows, visits)
+    } else {
+        Ok(())
+    }
+}
+
+/// The same as [`list_stretch`] where the rows are kept, and else nothing.
+pub(crate) fn list_stretch_if<P: Space, V: Ledger>(
+    keep: bool,
+    w: Width,
+    side: &SideOf<'_, NodeOf<P>>,
+    from: usize,
+    to: usize,
+    rows: &mut Vec<P::Row>,
+    visits: &mut Steps<V>,
+) -> Result<(), NoMemory>
+    requires dims { P.D ≤ 16 }
+    requires part { IsPart w P.D (take P.D side.now.digits.now) (held_node (shown side.now.node)) }
+    requires within { to ≤ length (entries (shown side.now.node)) }
+    ensures rows { OnOk result (map P.row_of rows.new.items ≡ map P.row_of rows.old.items ++ chosen keep (rows_in w (shown side.now.node).level (take P.D side.now.digits.now) (stretch from to (entries (shown side.now.node))))) }
+    ensures visits { visits.new ≤ visits.old + seen_nodes w keep [] (nodes_in w (shown side.now.node).level (take P.D side.now.digits.now) (stretch from to (entries (shown side.now.node)))) }
+    ensures later { visits.old ≤ visits.new }
+{
+    if keep {
+        list_stretch::<P, V>(w, side.node, side.digits, from, to, rows, visits)
+    } else {
+        Ok(())
+    }
+}

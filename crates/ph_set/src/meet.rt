@@ -1,0 +1,337 @@
+//! A descent of two trees at once.
+//!
+//! Two parts meet where the points of the lower one lie in the region of the higher one. A child is visited where its entry
+//! has something of the other tree at its address, which is where its region holds a point of the other tree, or where all its
+//! rows are listed.
+ghost use Rattle.std.specs.Prelude.{◌≡◌, ◌+◌, ◌<◌, ◌≤◌, ◌++◌, length, map, take, None, Some, OnOk, IfOk};
+ghost use Rattle.std.specs.List.{AllByRecursion as Each};
+ghost use Rattle.ph_specs.specs.Node.{entries, node as held_node, value as held_value};
+ghost use Rattle.ph_specs.specs.PutTree.{digits_from};
+ghost use Rattle.ph_node.specs.Merge.{addr_at};
+ghost use Rattle.ph_node.specs.Shown.{shown};
+ghost use Rattle.ph_specs.specs.Combined.{chosen};
+ghost use Rattle.ph_specs.specs.WorkSets.{seen_nodes};
+ghost use Rattle.ph_set.specs.Held.{held_what};
+ghost use Rattle.ph_set.specs.Meeting.{IsParting, kept, work, kept_of, work_of};
+ghost use Rattle.ph_set.specs.Sides.{AreBeside, side_entries, kept_from, work_from};
+ghost use Rattle.ph_set.specs.Parts.{IsPart, height, part_rows, part_nodes, rows_in, nodes_in, rows_on, nodes_on, stretch};
+
+use crate::NoMemory;
+use crate::lists::{list_part_if, list_stretch_if};
+use crate::part::{HeldOf, PartOf, part_at};
+use crate::plan::Plan;
+use crate::side::{SideOf, place_from};
+use ph_coord::Dims;
+use ph_digits::{body_address, top_difference};
+use ph_node::{NodeOf, NodeRefOf};
+use ph_shape::Space;
+use ph_steps::Steps;
+use std::sync::ledger::Ledger;
+
+/// Lists what a plan keeps of two parts that are lawful.
+#[cycle(meet)]
+pub(crate) fn meet<P: Space, V: Ledger>(
+    plan: &Plan,
+    x: &PartOf<'_, NodeOf<P>>,
+    y: &PartOf<'_, NodeOf<P>>,
+    rows: &mut Vec<P::Row>,
+    visits: &mut Steps<V>,
+) -> Result<(), NoMemory>
+    requires dims { P.D ≤ 16 }
+    requires left { IsPart plan.now.width P.D (take P.D x.now.digits) (held_what x.now.held) }
+    requires right { IsPart plan.now.width P.D (take P.D y.now.digits) (held_what y.now.held) }
+    ensures rows { OnOk result (map P.row_of rows.new.items ≡ map P.row_of rows.old.items ++ kept_of plan.now (take P.D x.now.digits) (held_what x.now.held) (take P.D y.now.digits) (held_what y.now.held)) }
+    ensures visits { visits.new ≤ visits.old + work_of plan.now (take P.D x.now.digits) (held_what x.now.held) (take P.D y.now.digits) (held_what y.now.held) }
+    ensures later { visits.old ≤ visits.new }
+{
+    if let Some(place) = parting(x, y) {
+        return list_apart::<P, V>(plan, x, y, place, rows, visits);
+    }
+    match (x.held, y.held) {
+        (HeldOf::Value(value), HeldOf::Value(_)) => list_both::<P>(plan, x, value, rows),
+        (HeldOf::Node(a), HeldOf::Value(_)) => over_left::<P, V>(plan, a, x, y, rows, visits),
+        (HeldOf::Value(_), HeldOf::Node(b)) => over_right::<P, V>(plan, x, b, y, rows, visits),
+        (HeldOf::Node(a), HeldOf::Node(b)) => meet_nodes::<P, V>(plan, a, x, b, y, rows, visits),
+    }
+}
+
+// Lists what a plan keeps of two nodes whose digits agree above both.
+#[cycle(meet)]
+fn meet_nodes<P: Space, V: Ledger>(
+    plan: &Plan,
+    a: NodeRefOf<'_, NodeOf<P>>,
+    x: &PartOf<'_, NodeOf<P>>,
+    b: NodeRefOf<'_, NodeOf<P>>,
+    y: &PartOf<'_, NodeOf<P>>,
+    rows: &mut Vec<P::Row>,
+    visits: &mut Steps<V>,
+) -> Result<(), NoMemory>
+    requires dims { P.D ≤ 16 }
+    requires left { IsPart plan.now.width P.D (take P.D x.now.digits) (held_node (shown a)) }
+    requires right { IsPart plan.now.width P.D (take P.D y.now.digits) (held_node (shown b)) }
+    requires low { held_what x.now.held ≡ held_node (shown a) }
+    requires high { held_what y.now.held ≡ held_node (shown b) }
+    requires agree { IsParting ((shown a).level + 1) ((shown b).level + 1) (take P.D x.now.digits) (take P.D y.now.digits) None }
+    ensures rows { OnOk result (map P.row_of rows.new.items ≡ map P.row_of rows.old.items ++ kept_of plan.now (take P.D x.now.digits) (held_node (shown a.entry)) (take P.D y.now.digits) (held_node (shown b.entry))) }
+    ensures visits { visits.new ≤ visits.old + work_of plan.now (take P.D x.now.digits) (held_node (shown a.entry)) (take P.D y.now.digits) (held_node (shown b.entry)) }
+    ensures later { visits.old ≤ visits.new }
+{
+    if a.level() > b.level() {
+        return over_left::<P, V>(plan, a, x, y, rows, visits);
+    }
+    if a.level() < b.level() {
+        return over_right::<P, V>(plan, x, b, y, rows, visits);
+    }
+    let left = SideOf {
+        node: a,
+        digits: &x.digits,
+    };
+    let right = SideOf {
+        node: b,
+        digits: &y.digits,
+    };
+    side_by_side::<P, V>(plan, &left, &right, rows, visits)
+}
+
+// Lists what a plan keeps of a node and a lower part that lies at one address in it.
+#[cycle(meet)]
+fn over_left<P: Space, V: Ledger>(
+    plan: &Plan,
+    a: NodeRefOf<'_, NodeOf<P>>,
+    x: &PartOf<'_, NodeOf<P>>,
+    y: &PartOf<'_, NodeOf<P>>,
+    rows: &mut Vec<P::Row>,
+    visits: &mut Steps<V>,
+) -> Result<(), NoMemory>
+    requires dims { P.D ≤ 16 }
+    requires left { IsPart plan.now.width P.D (take P.D x.now.digits) (held_node (shown a)) }
+    requires right { IsPart plan.now.width P.D (take P.D y.now.digits) (held_what y.now.held) }
+    requires lower { height (held_what y.now.held) ≤ (shown a).level }
+    requires agree { digits_from ((shown a).level + 1) (take P.D x.now.digits) ≡ digits_from ((shown a).level + 1) (take P.D y.now.digits) }
+    ensures rows { OnOk result (map P.row_of rows.new.items ≡ map P.row_of rows.old.items ++ kept_of plan.now (take P.D x.now.digits) (held_node (shown a.entry)) (take P.D y.now.digits) (held_what y.now.held)) }
+    ensures visits { visits.new ≤ visits.old + work_of plan.now (take P.D x.now.digits) (held_node (shown a.entry)) (take P.D y.now.digits) (held_what y.now.held) }
+    ensures later { visits.old ≤ visits.new }
+{
+    // A use that makes the range of the width known.
+    let _bits = plan.width.bits();
+    let dims = P::D;
+    let w = plan.width;
+    let left = plan.left;
+    let end = a.len();
+    let side = SideOf {
+        node: a,
+        digits: &x.digits,
+    };
+    match a.search(body_address(a.level(), &y.digits[..dims])) {
+        Ok(spot) => {
+            list_stretch_if::<P, V>(left, w, &side, 0, spot.place, rows, visits)?;
+            let part = part_at(a, &x.digits, spot, visits);
+            meet::<P, V>(plan, &part, y, rows, visits)?;
+            let behind = spot.place + 1;
+            list_stretch_if::<P, V>(left, w, &side, behind, end, rows, visits)
+        }
+        Err(place) => {
+            list_stretch_if::<P, V>(left, w, &side, 0, place, rows, visits)?;
+            list_part_if::<P, V>(plan.right, w, y, rows, visits)?;
+            list_stretch_if::<P, V>(left, w, &side, place, end, rows, visits)
+        }
+    }
+}
+
+// The same with the node on the right.
+#[cycle(meet)]
+fn over_right<P: Space, V: Ledger>(
+    plan: &Plan,
+    x: &PartOf<'_, NodeOf<P>>,
+    b: NodeRefOf<'_, NodeOf<P>>,
+    y: &PartOf<'_, NodeOf<P>>,
+    rows: &mut Vec<P::Row>,
+    visits: &mut Steps<V>,
+) -> Result<(), NoMemory>
+    requires dims { P.D ≤ 16 }
+    requires left { IsPart plan.now.width P.D (take P.D x.now.digits) (held_what x.now.held) }
+    requires right { IsPart plan.now.width P.D (take P.D y.now.digits) (held_node (shown b)) }
+    requires lower { height (held_what x.now.held) ≤ (shown b).level }
+    requires agree { digits_from ((shown b).level + 1) (take P.D x.now.digits) ≡ digits_from ((shown b).level + 1) (take P.D y.now.digits) }
+    ensures rows { OnOk result (map P.row_of rows.new.items ≡ map P.row_of rows.old.items ++ kept_of plan.now (take P.D x.now.digits) (held_what x.now.held) (take P.D y.now.digits) (held_node (shown b.entry))) }
+    ensures visits { visits.new ≤ visits.old + work_of plan.now (take P.D x.now.digits) (held_what x.now.held) (take P.D y.now.digits) (held_node (shown b.entry)) }
+    ensures later { visits.old ≤ visits.new }
+{
+    // A use that makes the range of the width known.
+    let _bits = plan.width.bits();
+    let dims = P::D;
+    let w = plan.width;
+    let right = plan.right;
+    let end = b.len();
+    let side = SideOf {
+        node: b,
+        digits: &y.digits,
+    };
+    match b.search(body_address(b.level(), &x.digits[..dims])) {
+        Ok(spot) => {
+            list_stretch_if::<P, V>(right, w, &side, 0, spot.place, rows, visits)?;
+            let part = part_at(b, &y.digits, spot, visits);
+            meet::<P, V>(plan, x, &part, rows, visits)?;
+            let behind = spot.place + 1;
+            list_stretch_if::<P, V>(right, w, &side, behind, end, rows, visits)
+        }
+        Err(place) => {
+            list_stretch_if::<P, V>(right, w, &side, 0, place, rows, visits)?;
+            list_part_if::<P, V>(plan.left, w, x, rows, visits)?;
+            list_stretch_if::<P, V>(right, w, &side, place, end, rows, visits)
+        }
+    }
+}
+
+// Lists what a plan keeps of two nodes at one level whose digits agree above it.
+//
+// Entries at whose addresses the other node has none are passed in one step, so there are at most two steps for each entry of the
+// node that has fewer, and one.
+#[cycle(meet)]
+fn side_by_side<P: Space, V: Ledger>(
+    plan: &Plan,
+    a: &SideOf<'_, NodeOf<P>>,
+    b: &SideOf<'_, NodeOf<P>>,
+    rows: &mut Vec<P::Row>,
+    visits: &mut Steps<V>,
+) -> Result<(), NoMemory>
+    requires dims { P.D ≤ 16 }
+    requires sides { AreBeside plan.now.width P.D a.now b.now }
+    ensures rows { OnOk result (map P.row_of rows.new.items ≡ map P.row_of rows.old.items ++ kept_from plan.now P.D a.now 0 b.now 0) }
+    ensures visits { visits.new ≤ visits.old + work_from plan.now P.D a.now 0 b.now 0 }
+    ensures later { visits.old ≤ visits.new }
+{
+    let lefts = a.node.len();
+    let rights = b.node.len();
+    let mut i = 0;
+    let mut j = 0;
+    while i < lefts && j < rights {
+        let (next, other) = pair_at::<P, V>(plan, a, i, b, j, rows, visits)?;
+        i = next;
+        j = other;
+    }
+    let w = plan.width;
+    list_stretch_if::<P, V>(plan.left, w, a, i, lefts, rows, visits)?;
+    list_stretch_if::<P, V>(plan.right, w, b, j, rights, rows, visits)
+}
+
+// Lists what a plan keeps of two entries of such nodes, or of the entries of one of them up to the address of the other one's. The
+// answer is the places behind what is passed.
+#[cycle(meet)]
+fn pair_at<P: Space, V: Ledger>(
+    plan: &Plan,
+    a: &SideOf<'_, NodeOf<P>>,
+    i: usize,
+    b: &SideOf<'_, NodeOf<P>>,
+    j: usize,
+    rows: &mut Vec<P::Row>,
+    visits: &mut Steps<V>,
+) -> Result<(usize, usize), NoMemory>
+    requires dims { P.D ≤ 16 }
+    requires sides { AreBeside plan.now.width P.D a.now b.now }
+    requires first { i < length (side_entries a.now) }
+    requires second { j < length (side_entries b.now) }
+    ensures rows { IfOk result (λ k. map P.row_of rows.new.items ++ kept_from plan.now P.D a.now k.0 b.now k.1 ≡ map P.row_of rows.old.items ++ kept_from plan.now P.D a.now i b.now j) }
+    ensures left_over { IfOk result (λ k. visits.new + work_from plan.now P.D a.now k.0 b.now k.1 ≤ visits.old + work_from plan.now P.D a.now i b.now j) }
+    ensures visits { visits.new ≤ visits.old + work_from plan.now P.D a.now i b.now j }
+    ensures later { visits.old ≤ visits.new }
+    ensures ahead { IfOk result (λ k. (i ≤ k.0) × (j ≤ k.1) × (i + j < k.0 + k.1)) }
+    ensures inside { IfOk result (λ k. (k.0 ≤ length (side_entries a.now)) × (k.1 ≤ length (side_entries b.now))) }
+{
+    // Uses that make known the range of the width, and how many entries there are at most.
+    let _bits = plan.width.bits();
+    let _lefts = a.node.len();
+    let _rights = b.node.len();
+    let w = plan.width;
+    let left = a.node.spot(i);
+    let right = b.node.spot(j);
+    if left.addr < right.addr {
+        let next = place_from(a.node, right.addr);
+        list_stretch_if::<P, V>(plan.left, w, a, i, next, rows, visits)?;
+        return Ok((next, j));
+    }
+    if right.addr < left.addr {
+        let next = place_from(b.node, left.addr);
+        list_stretch_if::<P, V>(plan.right, w, b, j, next, rows, visits)?;
+        return Ok((i, next));
+    }
+    let x = part_at(a.node, a.digits, left, visits);
+    let y = part_at(b.node, b.digits, right, visits);
+    meet::<P, V>(plan, &x, &y, rows, visits)?;
+    Ok((i + 1, j + 1))
+}
+
+// The greatest place at which the digits of two parts differ, where it is known of both. None where they are the same from where
+// both are known on.
+fn parting<P: Dims>(x: &PartOf<'_, NodeOf<P>>, y: &PartOf<'_, NodeOf<P>>) -> Option<u32>
+    requires dims { P.D ≤ 16 }
+    ensures { IsParting (height (held_what x.now.held)) (height (held_what y.now.held)) (take P.D x.now.digits) (take P.D y.now.digits) result }
+{
+    let dims = P::D;
+    let Some(place) = top_difference(&x.digits[..dims], &y.digits[..dims]) else {
+        return None;
+    };
+    if place < height_of(x.held) {
+        return None;
+    }
+    if place < height_of(y.held) {
+        return None;
+    }
+    Some(place)
+}
+
+// From which place on the digits of a part are known.
+fn height_of<P: Dims>(held: HeldOf<'_, NodeOf<P>>) -> u32
+    ensures { result ≡ height (held_what held.entry) }
+{
+    match held {
+        HeldOf::Value(_) => 0,
+        HeldOf::Node(node) => node.level() + 1,
+    }
+}
+
+// Lists what a plan keeps of two parts that no point has in common.
+fn list_apart<P: Space, V: Ledger>(
+    plan: &Plan,
+    x: &PartOf<'_, NodeOf<P>>,
+    y: &PartOf<'_, NodeOf<P>>,
+    place: u32,
+    rows: &mut Vec<P::Row>,
+    visits: &mut Steps<V>,
+) -> Result<(), NoMemory>
+    requires dims { P.D ≤ 16 }
+    requires left { IsPart plan.now.width P.D (take P.D x.now.digits) (held_what x.now.held) }
+    requires right { IsPart plan.now.width P.D (take P.D y.now.digits) (held_what y.now.held) }
+    requires apart { IsParting (height (held_what x.now.held)) (height (held_what y.now.held)) (take P.D x.now.digits) (take P.D y.now.digits) (Some place) }
+    ensures rows { OnOk result (map P.row_of rows.new.items ≡ map P.row_of rows.old.items ++ kept_of plan.now (take P.D x.now.digits) (held_what x.now.held) (take P.D y.now.digits) (held_what y.now.held)) }
+    ensures visits { visits.new ≤ visits.old + work_of plan.now (take P.D x.now.digits) (held_what x.now.held) (take P.D y.now.digits) (held_what y.now.held) }
+    ensures later { visits.old ≤ visits.new }
+{
+    let dims = P::D;
+    let first = body_address(place, &x.digits[..dims]);
+    let second = body_address(place, &y.digits[..dims]);
+    if first < second {
+        list_part_if::<P, V>(plan.left, plan.width, x, rows, visits)?;
+        list_part_if::<P, V>(plan.right, plan.width, y, rows, visits)
+    } else {
+        list_part_if::<P, V>(plan.right, plan.width, y, rows, visits)?;
+        list_part_if::<P, V>(plan.left, plan.width, x, rows, visits)
+    }
+}
+
+// Lists the row of the left tree at a point of both, if it is kept.
+fn list_both<P: Space>(
+    plan: &Plan,
+    x: &PartOf<'_, NodeOf<P>>,
+    value: u64,
+    rows: &mut Vec<P::Row>,
+) -> Result<(), NoMemory>
+    requires dims { P.D ≤ 16 }
+    requires left { IsPart plan.now.width P.D (take P.D x.now.digits) (held_value value) }
+    ensures { OnOk result (map P.row_of rows.new.items ≡ map P.row_of rows.old.items ++ chosen plan.now.both (part_rows plan.now.width (take P.D x.now.digits) (held_value value))) }
+{
+    if plan.both {
+        rows.push(P::with_offsets(plan.width, &x.digits, value))?;
+    }
+    Ok(())
+}

@@ -1,0 +1,106 @@
+//! A descent of two trees from their roots.
+ghost use Rattle.std.specs.Prelude.{◌≡◌, ◌+◌, ◌≤◌, ◌++◌, [], map, take, replicate, Some, OnOk};
+ghost use Rattle.std.specs.Option.{option_copied};
+ghost use Rattle.ph_specs.specs.Lawful.{IsLawful, rows as rows_of};
+ghost use Rattle.ph_specs.specs.Node.{node as held_node};
+ghost use Rattle.ph_specs.specs.WorkSets.{placed};
+ghost use Rattle.ph_specs.specs.Combined.{chosen};
+ghost use Rattle.ph_specs.specs.WorkSets.{seen_nodes};
+ghost use Rattle.ph_set.specs.Held.{held_what};
+ghost use Rattle.ph_set.specs.Meeting.{kept, work};
+
+use crate::NoMemory;
+use crate::lists::list_part;
+use crate::meet::meet;
+use crate::part::{HeldOf, PartOf};
+use crate::plan::Plan;
+use ph_coord::{Dims, Width};
+use ph_node::NodeOf;
+use ph_shape::Space;
+use ph_steps::Steps;
+use std::sync::ledger::Ledger;
+
+/// Lists what a plan keeps of two lawful trees of its width.
+pub(crate) fn list_roots<P: Space, V: Ledger>(
+    plan: &Plan,
+    a: Option<&NodeOf<P>>,
+    b: Option<&NodeOf<P>>,
+    rows: &mut Vec<P::Row>,
+    visits: &mut Steps<V>,
+) -> Result<(), NoMemory>
+    requires dims { P.D ≤ 16 }
+    requires left { IsLawful plan.now.width P.D (option_copied a) }
+    requires right { IsLawful plan.now.width P.D (option_copied b) }
+    ensures rows { OnOk result (map P.row_of rows.new.items ≡ map P.row_of rows.old.items ++ kept plan.now (rows_of plan.now.width P.D (option_copied a.entry)) (rows_of plan.now.width P.D (option_copied b.entry))) }
+    ensures visits { visits.new ≤ visits.old + work plan.now (rows_of plan.now.width P.D (option_copied a.entry)) (placed plan.now.width P.D (option_copied a.entry)) (rows_of plan.now.width P.D (option_copied b.entry)) (placed plan.now.width P.D (option_copied b.entry)) }
+    ensures later { visits.old ≤ visits.new }
+{
+    match (a, b) {
+        (Some(x), Some(y)) => meet_roots::<P, V>(plan, x, y, rows, visits),
+        (Some(x), None) => list_root::<P, V>(plan.left, plan.width, x, rows, visits),
+        (None, Some(y)) => list_root::<P, V>(plan.right, plan.width, y, rows, visits),
+        (None, None) => Ok(()),
+    }
+}
+
+// The same of two trees that have rows.
+fn meet_roots<P: Space, V: Ledger>(
+    plan: &Plan,
+    x: &NodeOf<P>,
+    y: &NodeOf<P>,
+    rows: &mut Vec<P::Row>,
+    visits: &mut Steps<V>,
+) -> Result<(), NoMemory>
+    requires dims { P.D ≤ 16 }
+    requires left { IsLawful plan.now.width P.D (Some x.now) }
+    requires right { IsLawful plan.now.width P.D (Some y.now) }
+    ensures rows { OnOk result (map P.row_of rows.new.items ≡ map P.row_of rows.old.items ++ kept plan.now (rows_of plan.now.width P.D (Some x.now)) (rows_of plan.now.width P.D (Some y.now))) }
+    ensures visits { visits.new ≤ visits.old + work plan.now (rows_of plan.now.width P.D (Some x.now)) (placed plan.now.width P.D (Some x.now)) (rows_of plan.now.width P.D (Some y.now)) (placed plan.now.width P.D (Some y.now)) }
+    ensures later { visits.old ≤ visits.new }
+{
+    // A use that makes the range of the width known.
+    let _bits = plan.width.bits();
+    let left = root_part(x, visits);
+    let right = root_part(y, visits);
+    meet::<P, V>(plan, &left, &right, rows, visits)
+}
+
+// Lists all rows of a tree where they are kept, and else nothing.
+fn list_root<P: Space, V: Ledger>(
+    keep: bool,
+    w: Width,
+    x: &NodeOf<P>,
+    rows: &mut Vec<P::Row>,
+    visits: &mut Steps<V>,
+) -> Result<(), NoMemory>
+    requires dims { P.D ≤ 16 }
+    requires tree { IsLawful w P.D (Some x.now) }
+    ensures rows { OnOk result (map P.row_of rows.new.items ≡ map P.row_of rows.old.items ++ chosen keep (rows_of w P.D (Some x.now))) }
+    ensures visits { visits.new ≤ visits.old + seen_nodes w keep [] (placed w P.D (Some x.now)) }
+    ensures later { visits.old ≤ visits.new }
+{
+    // A use that makes the range of the width known.
+    let _bits = w.bits();
+    if keep {
+        let part = root_part(x, visits);
+        list_part::<P, V>(w, &part, rows, visits)
+    } else {
+        Ok(())
+    }
+}
+
+// A root, of which no digit is known.
+fn root_part<'t, P: Dims, V: Ledger>(
+    root: &'t NodeOf<P>,
+    visits: &mut Steps<V>,
+) -> PartOf<'t, NodeOf<P>>
+    requires dims { P.D ≤ 16 }
+    ensures digits { take P.D result.digits ≡ replicate P.D 0 }
+    ensures held { held_what result.held ≡ held_node root.now }
+    ensures cost { visits.new ≡ visits.old + 1 }
+{
+    PartOf {
+        digits: [0; 16],
+        held: HeldOf::Node(root.visit(visits)),
+    }
+}
