@@ -1,0 +1,5 @@
+-- Lemmas on trees that keep their last edits.
+pub mod Noted
+pub mod Undone
+pub mod WhichMoves
+pub mod WhichRemovals

@@ -1,0 +1,172 @@
+-- What an inverse adds to what is kept.
+use Rattle.std.proofs.Common.{◌≡◌, ℕ, suc, zero, ◌≤◌, List, [], ◌∷◌, length, take, drop, refl, sym, ◌∙◌, ap, subst, arith}
+use Rattle.std.specs.Prelude.{Option, Some, None, slice_get, unwrap_or}
+use Rattle.std.specs.List.{AllByRecursion as Each}
+use Rattle.std.proofs.lemmas.List.{length-take}
+use Rattle.circular_buffer.specs.Buffer.{Buffer}
+use Rattle.ph_specs.specs.Past.{Past, after_edit, back}
+use Rattle.ph_specs.specs.Table.{Row}
+use Rattle.ph_tree.specs.Tree.{TreeTable}
+use Rattle.ph_undo.specs.Steps.{undone, past_of, IsStep, IsChange, AreChanges}
+use Rattle.ph_undo.specs.Rings.{steps_in, room_in}
+use Rattle.ph_undo.specs.Kept.{kept_of, IsKept}
+use Rattle.ph_undo.specs.declared.step.Step.{Step}
+
+-- ---- lists
+
+each-take : {X : Type 0} (P : X → Type 0) (n : ℕ) (xs : List X) → Each P xs → Each P (take n xs)
+each-take P zero xs h = tt
+each-take P (suc n) [] h = h
+each-take P (suc n) (x ∷ xs) h = (h.0, each-take P n xs h.1)
+
+pub past-take : {D : ℕ} (w n : ℕ) (table : List Row) (steps : List (Step D)) → past_of w table (take n steps) ≡ take n (past_of w table steps)
+past-take w zero table steps = refl
+past-take w (suc n) table [] = refl
+past-take w (suc n) table (s ∷ steps) = ap {B = List (List Row)} (λ ts. undone w table s ∷ ts) (past-take w n (undone w table s) steps)
+
+changes-take : {D : ℕ} (w n : ℕ) (table : List Row) (steps : List (Step D)) → AreChanges w table steps → AreChanges w table (take n steps)
+changes-take w zero table steps h = tt
+changes-take w (suc n) table [] h = h
+changes-take w (suc n) table (s ∷ steps) h = (h.0, changes-take w n (undone w table s) steps h.1)
+
+pub length-past : {D : ℕ} (w : ℕ) (table : List Row) (steps : List (Step D)) → length (past_of w table steps) ≡ length steps
+length-past w table [] = refl
+length-past w table (s ∷ steps) = ap suc (length-past w (undone w table s) steps)
+
+pub first-none : {X : Type 0} (xs : List X) → slice_get xs 0 ≡ None → xs ≡ []
+first-none [] e = refl
+first-none (x ∷ xs) e = absurd (no e)
+  where
+    no : Some x ≡ None → ⊥
+    no e = cc
+
+pub first-some : {X : Type 0} (xs : List X) (x : X) → slice_get xs 0 ≡ Some x → xs ≡ x ∷ drop 1 xs
+first-some [] x e = absurd (no e)
+  where
+    no : None ≡ Some x → ⊥
+    no e = cc
+first-some (y ∷ xs) x e = λ i. same e i ∷ xs
+  where
+    same : Some y ≡ Some x → y ≡ x
+    same e = cc
+
+-- ---- an edit
+
+-- the tree with another table
+abbrev pub with_table : TreeTable → List Row → TreeTable
+with_table t table = record t { table = table }
+
+-- an edit, with its inverse in front of the others
+module _ {D : ℕ} (t : TreeTable) (table : List Row) (depth : ℕ) (s : Step D) (ring now : Option (Buffer (Step D))) (k : IsKept D t depth ring)
+    (steps : steps_in now ≡ take (room_in ring) (s ∷ steps_in ring)) (room : room_in now ≡ room_in ring)
+    (point : IsStep t.width s) (change : IsChange table s) (limit : length t.table ≤ t.max) (before : undone t.width table s ≡ t.table) where
+  cut : steps_in now ≡ take depth (s ∷ steps_in ring)
+  cut = steps ∙ ap (λ n. take n (s ∷ steps_in ring)) k.room
+
+  past-noted : past_of t.width table (steps_in now) ≡ take depth (t.table ∷ past_of t.width t.table (steps_in ring))
+  past-noted =
+      ap (past_of t.width table) cut
+      ∙ past-take t.width depth table (s ∷ steps_in ring)
+      ∙ ap (λ b. take depth (b ∷ past_of t.width b (steps_in ring))) before
+
+  short : length (steps_in now) ≤ depth
+  short = omega (arith, ap (λ (xs : List (Step D)). length xs) cut, length-take depth (s ∷ steps_in ring))
+
+  pub is_kept-noted : IsKept D (with_table t table) depth now
+  is_kept-noted = record {
+    few = k.few;
+    limit = k.limit;
+    room = room ∙ k.room;
+    within = short;
+    points = subst (Each (IsStep t.width)) (sym cut) (each-take (IsStep t.width) depth (s ∷ steps_in ring) (point, k.points));
+    fit = subst (Each (λ u. length u ≤ t.max)) (sym past-noted) (each-take (λ u. length u ≤ t.max) depth _ (limit, k.fit));
+    changes = subst (AreChanges t.width table) (sym cut) (changes-take t.width depth table (s ∷ steps_in ring) (change, subst (λ u. AreChanges t.width u (steps_in ring)) (sym before) k.changes));
+  }
+
+  pub kept-noted : kept_of (with_table t table) depth now ≡ after_edit (kept_of t depth ring) table
+  kept-noted = λ i. record { table = table; width = t.width; max = t.max; depth = depth; past = past-noted i }
+
+-- the same together
+pub record IsNoted (D : ℕ) (t : TreeTable) (table : List Row) (depth : ℕ) (ring now : Option (Buffer (Step D))) : Type 0 where
+  pub kept : IsKept D (with_table t table) depth now
+  pub view : kept_of (with_table t table) depth now ≡ after_edit (kept_of t depth ring) table
+
+pub noted : {D : ℕ} (t : TreeTable) (table : List Row) (depth : ℕ) (s : Step D) (ring now : Option (Buffer (Step D))) → IsKept D t depth ring
+    → steps_in now ≡ take (room_in ring) (s ∷ steps_in ring) → room_in now ≡ room_in ring → IsStep t.width s → IsChange table s → length t.table ≤ t.max → undone t.width table s ≡ t.table
+    → IsNoted D t table depth ring now
+noted t table depth s ring now k steps room point change limit before = record {
+  kept = is_kept-noted t table depth s ring now k steps room point change limit before;
+  view = kept-noted t table depth s ring now k steps room point change limit before;
+}
+
+-- ---- a command that is no edit
+
+-- the same inverses in another ring
+pub is_kept-same : {D : ℕ} (t : TreeTable) (depth : ℕ) (ring now : Option (Buffer (Step D))) → IsKept D t depth ring → steps_in now ≡ steps_in ring → room_in now ≡ room_in ring → IsKept D t depth now
+is_kept-same t depth ring now k steps room = record {
+  few = k.few;
+  limit = k.limit;
+  room = room ∙ k.room;
+  within = omega (arith, k.within, ap (λ (xs : List (Step _)). length xs) steps);
+  points = subst (Each (IsStep t.width)) (sym steps) k.points;
+  fit = subst (λ ss. Each (λ u. length u ≤ t.max) (past_of t.width t.table ss)) (sym steps) k.fit;
+  changes = subst (AreChanges t.width t.table) (sym steps) k.changes;
+}
+
+pub kept-same : {D : ℕ} (t : TreeTable) (depth : ℕ) (ring now : Option (Buffer (Step D))) → steps_in now ≡ steps_in ring → kept_of t depth now ≡ kept_of t depth ring
+kept-same t depth ring now steps =
+    λ i. record { table = t.table; width = t.width; max = t.max; depth = depth; past = past_of t.width t.table (steps i) }
+
+-- ---- an edit that is taken back
+
+module _ {D : ℕ} (t : TreeTable) (depth : ℕ) (s : Step D) (rest : List (Step D)) (ring : Option (Buffer (Step D))) (k : IsKept D t depth ring) (is : steps_in ring ≡ s ∷ rest) where
+  pub first_point : IsStep t.width s
+  first_point = (subst (Each (IsStep t.width)) is k.points).0
+
+  pub first_changes : IsChange t.table s
+  first_changes = (subst (AreChanges t.width t.table) is k.changes).0
+
+  pub first_fits : length (undone t.width t.table s) ≤ t.max
+  first_fits = (subst (λ ss. Each (λ u. length u ≤ t.max) (past_of t.width t.table ss)) is k.fit).0
+
+  pub is_kept-back : (u : TreeTable) → u ≡ with_table t (undone t.width t.table s) → (now : Option (Buffer (Step D))) → steps_in now ≡ drop 1 (steps_in ring) → room_in now ≡ room_in ring → IsKept D u depth now
+  is_kept-back u at now left room =
+      let gone : steps_in now ≡ rest = left ∙ ap {B = List (Step D)} (drop 1) is in
+      subst (λ v. IsKept D v depth now) (sym at)
+      (record {
+        few = k.few;
+        limit = k.limit;
+        room = room ∙ k.room;
+        within = omega (arith, k.within, ap (λ (xs : List (Step D)). length xs) is, ap (λ (xs : List (Step D)). length xs) gone);
+        points = subst (Each (IsStep t.width)) (sym gone) (subst (Each (IsStep t.width)) is k.points).1;
+        fit = subst (λ ss. Each (λ u. length u ≤ t.max) (past_of t.width (undone t.width t.table s) ss)) (sym gone) (subst (λ ss. Each (λ u. length u ≤ t.max) (past_of t.width t.table ss)) is k.fit).1;
+        changes = subst (AreChanges t.width (undone t.width t.table s)) (sym gone) (subst (AreChanges t.width t.table) is k.changes).1;
+      })
+
+module _ {D : ℕ} (t : TreeTable) (s : Step D) (rest : List (Step D)) (ring : Option (Buffer (Step D))) (is : steps_in ring ≡ s ∷ rest) where
+  past-is : past_of t.width t.table (steps_in ring) ≡ undone t.width t.table s ∷ past_of t.width (undone t.width t.table s) rest
+  past-is = ap (past_of t.width t.table) is
+
+  pub past-some : past_of t.width t.table (steps_in ring) ≡ [] → ⊥
+  past-some e = no (sym past-is ∙ e)
+    where
+      no : {X : Type 0} {x : X} {xs : List X} → x ∷ xs ≡ [] → ⊥
+      no e = cc
+
+pub kept-back : {D : ℕ} (t : TreeTable) (depth : ℕ) (s : Step D) (rest : List (Step D)) (ring : Option (Buffer (Step D))) → steps_in ring ≡ s ∷ rest
+    → (u : TreeTable) → u ≡ with_table t (undone t.width t.table s) → (now : Option (Buffer (Step D))) → steps_in now ≡ drop 1 (steps_in ring) → kept_of u depth now ≡ back (kept_of t depth ring) 1
+kept-back t depth s rest ring is u at now left =
+    let gone : steps_in now ≡ rest = left ∙ ap {B = List (Step _)} (drop 1) is in
+    let before : past_of t.width t.table (steps_in ring) ≡ undone t.width t.table s ∷ past_of t.width (undone t.width t.table s) (steps_in now) =
+    past-is t s rest ring is ∙ ap {B = List (List Row)} (λ ss. undone t.width t.table s ∷ past_of t.width (undone t.width t.table s) ss) (sym gone) in
+    ap (λ v. kept_of v depth now) at
+    ∙ (λ i. record { table = unwrap_or (slice_get (t.table ∷ sym before i) 1) t.table; width = t.width; max = t.max; depth = depth; past = drop 1 (sym before i) })
+
+-- ---- with nothing to take back
+
+pub past-none : {D : ℕ} (t : TreeTable) (ring : Option (Buffer (Step D))) → steps_in ring ≡ [] → past_of t.width t.table (steps_in ring) ≡ []
+past-none t ring e = ap (past_of t.width t.table) e
+
+pub back-none : (k : Past) → k.past ≡ [] → k ≡ back k 1
+back-none k e =
+    λ i. record { table = unwrap_or (slice_get (k.table ∷ sym e i) 1) k.table; width = k.width; max = k.max; depth = k.depth; past = (e ∙ ap (drop 1) (sym e)) i }

@@ -1,0 +1,71 @@
+use Rattle.std.proofs.Common.{◌≡◌, [], ◌∙◌, Ok, Err, false, drop, sym, ap, subst, refl, arith, rules}
+use Rattle.ph_specs.specs.Past.{back}
+use Rattle.ph_undo.specs.Rings.{steps_in}
+use Rattle.ph_undo.specs.Kept.{IsKept}
+use Rattle.ph_undo.proofs.Noted.{first-none, first-some, first_point, first_fits, first_changes, is_kept-back, kept-back, past-some, past-none, back-none}
+use Rattle.ph_undo.proofs.kept.Kept.back_one.Given.{Over}
+use Rattle.ph_undo.proofs.kept.Kept.back_one.Goals.{In_default, In-Err}
+use Rattle.ph_undo.proofs.kept.Kept.back_one.Goals as goal
+
+-- ---- nothing is kept
+
+no_past : (g : Over) (c : In_default g) → c.args.self.now.past ≡ []
+no_past g c =
+    sym (ap (λ k. k.past) c.self.view_is) ∙ past-none {D = g.row.D} c.self.inside.tree c.self.inside.ring (first-none (steps_in c.self.inside.ring) (sym c.newest.ensures ∙ c.in_default.is))
+
+pub returns-in_default-clause-none : goal.returns-in_default-clause-none
+returns-in_default-clause-none g c = (λ _. no_past g c, λ _. refl)
+
+pub returns-in_default-clause-back : goal.returns-in_default-clause-back
+returns-in_default-clause-back g c = back-none c.args.self.now (no_past g c)
+
+-- ---- the newest inverse
+
+pub take_back-requires : goal.take_back-requires
+take_back-requires g c =
+    let is = first-some (steps_in c.self.inside.ring) c.in-Some.step (sym c.newest.ensures ∙ c.in-Some.is) in
+    let t = c.self.inside.tree in
+    let rest = drop 1 (steps_in c.self.inside.ring) in
+    let few = c.self.invariant.few in (
+      search rules,
+      (
+        grind arith,
+        (
+          first_point t c.self.inside.depth c.in-Some.step rest c.self.inside.ring c.self.invariant is,
+          (
+            first_fits t c.self.inside.depth c.in-Some.step rest c.self.inside.ring c.self.invariant is,
+            first_changes t c.self.inside.depth c.in-Some.step rest c.self.inside.ring c.self.invariant is,
+          ),
+        ),
+      ),
+    )
+
+pub invariant_of-self : goal.invariant_of-self
+invariant_of-self g c =
+    let is = first-some (steps_in c.self.inside.ring) c.in-Some.step (sym c.newest.ensures ∙ c.in-Some.is) in
+    is_kept-back c.self.inside.tree c.self.inside.depth c.in-Some.step (drop 1 (steps_in c.self.inside.ring)) c.self.inside.ring c.self.invariant is c.take_back.new.tree c.in-Ok.ensures.undone c.drop_newest.new.ring c.drop_newest.ensures.steps c.drop_newest.ensures.room
+
+pub returns-in-Ok-clause-back : goal.returns-in-Ok-clause-back
+returns-in-Ok-clause-back g c =
+    let is = first-some (steps_in c.self.inside.ring) c.in-Some.step (sym c.newest.ensures ∙ c.in-Some.is) in
+    kept-back c.self.inside.tree c.self.inside.depth c.in-Some.step (drop 1 (steps_in c.self.inside.ring)) c.self.inside.ring is c.take_back.new.tree c.in-Ok.ensures.undone c.drop_newest.new.ring c.drop_newest.ensures.steps
+    ∙ ap (λ k. back k 1) c.self.view_is
+
+-- ---- memory was missing
+
+pub invariant_of-self-in-Err : goal.invariant_of-self-in-Err
+invariant_of-self-in-Err g c = subst (λ t. IsKept g.row.D t c.self.inside.depth c.self.inside.ring) (sym c.in-Err.ensures.err) c.self.invariant
+
+some_past : (g : Over) (c : In-Err g) → c.args.self.now.past ≡ [] → ⊥
+some_past g c e =
+    let is = first-some (steps_in c.self.inside.ring) c.in-Some.step (sym c.newest.ensures ∙ c.in-Some.is) in
+    past-some c.self.inside.tree c.in-Some.step (drop 1 (steps_in c.self.inside.ring)) c.self.inside.ring is (ap (λ k. k.past) c.self.view_is ∙ e)
+
+pub returns-in-Err-clause-none : goal.returns-in-Err-clause-none
+returns-in-Err-clause-none g c = (λ e. absurd (no e), λ e. absurd (some_past g c e))
+  where
+    no : Err c.in-Err.error ≡ Ok false → ⊥
+    no e = cc
+
+pub returns-in-Err-clause-idle : goal.returns-in-Err-clause-idle
+returns-in-Err-clause-idle g c e = absurd (some_past g c e)

@@ -1,0 +1,50 @@
+use Rattle.std.proofs.Common.{◌≡◌, ◌∙◌, sym, ap, subst, arith}
+use Rattle.std.specs.Prelude.{Some}
+use Rattle.ph_specs.specs.Coordinate.{IsPoint}
+use Rattle.ph_specs.specs.Past.{del_kept}
+use Rattle.ph_specs.specs.Table.{find, del}
+use Rattle.ph_specs.proofs.laws.Edits.{del-absent}
+use Rattle.ph_undo.specs.Kept.{kept_of, IsKept}
+use Rattle.ph_undo.specs.declared.step.Step.TheVariants.{Restore}
+use Rattle.ph_undo.proofs.WhichRemovals.{del-edit, del-idle}
+use Rattle.ph_undo.proofs.Noted.{IsNoted, noted, with_table}
+use Rattle.ph_undo.proofs.Undone.{del-undone}
+use Rattle.ph_undo.proofs.kept.Kept.del.Given.{Over}
+use Rattle.ph_undo.proofs.kept.Kept.del.Goals.{After-note_removal, In_default}
+use Rattle.ph_undo.proofs.kept.Kept.del.Goals as goal
+
+found : (g : Over) (c : After-note_removal g) → find c.self.inside.tree.table c.args.p.now ≡ Some c.in-Some.value
+found g c = sym c.in_ok-gone.ensures.answer ∙ c.in-Some.is
+
+del_noted : (g : Over) (c : After-note_removal g) → IsNoted g.row.D c.self.inside.tree (del c.self.inside.tree.table c.args.p.now) c.self.inside.depth c.self.inside.ring c.note_removal.new.ring
+del_noted g c =
+    let t = c.self.inside.tree in
+    noted t (del t.table c.args.p.now) c.self.inside.depth (Restore c.args.p.now c.in-Some.value) c.self.inside.ring c.note_removal.new.ring c.self.invariant c.note_removal.ensures.steps c.note_removal.ensures.room
+    (subst (λ k. IsPoint k.width g.row.D c.args.p.now) (sym c.self.view_is) c.requires) tt (omega (arith, c.len-len.ensures)) (del-undone g.row.D t.width t.table c.root-root.ensures.table c.args.p.now c.in-Some.value (found g c))
+
+-- no row was there
+stays : (g : Over) (c : In_default g) → c.del.new.self ≡ c.self.inside.tree
+stays g c =
+    c.in_ok-gone.ensures.del
+    ∙ ap (with_table c.self.inside.tree) (del-absent c.self.inside.tree.table c.args.p.now (sym c.in_ok-gone.ensures.answer ∙ c.in_default.is))
+
+pub invariant_of-self-in-Some : goal.invariant_of-self-in-Some
+invariant_of-self-in-Some g c =
+    subst (λ t. IsKept g.row.D t c.self.inside.depth c.note_removal.new.ring) (sym c.in_ok-gone.ensures.del) (del_noted g c).kept
+
+pub invariant_of-self-in_default : goal.invariant_of-self-in_default
+invariant_of-self-in_default g c =
+    subst (λ t. IsKept g.row.D t c.self.inside.depth c.self.inside.ring) (sym (stays g c)) c.self.invariant
+
+pub returns-in-Some-clause-del : goal.returns-in-Some-clause-del
+returns-in-Some-clause-del g c =
+    ap (λ t. kept_of t c.self.inside.depth c.note_removal.new.ring) c.in_ok-gone.ensures.del
+    ∙ (del_noted g c).view
+    ∙ del-edit (kept_of c.self.inside.tree c.self.inside.depth c.self.inside.ring) c.args.p.now c.in-Some.value (found g c)
+    ∙ ap (λ k. del_kept k c.args.p.now) c.self.view_is
+
+pub returns-in_default-clause-del : goal.returns-in_default-clause-del
+returns-in_default-clause-del g c =
+    ap (λ t. kept_of t c.self.inside.depth c.self.inside.ring) (stays g c)
+    ∙ del-idle (kept_of c.self.inside.tree c.self.inside.depth c.self.inside.ring) c.args.p.now (sym c.in_ok-gone.ensures.answer ∙ c.in_default.is)
+    ∙ ap (λ k. del_kept k c.args.p.now) c.self.view_is

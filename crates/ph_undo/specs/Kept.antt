@@ -1,0 +1,28 @@
+-- What a tree that keeps its last edits is seen as.
+use Rattle.std.specs.Prelude.{◌≡◌, ◌≤◌, ℕ, length, Option}
+use Rattle.std.specs.List.{AllByRecursion as Each}
+use Rattle.circular_buffer.specs.Buffer.{Buffer}
+use Rattle.ph_specs.specs.Past.{Past}
+use Rattle.ph_tree.specs.Tree.{TreeTable}
+use Rattle.ph_undo.specs.Steps.{past_of, IsStep, AreChanges}
+use Rattle.ph_undo.specs.Rings.{steps_in, room_in}
+use Rattle.ph_undo.specs.declared.step.Step.{Step}
+
+-- the tree without its past
+abbrev pub tree_of : Past → TreeTable
+tree_of k = record { table = k.table; width = k.width; max = k.max }
+
+-- a table with the tables that inverses lead back to
+abbrev pub kept_of : {D : ℕ} → TreeTable → ℕ → Option (Buffer (Step D)) → Past
+kept_of t depth ring = record { table = t.table; width = t.width; max = t.max; depth = depth; past = past_of t.width t.table (steps_in ring) }
+
+-- what is kept: at most 16 dimensions, room for as many inverses as may be taken back, their points are points of the tree, no
+-- table that they lead to has more rows than the tree may have, and each of them changes its table
+pub record IsKept (D : ℕ) (t : TreeTable) (depth : ℕ) (ring : Option (Buffer (Step D))) : Type 0 where
+  pub few : D ≤ 16
+  pub limit : depth ≤ 65536
+  pub room : room_in ring ≡ depth
+  pub within : length (steps_in ring) ≤ depth
+  pub points : Each (IsStep t.width) (steps_in ring)
+  pub fit : Each (λ table. length table ≤ t.max) (past_of t.width t.table (steps_in ring))
+  pub changes : AreChanges t.width t.table (steps_in ring)

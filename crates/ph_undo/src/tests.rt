@@ -1,0 +1,5 @@
+//! Edits that are kept and taken back.
+
+mod known_edits;
+mod random_edits;
+mod trees;

@@ -1,0 +1,54 @@
+//! Trees whose edits are kept, and what the edits count.
+
+ghost use Rattle.std.specs.Prelude.{◌≡◌, ◌<◌, ◌≤◌};
+ghost use Rattle.ph_specs.specs.Coordinate.{IsPoint};
+
+use crate::Kept;
+use ph_coord::{Point, Width};
+use ph_steps::Steps;
+use ph_tree::PhTree;
+use std::alloc::Global;
+use std::process::Abort;
+use std::sync::ledger::{Blank, Ledger};
+
+// What edits count.
+#[derive(Drop)]
+pub(super) struct Counters<V: Ledger, C: Ledger> {
+    pub visits: Steps<V>,
+    pub changes: Steps<C>,
+}
+
+impl<V: Ledger, C: Ledger> Counters<V, C> {
+    // Both at 0.
+    pub(super) fn new(visits: Blank, changes: Blank) -> Counters<V, C>
+        requires visits { (visits.name ≡ V.name) × (visits.parts ≡ V.parts) × (0 < visits.parts) }
+        requires changes { (changes.name ≡ C.name) × (changes.parts ≡ C.parts) × (0 < changes.parts) }
+    {
+        Counters {
+            visits: Steps::new(visits),
+            changes: Steps::new(changes),
+        }
+    }
+}
+
+// The empty tree of width 32, of which nothing is kept.
+pub(super) fn empty<const D: usize>(rt: &impl Abort, alloc: Global, max: u64) -> Kept<D>
+    requires some { 1 ≤ D }
+    requires few { D ≤ 16 }
+    ensures { result.width ≡ 32 }
+{
+    let Some(width) = Width::new(32) else {
+        panic!(rt; "no width");
+    };
+    Kept::new(PhTree::new(alloc, width, max))
+}
+
+pub(super) fn point<const D: usize>(rt: &impl Abort, w: Width, coords: &[i64]) -> Point<D>
+    requires { D ≤ 16 }
+    ensures { IsPoint w D result }
+{
+    let Some(p) = Point::from_slice(w, coords) else {
+        panic!(rt; "no point");
+    };
+    p
+}
