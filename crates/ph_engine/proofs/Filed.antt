@@ -10,10 +10,11 @@ use Rattle.ph_io.specs.Shelf.{Stays, Fetches, FetchCounts}
 use Rattle.ph_io.specs.declared.files.FetchFault.{FetchFault}
 use Rattle.ph_io.specs.declared.files.FetchFault.TheVariants as by
 use Rattle.ph_io.proofs.Appending.{given_none}
+use Rattle.ph_specs.specs.Past.{without_past}
 use Rattle.ph_specs.specs.Command.{Command}
 use Rattle.ph_specs.specs.Named.{Named, lookup, enter}
 use Rattle.ph_specs.specs.Reply.{Reply}
-use Rattle.ph_specs.specs.Refusals.{or_else, refusal, fetch, short_enough, bytes_of, refuse_if, refuse_if_bad, has_file_fault, is_full, table_read, read_length}
+use Rattle.ph_specs.specs.Refusals.{or_else, refusal, fetch, short_enough, bytes_of, refuse_if, refuse_if_bad, has_file_fault, is_full, is_too_far_back, table_read, read_length}
 use Rattle.ph_specs.specs.SavedTable.{read_snapshot}
 use Rattle.ph_specs.specs.Snapshot.{snap}
 use Rattle.ph_specs.specs.State.{Slot, Engine, Files, current, outcome}
@@ -30,7 +31,7 @@ use Rattle.ph_engine.specs.Doing.{is_on_slot, Begun, Does, DoneOr, Knows, Served
 use Rattle.ph_engine.specs.Drafting.{Shelf, Unfilled}
 use Rattle.ph_engine.specs.Filing.{Filed, Unfiled, FiledOr, Entered, LoadsNodes, LoadsOr, TellsUnfetched, read_table, read_reply}
 use Rattle.ph_engine.specs.Refusing.{early_refusal, late_refusal}
-use Rattle.ph_engine.specs.Slots.{AnyTable, slot_of, engine_of}
+use Rattle.ph_engine.specs.Slots.{table_at, AnyTable, slot_of, engine_of}
 use Rattle.ph_engine.specs.Working.{work, work_of, engine_bounds, least_unless, IsAtMost, IsAtLeast}
 use Rattle.ph_engine.specs.Telling.{Tells as Says, ToldOr}
 use Rattle.ph_engine.specs.declared.status.Answer.{Answer}
@@ -123,7 +124,7 @@ filed-served most kind t now cursors command (Err error) told f v now_v c now_c 
   found = None;
   counted = leaves-filings command f;
   part = 0;
-  state = λ files k. rw (p.no_import (slot_of kind t cursors) files) (ap (λ x. engine_of (slot_of kind x cursors)) h.stays);
+  state = λ files k. ap (λ x. engine_of (slot_of kind x cursors)) h.stays ∙ sym (p.no_part (engine_of (slot_of kind t cursors)) files);
   kept = λ files k. told-told told told files refl k;
   wanted = wants-at kind t cursors command p u (h.wanted cursors);
   most_work = λ files k. most-at kind t cursors command _ _ _ _ p u (h.most cursors) most files false;
@@ -210,15 +211,15 @@ store-save : (name : List ℕ) → IsStore (Command.Save name) name (λ s. snap 
 store-save name = record {
   on_slot = refl;
   uses = refl;
-  early = λ s. by-kind s.kind s.width s.dims s.max s.table s.cursors;
+  early = λ s. by-kind s.kind s.width s.dims s.max s.table s.cursors s.depth s.past;
   late = λ most s files fault. refl;
   makes = λ s files. refl;
   costs = λ s files. refl;
 }
   where
-    by-kind : (kind : Kind) (width dims max : ℕ) (table : List Row) (cursors : Named Cursor) → early_refusal (record { kind = kind; dims = dims; width = width; max = max; table = table; cursors = cursors }) (Command.Save name) ≡ None
-    by-kind Points width dims max table cursors = refl
-    by-kind Boxes width dims max table cursors = refl
+    by-kind : (kind : Kind) (width dims max : ℕ) (table : List Row) (cursors : Named Cursor) (depth : ℕ) (past : List (List Row)) → early_refusal (record { kind = kind; dims = dims; width = width; max = max; table = table; cursors = cursors; depth = depth; past = past }) (Command.Save name) ≡ None
+    by-kind Points width dims max table cursors depth past = refl
+    by-kind Boxes width dims max table cursors depth past = refl
 
 module _ (most : ℕ) (s : Slot) (name : List ℕ) (before now : Shelf) (v now_v c : ℕ) where
   pub saved-filed : (count : ℕ) → now_v ≡ v + length (all_nodes s.width s.dims s.table) → Entered before now name (snap s.kind s.dims s.width s.table) count → Filed most (engine_of s) (Command.Save name) (aside before.files before.faults v c) (aside now.files now.faults now_v c) (engine_of s) (Reply.Saved count)
@@ -262,7 +263,7 @@ module _ (command : Command) (name : List ℕ) (k : IsFetch command name) where
 
   -- what it is refused for behind a file that could not be read
   abbrev rest_refusal : Slot → Files → Option Reply
-  rest_refusal s files = refuse_if_bad (table_read s files command) (refuse_if (is_full s files command) Reply.ErrorFull None)
+  rest_refusal s files = refuse_if_bad (table_read s files command) (refuse_if (is_full s files command) Reply.ErrorFull (refuse_if (is_too_far_back s command) Reply.ErrorPast None))
 
   fetch-refusal : (most : ℕ) (s : Slot) (files : Files) (fault : Bool) → refusal most (engine_of s) files fault command ≡ refuse_if (fault || is_none (fetch most files name)) Reply.ErrorFile (rest_refusal s files)
   fetch-refusal most s files fault =
@@ -390,7 +391,7 @@ fetch-load name = record {
   on_slot = refl;
   reads = refl;
   uses = refl;
-  early = λ s. by-kind s.kind s.width s.dims s.max s.table s.cursors;
+  early = λ s. by-kind s.kind s.width s.dims s.max s.table s.cursors s.depth s.past;
   faulty = λ most files fault. refl;
   takes = λ s. refl;
   none_in = λ s files. refl;
@@ -398,15 +399,15 @@ fetch-load name = record {
   least_changes = λ s files. refl;
 }
   where
-    by-kind : (kind : Kind) (width dims max : ℕ) (table : List Row) (cursors : Named Cursor) → early_refusal (record { kind = kind; dims = dims; width = width; max = max; table = table; cursors = cursors }) (Command.Load name) ≡ None
-    by-kind Points width dims max table cursors = refl
-    by-kind Boxes width dims max table cursors = refl
+    by-kind : (kind : Kind) (width dims max : ℕ) (table : List Row) (cursors : Named Cursor) (depth : ℕ) (past : List (List Row)) → early_refusal (record { kind = kind; dims = dims; width = width; max = max; table = table; cursors = cursors; depth = depth; past = past }) (Command.Load name) ≡ None
+    by-kind Points width dims max table cursors depth past = refl
+    by-kind Boxes width dims max table cursors depth past = refl
 
 -- what a load does with what it has read
 by-read : (kind : Kind) (t : AnyTable) (cursors : Named Cursor) (files : Files) (name : List ℕ) (read : Result (List Row) Reply) → table_read (slot_of kind t cursors) files (Command.Load name) ≡ read → unless_refused (refuse_if_bad read (refuse_if (nat_lt t.tree.max (read_length read)) Reply.ErrorFull None)) (engine_of (slot_of kind t cursors)) files (Command.Load name) ≡ outcome (engine_of (slot_of kind (read_table t read) cursors)) files (read_reply t.tree.max read ∷ [])
 by-read kind t cursors files name (Err fault) h = refl
 by-read kind t cursors files name (Ok rows) h =
-    elim (nat_lt t.tree.max (length rows)) as (λ b. unless_refused (refuse_if b Reply.ErrorFull None) (engine_of (slot_of kind t cursors)) files (Command.Load name) ≡ outcome (engine_of (slot_of kind (if b then t else record { dims = t.dims; tree = record (t.tree) { table = rows } }) cursors)) files ((if b then Reply.ErrorFull else Reply.Loaded (length rows)) ∷ [])) [
+    elim (nat_lt t.tree.max (length rows)) as (λ b. unless_refused (refuse_if b Reply.ErrorFull None) (engine_of (slot_of kind t cursors)) files (Command.Load name) ≡ outcome (engine_of (slot_of kind (if b then t else table_at t.dims (without_past t.tree rows)) cursors)) files ((if b then Reply.ErrorFull else Reply.Loaded (length rows)) ∷ [])) [
       | true ↦ refl
       | false ↦ ap (load_outcome (engine_of (slot_of kind t cursors)) files) h
     ]

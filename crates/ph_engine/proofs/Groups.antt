@@ -7,31 +7,33 @@ use Rattle.ph_script.specs.Meaning.{command_of}
 use Rattle.ph_specs.specs.declared.Kind.{Kind}
 use Rattle.ph_engine.specs.Doing.{is_tried, is_sure, is_listed}
 
-pub all-tried : (c : Command) → is_tried (command_of c) ≡ true → ((at : List Coord) (value : ℕ) → c ≡ by.Put at value → ⊥) → ((at : List Coord) → c ≡ by.Del at → ⊥) → ((from : List Coord) (to : List Coord) → c ≡ by.Relocate from to → ⊥) → ((file : List ℕ) → c ≡ by.Load file → ⊥) → ((file : List ℕ) (header : Bool) → c ≡ by.Import file header → ⊥) → ⊥
-all-tried (by.Begin kind k width max) h n1 n2 n3 n4 n5 = absurd cc
-all-tried (by.Put at value) h n1 n2 n3 n4 n5 = n1 at value refl
-all-tried (by.Get at) h n1 n2 n3 n4 n5 = absurd cc
-all-tried (by.Del at) h n1 n2 n3 n4 n5 = n2 at refl
-all-tried (by.Relocate from to) h n1 n2 n3 n4 n5 = n3 from to refl
-all-tried by.Count h n1 n2 n3 n4 n5 = absurd cc
-all-tried by.Clear h n1 n2 n3 n4 n5 = absurd cc
-all-tried (by.Window lo hi) h n1 n2 n3 n4 n5 = absurd cc
-all-tried (by.Cursor name lo hi) h n1 n2 n3 n4 n5 = absurd cc
-all-tried (by.Page name count) h n1 n2 n3 n4 n5 = absurd cc
-all-tried (by.Near q count) h n1 n2 n3 n4 n5 = absurd cc
-all-tried (by.Within q r) h n1 n2 n3 n4 n5 = absurd cc
-all-tried (by.Overlap bounds) h n1 n2 n3 n4 n5 = absurd cc
-all-tried (by.Inside bounds) h n1 n2 n3 n4 n5 = absurd cc
-all-tried (by.Covers bounds) h n1 n2 n3 n4 n5 = absurd cc
-all-tried (by.Save file) h n1 n2 n3 n4 n5 = absurd cc
-all-tried (by.Load file) h n1 n2 n3 n4 n5 = n4 file refl
-all-tried (by.Import file header) h n1 n2 n3 n4 n5 = n5 file header refl
-all-tried (by.Export file) h n1 n2 n3 n4 n5 = absurd cc
-all-tried by.Stats h n1 n2 n3 n4 n5 = absurd cc
-all-tried (by.Select which) h n1 n2 n3 n4 n5 = absurd cc
-all-tried by.Same h n1 n2 n3 n4 n5 = absurd cc
-all-tried by.Join h n1 n2 n3 n4 n5 = absurd cc
-all-tried (by.Combine operation) h n1 n2 n3 n4 n5 = absurd cc
+pub all-tried : (c : Command) → is_tried (command_of c) ≡ true → ((at : List Coord) (value : ℕ) → c ≡ by.Put at value → ⊥) → ((at : List Coord) → c ≡ by.Del at → ⊥) → ((from : List Coord) (to : List Coord) → c ≡ by.Relocate from to → ⊥) → ((file : List ℕ) → c ≡ by.Load file → ⊥) → ((file : List ℕ) (header : Bool) → c ≡ by.Import file header → ⊥) → ((count : ℕ) → c ≡ by.Keep count → ⊥) → ((count : ℕ) → c ≡ by.Back count → ⊥) → ⊥
+all-tried (by.Begin kind k width max) h n1 n2 n3 n4 n5 n6 n7 = absurd cc
+all-tried (by.Put at value) h n1 n2 n3 n4 n5 n6 n7 = n1 at value refl
+all-tried (by.Get at) h n1 n2 n3 n4 n5 n6 n7 = absurd cc
+all-tried (by.Del at) h n1 n2 n3 n4 n5 n6 n7 = n2 at refl
+all-tried (by.Relocate from to) h n1 n2 n3 n4 n5 n6 n7 = n3 from to refl
+all-tried by.Count h n1 n2 n3 n4 n5 n6 n7 = absurd cc
+all-tried by.Clear h n1 n2 n3 n4 n5 n6 n7 = absurd cc
+all-tried (by.Window lo hi) h n1 n2 n3 n4 n5 n6 n7 = absurd cc
+all-tried (by.Cursor name lo hi) h n1 n2 n3 n4 n5 n6 n7 = absurd cc
+all-tried (by.Page name count) h n1 n2 n3 n4 n5 n6 n7 = absurd cc
+all-tried (by.Near q count) h n1 n2 n3 n4 n5 n6 n7 = absurd cc
+all-tried (by.Within q r) h n1 n2 n3 n4 n5 n6 n7 = absurd cc
+all-tried (by.Overlap bounds) h n1 n2 n3 n4 n5 n6 n7 = absurd cc
+all-tried (by.Inside bounds) h n1 n2 n3 n4 n5 n6 n7 = absurd cc
+all-tried (by.Covers bounds) h n1 n2 n3 n4 n5 n6 n7 = absurd cc
+all-tried (by.Save file) h n1 n2 n3 n4 n5 n6 n7 = absurd cc
+all-tried (by.Load file) h n1 n2 n3 n4 n5 n6 n7 = n4 file refl
+all-tried (by.Import file header) h n1 n2 n3 n4 n5 n6 n7 = n5 file header refl
+all-tried (by.Export file) h n1 n2 n3 n4 n5 n6 n7 = absurd cc
+all-tried by.Stats h n1 n2 n3 n4 n5 n6 n7 = absurd cc
+all-tried (by.Select which) h n1 n2 n3 n4 n5 n6 n7 = absurd cc
+all-tried by.Same h n1 n2 n3 n4 n5 n6 n7 = absurd cc
+all-tried by.Join h n1 n2 n3 n4 n5 n6 n7 = absurd cc
+all-tried (by.Combine operation) h n1 n2 n3 n4 n5 n6 n7 = absurd cc
+all-tried (by.Keep count) h n1 n2 n3 n4 n5 n6 n7 = n6 count refl
+all-tried (by.Back count) h n1 n2 n3 n4 n5 n6 n7 = n7 count refl
 
 pub all-sure : (c : Command) → is_sure (command_of c) ≡ true → ((kind : Kind) (k : ℕ) (width : ℕ) (max : ℕ) → c ≡ by.Begin kind k width max → ⊥) → ((at : List Coord) → c ≡ by.Get at → ⊥) → (c ≡ by.Count → ⊥) → (c ≡ by.Clear → ⊥) → ((name : List ℕ) (lo : List Coord) (hi : List Coord) → c ≡ by.Cursor name lo hi → ⊥) → ((file : List ℕ) → c ≡ by.Save file → ⊥) → ((file : List ℕ) → c ≡ by.Export file → ⊥) → ⊥
 all-sure (by.Begin kind k width max) h n1 n2 n3 n4 n5 n6 n7 = n1 kind k width max refl
@@ -58,6 +60,8 @@ all-sure (by.Select which) h n1 n2 n3 n4 n5 n6 n7 = absurd cc
 all-sure by.Same h n1 n2 n3 n4 n5 n6 n7 = absurd cc
 all-sure by.Join h n1 n2 n3 n4 n5 n6 n7 = absurd cc
 all-sure (by.Combine operation) h n1 n2 n3 n4 n5 n6 n7 = absurd cc
+all-sure (by.Keep count) h n1 n2 n3 n4 n5 n6 n7 = absurd cc
+all-sure (by.Back count) h n1 n2 n3 n4 n5 n6 n7 = absurd cc
 
 pub all-lists : (c : Command) → is_listed (command_of c) ≡ true → ((lo : List Coord) (hi : List Coord) → c ≡ by.Window lo hi → ⊥) → ((name : List ℕ) (count : ℕ) → c ≡ by.Page name count → ⊥) → ((q : List Coord) (count : ℕ) → c ≡ by.Near q count → ⊥) → ((q : List Coord) (r : ℕ) → c ≡ by.Within q r → ⊥) → ((bounds : List Coord) → c ≡ by.Overlap bounds → ⊥) → ((bounds : List Coord) → c ≡ by.Inside bounds → ⊥) → ((bounds : List Coord) → c ≡ by.Covers bounds → ⊥) → (c ≡ by.Stats → ⊥) → ⊥
 all-lists (by.Begin kind k width max) h n1 n2 n3 n4 n5 n6 n7 n8 = absurd cc
@@ -84,3 +88,5 @@ all-lists (by.Select which) h n1 n2 n3 n4 n5 n6 n7 n8 = absurd cc
 all-lists by.Same h n1 n2 n3 n4 n5 n6 n7 n8 = absurd cc
 all-lists by.Join h n1 n2 n3 n4 n5 n6 n7 n8 = absurd cc
 all-lists (by.Combine operation) h n1 n2 n3 n4 n5 n6 n7 n8 = absurd cc
+all-lists (by.Keep count) h n1 n2 n3 n4 n5 n6 n7 n8 = absurd cc
+all-lists (by.Back count) h n1 n2 n3 n4 n5 n6 n7 n8 = absurd cc

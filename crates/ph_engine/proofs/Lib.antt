@@ -17,6 +17,7 @@ pub mod Answered
 pub mod Known
 pub mod Defined
 pub mod Refused
+pub mod Backward
 pub mod Plain
 pub mod Commanded
 pub mod Drafts
@@ -30,6 +31,7 @@ pub mod Slotted
 pub mod Paged
 pub mod Lifted
 pub mod Pairings
+pub mod Undos
 pub mod Recorded
 pub mod Groups
 mod Fields

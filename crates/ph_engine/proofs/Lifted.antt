@@ -16,7 +16,7 @@ use Rattle.ph_script.specs.declared.command.Command.{Command as Written}
 use Rattle.ph_script.specs.declared.command.Command.TheVariants as by
 use Rattle.ph_script.specs.Meaning.{command_of}
 use Rattle.ph_engine.specs.Beside.{Beside}
-use Rattle.ph_engine.specs.Doing.{Leads, DoneOr, is_on_slot, is_page, imported, slot_wants, with_first}
+use Rattle.ph_engine.specs.Doing.{Leads, DoneOr, is_on_slot, is_page, imported, slot_wants, starved_engine, with_first}
 use Rattle.ph_engine.specs.Slots.{engine_of}
 use Rattle.ph_engine.specs.Working.{work, work_of, engine_bounds, least_unless, IsAtMost, IsAtLeast}
 use Rattle.ph_engine.proofs.Refused.{alone}
@@ -75,6 +75,8 @@ effect-lifted e files (Command.Select which) h = absurd cc
 effect-lifted e files Command.Compare h = absurd cc
 effect-lifted e files Command.Join h = absurd cc
 effect-lifted e files (Command.Combine operation) h = absurd cc
+effect-lifted e files (Command.Keep n) h = refl
+effect-lifted e files (Command.Back n) h = refl
 
 unless-lifted : (r : Option Reply) (e : Engine) (files : Files) (cmd : Command) → is_on_slot cmd ≡ true → unless_refused r e files cmd ≡ lift e (unless_refused r (engine_of (current e)) files cmd)
 unless-lifted (Some r) e files cmd h = stays e files (r ∷ [])
@@ -115,6 +117,8 @@ bounds-lifted e files (Command.Select which) h = refl
 bounds-lifted e files Command.Compare h = absurd cc
 bounds-lifted e files Command.Join h = absurd cc
 bounds-lifted e files (Command.Combine operation) h = absurd cc
+bounds-lifted e files (Command.Keep n) h = refl
+bounds-lifted e files (Command.Back n) h = refl
 
 work-lifted : (most : ℕ) (e : Engine) (files : Files) (fault : Bool) (cmd : Command) → is_on_slot cmd ≡ true → work_of most e files fault cmd ≡ work_of most (engine_of (current e)) files fault cmd
 work-lifted most e files fault cmd h =
@@ -139,6 +143,10 @@ cut-or e after s false h = ap (λ x. with_slot e (current x)) h
 first-lifted : (e : Engine) (n : ℕ) (rows : Option (List Row)) → with_slot e (current (with_first (engine_of (current e)) n rows)) ≡ with_first e n rows
 first-lifted e n (Some rows) = refl
 first-lifted e n None = same e
+
+starved-lifted : (e : Engine) (files : Files) (cmd : Command) (n : ℕ) → with_slot e (current (starved_engine (engine_of (current e)) files cmd n)) ≡ starved_engine e files cmd n
+starved-lifted e files (Command.Back asked) n = refl
+starved-lifted e files cmd n = first-lifted e n (imported (current e) files cmd)
 
 pub done-lifted : (most : ℕ) (e : Engine) (s : Slot) (cmd : Command) (b now_b : Beside) (result : Result Answer Stop) → is_on_slot cmd ≡ true → DoneOr most (engine_of (current e)) cmd b now_b (engine_of s) result → DoneOr most e cmd b now_b (with_slot e s) result
 done-lifted most e s cmd b now_b (Ok answer) h d = record {
@@ -171,7 +179,7 @@ done-lifted most e s cmd b now_b (Err NoMemory) h d = record {
   found = d.found;
   filings = d.filings;
   part = d.part;
-  state = λ files k. ap (λ x. with_slot e (current x)) (d.state files k) ∙ first-lifted e d.part (imported (current e) files cmd);
+  state = λ files k. ap (λ x. with_slot e (current x)) (d.state files k) ∙ starved-lifted e files cmd d.part;
   files = d.files;
   told = d.told;
   wanted = ap (λ t. t && slot_wants (current e) cmd) ((alone e cmd h).1 ∙ sym (alone (engine_of (current e)) cmd h).1) ∙ d.wanted;
@@ -204,6 +212,8 @@ on-slot (by.Select which) n m o p = absurd (n which refl)
 on-slot by.Same n m o p = absurd (m refl)
 on-slot by.Join n m o p = absurd (o refl)
 on-slot (by.Combine operation) n m o p = absurd (p operation refl)
+on-slot (by.Keep count) n m o p = refl
+on-slot (by.Back count) n m o p = refl
 
 -- the same by the fields of the code's engine
 pub done-at-a : (most : ℕ) (e : Engine) (a b s : Slot) (which : Which) (cmd : Command) (d now_d : Beside) (result : Result Answer Stop) → record { a = a; b = b; current = which } ≡ e → which ≡ A → is_on_slot cmd ≡ true → DoneOr most (engine_of a) cmd d now_d (engine_of s) result → DoneOr most e cmd d now_d (record { a = s; b = b; current = which }) result

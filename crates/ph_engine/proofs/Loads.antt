@@ -4,6 +4,7 @@ use Rattle.std.specs.Prelude.{Option, Some, None, option_map, Result, Ok, Err, O
 use Rattle.std.proofs.lemmas.Bool.{and_parts}
 use Rattle.ph_specs.specs.Coordinate.{is_box}
 use Rattle.ph_specs.specs.Boxes.{AreBoxes}
+use Rattle.ph_specs.specs.Past.{without_past}
 use Rattle.ph_specs.specs.KindRows.{rows_fit}
 use Rattle.ph_specs.specs.Load.{Fault, load_fault}
 use Rattle.ph_specs.specs.Reply.{Reply}
@@ -23,9 +24,9 @@ boxes-fit : (rows : List Row) → rows_fit Boxes rows ≡ true → AreBoxes rows
 boxes-fit [] h = tt
 boxes-fit (r ∷ rows) h = let both = and_parts (is_box r.point) (rows_fit Boxes rows) h in (both.0, boxes-fit rows both.1)
 
-rows-of-kind : (kind : Kind) (t : AnyTable) (rows : List Row) → rows_fit kind rows ≡ true → IsOfKind kind t → IsOfKind kind (table_at t.dims (record (t.tree) { table = rows }))
+rows-of-kind : (kind : Kind) (t : AnyTable) (rows : List Row) → rows_fit kind rows ≡ true → IsOfKind kind t → IsOfKind kind (table_at t.dims (without_past t.tree rows))
 rows-of-kind Points t rows h k = tt
-rows-of-kind Boxes t rows h k = (k.0, boxes-fit rows h)
+rows-of-kind Boxes t rows h k = (k.0, boxes-fit rows h, tt)
 
 pub same-frame-still : (kind : Kind) (t : AnyTable) → SameFrame kind t t
 same-frame-still kind t = record { width = refl; dims = refl; of_kind = λ k. k }
@@ -33,7 +34,7 @@ same-frame-still kind t = record { width = refl; dims = refl; of_kind = λ k. k 
 -- a table that is put in place of another
 pub loaded-frame : (kind : Kind) (t : AnyTable) (rows : List Row) → rows_fit kind rows ≡ true → SameFrame kind t (loaded_table t rows)
 loaded-frame kind t rows h =
-    elim (nat_lt t.tree.max (length rows)) as (λ b. SameFrame kind t (if b then t else table_at t.dims (record (t.tree) { table = rows }))) [
+    elim (nat_lt t.tree.max (length rows)) as (λ b. SameFrame kind t (if b then t else table_at t.dims (without_past t.tree rows))) [
       | true ↦ same-frame-still kind t
       | false ↦ record { width = refl; dims = refl; of_kind = rows-of-kind kind t rows h }
     ]

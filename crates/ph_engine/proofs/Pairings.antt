@@ -187,7 +187,7 @@ made-frame operation kind other_kind t u now cursors others h of_kind other_of_k
       width = refl;
       dims = refl;
       of_kind = of-kind-still kind t (combined_table operation t u) refl
-          (λ e b. boxes-combine operation t.tree.width t.tree.table u.tree.table b (subst (λ k. IsOfKind k u) (same ∙ e) other_of_kind).1);
+          (λ e b c. (boxes-combine operation t.tree.width t.tree.table u.tree.table b (subst (λ k. IsOfKind k u) (same ∙ e) other_of_kind).1, tt));
     })
 
 pub kept-frame : (kind : Kind) (t now : AnyTable) → now ≡ t → SameFrame kind t now

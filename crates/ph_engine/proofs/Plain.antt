@@ -6,11 +6,11 @@ use Rattle.ph_specs.specs.declared.Kind.TheVariants.{Points, Boxes}
 use Rattle.ph_specs.specs.Command.{Command}
 use Rattle.ph_specs.specs.Named.{Named}
 use Rattle.ph_specs.specs.Reply.{Reply}
-use Rattle.ph_specs.specs.State.{Slot, Files, Outcome, current}
+use Rattle.ph_specs.specs.State.{Slot, Engine, Files, Outcome, current}
 use Rattle.ph_specs.specs.Refusals.{refusal, or_else}
 use Rattle.ph_specs.specs.Engine.{act, effect, unless_refused}
 use Rattle.ph_specs.specs.Window.{Cursor}
-use Rattle.ph_engine.specs.Doing.{DoesAt, MostAt, LeastAt, takes_memory, wants_memory, is_on_slot, is_page, imported, rows_loaded}
+use Rattle.ph_engine.specs.Doing.{DoesAt, MostAt, LeastAt, takes_memory, wants_memory, is_on_slot, is_page, starved_engine, imported, rows_loaded}
 use Rattle.ph_engine.specs.Refusing.{early_refusal, late_refusal}
 use Rattle.ph_engine.specs.Slots.{AnyTable, slot_of, engine_of}
 use Rattle.ph_engine.specs.Working.{work, work_of, engine_bounds, least_unless, IsAtMost, IsAtLeast}
@@ -29,6 +29,7 @@ pub record IsPlain (command : Command) : Type 0 where
   pub bounds : (t : AnyTable) (cursors : Named Cursor) (files : Files) → engine_bounds (engine_of (slot_of Boxes t cursors)) files command ≡ engine_bounds (engine_of (slot_of Points t cursors)) files command
   pub takes : (t : AnyTable) (cursors : Named Cursor) → takes_memory (slot_of Boxes t cursors) command ≡ takes_memory (slot_of Points t cursors) command
   pub no_page : is_page command ≡ false
+  pub no_part : (e : Engine) (files : Files) → starved_engine e files command 0 ≡ e
   pub no_import : (s : Slot) (files : Files) → imported s files command ≡ None
   pub no_load : (s : Slot) (files : Files) → rows_loaded s files command ≡ None
 
@@ -41,6 +42,7 @@ plain-put p v = record {
   bounds = λ t cursors files. refl;
   takes = λ t cursors. refl;
   no_page = refl;
+  no_part = λ e files. refl;
   no_import = λ s files. refl;
   no_load = λ s files. refl;
 }
@@ -54,6 +56,7 @@ plain-get p = record {
   bounds = λ t cursors files. refl;
   takes = λ t cursors. refl;
   no_page = refl;
+  no_part = λ e files. refl;
   no_import = λ s files. refl;
   no_load = λ s files. refl;
 }
@@ -67,6 +70,7 @@ plain-del p = record {
   bounds = λ t cursors files. refl;
   takes = λ t cursors. refl;
   no_page = refl;
+  no_part = λ e files. refl;
   no_import = λ s files. refl;
   no_load = λ s files. refl;
 }
@@ -80,6 +84,7 @@ plain-move p q = record {
   bounds = λ t cursors files. refl;
   takes = λ t cursors. refl;
   no_page = refl;
+  no_part = λ e files. refl;
   no_import = λ s files. refl;
   no_load = λ s files. refl;
 }
@@ -93,6 +98,7 @@ plain-count = record {
   bounds = λ t cursors files. refl;
   takes = λ t cursors. refl;
   no_page = refl;
+  no_part = λ e files. refl;
   no_import = λ s files. refl;
   no_load = λ s files. refl;
 }
@@ -106,6 +112,7 @@ plain-clear = record {
   bounds = λ t cursors files. refl;
   takes = λ t cursors. refl;
   no_page = refl;
+  no_part = λ e files. refl;
   no_import = λ s files. refl;
   no_load = λ s files. refl;
 }

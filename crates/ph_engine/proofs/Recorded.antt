@@ -14,7 +14,7 @@ use Rattle.ph_specs.specs.Named.{Named, lookup}
 use Rattle.ph_specs.specs.Refusals.{bytes_of, import_rows, put_all_read, read_length, refuse_if, refuse_if_bad}
 use Rattle.ph_specs.specs.Reply.{Reply}
 use Rattle.ph_specs.specs.Sets.{put_all}
-use Rattle.ph_specs.specs.State.{Slot, Files, outcome}
+use Rattle.ph_specs.specs.State.{Slot, Files, outcome, past_in, with_past}
 use Rattle.ph_specs.specs.Table.{Row}
 use Rattle.ph_specs.specs.Window.{Cursor}
 use Rattle.ph_specs.specs.WorkSets.{all_nodes}
@@ -22,13 +22,13 @@ use Rattle.ph_specs.specs.declared.Kind.{Kind}
 use Rattle.ph_specs.specs.declared.Kind.TheVariants.{Points, Boxes}
 use Rattle.ph_script.specs.declared.reply.Reply.{Reply as Told}
 use Rattle.ph_script.specs.Meaning.{reply_of}
-use Rattle.ph_import.specs.Imported.{IsPart}
-use Rattle.ph_tree.specs.Tree.{TreeTable}
+use Rattle.ph_import.specs.Imported.{with_some, IsPart}
+use Rattle.ph_specs.specs.Past.{Past}
 use Rattle.ph_engine.specs.Doing.{first_rows, has_none, rows_put, with_first}
 use Rattle.ph_engine.specs.Beside.{aside}
 use Rattle.ph_engine.specs.Drafting.{Shelf, Unfilled}
 use Rattle.ph_engine.specs.Filing.{Entered, Filed, FiledOr, SameFrame}
-use Rattle.ph_engine.specs.Recording.{import_changes, import_visits, ImportsOr, TellsRecord, imported_table, imported_reply, is_overfull, table_with, table_with_first}
+use Rattle.ph_engine.specs.Recording.{import_changes, import_visits, ImportsOr, TellsRecord, imported_table, imported_reply, is_overfull, table_with, table_with_some, table_with_first}
 use Rattle.ph_engine.specs.Refusing.{early_refusal}
 use Rattle.ph_engine.specs.Slots.{AnyTable, table_at, slot_of, engine_of}
 use Rattle.ph_engine.specs.Working.{import_bounds, work_of, IsAtMost}
@@ -38,12 +38,17 @@ use Rattle.ph_engine.proofs.Slotted.{of-kind-still}
 
 -- ---- import
 
+-- a slot with some first rows
+some-slot : (kind : Kind) (t : AnyTable) (cursors : Named Cursor) (rows : List Row) → slot_of kind (table_with_some t rows) cursors ≡ with_past (slot_of kind t cursors) (with_some (past_in (slot_of kind t cursors)) rows)
+some-slot kind t cursors [] = refl
+some-slot kind t cursors (r ∷ rows) = refl
+
 -- the engine with some first rows is that of the table with them
 full-first : (kind : Kind) (t : AnyTable) (cursors : Named Cursor) (part : ℕ) (rows : List Row) → engine_of (slot_of kind (table_with_first t part (Ok rows)) cursors) ≡ with_first (engine_of (slot_of kind t cursors)) part (rows_put (slot_of kind t cursors) (Ok rows))
 full-first kind t cursors part rows =
-    elim (is_overfull t rows || has_none t.tree.table) as (λ b. engine_of (slot_of kind (if b then t else table_with t (first_rows part rows)) cursors) ≡ with_first (engine_of (slot_of kind t cursors)) part (if b then None else Some rows)) [
+    elim (is_overfull t rows || has_none t.tree.table) as (λ b. engine_of (slot_of kind (if b then t else table_with_some t (first_rows part rows)) cursors) ≡ with_first (engine_of (slot_of kind t cursors)) part (if b then None else Some rows)) [
       | true ↦ refl
-      | false ↦ refl
+      | false ↦ ap engine_of (some-slot kind t cursors (first_rows part rows))
     ]
 
 some-first : (kind : Kind) (t : AnyTable) (cursors : Named Cursor) (part : ℕ) (read : Result (List Row) Reply) → engine_of (slot_of kind (table_with_first t part read) cursors) ≡ with_first (engine_of (slot_of kind t cursors)) part (rows_put (slot_of kind t cursors) read)
@@ -70,7 +75,7 @@ fetch-import name header = record {
   on_slot = refl;
   reads = refl;
   uses = refl;
-  early = λ s. by-kind s.kind s.width s.dims s.max s.table s.cursors;
+  early = λ s. by-kind s.kind s.width s.dims s.max s.table s.cursors s.depth s.past;
   faulty = λ most files fault. refl;
   takes = λ s. refl;
   none_in = λ s files. none-first s (import_rows s files name header);
@@ -78,9 +83,9 @@ fetch-import name header = record {
   least_changes = λ s files. no-least-changes s (import_rows s files name header);
 }
   where
-    by-kind : (kind : Kind) (width dims max : ℕ) (table : List Row) (cursors : Named Cursor) → early_refusal (record { kind = kind; dims = dims; width = width; max = max; table = table; cursors = cursors }) (Command.Import name header) ≡ None
-    by-kind Points width dims max table cursors = refl
-    by-kind Boxes width dims max table cursors = refl
+    by-kind : (kind : Kind) (width dims max : ℕ) (table : List Row) (cursors : Named Cursor) (depth : ℕ) (past : List (List Row)) → early_refusal (record { kind = kind; dims = dims; width = width; max = max; table = table; cursors = cursors; depth = depth; past = past }) (Command.Import name header) ≡ None
+    by-kind Points width dims max table cursors depth past = refl
+    by-kind Boxes width dims max table cursors depth past = refl
 
 -- what an import does with what it has read
 by-read : (kind : Kind) (t : AnyTable) (cursors : Named Cursor) (files : Files) (name : List ℕ) (header : Bool) (read : Result (List Row) Reply) → import_rows (slot_of kind t cursors) files name header ≡ read → let table = put_all_read t.tree.width t.tree.table read in unless_refused (refuse_if_bad table (refuse_if (nat_lt t.tree.max (read_length table)) Reply.ErrorFull None)) (engine_of (slot_of kind t cursors)) files (Command.Import name header) ≡ outcome (engine_of (slot_of kind (imported_table t read) cursors)) files (imported_reply t read ∷ [])
@@ -122,7 +127,7 @@ module _ (most : ℕ) (kind : Kind) (t : AnyTable) (cursors : Named Cursor) (nam
 -- a text without rows
 pub imports-none : {E : Type 0} (t : AnyTable) (read : Result (List Row) Reply) (fault : CsvFault) (result : Result Told E) → IsFault read fault → TellsRecord fault result → ImportsOr t read t result
 imports-none t read fault (Ok reply) f h = let is : read ≡ Err (reply_of reply) = h read f in (ap (imported_table t) (sym is), ap (imported_reply t) (sym is))
-imports-none t (Ok rows) fault (Err error) f h = (0, elim (is_overfull t rows || has_none t.tree.table) as (λ b. t ≡ (if b then t else table_with t (first_rows 0 rows))) [ true ↦ refl | false ↦ refl ])
+imports-none t (Ok rows) fault (Err error) f h = (0, elim (is_overfull t rows || has_none t.tree.table) as (λ b. t ≡ (if b then t else table_with_some t (first_rows 0 rows))) [ true ↦ refl | false ↦ refl ])
 imports-none t (Err fault) by (Err error) f h = (0, refl)
 
 -- ---- rows of a kind
@@ -133,31 +138,35 @@ boxes-take (suc n) [] h = h
 boxes-take (suc n) (r ∷ rows) h = (h.0, boxes-take n rows h.1)
 
 frame-with : (kind : Kind) (t : AnyTable) (rows : List Row) → (kind ≡ Boxes → AreBoxes rows) → SameFrame kind t (table_with t rows)
-frame-with kind t rows h = record { width = refl; dims = refl; of_kind = of-kind-still kind t (table_with t rows) refl (λ e b. boxes-put-all t.tree.width rows t.tree.table b (h e)) }
+frame-with kind t rows h = record { width = refl; dims = refl; of_kind = of-kind-still kind t (table_with t rows) refl (λ e b c. (boxes-put-all t.tree.width rows t.tree.table b (h e), tt)) }
 
 frame-still : (kind : Kind) (t : AnyTable) → SameFrame kind t t
 frame-still kind t = record { width = refl; dims = refl; of_kind = λ k. k }
+
+frame-some : (kind : Kind) (t : AnyTable) (rows : List Row) → (kind ≡ Boxes → AreBoxes rows) → SameFrame kind t (table_with_some t rows)
+frame-some kind t [] h = frame-still kind t
+frame-some kind t (r ∷ rows) h = frame-with kind t (r ∷ rows) h
 
 -- an import keeps the frame of a table, where the rows that it reads are of the kind
 pub rows-frame : {E : Type 0} (kind : Kind) (t now : AnyTable) (rows : List Row) (result : Result Told E) → (kind ≡ Boxes → AreBoxes rows) → ImportsOr t (Ok rows) now result → SameFrame kind t now
 rows-frame kind t now rows (Ok reply) b h =
     rw h.0 (elim (is_overfull t rows) as (λ full. SameFrame kind t (if full then t else table_with t rows)) [ true ↦ frame-still kind t | false ↦ frame-with kind t rows b ])
 rows-frame kind t now rows (Err error) b h =
-    rw h.1 (elim (is_overfull t rows || has_none t.tree.table) as (λ full. SameFrame kind t (if full then t else table_with t (first_rows h.0 rows))) [
+    rw h.1 (elim (is_overfull t rows || has_none t.tree.table) as (λ full. SameFrame kind t (if full then t else table_with_some t (first_rows h.0 rows))) [
       | true ↦ frame-still kind t
-      | false ↦ frame-with kind t (first_rows h.0 rows) (λ e. boxes-take h.0 (take (length rows - 1) rows) (boxes-take (length rows - 1) rows (b e)))
+      | false ↦ frame-some kind t (first_rows h.0 rows) (λ e. boxes-take h.0 (take (length rows - 1) rows) (boxes-take (length rows - 1) rows (b e)))
     ])
 
 -- memory was missing for some of the rows
-part-put : {E : Type 0} (t : AnyTable) (now : TreeTable) (rows : List Row) (error : E) → (is_overfull t rows || has_none t.tree.table) ≡ false → IsPart t.tree now rows → ImportsOr {E = E} t (Ok rows) (table_at t.dims now) (Err error)
+part-put : {E : Type 0} (t : AnyTable) (now : Past) (rows : List Row) (error : E) → (is_overfull t rows || has_none t.tree.table) ≡ false → IsPart t.tree now rows → ImportsOr {E = E} t (Ok rows) (table_at t.dims now) (Err error)
 part-put t now rows error none h =
     let front : first_rows h.part rows ≡ take h.part rows = take-take h.part (length rows - 1) rows (omega (arith, h.few)) in
-    (h.part, ap (table_at t.dims) h.state ∙ ap (λ x. table_with t x) (sym front) ∙ sym (ap (λ b. if b then t else table_with t (first_rows h.part rows)) none))
+    (h.part, ap (table_at t.dims) h.state ∙ ap (λ x. table_with_some t x) (sym front) ∙ sym (ap (λ b. if b then t else table_with_some t (first_rows h.part rows)) none))
 
 -- or before the first of them
-unput : {E : Type 0} (t : AnyTable) (now : TreeTable) (rows : List Row) (error : E) → (is_overfull t rows || has_none t.tree.table) ≡ true → now ≡ t.tree → ImportsOr {E = E} t (Ok rows) (table_at t.dims now) (Err error)
+unput : {E : Type 0} (t : AnyTable) (now : Past) (rows : List Row) (error : E) → (is_overfull t rows || has_none t.tree.table) ≡ true → now ≡ t.tree → ImportsOr {E = E} t (Ok rows) (table_at t.dims now) (Err error)
 unput t now rows error first same =
-    (0, ap (table_at t.dims) same ∙ sym (ap (λ b. if b then t else table_with t (first_rows 0 rows)) first))
+    (0, ap (table_at t.dims) same ∙ sym (ap (λ b. if b then t else table_with_some t (first_rows 0 rows)) first))
 
 -- a table has rows, or none
 some-or-none : (rows : List Row) → (rows ≡ []) ⊎ ((rows ≡ [] → ⊥) × (has_none rows ≡ false))
@@ -171,7 +180,7 @@ either-true false = refl
 none-behind : (a b : Bool) → a ≡ false → b ≡ false → (a || b) ≡ false
 none-behind a b h k = ap (λ x. x || b) h ∙ k
 
-pub starved-put : {E : Type 0} (t : AnyTable) (now : TreeTable) (rows : List Row) (error : E) → (t.tree.max < length (put_all t.tree.width t.tree.table rows) → now ≡ t.tree) → (t.tree.table ≡ [] → now ≡ t.tree) → ((t.tree.table ≡ [] → ⊥) → IsPart t.tree now rows) → ImportsOr {E = E} t (Ok rows) (table_at t.dims now) (Err error)
+pub starved-put : {E : Type 0} (t : AnyTable) (now : Past) (rows : List Row) (error : E) → (t.tree.max < length (put_all t.tree.width t.tree.table rows) → now ≡ t.tree) → (t.tree.table ≡ [] → now ≡ t.tree) → ((t.tree.table ≡ [] → ⊥) → IsPart t.tree now rows) → ImportsOr {E = E} t (Ok rows) (table_at t.dims now) (Err error)
 starved-put t now rows error full empty part =
     elim (some-or-none t.tree.table) [
       | inl none ↦ unput t now rows error (ap (λ xs. is_overfull t rows || has_none xs) none ∙ either-true (is_overfull t rows)) (empty none)
@@ -187,15 +196,15 @@ store-export : (name : List ℕ) → IsStore (Command.Export name) name (λ s. c
 store-export name = record {
   on_slot = refl;
   uses = refl;
-  early = λ s. by-kind s.kind s.width s.dims s.max s.table s.cursors;
+  early = λ s. by-kind s.kind s.width s.dims s.max s.table s.cursors s.depth s.past;
   late = λ most s files fault. refl;
   makes = λ s files. refl;
   costs = λ s files. refl;
 }
   where
-    by-kind : (kind : Kind) (width dims max : ℕ) (table : List Row) (cursors : Named Cursor) → early_refusal (record { kind = kind; dims = dims; width = width; max = max; table = table; cursors = cursors }) (Command.Export name) ≡ None
-    by-kind Points width dims max table cursors = refl
-    by-kind Boxes width dims max table cursors = refl
+    by-kind : (kind : Kind) (width dims max : ℕ) (table : List Row) (cursors : Named Cursor) (depth : ℕ) (past : List (List Row)) → early_refusal (record { kind = kind; dims = dims; width = width; max = max; table = table; cursors = cursors; depth = depth; past = past }) (Command.Export name) ≡ None
+    by-kind Points width dims max table cursors depth past = refl
+    by-kind Boxes width dims max table cursors depth past = refl
 
 module _ (most : ℕ) (s : Slot) (name : List ℕ) (before now : Shelf) (v now_v c : ℕ) where
   pub exported-filed : (count : ℕ) → count ≡ length s.table → now_v ≡ v + length (all_nodes s.width s.dims s.table) → Entered before now name (csv_text s.table) (length (csv_text s.table)) → Filed most (engine_of s) (Command.Export name) (aside before.files before.faults v c) (aside now.files now.faults now_v c) (engine_of s) (Reply.Exported count)

@@ -1,6 +1,6 @@
 -- What a slot keeps, a command keeps.
-use Rattle.std.proofs.Common.{◌≡◌, ◌≤◌, ◌+◌, ℕ, Bool, true, false, List, [], ◌∷◌, length, refl, ap, sym, subst, ◌∙◌, arith, cond, get_or}
-use Rattle.std.specs.Prelude.{Option, Some, None, Result, Ok, Err, ℤ, not, ◌%◌, ◌-◌, ◌&&◌}
+use Rattle.std.proofs.Common.{◌≡◌, ◌≤◌, ◌+◌, ℕ, zero, suc, take, Bool, true, false, List, [], ◌∷◌, length, refl, ap, sym, subst, ◌∙◌, arith, cond, get_or}
+use Rattle.std.specs.Prelude.{Option, Some, None, Result, Ok, Err, ℤ, not, ◌%◌, ◌-◌, ◌&&◌, if◌then◌else◌}
 use Rattle.std.specs.List.{AllByRecursion, list_all}
 use Rattle.std.specs.Ordering.{nat_cmp}
 use Rattle.std.specs.Cmp.Lexicographic.{slice_cmp}
@@ -13,7 +13,9 @@ use Rattle.ph_specs.specs.Command.{Command}
 use Rattle.ph_specs.specs.Coordinate.{is_box, IsBox}
 use Rattle.ph_specs.specs.Named.{Named, has_name}
 use Rattle.ph_specs.specs.Reply.{Reply}
-use Rattle.ph_specs.specs.State.{current}
+use Rattle.ph_specs.specs.State.{Slot, current, with_past}
+use Rattle.ph_specs.specs.Past.{after_edit}
+use Rattle.ph_specs.specs.Table.{Row, has, del, move}
 use Rattle.ph_specs.specs.Refusals.{refusal, boxes_of}
 use Rattle.ph_specs.specs.Window.{Cursor}
 use Rattle.ph_specs.specs.Engine.{unless_refused, opened_dims}
@@ -43,14 +45,27 @@ second-box false b h = absurd cc
 
 -- ---- a table of the same width, number of dimensions and kind
 
+-- the rows of a slot are boxes, and those of its past
+abbrev HasBoxes : Slot → Type 0
+HasBoxes s = AreBoxes s.table × AllByRecursion AreBoxes s.past
+
+boxes-taken : (n : ℕ) (past : List (List Row)) → AllByRecursion AreBoxes past → AllByRecursion AreBoxes (take n past)
+boxes-taken zero past h = tt
+boxes-taken (suc n) [] h = tt
+boxes-taken (suc n) (rows ∷ past) h = (h.0, boxes-taken n past h.1)
+
+-- an edit puts the table from before it in front of the past
+edited : (n : ℕ) (now before : List Row) (past : List (List Row)) → AreBoxes now → AreBoxes before → AllByRecursion AreBoxes past → AreBoxes now × AllByRecursion AreBoxes (take n (before ∷ past))
+edited n now before past h k l = (h, boxes-taken n (before ∷ past) (k, l))
+
 -- refused or not, a command on points leaves the width and the dimensions, and where a slot of the kind does not refuse it, the kind
 pub record KeepsFrame (kind : Kind) (t : AnyTable) (command : Command) : Type 0 where
   pub same : (r : Option Reply) → let s = current (unless_refused r (engine_of (slot_of Points t [])) [] command).engine in (s.width ≡ t.tree.width) × (s.dims ≡ t.dims)
-  pub boxes : (r : Option Reply) → kind ≡ Boxes → AreBoxes t.tree.table → AreBoxes (current (unless_refused r (engine_of (slot_of Points t [])) [] command).engine).table
+  pub boxes : (r : Option Reply) → kind ≡ Boxes → AreBoxes t.tree.table → AllByRecursion AreBoxes t.tree.past → HasBoxes (current (unless_refused r (engine_of (slot_of Points t [])) [] command).engine)
 
-pub of-kind-still : (kind : Kind) (t now : AnyTable) → now.dims ≡ t.dims → (kind ≡ Boxes → AreBoxes t.tree.table → AreBoxes now.tree.table) → IsOfKind kind t → IsOfKind kind now
+pub of-kind-still : (kind : Kind) (t now : AnyTable) → now.dims ≡ t.dims → (kind ≡ Boxes → AreBoxes t.tree.table → AllByRecursion AreBoxes t.tree.past → AreBoxes now.tree.table × AllByRecursion AreBoxes now.tree.past) → IsOfKind kind t → IsOfKind kind now
 of-kind-still Points t now d b h = h
-of-kind-still Boxes t now d b h = (rw d h.0, b refl h.1)
+of-kind-still Boxes t now d b h = let k = b refl h.1 h.2 in (rw d h.0, k.0, k.1)
 
 pub same-frame : {E : Type 0} (kind : Kind) (t now : AnyTable) (command : Command) (outcome : Result Told E) (v now_v c now_c : ℕ) → KeepsFrame kind t command → ServedOr t command now v now_v c now_c outcome → SameFrame kind t now
 same-frame kind t now command (Ok reply) v now_v c now_c k h =
@@ -60,7 +75,7 @@ same-frame kind t now command (Ok reply) v now_v c now_c k h =
     record {
       width = sym (ap (λ o. (current o.engine).width) does) ∙ (k.same r).0;
       dims = dims;
-      of_kind = of-kind-still kind t now dims (λ e b. subst AreBoxes (ap (λ o. (current o.engine).table) does) (k.boxes r e b));
+      of_kind = of-kind-still kind t now dims (λ e b c. let k = k.boxes r e b c in (subst AreBoxes (ap (λ o. (current o.engine).table) does) k.0, subst (AllByRecursion AreBoxes) (ap (λ o. (current o.engine).past) does) k.1));
     }
 same-frame kind t now command (Err error) v now_v c now_c k h =
     record { width = ap (λ x. x.tree.width) h.stays; dims = ap (λ x. x.dims) h.stays; of_kind = λ o. rw h.stays o }
@@ -78,9 +93,9 @@ module _ (kind : Kind) (t : AnyTable) (cursors : Named Cursor) where
       stays (Some r) = (refl, refl)
       stays None = (refl, refl)
 
-      boxed : (r : Option Reply) → kind ≡ Boxes → AreBoxes t.tree.table → AreBoxes (current (unless_refused r (engine_of (slot_of Points t [])) [] (Command.Put p v)).engine).table
-      boxed (Some r) e b = b
-      boxed None e b = boxes-put t.tree.width t.tree.table p v (box-of t cursors kind (Command.Put p v) p refl e h) b
+      boxed : (r : Option Reply) → kind ≡ Boxes → AreBoxes t.tree.table → AllByRecursion AreBoxes t.tree.past → HasBoxes (current (unless_refused r (engine_of (slot_of Points t [])) [] (Command.Put p v)).engine)
+      boxed (Some r) e b c = (b, c)
+      boxed None e b c = edited t.tree.depth _ t.tree.table t.tree.past (boxes-put t.tree.width t.tree.table p v (box-of t cursors kind (Command.Put p v) p refl e h) b) b c
 
   pub del-frame : (p : List ℤ) → KeepsFrame kind t (Command.Del p)
   del-frame p = record { same = stays; boxes = boxed }
@@ -89,9 +104,9 @@ module _ (kind : Kind) (t : AnyTable) (cursors : Named Cursor) where
       stays (Some r) = (refl, refl)
       stays None = (refl, refl)
 
-      boxed : (r : Option Reply) → kind ≡ Boxes → AreBoxes t.tree.table → AreBoxes (current (unless_refused r (engine_of (slot_of Points t [])) [] (Command.Del p)).engine).table
-      boxed (Some r) e b = b
-      boxed None e b = boxes-del t.tree.table p b
+      boxed : (r : Option Reply) → kind ≡ Boxes → AreBoxes t.tree.table → AllByRecursion AreBoxes t.tree.past → HasBoxes (current (unless_refused r (engine_of (slot_of Points t [])) [] (Command.Del p)).engine)
+      boxed (Some r) e b c = (b, c)
+      boxed None e b c = elim (has t.tree.table p) as (λ x. HasBoxes (with_past (slot_of Points t []) (if x then after_edit t.tree (del t.tree.table p) else t.tree))) [ true ↦ edited t.tree.depth _ t.tree.table t.tree.past (boxes-del t.tree.table p b) b c | false ↦ (b, c) ]
 
   pub move-frame : (p q : List ℤ) → early_refusal (slot_of kind t cursors) (Command.Relocate p q) ≡ None → KeepsFrame kind t (Command.Relocate p q)
   move-frame p q h = record { same = stays; boxes = boxed }
@@ -103,9 +118,9 @@ module _ (kind : Kind) (t : AnyTable) (cursors : Named Cursor) where
       target : kind ≡ Boxes → IsBox q
       target e = second-box (is_box p) (is_box q) (ap (λ x. not (list_all is_box (boxes_of x (Command.Relocate p q)))) (sym e) ∙ unreversed (slot_of kind t cursors) (Command.Relocate p q) h)
 
-      boxed : (r : Option Reply) → kind ≡ Boxes → AreBoxes t.tree.table → AreBoxes (current (unless_refused r (engine_of (slot_of Points t [])) [] (Command.Relocate p q)).engine).table
-      boxed (Some r) e b = b
-      boxed None e b = boxes-move t.tree.width t.tree.table p q (target e) b
+      boxed : (r : Option Reply) → kind ≡ Boxes → AreBoxes t.tree.table → AllByRecursion AreBoxes t.tree.past → HasBoxes (current (unless_refused r (engine_of (slot_of Points t [])) [] (Command.Relocate p q)).engine)
+      boxed (Some r) e b c = (b, c)
+      boxed None e b c = elim (has t.tree.table p && not (has t.tree.table q)) as (λ x. HasBoxes (with_past (slot_of Points t []) (if x then after_edit t.tree (move t.tree.width t.tree.table p q) else t.tree))) [ true ↦ edited t.tree.depth _ t.tree.table t.tree.past (boxes-move t.tree.width t.tree.table p q (target e) b) b c | false ↦ (b, c) ]
 
   pub clear-frame : KeepsFrame kind t Command.Clear
   clear-frame = record { same = stays; boxes = boxed }
@@ -114,9 +129,9 @@ module _ (kind : Kind) (t : AnyTable) (cursors : Named Cursor) where
       stays (Some r) = (refl, refl)
       stays None = (refl, refl)
 
-      boxed : (r : Option Reply) → kind ≡ Boxes → AreBoxes t.tree.table → AreBoxes (current (unless_refused r (engine_of (slot_of Points t [])) [] Command.Clear).engine).table
-      boxed (Some r) e b = b
-      boxed None e b = tt
+      boxed : (r : Option Reply) → kind ≡ Boxes → AreBoxes t.tree.table → AllByRecursion AreBoxes t.tree.past → HasBoxes (current (unless_refused r (engine_of (slot_of Points t [])) [] Command.Clear).engine)
+      boxed (Some r) e b c = (b, c)
+      boxed None e b c = (tt, tt)
 
 -- a slot in which a question about boxes is not refused is one of boxes
 pub kind-of-boxes : (kind : Kind) (t : AnyTable) → (kind ≡ Points → ⊥) → IsOfKind kind t → IsOfKind Boxes t
@@ -169,7 +184,7 @@ cursor-at c tree variant d e = by-dims c ∙ ap (λ n. by_dims n (cursor_of c)) 
 pub slot-opened : (kind : Kind) (k dims w max : ℕ) → dims ≡ opened_dims kind k → IsSlot kind (empty_table dims w max) []
 slot-opened Points k dims w max e = record { of_kind = tt; few = omega arith; sorted = refl; serve = tt }
 slot-opened Boxes k dims w max e =
-    record { of_kind = (let even : dims % 2 ≡ 0 = omega (arith, e) in even, tt); few = omega arith; sorted = refl; serve = tt }
+    record { of_kind = (let even : dims % 2 ≡ 0 = omega (arith, e) in even, tt, tt); few = omega arith; sorted = refl; serve = tt }
 
 -- ---- with a cursor more
 

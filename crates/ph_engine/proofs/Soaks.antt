@@ -14,9 +14,10 @@ use Rattle.ph_specs.specs.Generator.{generate, generate_from, next_state, draw_o
 use Rattle.ph_specs.specs.Program.{act_all, counted, opened, soak_line}
 use Rattle.ph_specs.specs.Reply.{Reply, replies_text, line_of, stats_words}
 use Rattle.ph_specs.specs.Refusals.{refusal}
-use Rattle.ph_specs.specs.State.{Slot, Engine, Files, outcome, current, with_table}
+use Rattle.ph_specs.specs.Past.{Past, put_kept, del_kept, move_kept}
+use Rattle.ph_specs.specs.State.{Slot, Engine, Files, outcome, current, with_slot, with_past, past_in}
 use Rattle.ph_specs.specs.Stats.{Stats, stats}
-use Rattle.ph_specs.specs.Table.{Row, put, del, move}
+use Rattle.ph_specs.specs.Table.{put}
 use Rattle.ph_specs.specs.Engine.{act, after, effect, unless_refused}
 use Rattle.ph_engine.specs.Beside.{Beside, alone, beside, Tells}
 use Rattle.ph_engine.specs.Doing.{Done, Undone, Leads, Knows, HoldsFound, file_read, starved_engine}
@@ -71,6 +72,7 @@ drawn-reads command h = refl
 
 drawn-starved : (e : Engine) (files : Files) (command : Command) (part : ℕ) → is_drawn command ≡ true → starved_engine e files command part ≡ e
 drawn-starved e files (Command.Import name header) part h = absurd cc
+drawn-starved e files (Command.Back asked) part h = absurd cc
 drawn-starved e files command part h = refl
 
 -- they leave the files
@@ -91,15 +93,15 @@ drawn-files : (most : ℕ) (e : Engine) (files : Files) (command : Command) → 
 drawn-files most e files command h = unless-files (refusal most e files false command) e files command (effect-files e files command h)
 
 -- and the number of dimensions
-table-dims : (which : Which) (a b : Slot) (table : List Row) → let e : Engine = record { a = a; b = b; current = which } in (current (with_table e table)).dims ≡ (current e).dims
-table-dims A a b table = refl
-table-dims B a b table = refl
+past-dims : (which : Which) (a b : Slot) (k : Past) → let e : Engine = record { a = a; b = b; current = which } in (current (with_slot e (with_past (current e) k))).dims ≡ (current e).dims
+past-dims A a b k = refl
+past-dims B a b k = refl
 
 effect-dims : (e : Engine) (files : Files) (command : Command) → is_drawn command ≡ true → (current (effect e files command).engine).dims ≡ (current e).dims
-effect-dims e files (Command.Put p v) h = let s = current e in table-dims e.current e.a e.b (put s.width s.table p v)
+effect-dims e files (Command.Put p v) h = past-dims e.current e.a e.b (put_kept (past_in (current e)) p v)
 effect-dims e files (Command.Get p) h = refl
-effect-dims e files (Command.Del p) h = table-dims e.current e.a e.b (del (current e).table p)
-effect-dims e files (Command.Relocate p q) h = let s = current e in table-dims e.current e.a e.b (move s.width s.table p q)
+effect-dims e files (Command.Del p) h = past-dims e.current e.a e.b (del_kept (past_in (current e)) p)
+effect-dims e files (Command.Relocate p q) h = past-dims e.current e.a e.b (move_kept (past_in (current e)) p q)
 effect-dims e files (Command.Window lo hi) h = refl
 effect-dims e files (Command.Near q n) h = refl
 effect-dims e files command h = absurd cc

@@ -6,8 +6,10 @@ use Rattle.ph_specs.specs.Reply.{Reply, replies_text}
 use Rattle.ph_specs.specs.declared.Kind.TheVariants.{Points}
 use Rattle.ph_specs.specs.Table.{Row, has}
 use Rattle.ph_specs.specs.Sets.{put_all}
+use Rattle.ph_specs.specs.Past.{back}
 use Rattle.ph_specs.specs.Refusals.{import_rows, table_read}
-use Rattle.ph_specs.specs.State.{Slot, Engine, Files, Outcome, outcome, current, other, with_table}
+use Rattle.ph_import.specs.Imported.{with_some}
+use Rattle.ph_specs.specs.State.{Slot, Engine, Files, Outcome, outcome, past_in, with_past, current, other, with_slot}
 use Rattle.ph_specs.specs.Engine.{act}
 use Rattle.ph_specs.specs.WorkSets.{all_nodes}
 use Rattle.ph_specs.specs.Named.{Named, lookup}
@@ -68,6 +70,8 @@ is_tried (Command.Del p) = true
 is_tried (Command.Relocate p q) = true
 is_tried (Command.Load name) = true
 is_tried (Command.Import name header) = true
+is_tried (Command.Keep n) = true
+is_tried (Command.Back n) = true
 is_tried _ = false
 
 -- and those that want none, on one slot
@@ -137,6 +141,8 @@ takes_memory s (Command.Near q n) = nat_lt 0 n
 takes_memory s (Command.Load name) = true
 takes_memory s (Command.Import name header) = true
 takes_memory s (Command.Combine operation) = true
+takes_memory s (Command.Keep n) = nat_lt 0 n
+takes_memory s (Command.Back n) = nat_lt 0 n
 takes_memory s _ = false
 
 -- whether it may want memory on a slot: it takes some, and is not refused before
@@ -208,12 +214,17 @@ imported s files _ = None
 abbrev pub first_rows : ℕ → List Row → List Row
 first_rows n rows = take n (take (length rows - 1) rows)
 
--- the engine in which memory is missing: of an import into rows that would be done some first rows are in, and not all
+-- The engine in which memory is missing. Of an import into rows that would be done some first rows are in, and not all; where one is in, no edits are kept.
 abbrev pub with_first : Engine → ℕ → Option (List Row) → Engine
-with_first e n (Some rows) = let s = current e in with_table e (put_all s.width s.table (first_rows n rows))
+with_first e n (Some rows) = let s = current e in with_slot e (with_past s (with_some (past_in s) (first_rows n rows)))
 with_first e n None = e
 
+-- Of edits that are taken back some last ones are, and not as many as were asked for.
+abbrev pub with_back : Engine → ℕ → ℕ → Engine
+with_back e n asked = let s = current e in with_slot e (with_past s (back (past_in s) (if nat_lt n asked then n else 0)))
+
 abbrev pub starved_engine : Engine → Files → Command → ℕ → Engine
+starved_engine e files (Command.Back asked) n = with_back e n asked
 starved_engine e files command n = with_first e n (imported (current e) files command)
 
 abbrev pub refuses : Answer → Bool

@@ -8,6 +8,7 @@ use Rattle.ph_specs.specs.Reply.{Reply}
 use Rattle.ph_specs.specs.declared.Kind.{Kind}
 use Rattle.ph_specs.specs.Load.{Fault}
 use Rattle.ph_specs.specs.Named.{Named, enter}
+use Rattle.ph_specs.specs.Past.{without_past}
 use Rattle.ph_specs.specs.SavedTable.{fault_reply, read_snapshot}
 use Rattle.ph_specs.specs.State.{Slot, Engine, Files, current}
 use Rattle.ph_specs.specs.Table.{Row}
@@ -79,7 +80,7 @@ pub record TableSaved (kind : Kind) (t : AnyTable) (name : List ℕ) (b now_b : 
 
 -- what a table becomes by the rows that were read, or by their fault, and the reply
 abbrev pub loaded_table : AnyTable → List Row → AnyTable
-loaded_table t rows = if nat_lt t.tree.max (length rows) then t else table_at t.dims (record (t.tree) { table = rows })
+loaded_table t rows = if nat_lt t.tree.max (length rows) then t else table_at t.dims (without_past t.tree rows)
 
 abbrev pub loaded_reply : ℕ → List Row → Reply
 loaded_reply max rows = if nat_lt max (length rows) then Reply.ErrorFull else Reply.Loaded (length rows)

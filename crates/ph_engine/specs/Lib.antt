@@ -15,6 +15,7 @@ pub mod Refusing
 pub mod Causes
 pub mod Listing
 pub mod Pairing
+pub mod Undoing
 pub mod Doing
 pub mod Drafting
 pub mod DraftLaws

@@ -8,7 +8,8 @@ use Rattle.ph_specs.specs.Engine.{pair_listing}
 use Rattle.ph_specs.specs.Refusals.{combine_refusal, has_too_many}
 use Rattle.ph_specs.specs.Reply.{Reply}
 use Rattle.ph_specs.specs.Sets.{pairs, combine}
-use Rattle.ph_specs.specs.State.{Slot}
+use Rattle.ph_specs.specs.Past.{without_past}
+use Rattle.ph_specs.specs.State.{Slot, with_new_table}
 use Rattle.ph_specs.specs.Table.{Row}
 use Rattle.ph_specs.specs.WorkSets.{all_nodes, join_visits, combine_visits}
 use Rattle.ph_script.specs.declared.reply.Reply.{Reply as Told}
@@ -41,7 +42,7 @@ JoinsSlots a b sink now_sink visits now_visits result =
 
 -- the table that is made of two
 abbrev pub combined_table : SetOperation → AnyTable → AnyTable → AnyTable
-combined_table operation t u = table_at t.dims (record (t.tree) { table = combine operation t.tree.width t.tree.table u.tree.table })
+combined_table operation t u = table_at t.dims (without_past t.tree (combine operation t.tree.width t.tree.table u.tree.table))
 
 -- the nodes of its tree
 abbrev pub combined_nodes : SetOperation → AnyTable → AnyTable → ℕ
@@ -80,7 +81,7 @@ pub record VisitsBoth (operation : SetOperation) (t u : AnyTable) (visits now_vi
 -- the slot that another one is combined into, and the reply, by the refusal if there is one
 abbrev pub combined_slot : Option Reply → SetOperation → Slot → Slot → Slot
 combined_slot (Some r) operation s t = s
-combined_slot None operation s t = record s { table = combine operation s.width s.table t.table }
+combined_slot None operation s t = with_new_table s (combine operation s.width s.table t.table)
 
 abbrev pub combined_reply : Option Reply → SetOperation → Slot → Slot → Reply
 combined_reply (Some r) operation s t = r

@@ -13,7 +13,7 @@ use Rattle.ph_specs.specs.Window.{Cursor}
 use Rattle.ph_specs.specs.declared.Kind.{Kind}
 use Rattle.ph_script.specs.declared.reply.Reply.{Reply as Told}
 use Rattle.ph_script.specs.Meaning.{reply_of}
-use Rattle.ph_import.specs.Imported.{with_rows}
+use Rattle.ph_import.specs.Imported.{with_some, with_rows}
 use Rattle.ph_engine.specs.Beside.{Beside, with_changes}
 use Rattle.ph_engine.specs.Doing.{first_rows, has_none}
 use Rattle.ph_engine.specs.Working.{import_bounds}
@@ -44,9 +44,13 @@ abbrev pub imported_reply : AnyTable → Result (List Row) Reply → Reply
 imported_reply t (Ok rows) = if is_overfull t rows then Reply.ErrorFull else Reply.Imported (length rows)
 imported_reply t (Err fault) = fault
 
+-- the same with the past where there are no rows
+abbrev pub table_with_some : AnyTable → List Row → AnyTable
+table_with_some t rows = table_at t.dims (with_some t.tree rows)
+
 -- the table with some first rows of those that were read, and not all of them, if it has rows and the import would be done
 abbrev pub table_with_first : AnyTable → ℕ → Result (List Row) Reply → AnyTable
-table_with_first t part (Ok rows) = if is_overfull t rows || has_none t.tree.table then t else table_with t (first_rows part rows)
+table_with_first t part (Ok rows) = if is_overfull t rows || has_none t.tree.table then t else table_with_some t (first_rows part rows)
 table_with_first t part (Err fault) = t
 
 -- the bounds of an import

@@ -6,7 +6,7 @@ use Rattle.ph_specs.specs.declared.Kind.{Kind}
 use Rattle.ph_specs.specs.Command.{Command}
 use Rattle.ph_specs.specs.Reply.{Reply}
 use Rattle.ph_specs.specs.State.{Slot, Files}
-use Rattle.ph_specs.specs.Refusals.{points_of, boxes_of, refuse_if, refuse_if_bad, has_wrong_dims, has_wrong_kind, is_out_of_range, is_reversed, lacks_cursor, has_too_many_cursors, has_file_fault, table_read, is_full, points_differ, same_kind}
+use Rattle.ph_specs.specs.Refusals.{points_of, boxes_of, refuse_if, refuse_if_bad, has_wrong_dims, has_wrong_kind, is_out_of_range, is_reversed, lacks_cursor, has_too_many_cursors, has_file_fault, table_read, is_full, is_too_far_back, points_differ, same_kind}
 
 -- some point of the command has a coordinate that the width has not
 abbrev pub names_points_outside : ℕ → Command → Bool
@@ -35,7 +35,8 @@ abbrev pub late_refusal : ℕ → Slot → Files → Bool → Command → Option
 late_refusal most s files fault cmd =
     refuse_if (has_file_fault most files fault cmd) Reply.ErrorFile
     (refuse_if_bad (table_read s files cmd)
-    (refuse_if (is_full s files cmd) Reply.ErrorFull None))
+    (refuse_if (is_full s files cmd) Reply.ErrorFull
+    (refuse_if (is_too_far_back s cmd) Reply.ErrorPast None)))
 
 -- the causes for which the tables of two slots are not combined, but for the room of a union
 abbrev pub frame_refusal : Slot → Slot → Option Reply

@@ -12,6 +12,7 @@ use Rattle.ph_specs.specs.Coordinate.{IsPoint}
 use Rattle.ph_specs.specs.Named.{Named}
 use Rattle.ph_specs.specs.State.{Slot, Engine, new_slot}
 use Rattle.ph_specs.specs.Window.{Cursor}
+use Rattle.ph_specs.specs.Past.{Past}
 use Rattle.ph_tree.specs.Tree.{TreeTable}
 use Rattle.ph_window.specs.Page.{IsLast}
 use Rattle.ph_engine.specs.declared.trees.AnyTree.{AnyTree}
@@ -21,13 +22,20 @@ use Rattle.ph_engine.specs.declared.cursors.AnyCursor.{AnyCursor}
 use Rattle.ph_engine.specs.declared.cursors.AnyCursor.TheVariants as cursor
 use Rattle.ph_engine.specs.declared.cursors.Held.{Held}
 
--- a table, and its number of dimensions
+-- a table with its past, and its number of dimensions
 pub record AnyTable : Type 0 where
   pub dims : ℕ
-  pub tree : TreeTable
+  pub tree : Past
 
-abbrev pub table_at : ℕ → TreeTable → AnyTable
+abbrev pub table_at : ℕ → Past → AnyTable
 table_at dims t = record { dims = dims; tree = t }
+
+-- the same of a tree that keeps no edits
+abbrev pub bare : TreeTable → Past
+bare t = record { table = t.table; width = t.width; max = t.max; depth = 0; past = [] }
+
+abbrev pub tree_at : ℕ → TreeTable → AnyTable
+tree_at dims t = table_at dims (bare t)
 
 abbrev pub any_table : AnyTree → AnyTable
 any_table (tree.D1 t) = table_at 1 t
@@ -47,9 +55,9 @@ any_table (tree.D14 t) = table_at 14 t
 any_table (tree.D15 t) = table_at 15 t
 any_table (tree.D16 t) = table_at 16 t
 
--- the table of a new tree
+-- the table of a new tree, of which no edits are kept
 abbrev pub empty_table : ℕ → ℕ → ℕ → AnyTable
-empty_table dims width max = table_at dims (record { table = []; width = width; max = max })
+empty_table dims width max = tree_at dims (record { table = []; width = width; max = max })
 
 -- a cursor, and its number of dimensions
 abbrev pub cursor_of : AnyCursor → Cursor
@@ -98,7 +106,7 @@ entered h held = entered_at (place h.name (named held)) h held
 
 -- a slot of a kind with such cursors
 abbrev pub slot_of : Kind → AnyTable → Named Cursor → Slot
-slot_of kind t cursors = record { kind = kind; dims = t.dims; width = t.tree.width; max = t.tree.max; table = t.tree.table; cursors = cursors }
+slot_of kind t cursors = record { kind = kind; dims = t.dims; width = t.tree.width; max = t.tree.max; table = t.tree.table; cursors = cursors; depth = t.tree.depth; past = t.tree.past }
 
 -- a cursor that serves in a table: its corners and its last point are points of it
 pub record IsCursorIn (t : AnyTable) (c : AnyCursor) : Type 0 where
@@ -107,10 +115,10 @@ pub record IsCursorIn (t : AnyTable) (c : AnyCursor) : Type 0 where
   pub hi : IsPoint t.tree.width t.dims (cursor_of c).hi
   pub last : IsLast t.tree.width t.dims (cursor_of c).last
 
--- the points of a table are of the kind: those of boxes have an even number of dimensions, half of them for the low corner, and each is a box
+-- the points of a table are of the kind, and those of its past too: those of boxes have an even number of dimensions, half of them for the low corner, and each is a box
 abbrev pub IsOfKind : Kind → AnyTable → Type 0
 IsOfKind Points t = Unit {0}
-IsOfKind Boxes t = (t.dims % 2 ≡ 0) × AreBoxes t.tree.table
+IsOfKind Boxes t = (t.dims % 2 ≡ 0) × AreBoxes t.tree.table × AllByRecursion AreBoxes t.tree.past
 
 -- what a slot of the code keeps: that its rows are of its kind, at most 16 cursors in the order of their names, which differ, and that
 -- each serves in its table

@@ -68,6 +68,7 @@ bounds s files (Command.Save name) = let n = nodes_of s in work n n 0 0
 bounds s files (Command.Load name) = work 0 0 (length (bytes_of (lookup name files)) / 16) 0
 bounds s files (Command.Import name header) = import_bounds s.width s.dims s.table (import_rows s files name header)
 bounds s files (Command.Export name) = let n = nodes_of s in work n n 0 0
+bounds s files (Command.Back n) = work (6 * s.width * n) 0 (4 * n) n
 bounds s files Command.Statistics = let n = nodes_of s in work n n 0 0
 bounds s files _ = no_work
 

@@ -5,7 +5,7 @@ ghost use Rattle.ph_specs.specs.Boxes.{IsWindowFor, AreBoxes};
 ghost use Rattle.ph_specs.specs.Coordinate.{fits, IsPoint};
 ghost use Rattle.ph_script.specs.Meaning.{numbers_of};
 ghost use Rattle.ph_engine.specs.Listing.{asks, low_bound, high_bound, ListsBoxes};
-ghost use Rattle.ph_engine.specs.Slots.{table_at};
+ghost use Rattle.ph_engine.specs.Slots.{tree_at};
 ghost use Rattle.ph_engine.specs.Statuses.{StopHasCause};
 ghost use Rattle.ph_engine.specs.Told.{taken_by};
 
@@ -64,7 +64,7 @@ pub(crate) fn list_boxes<const K: usize, const D: usize, O: Sink, V: Ledger>(
     requires range { list_all (fits tree.now.width) (numbers_of asked.now) ≡ true }
     requires boxes { AreBoxes tree.now.table }
     requires limit { D ≤ 16 }
-    ensures lists { ListsBoxes question (table_at D tree.now) (numbers_of asked.now) (taken_by O.Sink out.old) (taken_by O.Sink out.new) visits.old visits.new result }
+    ensures lists { ListsBoxes question (tree_at D tree.now) (numbers_of asked.now) (taken_by O.Sink out.old) (taken_by O.Sink out.new) visits.old visits.new result }
     ensures cause { StopHasCause (O.faults out.old) (O.faults out.new) result }
 {
     // A use that makes known that the rows are those of a table.

@@ -13,7 +13,9 @@ use ph_coord::{Point, Width};
 use ph_script::{Coord, Coords, Reply};
 use ph_steps::Steps;
 use ph_tree::{Moved, NoMemory, PhTree, Put, PutError};
+use ph_undo::Kept;
 use ph_window::Cursor;
+use std::alloc::Global;
 use std::sync::ledger::Ledger;
 
 // The point at these coordinates, which are in the width.
@@ -44,21 +46,21 @@ fn number_at(w: Width, coord: &Coord) -> i64
 }
 
 pub(crate) fn put_row<const D: usize, V: Ledger, C: Ledger>(
-    tree: &mut PhTree<D>,
+    kept: &mut Kept<D>,
     at: &Coords<'_>,
     value: u64,
     visits: &mut Steps<V>,
     changes: &mut Steps<C>,
 ) -> Result<Reply, NoMemory>
     requires dims { length at.now ≡ D }
-    requires range { list_all (fits tree.old.width) (numbers_of at.now) ≡ true }
+    requires range { list_all (fits kept.old.width) (numbers_of at.now) ≡ true }
     requires limit { D ≤ 16 }
-    ensures { ServedOr (table_at D tree.old) (Asked.Put (numbers_of at.now) value) (table_at D tree.new) visits.old visits.new changes.old changes.new result }
+    ensures { ServedOr (table_at D kept.old) (Asked.Put (numbers_of at.now) value) (table_at D kept.new) visits.old visits.new changes.old changes.new result }
 {
-    let p = point_at(tree.width(), at);
+    let p = point_at(kept.tree().width(), at);
     // A use that makes known that there are at most so many rows.
-    let _len = tree.len();
-    match tree.put(p, value, visits, changes) {
+    let _len = kept.tree().len();
+    match kept.put(p, value, visits, changes) {
         Ok(Put::New) => Ok(Reply::New),
         Ok(Put::Old(old)) => Ok(Reply::Old(old)),
         Err(PutError::Full) => Ok(Reply::ErrorFull),
@@ -67,15 +69,16 @@ pub(crate) fn put_row<const D: usize, V: Ledger, C: Ledger>(
 }
 
 pub(crate) fn get_row<const D: usize, V: Ledger>(
-    tree: &PhTree<D>,
+    kept: &Kept<D>,
     at: &Coords<'_>,
     visits: &mut Steps<V>,
 ) -> Reply
     requires dims { length at.now ≡ D }
-    requires range { list_all (fits tree.now.width) (numbers_of at.now) ≡ true }
+    requires range { list_all (fits kept.now.width) (numbers_of at.now) ≡ true }
     requires limit { D ≤ 16 }
-    ensures { Looked (table_at D tree.now) (Asked.Get (numbers_of at.now)) (table_at D tree.now) (reply_of result) visits.old visits.new }
+    ensures { Looked (table_at D kept.now) (Asked.Get (numbers_of at.now)) (table_at D kept.now) (reply_of result) visits.old visits.new }
 {
+    let tree = kept.tree();
     let p = point_at(tree.width(), at);
     match tree.get(&p, visits) {
         Some(value) => Reply::Value(value),
@@ -84,25 +87,25 @@ pub(crate) fn get_row<const D: usize, V: Ledger>(
 }
 
 pub(crate) fn del_row<const D: usize, V: Ledger, C: Ledger>(
-    tree: &mut PhTree<D>,
+    kept: &mut Kept<D>,
     at: &Coords<'_>,
     visits: &mut Steps<V>,
     changes: &mut Steps<C>,
 ) -> Result<Reply, NoMemory>
     requires dims { length at.now ≡ D }
-    requires range { list_all (fits tree.old.width) (numbers_of at.now) ≡ true }
+    requires range { list_all (fits kept.old.width) (numbers_of at.now) ≡ true }
     requires limit { D ≤ 16 }
-    ensures { ServedOr (table_at D tree.old) (Asked.Del (numbers_of at.now)) (table_at D tree.new) visits.old visits.new changes.old changes.new result }
+    ensures { ServedOr (table_at D kept.old) (Asked.Del (numbers_of at.now)) (table_at D kept.new) visits.old visits.new changes.old changes.new result }
 {
-    let p = point_at(tree.width(), at);
-    match tree.del(&p, visits, changes)? {
+    let p = point_at(kept.tree().width(), at);
+    match kept.del(&p, visits, changes)? {
         Some(value) => Ok(Reply::Gone(value)),
         None => Ok(Reply::Absent),
     }
 }
 
 pub(crate) fn move_row<const D: usize, V: Ledger, C: Ledger>(
-    tree: &mut PhTree<D>,
+    kept: &mut Kept<D>,
     from: &Coords<'_>,
     to: &Coords<'_>,
     visits: &mut Steps<V>,
@@ -110,49 +113,54 @@ pub(crate) fn move_row<const D: usize, V: Ledger, C: Ledger>(
 ) -> Result<Reply, NoMemory>
     requires from { length from.now ≡ D }
     requires to { length to.now ≡ D }
-    requires from_range { list_all (fits tree.old.width) (numbers_of from.now) ≡ true }
-    requires to_range { list_all (fits tree.old.width) (numbers_of to.now) ≡ true }
+    requires from_range { list_all (fits kept.old.width) (numbers_of from.now) ≡ true }
+    requires to_range { list_all (fits kept.old.width) (numbers_of to.now) ≡ true }
     requires limit { D ≤ 16 }
-    ensures { ServedOr (table_at D tree.old) (Asked.Relocate (numbers_of from.now) (numbers_of to.now)) (table_at D tree.new)
+    ensures { ServedOr (table_at D kept.old) (Asked.Relocate (numbers_of from.now) (numbers_of to.now)) (table_at D kept.new)
         visits.old visits.new changes.old changes.new result }
 {
-    let p = point_at(tree.width(), from);
-    let q = point_at(tree.width(), to);
-    match tree.relocate(&p, &q, visits, changes)? {
+    let p = point_at(kept.tree().width(), from);
+    let q = point_at(kept.tree().width(), to);
+    match kept.relocate(&p, &q, visits, changes)? {
         Moved::Done => Ok(Reply::Moved),
         Moved::Taken => Ok(Reply::Taken),
         Moved::Absent => Ok(Reply::Absent),
     }
 }
 
-pub(crate) fn count_rows<const D: usize>(tree: &PhTree<D>) -> Reply
+pub(crate) fn count_rows<const D: usize>(kept: &Kept<D>) -> Reply
     requires { D ≤ 16 }
-    ensures { Idled (table_at D tree.now) Asked.Count (table_at D tree.now) (reply_of result) }
+    ensures { Idled (table_at D kept.now) Asked.Count (table_at D kept.now) (reply_of result) }
 {
-    Reply::Rows(tree.len())
+    Reply::Rows(kept.tree().len())
 }
 
-pub(crate) fn clear_rows<const D: usize>(tree: &mut PhTree<D>) -> Reply
+pub(crate) fn clear_rows<const D: usize>(kept: &mut Kept<D>, alloc: Global) -> Reply
     requires { D ≤ 16 }
-    ensures { Idled (table_at D tree.old) Asked.Clear (table_at D tree.new) (reply_of result) }
+    ensures { Idled (table_at D kept.old) Asked.Clear (table_at D kept.new) (reply_of result) }
 {
-    tree.clear();
+    let tree = kept.tree();
+    // A use that makes the number of dimensions known.
+    let _root = tree.root();
+    let empty = PhTree::new(alloc, tree.width(), tree.max());
+    kept.replace(empty);
     Reply::Cleared
 }
 
 pub(crate) fn are_same<const D: usize, V: Ledger>(
-    a: &PhTree<D>,
-    b: &PhTree<D>,
+    a: &Kept<D>,
+    b: &Kept<D>,
     visits: &mut Steps<V>,
 ) -> bool
     ensures { IsCompared (slot_of Points (table_at D a.now) []) (slot_of Points (table_at D b.now) []) visits.old visits.new result }
 {
-    let bits = a.width().bits();
-    let others = b.width().bits();
+    let (first, second) = (a.tree(), b.tree());
+    let bits = first.width().bits();
+    let others = second.width().bits();
     if bits != others {
         return false;
     }
-    a.same(b, visits)
+    first.same(second, visits)
 }
 
 pub(crate) fn cursor_at<const D: usize>(

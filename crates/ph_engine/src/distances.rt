@@ -4,7 +4,7 @@ ghost use Rattle.std.specs.List.{list_all};
 ghost use Rattle.ph_specs.specs.Coordinate.{fits};
 ghost use Rattle.ph_script.specs.Meaning.{numbers_of};
 ghost use Rattle.ph_engine.specs.Listing.{hit_replies, Lists, ListsNear, ListsBall};
-ghost use Rattle.ph_engine.specs.Slots.{table_at};
+ghost use Rattle.ph_engine.specs.Slots.{tree_at};
 ghost use Rattle.ph_engine.specs.Statuses.{StopHasCause};
 ghost use Rattle.ph_engine.specs.Told.{taken_by};
 
@@ -32,7 +32,7 @@ pub(crate) fn list_near<const D: usize, O: Sink, V: Ledger>(
     requires dims { length q.now ≡ D }
     requires range { list_all (fits tree.now.width) (numbers_of q.now) ≡ true }
     requires limit { D ≤ 16 }
-    ensures lists { ListsNear (table_at D tree.now) (numbers_of q.now) n (taken_by O.Sink out.old) (taken_by O.Sink out.new) visits.old visits.new result }
+    ensures lists { ListsNear (tree_at D tree.now) (numbers_of q.now) n (taken_by O.Sink out.old) (taken_by O.Sink out.new) visits.old visits.new result }
     ensures cause { StopHasCause (O.faults out.old) (O.faults out.new) result }
 {
     let Ok(hits) = nearest(alloc, tree, point_at(tree.width(), q), n, visits) else {
@@ -68,7 +68,7 @@ pub(crate) fn list_ball<const D: usize, O: Sink, V: Ledger>(
     requires dims { length q.now ≡ D }
     requires range { list_all (fits tree.now.width) (numbers_of q.now) ≡ true }
     requires limit { D ≤ 16 }
-    ensures lists { ListsBall (table_at D tree.now) (numbers_of q.now) r (taken_by O.Sink out.old) (taken_by O.Sink out.new) visits.old visits.new result }
+    ensures lists { ListsBall (tree_at D tree.now) (numbers_of q.now) r (taken_by O.Sink out.old) (taken_by O.Sink out.new) visits.old visits.new result }
     ensures cause { StopHasCause (O.faults out.old) (O.faults out.new) result }
 {
     // A use that makes known that there are at most so many rows.

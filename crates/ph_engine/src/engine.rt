@@ -81,11 +81,13 @@ impl Engine {
         }
     }
 
-    /// Does a command, and gives its replies to the sink. It may want memory for a row that is new or moves, for the rows that are
-    /// nearest to a point, for a file that is read with its table, and for a table that is made of both slots, and for no other command.
+    /// Does a command, and gives its replies to the sink. It may want memory for a row that is new, goes, moves or comes back, for the rows
+    /// that are nearest to a point, for a file that is read with its table, for a table that is made of both slots and for the edits that
+    /// are to be kept, and for nothing else.
     ///
     /// After a write fault the command is done, but a page leaves its cursor as it was; a front of the replies is written.
-    /// Without memory nothing is done or written.
+    /// Without memory nothing is written, and nothing is done but that of an import some first rows may be in, with no edits kept then, and
+    /// of edits that were to be taken back some last ones may be.
     pub fn exec<O: Sink, F: Files, V: Ledger, C: Ledger>(
         &mut self,
         alloc: Global,

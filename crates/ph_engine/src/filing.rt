@@ -134,17 +134,17 @@ fn load_bytes<C: Ledger>(
 }
 
 // Puts a tree in place of another one, if it may have so many rows.
-fn replace(tree: &mut AnyTree, mut loaded: AnyTree) -> Reply
+fn replace(tree: &mut AnyTree, loaded: AnyTree) -> Reply
     requires width { (any_table loaded).tree.width ≡ (any_table tree.old).tree.width }
     requires dims { (any_table loaded).dims ≡ (any_table tree.old).dims }
     ensures table { any_table tree.new ≡ loaded_table (any_table tree.old) (any_table loaded).tree.table }
     ensures reply { reply_of result ≡ loaded_reply (any_table tree.old).tree.max (any_table loaded).tree.table }
 {
-    if !loaded.set_max(tree.max()) {
+    let rows = loaded.len();
+    if rows > tree.max() {
         return Reply::ErrorFull;
     }
-    let rows = loaded.len();
-    *tree = loaded;
+    tree.replace(loaded);
     Reply::Loaded(rows)
 }
 

@@ -23,6 +23,7 @@ mod soaking;
 mod status;
 mod task;
 mod trees;
+mod undoing;
 
 pub use cursors::{AnyCursor, Held};
 pub use engine::Engine;

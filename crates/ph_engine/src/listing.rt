@@ -6,7 +6,7 @@ ghost use Rattle.ph_specs.specs.Engine.{page_end};
 ghost use Rattle.ph_script.specs.Meaning.{numbers_of, reply_of};
 ghost use Rattle.ph_window.specs.Page.{IsLast};
 ghost use Rattle.ph_engine.specs.Listing.{ListsWindow, ListsPage, is_more};
-ghost use Rattle.ph_engine.specs.Slots.{table_at};
+ghost use Rattle.ph_engine.specs.Slots.{tree_at};
 ghost use Rattle.ph_engine.specs.Statuses.{StopHasCause};
 ghost use Rattle.ph_engine.specs.Told.{taken_by};
 
@@ -35,7 +35,7 @@ pub(crate) fn list_window<const D: usize, O: Sink, V: Ledger>(
     requires lo_range { list_all (fits tree.now.width) (numbers_of lo.now) ≡ true }
     requires hi_range { list_all (fits tree.now.width) (numbers_of hi.now) ≡ true }
     requires limit { D ≤ 16 }
-    ensures lists { ListsWindow (table_at D tree.now) (numbers_of lo.now) (numbers_of hi.now)
+    ensures lists { ListsWindow (tree_at D tree.now) (numbers_of lo.now) (numbers_of hi.now)
         (taken_by O.Sink out.old) (taken_by O.Sink out.new) visits.old visits.new result }
     ensures cause { StopHasCause (O.faults out.old) (O.faults out.new) result }
 {
@@ -55,7 +55,7 @@ pub(crate) fn list_between<const D: usize, O: Sink, V: Ledger>(
     requires lo { IsPoint tree.now.width D lo }
     requires hi { IsPoint tree.now.width D hi }
     requires limit { D ≤ 16 }
-    ensures lists { ListsWindow (table_at D tree.now) lo.entry hi.entry (taken_by O.Sink out.old) (taken_by O.Sink out.new) visits.old visits.new result }
+    ensures lists { ListsWindow (tree_at D tree.now) lo.entry hi.entry (taken_by O.Sink out.old) (taken_by O.Sink out.new) visits.old visits.new result }
     ensures cause { StopHasCause (O.faults out.old) (O.faults out.new) result }
 {
     // A use that makes known that there are at most so many rows.
@@ -82,7 +82,7 @@ pub(crate) fn list_page<const D: usize, O: Sink, V: Ledger>(
     requires hi { IsPoint tree.now.width D cursor.now.hi }
     requires last { IsLast tree.now.width D cursor.now.last }
     requires limit { D ≤ 16 }
-    ensures lists { ListsPage (table_at D tree.now) cursor.now n (taken_by O.Sink out.old) (taken_by O.Sink out.new) visits.old visits.new result }
+    ensures lists { ListsPage (tree_at D tree.now) cursor.now n (taken_by O.Sink out.old) (taken_by O.Sink out.new) visits.old visits.new result }
     ensures cause { StopHasCause (O.faults out.old) (O.faults out.new) result }
 {
     // A use that makes known that the rows are those of a table.

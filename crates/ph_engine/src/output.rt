@@ -42,7 +42,9 @@ fn answer_of(reply: &Reply) -> Answer
         | Reply::Using(_)
         | Reply::Same
         | Reply::Differ
-        | Reply::Combined(_) => Answer::Good,
+        | Reply::Combined(_)
+        | Reply::Keeping(_)
+        | Reply::WentBack(_) => Answer::Good,
         Reply::ErrorLong
         | Reply::ErrorWord
         | Reply::ErrorCount
@@ -56,6 +58,7 @@ fn answer_of(reply: &Reply) -> Answer
         | Reply::ErrorCursors
         | Reply::ErrorFile
         | Reply::ErrorFull
+        | Reply::ErrorPast
         | Reply::BadMagic
         | Reply::BadHeader(_)
         | Reply::BadDims

@@ -2,7 +2,7 @@
 ghost use Rattle.std.specs.Prelude.{◌≡◌, ◌*◌, ◌≤◌};
 ghost use Rattle.ph_specs.specs.Boxes.{AreBoxes};
 ghost use Rattle.ph_engine.specs.Pairing.{ListsPairs};
-ghost use Rattle.ph_engine.specs.Slots.{table_at};
+ghost use Rattle.ph_engine.specs.Slots.{tree_at};
 ghost use Rattle.ph_engine.specs.Statuses.{StopHasCause};
 ghost use Rattle.ph_engine.specs.Told.{taken_by};
 
@@ -28,7 +28,7 @@ pub(crate) fn list_pairs<const K: usize, const D: usize, O: Sink, V: Ledger>(
     requires width { a.now.width ≡ b.now.width }
     requires firsts { AreBoxes a.now.table }
     requires seconds { AreBoxes b.now.table }
-    ensures lists { ListsPairs (table_at D a.now) (table_at D b.now) (taken_by O.Sink out.old) (taken_by O.Sink out.new) visits.old visits.new result }
+    ensures lists { ListsPairs (tree_at D a.now) (tree_at D b.now) (taken_by O.Sink out.old) (taken_by O.Sink out.new) visits.old visits.new result }
     ensures cause { StopHasCause (O.faults out.old) (O.faults out.new) result }
 {
     // Uses that make known that there are at most so many rows.

@@ -20,6 +20,7 @@ use ph_io::{Failed, Files};
 use ph_script::{FileName, Reply};
 use ph_steps::Steps;
 use ph_tree::{NoMemory, PhTree};
+use ph_undo::Kept;
 use ph_window::Window;
 use std::alloc::Global;
 use std::sync::ledger::Ledger;
@@ -51,7 +52,7 @@ pub(crate) fn import_table<F: Files, V: Ledger, C: Ledger>(
 
 // The same of a text.
 pub(crate) fn import_text<const D: usize, V: Ledger, C: Ledger>(
-    tree: &mut PhTree<D>,
+    kept: &mut Kept<D>,
     alloc: Global,
     text: &[u8],
     kind: Kind,
@@ -60,36 +61,36 @@ pub(crate) fn import_text<const D: usize, V: Ledger, C: Ledger>(
     changes: &mut Steps<C>,
 ) -> Result<Reply, NoMemory>
     requires { D ≤ 16 }
-    ensures imports { ImportsOr (table_at D tree.old) (csv_rows tree.old.width D kind header text.now) (table_at D tree.new) result }
-    ensures frame { SameFrame kind (table_at D tree.old) (table_at D tree.new) }
+    ensures imports { ImportsOr (table_at D kept.old) (csv_rows kept.old.width D kind header text.now) (table_at D kept.new) result }
+    ensures frame { SameFrame kind (table_at D kept.old) (table_at D kept.new) }
     ensures later { visits.old ≤ visits.new }
-    ensures few { visits.new ≤ visits.old + import_visits (table_at D tree.old) (csv_rows tree.old.width D kind header text.now) }
-    ensures kept { changes.old ≤ changes.new }
-    ensures changes { changes.new ≤ changes.old + import_changes (table_at D tree.old) (csv_rows tree.old.width D kind header text.now) }
+    ensures few { visits.new ≤ visits.old + import_visits (table_at D kept.old) (csv_rows kept.old.width D kind header text.now) }
+    ensures grown { changes.old ≤ changes.new }
+    ensures changes { changes.new ≤ changes.old + import_changes (table_at D kept.old) (csv_rows kept.old.width D kind header text.now) }
 {
-    match read_rows(alloc, text, tree.width(), kind, header) {
-        Ok(rows) => put_read(tree, alloc, rows, visits, changes),
+    match read_rows(alloc, text, kept.tree().width(), kind, header) {
+        Ok(rows) => put_read(kept, alloc, rows, visits, changes),
         Err(fault) => record_reply(fault),
     }
 }
 
 // Puts rows into a tree, if it has room for all of them.
 fn put_read<const D: usize, V: Ledger, C: Ledger>(
-    tree: &mut PhTree<D>,
+    kept: &mut Kept<D>,
     alloc: Global,
     rows: Vec<Row<D>>,
     visits: &mut Steps<V>,
     changes: &mut Steps<C>,
 ) -> Result<Reply, NoMemory>
-    requires { Each (λ r. IsPoint tree.old.width D r.point) rows.items }
-    ensures imports { ImportsOr (table_at D tree.old) (Ok rows.entry.items) (table_at D tree.new) result }
+    requires { Each (λ r. IsPoint kept.old.width D r.point) rows.items }
+    ensures imports { ImportsOr (table_at D kept.old) (Ok rows.entry.items) (table_at D kept.new) result }
     ensures later { visits.old ≤ visits.new }
-    ensures few { visits.new ≤ visits.old + import_visits (table_at D tree.old) (Ok rows.entry.items) }
-    ensures kept { changes.old ≤ changes.new }
-    ensures changes { changes.new ≤ changes.old + import_changes (table_at D tree.old) (Ok rows.entry.items) }
+    ensures few { visits.new ≤ visits.old + import_visits (table_at D kept.old) (Ok rows.entry.items) }
+    ensures grown { changes.old ≤ changes.new }
+    ensures changes { changes.new ≤ changes.old + import_changes (table_at D kept.old) (Ok rows.entry.items) }
 {
     let count = rows.len() as u64;
-    match import_rows(alloc, tree, rows, visits, changes) {
+    match import_rows(alloc, kept, rows, visits, changes) {
         Ok(()) => Ok(Reply::Imported(count)),
         Err(ImportFault::Full) => Ok(Reply::ErrorFull),
         Err(ImportFault::NoMemory) => Err(NoMemory),

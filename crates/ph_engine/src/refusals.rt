@@ -111,7 +111,9 @@ pub(crate) fn is_out_of_range(w: Width, cmd: &Command<'_>) -> bool
         | Command::Select { .. }
         | Command::Same
         | Command::Join
-        | Command::Combine { .. } => false,
+        | Command::Combine { .. }
+        | Command::Keep { .. }
+        | Command::Back { .. } => false,
     }
 }
 

@@ -4,7 +4,7 @@ ghost use Rattle.std.specs.List.{join_with_byte};
 ghost use Rattle.ph_specs.specs.Reply.{line_of, stats_words};
 ghost use Rattle.ph_tree.specs.Stats.{stats_of};
 ghost use Rattle.ph_engine.specs.Listing.{ListsSizes};
-ghost use Rattle.ph_engine.specs.Slots.{table_at};
+ghost use Rattle.ph_engine.specs.Slots.{tree_at};
 ghost use Rattle.ph_engine.specs.Statuses.{StopHasCause};
 ghost use Rattle.ph_engine.specs.Told.{taken_by};
 
@@ -65,7 +65,7 @@ pub(crate) fn list_sizes<const D: usize, O: Sink, V: Ledger>(
     visits: &mut Steps<V>,
 ) -> Result<Answer, Stop>
     requires { D ≤ 16 }
-    ensures lists { ListsSizes (table_at D tree.now) (taken_by O.Sink out.old) (taken_by O.Sink out.new) visits.old visits.new result }
+    ensures lists { ListsSizes (tree_at D tree.now) (taken_by O.Sink out.old) (taken_by O.Sink out.new) visits.old visits.new result }
     ensures cause { StopHasCause (O.faults out.old) (O.faults out.new) result }
 {
     let line = sizes_line(&tree.stats(visits));

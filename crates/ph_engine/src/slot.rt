@@ -1,6 +1,6 @@
 //! A table with what belongs to it, and what a command does to it.
 ghost use Rattle.std.specs.Prelude.{◌≡◌, ◌<◌, ◌≤◌, ◌+◌, ◌^◌, None, true, false, not, ◌&&◌, nat_le, length, option_map};
-ghost use Rattle.ph_specs.specs.Command.Command.{Begin as AskBegin, Cursor as AskCursor, Page as AskPage};
+ghost use Rattle.ph_specs.specs.Command.Command.{Back as AskBack, Begin as AskBegin, Cursor as AskCursor, Page as AskPage};
 ghost use Rattle.ph_specs.specs.Named.{has_name};
 ghost use Rattle.ph_specs.specs.Refusals.{has_wrong_dims, lacks_cursor, has_too_many_cursors};
 ghost use Rattle.ph_specs.specs.Engine.{opened_dims};
@@ -11,7 +11,7 @@ ghost use Rattle.ph_script.specs.Fit.{HasDims};
 ghost use Rattle.ph_tree.specs.Stats.{stats_of};
 ghost use Rattle.ph_engine.specs.Causes.{refusal_reply};
 ghost use Rattle.ph_engine.specs.Doing.{Begun, DoneWith, DoneOr, is_on_slot, is_sure, is_tried, is_listed};
-ghost use Rattle.ph_engine.specs.Filing.{FiledOr, Replies};
+ghost use Rattle.ph_engine.specs.Filing.{FiledOr, QuietOr, Replies};
 ghost use Rattle.ph_engine.specs.Refusing.{early_refusal, cursor_refusal};
 ghost use Rattle.ph_engine.specs.Slots.{engine_of};
 ghost use Rattle.ph_engine.specs.Statuses.{StopHasCause};
@@ -116,7 +116,9 @@ impl Slot {
             | Command::Del { .. }
             | Command::Relocate { .. }
             | Command::Load { .. }
-            | Command::Import { .. } => {
+            | Command::Import { .. }
+            | Command::Keep { .. }
+            | Command::Back { .. } => {
                 let outcome = self.try_reply(alloc, cmd, files, limits, visits, changes);
                 tell(out, text, &outcome)
             }
@@ -187,6 +189,8 @@ impl Slot {
                 visits,
                 changes,
             ),
+            Command::Keep { n } => self.tree.keep(alloc, *n),
+            Command::Back { n } => self.back(*n, visits, changes),
             _ => unreachable!(),
         }
     }
@@ -216,7 +220,7 @@ impl Slot {
             } => self.begin(alloc, *kind, *k, *width, *max),
             Command::Get { at } => self.tree.get(at, visits),
             Command::Count => self.tree.count(),
-            Command::Clear => self.tree.clear(),
+            Command::Clear => self.tree.clear(alloc),
             Command::Cursor { name, lo, hi } => self.set_cursor(name, lo, hi),
             Command::Save { file } => save_table(&self.tree, self.kind, file, files, visits),
             Command::Export { file } => export_table(&self.tree, file, files, visits),
@@ -325,6 +329,21 @@ impl Slot {
         ensures { result ≡ has_name name.now self.now.cursors }
     {
         place_of(self.cursors.as_slice(), name).is_ok()
+    }
+
+    // Takes so many of its last edits back, if as many are kept.
+    fn back<V: Ledger, C: Ledger>(
+        &mut self,
+        n: u32,
+        visits: &mut Steps<V>,
+        changes: &mut Steps<C>,
+    ) -> Result<Reply, NoMemory>
+        ensures { QuietOr (engine_of self.old) (AskBack n) visits.old visits.new changes.old changes.new (engine_of self.new) result }
+    {
+        if self.tree.steps() < n {
+            return Ok(Reply::ErrorPast);
+        }
+        self.tree.back(n, visits, changes)
     }
 
     // Makes it a new one for points or boxes of so many dimensions and bits, without cursors.

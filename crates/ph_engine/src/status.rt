@@ -41,6 +41,7 @@ pub enum Answer {
 pub enum Stop {
     /// A write failed: a front of the replies was written, and the command is done, but a page leaves its cursor as it was.
     WriteFault,
-    /// Memory was missing: nothing was written or done, but of an import some first rows may be in the table.
+    /// Memory was missing: nothing was written or done, but of an import some first rows may be in the table, and of edits that were to
+    /// be taken back some last ones may be.
     NoMemory,
 }

@@ -1,10 +1,9 @@
 //! A tree of any number of dimensions that a slot can have, with the commands about its rows.
-ghost use Rattle.std.specs.Prelude.{◌≡◌, ◌≤◌, ◌+◌, ◌*◌, ◌↔◌, None, Ok, true, false, [], length, IsTrue, IfOk, IfErr, OnOk};
+ghost use Rattle.std.specs.Prelude.{◌≡◌, ◌≤◌, ◌+◌, ◌*◌, None, Ok, true, length, IfOk, IfErr, OnOk};
 ghost use Rattle.std.specs.List.{list_all};
 ghost use Rattle.ph_specs.specs.Coordinate.{fits};
 ghost use Rattle.ph_specs.specs.Command.{Command as Asked};
 ghost use Rattle.ph_specs.specs.Csv.{csv_text};
-ghost use Rattle.ph_specs.specs.Refusals.{read_length};
 ghost use Rattle.ph_specs.specs.KindRows.{rows_fit};
 ghost use Rattle.ph_specs.specs.Load.{load_fault};
 ghost use Rattle.ph_specs.specs.SavedTable.{read_snapshot};
@@ -12,107 +11,79 @@ ghost use Rattle.ph_specs.specs.Snapshot.{snap};
 ghost use Rattle.ph_specs.specs.SnapshotOf.{IsSnapshotOf};
 ghost use Rattle.ph_specs.specs.Stats.{stats};
 ghost use Rattle.ph_specs.specs.WorkSets.{all_nodes};
-ghost use Rattle.ph_specs.specs.declared.Kind.TheVariants.{Boxes, Points};
 ghost use Rattle.ph_script.specs.Meaning.{numbers_of, reply_of};
 ghost use Rattle.ph_snap.specs.Faults.{IsLoadFault};
 ghost use Rattle.ph_tree.specs.Stats.{stats_of};
 ghost use Rattle.ph_engine.specs.Doing.{Looked, Idled, ServedOr};
 ghost use Rattle.ph_engine.specs.Filing.{EnteredOr, SameFrame};
 ghost use Rattle.ph_engine.specs.Recording.{ExportedOr, ImportsOr, import_changes, import_visits, rows_for};
-ghost use Rattle.ph_engine.specs.Listing.{ListsWindow, ListsNear, ListsBall, ListsBoxes, ListsAnyPage, ListsSizes, node_count};
-ghost use Rattle.ph_engine.specs.Slots.{any_table, table_at, empty_table, cursor_of, cursor_dims, slot_of, IsCursorIn, IsOfKind};
-ghost use Rattle.ph_engine.specs.Statuses.{StopHasCause};
-ghost use Rattle.ph_engine.specs.Told.{shelf_by, taken_by};
+ghost use Rattle.ph_engine.specs.Listing.{node_count};
+ghost use Rattle.ph_engine.specs.Undoing.{KeepsOr, GoesBackOr, BackWork};
+ghost use Rattle.ph_engine.specs.Slots.{any_table, empty_table, cursor_of, cursor_dims};
+ghost use Rattle.ph_engine.specs.Told.{shelf_by};
 
-use crate::boxes::{Question, list_boxes};
 use crate::commands::{clear_rows, count_rows, cursor_at, del_row, get_row, move_row, put_row};
 use crate::cursors::AnyCursor;
-use crate::distances::{list_ball, list_near};
 use crate::filing::save_tree;
-use crate::listing::{list_page, list_window};
 use crate::records::{export_tree, import_text};
-use crate::sizes::list_sizes;
-use crate::status::{Answer, Stop};
+use crate::undoing::{back_edits, keep_edits};
 use ph_coord::{Kind, Width};
-use ph_io::{Failed, Files, Sink};
-use ph_script::{Coords, FileName, Reply, Text};
+use ph_io::{Failed, Files};
+use ph_script::{Coords, FileName, Reply};
 use ph_snap::{LoadFault, load};
 use ph_steps::Steps;
 use ph_tree::{NoMemory, PhTree, Stats};
+use ph_undo::Kept;
 use std::alloc::Global;
 use std::sync::ledger::Ledger;
 
-mod both;
-
-/// A tree, by its number of dimensions: 1 to 16.
+/// A tree with its last edits, by its number of dimensions: 1 to 16.
 #[derive(Drop)]
 pub enum AnyTree {
-    D1(PhTree<1>),
-    D2(PhTree<2>),
-    D3(PhTree<3>),
-    D4(PhTree<4>),
-    D5(PhTree<5>),
-    D6(PhTree<6>),
-    D7(PhTree<7>),
-    D8(PhTree<8>),
-    D9(PhTree<9>),
-    D10(PhTree<10>),
-    D11(PhTree<11>),
-    D12(PhTree<12>),
-    D13(PhTree<13>),
-    D14(PhTree<14>),
-    D15(PhTree<15>),
-    D16(PhTree<16>),
+    D1(Kept<1>),
+    D2(Kept<2>),
+    D3(Kept<3>),
+    D4(Kept<4>),
+    D5(Kept<5>),
+    D6(Kept<6>),
+    D7(Kept<7>),
+    D8(Kept<8>),
+    D9(Kept<9>),
+    D10(Kept<10>),
+    D11(Kept<11>),
+    D12(Kept<12>),
+    D13(Kept<13>),
+    D14(Kept<14>),
+    D15(Kept<15>),
+    D16(Kept<16>),
 }
 
 // Runs a body with the tree of whatever dimensions.
-macro_rules! with_tree {
-    ($any:expr, $tree:ident => $body:expr) => {
+macro_rules! with_kept {
+    ($any:expr, $kept:ident => $body:expr) => {
         match $any {
-            AnyTree::D1($tree) => $body,
-            AnyTree::D2($tree) => $body,
-            AnyTree::D3($tree) => $body,
-            AnyTree::D4($tree) => $body,
-            AnyTree::D5($tree) => $body,
-            AnyTree::D6($tree) => $body,
-            AnyTree::D7($tree) => $body,
-            AnyTree::D8($tree) => $body,
-            AnyTree::D9($tree) => $body,
-            AnyTree::D10($tree) => $body,
-            AnyTree::D11($tree) => $body,
-            AnyTree::D12($tree) => $body,
-            AnyTree::D13($tree) => $body,
-            AnyTree::D14($tree) => $body,
-            AnyTree::D15($tree) => $body,
-            AnyTree::D16($tree) => $body,
+            AnyTree::D1($kept) => $body,
+            AnyTree::D2($kept) => $body,
+            AnyTree::D3($kept) => $body,
+            AnyTree::D4($kept) => $body,
+            AnyTree::D5($kept) => $body,
+            AnyTree::D6($kept) => $body,
+            AnyTree::D7($kept) => $body,
+            AnyTree::D8($kept) => $body,
+            AnyTree::D9($kept) => $body,
+            AnyTree::D10($kept) => $body,
+            AnyTree::D11($kept) => $body,
+            AnyTree::D12($kept) => $body,
+            AnyTree::D13($kept) => $body,
+            AnyTree::D14($kept) => $body,
+            AnyTree::D15($kept) => $body,
+            AnyTree::D16($kept) => $body,
         }
     };
 }
 
-// Runs a body with the tree of whatever dimensions and a cursor of as many, and gives the cursor that it gives.
-macro_rules! with_cursor {
-    ($any:expr, $cursor:expr, $tree:ident, $at:ident => $body:expr) => {
-        match ($any, $cursor) {
-            (AnyTree::D1($tree), AnyCursor::D1($at)) => $body.map(AnyCursor::D1),
-            (AnyTree::D2($tree), AnyCursor::D2($at)) => $body.map(AnyCursor::D2),
-            (AnyTree::D3($tree), AnyCursor::D3($at)) => $body.map(AnyCursor::D3),
-            (AnyTree::D4($tree), AnyCursor::D4($at)) => $body.map(AnyCursor::D4),
-            (AnyTree::D5($tree), AnyCursor::D5($at)) => $body.map(AnyCursor::D5),
-            (AnyTree::D6($tree), AnyCursor::D6($at)) => $body.map(AnyCursor::D6),
-            (AnyTree::D7($tree), AnyCursor::D7($at)) => $body.map(AnyCursor::D7),
-            (AnyTree::D8($tree), AnyCursor::D8($at)) => $body.map(AnyCursor::D8),
-            (AnyTree::D9($tree), AnyCursor::D9($at)) => $body.map(AnyCursor::D9),
-            (AnyTree::D10($tree), AnyCursor::D10($at)) => $body.map(AnyCursor::D10),
-            (AnyTree::D11($tree), AnyCursor::D11($at)) => $body.map(AnyCursor::D11),
-            (AnyTree::D12($tree), AnyCursor::D12($at)) => $body.map(AnyCursor::D12),
-            (AnyTree::D13($tree), AnyCursor::D13($at)) => $body.map(AnyCursor::D13),
-            (AnyTree::D14($tree), AnyCursor::D14($at)) => $body.map(AnyCursor::D14),
-            (AnyTree::D15($tree), AnyCursor::D15($at)) => $body.map(AnyCursor::D15),
-            (AnyTree::D16($tree), AnyCursor::D16($at)) => $body.map(AnyCursor::D16),
-            _ => unreachable!(),
-        }
-    };
-}
+mod both;
+mod listings;
 
 impl AnyTree {
     // An empty tree of so many dimensions, for at most so many rows. It takes no memory.
@@ -122,22 +93,22 @@ impl AnyTree {
         ensures { any_table result ≡ empty_table dims w max }
     {
         match dims {
-            1 => AnyTree::D1(PhTree::new(alloc, w, max)),
-            2 => AnyTree::D2(PhTree::new(alloc, w, max)),
-            3 => AnyTree::D3(PhTree::new(alloc, w, max)),
-            4 => AnyTree::D4(PhTree::new(alloc, w, max)),
-            5 => AnyTree::D5(PhTree::new(alloc, w, max)),
-            6 => AnyTree::D6(PhTree::new(alloc, w, max)),
-            7 => AnyTree::D7(PhTree::new(alloc, w, max)),
-            8 => AnyTree::D8(PhTree::new(alloc, w, max)),
-            9 => AnyTree::D9(PhTree::new(alloc, w, max)),
-            10 => AnyTree::D10(PhTree::new(alloc, w, max)),
-            11 => AnyTree::D11(PhTree::new(alloc, w, max)),
-            12 => AnyTree::D12(PhTree::new(alloc, w, max)),
-            13 => AnyTree::D13(PhTree::new(alloc, w, max)),
-            14 => AnyTree::D14(PhTree::new(alloc, w, max)),
-            15 => AnyTree::D15(PhTree::new(alloc, w, max)),
-            _ => AnyTree::D16(PhTree::new(alloc, w, max)),
+            1 => AnyTree::D1(Kept::new(PhTree::new(alloc, w, max))),
+            2 => AnyTree::D2(Kept::new(PhTree::new(alloc, w, max))),
+            3 => AnyTree::D3(Kept::new(PhTree::new(alloc, w, max))),
+            4 => AnyTree::D4(Kept::new(PhTree::new(alloc, w, max))),
+            5 => AnyTree::D5(Kept::new(PhTree::new(alloc, w, max))),
+            6 => AnyTree::D6(Kept::new(PhTree::new(alloc, w, max))),
+            7 => AnyTree::D7(Kept::new(PhTree::new(alloc, w, max))),
+            8 => AnyTree::D8(Kept::new(PhTree::new(alloc, w, max))),
+            9 => AnyTree::D9(Kept::new(PhTree::new(alloc, w, max))),
+            10 => AnyTree::D10(Kept::new(PhTree::new(alloc, w, max))),
+            11 => AnyTree::D11(Kept::new(PhTree::new(alloc, w, max))),
+            12 => AnyTree::D12(Kept::new(PhTree::new(alloc, w, max))),
+            13 => AnyTree::D13(Kept::new(PhTree::new(alloc, w, max))),
+            14 => AnyTree::D14(Kept::new(PhTree::new(alloc, w, max))),
+            15 => AnyTree::D15(Kept::new(PhTree::new(alloc, w, max))),
+            _ => AnyTree::D16(Kept::new(PhTree::new(alloc, w, max))),
         }
     }
 
@@ -177,7 +148,7 @@ impl AnyTree {
         requires range { list_all (fits (any_table self.old).tree.width) (numbers_of at.now) ≡ true }
         ensures { ServedOr (any_table self.old) (Asked.Put (numbers_of at.now) value) (any_table self.new) visits.old visits.new changes.old changes.new result }
     {
-        with_tree!(self, tree => put_row(tree, at, value, visits, changes))
+        with_kept!(self, kept => put_row(kept, at, value, visits, changes))
     }
 
     pub(crate) fn get<V: Ledger>(&self, at: &Coords<'_>, visits: &mut Steps<V>) -> Reply
@@ -185,7 +156,7 @@ impl AnyTree {
         requires range { list_all (fits (any_table self.now).tree.width) (numbers_of at.now) ≡ true }
         ensures { Looked (any_table self.now) (Asked.Get (numbers_of at.now)) (any_table self.now) (reply_of result) visits.old visits.new }
     {
-        with_tree!(self, tree => get_row(tree, at, visits))
+        with_kept!(self, kept => get_row(kept, at, visits))
     }
 
     pub(crate) fn del<V: Ledger, C: Ledger>(
@@ -198,7 +169,7 @@ impl AnyTree {
         requires range { list_all (fits (any_table self.old).tree.width) (numbers_of at.now) ≡ true }
         ensures { ServedOr (any_table self.old) (Asked.Del (numbers_of at.now)) (any_table self.new) visits.old visits.new changes.old changes.new result }
     {
-        with_tree!(self, tree => del_row(tree, at, visits, changes))
+        with_kept!(self, kept => del_row(kept, at, visits, changes))
     }
 
     pub(crate) fn relocate<V: Ledger, C: Ledger>(
@@ -215,25 +186,13 @@ impl AnyTree {
         ensures { ServedOr (any_table self.old) (Asked.Relocate (numbers_of from.now) (numbers_of to.now)) (any_table self.new)
             visits.old visits.new changes.old changes.new result }
     {
-        with_tree!(self, tree => move_row(tree, from, to, visits, changes))
+        with_kept!(self, kept => move_row(kept, from, to, visits, changes))
     }
 
     pub(crate) fn count(&self) -> Reply
         ensures { Idled (any_table self.now) Asked.Count (any_table self.now) (reply_of result) }
     {
-        with_tree!(self, tree => count_rows(tree))
-    }
-
-    // Gives its sizes to the sink. Each node is visited once.
-    pub(crate) fn list_sizes<O: Sink, V: Ledger>(
-        &self,
-        out: &mut O,
-        visits: &mut Steps<V>,
-    ) -> Result<Answer, Stop>
-        ensures lists { ListsSizes (any_table self.now) (taken_by O.Sink out.old) (taken_by O.Sink out.new) visits.old visits.new result }
-        ensures cause { StopHasCause (O.faults out.old) (O.faults out.new) result }
-    {
-        with_tree!(self, tree => list_sizes(tree, out, visits))
+        with_kept!(self, kept => count_rows(kept))
     }
 
     // Its sizes. Each node is visited once.
@@ -241,34 +200,54 @@ impl AnyTree {
         ensures sizes { stats_of result ≡ stats (any_table self.now).tree.width (any_table self.now).dims (any_table self.now).tree.table }
         ensures visits { visits.new ≡ visits.old + node_count (any_table self.now) }
     {
-        with_tree!(self, tree => tree.stats(visits))
+        with_kept!(self, kept => kept.tree().stats(visits))
     }
 
-    pub(crate) fn clear(&mut self) -> Reply
+    pub(crate) fn clear(&mut self, alloc: Global) -> Reply
         ensures { Idled (any_table self.old) Asked.Clear (any_table self.new) (reply_of result) }
     {
-        with_tree!(self, tree => clear_rows(tree))
+        with_kept!(self, kept => clear_rows(kept, alloc))
+    }
+
+    // How many edits can be taken back.
+    pub(crate) fn steps(&self) -> u32
+        ensures { result ≡ length (any_table self.now).tree.past }
+    {
+        with_kept!(self, kept => kept.steps())
+    }
+
+    // Keeps its last edits from now on, at most so many, and forgets those that it has. After an error it is as before.
+    pub(crate) fn keep(&mut self, alloc: Global, n: u32) -> Result<Reply, NoMemory>
+        requires { n ≤ 65536 }
+        ensures { KeepsOr (any_table self.old) n (any_table self.new) result }
+    {
+        with_kept!(self, kept => keep_edits(kept, alloc, n))
+    }
+
+    // Takes so many of its last edits back. After an error some are.
+    pub(crate) fn back<V: Ledger, C: Ledger>(
+        &mut self,
+        n: u32,
+        visits: &mut Steps<V>,
+        changes: &mut Steps<C>,
+    ) -> Result<Reply, NoMemory>
+        requires { n ≤ length (any_table self.old).tree.past }
+        ensures back { GoesBackOr (any_table self.old) n (any_table self.new) result }
+        ensures work { BackWork (any_table self.old) n visits.old visits.new changes.old changes.new result }
+    {
+        with_kept!(self, kept => back_edits(kept, n, visits, changes))
     }
 
     pub(crate) fn len(&self) -> u64
         ensures { result ≡ length (any_table self.now).tree.table }
     {
-        with_tree!(self, tree => tree.len())
+        with_kept!(self, kept => kept.tree().len())
     }
 
     pub(crate) fn max(&self) -> u64
         ensures { result ≡ (any_table self.now).tree.max }
     {
-        with_tree!(self, tree => tree.max())
-    }
-
-    // Lets it have at most so many rows, and tells whether it does.
-    pub(crate) fn set_max(&mut self, max: u64) -> bool
-        ensures fits { IsTrue result ↔ (length (any_table self.old).tree.table ≤ max) }
-        ensures set { IsTrue result → any_table self.new ≡ table_at (any_table self.old).dims (record ((any_table self.old).tree) { max = max }) }
-        ensures stays { result ≡ false → any_table self.new ≡ any_table self.old }
-    {
-        with_tree!(self, tree => tree.set_max(max))
+        with_kept!(self, kept => kept.tree().max())
     }
 
     // Writes its snapshot to a file of this name, and tells how many bytes it has.
@@ -285,7 +264,7 @@ impl AnyTree {
         ensures few { visits.new ≤ visits.old + node_count (any_table self.now) }
         ensures all { OnOk result (visits.new ≡ visits.old + node_count (any_table self.now)) }
     {
-        with_tree!(self, tree => save_tree(tree, kind, file, files, visits))
+        with_kept!(self, kept => save_tree(kept.tree(), kind, file, files, visits))
     }
 
     // Puts the rows of a text into it, once all of them are read and it has room for them.
@@ -305,7 +284,7 @@ impl AnyTree {
         ensures kept { changes.old ≤ changes.new }
         ensures changes { changes.new ≤ changes.old + import_changes (any_table self.old) (rows_for (any_table self.old) kind header text.now) }
     {
-        with_tree!(self, tree => import_text(tree, alloc, text, kind, header, visits, changes))
+        with_kept!(self, kept => import_text(kept, alloc, text, kind, header, visits, changes))
     }
 
     // Writes its rows to a file of this name.
@@ -320,7 +299,7 @@ impl AnyTree {
         ensures few { visits.new ≤ visits.old + node_count (any_table self.now) }
         ensures all { OnOk result (visits.new ≡ visits.old + node_count (any_table self.now)) }
     {
-        with_tree!(self, tree => export_tree(tree, file, files, visits))
+        with_kept!(self, kept => export_tree(kept.tree(), file, files, visits))
     }
 
     // The tree of so many dimensions of which the bytes are the snapshot, for any number of rows.
@@ -345,22 +324,22 @@ impl AnyTree {
         ensures few { 16 * changes.new ≤ 16 * changes.old + length bytes.now }
     {
         match dims {
-            1 => load(alloc, bytes, kind, w, changes).map(AnyTree::D1),
-            2 => load(alloc, bytes, kind, w, changes).map(AnyTree::D2),
-            3 => load(alloc, bytes, kind, w, changes).map(AnyTree::D3),
-            4 => load(alloc, bytes, kind, w, changes).map(AnyTree::D4),
-            5 => load(alloc, bytes, kind, w, changes).map(AnyTree::D5),
-            6 => load(alloc, bytes, kind, w, changes).map(AnyTree::D6),
-            7 => load(alloc, bytes, kind, w, changes).map(AnyTree::D7),
-            8 => load(alloc, bytes, kind, w, changes).map(AnyTree::D8),
-            9 => load(alloc, bytes, kind, w, changes).map(AnyTree::D9),
-            10 => load(alloc, bytes, kind, w, changes).map(AnyTree::D10),
-            11 => load(alloc, bytes, kind, w, changes).map(AnyTree::D11),
-            12 => load(alloc, bytes, kind, w, changes).map(AnyTree::D12),
-            13 => load(alloc, bytes, kind, w, changes).map(AnyTree::D13),
-            14 => load(alloc, bytes, kind, w, changes).map(AnyTree::D14),
-            15 => load(alloc, bytes, kind, w, changes).map(AnyTree::D15),
-            16 => load(alloc, bytes, kind, w, changes).map(AnyTree::D16),
+            1 => Ok(AnyTree::D1(Kept::new(load(alloc, bytes, kind, w, changes)?))),
+            2 => Ok(AnyTree::D2(Kept::new(load(alloc, bytes, kind, w, changes)?))),
+            3 => Ok(AnyTree::D3(Kept::new(load(alloc, bytes, kind, w, changes)?))),
+            4 => Ok(AnyTree::D4(Kept::new(load(alloc, bytes, kind, w, changes)?))),
+            5 => Ok(AnyTree::D5(Kept::new(load(alloc, bytes, kind, w, changes)?))),
+            6 => Ok(AnyTree::D6(Kept::new(load(alloc, bytes, kind, w, changes)?))),
+            7 => Ok(AnyTree::D7(Kept::new(load(alloc, bytes, kind, w, changes)?))),
+            8 => Ok(AnyTree::D8(Kept::new(load(alloc, bytes, kind, w, changes)?))),
+            9 => Ok(AnyTree::D9(Kept::new(load(alloc, bytes, kind, w, changes)?))),
+            10 => Ok(AnyTree::D10(Kept::new(load(alloc, bytes, kind, w, changes)?))),
+            11 => Ok(AnyTree::D11(Kept::new(load(alloc, bytes, kind, w, changes)?))),
+            12 => Ok(AnyTree::D12(Kept::new(load(alloc, bytes, kind, w, changes)?))),
+            13 => Ok(AnyTree::D13(Kept::new(load(alloc, bytes, kind, w, changes)?))),
+            14 => Ok(AnyTree::D14(Kept::new(load(alloc, bytes, kind, w, changes)?))),
+            15 => Ok(AnyTree::D15(Kept::new(load(alloc, bytes, kind, w, changes)?))),
+            16 => Ok(AnyTree::D16(Kept::new(load(alloc, bytes, kind, w, changes)?))),
             _ => unreachable!(),
         }
     }
@@ -375,131 +354,28 @@ impl AnyTree {
         ensures dims { cursor_dims result ≡ (any_table self.now).dims }
     {
         match self {
-            AnyTree::D1(tree) => AnyCursor::D1(cursor_at(tree, lo, hi)),
-            AnyTree::D2(tree) => AnyCursor::D2(cursor_at(tree, lo, hi)),
-            AnyTree::D3(tree) => AnyCursor::D3(cursor_at(tree, lo, hi)),
-            AnyTree::D4(tree) => AnyCursor::D4(cursor_at(tree, lo, hi)),
-            AnyTree::D5(tree) => AnyCursor::D5(cursor_at(tree, lo, hi)),
-            AnyTree::D6(tree) => AnyCursor::D6(cursor_at(tree, lo, hi)),
-            AnyTree::D7(tree) => AnyCursor::D7(cursor_at(tree, lo, hi)),
-            AnyTree::D8(tree) => AnyCursor::D8(cursor_at(tree, lo, hi)),
-            AnyTree::D9(tree) => AnyCursor::D9(cursor_at(tree, lo, hi)),
-            AnyTree::D10(tree) => AnyCursor::D10(cursor_at(tree, lo, hi)),
-            AnyTree::D11(tree) => AnyCursor::D11(cursor_at(tree, lo, hi)),
-            AnyTree::D12(tree) => AnyCursor::D12(cursor_at(tree, lo, hi)),
-            AnyTree::D13(tree) => AnyCursor::D13(cursor_at(tree, lo, hi)),
-            AnyTree::D14(tree) => AnyCursor::D14(cursor_at(tree, lo, hi)),
-            AnyTree::D15(tree) => AnyCursor::D15(cursor_at(tree, lo, hi)),
-            AnyTree::D16(tree) => AnyCursor::D16(cursor_at(tree, lo, hi)),
+            AnyTree::D1(kept) => AnyCursor::D1(cursor_at(kept.tree(), lo, hi)),
+            AnyTree::D2(kept) => AnyCursor::D2(cursor_at(kept.tree(), lo, hi)),
+            AnyTree::D3(kept) => AnyCursor::D3(cursor_at(kept.tree(), lo, hi)),
+            AnyTree::D4(kept) => AnyCursor::D4(cursor_at(kept.tree(), lo, hi)),
+            AnyTree::D5(kept) => AnyCursor::D5(cursor_at(kept.tree(), lo, hi)),
+            AnyTree::D6(kept) => AnyCursor::D6(cursor_at(kept.tree(), lo, hi)),
+            AnyTree::D7(kept) => AnyCursor::D7(cursor_at(kept.tree(), lo, hi)),
+            AnyTree::D8(kept) => AnyCursor::D8(cursor_at(kept.tree(), lo, hi)),
+            AnyTree::D9(kept) => AnyCursor::D9(cursor_at(kept.tree(), lo, hi)),
+            AnyTree::D10(kept) => AnyCursor::D10(cursor_at(kept.tree(), lo, hi)),
+            AnyTree::D11(kept) => AnyCursor::D11(cursor_at(kept.tree(), lo, hi)),
+            AnyTree::D12(kept) => AnyCursor::D12(cursor_at(kept.tree(), lo, hi)),
+            AnyTree::D13(kept) => AnyCursor::D13(cursor_at(kept.tree(), lo, hi)),
+            AnyTree::D14(kept) => AnyCursor::D14(cursor_at(kept.tree(), lo, hi)),
+            AnyTree::D15(kept) => AnyCursor::D15(cursor_at(kept.tree(), lo, hi)),
+            AnyTree::D16(kept) => AnyCursor::D16(cursor_at(kept.tree(), lo, hi)),
         }
-    }
-
-    pub(crate) fn list_window<O: Sink, V: Ledger>(
-        &self,
-        lo: &Coords<'_>,
-        hi: &Coords<'_>,
-        out: &mut O,
-        text: &mut Text,
-        visits: &mut Steps<V>,
-    ) -> Result<Answer, Stop>
-        requires lo { length lo.now ≡ (any_table self.now).dims }
-        requires hi { length hi.now ≡ (any_table self.now).dims }
-        requires lo_range { list_all (fits (any_table self.now).tree.width) (numbers_of lo.now) ≡ true }
-        requires hi_range { list_all (fits (any_table self.now).tree.width) (numbers_of hi.now) ≡ true }
-        ensures lists { ListsWindow (any_table self.now) (numbers_of lo.now) (numbers_of hi.now)
-            (taken_by O.Sink out.old) (taken_by O.Sink out.new) visits.old visits.new result }
-        ensures cause { StopHasCause (O.faults out.old) (O.faults out.new) result }
-    {
-        with_tree!(self, tree => list_window(tree, lo, hi, out, text, visits))
     }
 
     pub(crate) fn width(&self) -> Width
         ensures { result ≡ (any_table self.now).tree.width }
     {
-        with_tree!(self, tree => tree.width())
-    }
-
-    pub(crate) fn list_near<O: Sink, V: Ledger>(
-        &self,
-        alloc: Global,
-        q: &Coords<'_>,
-        n: u32,
-        out: &mut O,
-        text: &mut Text,
-        visits: &mut Steps<V>,
-    ) -> Result<Answer, Stop>
-        requires dims { length q.now ≡ (any_table self.now).dims }
-        requires range { list_all (fits (any_table self.now).tree.width) (numbers_of q.now) ≡ true }
-        ensures lists { ListsNear (any_table self.now) (numbers_of q.now) n (taken_by O.Sink out.old) (taken_by O.Sink out.new) visits.old visits.new result }
-        ensures cause { StopHasCause (O.faults out.old) (O.faults out.new) result }
-    {
-        with_tree!(self, tree => list_near(tree, alloc, q, n, out, text, visits))
-    }
-
-    pub(crate) fn list_ball<O: Sink, V: Ledger>(
-        &self,
-        q: &Coords<'_>,
-        r: u128,
-        out: &mut O,
-        text: &mut Text,
-        visits: &mut Steps<V>,
-    ) -> Result<Answer, Stop>
-        requires dims { length q.now ≡ (any_table self.now).dims }
-        requires range { list_all (fits (any_table self.now).tree.width) (numbers_of q.now) ≡ true }
-        ensures lists { ListsBall (any_table self.now) (numbers_of q.now) r (taken_by O.Sink out.old) (taken_by O.Sink out.new) visits.old visits.new result }
-        ensures cause { StopHasCause (O.faults out.old) (O.faults out.new) result }
-    {
-        with_tree!(self, tree => list_ball(tree, q, r, out, text, visits))
-    }
-
-    // Lists the boxes that a question lists, in a tree of boxes.
-    pub(crate) fn list_boxes<O: Sink, V: Ledger>(
-        &self,
-        question: Question,
-        asked: &Coords<'_>,
-        out: &mut O,
-        text: &mut Text,
-        visits: &mut Steps<V>,
-    ) -> Result<Answer, Stop>
-        requires boxes { IsOfKind Boxes (any_table self.now) }
-        requires dims { length asked.now ≡ (any_table self.now).dims }
-        requires range { list_all (fits (any_table self.now).tree.width) (numbers_of asked.now) ≡ true }
-        ensures lists { ListsBoxes question (any_table self.now) (numbers_of asked.now) (taken_by O.Sink out.old) (taken_by O.Sink out.new) visits.old visits.new result }
-        ensures cause { StopHasCause (O.faults out.old) (O.faults out.new) result }
-    {
-        match self {
-            AnyTree::D2(tree) => list_boxes::<1, 2, O, V>(tree, question, asked, out, text, visits),
-            AnyTree::D4(tree) => list_boxes::<2, 4, O, V>(tree, question, asked, out, text, visits),
-            AnyTree::D6(tree) => list_boxes::<3, 6, O, V>(tree, question, asked, out, text, visits),
-            AnyTree::D8(tree) => list_boxes::<4, 8, O, V>(tree, question, asked, out, text, visits),
-            AnyTree::D10(tree) => list_boxes::<5, 10, O, V>(
-                tree, question, asked, out, text, visits,
-            ),
-            AnyTree::D12(tree) => list_boxes::<6, 12, O, V>(
-                tree, question, asked, out, text, visits,
-            ),
-            AnyTree::D14(tree) => list_boxes::<7, 14, O, V>(
-                tree, question, asked, out, text, visits,
-            ),
-            AnyTree::D16(tree) => list_boxes::<8, 16, O, V>(
-                tree, question, asked, out, text, visits,
-            ),
-            _ => unreachable!(),
-        }
-    }
-
-    pub(crate) fn list_page<O: Sink, V: Ledger>(
-        &self,
-        cursor: &AnyCursor,
-        n: u32,
-        out: &mut O,
-        text: &mut Text,
-        visits: &mut Steps<V>,
-    ) -> Result<AnyCursor, Stop>
-        requires { IsCursorIn (any_table self.now) cursor.now }
-        ensures lists { ListsAnyPage (any_table self.now) cursor.now n (taken_by O.Sink out.old) (taken_by O.Sink out.new) visits.old visits.new result }
-        ensures cause { StopHasCause (O.faults out.old) (O.faults out.new) result }
-    {
-        with_cursor!(self, cursor, tree, at => list_page(tree, at, n, out, text, visits))
+        with_kept!(self, kept => kept.tree().width())
     }
 }

@@ -12,6 +12,7 @@ mod pairs;
 mod records;
 mod sizes;
 mod soaks;
+mod undos;
 mod widths;
 
 use ph_engine::{Engine, Limits, Status, top};

@@ -1,5 +1,5 @@
 -- How many rows a table has after rows were put into it, and at which points.
-use Rattle.std.proofs.Common.{◌≡◌, ℕ, zero, suc, ◌+◌, ◌<◌, ◌≤◌, Bool, true, false, cond, List, [], ◌∷◌, length, take, get_or, refl, sym, ◌∙◌, ap, arith, inl, inr}
+use Rattle.std.proofs.Common.{◌≡◌, ℕ, zero, suc, ◌+◌, ◌-◌, ◌*◌, ◌<◌, ◌≤◌, Bool, true, false, cond, List, [], ◌∷◌, length, take, get_or, refl, sym, ◌∙◌, ap, arith, inl, inr}
 use Rattle.std.specs.Prelude.{ℤ, Option, Some, None, is_some}
 use Rattle.std.specs.List.{list_all, AllByRecursion as Each}
 use Rattle.std.proofs.lemmas.Bool.{and_parts}
@@ -8,8 +8,8 @@ use Rattle.ph_specs.specs.Coordinate.{same_point, is_point, IsPoint}
 use Rattle.ph_specs.specs.ZOrder.{before}
 use Rattle.ph_specs.specs.Table.{Row, find, has, put, is_rising, IsTable}
 use Rattle.ph_specs.specs.Sets.{put_all}
-use Rattle.ph_tree.specs.Tree.{TreeTable}
-use Rattle.ph_import.specs.Imported.{IsPart}
+use Rattle.ph_specs.specs.Past.{Past, without_past}
+use Rattle.ph_import.specs.Imported.{with_rows, with_some, IsPart}
 use Rattle.ph_specs.proofs.laws.Order.{before_trans}
 use Rattle.ph_specs.proofs.laws.Put.{either, find-put, is_rising-put, list_all-put}
 use Rattle.ph_specs.proofs.laws.FindTree.{not_same}
@@ -115,5 +115,47 @@ room-left w d max table rows i e positive h k l fits none full =
     omega (arith, one, new, fits, full, ap (λ t. length t) (put-next w table rows i e l), length-part w d table rows (i + 1) positive h k)
 
 -- a tree into which none of some rows was put
-pub nothing-put : (t : TreeTable) (rows : List Row) → 0 < length rows → IsPart t t rows
-nothing-put t rows l = record { part = 0; few = l; state = refl }
+pub nothing-put : (k : Past) (rows : List Row) → 0 < length rows → IsPart k k rows
+nothing-put k rows l = record { part = 0; few = l; state = refl }
+
+-- ---- what is kept
+
+pub some-table : (k : Past) (rows : List Row) → (with_some k rows).table ≡ put_all k.width k.table rows
+some-table k [] = refl
+some-table k (r ∷ rows) = refl
+
+pub some-width : (k : Past) (rows : List Row) → (with_some k rows).width ≡ k.width
+some-width k [] = refl
+some-width k (r ∷ rows) = refl
+
+pub some-max : (k : Past) (rows : List Row) → (with_some k rows).max ≡ k.max
+some-max k [] = refl
+some-max k (r ∷ rows) = refl
+
+-- without a past it makes no difference whether there are any
+pub some-forgotten : (k : Past) (rows : List Row) → without_past (with_some k rows) (with_some k rows).table ≡ with_rows k rows
+some-forgotten k [] = refl
+some-forgotten k (r ∷ rows) = refl
+
+some-taken : (k : Past) (rows : List Row) (i : ℕ) → i < length rows → with_some k (take (i + 1) rows) ≡ with_rows k (take (i + 1) rows)
+some-taken k [] i l = absurd (omega (arith, l))
+some-taken k (r ∷ rows) i l = let more : suc i ≡ i + 1 = omega arith in ap (λ j. with_some k (take j (r ∷ rows))) (sym more) ∙ ap (λ j. with_rows k (take j (r ∷ rows))) more
+
+forgotten-again : (k : Past) (rows table : List Row) → without_past (without_past (with_some k rows) table) table ≡ without_past k table
+forgotten-again k [] table = refl
+forgotten-again k (r ∷ rows) table = refl
+
+-- one row more
+pub some-next : (k : Past) (rows : List Row) (i : ℕ) (d : Row) → i < length rows → without_past (with_some k (take i rows)) (put k.width (put_all k.width k.table (take i rows)) (get_or rows i d).point (get_or rows i d).value) ≡ with_some k (take (i + 1) rows)
+some-next k rows i d l =
+    forgotten-again k (take i rows) _
+    ∙ ap (without_past k) (sym (put-next k.width k.table rows i d l))
+    ∙ sym (some-taken k rows i l)
+
+-- ---- visits
+
+pub visits-part : (before now next w u i n : ℕ) → now ≤ before + 2 * w * i → next ≤ now + 2 * u → u ≡ w → i < n → next ≤ before + 2 * w * n
+visits-part before now next w u i n h k e l =
+    let left : n ≡ i + 1 + (n - (i + 1)) = omega (arith, l) in
+    let all : 2 * w * n ≡ 2 * w * i + 2 * w + 2 * w * (n - (i + 1)) = ap (λ x. 2 * w * x) left ∙ omega arith in
+    omega (arith, h, k, e, all)

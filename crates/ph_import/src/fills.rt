@@ -10,7 +10,7 @@ use crate::fault::ImportFault;
 use ph_bulk::{build, last_rows};
 use ph_coord::Row;
 use ph_steps::Steps;
-use ph_tree::PhTree;
+use ph_undo::Kept;
 use std::alloc::Global;
 use std::sync::ledger::Ledger;
 
@@ -18,20 +18,21 @@ use std::sync::ledger::Ledger;
 // first is made. After an error the tree is as it was.
 pub(crate) fn fill<const D: usize, C: Ledger>(
     alloc: Global,
-    tree: &mut PhTree<D>,
+    kept: &mut Kept<D>,
     rows: Vec<Row<D>>,
     changes: &mut Steps<C>,
 ) -> Result<(), ImportFault>
-    requires empty { tree.old.table ≡ [] }
-    requires points { Each (λ r. IsPoint tree.old.width D r.point) rows.items }
-    ensures ok { OnOk result (tree.new ≡ with_rows tree.old rows.entry.items) }
-    ensures full { IsErrOf result ImportFault.Full → tree.old.max < length (put_all tree.old.width tree.old.table rows.entry.items) }
-    ensures refused { tree.old.max < length (put_all tree.old.width tree.old.table rows.entry.items) → IsErr result }
-    ensures err { OnErr result (tree.new ≡ tree.old) }
-    ensures changes { changes.new ≤ changes.old + length (all_nodes tree.old.width D (table_of tree.old.width rows.entry.items)) }
-    ensures untouched { tree.old.max < length (put_all tree.old.width tree.old.table rows.entry.items) → changes.new ≡ changes.old }
-    ensures kept { changes.old ≤ changes.new }
+    requires empty { kept.old.table ≡ [] }
+    requires points { Each (λ r. IsPoint kept.old.width D r.point) rows.items }
+    ensures ok { OnOk result (kept.new ≡ with_rows kept.old rows.entry.items) }
+    ensures full { IsErrOf result ImportFault.Full → kept.old.max < length (put_all kept.old.width kept.old.table rows.entry.items) }
+    ensures refused { kept.old.max < length (put_all kept.old.width kept.old.table rows.entry.items) → IsErr result }
+    ensures err { OnErr result (kept.new ≡ kept.old) }
+    ensures changes { changes.new ≤ changes.old + length (all_nodes kept.old.width D (table_of kept.old.width rows.entry.items)) }
+    ensures untouched { kept.old.max < length (put_all kept.old.width kept.old.table rows.entry.items) → changes.new ≡ changes.old }
+    ensures grown { changes.old ≤ changes.new }
 {
+    let tree = kept.tree();
     let w = tree.width();
     let max = tree.max();
     // A use that makes the number of dimensions known.
@@ -42,6 +43,6 @@ pub(crate) fn fill<const D: usize, C: Ledger>(
     }
     let mut built = build(alloc, w, last.as_slice(), changes)?;
     built.set_max(max);
-    *tree = built;
+    kept.replace(built);
     Ok(())
 }

@@ -10,41 +10,41 @@ use crate::fills::fill;
 use crate::rows::put_rows;
 use ph_coord::Row;
 use ph_steps::Steps;
-use ph_tree::PhTree;
+use ph_undo::Kept;
 use std::alloc::Global;
 use std::sync::ledger::Ledger;
 
-/// Puts rows into a tree: of rows at one point the last stays, in place of one that is there.
+/// Puts rows into a tree: of rows at one point the last stays, in place of one that is there. The last edits of the tree are forgotten then.
 ///
 /// Before the first is put it is known that the tree may have all of them, so `Full` leaves it as it was.
 ///
 /// A tree without rows gets all of them at once, from the sorted rows. No node is visited, each is made once, and an error
 /// leaves the tree as it was. It takes memory to sort, for another copy of the rows where a point stands twice, and for the nodes.
 ///
-/// A tree with rows gets one after another, in their order. `NoMemory` leaves the rows in it that were put before. Where it
+/// A tree with rows gets one after another, in their order. `NoMemory` leaves the rows in it that were put before, and the last edits of the tree where there are none. Where it
 /// would have room for as many new points as there are rows, none is looked up before; otherwise that takes memory for a set of the new points.
 pub fn import_rows<const D: usize, V: Ledger, C: Ledger>(
     alloc: Global,
-    tree: &mut PhTree<D>,
+    kept: &mut Kept<D>,
     rows: Vec<Row<D>>,
     visits: &mut Steps<V>,
     changes: &mut Steps<C>,
 ) -> Result<(), ImportFault>
-    requires points { Each (λ r. IsPoint tree.old.width D r.point) rows.items }
-    ensures ok { OnOk result (tree.new ≡ with_rows tree.old rows.entry.items) }
-    ensures full { IsErrOf result ImportFault.Full → tree.old.max < length (put_all tree.old.width tree.old.table rows.entry.items) }
-    ensures refused { tree.old.max < length (put_all tree.old.width tree.old.table rows.entry.items) → IsErr result }
-    ensures unchanged { tree.old.max < length (put_all tree.old.width tree.old.table rows.entry.items) → tree.new ≡ tree.old }
-    ensures whole { tree.old.table ≡ [] → OnErr result (tree.new ≡ tree.old) }
-    ensures fault { IsErrOf result ImportFault.NoMemory → tree.old.table ≢ [] → IsPart tree.old tree.new rows.entry.items }
-    ensures visits { visits.new ≤ visits.old + most_visits tree.old.width tree.old.table (length rows.entry.items) }
+    requires points { Each (λ r. IsPoint kept.old.width D r.point) rows.items }
+    ensures ok { OnOk result (kept.new ≡ with_rows kept.old rows.entry.items) }
+    ensures full { IsErrOf result ImportFault.Full → kept.old.max < length (put_all kept.old.width kept.old.table rows.entry.items) }
+    ensures refused { kept.old.max < length (put_all kept.old.width kept.old.table rows.entry.items) → IsErr result }
+    ensures unchanged { kept.old.max < length (put_all kept.old.width kept.old.table rows.entry.items) → kept.new ≡ kept.old }
+    ensures whole { kept.old.table ≡ [] → OnErr result (kept.new ≡ kept.old) }
+    ensures fault { IsErrOf result ImportFault.NoMemory → kept.old.table ≢ [] → IsPart kept.old kept.new rows.entry.items }
+    ensures visits { visits.new ≤ visits.old + most_visits kept.old.width kept.old.table (length rows.entry.items) }
     ensures later { visits.old ≤ visits.new }
-    ensures changes { changes.new ≤ changes.old + most_changes tree.old.width D tree.old.table rows.entry.items }
-    ensures kept { changes.old ≤ changes.new }
-    ensures untouched { tree.old.max < length (put_all tree.old.width tree.old.table rows.entry.items) → changes.new ≡ changes.old }
+    ensures changes { changes.new ≤ changes.old + most_changes kept.old.width D kept.old.table rows.entry.items }
+    ensures grown { changes.old ≤ changes.new }
+    ensures untouched { kept.old.max < length (put_all kept.old.width kept.old.table rows.entry.items) → changes.new ≡ changes.old }
 {
-    if tree.len() == 0 {
-        return fill(alloc, tree, rows, changes);
+    if kept.tree().len() == 0 {
+        return fill(alloc, kept, rows, changes);
     }
-    put_rows(alloc, tree, rows.as_slice(), visits, changes)
+    put_rows(alloc, kept, rows.as_slice(), visits, changes)
 }

@@ -3,69 +3,71 @@ ghost use Rattle.std.specs.Prelude.{◌≡◌, ◌+◌, ◌*◌, ◌<◌, ◌≤
 ghost use Rattle.std.specs.List.{AllByRecursion as Each};
 ghost use Rattle.ph_specs.specs.Coordinate.{IsPoint};
 ghost use Rattle.ph_specs.specs.Sets.{put_all};
-ghost use Rattle.ph_import.specs.Imported.{with_rows, IsPart};
+ghost use Rattle.ph_import.specs.Imported.{with_rows, with_some, IsPart};
 
 use crate::fault::ImportFault;
 use crate::room::has_room;
 use ph_coord::Row;
 use ph_steps::Steps;
-use ph_tree::{NoMemory, PhTree, PutError};
+use ph_tree::{NoMemory, PutError};
+use ph_undo::Kept;
 use std::alloc::Global;
 use std::sync::ledger::Ledger;
 
 // Puts rows into a tree, in their order: a later row at the same point replaces the value of an earlier one.
 //
 // Before the first is put it is known that the tree has room for all of them. So `Full` leaves it as it was, and
-// `NoMemory` leaves the rows in it that were put before memory was missing. Where the tree would have room for as many
+// `NoMemory` leaves the rows in it that were put before memory was missing. Once a row is put, the last edits are forgotten. Where the tree would have room for as many
 // new points as there are rows, none is looked up before. Otherwise that takes memory for a set of the new points.
 pub(crate) fn put_rows<const D: usize, V: Ledger, C: Ledger>(
     alloc: Global,
-    tree: &mut PhTree<D>,
+    kept: &mut Kept<D>,
     rows: &[Row<D>],
     visits: &mut Steps<V>,
     changes: &mut Steps<C>,
 ) -> Result<(), ImportFault>
-    requires points { Each (λ r. IsPoint tree.old.width D r.point) rows.now }
-    ensures ok { OnOk result (tree.new ≡ with_rows tree.old rows.now) }
-    ensures full { IsErrOf result ImportFault.Full → tree.old.max < length (put_all tree.old.width tree.old.table rows.now) }
-    ensures refused { tree.old.max < length (put_all tree.old.width tree.old.table rows.now) → IsErr result }
-    ensures unchanged { tree.old.max < length (put_all tree.old.width tree.old.table rows.now) → tree.new ≡ tree.old }
-    ensures fault { IsErrOf result ImportFault.NoMemory → IsPart tree.old tree.new rows.now }
-    ensures visits { visits.new ≤ visits.old + 4 * tree.old.width * length rows.now }
+    requires points { Each (λ r. IsPoint kept.old.width D r.point) rows.now }
+    ensures ok { OnOk result (kept.new ≡ with_rows kept.old rows.now) }
+    ensures full { IsErrOf result ImportFault.Full → kept.old.max < length (put_all kept.old.width kept.old.table rows.now) }
+    ensures refused { kept.old.max < length (put_all kept.old.width kept.old.table rows.now) → IsErr result }
+    ensures unchanged { kept.old.max < length (put_all kept.old.width kept.old.table rows.now) → kept.new ≡ kept.old }
+    ensures fault { IsErrOf result ImportFault.NoMemory → IsPart kept.old kept.new rows.now }
+    ensures visits { visits.new ≤ visits.old + 4 * kept.old.width * length rows.now }
     ensures later { visits.old ≤ visits.new }
     ensures changes { changes.new ≤ changes.old + 2 * length rows.now }
-    ensures kept { changes.old ≤ changes.new }
-    ensures untouched { tree.old.max < length (put_all tree.old.width tree.old.table rows.now) → changes.new ≡ changes.old }
+    ensures grown { changes.old ≤ changes.new }
+    ensures untouched { kept.old.max < length (put_all kept.old.width kept.old.table rows.now) → changes.new ≡ changes.old }
 {
-    if !has_room(alloc, tree, rows, visits)? {
+    if !has_room(alloc, kept.tree(), rows, visits)? {
         return Err(ImportFault::Full);
     }
-    put_each(tree, rows, visits, changes)?;
+    put_each(kept, rows, visits, changes)?;
+    kept.forget();
     Ok(())
 }
 
 // Puts rows for all of which there is room.
 fn put_each<const D: usize, V: Ledger, C: Ledger>(
-    tree: &mut PhTree<D>,
+    kept: &mut Kept<D>,
     rows: &[Row<D>],
     visits: &mut Steps<V>,
     changes: &mut Steps<C>,
 ) -> Result<(), NoMemory>
-    requires points { Each (λ r. IsPoint tree.old.width D r.point) rows.now }
-    requires room { length (put_all tree.old.width tree.old.table rows.now) ≤ tree.old.max }
-    ensures ok { OnOk result (tree.new ≡ with_rows tree.old rows.now) }
-    ensures err { OnErr result (IsPart tree.old tree.new rows.now) }
-    ensures visits { visits.new ≤ visits.old + 2 * tree.old.width * length rows.now }
+    requires points { Each (λ r. IsPoint kept.old.width D r.point) rows.now }
+    requires room { length (put_all kept.old.width kept.old.table rows.now) ≤ kept.old.max }
+    ensures ok { OnOk result (kept.new ≡ with_some kept.old rows.now) }
+    ensures err { OnErr result (IsPart kept.old kept.new rows.now) }
+    ensures visits { visits.new ≤ visits.old + 2 * kept.old.width * length rows.now }
     ensures later { visits.old ≤ visits.new }
     ensures changes { changes.new ≤ changes.old + 2 * length rows.now }
-    ensures kept { changes.old ≤ changes.new }
+    ensures grown { changes.old ≤ changes.new }
 {
     // Uses that make known that the tree is a table, of a width from 1 to 62.
-    let _root = tree.root();
-    let _bits = tree.width().bits();
+    let _root = kept.tree().root();
+    let _bits = kept.tree().width().bits();
     for row in rows {
-        match tree.put(row.point, row.value, visits, changes) {
-            Ok(_) => {}
+        match kept.put(row.point, row.value, visits, changes) {
+            Ok(_) => kept.forget(),
             Err(PutError::Full) => unreachable!(),
             Err(PutError::NoMemory) => return Err(NoMemory),
         }

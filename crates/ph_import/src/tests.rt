@@ -7,6 +7,7 @@ use crate::rows::put_rows;
 use ph_coord::{Point, Row, Width};
 use ph_steps::Steps;
 use ph_tree::PhTree;
+use ph_undo::Kept;
 use std::alloc::Global;
 use std::marker::Brand;
 use std::process::Abort;
@@ -63,12 +64,13 @@ fn check_counted<V: Ledger, C: Ledger>(
     let mut visits: Steps<V> = Steps::new(visits);
     let mut changes: Steps<C> = Steps::new(changes);
     let w = width(rt);
-    let mut tree = PhTree::new(alloc, w, case.max);
+    let mut kept = Kept::new(PhTree::new(alloc, w, case.max));
     let first = row(rt, w, case.before);
-    tree.put(first.point, first.value, &mut visits, &mut changes)?;
+    kept.put(first.point, first.value, &mut visits, &mut changes)?;
     let [a, b, c] = case.rows;
     let rows = [row(rt, w, a), row(rt, w, b), row(rt, w, c)];
-    let result = put_rows(alloc, &mut tree, &rows, &mut visits, &mut changes);
+    let result = put_rows(alloc, &mut kept, &rows, &mut visits, &mut changes);
+    let tree = kept.tree();
     assert_eq!(rt; (result, tree.len()), (case.result, case.len));
     let w = tree.width();
     for (x, value) in [1, 2, 3].into_iter().zip(case.values) {

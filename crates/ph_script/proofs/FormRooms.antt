@@ -14,7 +14,7 @@ use Rattle.ph_script.specs.declared.command.Bad.{Bad}
 use Rattle.ph_script.specs.declared.coords.Coord.{Coord}
 use Rattle.ph_script.specs.declared.forms.Form.{Form}
 use Rattle.ph_script.specs.declared.forms.Verb.{Verb}
-use Rattle.ph_script.specs.declared.forms.Verb.TheVariants.{Open, OpenBits, OpenMax, OpenBitsMax, Put, Get, Del, Relocate, Count, Clear, Window, Cursor, Page, Near, Within, Overlap, Inside, Covers, Save, Load, Import, ImportHeader, Export, Stats, Select, Same, Join, Combine}
+use Rattle.ph_script.specs.declared.forms.Verb.TheVariants.{Open, OpenBits, OpenMax, OpenBitsMax, Put, Get, Del, Relocate, Count, Clear, Window, Cursor, Page, Near, Within, Overlap, Inside, Covers, Save, Load, Import, ImportHeader, Export, Stats, Select, Same, Join, Combine, Keep, Back}
 use Rattle.ph_script.specs.Forms.{places_of, places_by, command_by, form_of, read_among, IsRow}
 use Rattle.ph_script.specs.Parts.{coords_room, counts_room}
 
@@ -67,6 +67,8 @@ few-coords Select dims h = omega arith
 few-coords Same dims h = omega arith
 few-coords Join dims h = omega arith
 few-coords (Combine operation) dims h = omega arith
+few-coords Keep dims h = omega arith
+few-coords Back dims h = omega arith
 
 few-counts : (verb : Verb) (dims : ℕ) → sum_by counts_room (places_by verb dims) ≤ 3
 few-counts Open dims = omega arith
@@ -97,6 +99,8 @@ few-counts Select dims = omega arith
 few-counts Same dims = omega arith
 few-counts Join dims = omega arith
 few-counts (Combine operation) dims = omega arith
+few-counts Keep dims = omega arith
+few-counts Back dims = omega arith
 
 -- the form at a place among those that are left
 module _ (fs : List Form) (i : ℕ) (d : Form) (i_in : i < length fs) (rows : AllByRecursion IsRow (drop i fs)) (dims : ℕ) where

@@ -10,7 +10,7 @@ use Rattle.ph_specs.specs.Command.{Command, Place, form, number_fits, name_fits,
 use Rattle.ph_specs.specs.Command.Place.{Coordinate, Below, CursorName, FileName, OneOf}
 use Rattle.ph_script.specs.declared.coords.Coord.{Coord}
 use Rattle.ph_script.specs.declared.forms.Verb.{Verb}
-use Rattle.ph_script.specs.declared.forms.Verb.TheVariants.{Open, OpenBits, OpenMax, OpenBitsMax, Put, Get, Del, Relocate, Count, Clear, Window, Cursor, Page, Near, Within, Overlap, Inside, Covers, Save, Load, Import, ImportHeader, Export, Stats, Select, Same, Join, Combine}
+use Rattle.ph_script.specs.declared.forms.Verb.TheVariants.{Open, OpenBits, OpenMax, OpenBitsMax, Put, Get, Del, Relocate, Count, Clear, Window, Cursor, Page, Near, Within, Overlap, Inside, Covers, Save, Load, Import, ImportHeader, Export, Stats, Select, Same, Join, Combine, Keep, Back}
 use Rattle.ph_script.specs.Meaning.{number_of_coord, numbers_of}
 use Rattle.ph_script.specs.Forms.{places_by, command_by}
 use Rattle.ph_script.specs.Parts.{coords_at, counts_at, name_from, file_from, second_from}
@@ -236,6 +236,12 @@ reads Select dims (w ∷ ws) h =
 reads Same dims ws h = closing Same dims ws (led-none ws h) tt refl tt
 reads Join dims ws h = closing Join dims ws (led-none ws h) tt refl tt
 reads (Combine operation) dims ws h = closing (Combine operation) dims ws (led-none ws h) tt refl tt
+reads Keep dims ws h =
+    let b = led-count 65537 [] ws (lit≤ tt) h in
+    closing Keep dims ws b.led (refl, refl, b.below) refl tt
+reads Back dims ws h =
+    let b = led-count (2 ^ 32) [] ws (lit≤ tt) h in
+    closing Back dims ws b.led (refl, refl, b.below) refl tt
 
 -- the same of places and parts that are these
 pub fit-of : (verb : Verb) (dims : ℕ) (places : List Place) (ws : List (List ℕ)) (cs : List Coord) (ns : List ℕ) (name file : Option (List ℕ)) → places ≡ places_by verb dims → pointwise number_fits places ws ≡ true → cs ≡ coords_at places ws → ns ≡ counts_at places ws → name ≡ name_from None places ws → file ≡ file_from None places ws → IsFit verb dims cs ns name file

@@ -1,12 +1,12 @@
 -- What a form asks of the parts in its places, the fault of words there, and how many coordinates a command has.
-use Rattle.std.specs.Prelude.{◌≡◌, ◌<◌, ◌+◌, ◌^◌, ℕ, Bool, true, false, List, [], length, slice_index, codes, bytes_eq, Option, Some, None, IsSome, Result, Ok, Err}
+use Rattle.std.specs.Prelude.{◌≡◌, ◌<◌, ◌≤◌, ◌+◌, ◌^◌, ℕ, Bool, true, false, List, [], length, slice_index, codes, bytes_eq, Option, Some, None, IsSome, Result, Ok, Err}
 use Rattle.ph_script.specs.declared.coords.Coord.{Coord}
 use Rattle.ph_script.specs.declared.command.Bad.{Bad}
 use Rattle.ph_script.specs.declared.command.Bad.TheVariants.{Word, Count as BadCount, Number, Name}
 use Rattle.ph_script.specs.declared.command.Command.{Command}
 use Rattle.ph_script.specs.declared.command.Command.TheVariants as by
 use Rattle.ph_script.specs.declared.forms.Verb.{Verb}
-use Rattle.ph_script.specs.declared.forms.Verb.TheVariants.{Open, OpenBits, OpenMax, OpenBitsMax, Put, Get, Del, Relocate, Count, Clear, Window, Cursor, Page, Near, Within, Overlap, Inside, Covers, Save, Load, Import, ImportHeader, Export, Stats, Select, Same, Join, Combine}
+use Rattle.ph_script.specs.declared.forms.Verb.TheVariants.{Open, OpenBits, OpenMax, OpenBitsMax, Put, Get, Del, Relocate, Count, Clear, Window, Cursor, Page, Near, Within, Overlap, Inside, Covers, Save, Load, Import, ImportHeader, Export, Stats, Select, Same, Join, Combine, Keep, Back}
 use Rattle.std.specs.Cmp.Lexicographic.{pointwise}
 use Rattle.ph_specs.specs.Command.{Place, first_word, number_fits, name_fits}
 use Rattle.ph_script.specs.Parts.{coords_at, counts_at, name_from, file_from, second_from}
@@ -40,6 +40,8 @@ IsFit Select dims coords counts name file = Unit {0}
 IsFit Same dims coords counts name file = Unit {0}
 IsFit Join dims coords counts name file = Unit {0}
 IsFit (Combine operation) dims coords counts name file = Unit {0}
+IsFit Keep dims coords counts name file = (coords ≡ []) × (length counts ≡ 1) × (slice_index counts 0 < 65537)
+IsFit Back dims coords counts name file = (coords ≡ []) × (length counts ≡ 1) × (slice_index counts 0 < 2 ^ 32)
 
 -- the first of a command's words that are no numbers tells its name, its file's name, or which of two words it has
 abbrev pub IsNamed : Verb → Option (List ℕ) → Option (List ℕ) → Bool → List (List ℕ) → Type 0
@@ -95,6 +97,8 @@ HasDims dims (by.Select slot) = Unit {0}
 HasDims dims by.Same = Unit {0}
 HasDims dims by.Join = Unit {0}
 HasDims dims (by.Combine operation) = Unit {0}
+HasDims dims (by.Keep n) = n ≤ 65536
+HasDims dims (by.Back n) = Unit {0}
 
 -- the same of the command that was read, if there is one
 abbrev pub ReadsDims : ℕ → Result (Option Command) Bad → Type 0

@@ -2,13 +2,13 @@
 use Rattle.std.specs.Prelude.{◌≡◌, ℕ, ◌+◌, ◌-◌, ◌^◌, ◌==◌, true, false, if◌then◌else◌, List, [], ◌∷◌, ◌++◌, length, replicate, take, drop, codes, bytes_eq, ℤ}
 use Rattle.std.specs.Cmp.Lexicographic.{pointwise}
 use Rattle.ph_specs.specs.Command.{Command as Asked, Place as Asks, Form as Spelling, Reading, form, read_form, number_fits, fixed_fits, count, value, radius, kinds, fixed, coordinates, number_at, first_word, kind_of, slot_of}
-use Rattle.ph_specs.specs.Command.Command.{Begin as AskBegin, Put as AskPut, Get as AskGet, Del as AskDel, Relocate as AskRelocate, Count as AskCount, Clear as AskClear, Window as AskWindow, Cursor as AskCursor, Page as AskPage, Near as AskNear, Within as AskWithin, Overlap as AskOverlap, Inside as AskInside, Covers as AskCovers, Save as AskSave, Load as AskLoad, Import as AskImport, Export as AskExport, Statistics as AskStatistics, Select as AskSelect, Compare as AskCompare, Join as AskJoin, Combine as AskCombine}
+use Rattle.ph_specs.specs.Command.Command.{Begin as AskBegin, Put as AskPut, Get as AskGet, Del as AskDel, Relocate as AskRelocate, Count as AskCount, Clear as AskClear, Window as AskWindow, Cursor as AskCursor, Page as AskPage, Near as AskNear, Within as AskWithin, Overlap as AskOverlap, Inside as AskInside, Covers as AskCovers, Save as AskSave, Load as AskLoad, Import as AskImport, Export as AskExport, Statistics as AskStatistics, Select as AskSelect, Compare as AskCompare, Join as AskJoin, Combine as AskCombine, Keep as AskKeep, Back as AskBack}
 use Rattle.ph_specs.specs.Command.Place.{Coordinate as AsksCoordinate, Below, CursorName, FileName as AsksFileName, OneOf}
 use Rattle.ph_script.specs.declared.command.Bad.{Bad}
 use Rattle.ph_script.specs.declared.command.Bad.TheVariants.{Word as BadWord, Count as BadCount, Number as BadNumber, Name as BadName}
 use Rattle.ph_script.specs.Meaning.{bad_reply}
 use Rattle.ph_script.specs.declared.forms.Verb.{Verb}
-use Rattle.ph_script.specs.declared.forms.Verb.TheVariants.{Open, OpenBits, OpenMax, OpenBitsMax, Put, Get, Del, Relocate, Count, Clear, Window, Cursor, Page, Near, Within, Overlap, Inside, Covers, Save, Load, Import, ImportHeader, Export, Stats, Select, Same, Join, Combine}
+use Rattle.ph_script.specs.declared.forms.Verb.TheVariants.{Open, OpenBits, OpenMax, OpenBitsMax, Put, Get, Del, Relocate, Count, Clear, Window, Cursor, Page, Near, Within, Overlap, Inside, Covers, Save, Load, Import, ImportHeader, Export, Stats, Select, Same, Join, Combine, Keep, Back}
 use Rattle.ph_script.specs.declared.forms.Places.{Places}
 use Rattle.ph_script.specs.declared.forms.Places.TheVariants.{Coordinates, UpTo as AllUpTo, Name as AllName, FileName as AllFileName, Fixed as AllFixed, Either as AllEither}
 use Rattle.ph_script.specs.declared.forms.Place.{Place}
@@ -72,6 +72,8 @@ places_by Select dims = OneOf (codes "a" ∷ codes "b" ∷ []) ∷ []
 places_by Same dims = []
 places_by Join dims = []
 places_by (Combine operation) dims = []
+places_by Keep dims = Below 65537 ∷ []
+places_by Back dims = count ∷ []
 
 abbrev pub command_by : Verb → ℕ → List ℤ → List (List ℕ) → Asked
 command_by Open dims = λ n t. AskBegin (kind_of t) (number_at n 0) 32 (2 ^ 64 - 1)
@@ -102,6 +104,8 @@ command_by Select dims = λ n t. AskSelect (slot_of t)
 command_by Same dims = λ n t. AskCompare
 command_by Join dims = λ n t. AskJoin
 command_by (Combine operation) dims = λ n t. AskCombine operation
+command_by Keep dims = λ n t. AskKeep (number_at n 0)
+command_by Back dims = λ n t. AskBack (number_at n 0)
 
 abbrev pub form_of : ℕ → Form → Spelling
 form_of dims f = form f.word.now (places_of dims f.places.now) (command_by f.verb dims)

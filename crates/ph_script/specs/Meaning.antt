@@ -1,16 +1,16 @@
 -- What the commands and replies of the code are in the definitions.
 use Rattle.std.specs.Prelude.{◌^◌, List, map, ℤ, pos, Option, Some, None, Result, Ok, Err}
 use Rattle.ph_specs.specs.Command.{Command as Asked, Reading}
-use Rattle.ph_specs.specs.Command.Command.{Begin as AskBegin, Put as AskPut, Get as AskGet, Del as AskDel, Relocate as AskRelocate, Count as AskCount, Clear as AskClear, Window as AskWindow, Cursor as AskCursor, Page as AskPage, Near as AskNear, Within as AskWithin, Overlap as AskOverlap, Inside as AskInside, Covers as AskCovers, Save as AskSave, Load as AskLoad, Import as AskImport, Export as AskExport, Statistics as AskStatistics, Select as AskSelect, Compare as AskCompare, Join as AskJoin, Combine as AskCombine}
+use Rattle.ph_specs.specs.Command.Command.{Begin as AskBegin, Put as AskPut, Get as AskGet, Del as AskDel, Relocate as AskRelocate, Count as AskCount, Clear as AskClear, Window as AskWindow, Cursor as AskCursor, Page as AskPage, Near as AskNear, Within as AskWithin, Overlap as AskOverlap, Inside as AskInside, Covers as AskCovers, Save as AskSave, Load as AskLoad, Import as AskImport, Export as AskExport, Statistics as AskStatistics, Select as AskSelect, Compare as AskCompare, Join as AskJoin, Combine as AskCombine, Keep as AskKeep, Back as AskBack}
 use Rattle.ph_specs.specs.Reply.{Reply as Answer}
 use Rattle.ph_script.specs.declared.coords.Coord.{Coord}
 use Rattle.ph_script.specs.declared.coords.Coord.TheVariants.{Whole, Far}
 use Rattle.ph_script.specs.declared.command.Command.{Command}
-use Rattle.ph_script.specs.declared.command.Command.TheVariants.{Begin, Put, Get, Del, Relocate, Count, Clear, Window, Cursor, Page, Near, Within, Overlap, Inside, Covers, Save, Load, Import, Export, Stats, Select, Same as SameSlots, Join, Combine}
+use Rattle.ph_script.specs.declared.command.Command.TheVariants.{Begin, Put, Get, Del, Relocate, Count, Clear, Window, Cursor, Page, Near, Within, Overlap, Inside, Covers, Save, Load, Import, Export, Stats, Select, Same as SameSlots, Join, Combine, Keep, Back}
 use Rattle.ph_script.specs.declared.command.Bad.{Bad}
 use Rattle.ph_script.specs.declared.command.Bad.TheVariants.{Word, Count as BadCount, Number, Name}
 use Rattle.ph_script.specs.declared.reply.Reply.{Reply}
-use Rattle.ph_script.specs.declared.reply.Reply.TheVariants.{Opened, New, Old, Value, Absent, Gone, Moved, Taken, Rows, Cleared, End, More, Ready, Saved, Loaded, Imported, Exported, Using, Same, Differ, Combined, ErrorLong, ErrorWord, ErrorCount, ErrorNumber, ErrorName, ErrorDims, ErrorKind, ErrorRange, ErrorReversed, ErrorCursor, ErrorCursors, ErrorFile, ErrorFull, BadMagic, BadHeader, BadDims, BadShort, BadNode, BadExtra, BadFields, BadNumber, BadRange, BadReversed}
+use Rattle.ph_script.specs.declared.reply.Reply.TheVariants.{Opened, New, Old, Value, Absent, Gone, Moved, Taken, Rows, Cleared, End, More, Ready, Saved, Loaded, Imported, Exported, Using, Same, Differ, Combined, Keeping, WentBack, ErrorLong, ErrorWord, ErrorCount, ErrorNumber, ErrorName, ErrorDims, ErrorKind, ErrorRange, ErrorReversed, ErrorCursor, ErrorCursors, ErrorFile, ErrorFull, ErrorPast, BadMagic, BadHeader, BadDims, BadShort, BadNode, BadExtra, BadFields, BadNumber, BadRange, BadReversed}
 
 -- a coordinate; one that is far stands for each number outside of 64 bits
 abbrev pub number_of_coord : Coord → ℤ
@@ -45,6 +45,8 @@ command_of (Select slot) = AskSelect slot
 command_of SameSlots = AskCompare
 command_of Join = AskJoin
 command_of (Combine operation) = AskCombine operation
+command_of (Keep n) = AskKeep n
+command_of (Back n) = AskBack n
 
 abbrev pub bad_reply : Bad → Answer
 bad_reply Word = Answer.ErrorWord
@@ -80,6 +82,8 @@ reply_of (Using slot) = Answer.Using slot
 reply_of Same = Answer.Same
 reply_of Differ = Answer.Differ
 reply_of (Combined n) = Answer.Combined n
+reply_of (Keeping n) = Answer.Keeping n
+reply_of (WentBack n) = Answer.WentBack n
 reply_of ErrorLong = Answer.ErrorLong
 reply_of ErrorWord = Answer.ErrorWord
 reply_of ErrorCount = Answer.ErrorCount
@@ -93,6 +97,7 @@ reply_of ErrorCursor = Answer.ErrorCursor
 reply_of ErrorCursors = Answer.ErrorCursors
 reply_of ErrorFile = Answer.ErrorFile
 reply_of ErrorFull = Answer.ErrorFull
+reply_of ErrorPast = Answer.ErrorPast
 reply_of BadMagic = Answer.BadMagic
 reply_of (BadHeader at) = Answer.BadHeader at
 reply_of BadDims = Answer.BadDims

@@ -101,6 +101,14 @@ pub enum Command<'c> {
     Combine {
         operation: SetOperation,
     },
+    /// The last edits of the table are kept from now on, at most so many, 0 to 65,536, and those that were are forgotten.
+    Keep {
+        n: u32,
+    },
+    /// So many of the last edits are taken back.
+    Back {
+        n: u32,
+    },
 }
 
 /// The first fault of a line, in the order in which they are looked for.

@@ -37,6 +37,8 @@ pub(crate) enum Verb {
     Same,
     Join,
     Combine(SetOperation),
+    Keep,
+    Back,
 }
 
 /// What a form has behind its word, in one place or in several.
@@ -86,6 +88,9 @@ const VALUE: u128 = u64::MAX as u128;
 
 const RADIUS: u128 = u128::MAX;
 
+// The most edits that can be kept.
+const DEPTH: u128 = 65536;
+
 const KINDS: Places = Places::Either(b"points", b"boxes");
 
 const BITS: Places = Places::Fixed(b"bits");
@@ -93,7 +98,7 @@ const BITS: Places = Places::Fixed(b"bits");
 const MAX: Places = Places::Fixed(b"max");
 
 // The forms of all commands, in the order of the definitions. One more is a row here, a `Verb` and its command.
-static FORMS: [Form; 30] = [
+static FORMS: [Form; 32] = [
     Form {
         word: b"open",
         places: &[KINDS, Places::UpTo(COUNT)],
@@ -250,6 +255,16 @@ static FORMS: [Form; 30] = [
         word: b"minus",
         places: &[],
         verb: Verb::Combine(SetOperation::Minus),
+    },
+    Form {
+        word: b"keep",
+        places: &[Places::UpTo(DEPTH)],
+        verb: Verb::Keep,
+    },
+    Form {
+        word: b"back",
+        places: &[Places::UpTo(COUNT)],
+        verb: Verb::Back,
     },
 ];
 

@@ -188,6 +188,12 @@ fn command<'c>(verb: Verb, dims: usize, coords: &'c [Coord], parts: Parts<'c>) -
         Verb::Same => Command::Same,
         Verb::Join => Command::Join,
         Verb::Combine(operation) => Command::Combine { operation },
+        Verb::Keep => Command::Keep {
+            n: counts[0] as u32,
+        },
+        Verb::Back => Command::Back {
+            n: counts[0] as u32,
+        },
     }
 }
 

@@ -42,6 +42,10 @@ pub enum Reply {
     Differ,
     /// The number of rows of the table that was made of both slots' tables; its line begins with `result`.
     Combined(u64),
+    /// The number of edits that are kept at most.
+    Keeping(u32),
+    /// The number of edits that were taken back; its line begins with `back`.
+    WentBack(u32),
     ErrorLong,
     ErrorWord,
     ErrorCount,
@@ -60,6 +64,8 @@ pub enum Reply {
     /// No file has the name, it is too long, or it could not be read or written.
     ErrorFile,
     ErrorFull,
+    /// Fewer edits are kept than were to be taken back.
+    ErrorPast,
     /// A file that does not begin as a saved table does.
     BadMagic,
     /// The place of a byte in the head of a saved table that cannot be there.

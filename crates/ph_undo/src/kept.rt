@@ -74,6 +74,13 @@ impl<const D: usize> Kept<D> {
         &self.tree
     }
 
+    /// The tree, without the edits. It takes no memory.
+    pub fn into_tree(self) -> PhTree<D>
+        ensures { result ≡ tree_of self.entry }
+    {
+        self.tree
+    }
+
     /// How many edits are kept at most: a number up to 65,536.
     pub fn depth(&self) -> u32
         ensures value { result ≡ self.now.depth }

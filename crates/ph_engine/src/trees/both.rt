@@ -1,9 +1,10 @@
 //! Two trees of any number of dimensions side by side.
-ghost use Rattle.std.specs.Prelude.{◌≡◌, []};
+ghost use Rattle.std.specs.Prelude.{◌≡◌, ◌≤◌, [], length};
+ghost use Rattle.ph_specs.specs.Past.{without_past};
 ghost use Rattle.ph_specs.specs.declared.Kind.TheVariants.{Boxes, Points};
 ghost use Rattle.ph_engine.specs.Comparing.{IsCompared};
 ghost use Rattle.ph_engine.specs.Pairing.{ListsPairs, MadeOr, VisitsBoth};
-ghost use Rattle.ph_engine.specs.Slots.{any_table, slot_of, IsOfKind};
+ghost use Rattle.ph_engine.specs.Slots.{any_table, slot_of, table_at, IsOfKind};
 ghost use Rattle.ph_engine.specs.Statuses.{StopHasCause};
 ghost use Rattle.ph_engine.specs.Told.{taken_by};
 
@@ -12,6 +13,7 @@ use crate::combining::combine_trees;
 use crate::commands::are_same;
 use crate::pairs::list_pairs;
 use crate::status::{Answer, Stop};
+use crate::undoing::take_rows;
 use ph_io::Sink;
 use ph_script::{SetOperation, Text};
 use ph_set::SetFault;
@@ -68,21 +70,61 @@ impl AnyTree {
         ensures cause { StopHasCause (O.faults out.old) (O.faults out.new) result }
     {
         match (self, other) {
-            (AnyTree::D2(a), AnyTree::D2(b)) => list_pairs::<1, 2, O, V>(a, b, out, text, visits),
-            (AnyTree::D4(a), AnyTree::D4(b)) => list_pairs::<2, 4, O, V>(a, b, out, text, visits),
-            (AnyTree::D6(a), AnyTree::D6(b)) => list_pairs::<3, 6, O, V>(a, b, out, text, visits),
-            (AnyTree::D8(a), AnyTree::D8(b)) => list_pairs::<4, 8, O, V>(a, b, out, text, visits),
+            (AnyTree::D2(a), AnyTree::D2(b)) => list_pairs::<1, 2, O, V>(
+                a.tree(),
+                b.tree(),
+                out,
+                text,
+                visits,
+            ),
+            (AnyTree::D4(a), AnyTree::D4(b)) => list_pairs::<2, 4, O, V>(
+                a.tree(),
+                b.tree(),
+                out,
+                text,
+                visits,
+            ),
+            (AnyTree::D6(a), AnyTree::D6(b)) => list_pairs::<3, 6, O, V>(
+                a.tree(),
+                b.tree(),
+                out,
+                text,
+                visits,
+            ),
+            (AnyTree::D8(a), AnyTree::D8(b)) => list_pairs::<4, 8, O, V>(
+                a.tree(),
+                b.tree(),
+                out,
+                text,
+                visits,
+            ),
             (AnyTree::D10(a), AnyTree::D10(b)) => list_pairs::<5, 10, O, V>(
-                a, b, out, text, visits,
+                a.tree(),
+                b.tree(),
+                out,
+                text,
+                visits,
             ),
             (AnyTree::D12(a), AnyTree::D12(b)) => list_pairs::<6, 12, O, V>(
-                a, b, out, text, visits,
+                a.tree(),
+                b.tree(),
+                out,
+                text,
+                visits,
             ),
             (AnyTree::D14(a), AnyTree::D14(b)) => list_pairs::<7, 14, O, V>(
-                a, b, out, text, visits,
+                a.tree(),
+                b.tree(),
+                out,
+                text,
+                visits,
             ),
             (AnyTree::D16(a), AnyTree::D16(b)) => list_pairs::<8, 16, O, V>(
-                a, b, out, text, visits,
+                a.tree(),
+                b.tree(),
+                out,
+                text,
+                visits,
             ),
             _ => unreachable!(),
         }
@@ -102,6 +144,16 @@ impl AnyTree {
         ensures made { MadeOr operation (any_table self.old) (any_table other.now) (any_table self.new) changes.old changes.new result }
         ensures visits { VisitsBoth operation (any_table self.old) (any_table other.now) visits.old visits.new }
     {
-        with_both!(self, other, tree, with => combine_trees(tree, with, alloc, operation, visits, changes), unreachable!())
+        with_both!(self, other, kept, with => combine_trees(kept, with, alloc, operation, visits, changes), unreachable!())
+    }
+
+    // Takes the rows of another tree of the same width in place of its own, of which it may have as many, and forgets its edits.
+    pub(crate) fn replace(&mut self, other: AnyTree)
+        requires dims { (any_table other).dims ≡ (any_table self.old).dims }
+        requires width { (any_table other).tree.width ≡ (any_table self.old).tree.width }
+        requires room { length (any_table other).tree.table ≤ (any_table self.old).tree.max }
+        ensures { any_table self.new ≡ table_at (any_table self.old).dims (without_past (any_table self.old).tree (any_table other).tree.table) }
+    {
+        with_both!(self, other, kept, with => take_rows(kept, with), unreachable!())
     }
 }

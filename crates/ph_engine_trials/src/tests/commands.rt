@@ -53,17 +53,21 @@ fn check_each<V: Ledger, C: Ledger>(
 {
     let mut visits: Steps<V> = Steps::new(visits);
     let mut changes: Steps<C> = Steps::new(changes);
-    let mut engine = Engine::new(alloc);
+    let engine = &mut Engine::new(alloc);
+    check_lines(rt, alloc, engine, cases, &mut visits, &mut changes)
+}
+
+// The engine is lent, so that it is let go in one place alone: the proof of a function that has one grows with each way out.
+fn check_lines<V: Ledger, C: Ledger>(
+    rt: &impl Abort,
+    alloc: Global,
+    engine: &mut Engine,
+    cases: &[(&str, &str, Answer)],
+    visits: &mut Steps<V>,
+    changes: &mut Steps<C>,
+) -> Result<(), AllocError> {
     for (line, reply, answer) in cases {
-        let sink = written_by(
-            rt,
-            alloc,
-            &mut engine,
-            line,
-            *answer,
-            &mut visits,
-            &mut changes,
-        )?;
+        let sink = written_by(rt, alloc, engine, line, *answer, visits, changes)?;
         assert_eq!(rt; sink.bytes(), reply.as_bytes(), "{line}");
     }
     Ok(())

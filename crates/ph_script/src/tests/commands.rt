@@ -131,13 +131,27 @@ fn read_commands_on_tables(rt: HostRuntime) -> Result<(), Fail> {
             "Import { file: \"rows.csv\", header: true }",
         ),
         (b"export header", "Export { file: \"header\" }"),
-        (b"use a", "Select { slot: A }"),
+    ];
+    let mut coords = CoordBuffer::new();
+    for (line, command) in cases {
+        assert_eq!(rt; shown(rt.alloc(), line, 2, &mut coords)?.as_str(), command);
+    }
+    Ok(())
+}
+
+#[test]
+fn read_commands_on_slots(rt: HostRuntime) -> Result<(), Fail> {
+    let cases = [
+        (b"use a".as_slice(), "Select { slot: A }"),
         (b"use b", "Select { slot: B }"),
         (b"same", "Same"),
         (b"join", "Join"),
         (b"union", "Combine { operation: Union }"),
         (b"common", "Combine { operation: Common }"),
         (b"minus", "Combine { operation: Minus }"),
+        (b"keep 0", "Keep { n: 0 }"),
+        (b"keep 65536", "Keep { n: 65536 }"),
+        (b"back 4294967295", "Back { n: 4294967295 }"),
         (b"stats", "Stats"),
     ];
     let mut coords = CoordBuffer::new();

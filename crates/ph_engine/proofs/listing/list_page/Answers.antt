@@ -7,7 +7,7 @@ use Rattle.ph_specs.specs.Engine.{row_replies, page_end}
 use Rattle.ph_specs.specs.Window.{page, has_more, last_listed}
 use Rattle.ph_window.specs.declared.page.Tail.TheVariants.{More}
 use Rattle.ph_engine.specs.Listing.{is_more, met}
-use Rattle.ph_engine.specs.Slots.{table_at}
+use Rattle.ph_engine.specs.Slots.{tree_at}
 use Rattle.ph_io.specs.Writing.{WritesFront}
 use Rattle.ph_engine.proofs.Replies.{none_given}
 use Rattle.ph_engine.proofs.Listed.{item-given, item-front, none-left, page-step, page-rest, page-said, page-cut, more-by, few-to-resume, some-to-resume}
@@ -46,7 +46,7 @@ rows-preserved g c =
 
 pub returns-in_err-say_row-clause-lists : goal.returns-in_err-say_row-clause-lists
 returns-in_err-say_row-clause-lists g c =
-    let t = table_at g.row.D c.args.tree.now in
+    let t = tree_at g.row.D c.args.tree.now in
     let cursor = c.args.cursor.now in
     let first = c.page-page.result in
     let old = c.rows.page in
@@ -69,7 +69,7 @@ returns-in_err-say_row-clause-lists g c =
 
 pub returns-clause-lists : goal.returns-clause-lists
 returns-clause-lists g c =
-    let t = table_at g.row.D c.args.tree.now in
+    let t = tree_at g.row.D c.args.tree.now in
     let cursor = c.args.cursor.now in
     let first = c.page-page.result in
     let old = c.rows.page in
@@ -96,7 +96,7 @@ returns-clause-lists g c =
 
 pub returns-in_err-say-clause-lists : goal.returns-in_err-say-clause-lists
 returns-in_err-say-clause-lists g c =
-    let t = table_at g.row.D c.args.tree.now in
+    let t = tree_at g.row.D c.args.tree.now in
     let cursor = c.args.cursor.now in
     let first = c.page-page.result in
     let old = c.rows.page in

@@ -1,12 +1,12 @@
 use Rattle.std.proofs.Common.{◌≡◌, ◌+◌, ◌*◌, ◌≤◌, take}
-use Rattle.ph_import.specs.Imported.{with_rows}
+use Rattle.ph_import.specs.Imported.{with_some}
 use Rattle.ph_import.proofs.rows.put_each.Given as goal
 
 abbrev pub invariant-loop-row : goal.invariant-loop-row
 invariant-loop-row g l = record {
-  state : l.tree ≡ with_rows l.fn.tree (take l.row-index l.rows);
-  visits : l.visits ≤ l.fn.visits + 2 * l.fn.tree.width * l.row-index;
+  state : l.kept ≡ with_some l.fn.kept (take l.row-index l.rows);
+  visits : l.visits ≤ l.fn.visits + 2 * l.fn.kept.width * l.row-index;
   later : l.fn.visits ≤ l.visits;
   changes : l.changes ≤ l.fn.changes + 2 * l.row-index;
-  kept : l.fn.changes ≤ l.changes;
+  grown : l.fn.changes ≤ l.changes;
 }

@@ -2,4 +2,4 @@ use Rattle.ph_import.proofs.Puts.{nothing-put}
 use Rattle.ph_import.proofs.rows.put_rows.Goals as goal
 
 pub returns-in_err-has_room-clause-fault : goal.returns-in_err-has_room-clause-fault
-returns-in_err-has_room-clause-fault g c = λ _. nothing-put c.args.tree.now c.args.rows.now c.in_err-has_room.ensures.err
+returns-in_err-has_room-clause-fault g c = λ _. nothing-put c.args.kept.now c.args.rows.now c.in_err-has_room.ensures.err
