@@ -2,6 +2,9 @@ mod Walks
 mod Made
 mod PlaceSteps
 mod Sharing
+mod Headers
+mod KidSharing
+mod KidSteps
 mod SlotLists
 mod Shifts
 mod Stores

@@ -1,13 +1,10 @@
 -- What the parts of a block own is made of what they are made of. Assumes `Logic`.
 --     start_made, mark_made      of a pointer alone, and of nothing
 --     triple_made      three values make a tuple
---     right_made, right_had      the right to give a block back is the allocator's token, where there are places
-use Rattle.std.proofs.Common.{ℕ, zero, suc, ◌<◌, List, [], ◌∷◌, refl, arith}
+use Rattle.std.proofs.Common.{List, [], ◌∷◌, refl}
 use seplogic.Ra.Ura.{Ura}
-use mir.Syntax.{Ty, ty_int, ty_array, w64}
 use mir.Val.{Val, vstruct, vcons, vnil}
-use base.Logic.{ent, sep, emp, id⊢}
-use base.Fml.{Fml}
+use base.Logic.{ent, sep, emp}
 use types.Logic.{Logic, sem}
 use types.Kit.{‵, ◌$◌, ◌∵◌, !, qed, move, fjoin, fpack, feq_i, done}
 use denote.RattleType.{RattleType, Valss}
@@ -20,7 +17,6 @@ use denote.Struct.Owning.{shape}
 use denote.Struct.Declared as Declared
 use denote.Struct.Tuple.{Tuple, tuple_type}
 use Rattle.std.proofs.RcSteps.{word}
-use Rattle.ph_bits.specs.Memory.{right_owns}
 use Rattle.ph_bits.specs.contracts.places.Start as S
 use Rattle.ph_bits.specs.contracts.places.Places as P
 
@@ -48,12 +44,3 @@ module _ {M : Type 1} {𝓤 : Ura M} (𝓛 : Logic 𝓤) where
       nothing ! $ move ! (3 ∷ 0 ∷ []) $ fjoin ! $ move ! (2 ∷ 0 ∷ []) $ fjoin ! $ move ! (1 ∷ 0 ∷ []) $ fjoin ! $
       feq_i ! (List Val) (triple_val u v w ∷ []) (triple_val u v w ∷ []) refl $ fjoin ! $
       fpack ! (Valss (A ∷ B ∷ C ∷ [])) (within (Declared.shape (tuple_type (A ∷ B ∷ C ∷ []))) (x, (y, (z, tt))) (triple_val u v w ∷ [])) (u ∷ [], (v ∷ [], (w ∷ [], tt))) $ done !
-
-  module _ (token : Ty → Ptr → Fml) (p : Ptr) where
-    pub right_made : (room : ℕ) → 0 < room → ent 𝓤 (sem 𝓛 (token (ty_array (ty_int w64) room) p)) (sem 𝓛 (right_owns token p room))
-    right_made zero l = absurd (omega (arith, l))
-    right_made (suc n) l = id⊢ 𝓤 _
-
-    pub right_had : (room : ℕ) → 0 < room → ent 𝓤 (sem 𝓛 (right_owns token p room)) (sem 𝓛 (token (ty_array (ty_int w64) room) p))
-    right_had zero l = absurd (omega (arith, l))
-    right_had (suc n) l = id⊢ 𝓤 _

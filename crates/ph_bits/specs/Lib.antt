@@ -4,9 +4,15 @@ pub mod Block
 pub mod Edits
 pub mod Fields
 pub mod Lends
+pub mod Filled
+pub mod Headers
+pub mod Kids
+pub mod LendsFilled
+pub mod LendsKid
 pub mod LendsSlice
 pub mod Memory
 pub mod Packed
 pub mod Parts
 pub mod Slots
 pub mod Written
+pub mod formers

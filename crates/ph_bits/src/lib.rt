@@ -1,4 +1,4 @@
-//! The bottom of a packed node: blocks of words, and fields of binary digits in them.
+//! The bottom of a packed node: blocks of words with values behind them, and fields of binary digits in the words.
 //!
 //! The digits of each word are counted from its most significant end, so a list of words is a list of digits, and a
 //! field may begin in one word and end in the next.
@@ -7,10 +7,12 @@
 mod apart;
 mod beside;
 mod between;
+mod block;
 mod edits;
 mod entries;
 mod fields;
 mod joins;
+mod kids;
 mod pens;
 mod places;
 mod rows;
@@ -21,6 +23,7 @@ mod words;
 pub use apart::row_distance;
 pub use beside::is_row;
 pub use between::is_row_between;
+pub use block::Block;
 pub use edits::Edit;
 pub use entries::{Entries, Packed};
 pub use fields::{field, ones_before, part_of, set_field};

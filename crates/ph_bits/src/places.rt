@@ -1,11 +1,11 @@
 //! The memory of a block: where it begins, the owner of its places, and the right to give it back. Nothing else in the crate
 //! touches a pointer.
 
-ghost use Rattle.std.specs.Prelude.{◌≡◌, ℕ, ◌+◌, ◌<◌, ◌≤◌, ◌^◌, ◌++◌, [], List, Option, Some, None, length, map, take, replicate, slice_set, IfOk};
+ghost use Rattle.std.specs.Prelude.{◌≡◌, ℕ, ◌+◌, ◌<◌, ◌≤◌, ◌^◌, ◌++◌, List, Option, Some, None, length, map, take, replicate, slice_set, IfOk};
 ghost use base.Fml.{ftrue};
 ghost use denote.RawPtr.{Ptr};
 ghost use Rattle.ph_bits.specs.Memory.{block_owns, block_lent, right_owns};
-ghost use Rattle.ph_bits.specs.Slots.{AreWritten, words_at};
+ghost use Rattle.ph_bits.specs.Slots.{AreWritten, words_at, words_in};
 ghost use Rattle.ph_bits.specs.Written.{shifted};
 
 use crate::NoMemory;
@@ -17,7 +17,7 @@ use std::slice;
 // Where a block begins. It owns nothing.
 #[derive(Clone, Copy)]
 pub(crate) struct Start {
-    at: *mut u64,
+    pub(crate) at: *mut u64,
 }
 
 // The owner of the places. It takes no bytes.
@@ -33,7 +33,7 @@ impl Model for Places {
     ghost also_shares = { λ p _ κ. block_lent p.at p.slots κ };
 }
 
-// The right to give a block of so many places back, where there are places. It takes no bytes.
+// The right to give a block of so many places back. It takes no bytes.
 pub(crate) struct Right<A: Allocator> {
     mark: PhantomData<*const A>,
     ghost at: { Ptr },
@@ -49,7 +49,7 @@ impl<A: Allocator> Model for Right<A> {
 
 impl Places {
     ghost use Rattle.std.specs.Borrow.{sem};
-    ghost use Rattle.ph_bits.specs.Lends.{lends_front};
+    ghost use Rattle.ph_bits.specs.Lends.{lends_words};
 
     // Writes a word, whatever the place had.
     #[inline(always)]
@@ -112,14 +112,14 @@ impl Places {
         unsafe { slice::from_raw_parts(start.at, len) }
     }
 
-    // Lends them for writing.
+    // Lends the `len` words behind the header for writing.
     #[inline(always)]
     pub(crate) fn words_mut(&mut self, start: Start, len: usize) -> &mut [u64]
-        requires { (start.at ≡ self.old.at) × AreWritten len self.old.slots }
-        ensures* lends { sem 𝓛 (lends_front self.entry len result) }
-        ensures words { take len self.old.slots ≡ map Some result.now }
+        requires { (start.at ≡ self.old.at) × AreWritten (len + 1) self.old.slots }
+        ensures* lends { sem 𝓛 (lends_words self.entry len result) }
+        ensures words { result.now ≡ words_in len self.old.slots }
     {
-        unsafe { slice::from_raw_parts_mut(start.at, len) }
+        unsafe { slice::from_raw_parts_mut(start.at.add(1), len) }
     }
 }
 
@@ -171,20 +171,4 @@ pub(crate) fn release<A: Allocator>(
             align_of::<u64>(),
         );
     }
-}
-
-// A block without places. It has no memory to give back.
-pub(crate) fn none<A: Allocator>(alloc: &A) -> (Start, Places, Right<A>)
-    ensures { (result.1.at ≡ result.0.at) × (result.1.slots ≡ []) × (result.2.at ≡ result.0.at) × (result.2.room ≡ 0) × (result.2.alloc ≡ alloc.now) }
-{
-    let _ = alloc;
-    let nothing: [u64; 0] = [];
-    let start = Start {
-        at: (&raw const nothing as *const u64).cast_mut(),
-    };
-    (
-        start,
-        Places { mark: PhantomData },
-        Right { mark: PhantomData },
-    )
 }

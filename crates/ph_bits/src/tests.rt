@@ -100,7 +100,7 @@ fn are_zeros(words: &[u64]) -> bool {
 
 // A block of zeros, and what a reset leaves of it.
 fn block_of(rt: &impl Abort, alloc: Global, len: usize) -> Result<(), NoMemory>
-    requires { len < 2 ^ 32 }
+    requires { len < 2 ^ 21 }
 {
     let mut words = Words::zeroed(alloc, len)?;
     assert!(rt; words.len() == len);
@@ -115,9 +115,13 @@ fn block_of(rt: &impl Abort, alloc: Global, len: usize) -> Result<(), NoMemory>
     words.reset(0);
     assert!(rt; words.len() == 0);
     assert!(rt; words.room() == len);
-    if len > 0 {
+    if len > 1 {
         words.push(9);
+        words.push(5);
+        assert!(rt; words.as_slice() == [9, 5].as_slice());
+        words.truncate(1);
         assert!(rt; words.as_slice() == [9].as_slice());
+        assert!(rt; words.room() == len);
     }
     Ok(())
 }
@@ -132,6 +136,86 @@ fn blocks(rt: HostRuntime) -> Result<(), NoMemory> {
     block_of(&rt, rt.alloc(), 0)?;
     block_of(&rt, rt.alloc(), 1)?;
     block_of(&rt, rt.alloc(), 1000)
+}
+
+// Whether a block has these words, so many spare places and these values.
+fn shows(block: &Block<Box<u64>>, words: &[u64], spare: usize, values: &[u64]) -> bool {
+    let mut same = block.words() == words && block.spare() == spare;
+    if block.count() != values.len() {
+        return false;
+    }
+    for i in 0..values.len() {
+        same = same && **block.value(i) == values[i];
+    }
+    same
+}
+
+// A block with the words 7, 8, and room for four more or for values.
+fn small_block(alloc: Global) -> Result<Block<Box<u64>>, NoMemory> {
+    let mut words = Words::with_room(alloc, 6)?;
+    words.push(7);
+    words.push(8);
+    Ok(Block::of(words))
+}
+
+#[test]
+fn values_by_rank(rt: HostRuntime) -> Result<(), NoMemory> {
+    assert!(rt; size_of::<Block<Box<u64>>>() == 8);
+    let mut block = small_block(rt.alloc())?;
+    assert!(rt; shows(&block, &[7, 8], 4, &[]));
+    for (rank, number, spare, want) in [
+        (0, 1, 3, [1].as_slice()),
+        (1, 2, 2, [1, 2].as_slice()),
+        (0, 3, 1, [3, 1, 2].as_slice()),
+        (2, 4, 0, [3, 1, 4, 2].as_slice()),
+    ] {
+        assert!(rt; block.spare() > 0);
+        assert!(rt; rank <= block.count());
+        block.insert(rank, Box::new(rt.alloc(), number)?);
+        assert!(rt; shows(&block, &[7, 8], spare, want));
+    }
+    block.reverse();
+    assert!(rt; shows(&block, &[7, 8], 0, &[2, 4, 1, 3]));
+    for (rank, number, spare, want) in [
+        (2, 1, 1, [2, 4, 3].as_slice()),
+        (0, 2, 2, [4, 3].as_slice()),
+        (1, 3, 3, [4].as_slice()),
+    ] {
+        assert!(rt; rank < block.count());
+        assert!(rt; *block.remove(rank) == number);
+        assert!(rt; shows(&block, &[7, 8], spare, want));
+    }
+    Ok(())
+}
+
+#[test]
+fn values_beside_words(rt: HostRuntime) -> Result<(), NoMemory> {
+    let mut block = small_block(rt.alloc())?;
+    for number in [3, 2, 1] {
+        assert!(rt; block.spare() > 0);
+        block.put_first(Box::new(rt.alloc(), number)?);
+    }
+    assert!(rt; block.spare() > 0);
+    block.push(9);
+    assert!(rt; block.len() == 3);
+    block.set(0, 6);
+    block.words_mut().reverse();
+    assert!(rt; block.count() == 3);
+    **block.value_mut(1) = 5;
+    assert!(rt; shows(&block, &[9, 8, 6], 0, &[1, 5, 3]));
+    assert!(rt; block.len() == 3);
+    block.truncate(1);
+    assert!(rt; shows(&block, &[9], 2, &[1, 5, 3]));
+    let mut other = small_block(rt.alloc())?;
+    assert!(rt; other.count() == 0);
+    assert!(rt; block.count() <= other.spare());
+    other.take_values(&mut block);
+    assert!(rt; shows(&block, &[9], 5, &[]));
+    assert!(rt; shows(&other, &[7, 8], 1, &[1, 5, 3]));
+    assert!(rt; other.values().len() == 3);
+    other.values_mut().reverse();
+    assert!(rt; shows(&other, &[7, 8], 1, &[3, 5, 1]));
+    Ok(())
 }
 
 #[test]

@@ -1,20 +1,20 @@
 //! A block of words.
 
-ghost use Rattle.std.specs.Prelude.{◌≡◌, ◌+◌, ◌-◌, ◌<◌, ◌≤◌, ◌^◌, ◌∷◌, ◌++◌, [], length, take, replicate, slice_index_or, slice_set, IfOk, IsOk};
+ghost use Rattle.std.specs.Prelude.{◌≡◌, ◌+◌, ◌-◌, ◌<◌, ◌≤◌, ◌^◌, ◌∷◌, ◌++◌, [], length, take, replicate, slice_index_or, slice_set, IfOk};
 ghost use Rattle.std.specs.List.{remove};
 ghost use Rattle.ph_bits.specs.Block.{room_of, zeros, empty, IsSamePlaces};
 ghost use Rattle.ph_bits.specs.Written.{shifted};
+ghost use Rattle.ph_bits.specs.Parts.{IsBlock, block_of};
 
 use crate::NoMemory;
-use crate::places::{Places, Right, Start, none, release, take};
+use crate::places::{Places, Right, Start, release, take};
 use std::alloc::Global;
 use std::marker::Model;
-use std::mem::ManuallyDrop;
 
 /// A block of words: as many as its length, and behind them places that it may grow into.
 ///
-/// It is one piece of memory, and it keeps its pointer, its length and its room in 16 bytes. A block with room for no word takes
-/// no memory. What lies behind the words is not cleared. No call but the two that make a block takes memory.
+/// It is one piece of memory, with eight bytes before the words, and it keeps its pointer, its length and its room in 16 bytes.
+/// What lies behind the words is not cleared. No call but the two that make a block takes memory.
 pub struct Words {
     start: Start,
     places: Places,
@@ -27,12 +27,11 @@ pub struct Words {
 impl Model for Words {
     ghost use Rattle.std.specs.Prelude.{◌-◌};
     ghost use Rattle.ph_bits.specs.Block.{Block};
-    ghost use Rattle.ph_bits.specs.Parts.{IsBlock};
-    ghost use Rattle.ph_bits.specs.Slots.{words_at};
+    ghost use Rattle.ph_bits.specs.Parts.{IsBlock, block_of};
 
     ghost Value = { Block };
 
-    ghost view = { λ w. record { words = words_at w.len w.places.slots; spare = w.room - w.len; heap = w.alloc } };
+    ghost view = { λ w. block_of w.places.slots w.len w.room w.alloc };
 
     ghost invariant = { λ w. IsBlock w.start w.places w.right w.len w.room w.alloc };
 }
@@ -47,11 +46,7 @@ impl Drop for Words {
             room,
             alloc,
         } = self;
-        if room > 0 {
-            release(&alloc, start, room as usize, places, right);
-        } else {
-            let _nothing = unsafe { ManuallyDrop::new_unchecked((places, right)) };
-        }
+        release(&alloc, start, room as usize + 1, places, right);
     }
 }
 
@@ -59,17 +54,13 @@ impl Words {
     ghost use Rattle.std.specs.Borrow.{sem};
     ghost use Rattle.ph_bits.specs.LendsSlice.{lends_slice};
 
-    /// A block without words that has room for `room` of them. Its memory is not cleared. No room takes no memory.
+    /// A block without words that has room for `room` of them. Its memory is not cleared.
     pub fn with_room(alloc: Global, room: usize) -> Result<Words, NoMemory>
-        requires { room < 2 ^ 32 }
+        requires { room < 2 ^ 21 }
         ensures empty { IfOk result (λ w. w ≡ empty alloc room) }
-        ensures none { room ≡ 0 → IsOk result }
     {
-        let (start, places, right) = if room > 0 {
-            take(&alloc, room)?
-        } else {
-            none(&alloc)
-        };
+        let (start, mut places, right) = take(&alloc, room + 1)?;
+        places.write(start, 0, 0);
         Ok(Words {
             start,
             places,
@@ -80,11 +71,27 @@ impl Words {
         })
     }
 
+    // Its parts, its length and its room.
+    #[inline(always)]
+    pub(crate) fn into_parts(self) -> (Start, Places, Right<Global>, u32, u32, Global)
+        ensures parts { IsBlock result.0 result.1 result.2 result.3 result.4 result.5 }
+        ensures value { self ≡ block_of result.1.slots result.3 result.4 result.5 }
+    {
+        let Words {
+            start,
+            places,
+            right,
+            len,
+            room,
+            alloc,
+        } = self;
+        (start, places, right, len, room, alloc)
+    }
+
     /// A block of `len` zeros, with no room for more.
     pub fn zeroed(alloc: Global, len: usize) -> Result<Words, NoMemory>
-        requires { len < 2 ^ 32 }
+        requires { len < 2 ^ 21 }
         ensures zeros { IfOk result (λ w. w ≡ zeros alloc len) }
-        ensures none { len ≡ 0 → IsOk result }
     {
         let mut words = Words::with_room(alloc, len)?;
         words.reset(len);
@@ -102,7 +109,7 @@ impl Words {
     #[inline(always)]
     pub fn room(&self) -> usize
         ensures value { result ≡ room_of self.now }
-        ensures limit { result < 2 ^ 32 }
+        ensures limit { result < 2 ^ 21 }
     {
         self.room as usize
     }
@@ -128,7 +135,7 @@ impl Words {
         requires { i < length self.old.words }
         ensures { self.new ≡ record self.old { words = slice_set self.old.words i word } }
     {
-        self.places.write(self.start, i, word);
+        self.places.write(self.start, i + 1, word);
     }
 
     /// Writes a word behind the others.
@@ -138,7 +145,7 @@ impl Words {
         ensures words { self.new.words ≡ self.old.words ++ word ∷ [] }
         ensures places { IsSamePlaces self.old self.new }
     {
-        self.places.write(self.start, self.len as usize, word);
+        self.places.write(self.start, self.len as usize + 1, word);
         self.len += 1;
     }
 
@@ -148,7 +155,7 @@ impl Words {
         ensures words { self.new.words ≡ self.old.words ++ more.now }
         ensures places { IsSamePlaces self.old self.new }
     {
-        self.places.extend(self.start, self.len as usize, more);
+        self.places.extend(self.start, self.len as usize + 1, more);
         self.len += more.len() as u32;
     }
 
@@ -162,7 +169,7 @@ impl Words {
         ensures places { IsSamePlaces self.old self.new }
     {
         self.places
-            .extend_shifted(self.start, self.len as usize, first, second, behind);
+            .extend_shifted(self.start, self.len as usize + 1, first, second, behind);
         self.len += first.len() as u32;
     }
 
@@ -176,17 +183,19 @@ impl Words {
             let word = self.get(k + 1);
             self.set(k, word);
         }
-        self.pop();
+        let left = self.len() - 1;
+        self.truncate(left);
     }
 
-    // Takes the last word out.
+    /// Leaves the first `len` words. The places of the others stay free behind them.
     #[inline(always)]
-    fn pop(&mut self)
-        requires { 0 < length self.old.words }
-        ensures words { self.new.words ≡ take (length self.old.words - 1) self.old.words }
+    pub fn truncate(&mut self, len: usize)
+        requires { len ≤ length self.old.words }
+        ensures words { self.new.words ≡ take len self.old.words }
         ensures places { IsSamePlaces self.old self.new }
     {
-        self.len -= 1;
+        let _ = &self.places;
+        self.len = len as u32;
     }
 
     /// Leaves `len` zeros in place of the words.
@@ -207,7 +216,7 @@ impl Words {
     pub fn as_slice(&self) -> &[u64]
         ensures { result.now ≡ self.now.words }
     {
-        self.places.words(self.start, self.len as usize)
+        &self.places.words(self.start, self.len as usize + 1)[1..]
     }
 
     #[inline(always)]

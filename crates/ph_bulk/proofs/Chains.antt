@@ -1,7 +1,7 @@
 -- Entries one behind the other: what a record keeps of them, their children, and how many nodes are below them.
 use Rattle.std.proofs.Common.{◌≡◌, ℕ, zero, suc, ◌+◌, ◌<◌, ◌≤◌, List, [], ◌∷◌, ◌++◌, length, map, take, get_or, refl, sym, ◌∙◌, ap, arith}
 use Rattle.std.specs.Prelude.{Option, Some, None, slice_get}
-use Rattle.std.proofs.lemmas.List.{take_more, map-append}
+use Rattle.std.proofs.lemmas.List.{take_more, map-append, length-append}
 use Rattle.std.proofs.lemmas.Option.{slice_get-map, slice_get-get_or}
 use Rattle.ph_specs.specs.Node.{Entries, end, point, child, Entry, Flat, What, value, node, PlainNode, chained, in_front, flat}
 use Rattle.ph_specs.specs.NodeSize.{node_size, nodes_in}
@@ -10,8 +10,6 @@ use Rattle.ph_specs.specs.Lawful.{IsLawfulFrom, count}
 use Rattle.ph_specs.proofs.laws.Unpacked.{child_nodes}
 use Rattle.ph_specs.proofs.laws.EntryLists.{listed-chained, entry-lawful}
 use Rattle.ph_specs.specs.Lawful.{IsLawfulEntry}
-use Rattle.ph_node.specs.declared.node.SlotOf.{SlotOf}
-use Rattle.ph_node.specs.Slots.{nodes_of, in_slot}
 use Rattle.ph_bulk.specs.Parts.{flat_entry, what_value}
 
 -- ---- what a record keeps
@@ -73,6 +71,16 @@ size-one e = omega (arith, size-front e.addr e.body e.what end)
 
 -- ---- the first so many of some entries
 
+held-front : (a : ℕ) (b : List ℕ) (w : What) (rest : Entries) → length (child_nodes (in_front a b w rest)) ≡ length (held w) + length (child_nodes rest)
+held-front a b (value v) rest = omega arith
+held-front a b (node n) rest = omega arith
+
+children-part : {X : Type 0} (f : X → Entry) (xs : List X) (i : ℕ) → length (child_nodes (chained (map f (take i xs)))) ≤ length (child_nodes (chained (map f xs)))
+children-part f xs zero = omega arith
+children-part f [] (suc i) = omega arith
+children-part f (x ∷ xs) (suc i) =
+    omega (arith, held-front (f x).addr (f x).body (f x).what (chained (map f (take i xs))), held-front (f x).addr (f x).body (f x).what (chained (map f xs)), children-part f xs i)
+
 module _ {X : Type 0} (f : X → Entry) (xs : List X) (i : ℕ) (x : X) (l : i < length xs) (e : x ≡ get_or xs i x) where
   one-more : map f (take (i + 1) xs) ≡ map f (take i xs) ++ f x ∷ []
   one-more =
@@ -84,6 +92,13 @@ module _ {X : Type 0} (f : X → Entry) (xs : List X) (i : ℕ) (x : X) (l : i <
   pub size-more : nodes_in (chained (map f (take (i + 1) xs))) ≡ nodes_in (chained (map f (take i xs))) + what_size (f x).what
   size-more =
       ap (λ t. nodes_in (chained t)) one-more ∙ size-chained (map f (take i xs)) (f x ∷ []) ∙ ap (λ n. nodes_in (chained (map f (take i xs))) + n) (size-one (f x))
+
+  -- all children are one more, at least, than those in front of one
+  pub children-more : (n : PlainNode) → held (f x).what ≡ n ∷ [] → length (child_nodes (chained (map f (take i xs)))) + 1 ≤ length (child_nodes (chained (map f xs)))
+  children-more n h =
+      let ns : List PlainNode = child_nodes (chained (map f (take i xs))) in
+      let one : length (held (f x).what) ≡ 1 = ap (λ (t : List PlainNode). length t) h in
+      omega (arith, ap (λ (t : List PlainNode). length t) nodes-more, length-append ns (held (f x).what), one, children-part f xs (i + 1))
 
   -- an entry of lawful entries is lawful
   pub entry-at : (dims level least : ℕ) → IsLawfulFrom dims level least (chained (map f xs)) → IsLawfulEntry dims level (f x)
@@ -107,14 +122,6 @@ pub nodes-children : (c : Entries) → length (child_nodes c) ≡ children (flat
 nodes-children end = refl
 nodes-children (point a b v rest) = omega (arith, nodes-children rest)
 nodes-children (child a b below chain rest) = omega (arith, nodes-children rest)
-
-pub slots-more : {P : Type 0} (ss : List (SlotOf P)) (n : PlainNode) → nodes_of (ss ++ in_slot n ∷ []) ≡ nodes_of ss ++ n ∷ []
-slots-more [] n = refl
-slots-more (s ∷ ss) n = ap {B = List PlainNode} (λ t. s.node ∷ t) (slots-more ss n)
-
-pub slots-long : {P : Type 0} (ss : List (SlotOf P)) → length (nodes_of ss) ≡ length ss
-slots-long [] = refl
-slots-long (s ∷ ss) = ap suc (slots-long ss)
 
 -- a node at level 0 has no children
 pub none-below : (dims level least : ℕ) (c : Entries) → IsLawfulFrom dims level least c → level ≡ 0 → children (flat c) ≡ 0

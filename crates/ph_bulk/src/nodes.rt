@@ -1,5 +1,5 @@
 //! The nodes of rows.
-ghost use Rattle.std.specs.Prelude.{◌≡◌, ◌<◌, ◌≤◌, ◌+◌, length, map, IfOk, OnOk};
+ghost use Rattle.std.specs.Prelude.{◌≡◌, ◌<◌, ◌≤◌, ◌+◌, [], length, map, IfOk, OnOk};
 ghost use Rattle.std.specs.List.{AllByRecursion as Each};
 ghost use Rattle.ph_specs.specs.Lawful.{IsLawfulFrom, count};
 ghost use Rattle.ph_specs.specs.NodeSize.{node_size, nodes_in};
@@ -11,6 +11,7 @@ ghost use Rattle.ph_bulk.specs.Parts.{IsPart, chain_of, node_made};
 use crate::NoMemory;
 use crate::entries::PartsOf;
 use crate::parts::{Part, parts_of};
+use ph_bits::Block;
 use ph_coord::Width;
 use ph_node::{NodeOf, SlotOf};
 use ph_shape::Space;
@@ -42,47 +43,47 @@ pub(crate) fn node_of<P: Space, C: Ledger>(
 {
     let _bits = w.bits();
     let parts = parts_of::<P>(alloc, w, place, rows)?;
-    let children = children_of::<P, C>(alloc, w, place, parts.as_slice(), changes)?;
     let entries: PartsOf<'_, P> = PartsOf {
         w,
         place,
         parts: parts.as_slice(),
         dims: PhantomData,
     };
-    NodeOf::from_entries::<PartsOf<'_, P>, C>(alloc, place, &entries, children, changes)
+    let mut block = NodeOf::block_for::<PartsOf<'_, P>>(alloc, place, &entries)?;
+    put_children::<P, C>(alloc, w, place, parts.as_slice(), &mut block, changes)?;
+    Ok(NodeOf::assemble(block, changes))
 }
 
-// The children that parts of rows make, in the order of their addresses.
+// Puts the children that parts of rows make into the block of their record, in the order of their addresses.
 #[cycle(nodes)]
-fn children_of<P: Space, C: Ledger>(
+fn put_children<P: Space, C: Ledger>(
     alloc: Global,
     w: Width,
     place: u32,
     parts: &[Part<'_, P::Row>],
+    block: &mut Block<SlotOf<P>>,
     changes: &mut Steps<C>,
-) -> Result<Vec<SlotOf<P>>, NoMemory>
+) -> Result<(), NoMemory>
     requires some { 1 ≤ P.D }
     requires dims { P.D ≤ 16 }
     requires place { place < w }
     requires parts { Each (IsPart P.row_of w P.D place) parts.now }
     requires lawful { IsLawfulFrom P.D place 0 (chain_of P.row_of w place parts.now) }
-    ensures children { IfOk result (λ v. nodes_of v.items ≡ child_nodes (chain_of P.row_of w place parts.now)) }
+    requires none { block.old.values ≡ [] }
+    requires room { length (child_nodes (chain_of P.row_of w place parts.now)) ≤ block.old.spare }
+    ensures words { block.new.words ≡ block.old.words }
+    ensures children { OnOk result (nodes_of block.new.values ≡ child_nodes (chain_of P.row_of w place parts.now)) }
     ensures nodes { OnOk result (changes.new ≡ changes.old + nodes_in (chain_of P.row_of w place parts.now)) }
     ensures most { changes.new ≤ changes.old + nodes_in (chain_of P.row_of w place parts.now) }
     ensures kept { changes.old ≤ changes.new }
 {
-    let mut children = Vec::with_capacity(alloc, count_children::<P>(parts))?;
     for part in parts {
         let Some(level) = part.level else {
             continue;
         };
         let node = node_of::<P, C>(alloc, w, level, part.rows, changes)?;
-        children.push(SlotOf { node })?;
+        block.put_first(SlotOf { node });
     }
-    Ok(children)
-}
-
-// How many parts make a child.
-fn count_children<P: Space>(parts: &[Part<'_, P::Row>]) -> usize {
-    parts.iter().filter(|part| part.level.is_some()).count()
+    block.reverse();
+    Ok(())
 }

@@ -1,8 +1,8 @@
 //! Writing a cube record that differs from an old one in what stands at one address.
 
-ghost use Rattle.std.specs.Prelude.{◌≡◌, ◌+◌, ◌*◌, ◌^◌, ◌<◌, ◌≤◌, ◌∷◌, ◌++◌, true, length, take, replicate, slice_index_or, if◌then◌else◌};
-ghost use Rattle.ph_specs.specs.Digits.{number_after, words_for, words_of};
-ghost use Rattle.ph_specs.specs.Layout.{IsRecord, AreRising, entries_as, values_as};
+ghost use Rattle.std.specs.Prelude.{◌≡◌, ◌+◌, ◌-◌, ◌*◌, ◌^◌, ◌<◌, ◌≤◌, ◌++◌, true, false, Some, length, map, take, replicate, slice_get, if◌then◌else◌};
+ghost use Rattle.ph_specs.specs.Digits.{number_after, words_for};
+ghost use Rattle.ph_specs.specs.Layout.{IsRecord, AreRising, entries_as, values_as, is_child};
 ghost use Rattle.ph_specs.specs.NodeSize.{points_in};
 ghost use Rattle.ph_specs.specs.Pack.{values, cube_digits, cube_table, record_in};
 ghost use Rattle.ph_specs.specs.Record.{first_in};
@@ -16,6 +16,7 @@ use crate::parts::children_before;
 use ph_bits::{Edit, Packed, Pen, Words};
 use ph_linear::{
     Column, Outline, children_in, count_in, drop_value, first_of, level_in, put_edited_values,
+    put_value,
 };
 
 /// Writes the record of the entries of an old record with one edit into the room of a block, whatever the block held before.
@@ -177,21 +178,57 @@ fn points_before(old: &[u64], dims: usize, i: usize, addr: u64) -> usize
 }
 
 /// Makes the entry at an address of a record a child, or gives a child another body, where the entry lies. The value of a point is
-/// taken out, and what else the record has stays. It takes no memory.
-pub fn put_child(words: &mut Words, dims: usize, edit: &Edit, addr: u32)
-    requires record { IsRecord true dims words.old.words }
-    requires edit { IsEditAt dims words.old.words edit.now addr }
+/// taken out, and what else the record has stays. Gives how many words the record has then: the one that is left over behind them
+/// has no meaning. It takes no memory.
+pub fn put_child(words: &mut [u64], dims: usize, edit: &Edit, addr: u32) -> usize
+    requires record { IsRecord true dims words.old }
+    requires edit { IsEditAt dims words.old edit.now addr }
     requires less { edit.now.less ≡ 1 }
     requires more { edit.now.more ≡ 1 }
     requires child { edit.now.entry.child ≡ true }
-    requires entries { AreRising dims (first_in words.old.words).level 0 (edited_as true dims words.old.words edit.now) }
-    ensures words { words.new.words ≡ record_in true dims (first_in words.old.words).level (edited_as true dims words.old.words edit.now) }
-    ensures places { IsSamePlaces words.old words.new }
+    requires entries { AreRising dims (first_in words.old).level 0 (edited_as true dims words.old edit.now) }
+    ensures words { take result words.new ≡ record_in true dims (first_in words.old).level (edited_as true dims words.old edit.now) }
+    ensures len { result ≡ length (record_in true dims (first_in words.old).level (edited_as true dims words.old edit.now)) }
+    ensures same { length words.new ≡ length words.old }
 {
-    let old = words.as_slice();
-    let outline = outline_of(old, dims, edit, addr);
-    put_columns(words.as_mut_slice(), dims, edit, addr);
-    drop_value(words, 1, outline);
+    let outline = put_table(words, dims, edit, addr);
+    drop_value(words, 1, outline)
+}
+
+/// Makes the child at an address of a record a point, where the entry lies. There is one word more behind the record, whatever it
+/// holds. The value is put in, and what else the record has stays. It takes no memory.
+pub fn put_point(words: &mut [u64], dims: usize, edit: &Edit, addr: u32)
+    requires some { 1 ≤ length words.old }
+    requires record { IsRecord true dims (take (length words.old - 1) words.old) }
+    requires edit { IsEditAt dims (take (length words.old - 1) words.old) edit.now addr }
+    requires was { slice_get (map is_child (entries_as true dims (take (length words.old - 1) words.old))) edit.now.place ≡ Some true }
+    requires less { edit.now.less ≡ 1 }
+    requires more { edit.now.more ≡ 1 }
+    requires point { edit.now.entry.child ≡ false }
+    requires entries { AreRising dims (first_in (take (length words.old - 1) words.old)).level 0
+        (edited_as true dims (take (length words.old - 1) words.old) edit.now) }
+    ensures { words.new
+        ≡ record_in true dims (first_in (take (length words.old - 1) words.old)).level
+        (edited_as true dims (take (length words.old - 1) words.old) edit.now) }
+{
+    let len = words.len() - 1;
+    let outline = put_table(&mut words[..len], dims, edit, addr);
+    put_value(words, 1, outline, edit.value);
+}
+
+// Puts the kind and the body. Gives what the end of the change has to know of the record before it.
+#[inline(always)]
+fn put_table(words: &mut [u64], dims: usize, edit: &Edit, addr: u32) -> Outline
+    requires record { IsRecord true dims words.old }
+    requires edit { IsEditAt dims words.old edit.now addr }
+    requires more { edit.now.more ≡ 1 }
+    requires entries { AreRising dims (first_in words.old).level 0 (edited_as true dims words.old edit.now) }
+    ensures outline { IsOutline true dims words.old edit.now result }
+    ensures words { words.new ≡ with_table true dims words.old edit.now }
+{
+    let outline = outline_of(words, dims, edit, addr);
+    put_columns(words, dims, edit, addr);
+    outline
 }
 
 // What the end of the change has to know of the record before it.
@@ -215,7 +252,6 @@ fn put_columns(words: &mut [u64], dims: usize, edit: &Edit, addr: u32)
     requires record { IsRecord true dims words.old }
     requires edit { IsEditAt dims words.old edit.now addr }
     requires more { edit.now.more ≡ 1 }
-    requires child { edit.now.entry.child ≡ true }
     requires entries { AreRising dims (first_in words.old).level 0 (edited_as true dims words.old edit.now) }
     ensures { words.new ≡ with_table true dims words.old edit.now }
 {
@@ -223,7 +259,7 @@ fn put_columns(words: &mut [u64], dims: usize, edit: &Edit, addr: u32)
     let bodies = bodies_of(words, dims);
     let level = level_in(words);
     let there = at_address(edit, addr);
-    kinds.put_field(words, &there, 2);
+    kinds.put_field(words, &there, new_kind(edit));
     bodies.put_row(words, &there, level, dims);
 }
 

@@ -4,10 +4,12 @@ use Rattle.ph_io.specs.Giving.{Taken, Given}
 use Rattle.ph_specs.specs.Command.{Command}
 use Rattle.ph_specs.specs.Reply.{Reply, replies_text}
 use Rattle.ph_specs.specs.declared.Kind.TheVariants.{Points}
+use Rattle.ph_specs.specs.Shape.{shape}
 use Rattle.ph_specs.specs.Table.{Row, has}
 use Rattle.ph_specs.specs.Sets.{put_all}
 use Rattle.ph_specs.specs.Past.{back}
 use Rattle.ph_specs.specs.Refusals.{import_rows, table_read}
+use Rattle.ph_tree.specs.Rooms.{spare_wanted_in}
 use Rattle.ph_import.specs.Imported.{with_some}
 use Rattle.ph_specs.specs.State.{Slot, Engine, Files, Outcome, outcome, past_in, with_past, current, other, with_slot}
 use Rattle.ph_specs.specs.Engine.{act}
@@ -135,7 +137,7 @@ MakesNodes s files command changes now_changes = (rows : List Row) → rows_load
 -- and what keeps nodes, rows or bytes in memory while it goes
 abbrev pub takes_memory : Slot → Command → Bool
 takes_memory s (Command.Put p v) = not (has s.table p) && nat_lt (length s.table) s.max
-takes_memory s (Command.Del p) = has s.table p
+takes_memory s (Command.Del p) = nat_lt 0 (spare_wanted_in s.width s.dims (shape s.width s.table) p)
 takes_memory s (Command.Relocate p q) = has s.table p && not (has s.table q)
 takes_memory s (Command.Near q n) = nat_lt 0 n
 takes_memory s (Command.Load name) = true

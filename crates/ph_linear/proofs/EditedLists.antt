@@ -56,7 +56,7 @@ digits-bodies dims level (e ∷ es) h =
     let b : digits_of (body_fields level e.body) ≡ dims * level = digits-body level e.body ∙ ap (λ t. t * level) h.0 in
     omega (arith, digits_of-append (body_fields level e.body) (bodies level (body_list es)), b, digits-bodies dims level es h.1)
 
-pub each-take : (P : Flat → Type 0) (n : ℕ) (xs : List Flat) → Each P xs → Each P (take n xs)
+pub each-take : {A : Type 0} (P : A → Type 0) (n : ℕ) (xs : List A) → Each P xs → Each P (take n xs)
 each-take P zero xs h = tt
 each-take P (suc n) [] h = tt
 each-take P (suc n) (x ∷ xs) h = (h.0, each-take P n xs h.1)

@@ -3,6 +3,7 @@ use Rattle.std.proofs.Common.{◌≡◌, ℕ, zero, suc, ◌+◌, ◌-◌, ◌*�
 use Rattle.std.specs.Prelude.{Some, None, if◌then◌else◌}
 use Rattle.std.specs.List.{AllByRecursion as Each}
 use Rattle.std.proofs.lemmas.List.{append_assoc, append-nil, map-append}
+use mir.Val.{bool_byte}
 use Rattle.ph_specs.specs.Digits.{Field, field, number_after, digits_of}
 use Rattle.ph_specs.specs.Lawful.{IsBody}
 use Rattle.ph_specs.specs.Layout.{IsRecord, entries_as, values_as, AreRising}
@@ -22,6 +23,10 @@ use Rattle.ph_linear.proofs.OldTables.{long-bodies}
 use Rattle.ph_linear.proofs.Segments.{column-number}
 
 -- ---- the new entry
+
+pub byte : (t : Bool) → bool_byte t ≡ (if t then 1 else 0)
+byte true = refl
+byte false = refl
 
 mark-new : (t : Bool) (v : ℕ) → child_mark (if t then None else Some v) ≡ (if t then 1 else 0)
 mark-new true v = refl

@@ -1,10 +1,10 @@
--- A record whose entry at a place became a child with another body, where the record lies: its table is made, and the value of a point goes.
-use Rattle.std.proofs.Common.{◌≡◌, ℕ, zero, suc, ◌+◌, ◌-◌, ◌^◌, ◌≤◌, ◌<◌, refl, sym, ◌∙◌, ap, subst, arith, List, [], ◌∷◌, ◌++◌, length, length-append, take, drop, replicate, slice_set, slice_index_or, Bool, true}
-use Rattle.std.specs.Prelude.{if◌then◌else◌}
-use Rattle.std.specs.List.{AllByRecursion as Each, refill}
-use Rattle.std.proofs.lemmas.List.{length-drop, length-take-le}
+-- A record whose entry at a place became a child or a point, where the record lies: its table is made, and a value goes or comes.
+use Rattle.std.proofs.Common.{◌≡◌, ℕ, zero, suc, ◌+◌, ◌-◌, ◌^◌, ◌≤◌, ◌<◌, refl, sym, ◌∙◌, ap, subst, arith, List, [], ◌∷◌, ◌++◌, length, length-append, map, take, drop, replicate, slice_set, slice_index_or, Bool, true, false}
+use Rattle.std.specs.Prelude.{Some, slice_get, if◌then◌else◌}
+use Rattle.std.specs.List.{AllByRecursion as Each}
+use Rattle.std.proofs.lemmas.List.{length-drop, length-take-le, take_at}
 use Rattle.ph_specs.specs.Digits.{words_for, words_of}
-use Rattle.ph_specs.specs.Layout.{IsRecord, entries_as, values_as, AreRising}
+use Rattle.ph_specs.specs.Layout.{IsRecord, entries_as, values_as, is_child, AreRising}
 use Rattle.ph_specs.specs.Node.{Flat}
 use Rattle.ph_specs.specs.NodeSize.{points_in}
 use Rattle.ph_specs.specs.Pack.{children, values, table, layout, first_word, cube_digits, linear_digits, record_in}
@@ -13,51 +13,64 @@ use Rattle.ph_specs.proofs.lemmas.LayoutTables.{children-few, table-digits}
 use Rattle.ph_specs.proofs.lemmas.Numbers.{length-words_of}
 use Rattle.ph_bits.specs.Edits.{edited_as}
 use Rattle.ph_bits.specs.declared.edits.Edit.{Edit}
-use Rattle.ph_linear.specs.Edited.{IsOutline, IsOutlined, with_table, values_left, value_dropped}
+use Rattle.ph_linear.specs.Edited.{IsOutline, IsOutlined, new_values, with_table, points_then, values_put, with_values}
 use Rattle.ph_linear.specs.declared.outlines.Outline.{Outline}
 use Rattle.ph_linear.proofs.EditedEntries.{length-new, values-put, points-within}
 use Rattle.ph_linear.proofs.Writing.{few}
 
--- what becomes of words that were lent, as many as there were
-pub lent : (old given new : List ℕ) (f : List ℕ → List ℕ) → given ≡ old → length new ≡ length given → new ≡ f given → refill (length old) old new ≡ f old
-lent old given new f same long e = front (length old) new (drop (length new) old) (long ∙ ap length same) ∙ e ∙ ap f same
-  where
-    front : (n : ℕ) (xs ys : List ℕ) → length xs ≡ n → take n (xs ++ ys) ≡ xs
-    front zero [] ys e = refl
-    front zero (x ∷ xs) ys e = absurd (omega (arith, e))
-    front (suc n) [] ys e = absurd (omega (arith, e))
-    front (suc n) (x ∷ xs) ys e = ap {B = List ℕ} (λ t. x ∷ t) (front n xs ys (omega (arith, e)))
-
 -- one entry more is a point or none
-points-one : (rs : List Read) (i : ℕ) → (points_in (take i rs) ≤ points_in (take (i + 1) rs)) × (points_in (take (i + 1) rs) ≤ points_in (take i rs) + 1)
-points-one rs i =
+points-more : (rs : List Read) (i : ℕ) → points_in (take i rs) ≤ points_in (take (i + 1) rs)
+points-more rs i =
     let e : suc i ≡ i + 1 = omega arith in
-    subst (λ t. (points_in (take i rs) ≤ points_in (take t rs)) × (points_in (take t rs) ≤ points_in (take i rs) + 1)) e (next rs i)
+    subst (λ t. points_in (take i rs) ≤ points_in (take t rs)) e (next rs i)
   where
-    next : (rs : List Read) (i : ℕ) → (points_in (take i rs) ≤ points_in (take (suc i) rs)) × (points_in (take (suc i) rs) ≤ points_in (take i rs) + 1)
-    next [] zero = (omega arith, omega arith)
-    next [] (suc i) = (omega arith, omega arith)
-    next (read_point a b ∷ rs) zero = (omega arith, omega arith)
-    next (read_child a b ∷ rs) zero = (omega arith, omega arith)
-    next (read_point a b ∷ rs) (suc i) = let h = next rs i in (omega (arith, h), omega (arith, h))
+    next : (rs : List Read) (i : ℕ) → points_in (take i rs) ≤ points_in (take (suc i) rs)
+    next [] zero = omega arith
+    next [] (suc i) = omega arith
+    next (read_point a b ∷ rs) zero = omega arith
+    next (read_child a b ∷ rs) zero = omega arith
+    next (read_point a b ∷ rs) (suc i) = omega (arith, next rs i)
     next (read_child a b ∷ rs) (suc i) = next rs i
 
--- how many are left of words without some
-length-cut : (a b : ℕ) (ws : List ℕ) → a ≤ length ws → length (take a ws ++ drop b ws) ≡ a + (length ws - b)
-length-cut a b ws l = omega (arith, length-append (take a ws) (drop b ws), length-take-le a ws l, length-drop b ws)
+-- none where it is a child
+pub points-child : (rs : List Read) (i : ℕ) → slice_get (map is_child rs) i ≡ Some true → (i < length rs) × (points_in (take (i + 1) rs) ≡ points_in (take i rs))
+points-child rs i h =
+    let e : suc i ≡ i + 1 = omega arith in
+    subst (λ t. (i < length rs) × (points_in (take t rs) ≡ points_in (take i rs))) e (next rs i h)
+  where
+    next : (rs : List Read) (i : ℕ) → slice_get (map is_child rs) i ≡ Some true → (i < length rs) × (points_in (take (suc i) rs) ≡ points_in (take i rs))
+    next [] zero h = absurd (cc)
+    next [] (suc i) h = absurd (cc)
+    next (read_point a b ∷ rs) zero h = absurd (cc)
+    next (read_child a b ∷ rs) zero h = (omega arith, refl)
+    next (read_point a b ∷ rs) (suc i) h = let k = next rs i h in (omega (arith, k), ap suc k.1)
+    next (read_child a b ∷ rs) (suc i) h = let k = next rs i h in (omega (arith, k), k.1)
 
--- words taken out behind others
-behind : (front vs : List ℕ) (f b : ℕ) → take (length front + f) (front ++ vs) ++ drop (length front + b) (front ++ vs) ≡ front ++ (take f vs ++ drop b vs)
-behind [] vs f b =
+-- how many words there are once some stand in place of others
+length-put : (a b : ℕ) (vs ws : List ℕ) → a ≤ length ws → length (take a ws ++ (vs ++ drop b ws)) ≡ a + (length vs + (length ws - b))
+length-put a b vs ws l =
+    omega (arith, length-append (take a ws) (vs ++ drop b ws), length-append vs (drop b ws), length-take-le a ws l, length-drop b ws)
+
+-- words put in place of others behind a front
+behind : (front new vs : List ℕ) (f b : ℕ) → take (length front + f) (front ++ vs) ++ (new ++ drop (length front + b) (front ++ vs)) ≡ front ++ (take f vs ++ (new ++ drop b vs))
+behind [] new vs f b =
     let y : 0 + f ≡ f = omega arith in
     let z : 0 + b ≡ b = omega arith in
-    ap (λ t. take t vs ++ drop (0 + b) vs) y ∙ ap (λ t. take f vs ++ drop t vs) z
-behind (x ∷ xs) vs f b =
+    ap (λ t. take t vs ++ (new ++ drop (0 + b) vs)) y ∙ ap (λ t. take f vs ++ (new ++ drop t vs)) z
+behind (x ∷ xs) new vs f b =
     let y : suc (length xs) + f ≡ suc (length xs + f) = omega arith in
     let z : suc (length xs) + b ≡ suc (length xs + b) = omega arith in
-    ap (λ t. take t (x ∷ xs ++ vs) ++ drop (suc (length xs) + b) (x ∷ xs ++ vs)) y
-    ∙ ap (λ t. take (suc (length xs + f)) (x ∷ xs ++ vs) ++ drop t (x ∷ xs ++ vs)) z
-    ∙ ap {B = List ℕ} (λ t. x ∷ t) (behind xs vs f b)
+    ap (λ t. take t (x ∷ xs ++ vs) ++ (new ++ drop (suc (length xs) + b) (x ∷ xs ++ vs))) y
+    ∙ ap (λ t. take (suc (length xs + f)) (x ∷ xs ++ vs) ++ (new ++ drop t (x ∷ xs ++ vs))) z
+    ∙ ap {B = List ℕ} (λ t. x ∷ t) (behind xs new vs f b)
+
+-- what all but the last of ws became, where these were lent and are new now
+abbrev pub part_lent : List ℕ → List ℕ → List ℕ
+part_lent new ws = take (length (new ++ drop (length ws - 1) ws) - 1) (new ++ drop (length ws - 1) ws)
+
+part-new : (new ws : List ℕ) → 1 ≤ length ws → length new ≡ length (take (length ws - 1) ws) → part_lent new ws ≡ new
+part-new new ws l e =
+    take_at new (drop (length ws - 1) ws) _ (omega (arith, l, e, length-take-le (length ws - 1) ws (omega arith), length-append new (drop (length ws - 1) ws), length-drop (length ws - 1) ws))
 
 -- a change of the record, of which the outline was known before
 module _ (cube : Bool) (dims : ℕ) (words : List ℕ) (e : Edit) (r : IsRecord cube dims words) (h : Each (λ x. x < 2 ^ 64) words) (l : e.place + e.less ≤ (first_in words).entries) (o : Outline) (k : IsOutline cube dims words e o) where
@@ -78,43 +91,58 @@ module _ (cube : Bool) (dims : ℕ) (words : List ℕ) (e : Edit) (r : IsRecord 
       ap suc (length-words_of (table cube dims (first_in words).level es) ∙ ap words_for (table-digits cube dims (first_in words).level 0 es up ∙ ap (λ t. if cube then cube_digits dims (first_in words).level else linear_digits dims (first_in words).level t) (many less more ∙ k.count)))
       ∙ omega (arith, k.values)
 
-  order : e.less ≡ 1 → (o.front ≤ o.until) × (o.until ≤ o.front + 1)
-  order less =
-      let p = points-one (entries_as cube dims words) e.place in
-      let q : o.until ≡ points_in (take (e.place + 1) (entries_as cube dims words)) = k.until ∙ ap (λ t. points_in (take (e.place + t) (entries_as cube dims words))) less in
-      (omega (arith, p, q, k.front), omega (arith, p, q, k.front))
+  one : e.less ≡ 1 → o.until ≡ points_in (take (e.place + 1) (entries_as cube dims words))
+  one less = k.until ∙ ap (λ t. points_in (take (e.place + t) (entries_as cube dims words))) less
 
-  left : AreRising dims (first_in words).level 0 (edited_as cube dims words e) → e.less ≡ 1 → e.more ≡ 1 → e.entry.child ≡ true → values_left o (with_table cube dims words e) ≡ front ++ values es
-  left up less more child =
-      let g = long-front up less more in
-      ap (λ t. take (t + o.front) (front ++ vs) ++ drop (t + o.until) (front ++ vs)) (sym g)
-      ∙ behind front vs o.front o.until
-      ∙ ap (λ t. front ++ (take o.front vs ++ ((if t then [] else replicate e.more e.value) ++ drop o.until vs))) (sym child)
+  order : e.less ≡ 1 → o.front ≤ o.until
+  order less = omega (arith, points-more (entries_as cube dims words) e.place, one less, k.front)
+
+  -- a child has no value
+  pub none : e.less ≡ 1 → slice_get (map is_child (entries_as cube dims words)) e.place ≡ Some true → o.until ≡ o.front
+  none less was = one less ∙ (points-child (entries_as cube dims words) e.place was).1 ∙ sym k.front
+
+  put : (new : List ℕ) → AreRising dims (first_in words).level 0 (edited_as cube dims words e) → e.less ≡ 1 → e.more ≡ 1 → new_values e ≡ new → values_put o new (with_table cube dims words e) ≡ front ++ values es
+  put new up less more n =
+      ap (λ t. take (t + o.front) (front ++ vs) ++ (new ++ drop (t + o.until) (front ++ vs))) (sym (long-front up less more))
+      ∙ behind front new vs o.front o.until
+      ∙ ap (λ t. front ++ (take o.front vs ++ (t ++ drop o.until vs))) (sym n)
       ∙ ap (λ t. front ++ t) (values-put cube dims words e r h l vs o.front o.until refl k.front k.until)
 
-  -- the words with the new table fit the outline, and without the value they are the new record
-  pub child-dropped : (ws : List ℕ) → AreRising dims (first_in words).level 0 (edited_as cube dims words e) → e.less ≡ 1 → e.more ≡ 1 → e.entry.child ≡ true → ws ≡ with_table cube dims words e
-      → IsOutlined o ws × (value_dropped (layout cube) o ws ≡ record_in cube dims (first_in words).level (edited_as cube dims words e))
-  child-dropped ws up less more child p =
+  -- the words with the new table fit the outline, and with the new values they are the new record
+  values-changed : (new ws : List ℕ) → AreRising dims (first_in words).level 0 (edited_as cube dims words e) → e.less ≡ 1 → e.more ≡ 1 → new_values e ≡ new → ws ≡ with_table cube dims words e
+      → IsOutlined o new ws × (with_values (layout cube) o new ws ≡ record_in cube dims (first_in words).level (edited_as cube dims words e))
+  values-changed new ws up less more n p =
       let g = long-front up less more in
       let m = many less more in
-      let q : values_left o ws ≡ front ++ values es = ap (values_left o) p ∙ left up less more child in
+      let q : values_put o new ws ≡ front ++ values es = ap (values_put o new) p ∙ put new up less more n in
       let f = children-few es in
-      let n : length ws ≡ length front + length vs = ap length p ∙ length-append front vs in
+      let long : length ws ≡ length front + length vs = ap length p ∙ length-append front vs in
       let w : o.until ≤ length vs = omega (arith, k.until, points-within cube dims words e r h l (e.place + e.less)) in
-      let long : length (values_left o ws) ≡ length front + length (values es) = ap length q ∙ length-append front (values es) in
-      let cut : length (values_left o ws) ≡ o.values + o.front + (length ws - (o.values + o.until)) = length-cut (o.values + o.front) (o.values + o.until) ws (omega (arith, n, g, w, (order less).0)) in
-      let kids : o.count - (length ws - o.values - (o.until - o.front)) ≡ children es = omega (arith, long, cut, g, f, m, (order less).0) in (
+      let all : length (values_put o new ws) ≡ length front + length (values es) = ap length q ∙ length-append front (values es) in
+      let sum : length (values_put o new ws) ≡ o.values + o.front + (length new + (length ws - (o.values + o.until))) = length-put (o.values + o.front) (o.values + o.until) new ws (omega (arith, long, g, w, order less)) in
+      let points : points_then o new ws ≡ length (values es) = omega (arith, all, sum, g) in
+      let kids : o.count - points_then o new ws ≡ children es = omega (arith, points, f, m) in (
         record {
-          order = (order less).0;
-          one = (order less).1;
+          order = order less;
           first = omega (arith, k.values);
-          within = omega (arith, n, g, w);
-          points = omega (arith, long, cut, g, f, m, (order less).0);
+          within = omega (arith, long, g, w);
+          points = omega (arith, points, f, m);
           few = omega (arith, m, few dims (first_in words).level es r.few up);
           low = omega (arith, k.level, r.low);
         },
-        ap (λ t. slice_set t 0 (first_word o.level (layout cube) o.count (o.count - (length ws - o.values - (o.until - o.front))))) q
+        ap (λ t. slice_set t 0 (first_word o.level (layout cube) o.count (o.count - points_then o new ws))) q
             ∙ ap {B = List ℕ} (λ t. t ∷ words_of (table cube dims (first_in words).level es) ++ values es)
             (ap (first_word o.level (layout cube) o.count) kids ∙ ap (λ t. first_word o.level (layout cube) t (children es)) (sym m) ∙ ap (λ t. first_word t (layout cube) (length es) (children es)) k.level),
       )
+
+  pub child-changed : (ws : List ℕ) → AreRising dims (first_in words).level 0 (edited_as cube dims words e) → e.less ≡ 1 → e.more ≡ 1 → e.entry.child ≡ true → ws ≡ with_table cube dims words e
+      → IsOutlined o [] ws × (with_values (layout cube) o [] ws ≡ record_in cube dims (first_in words).level (edited_as cube dims words e))
+  child-changed ws up less more child p =
+      values-changed [] ws up less more (ap (λ t. if t then [] else replicate e.more e.value) child) p
+
+  -- the same where the words are all but the last of those that there are
+  pub point-changed : (new ws : List ℕ) → AreRising dims (first_in words).level 0 (edited_as cube dims words e) → e.less ≡ 1 → e.more ≡ 1 → e.entry.child ≡ false → 1 ≤ length ws → length new ≡ length (take (length ws - 1) ws) → new ≡ with_table cube dims words e
+      → IsOutlined o (e.value ∷ []) (part_lent new ws) × (with_values (layout cube) o (e.value ∷ []) (part_lent new ws) ≡ record_in cube dims (first_in words).level (edited_as cube dims words e))
+  point-changed new ws up less more point some long p =
+      let one : new_values e ≡ e.value ∷ [] = ap (λ t. if t then [] else replicate e.more e.value) point ∙ ap (λ t. replicate t e.value) more in
+      values-changed (e.value ∷ []) (part_lent new ws) up less more one (part-new new ws some long ∙ p)

@@ -41,7 +41,7 @@ new_values e = if e.entry.child then [] else replicate e.more e.value
 
 -- ---- where the record lies
 
--- what is known of a record before an entry of it becomes a child
+-- what is known of a record before an entry of it becomes a child or a point
 pub record IsOutline (cube : Bool) (dims : ℕ) (words : List ℕ) (e : Edit) (o : Outline) : Type 0 where
   pub level : o.level ≡ (first_in words).level
   pub count : o.count ≡ (first_in words).entries
@@ -54,21 +54,23 @@ abbrev pub with_table : Bool → ℕ → List ℕ → Edit → List ℕ
 with_table cube dims words e =
     slice_index_or words 0 0 ∷ words_of (table cube dims (first_in words).level (edited_as cube dims words e)) ++ values_as cube dims words
 
--- words without which the value between front and until, if there is one, leaves no more values than entries
-pub record IsOutlined (o : Outline) (words : List ℕ) : Type 0 where
+-- how many values there are once vs stand in place of those between front and until
+abbrev pub points_then : Outline → List ℕ → List ℕ → ℕ
+points_then o vs words = o.front + length vs + (length words - (o.values + o.until))
+
+-- words in which vs can stand there, with no more values than entries
+pub record IsOutlined (o : Outline) (vs words : List ℕ) : Type 0 where
   pub order : o.front ≤ o.until
-  pub one : o.until ≤ o.front + 1
   pub first : 1 ≤ o.values
   pub within : o.values + o.until ≤ length words
-  pub points : length words - o.values - (o.until - o.front) ≤ o.count
+  pub points : points_then o vs words ≤ o.count
   pub few : o.count ≤ 2 ^ 16
   pub low : o.level ≤ 61
 
--- what is left of them then,
-abbrev pub values_left : Outline → List ℕ → List ℕ
-values_left o words = take (o.values + o.front) words ++ drop (o.values + o.until) words
+-- the words then,
+abbrev pub values_put : Outline → List ℕ → List ℕ → List ℕ
+values_put o vs words = take (o.values + o.front) words ++ (vs ++ drop (o.values + o.until) words)
 
 -- and the same with the first word that counts the values
-abbrev pub value_dropped : ℕ → Outline → List ℕ → List ℕ
-value_dropped layout o words =
-    slice_set (values_left o words) 0 (first_word o.level layout o.count (o.count - (length words - o.values - (o.until - o.front))))
+abbrev pub with_values : ℕ → Outline → List ℕ → List ℕ → List ℕ
+with_values layout o vs words = slice_set (values_put o vs words) 0 (first_word o.level layout o.count (o.count - points_then o vs words))

@@ -1,8 +1,8 @@
 //! Writing a linear record that differs from an old one in one entry.
 
-ghost use Rattle.std.specs.Prelude.{◌≡◌, ◌+◌, ◌-◌, ◌*◌, ◌^◌, ◌<◌, ◌≤◌, ◌∷◌, ◌++◌, true, false, Some, length, map, take, drop, replicate, slice_get, slice_index_or};
-ghost use Rattle.ph_specs.specs.Digits.{number_after, words_for, words_of};
-ghost use Rattle.ph_specs.specs.Layout.{IsRecord, AreRising, entries_as, values_as, read_address};
+ghost use Rattle.std.specs.Prelude.{◌≡◌, ◌+◌, ◌-◌, ◌*◌, ◌^◌, ◌<◌, ◌≤◌, ◌++◌, true, false, Some, length, map, take, drop, slice_get};
+ghost use Rattle.ph_specs.specs.Digits.{number_after, words_for};
+ghost use Rattle.ph_specs.specs.Layout.{IsRecord, AreRising, entries_as, values_as, read_address, is_child};
 ghost use Rattle.ph_specs.specs.NodeSize.{points_in};
 ghost use Rattle.ph_specs.specs.Pack.{values, linear_digits, linear_table, record_in};
 ghost use Rattle.ph_specs.specs.Record.{first_in};
@@ -13,7 +13,7 @@ ghost use Rattle.ph_linear.specs.Edited.{IsColumn, IsOutline, new_values, with_t
 
 use crate::copies::Column;
 use crate::heads::{children_in, count_in, first_of, level_in};
-use crate::outlines::{Outline, drop_value};
+use crate::outlines::{Outline, drop_value, put_value};
 use ph_bits::{Edit, Pen, Words, ones_before};
 
 /// Writes the record of the entries of an old record with one edit into the room of a block, whatever the block held before.
@@ -183,22 +183,61 @@ fn points_before(old: &[u64], dims: usize, i: usize) -> usize
 }
 
 /// Makes an entry of a record a child, or gives a child another body, where the entry lies. It keeps its address. The value of a
-/// point is taken out, and what else the record has stays. It takes no memory.
-pub fn put_child(words: &mut Words, dims: usize, edit: &Edit)
-    requires record { IsRecord false dims words.old.words }
-    requires within { edit.now.place < (first_in words.old.words).entries }
+/// point is taken out, and what else the record has stays. Gives how many words the record has then: the one that is left over
+/// behind them has no meaning. It takes no memory.
+pub fn put_child(words: &mut [u64], dims: usize, edit: &Edit) -> usize
+    requires record { IsRecord false dims words.old }
+    requires within { edit.now.place < (first_in words.old).entries }
     requires less { edit.now.less ≡ 1 }
     requires more { edit.now.more ≡ 1 }
     requires child { edit.now.entry.child ≡ true }
-    requires address { slice_get (map read_address (entries_as false dims words.old.words)) edit.now.place ≡ Some edit.now.entry.addr }
-    requires entries { AreRising dims (first_in words.old.words).level 0 (edited_as false dims words.old.words edit.now) }
-    ensures words { words.new.words ≡ record_in false dims (first_in words.old.words).level (edited_as false dims words.old.words edit.now) }
-    ensures places { IsSamePlaces words.old words.new }
+    requires address { slice_get (map read_address (entries_as false dims words.old)) edit.now.place ≡ Some edit.now.entry.addr }
+    requires entries { AreRising dims (first_in words.old).level 0 (edited_as false dims words.old edit.now) }
+    ensures words { take result words.new ≡ record_in false dims (first_in words.old).level (edited_as false dims words.old edit.now) }
+    ensures len { result ≡ length (record_in false dims (first_in words.old).level (edited_as false dims words.old edit.now)) }
+    ensures same { length words.new ≡ length words.old }
 {
-    let old = words.as_slice();
-    let outline = outline_of(old, dims, edit);
-    put_columns(words.as_mut_slice(), dims, edit);
-    drop_value(words, 0, outline);
+    let outline = put_table(words, dims, edit);
+    drop_value(words, 0, outline)
+}
+
+/// Makes a child of a record a point, where the entry lies. It keeps its address. There is one word more behind the record,
+/// whatever it holds. The value is put in, and what else the record has stays. It takes no memory.
+pub fn put_point(words: &mut [u64], dims: usize, edit: &Edit)
+    requires some { 1 ≤ length words.old }
+    requires record { IsRecord false dims (take (length words.old - 1) words.old) }
+    requires was { slice_get (map is_child (entries_as false dims (take (length words.old - 1) words.old))) edit.now.place ≡ Some true }
+    requires less { edit.now.less ≡ 1 }
+    requires more { edit.now.more ≡ 1 }
+    requires point { edit.now.entry.child ≡ false }
+    requires address { slice_get (map read_address (entries_as false dims (take (length words.old - 1) words.old))) edit.now.place
+        ≡ Some edit.now.entry.addr }
+    requires entries { AreRising dims (first_in (take (length words.old - 1) words.old)).level 0
+        (edited_as false dims (take (length words.old - 1) words.old) edit.now) }
+    ensures { words.new
+        ≡ record_in false dims (first_in (take (length words.old - 1) words.old)).level
+        (edited_as false dims (take (length words.old - 1) words.old) edit.now) }
+{
+    let len = words.len() - 1;
+    let outline = put_table(&mut words[..len], dims, edit);
+    put_value(words, 0, outline, edit.value);
+}
+
+// Puts the kind and the body. Gives what the end of the change has to know of the record before it.
+#[inline(always)]
+fn put_table(words: &mut [u64], dims: usize, edit: &Edit) -> Outline
+    requires record { IsRecord false dims words.old }
+    requires within { edit.now.place < (first_in words.old).entries }
+    requires less { edit.now.less ≡ 1 }
+    requires more { edit.now.more ≡ 1 }
+    requires address { slice_get (map read_address (entries_as false dims words.old)) edit.now.place ≡ Some edit.now.entry.addr }
+    requires entries { AreRising dims (first_in words.old).level 0 (edited_as false dims words.old edit.now) }
+    ensures outline { IsOutline false dims words.old edit.now result }
+    ensures words { words.new ≡ with_table false dims words.old edit.now }
+{
+    let outline = outline_of(words, dims, edit);
+    put_columns(words, dims, edit);
+    outline
 }
 
 // What the end of the change has to know of the record before it.
@@ -223,7 +262,6 @@ fn put_columns(words: &mut [u64], dims: usize, edit: &Edit)
     requires within { edit.now.place < (first_in words.old).entries }
     requires less { edit.now.less ≡ 1 }
     requires more { edit.now.more ≡ 1 }
-    requires child { edit.now.entry.child ≡ true }
     requires address { slice_get (map read_address (entries_as false dims words.old)) edit.now.place ≡ Some edit.now.entry.addr }
     requires entries { AreRising dims (first_in words.old).level 0 (edited_as false dims words.old edit.now) }
     ensures { words.new ≡ with_table false dims words.old edit.now }
@@ -231,7 +269,7 @@ fn put_columns(words: &mut [u64], dims: usize, edit: &Edit)
     let kinds = kinds_of(words, dims);
     let bodies = bodies_of(words, dims);
     let level = level_in(words);
-    kinds.put_field(words, edit, 1);
+    kinds.put_field(words, edit, edit.entry.child as u64);
     bodies.put_row(words, edit, level, dims);
 }
 

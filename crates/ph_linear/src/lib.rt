@@ -20,13 +20,13 @@ pub use fixed::{
     address, bits_of, entry, find, find_entry, is_child, next_at_or_after, rank, write,
 };
 pub use heads::{children_in, count_in, first_of, level_in};
-pub use outlines::{Outline, drop_value};
+pub use outlines::{Outline, drop_value, put_value};
 pub use writes::put_values;
 
 /// The calls by a number of dimensions that is handed in. All are inlined, so that it is a constant again where the caller
 /// knows it.
 pub mod by_dims {
-    pub use crate::edits::{put_child, write_edited};
+    pub use crate::edits::{put_child, put_point, write_edited};
     pub use crate::parts::rank_of;
     pub use crate::reads::{address, bits_of, body_at, entry, find_entry, is_child, rank};
     pub use crate::searches::{find, next_at_or_after, search};

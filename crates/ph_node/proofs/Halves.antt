@@ -1,15 +1,17 @@
 -- A node with an entry split.
-use Rattle.std.proofs.Common.{◌≡◌, ◌≢◌, ℕ, ◌+◌, ◌<◌, ◌≤◌, List, [], ◌∷◌, ◌++◌, take, drop, length, map, refl, ap, sym, ◌∙◌, subst, arith, Bool, true, false}
+use Rattle.std.proofs.Common.{◌≡◌, ◌≢◌, ℕ, ◌+◌, ◌-◌, ◌<◌, ◌≤◌, List, [], ◌∷◌, ◌++◌, take, drop, length, map, refl, ap, sym, ◌∙◌, subst, arith, Bool, true, false}
 use Rattle.std.specs.List.{insert, remove}
 use Rattle.std.specs.Prelude.{Some, None, nat_lt, if◌then◌else◌}
 use Rattle.ph_digits.specs.Differences.{IsTopDifference}
 use Rattle.ph_digits.proofs.Cuts.{is_body-above, other_address, take-above}
 use Rattle.ph_specs.specs.EntryEdits.{what_at, inserted, split_at}
+use Rattle.ph_specs.specs.Digits.{words_for}
 use Rattle.ph_specs.specs.Lawful.{IsBody}
-use Rattle.ph_specs.specs.Node.{Entry, What, value, node, PlainNode, entries, node_of}
+use Rattle.ph_specs.specs.Pack.{record_of}
+use Rattle.ph_specs.specs.Node.{Entry, What, value, node, PlainNode, entries, node_of, Flat}
 use Rattle.ph_specs.specs.PutTree.{body_address, body_below, body_above}
 use Rattle.ph_specs.proofs.laws.EntryLists.{listed-chained}
-use Rattle.ph_bits.specs.Edits.{edited}
+use Rattle.ph_bits.specs.Edits.{edited, least_digits, words_wanted}
 use Rattle.ph_node.specs.Bodies.{IsBodyArray}
 use Rattle.ph_node.specs.Merge.{addr_at}
 use Rattle.ph_node.specs.OneEdit.{value_of, ones_of, held_nodes, nodes_held, flat_of, flats_of, before, held_by, IsOldEntry}
@@ -19,9 +21,13 @@ use Rattle.ph_node.specs.declared.node.SlotOf.{SlotOf}
 use Rattle.ph_node.specs.Split.{IsBelow, body_at, entry_below, part_place, split_node}
 use Rattle.ph_node.specs.declared.olds.OldEntry.{OldEntry}
 use Rattle.ph_node.proofs.Contents.{changed, split-content, front_fits, own_nodes}
+use Rattle.ph_node.proofs.Lengths.{record-long}
 use Rattle.ph_node.proofs.Keeps.{kept-body}
 use Rattle.ph_node.proofs.Listings.{length-nodes}
-use Rattle.ph_node.proofs.Lists.{Renewed}
+use Rattle.ph_node.proofs.Lists.{Renewed, rise_new, points_new, held-length}
+use Rattle.ph_node.proofs.NodeEdits.{length-changed}
+use Rattle.ph_node.proofs.PairLists.{length-order}
+use Rattle.ph_node.proofs.Spliced.{length-edited}
 use Rattle.ph_node.proofs.Slotted.{nodes-put, nodes-taken, place-left}
 use Rattle.ph_node.proofs.OldNodes.{IsOld}
 use Rattle.ph_node.proofs.Parts.{AreApart, apart, apart-place, child-kept}
@@ -82,6 +88,16 @@ module _ (d : ℕ) (ws : List ℕ) (ns : List PlainNode) (t : PlainNode) (o : Is
       bottom = no-children (what_at (entries t) i) place (subst (λ k. IsBelow k (what_at (entries t) i)) part_there above);
     }
 
+    -- the room behind the record of the pair
+    pub child_room : IsBelow (part_place t i (take d body)) (what_at (entries t) i) → (room : ℕ)
+        → words_wanted d place 2 (2 - (if old.child then 1 else 0)) + (if old.child then 1 else 0) ≤ room → length (record_of d place (pair_flats d place old body v)) + (if old.child then 1 else 0) ≤ room
+    child_room above room h =
+        let fs : List Flat = pair_flats d place old body v in
+        let n : length fs ≡ 2 = length-order place (take d old.body) (take d body) (held_by old) (Some v) in
+        let a = record-long d place fs (rise_new d place fs _ _ (child_new above)) in
+        let e : words_for (least_digits d place (length fs)) ≡ words_for (least_digits d place 2) = ap (λ k. words_for (least_digits d place k)) n in
+        omega (arith, a, e, n, points_new d place fs _ _ (child_new above), held-length (what_at (entries t) i), r.kind, h)
+
     pub parent_new : (shared : List ℕ) → shared ≡ body_above place body → Renewed d t.level (edited i 1 1 (record { addr = old.addr; body = take d shared; value = None }) (flats_of t))
         (edited (before (entries t) i) (ones_of (what_at (entries t) i)) 1 (node_of place (pair_entries place (body_at (entries t) i) (what_at (entries t) i) (take d body) v)) ns)
         (entries (split_node t i place (take d body) v))
@@ -94,6 +110,14 @@ module _ (d : ℕ) (ws : List ℕ) (ns : List PlainNode) (t : PlainNode) (o : Is
         (sym (listed-chained (split_at (entries t) i place (body_above place (take d body)) (body_address place (body_at (entries t) i)) (body_below place (body_at (entries t) i)) (entry_below place (take d body) (value v)))
         ∙ split-content (entries t) i place (body_above place (take d body)) (body_address place (body_at (entries t) i)) (body_below place (body_at (entries t) i)) (entry_below place (take d body) (value v))))
         (changed d ws ns t o i l (body_above place (take d body)) (node below) (is_body-above d t.level place (take d body) b.fields) (omega (arith, two.lower)))))
+
+    -- the record of the node is shorter by a word where the entry was a point
+    pub parent_long : (shared : List ℕ) → shared ≡ body_above place body → length (record_of d t.level (edited i 1 1 (record { addr = old.addr; body = take d shared; value = None }) (flats_of t))) + 1 ≡ length ws + (if old.child then 1 else 0)
+    parent_long shared s =
+        let below : PlainNode = node_of place (pair_entries place (body_at (entries t) i) (what_at (entries t) i) (take d body) v) in
+        let a = length-changed d ws ns t o i _ _ _ l (parent_new shared s) in
+        let b = length-edited (before (entries t) i) (ones_of (what_at (entries t) i)) 1 below ns (front_fits d ws ns t o i l) in
+        omega (arith, a, b, r.kind)
 
 -- ---- the children
 

@@ -22,6 +22,3 @@ module _ (dims level : ℕ) (es : List Flat) (some : 1 ≤ dims) (few : dims ≤
     tables = subst (λ t. IsRecord t dims (record_of dims level es)) (sym cube-told) made-record.is_record;
     told = ap (λ t. t.layout) made-record.first_is ∙ ap layout (sym cube-told);
   }
-
-  pub record-children : (first_in (record_of dims level es)).children ≡ children es
-  record-children = ap (λ t. t.children) made-record.first_is

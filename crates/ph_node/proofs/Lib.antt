@@ -1,6 +1,8 @@
 -- Lemmas on nodes.
 pub mod Filled
+pub mod Lengths
 pub mod Merges
+pub mod Turned
 mod Additions
 mod Addressed
 mod Assembled
@@ -17,6 +19,7 @@ mod Lifts
 mod Listings
 mod Lists
 mod Made
+mod NodeEdits
 mod OldEdits
 mod OldNodes
 mod PairLists

@@ -1,16 +1,15 @@
 -- A node with a child of two entries replaced by one of them.
-use Rattle.std.proofs.Common.{◌≡◌, ℕ, zero, suc, ◌+◌, ◌-◌, ◌<◌, ◌≤◌, List, [], ◌∷◌, ◌++◌, take, drop, length, refl, ap, sym, ◌∙◌, subst, arith, Bool, true, get_or}
+use Rattle.std.proofs.Common.{◌≡◌, ℕ, zero, suc, ◌+◌, ◌-◌, ◌<◌, List, [], ◌∷◌, ◌++◌, take, drop, length, refl, ap, sym, ◌∙◌, subst, arith, Bool, true, get_or}
 use Rattle.std.specs.Prelude.{Option, if◌then◌else◌}
-use Rattle.std.proofs.lemmas.List.{length-map}
 use Rattle.ph_specs.specs.EntryEdits.{what_at, other_what, with_content, merged}
 use Rattle.ph_specs.specs.Lawful.{IsBody, HasZerosFrom, put_together}
 use Rattle.ph_specs.specs.Node.{Entry, What, value, node, PlainNode, entries, Flat}
-use Rattle.ph_specs.specs.Pack.{values}
+use Rattle.ph_specs.specs.Pack.{record_of}
 use Rattle.ph_specs.specs.PutTree.{body_above}
 use Rattle.ph_specs.proofs.laws.EntryLists.{listed-chained}
-use Rattle.ph_bits.specs.Edits.{edited, words_wanted}
+use Rattle.ph_bits.specs.Edits.{edited}
 use Rattle.ph_node.specs.Merge.{IsPair, level_held, entries_held, addr_at, body_beside, merge_node}
-use Rattle.ph_node.specs.OneEdit.{value_of, ones_of, held_nodes, nodes_held, node_at, flat_of, flats_of, before, held_by, IsOldEntry}
+use Rattle.ph_node.specs.OneEdit.{value_of, ones_of, held_nodes, nodes_held, node_at, flats_of, before, held_by, IsOldEntry}
 use Rattle.ph_node.specs.Slots.{nodes_of}
 use Rattle.ph_node.specs.Split.{IsNode, IsValue, body_at}
 use Rattle.ph_node.specs.declared.node.SlotOf.{SlotOf}
@@ -18,8 +17,9 @@ use Rattle.ph_node.specs.declared.olds.OldEntry.{OldEntry}
 use Rattle.ph_node.proofs.Contents.{changed, merged-content, node_in, front_fits}
 use Rattle.ph_node.proofs.Lent.{lent-is}
 use Rattle.ph_node.proofs.Listings.{length-nodes, get-nodes}
-use Rattle.ph_node.proofs.Lists.{Renewed, points_new}
+use Rattle.ph_node.proofs.Lists.{Renewed, held-length}
 use Rattle.ph_bits.specs.Packed.{IsPadded}
+use Rattle.ph_node.proofs.NodeEdits.{length-changed}
 use Rattle.ph_node.proofs.Merges.{body-joined, joined, IsJoined}
 use Rattle.ph_node.proofs.OldNodes.{IsOld, node-one}
 use Rattle.ph_node.proofs.Slotted.{at-slot}
@@ -42,10 +42,6 @@ other-nodes (e ∷ f ∷ []) zero l h v = ap (λ u. u ++ (held_nodes f.what ++ [
 other-nodes (e ∷ f ∷ []) (suc zero) l h v = ap (λ u. held_nodes e.what ++ (u ++ [])) (none-held f.what v) ∙ alone e.what
 other-nodes (e ∷ f ∷ []) (suc (suc j)) l h v = absurd (omega (arith, h))
 other-nodes (e ∷ f ∷ x ∷ es) j l h v = absurd (omega (arith, l))
-
-held-length : (w : What) → length (held_nodes w) ≡ ones_of w
-held-length (value v) = refl
-held-length (node n) = refl
 
 held-first : (w : What) → node_at (held_nodes w) 0 ≡ node_in w
 held-first (value v) = refl
@@ -147,13 +143,11 @@ module _ (t : PlainNode) (i j : ℕ) (p : IsPair t.level (body_at (entries t) i)
           (ap (λ u. with_content (entries t) i u w) beside ∙ sym (merged-content (entries t) i j b) ∙ sym (listed-chained (merged (entries t) i j b)))
           (changed d ws ns t o i l (take d body) w whole (omega (arith, child_low))))
 
-      pub room_merged : (have room : ℕ) → have ≡ words_wanted d t.level (length (entries t)) (length (entries t) - length ns) → have + 1 ≤ room
-          → words_wanted d t.level (length (edited i 1 1 (record { addr = old.addr; body = take d (known ++ drop n old.body); value = held_by other }) (flats_of t))) (length (values (edited i 1 1 (record { addr = old.addr; body = take d (known ++ drop n old.body); value = held_by other }) (flats_of t)))) ≤ room
-      room_merged have room y z =
+      -- the record of the node is longer by a word where it is a point
+      pub merged_long : length (record_of d t.level (edited i 1 1 (record { addr = old.addr; body = take d (known ++ drop n old.body); value = held_by other }) (flats_of t))) + (if other.child then 1 else 0) ≡ length ws + 1
+      merged_long =
           let w : What = other_what (what_at (entries t) i) j in
-          let fs : List Flat = edited i 1 1 (record { addr = old.addr; body = take d body; value = held_by other }) (flats_of t) in
-          let a : length fs ≡ length (entries t) = omega (arith, length-edited i 1 1 (record { addr = old.addr; body = take d body; value = held_by other }) (flats_of t) (omega (arith, l, length-map (entries t) flat_of)), length-map (entries t) flat_of) in
-          let c = length-edited (before (entries t) i) (ones_of (what_at (entries t) i)) (ones_of w) (node_in w) ns (front_fits d ws ns t o i l) in
-          let v : length (values fs) ≤ length (entries t) - length ns + 1 = omega (arith, a, c, points_new _ _ _ _ _ merged_new, node-one (what_at (entries t) i) (pair-node (what_at (entries t) i) p.two)) in
-          let s : words_wanted d t.level (length fs) (length (values fs)) ≡ words_wanted d t.level (length (entries t)) (length (values fs)) = ap (λ m. words_wanted d t.level m (length (values fs))) a in
-          omega (arith, s, y, z, v)
+          let a = length-changed d ws ns t o i _ _ _ l merged_new in
+          let b = length-edited (before (entries t) i) (ones_of (what_at (entries t) i)) (ones_of w) (node_in w) ns (front_fits d ws ns t o i l) in
+          let c : ones_of w ≡ (if other.child then 1 else 0) = ap ones_of same-what ∙ q.kind in
+          omega (arith, a, b, c, node-one (what_at (entries t) i) (pair-node (what_at (entries t) i) p.two))

@@ -45,6 +45,10 @@ child-or-none : (w : What) (fs : List Flat) (a : ℕ) (b : List ℕ) (ns : List 
 child-or-none (value v) fs a b ns h = omega (arith, h)
 child-or-none (node n) fs a b ns h = omega (arith, h)
 
+pub held-length : (w : What) → length (held_nodes w) ≡ ones_of w
+held-length (value v) = refl
+held-length (node n) = refl
+
 children-nodes : (es : List Entry) → children (map flat_of es) ≡ length (nodes_held es)
 children-nodes [] = refl
 children-nodes (e ∷ es) = child-or-none e.what (map flat_of es) e.addr e.body (nodes_held es) (children-nodes es)

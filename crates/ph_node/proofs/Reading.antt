@@ -86,6 +86,10 @@ module _ (d e : ℕ) (ws us : List ℕ) (ns : List PlainNode) (t : PlainNode) (i
     address-is =
         ap (λ rs. slice_get (map read_address rs) i) same ∙ slice_get-map read_address (entries_in d ws) i ∙ ap (option_map read_address) is-here ∙ ap Some (sym addr-here)
 
+    -- whether it is a child
+    pub kind-here : slice_get (map is_child (entries_in e us)) i ≡ Some (is_child (get_or (entries_in d ws) i no_read))
+    kind-here = ap (λ rs. slice_get (map is_child rs) i) same ∙ slice_get-map is_child (entries_in d ws) i ∙ ap (option_map is_child) is-here
+
     pub address-told : (a : ℕ) → slice_get (map read_address (entries_in e us)) i ≡ Some a → a ≡ addr_at (entries t) i
     address-told a h = ap (λ o. unwrap_or o 0) (sym h ∙ address-is)
 

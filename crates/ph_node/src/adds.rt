@@ -7,6 +7,7 @@ ghost use Rattle.ph_node.specs.Bodies.{IsBodyArray};
 ghost use Rattle.ph_node.specs.Places.{place_for};
 
 use crate::NoMemory;
+use crate::moves::move_into;
 use crate::node::NodeOf;
 use ph_bits::{Edit, Packed};
 use ph_coord::Dims;
@@ -15,6 +16,8 @@ use std::sync::ledger::Ledger;
 
 impl<P: Dims> NodeOf<P> {
     /// Adds a point entry at an address that no entry has, in the place that [`NodeRefOf::search`] gives for it.
+    ///
+    /// Takes memory for the node's new block, before the first change. Without it nothing has changed. The old block is given back.
     pub fn add<C: Ledger>(
         &mut self,
         i: usize,
@@ -45,9 +48,9 @@ impl<P: Dims> NodeOf<P> {
             entry,
             value: v,
         };
-        let words = self.edited(&edit, self.children.len())?;
+        let words = self.edited(&edit, self.block.count())?;
         changes.tick();
-        self.words = words;
+        move_into(&mut self.block, words);
         Ok(())
     }
 }

@@ -6,30 +6,25 @@ ghost use Rattle.ph_node.specs.Recorded.{IsLaidOut};
 ghost use Rattle.ph_node.specs.Slots.{nodes_of};
 
 use crate::node::{NodeOf, SlotOf};
-use ph_bits::{Words, are_words};
+use ph_bits::{Block, are_words};
 use ph_coord::Dims;
 use ph_steps::Steps;
 use std::marker::PhantomData;
 use std::sync::ledger::Ledger;
 
 impl<P: Dims> NodeOf<P> {
-    /// Makes the node of a record in the smaller layout, and of as many children as it has child entries, in the order of
-    /// their addresses. Takes no memory.
-    pub fn assemble<C: Ledger>(
-        words: Words,
-        children: Vec<SlotOf<P>>,
-        changes: &mut Steps<C>,
-    ) -> NodeOf<P>
-        requires record { IsLaidOut P.D words.words }
-        requires children { length children.items ≡ (first_in words.words).children }
-        ensures node { result ≡ unpacked P.D words.words (nodes_of children.items) }
+    /// Makes the node of a block with a record in the smaller layout, and with as many children as that has child entries, in the
+    /// order of their addresses. Takes no memory.
+    pub fn assemble<C: Ledger>(block: Block<SlotOf<P>>, changes: &mut Steps<C>) -> NodeOf<P>
+        requires record { IsLaidOut P.D block.words }
+        requires children { length block.values ≡ (first_in block.words).children }
+        ensures node { result ≡ unpacked P.D block.words (nodes_of block.values) }
         ensures cost { changes.new ≡ changes.old + 1 }
     {
-        are_words(words.as_slice());
+        are_words(block.words());
         changes.tick();
         NodeOf {
-            words,
-            children,
+            block,
             dims: PhantomData,
         }
     }

@@ -1,46 +1,53 @@
-//! A node of given entries and children.
+//! A block of given entries, for a node of them.
 
-ghost use Rattle.std.specs.Prelude.{◌≡◌, ◌+◌, ◌≤◌, length, IfOk, OnErr, OnOk};
+ghost use Rattle.std.specs.Prelude.{◌≡◌, ◌≤◌, [], length, IfOk};
 ghost use Rattle.ph_specs.specs.Layout.{AreRising};
 ghost use Rattle.ph_specs.specs.Pack.{children as children_of, record_of};
-ghost use Rattle.ph_specs.specs.Record.{unpacked};
-ghost use Rattle.ph_node.specs.Slots.{nodes_of};
+ghost use Rattle.ph_specs.specs.Record.{first_in};
+ghost use Rattle.ph_node.specs.Recorded.{IsLaidOut};
 
 use crate::node::{NodeOf, SlotOf};
 use crate::{NoMemory, records};
-use ph_bits::Entries;
+use ph_bits::{Block, Entries};
 use ph_coord::Dims;
-use ph_steps::Steps;
 use std::alloc::Global;
-use std::sync::ledger::Ledger;
 
 impl<P: Dims> NodeOf<P> {
-    /// Makes the node of some entries at a level, and of as many children as there are child entries, in the order of
-    /// their addresses. A node at level 0 has no children.
+    /// Makes the block of the record of some entries at a level, without children, and with room for as many as there are child
+    /// entries. [`assemble`](NodeOf::assemble) makes the node of it once they stand in it; at level 0 there are none.
     ///
-    /// Takes memory for the record alone, in a block of its size. Without it the children are let go, and no change is counted.
-    pub fn from_entries<E: Entries<P>, C: Ledger>(
+    /// Takes memory for the block alone, of the size that it then wants.
+    pub fn block_for<E: Entries<P>>(
         alloc: Global,
         level: u32,
         entries: &E,
-        children: Vec<SlotOf<P>>,
-        changes: &mut Steps<C>,
-    ) -> Result<NodeOf<P>, NoMemory>
+    ) -> Result<Block<SlotOf<P>>, NoMemory>
         requires some { 1 ≤ P.D }
         requires few { P.D ≤ 16 }
         requires low { level ≤ 61 }
         requires entries { 1 ≤ length (E.list entries.now) }
         requires rise { AreRising P.D level 0 (E.list entries.now) }
-        requires children { length children.items ≡ children_of (E.list entries.now) }
-        requires bottom { level ≡ 0 → length children.items ≡ 0 }
-        ensures ok { IfOk result (λ n. n ≡ unpacked P.D (record_of P.D level (E.list entries.now)) (nodes_of children.items)) }
-        ensures cost { OnOk result (changes.new ≡ changes.old + 1) }
-        ensures spared { OnErr result (changes.new ≡ changes.old) }
+        ensures words { IfOk result (λ b. b.words ≡ record_of P.D level (E.list entries.now)) }
+        ensures none { IfOk result (λ b. b.values ≡ []) }
+        ensures room { IfOk result (λ b. b.spare ≡ children_of (E.list entries.now)) }
+        ensures laid { IfOk result (λ b. (level ≡ 0 → children_of (E.list entries.now) ≡ 0) → IsLaidOut P.D b.words) }
+        ensures children { IfOk result (λ b. (first_in b.words).children ≡ children_of (E.list entries.now)) }
     {
-        let count = entries.count();
-        let points = count - children.len();
-        let mut words = records::block::<P>(alloc, level, count, points)?;
+        let children = count_children::<P, E>(entries);
+        let mut words = records::exact_block::<P>(alloc, level, entries.count(), children)?;
         records::write::<P, E>(&mut words, level, entries);
-        Ok(NodeOf::assemble(words, children, changes))
+        Ok(Block::of(words))
     }
+}
+
+// How many of some entries are children.
+fn count_children<P: Dims, E: Entries<P>>(entries: &E) -> usize
+    ensures value { result ≡ children_of (E.list entries.now) }
+    ensures few { result ≤ length (E.list entries.now) }
+{
+    let mut children = 0;
+    for i in 0..entries.count() {
+        children += entries.at(i).child as usize;
+    }
+    children
 }

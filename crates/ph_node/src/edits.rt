@@ -27,7 +27,7 @@ impl<P: Dims> NodeOf<P> {
         ensures shows { node result.now.node ≡ what_at (entries self.old) spot.place }
     {
         let _ = spot;
-        &mut self.children[rank]
+        self.block.value_mut(rank)
     }
 
     /// Gives a point entry another value. Takes no memory.
@@ -39,6 +39,6 @@ impl<P: Dims> NodeOf<P> {
     {
         changes.tick();
         let place = self.value_place(spot);
-        self.words.set(place, v);
+        self.block.set(place, v);
     }
 }

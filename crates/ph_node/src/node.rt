@@ -1,19 +1,18 @@
-//! The node: a block of words that is its record, and its children in the order of their addresses.
+//! The node: one block, with the words of its record and its children in the order of their addresses.
 
-use ph_bits::Words;
+use ph_bits::Block;
 use ph_coord::{Dim, Dims};
 use std::marker::{Model, PhantomData};
 
 /// A node: a level from 0 to 61, and entries with rising addresses below 2^D. The fields of an entry's
 /// body are below 2^level.
 ///
-/// Level, addresses, bodies and values are one record of words, in the smaller of its two layouts. The children stand
-/// beside it.
+/// Level, addresses, bodies and values are one record of words, in the smaller of its two layouts. Behind it, in the same piece of
+/// memory, stands a word for each child, which is where the child is. So a node is a pointer of eight bytes.
 #[cycle(node)]
 #[derive(Drop)]
 pub struct NodeOf<P: Dims> {
-    pub(crate) words: Words,
-    pub(crate) children: Vec<SlotOf<P>>,
+    pub(crate) block: Block<SlotOf<P>>,
     pub(crate) dims: PhantomData<P>,
 }
 
@@ -41,9 +40,9 @@ impl<P: Dims> Model for NodeOf<P> {
     ghost use Rattle.ph_node.specs.Recorded.{IsRecorded};
     ghost use Rattle.ph_node.specs.Slots.{nodes_of};
 
-    ghost view = { λ a. unpacked P.D a.words.words (nodes_of a.children.items) };
+    ghost view = { λ a. unpacked P.D a.block.words (nodes_of a.block.values) };
 
-    ghost invariant = { λ a. IsRecorded P.D a.words.words (nodes_of a.children.items) };
+    ghost invariant = { λ a. IsRecorded P.D a.block.words (nodes_of a.block.values) };
 
     ghost size = { node_size };
 
@@ -51,7 +50,7 @@ impl<P: Dims> Model for NodeOf<P> {
     ghost use Rattle.std.proofs.Common.{arith};
     ghost use Rattle.ph_node.specs.Falls.{most_nodes};
 
-    ghost size_decreases = { λ a h. omega (arith, most_nodes P P.Dims a.children.items, falls P.D a.words.words (nodes_of a.children.items) h.packed.whole) };
+    ghost size_decreases = { λ a h. omega (arith, most_nodes P P.Dims a.block.values, falls P.D a.block.words (nodes_of a.block.values) h.packed.whole) };
 }
 
 impl<P: Dims> SlotOf<P> {

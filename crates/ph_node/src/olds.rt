@@ -4,7 +4,7 @@ ghost use Rattle.std.specs.Prelude.{◌≡◌, ◌+◌, ◌<◌, ◌≤◌, leng
 ghost use Rattle.ph_specs.specs.EntryEdits.{what_at};
 ghost use Rattle.ph_specs.specs.Node.{entries};
 ghost use Rattle.ph_specs.specs.Pack.{values, record_of};
-ghost use Rattle.ph_bits.specs.Block.{room_of};
+ghost use Rattle.ph_bits.specs.Block.{room_of, IsSamePlaces};
 ghost use Rattle.ph_bits.specs.Edits.{words_wanted};
 ghost use Rattle.ph_node.specs.OneEdit.{IsEdit, IsOldEntry, edit_flats, flats_of};
 ghost use Rattle.ph_node.specs.Split.{IsValue};
@@ -33,7 +33,7 @@ impl<P: Dims> NodeOf<P> {
         ensures value { result ≡ self.now.level }
         ensures limit { result ≤ 61 }
     {
-        level_in(self.words.as_slice())
+        level_in(self.block.words())
     }
 
     /// Entry `i`, in the order of the addresses, as it stands in the node.
@@ -44,7 +44,7 @@ impl<P: Dims> NodeOf<P> {
     {
         Spot {
             place: i,
-            addr: records::address(self.words.as_slice(), P::D, i),
+            addr: records::address(self.block.words(), P::D, i),
         }
     }
 
@@ -53,7 +53,7 @@ impl<P: Dims> NodeOf<P> {
         requires { IsSpot (entries self.now) spot }
         ensures { IsOldEntry P.D self.now spot.place result }
     {
-        let words = self.words.as_slice();
+        let words = self.block.words();
         let dims = P::D;
         let (child, rank) = records::ranked(words, dims, spot);
         let at = records::body_at(words, dims, spot);
@@ -81,7 +81,7 @@ impl<P: Dims> NodeOf<P> {
         requires { IsSpot (entries self.now) spot }
         ensures { result ≡ length (values (take spot.place (flats_of self.now))) }
     {
-        records::rank(self.words.as_slice(), P::D, spot, false)
+        records::rank(self.block.words(), P::D, spot, false)
     }
 
     /// The place of the value of a point entry among the words.
@@ -92,25 +92,25 @@ impl<P: Dims> NodeOf<P> {
             ≡ length (record_of P.D self.now.level (flats_of self.now))
             + length (values (take spot.place (flats_of self.now))) }
     {
-        let len = self.words.len();
-        let points = records::count(self.words.as_slice()) - self.children.len();
+        let len = self.block.len();
+        let children = self.block.count();
+        let points = records::count(self.block.words()) - children;
         len - points + self.points_before(spot)
     }
 
-    /// The record of the node with an edit, where it has so many children then, in a new block.
+    /// The record of the node with an edit, where it has so many children then, in new words that have room for them behind it.
     pub(crate) fn edited(&self, edit: &Edit, children: usize) -> Result<Words, NoMemory>
         requires edit { IsEdit P.D self.now edit.now }
         requires children { length (values (edit_flats P.D self.now edit.now)) + children ≡ length (edit_flats P.D self.now edit.now) }
-        ensures { IfOk result (λ w. w.words ≡ record_of P.D self.now.level (edit_flats P.D self.now edit.now)) }
+        ensures words { IfOk result (λ w. w.words ≡ record_of P.D self.now.level (edit_flats P.D self.now edit.now)) }
+        ensures room { IfOk result (λ w. words_wanted P.D self.now.level (length (edit_flats P.D self.now edit.now))
+            (length (values (edit_flats P.D self.now edit.now)))
+            + children
+            ≤ room_of w) }
     {
-        let words = self.words.as_slice();
+        let words = self.block.words();
         let n = records::count(words) - edit.less + edit.more;
-        let mut block = records::block::<P>(
-            self.words.allocator(),
-            level_in(words),
-            n,
-            n - children,
-        )?;
+        let mut block = records::block::<P>(self.block.allocator(), level_in(words), n, children)?;
         self.write_edited(edit, &mut block);
         Ok(block)
     }
@@ -121,8 +121,9 @@ impl<P: Dims> NodeOf<P> {
         requires room { words_wanted P.D self.now.level (length (edit_flats P.D self.now edit.now))
             (length (values (edit_flats P.D self.now edit.now)))
             ≤ room_of block.old }
-        ensures { block.new.words ≡ record_of P.D self.now.level (edit_flats P.D self.now edit.now) }
+        ensures words { block.new.words ≡ record_of P.D self.now.level (edit_flats P.D self.now edit.now) }
+        ensures places { IsSamePlaces block.old block.new }
     {
-        rewrites::write_edited::<P>(block, self.words.as_slice(), edit);
+        rewrites::write_edited::<P>(block, self.block.words(), edit);
     }
 }

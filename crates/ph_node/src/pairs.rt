@@ -1,8 +1,10 @@
 //! The record of two entries, one of them a point.
 
-ghost use Rattle.std.specs.Prelude.{◌≡◌, ◌≢◌, ◌<◌, ◌≤◌, take, length, if◌then◌else◌, Some, None, IfOk};
+ghost use Rattle.std.specs.Prelude.{◌≡◌, ◌≢◌, ◌+◌, ◌-◌, ◌<◌, ◌≤◌, take, length, if◌then◌else◌, Some, None, IfOk};
 ghost use Rattle.ph_specs.specs.Pack.{record_of};
 ghost use Rattle.ph_specs.specs.PutTree.{body_address};
+ghost use Rattle.ph_bits.specs.Block.{room_of};
+ghost use Rattle.ph_bits.specs.Edits.{words_wanted};
 ghost use Rattle.ph_bits.specs.Packed.{IsPadded};
 ghost use Rattle.ph_node.specs.Pairs.{below_flat, in_order, pair_flats, flats_in_pair, written_flat};
 
@@ -59,7 +61,8 @@ impl<'t, P: Dims> Entries<P> for PairOf<'t, P> {
     }
 }
 
-/// The record of a child at a level, which has an old entry and a point with a body, by their digits below it.
+/// The record of a child at a level, which has an old entry and a point with a body, by their digits below it. Its words have room
+/// for what the old entry holds, where that is a child.
 pub(crate) fn pair_below<P: Dims>(
     alloc: Global,
     level: u32,
@@ -74,12 +77,13 @@ pub(crate) fn pair_below<P: Dims>(
     requires body { length (take P.D body.now) ≡ P.D }
     requires body_padded { IsPadded P.D body.now }
     requires differ { body_address level (take P.D old.now.body) ≢ body_address level (take P.D body.now) }
-    ensures { IfOk result (λ w. w.words ≡ record_of P.D level (pair_flats P.D level old.now body.now v)) }
+    ensures words { IfOk result (λ w. w.words ≡ record_of P.D level (pair_flats P.D level old.now body.now v)) }
+    ensures room { IfOk result (λ w. words_wanted P.D level 2 (2 - (if old.now.child then 1 else 0)) + (if old.now.child then 1 else 0) ≤ room_of w) }
 {
     let was = written_below(P::D, level, old.child, &old.body, old.value);
     let joins = written_below(P::D, level, false, body, v);
     let pair: PairOf<'_, P> = in_order(&was, &joins);
-    let mut words = records::block::<P>(alloc, level, 2, 2 - old.child as usize)?;
+    let mut words = records::block::<P>(alloc, level, 2, old.child as usize)?;
     records::write::<P, PairOf<'_, P>>(&mut words, level, &pair);
     Ok(words)
 }

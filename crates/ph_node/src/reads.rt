@@ -66,7 +66,7 @@ impl<P: Dims> NodeOf<P> {
     {
         visits.tick();
         // A use of a field, which makes known what every node keeps.
-        let _len = self.words.len();
+        let _len = self.block.len();
         NodeRefOf { node: self }
     }
 }
@@ -79,7 +79,7 @@ impl<'t, P: Dims> NodeRefOf<'t, NodeOf<P>> {
         ensures limit { result ≤ 61 }
     {
         let node = self.node;
-        level_in(node.words.as_slice())
+        level_in(node.block.words())
     }
 
     /// The number of entries.
@@ -88,7 +88,7 @@ impl<'t, P: Dims> NodeRefOf<'t, NodeOf<P>> {
         ensures { result ≡ length (entries (shown self.now)) }
     {
         let node = self.node;
-        records::count(node.words.as_slice())
+        records::count(node.block.words())
     }
 
     /// The place of the entry with an address below 2^D.
@@ -113,7 +113,7 @@ impl<'t, P: Dims> NodeRefOf<'t, NodeOf<P>> {
         ensures place { IfErr result (λ i. i ≡ place_for addr (entries (shown self.now))) }
     {
         let node = self.node;
-        match records::search(node.words.as_slice(), P::D, addr) {
+        match records::search(node.block.words(), P::D, addr) {
             Ok(place) => Ok(Spot { place, addr }),
             Err(place) => Err(place),
         }
@@ -126,7 +126,7 @@ impl<'t, P: Dims> NodeRefOf<'t, NodeOf<P>> {
         ensures { result ≡ position (λ e. nat_le addr e.addr) (entries (shown self.now)) }
     {
         let node = self.node;
-        records::next_at_or_after(node.words.as_slice(), P::D, addr)
+        records::next_at_or_after(node.block.words(), P::D, addr)
     }
 
     /// Entry `i`, in the order of the addresses, as it stands in the node.
@@ -140,7 +140,7 @@ impl<'t, P: Dims> NodeRefOf<'t, NodeOf<P>> {
         let node = self.node;
         Spot {
             place: i,
-            addr: records::address(node.words.as_slice(), P::D, i),
+            addr: records::address(node.block.words(), P::D, i),
         }
     }
 
@@ -151,7 +151,7 @@ impl<'t, P: Dims> NodeRefOf<'t, NodeOf<P>> {
         ensures { result ≡ is_node (what_at (entries (shown self.now)) spot.place) }
     {
         let node = self.node;
-        records::is_child(node.words.as_slice(), P::D, spot)
+        records::is_child(node.block.words(), P::D, spot)
     }
 
     /// What an entry holds.
@@ -172,11 +172,11 @@ impl<'t, P: Dims> NodeRefOf<'t, NodeOf<P>> {
         ensures rank { IsNode (what_at (entries (shown self.now)) spot.place) → result.0 ≡ before (entries (shown self.now)) spot.place }
     {
         let node = self.node;
-        let words = node.words.as_slice();
+        let words = node.block.words();
         let dims = P::D;
         let (child, rank) = records::ranked(words, dims, spot);
         if child {
-            let slot = &node.children[rank];
+            let slot = node.block.value(rank);
             (rank, WhatOf::Child(&slot.node))
         } else {
             (rank, WhatOf::Value(records::value(words, dims, rank)))
@@ -289,13 +289,13 @@ impl<'t, P: Dims> NodeRefOf<'t, NodeOf<P>> {
         }
     }
 
-    /// The record of the node, which is its block of words.
+    /// The record of the node, which is the words of its block.
     #[inline(always)]
     pub fn words(&self) -> &'t [u64]
         ensures { result.now ≡ pack P.D (shown self.now) }
     {
         let node = self.node;
-        node.words.as_slice()
+        node.block.words()
     }
 
     /// The children, in the order of their addresses.
@@ -304,7 +304,7 @@ impl<'t, P: Dims> NodeRefOf<'t, NodeOf<P>> {
         ensures { nodes_of result.now ≡ child_nodes (shown self.now).chain }
     {
         let node = self.node;
-        &node.children
+        node.block.values()
     }
 
     /// Whether the record of the node has the cube layout.
@@ -313,7 +313,7 @@ impl<'t, P: Dims> NodeRefOf<'t, NodeOf<P>> {
         ensures { result ≡ is_cube P.D (shown self.now).level (length (flat (shown self.now).chain)) }
     {
         let node = self.node;
-        records::has_cube(node.words.as_slice(), P::D)
+        records::has_cube(node.block.words(), P::D)
     }
 
     // Whether the body of an entry is the digits of these numbers below the node's level, of which the last `low` count as
@@ -351,6 +351,6 @@ impl<'t, P: Dims> NodeRefOf<'t, NodeOf<P>> {
         ensures few { P.D ≤ 16 }
     {
         let node = self.node;
-        records::body_at(node.words.as_slice(), P::D, spot)
+        records::body_at(node.block.words(), P::D, spot)
     }
 }

@@ -1,7 +1,7 @@
 //! Records of either layout.
 
-ghost use Rattle.std.specs.Prelude.{◌≡◌, ◌+◌, ◌-◌, ◌*◌, ◌<◌, ◌≤◌, ◌^◌, ◌==◌, nat_le, true};
-ghost use Rattle.std.specs.Prelude.{None, Some, length, map, drop, position, slice_get, slice_index_or, IfOk, IfErr};
+ghost use Rattle.std.specs.Prelude.{◌≡◌, ℕ, ◌+◌, ◌-◌, ◌*◌, ◌%◌, ◌<◌, ◌≤◌, ◌^◌, ◌==◌, nat_le, true};
+ghost use Rattle.std.specs.Prelude.{[], None, Some, length, map, drop, position, slice_get, slice_index_or, IfOk, IfErr};
 ghost use Rattle.std.specs.List.{position_or_len};
 ghost use Rattle.ph_specs.specs.Layout.{read_address, is_child as read_child_test, AreRising};
 ghost use Rattle.ph_specs.specs.Pack.{is_cube, values, record_of};
@@ -223,33 +223,67 @@ pub(crate) fn count(words: &[u64]) -> usize
     count_in(words) as usize
 }
 
-/// How many words the record of `n` entries at a level has, of which some are points.
-pub(crate) fn size(dims: usize, level: u32, n: usize, points: usize) -> usize
+// How many words the record of `n` entries at a level has, of which some are points.
+fn size(dims: usize, level: u32, n: usize, points: usize) -> usize
     requires few { dims ≤ 16 }
     requires low { level ≤ 61 }
     requires entries { n ≤ 2 ^ dims }
     requires points { points ≤ n }
     ensures value { result ≡ words_wanted dims level n points }
-    ensures limit { result < 2 ^ 32 }
+    ensures limit { result ≤ 2 ^ 20 + points }
 {
     let digits = least_of(dims, level, n);
     1 + ((digits + 63) / 64) as usize + points
 }
 
-/// A block that has room for such a record, and no words.
-pub(crate) fn block<P: Dims>(
+/// A block that has room for the record of `n` entries, of which some are children, and behind it for the children. It has no
+/// words.
+pub(crate) fn exact_block<P: Dims>(
     alloc: Global,
     level: u32,
     n: usize,
-    points: usize,
+    children: usize,
 ) -> Result<Words, NoMemory>
     requires few { P.D ≤ 16 }
     requires low { level ≤ 61 }
     requires entries { n ≤ 2 ^ P.D }
-    requires points { points ≤ n }
-    ensures { IfOk result (λ w. w ≡ empty alloc (words_wanted P.D level n points)) }
+    requires children { children ≤ n }
+    ensures { IfOk result (λ w. w ≡ empty alloc (words_wanted P.D level n (n - children) + children)) }
 {
-    Words::with_room(alloc, size(P::D, level, n, points))
+    Words::with_room(alloc, size(P::D, level, n, n - children) + children)
+}
+
+/// The same with some room more where it is long, so that blocks of like sizes have the same one and are used again.
+pub(crate) fn block<P: Dims>(
+    alloc: Global,
+    level: u32,
+    n: usize,
+    children: usize,
+) -> Result<Words, NoMemory>
+    requires few { P.D ≤ 16 }
+    requires low { level ≤ 61 }
+    requires entries { n ≤ 2 ^ P.D }
+    requires children { children ≤ n }
+    ensures none { IfOk result (λ w. w.words ≡ []) }
+    ensures room { IfOk result (λ w. words_wanted P.D level n (n - children) + children ≤ room_of w) }
+{
+    let room = size(P::D, level, n, n - children) + children;
+    Words::with_room(alloc, rounded(room))
+}
+
+// The room of a block that wants so much: above 32 places, the next multiple of a quarter of the greatest power of two in it.
+fn rounded(room: usize) -> usize
+    requires { room ≤ 2 ^ 20 + 2 ^ 16 }
+    ensures enough { room ≤ result }
+    ensures limit { result < 2 ^ 21 }
+    ensures exact { room ≤ 32 → result ≡ room }
+    ensures rounded { 32 < room → (k : ℕ) × (2 ^ (k + 2) ≤ room) × (room < 2 ^ (k + 3)) × (result % 2 ^ k ≡ 0) × (result < room + 2 ^ k) }
+{
+    if room <= 32 {
+        return room;
+    }
+    let step = 1 << (room.ilog2() - 2);
+    (room + step - 1) / step * step
 }
 
 // The digits of the tables in the smaller layout.
@@ -258,7 +292,7 @@ fn least_of(dims: usize, level: u32, n: usize) -> u64
     requires low { level ≤ 61 }
     requires entries { n ≤ 2 ^ dims }
     ensures value { result ≡ least_digits dims level n }
-    ensures limit { result ≤ 2 ^ 36 }
+    ensures limit { result ≤ 2 ^ 16 * 993 }
 {
     min(
         cube::bits_of(dims, n as u32, level),

@@ -1,22 +1,24 @@
 //! An entry less, and a child of two entries whose place one of them takes. Neither takes memory.
 
-ghost use Rattle.std.specs.Prelude.{◌≡◌, ◌+◌, ◌-◌, ◌<◌, ◌≤◌, true, length, vec_len, if◌then◌else◌};
+ghost use Rattle.std.specs.Prelude.{◌≡◌, ◌+◌, ◌-◌, ◌<◌, ◌≤◌, true, false, length, if◌then◌else◌};
 ghost use Rattle.ph_specs.specs.Node.{node_of, entries};
 ghost use Rattle.ph_specs.specs.EntryEdits.{what_at, without};
 ghost use Rattle.ph_node.specs.Split.{IsValue, body_at};
 ghost use Rattle.ph_node.specs.Spots.{IsSpot};
 ghost use Rattle.ph_specs.specs.Pack.{pack};
+ghost use Rattle.ph_specs.proofs.laws.Unpacked.{child_nodes};
 ghost use Rattle.ph_bits.specs.Block.{room_of};
 ghost use Rattle.ph_bits.specs.Edits.{edited};
 ghost use Rattle.ph_node.specs.Merge.{IsPair, entries_held, merge_node};
 ghost use Rattle.ph_node.specs.OneEdit.{IsOldEntry, node_at, nodes_held};
 ghost use Rattle.ph_node.specs.Slots.{nodes_of};
 
+use crate::moves::move_into;
 use crate::node::{NodeOf, SlotOf};
 use crate::olds::OldEntry;
-use crate::splits::insert_within;
+use crate::rewrites;
 use crate::spots::Spot;
-use ph_bits::{Edit, Packed, Words};
+use ph_bits::{Block, Edit, Packed, Words};
 use ph_coord::Dims;
 use ph_digits::join;
 use ph_steps::Steps;
@@ -24,12 +26,12 @@ use std::sync::ledger::Ledger;
 
 impl<P: Dims> NodeOf<P> {
     /// Lets a point entry go. Another entry is left. The record is written into words that the caller hands in, which have
-    /// room for the node's own.
+    /// room for the node's own and for its children, and the children move behind it. Takes no memory.
     pub fn drop_entry<C: Ledger>(&mut self, spot: Spot, spare: Words, changes: &mut Steps<C>)
         requires spot { IsSpot (entries self.old) spot }
         requires point { IsValue (what_at (entries self.old) spot.place) }
         requires many { 2 ≤ length (entries self.old) }
-        requires room { length (pack P.D self.old) ≤ room_of spare }
+        requires room { length (pack P.D self.old) + length (child_nodes self.old.chain) ≤ room_of spare }
         ensures node { self.new ≡ node_of self.old.level (without (entries self.old) spot.place) }
         ensures cost { changes.new ≡ changes.old + 1 }
     {
@@ -49,23 +51,23 @@ impl<P: Dims> NodeOf<P> {
         let mut words = spare;
         self.write_edited(&edit, &mut words);
         changes.tick();
-        self.words = words;
+        move_into(&mut self.block, words);
     }
 
     /// Lets the child of an entry and its point entry `j` go. The other of the child's two entries takes the
-    /// child's place, with the digits that the child had in common in front of its own. The record is written into words
-    /// that the caller hands in, which have room for one more than the node's own.
-    pub fn merge<C: Ledger>(&mut self, spot: Spot, j: usize, spare: Words, changes: &mut Steps<C>)
+    /// child's place, with the digits that the child had in common in front of its own. The record is changed where it lies, and a
+    /// point takes the place that the child leaves for its value. Takes no memory.
+    pub fn merge<C: Ledger>(&mut self, spot: Spot, j: usize, changes: &mut Steps<C>)
         requires spot { IsSpot (entries self.old) spot }
         requires child { IsPair self.old.level (body_at (entries self.old) spot.place) (what_at (entries self.old) spot.place) }
         requires one { j < 2 }
         requires point { IsValue (what_at (entries_held (what_at (entries self.old) spot.place)) j) }
-        requires room { length (pack P.D self.old) + 1 ≤ room_of spare }
         ensures node { self.new ≡ merge_node self.old spot.place j }
         ensures cost { changes.new ≡ changes.old + 2 }
     {
         let old = self.old_entry(spot);
-        let child = &self.children[old.front].node;
+        let slot = self.block.value(old.front);
+        let child = &slot.node;
         let other = child.entry_beside(j);
         let mut body = old.body;
         join(
@@ -87,12 +89,10 @@ impl<P: Dims> NodeOf<P> {
             entry,
             value: other.value,
         };
-        let mut block = spare;
-        self.write_edited(&edit, &mut block);
+        lift_child(&mut self.block, old.front, other.child);
+        rewrites::put_entry(&mut self.block, P::D, &edit);
         changes.tick();
         changes.tick();
-        lift_child(&mut self.children, old.front, other.child);
-        self.words = block;
     }
 
     // What the one of two entries has that is not entry `j`.
@@ -105,18 +105,20 @@ impl<P: Dims> NodeOf<P> {
     }
 }
 
-// Lets the node at a place go. Its one child takes the place, where it has one.
-fn lift_child<P: Dims>(children: &mut Vec<SlotOf<P>>, k: usize, child: bool)
-    requires within { k < vec_len children.old }
-    requires one { child ≡ true → length (nodes_held (entries (node_at (nodes_of children.old.items) k))) ≡ 1 }
-    ensures { nodes_of children.new.items
+// Lets the node at a place go. Its one child takes the place, where it has one, and else there is a spare place more.
+fn lift_child<P: Dims>(block: &mut Block<SlotOf<P>>, k: usize, child: bool)
+    requires within { k < length block.old.values }
+    requires one { child ≡ true → length (nodes_held (entries (node_at (nodes_of block.old.values) k))) ≡ 1 }
+    ensures nodes { nodes_of block.new.values
         ≡ edited k 1 (if child then 1 else 0)
-        (node_at (nodes_held (entries (node_at (nodes_of children.old.items) k))) 0)
-        (nodes_of children.old.items) }
+        (node_at (nodes_held (entries (node_at (nodes_of block.old.values) k))) 0)
+        (nodes_of block.old.values) }
+    ensures words { block.new.words ≡ block.old.words }
+    ensures spare { child ≡ false → 0 < block.new.spare }
 {
-    let SlotOf { node } = children.remove(k);
+    let SlotOf { node } = block.remove(k);
     if child {
-        insert_within(children, k, only_child(node));
+        block.insert(k, only_child(node));
     }
 }
 
@@ -125,10 +127,6 @@ fn only_child<P: Dims>(node: NodeOf<P>) -> SlotOf<P>
     requires { length (nodes_held (entries node)) ≡ 1 }
     ensures { result.node ≡ node_at (nodes_held (entries node)) 0 }
 {
-    let NodeOf {
-        words: _,
-        mut children,
-        dims: _,
-    } = node;
-    children.remove(0)
+    let NodeOf { mut block, dims: _ } = node;
+    block.remove(0)
 }

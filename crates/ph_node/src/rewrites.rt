@@ -1,15 +1,16 @@
 //! The record of an old record with one edit.
 
-ghost use Rattle.std.specs.Prelude.{◌≡◌, ◌≤◌, length, map, slice_get, true, Some};
-ghost use Rattle.ph_specs.specs.Layout.{read_address};
+ghost use Rattle.std.specs.Prelude.{◌≡◌, ◌+◌, ◌-◌, ◌<◌, ◌≤◌, length, map, take, slice_get, true, false, Some};
+ghost use Rattle.ph_specs.specs.Layout.{read_address, is_child};
 ghost use Rattle.ph_specs.specs.Pack.{is_cube};
 ghost use Rattle.ph_specs.specs.Record.{first_in, has_cube, entries_in};
 ghost use Rattle.ph_bits.specs.Block.{room_of, IsSamePlaces};
+ghost use Rattle.ph_bits.specs.Filled.{IsSameValues};
 ghost use Rattle.ph_node.specs.RecordEdit.{IsRecordEdit, with_edit, words_with, record_with};
 
 use crate::edited::EditedOf;
 use crate::records;
-use ph_bits::{Edit, Words};
+use ph_bits::{Block, Edit, Words};
 use ph_coord::Dims;
 use ph_cube::by_dims as cube;
 use ph_linear::{by_dims as linear, level_in};
@@ -71,20 +72,66 @@ fn lay_out<P: Dims>(words: &mut Words, old: &[u64], edit: &Edit)
     records::write::<P, EditedOf<'_, P>>(words, level_in(old), &from);
 }
 
-/// Makes the entry at an address of a record a child, or gives a child another body, where the entry lies. The level and the number
-/// of entries stay, and so does the layout. It takes no memory.
-pub(crate) fn put_child(words: &mut Words, dims: usize, edit: &Edit)
-    requires edit { IsRecordEdit dims words.old.words edit.now }
+/// Puts a child in place of an entry of the record of a block, or a point in place of a child, where the entry lies. A point wants
+/// a spare place for its value, and a child leaves one where it was a point. It takes no memory.
+pub(crate) fn put_entry<T>(block: &mut Block<T>, dims: usize, edit: &Edit)
+    requires edit { IsRecordEdit dims block.old.words edit.now }
+    requires less { edit.now.less ≡ 1 }
+    requires more { edit.now.more ≡ 1 }
+    requires address { slice_get (map read_address (entries_in dims block.old.words)) edit.now.place ≡ Some edit.now.entry.addr }
+    requires was { edit.now.entry.child ≡ false → slice_get (map is_child (entries_in dims block.old.words)) edit.now.place ≡ Some true }
+    requires long { edit.now.entry.child ≡ true → length (record_with dims block.old.words edit.now) ≤ length block.old.words }
+    requires spare { edit.now.entry.child ≡ false → 0 < block.old.spare }
+    ensures words { block.new.words ≡ record_with dims block.old.words edit.now }
+    ensures places { length block.new.words + block.new.spare ≡ length block.old.words + block.old.spare }
+    ensures same { IsSameValues block.old block.new }
+{
+    if edit.entry.child {
+        let len = put_child(block.words_mut(), dims, edit);
+        block.truncate(len);
+    } else {
+        block.push(0);
+        put_point(block.words_mut(), dims, edit);
+    }
+}
+
+// Makes the entry at an address of a record a child, or gives a child another body, where the entry lies. The level and the number
+// of entries stay, and so does the layout. Gives how many words the record has then: the one that is left over behind them has no
+// meaning.
+fn put_child(words: &mut [u64], dims: usize, edit: &Edit) -> usize
+    requires edit { IsRecordEdit dims words.old edit.now }
     requires less { edit.now.less ≡ 1 }
     requires more { edit.now.more ≡ 1 }
     requires child { edit.now.entry.child ≡ true }
-    requires address { slice_get (map read_address (entries_in dims words.old.words)) edit.now.place ≡ Some edit.now.entry.addr }
-    ensures words { words.new.words ≡ record_with dims words.old.words edit.now }
-    ensures places { IsSamePlaces words.old words.new }
+    requires address { slice_get (map read_address (entries_in dims words.old)) edit.now.place ≡ Some edit.now.entry.addr }
+    ensures words { take result words.new ≡ record_with dims words.old edit.now }
+    ensures len { result ≡ length (record_with dims words.old edit.now) }
+    ensures same { length words.new ≡ length words.old }
 {
-    if records::has_cube(words.as_slice(), dims) {
-        cube::put_child(words, dims, edit, edit.entry.addr);
+    if records::has_cube(words, dims) {
+        cube::put_child(words, dims, edit, edit.entry.addr)
     } else {
-        linear::put_child(words, dims, edit);
+        linear::put_child(words, dims, edit)
+    }
+}
+
+// Makes the child at an address of a record a point, where the entry lies. There is one word more behind the record, whatever it
+// holds. The level and the number of entries stay, and so does the layout.
+fn put_point(words: &mut [u64], dims: usize, edit: &Edit)
+    requires some { 1 ≤ length words.old }
+    requires edit { IsRecordEdit dims (take (length words.old - 1) words.old) edit.now }
+    requires was { slice_get (map is_child (entries_in dims (take (length words.old - 1) words.old))) edit.now.place ≡ Some true }
+    requires less { edit.now.less ≡ 1 }
+    requires more { edit.now.more ≡ 1 }
+    requires point { edit.now.entry.child ≡ false }
+    requires address { slice_get (map read_address (entries_in dims (take (length words.old - 1) words.old))) edit.now.place
+        ≡ Some edit.now.entry.addr }
+    ensures { words.new ≡ record_with dims (take (length words.old - 1) words.old) edit.now }
+{
+    let len = words.len() - 1;
+    if records::has_cube(&words[..len], dims) {
+        cube::put_point(words, dims, edit, edit.entry.addr);
+    } else {
+        linear::put_point(words, dims, edit);
     }
 }

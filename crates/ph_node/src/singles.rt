@@ -55,7 +55,7 @@ impl<P: Dims> Entries<P> for OneOf<P> {
 }
 
 impl<P: Dims> NodeOf<P> {
-    /// Makes a node of one point entry.
+    /// Makes a node of one point entry. Takes memory for its block alone.
     pub fn single<C: Ledger>(
         alloc: Global,
         level: u32,
@@ -79,6 +79,7 @@ impl<P: Dims> NodeOf<P> {
             value: v,
             dims: PhantomData,
         };
-        NodeOf::from_entries::<OneOf<P>, C>(alloc, level, &entries, Vec::new(alloc), changes)
+        let block = NodeOf::block_for::<OneOf<P>>(alloc, level, &entries)?;
+        Ok(NodeOf::assemble(block, changes))
     }
 }

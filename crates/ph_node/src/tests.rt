@@ -110,8 +110,7 @@ fn removals<V: Ledger, C: Ledger>(
     let mut node: Node<2> = NodeOf::single(alloc, 5, 2, OLD, 70, &mut changes)?;
     node.add(0, 1, BESIDE, 71, &mut changes)?;
     node.split(SECOND, &NEAR, 73, &mut changes)?;
-    let spare = Words::with_room(alloc, 8)?;
-    node.merge(SECOND, 0, spare, &mut changes);
+    node.merge(SECOND, 0, &mut changes);
     let root = node.visit(&mut visits);
     assert_eq!(rt; (root.level(), root.len()), (5, 2));
     assert!(rt; is_entry(root, 0, &(1, 4, 30, Some(71))));
@@ -125,11 +124,46 @@ fn removals<V: Ledger, C: Ledger>(
     Ok(())
 }
 
+// A node that goes from between a node and a child, which then stands where it stood, and a child that moves to another block.
+fn lifts<V: Ledger, C: Ledger>(
+    rt: &impl Abort,
+    alloc: Global,
+    visits: Blank,
+    changes: Blank,
+) -> Result<(), NoMemory>
+    requires visits { (visits.name ≡ V.name) × (visits.parts ≡ V.parts) × (0 < visits.parts) }
+    requires changes { (changes.name ≡ C.name) × (changes.parts ≡ C.parts) × (0 < changes.parts) }
+{
+    let mut visits: Steps<V> = Steps::new(visits);
+    let mut changes: Steps<C> = Steps::new(changes);
+    let mut node: Node<2> = NodeOf::single(alloc, 5, 2, OLD, 70, &mut changes)?;
+    node.add(0, 1, BESIDE, 71, &mut changes)?;
+    node.split(SECOND, &NEAR, 73, &mut changes)?;
+    node.split(SECOND, &FAR, 74, &mut changes)?;
+    node.merge(SECOND, 1, &mut changes);
+    let root = node.visit(&mut visits);
+    assert_eq!(rt; (root.words().len(), root.children().len()), (3, 1));
+    assert!(rt; is_entry(root, 0, &(1, 4, 30, Some(71))));
+    assert!(rt; is_entry(root, 1, &(2, 0, 0, None)));
+    let spare = Words::with_room(alloc, 4)?;
+    node.drop_entry(FIRST, spare, &mut changes);
+    let root = node.visit(&mut visits);
+    assert_eq!(rt; (root.level(), root.len()), (5, 1));
+    let Some(lower) = child_at(root, 0) else {
+        panic!(rt; "no child");
+    };
+    let lower = lower.visit(&mut visits);
+    assert_eq!(rt; (lower.level(), lower.len()), (3, 2));
+    assert!(rt; is_entry(lower, 0, &(0, 1, 3, Some(73))));
+    assert!(rt; is_entry(lower, 1, &(2, 1, 3, Some(70))));
+    Ok(())
+}
+
 fn has_words(words: &[u64], want: &[u64]) -> bool {
     *words == *want
 }
 
-// The words of nodes, and that a node has nothing beside its words and its children.
+// The words of nodes, and that a node has nothing beside its block.
 fn layouts<V: Ledger, C: Ledger>(
     rt: &impl Abort,
     alloc: Global,
@@ -145,11 +179,7 @@ fn layouts<V: Ledger, C: Ledger>(
     let across: Node<2> = NodeOf::single(alloc, 31, 3, body, 17, &mut changes)?;
     let words = across.visit(&mut visits).words();
     assert!(rt; has_words(words, &[0x1f00000001000000, 0x60000000c0000002, 0, 0x11]));
-    let NodeOf {
-        words: _,
-        children: _,
-        dims: _,
-    } = across;
+    let NodeOf { block: _, dims: _ } = across;
     let mut node: Node<2> = NodeOf::single(alloc, 31, 3, [0; 16], 1, &mut changes)?;
     let spot = Spot { place: 0, addr: 3 };
     node.split(spot, &ONES, 2, &mut changes)?;
@@ -232,5 +262,11 @@ fn merges_and_drops(rt: HostRuntime) -> Result<(), Fail> {
 #[test]
 fn spots_and_records(rt: HostRuntime) -> Result<(), Fail> {
     spots::<Brand, Brand>(&rt, rt.alloc(), Blank::new(1), Blank::new(1))?;
+    Ok(())
+}
+
+#[test]
+fn lifted_children(rt: HostRuntime) -> Result<(), Fail> {
+    lifts::<Brand, Brand>(&rt, rt.alloc(), Blank::new(1), Blank::new(1))?;
     Ok(())
 }

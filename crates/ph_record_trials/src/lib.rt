@@ -3,6 +3,8 @@
 
 mod backs;
 mod items;
+#[cfg(test)]
+mod puts;
 mod records;
 #[cfg(test)]
 mod tests;

@@ -1,7 +1,7 @@
 -- A record that was read, and the records of its children behind it.
 use Rattle.std.proofs.Common.{◌≡◌, ℕ, ◌+◌, ◌*◌, ◌≤◌, sym, ◌∙◌, ap, subst, arith, List, [], ◌∷◌, ◌++◌, length, take, drop}
 use Rattle.std.specs.Prelude.{None}
-use Rattle.std.proofs.lemmas.List.{length-drop, drop-drop}
+use Rattle.std.proofs.lemmas.List.{length-append, length-drop, drop-drop, take-append-drop}
 use Rattle.ph_specs.specs.declared.Kind.{Kind}
 use Rattle.ph_specs.specs.KindRows.{IsBytes}
 use Rattle.ph_specs.specs.Node.{PlainNode}
@@ -12,7 +12,7 @@ use Rattle.ph_specs.proofs.laws.RecordAgain.{entries-count}
 use Rattle.ph_snap.specs.Faults.{HaveFault, HaveNone}
 use Rattle.ph_snap.specs.Reads.{ReadAs}
 use Rattle.ph_snap.specs.declared.fault.LoadFault.{LoadFault}
-use Rattle.ph_snap.proofs.EntryParts.{under-split}
+use Rattle.ph_snap.proofs.EntryParts.{under-append, under-split}
 use Rattle.ph_snap.proofs.NodeReads.{read-node}
 use Rattle.ph_snap.proofs.RecordFaults.{next-first, fits-whole, words-many, kids-places, kids-count, none-node, fault-below}
 use Rattle.ph_snap.proofs.Sizes.{AreCounted, unpacked-counts}
@@ -61,6 +61,13 @@ module _ (kind : Kind) (width dims : ℕ) (bytes : List ℕ) (p : Place) (at : �
       ap (λ es. length (places_under (first_in words).level (known dims p) es)) (take-whole es i (omega (arith, h, many)))
       ∙ kids-places (first_in words).level (known dims p) es
       ∙ kids-count kind width dims p words is-passed
+
+  -- and no more than that among the first ones
+  pub stands-few : (i : ℕ) → length (places_under (first_in words).level (known dims p) (take i (entries_in dims words))) ≤ (first_in words).children
+  stands-few i =
+      let level : ℕ = (first_in words).level in
+      let e : places_under (first_in words).level (known dims p) (entries_in dims words) ≡ stands i ++ places_under (first_in words).level (known dims p) (drop i (entries_in dims words)) = ap (places_under level (known dims p)) (sym (take-append-drop i es)) ∙ under-append level (known dims p) (take i es) (drop i es) in
+      omega (arith, ap (λ (t : List Place). length t) e, length-append (stands i) (places_under level (known dims p) (drop i es)), kids-places level (known dims p) es, kids-count kind width dims p words is-passed)
 
   pub all-none : (i end : ℕ) → (first_in words).entries ≤ i → HaveNone kind width dims (places_under (first_in words).level (known dims p) (take i (entries_in dims words))) (at + 8 * length words) bytes end → HaveNone kind width dims (p ∷ []) at bytes end
   all-none i end h k =

@@ -1,5 +1,5 @@
 -- How many rows and nodes a tree has, by its records.
-use Rattle.std.proofs.Common.{◌≡◌, ℕ, ◌+◌, ◌-◌, ◌*◌, ◌^◌, ◌≤◌, Bool, true, false, List, [], ◌∷◌, ◌++◌, length, replicate, refl, ap, sym, ◌∙◌, arith, Some}
+use Rattle.std.proofs.Common.{◌≡◌, ℕ, ◌+◌, ◌-◌, ◌*◌, ◌^◌, ◌≤◌, Bool, true, false, List, [], ◌∷◌, ◌++◌, length, replicate, refl, sym, ◌∙◌, arith, Some}
 use Rattle.std.proofs.lemmas.List.{length-append, length-drop}
 use Rattle.ph_specs.specs.declared.Kind.{Kind}
 use Rattle.ph_specs.specs.Digits.{words_for}
@@ -15,9 +15,6 @@ use Rattle.ph_specs.specs.Record.{Read, read_point, read_child, has_cube, table_
 use Rattle.ph_specs.proofs.lemmas.Counted.{kids, spots, spots-kids}
 use Rattle.ph_specs.proofs.lemmas.FoundTree.{Passed}
 use Rattle.ph_specs.proofs.laws.RecordAgain.{entries-count}
-use Rattle.std.proofs.Common.{suc}
-use Rattle.ph_node.specs.declared.node.SlotOf.{SlotOf}
-use Rattle.ph_node.specs.Slots.{nodes_of, in_slot}
 use Rattle.ph_snap.specs.Reads.{points_below, points, all_points, all_sizes}
 
 -- ---- rows
@@ -92,14 +89,6 @@ unpacked-counts kind width dims place (w ∷ rest) cs p m =
     }
 
 -- ---- lists of nodes
-
-pub nodes-more : {P : Type 0} (ss : List (SlotOf P)) (n : PlainNode) → nodes_of (ss ++ in_slot n ∷ []) ≡ nodes_of ss ++ n ∷ []
-nodes-more [] n = refl
-nodes-more (s ∷ ss) n = ap {B = List PlainNode} (λ t. s.node ∷ t) (nodes-more ss n)
-
-pub nodes-long : {P : Type 0} (ss : List (SlotOf P)) → length (nodes_of ss) ≡ length ss
-nodes-long [] = refl
-nodes-long (s ∷ ss) = ap suc (nodes-long ss)
 
 pub points-more : (ns : List PlainNode) (n : PlainNode) → all_points (ns ++ n ∷ []) ≡ all_points ns + points n
 points-more [] n = omega arith

@@ -55,7 +55,7 @@ impl First {
         requires entries { self.now.entries ≤ 2 ^ dims }
         requires children { self.now.children ≤ self.now.entries }
         ensures value { result ≡ record_words dims (said_by self.now) }
-        ensures limit { result < 2 ^ 32 }
+        ensures limit { result + self.now.children ≤ 2 ^ 20 + self.now.entries }
     {
         let digits = self.table_digits(dims);
         1 + ((digits + 63) / 64) as usize + (self.entries - self.children) as usize
@@ -67,7 +67,7 @@ impl First {
         requires low { self.now.level ≤ 61 }
         requires entries { self.now.entries ≤ 2 ^ dims }
         ensures value { result ≡ table_digits dims (said_by self.now) }
-        ensures limit { result ≤ 2 ^ 36 }
+        ensures limit { result ≤ 2 ^ 16 * 993 }
     {
         min(
             cube::bits_of(dims, self.entries, self.level),

@@ -25,8 +25,9 @@ use std::sync::ledger::Ledger;
 /// The tree of this kind and width of which the bytes are the snapshot, in version 1 or 2, for at most 2^64 - 1 rows, or the
 /// first fault of the bytes. A snapshot of version 1 has width 32 and at most 8 dimensions.
 ///
-/// It takes memory for the tree alone: no sorting, and no tree is built up by puts. The depth of its calls is at most the
-/// width. Each node that is made counts as a change.
+/// It takes memory for the tree alone, one block for each node: no sorting, and no tree is built up by puts. After an error
+/// nothing of it stays, and the nodes that were made are counted. The depth of its calls is at most the width. Each node that
+/// is made counts as a change.
 pub fn load<const D: usize, C: Ledger>(
     alloc: Global,
     bytes: &[u8],

@@ -12,6 +12,7 @@ use crate::fault::LoadFault;
 use crate::form::Form;
 use crate::places::Place;
 use crate::records::read_record;
+use ph_bits::Block;
 use ph_linear::{children_in, count_in};
 use ph_node::{Dims, NodeOf, SlotOf};
 use ph_steps::Steps;
@@ -55,28 +56,25 @@ pub(crate) fn load_node<P: Dims, C: Ledger>(
         Ok(words) => words,
         Err(fault) => return Err(fault),
     };
-    let count = count_in(words.as_slice());
-    let below = children_in(words.as_slice());
-    let mut end = at + 8 * words.len();
+    let mut block = Block::of(words);
+    let count = count_in(block.words());
+    let below = children_in(block.words());
+    let mut end = at + 8 * block.len();
     let mut rows = count - below;
-    let Ok(mut children) = Vec::with_capacity(alloc, below as usize) else {
-        return Err(LoadFault::NoMemory);
-    };
     'entries: for i in 0..count as usize {
-        let Some(under) = place_under(words.as_slice(), form, place, i) else {
+        let Some(under) = place_under(block.words(), form, place, i) else {
             continue;
         };
         match load_node::<P, C>(alloc, bytes, end, form, &under, changes) {
             Ok(child) => {
                 end = child.end;
                 rows += child.rows;
-                if children.push(SlotOf { node: child.node }).is_err() {
-                    return Err(LoadFault::NoMemory);
-                }
+                block.put_first(SlotOf { node: child.node });
             }
             Err(fault) => return Err(fault),
         }
     }
-    let node = NodeOf::assemble(words, children, changes);
+    block.reverse();
+    let node = NodeOf::assemble(block, changes);
     Ok(Loaded { node, end, rows })
 }

@@ -20,7 +20,7 @@ use crate::tables::{padding_is_zero, tables_fit};
 use ph_bits::Words;
 use std::alloc::Global;
 
-/// The record that begins at a place of the bytes, in a block of its own, if it keeps all rules where it stands.
+/// The record that begins at a place of the bytes, in a block with room for its children too, if it keeps all rules where it stands.
 pub(crate) fn read_record(
     alloc: Global,
     bytes: &[u8],
@@ -33,6 +33,7 @@ pub(crate) fn read_record(
     requires at { at ≤ length bytes.now }
     ensures none { IfOk result (λ w. record_fault form.now.kind form.now.width form.now.dims (place_of form.now.dims place.now) at (drop at bytes.now) ≡ None) }
     ensures words { IfOk result (λ w. w.words ≡ next_record form.now.dims (drop at bytes.now)) }
+    ensures room { IfOk result (λ w. w.spare ≡ (first_in w.words).children) }
     ensures laid { IfOk result (λ w. IsLaidOut form.now.dims w.words) }
     ensures clear { IfOk result (λ w. IsClear (first_in w.words).level form.now.dims place.now) }
     ensures low { IfOk result (λ w. (first_in w.words).level < ceiling form.now.width (place_of form.now.dims place.now)) }
@@ -50,7 +51,7 @@ pub(crate) fn read_record(
     if rest.len() < 8 * len {
         return Err(LoadFault::Short(at as u64));
     }
-    let Ok(words) = read_words(alloc, rest, len) else {
+    let Ok(words) = read_words(alloc, rest, len, first.children as usize) else {
         return Err(LoadFault::NoMemory);
     };
     if !rest_fits(words.as_slice(), &first, form, place) {
@@ -78,13 +79,14 @@ fn rest_fits(words: &[u64], first: &First, form: &Form, place: &Place) -> bool
     boxes_fit(words, form, place)
 }
 
-// So many words, from the first byte on.
-fn read_words(alloc: Global, bytes: &[u8], len: usize) -> Result<Words, NoMemory>
-    requires small { len < 2 ^ 32 }
+// So many words, from the first byte on, and room for some more.
+fn read_words(alloc: Global, bytes: &[u8], len: usize, more: usize) -> Result<Words, NoMemory>
+    requires small { len + more < 2 ^ 21 }
     requires inside { 8 * len ≤ length bytes.now }
-    ensures { IfOk result (λ w. w.words ≡ words_in len bytes.now) }
+    ensures words { IfOk result (λ w. w.words ≡ words_in len bytes.now) }
+    ensures room { IfOk result (λ w. w.spare ≡ more) }
 {
-    let mut words = Words::with_room(alloc, len)?;
+    let mut words = Words::with_room(alloc, len + more)?;
     for i in 0..len {
         words.push(word_at(bytes, 8 * i));
     }

@@ -33,7 +33,7 @@ children-lawful dims level least end h = _
 children-lawful dims level least (point a body v rest) h = children-lawful dims level (a + 1) rest h.3
 children-lawful dims level least (child a body below chain rest) h = (h.6, children-lawful dims level (a + 1) rest h.7)
 
-length-children : (e : Entries) → length (child_nodes e) ≡ children (flat e)
+pub length-children : (e : Entries) → length (child_nodes e) ≡ children (flat e)
 length-children end = refl
 length-children (point a body v rest) = omega (arith, length-children rest)
 length-children (child a body below chain rest) = omega (arith, length-children rest)

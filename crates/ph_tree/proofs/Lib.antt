@@ -2,10 +2,10 @@
 pub mod Compared
 mod Fewer
 mod Gone
-mod Lengths
+mod NodeRooms
 mod Offsets
-mod PutWords
-mod RecordWords
+mod PutRooms
+mod RoomLimits
 mod Rooms
 mod Shifted
 pub mod Sizes

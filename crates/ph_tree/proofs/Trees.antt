@@ -21,6 +21,7 @@ use Rattle.ph_table.specs.declared.table.Put.TheVariants.{New, Old}
 use Rattle.ph_table.specs.Rows.{put_answer}
 use Rattle.ph_tree.specs.Opened.{opened_in}
 use Rattle.ph_tree.specs.Key.{Key}
+use Rattle.ph_tree.specs.Rooms.{spare_wanted_in}
 use Rattle.ph_tree.specs.Tree.{TreeTable, tree_table, with_row, IsTree}
 use Rattle.ph_tree.proofs.Ways.{path-opened}
 
@@ -99,6 +100,11 @@ module _ {dims w max len : ℕ} {t : Option PlainNode} {s : TreeTable} {p : List
   pub opened_is : opened_in key.width t key.point ≡ length (path s.width dims s.table p)
   opened_is =
       (λ i. opened_in (k.width i) t (k.point i)) ∙ sym (path-opened w dims t p k.tree.wide at_width k.tree.lawful) ∙ ap (λ u. length (path u.width dims u.table p)) k.seen
+
+  -- a removal wants the room that one from the shape of the table wants
+  pub wanted_is : spare_wanted_in key.width dims t key.point ≡ spare_wanted_in s.width dims (shape s.width s.table) p
+  wanted_is =
+      (λ i. spare_wanted_in (k.width i) dims t (k.point i)) ∙ (λ i. spare_wanted_in (width_is k.seen k.tree i) dims (shape_is k.seen k.tree i) p)
 
   pub opened_few : opened_in key.width t key.point ≤ s.width
   opened_few =

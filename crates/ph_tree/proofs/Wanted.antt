@@ -1,13 +1,12 @@
--- The room that a removal wants, and the longest record on a way, by the step that is taken at a node.
-use Rattle.std.proofs.Common.{length, ◌≡◌, ◌≢◌, ℕ, zero, suc, ◌+◌, ◌≤◌, List, cond, refl, arith, ap, ◌∙◌, ne_eqb, eq-eqb}
-use Rattle.std.specs.Prelude.{◌==◌, max, ℤ, Some, None, slice_get, unwrap_or}
+-- The room that a removal wants, and the most that a node takes on a way, by the step that is taken at a node.
+use Rattle.std.proofs.Common.{length, ◌≡◌, ◌≢◌, ℕ, zero, suc, ◌+◌, ◌≤◌, List, cond, refl, arith, ap, sym, ◌∙◌, ne_eqb, eq-eqb}
+use Rattle.std.specs.Prelude.{◌==◌, max, ℤ, Option, Some, None, slice_get, unwrap_or}
 use Rattle.ph_specs.specs.ZOrder.{address}
 use Rattle.ph_specs.specs.Node.{Entries, end, point, child, Entry, What, value, node, PlainNode, entries, listed}
 use Rattle.ph_specs.specs.Shape.{digits_below, digits_between}
-use Rattle.ph_specs.specs.Lawful.{IsLawfulFrom, count}
-use Rattle.ph_specs.specs.Pack.{pack}
+use Rattle.ph_specs.specs.Lawful.{IsLawful, IsLawfulFrom, count}
 use Rattle.ph_specs.specs.PutTree.{same_digits}
-use Rattle.ph_specs.specs.DelTree.{del_entries}
+use Rattle.ph_specs.specs.DelTree.{del_entries, del_node}
 use Rattle.ph_specs.specs.EntryEdits.{point_entry}
 use Rattle.ph_specs.proofs.lemmas.PointDigits.{same_digits-refl}
 use Rattle.ph_node.specs.Shown.{shown}
@@ -15,10 +14,10 @@ use Rattle.ph_node.specs.declared.reads.NodeRefOf.{NodeRefOf}
 use Rattle.ph_node.specs.declared.spots.Spot.{Spot}
 use Rattle.ph_tree.specs.declared.step.StepOf.{StepOf}
 use Rattle.ph_tree.specs.declared.step.StepOf.TheVariants.{Same, Below}
-use Rattle.ph_tree.specs.Rooms.{wanted_below, spare_wanted, longest_below, longest}
-use Rattle.ph_tree.specs.Step.{IsOwn, IsAmong, IsStep}
+use Rattle.ph_tree.specs.Rooms.{room_of_entries, wanted_below, spare_wanted, spare_wanted_in, longest_below, longest}
+use Rattle.ph_tree.specs.Step.{IsAmong, IsStep}
 use Rattle.ph_tree.proofs.Walks.{no_entry, least-address, IsStepAt, step_as, below_digits}
-use Rattle.ph_tree.proofs.Gone.{length-count, own_length, below_left, below_lawful}
+use Rattle.ph_tree.proofs.Gone.{length-count, below_left, root_left}
 
 -- ---- a number by the entry at the point's address
 
@@ -46,15 +45,15 @@ module _ (w dims b : ℕ) (p : List ℤ) (of_all : Entries → ℕ) (of_one : Li
 
 -- what is wanted for one entry at the point's address
 abbrev wanted_by : ℕ → ℕ → ℕ → ℕ → List ℤ → List ℕ → What → ℕ
-wanted_by w dims words b p body (value v) = cond (same_digits body (digits_below w b p)) words 0
-wanted_by w dims words b p body (node m) =
-    cond (same_digits body (digits_between w b m.level p)) (cond (count (del_entries w m.level m.chain p) == 1) (words + 1) (spare_wanted w dims m p)) 0
+wanted_by w dims room b p body (value v) = cond (same_digits body (digits_below w b p)) room 0
+wanted_by w dims room b p body (node m) =
+    cond (same_digits body (digits_between w b m.level p)) (cond (count (del_entries w m.level m.chain p) == 1) 0 (spare_wanted w dims m p)) 0
 
-wanted-at : (w dims words b least : ℕ) (e : Entries) (i : ℕ) (x : Entry) (p : List ℤ) → IsLawfulFrom dims b least e → slice_get (listed e) i ≡ Some x → x.addr ≡ address w p b → wanted_below w dims words b e p ≡ wanted_by w dims words b p x.body x.what
-wanted-at w dims words b least e i x p =
-    by-entry w dims b p (λ e. wanted_below w dims words b e p) (wanted_by w dims words b p) (λ a body v rest. refl) (λ a body c chain rest. refl) least e i x
+wanted-at : (w dims room b least : ℕ) (e : Entries) (i : ℕ) (x : Entry) (p : List ℤ) → IsLawfulFrom dims b least e → slice_get (listed e) i ≡ Some x → x.addr ≡ address w p b → wanted_below w dims room b e p ≡ wanted_by w dims room b p x.body x.what
+wanted-at w dims room b least e i x p =
+    by-entry w dims b p (λ e. wanted_below w dims room b e p) (wanted_by w dims room b p) (λ a body v rest. refl) (λ a body c chain rest. refl) least e i x
 
--- the longest record behind one entry at the point's address
+-- the most that a node takes behind one entry at the point's address
 abbrev longest_by : ℕ → ℕ → ℕ → List ℤ → List ℕ → What → ℕ
 longest_by w dims b p body (value v) = 0
 longest_by w dims b p body (node m) = cond (same_digits body (digits_between w b m.level p)) (longest w dims m p) 0
@@ -74,13 +73,13 @@ module _ {dims w o : ℕ} {p : List ℤ} {t : PlainNode} {found : StepOf PlainNo
     own = step_as k is
 
     -- the node that loses the point is written anew
-    pub same_wanted : spare_wanted w dims t p ≡ length (pack dims t)
+    pub same_wanted : spare_wanted w dims t p ≡ room_of_entries dims t.level t.chain
     same_wanted =
-        wanted-at w dims (length (pack dims t)) t.level 0 t.chain spot.place own.0 p k.lawful own.1.0 own.1.1
-        ∙ ap (wanted_by w dims (length (pack dims t)) t.level p own.0.body) own.2
-        ∙ ap (λ z. cond z (length (pack dims t)) 0) (same_digits-refl own.0.body (digits_below w t.level p) own.3)
+        wanted-at w dims (room_of_entries dims t.level t.chain) t.level 0 t.chain spot.place own.0 p k.lawful own.1.0 own.1.1
+        ∙ ap (wanted_by w dims (room_of_entries dims t.level t.chain) t.level p own.0.body) own.2
+        ∙ ap (λ z. cond z (room_of_entries dims t.level t.chain) 0) (same_digits-refl own.0.body (digits_below w t.level p) own.3)
 
-    pub same_longest : longest w dims t p ≡ length (pack dims t)
+    pub same_longest : longest w dims t p ≡ room_of_entries dims t.level t.chain
     same_longest =
         let none : longest_below w dims t.level t.chain p ≡ 0 = longest-at w dims t.level 0 t.chain spot.place own.0 p k.lawful own.1.0 own.1.1 ∙ ap (longest_by w dims t.level p own.0.body) own.2 in
         omega (arith, none)
@@ -89,26 +88,33 @@ module _ {dims w o : ℕ} {p : List ℤ} {t : PlainNode} {found : StepOf PlainNo
     abbrev nearer : IsStep w p t (Below spot rank m) o
     nearer = step_as k is
 
-    below_wanted : spare_wanted w dims t p ≡ cond (count (del_entries w (shown m).level (shown m).chain p) == 1) (length (pack dims t) + 1) (spare_wanted w dims (shown m) p)
+    below_wanted : spare_wanted w dims t p ≡ cond (count (del_entries w (shown m).level (shown m).chain p) == 1) 0 (spare_wanted w dims (shown m) p)
     below_wanted =
-        wanted-at w dims (length (pack dims t)) t.level 0 t.chain spot.place nearer.0 p k.lawful nearer.1.0 nearer.1.1
-        ∙ ap (wanted_by w dims (length (pack dims t)) t.level p nearer.0.body) nearer.2
-        ∙ ap (λ z. cond z (cond (count (del_entries w (shown m).level (shown m).chain p) == 1) (length (pack dims t) + 1) (spare_wanted w dims (shown m) p)) 0) (below_digits k is)
+        wanted-at w dims (room_of_entries dims t.level t.chain) t.level 0 t.chain spot.place nearer.0 p k.lawful nearer.1.0 nearer.1.1
+        ∙ ap (wanted_by w dims (room_of_entries dims t.level t.chain) t.level p nearer.0.body) nearer.2
+        ∙ ap (λ z. cond z (cond (count (del_entries w (shown m).level (shown m).chain p) == 1) 0 (spare_wanted w dims (shown m) p)) 0) (below_digits k is)
 
-    -- a child of two entries that goes leaves a record that may be longer by a word
-    pub merge_wanted : (j : Spot) (v : ℕ) → (length (entries (shown m)) ≡ 2) × IsOwn w p (shown m) j v → spare_wanted w dims t p ≡ length (pack dims t) + 1
-    merge_wanted j v (two, y) =
-        let one : count (del_entries w (shown m).level (shown m).chain p) ≡ 1 = omega (arith, two, own_length w dims p (shown m) (below_lawful k is).lawful j v y, length-count (del_entries w (shown m).level (shown m).chain p)) in
-        below_wanted ∙ ap (λ z. cond z (length (pack dims t) + 1) (spare_wanted w dims (shown m) p)) (eq-eqb (count (del_entries w (shown m).level (shown m).chain p)) 1 one)
-
-    -- a child that keeps two entries wants all the room
+    -- a child that keeps two entries wants what is wanted
     pub child_wanted : {n : PlainNode} → shown m ≡ n → IsAmong w p (shown m) 2 None → spare_wanted w dims t p ≡ spare_wanted w dims n p
     child_wanted e h =
         let many : 2 ≤ count (del_entries w (shown m).level (shown m).chain p) = omega (arith, below_left k is refl h, length-count (del_entries w (shown m).level (shown m).chain p)) in
         below_wanted
-        ∙ ap (λ z. cond z (length (pack dims t) + 1) (spare_wanted w dims (shown m) p)) (ne_eqb (count (del_entries w (shown m).level (shown m).chain p)) 1 (many_not_one _ many))
+        ∙ ap (λ z. cond z 0 (spare_wanted w dims (shown m) p)) (ne_eqb (count (del_entries w (shown m).level (shown m).chain p)) 1 (many_not_one _ many))
         ∙ ap (λ u. spare_wanted w dims u p) e
 
-    pub below_longest : longest w dims t p ≡ max (length (pack dims t)) (longest w dims (shown m) p)
+    pub below_longest : longest w dims t p ≡ max (room_of_entries dims t.level t.chain) (longest w dims (shown m) p)
     below_longest =
-        ap (max (length (pack dims t))) (longest-at w dims t.level 0 t.chain spot.place nearer.0 p k.lawful nearer.1.0 nearer.1.1 ∙ ap (longest_by w dims t.level p nearer.0.body) nearer.2 ∙ ap (λ z. cond z (longest w dims (shown m) p) 0) (below_digits k is))
+        ap (max (room_of_entries dims t.level t.chain)) (longest-at w dims t.level 0 t.chain spot.place nearer.0 p k.lawful nearer.1.0 nearer.1.1 ∙ ap (longest_by w dims t.level p nearer.0.body) nearer.2 ∙ ap (λ z. cond z (longest w dims (shown m) p) 0) (below_digits k is))
+
+-- ---- a root
+
+not_zero : (n : ℕ) → 1 ≤ n → n ≢ 0
+not_zero n l e = omega (arith, l, e)
+
+-- one that keeps an entry wants what its node does
+pub root_wanted : (w dims : ℕ) (p : List ℤ) (n s : PlainNode) → s ≡ n → (t : Option PlainNode) → Some n ≡ t → IsLawful w dims t → IsAmong w p s 1 None → spare_wanted_in w dims t p ≡ spare_wanted w dims n p
+root_wanted w dims p n s is t root ok h =
+    let left : 1 ≤ length (entries (del_node w n p)) = root_left w dims p n s is t root ok h in
+    let some : 1 ≤ count (del_entries w n.level n.chain p) = omega (arith, left, length-count (del_entries w n.level n.chain p)) in
+    ap (λ u. spare_wanted_in w dims u p) (sym root)
+    ∙ ap (λ z. cond z 0 (spare_wanted w dims n p)) (ne_eqb (count (del_entries w n.level n.chain p)) 0 (not_zero _ some))

@@ -1,8 +1,8 @@
--- Blocks that are there before a removal begins.
-use Rattle.std.specs.Prelude.{ℕ, ◌≤◌, MatchOption}
+-- The room that is there before a removal begins.
+use Rattle.std.specs.Prelude.{◌≡◌, ℕ, ◌≤◌, MatchOption}
 use Rattle.ph_bits.specs.Block.{room_of}
 use Rattle.ph_tree.specs.declared.removals.Removal.{Removal}
 
--- a block is there, with room for so many words
+-- so much room, in the block that is there. With no block there is none
 abbrev pub HasRoom : Removal → ℕ → Type 0
-HasRoom r n = MatchOption r.there ⊥ (λ words. n ≤ room_of words)
+HasRoom r n = MatchOption r.there (n ≡ 0) (λ words. n ≤ room_of words)

@@ -8,7 +8,7 @@ ghost use Rattle.ph_tree.specs.Opened.{opened_below, opened_in};
 ghost use Rattle.ph_tree.specs.Rooms.{longest, longest_in};
 
 use crate::key::KeyOf;
-use crate::records::record_words;
+use crate::records::record_room;
 use crate::step::{StepOf, step};
 use ph_coord::Dims;
 use ph_node::{NodeOf, NodeRefOf};
@@ -38,14 +38,14 @@ pub(crate) fn find_in<P: Dims, V: Ledger>(
     }
 }
 
-// A value that was found, and the most words that the record of a node on the way to it has.
+// A value that was found, and the most room that a node on the way to it takes.
 #[derive(Clone, Copy)]
 pub(crate) struct Found {
     pub(crate) value: u64,
     pub(crate) longest: usize,
 }
 
-// The value at a point in a tree, and the longest record on its way.
+// The value at a point in a tree, and the most room that a node on its way takes.
 pub(crate) fn find_long<P: Dims, V: Ledger>(
     root: &Option<NodeOf<P>>,
     key: &KeyOf<P>,
@@ -56,7 +56,7 @@ pub(crate) fn find_long<P: Dims, V: Ledger>(
     ensures found { MatchOption result (find_tree key.now.width P.D root.now key.now.point ≡ None)
         (λ f. find_tree key.now.width P.D root.now key.now.point ≡ Some f.value) }
     ensures longest { IfSome result (λ f. f.longest ≡ longest_in key.now.width P.D root.now key.now.point) }
-    ensures limit { IfSome result (λ f. f.longest < 2 ^ 31) }
+    ensures limit { IfSome result (λ f. f.longest ≤ 2 ^ 20 + 2 ^ 16) }
     ensures cost { visits.new ≡ visits.old + opened_in key.now.width root.now key.now.point }
 {
     // A use that makes the range of the width known.
@@ -67,7 +67,7 @@ pub(crate) fn find_long<P: Dims, V: Ledger>(
     }
 }
 
-// The value at a point, in a visited node or below it, and the longest record from the node on.
+// The value at a point, in a visited node or below it, and the most room that a node takes from there on.
 fn find_long_in<P: Dims, V: Ledger>(
     node: NodeRefOf<'_, NodeOf<P>>,
     key: &KeyOf<P>,
@@ -79,13 +79,13 @@ fn find_long_in<P: Dims, V: Ledger>(
     ensures found { MatchOption result (find_node key.now.width (shown node.entry) key.now.point ≡ None)
         (λ f. find_node key.now.width (shown node.entry) key.now.point ≡ Some f.value) }
     ensures longest { IfSome result (λ f. f.longest ≡ longest key.now.width P.D (shown node.entry) key.now.point) }
-    ensures limit { IfSome result (λ f. f.longest < 2 ^ 31) }
+    ensures limit { IfSome result (λ f. f.longest ≤ 2 ^ 20 + 2 ^ 16) }
     ensures cost { visits.new ≡ visits.old + opened_below key.now.width (shown node.entry).level (shown node.entry).chain key.now.point }
 {
     let mut node = node;
     let mut longest = 0;
     'down: loop {
-        longest = max(longest, record_words(node));
+        longest = max(longest, record_room(node));
         match step(node, key, visits) {
             StepOf::Absent(_) => return None,
             StepOf::Same(_, value) => return Some(Found { value, longest }),

@@ -1,6 +1,6 @@
 //! Moving the value at one point to another.
 
-ghost use Rattle.std.specs.Prelude.{◌≡◌, ◌+◌, ◌*◌, ◌^◌, ◌<◌, ◌≤◌, None, Some, Ok, IsSome, IfOk, OnOk, OnErr};
+ghost use Rattle.std.specs.Prelude.{◌≡◌, ◌+◌, ◌*◌, ◌^◌, ◌≤◌, None, Some, Ok, IsSome, IfOk, OnOk, OnErr};
 ghost use Rattle.ph_specs.specs.Coordinate.{IsPoint};
 ghost use Rattle.ph_specs.specs.Lawful.{IsLawful};
 ghost use Rattle.ph_specs.specs.PutTree.{find_tree, put_tree};
@@ -33,7 +33,7 @@ pub enum Moved {
 
 // Puts the value at one point of a tree to another, and then takes the first out, where no row is at the other. That is looked
 // up first, so a point that is taken takes no memory. All memory is taken before the first change: the block for the removal
-// has room for the longest record on the way of the first point, and for what the put may add to one.
+// has the most room that a node on the way of the first point takes, and what the put may add to one.
 pub(crate) fn move_in<P: Dims, V: Ledger, C: Ledger>(
     root: &mut Option<NodeOf<P>>,
     alloc: Global,
@@ -52,7 +52,7 @@ pub(crate) fn move_in<P: Dims, V: Ledger, C: Ledger>(
     requires lawful { IsLawful to.now.width P.D root.old }
     requires found { find_tree from.now.width P.D root.old from.now.point ≡ Some found.value }
     requires longest { found.longest ≡ longest_in from.now.width P.D root.old from.now.point }
-    requires short { found.longest < 2 ^ 31 }
+    requires short { found.longest ≤ 2 ^ 20 + 2 ^ 16 }
     ensures taken { IsSome (find_tree to.now.width P.D root.old to.now.point) → result ≡ Ok Moved.Taken }
     ensures done { find_tree to.now.width P.D root.old to.now.point ≡ None → IfOk result (λ a. a ≡ Moved.Done) }
     ensures moved { find_tree to.now.width P.D root.old to.now.point ≡ None
@@ -103,12 +103,12 @@ pub(crate) fn move_in<P: Dims, V: Ledger, C: Ledger>(
     }
 }
 
-// By how many words a put at a point of a width may let the room grow that a removal wants.
+// By how many words a put at a point of a width lets the room grow, at most, that a removal wants.
 fn more_words(width: u32, dims: usize) -> usize
     requires width { width ≤ 62 }
     requires dims { dims ≤ 16 }
     ensures value { result ≡ more_words width dims }
-    ensures limit { result ≤ 18 }
+    ensures limit { result ≤ 17 }
 {
-    (1 + dims + dims * width as usize + 63) / 64 + 2
+    (1 + dims + dims * width as usize + 63) / 64 + 1
 }

@@ -1,21 +1,22 @@
-//! How long the record of a node is.
+//! How much room a node takes.
 
-ghost use Rattle.std.specs.Prelude.{◌≡◌, ◌^◌, ◌<◌, ◌≤◌, length};
+ghost use Rattle.std.specs.Prelude.{◌≡◌, ◌+◌, ◌^◌, ◌≤◌};
 ghost use Rattle.ph_specs.specs.Lawful.{IsLawfulFrom};
-ghost use Rattle.ph_specs.specs.Pack.{pack};
 ghost use Rattle.ph_node.specs.Shown.{shown};
+ghost use Rattle.ph_tree.specs.Rooms.{room_of_entries};
 
 use ph_coord::Dims;
 use ph_node::{NodeOf, NodeRefOf};
 
-// How many words the record of a visited node has.
-pub(crate) fn record_words<P: Dims>(node: NodeRefOf<'_, NodeOf<P>>) -> usize
+// How many words a visited node takes: those of its record, and one for each child.
+pub(crate) fn record_room<P: Dims>(node: NodeRefOf<'_, NodeOf<P>>) -> usize
     requires few { P.D ≤ 16 }
     requires lawful { IsLawfulFrom P.D (shown node).level 0 (shown node).chain }
-    ensures words { result ≡ length (pack P.D (shown node.entry)) }
-    ensures limit { result < 2 ^ 31 }
+    ensures room { result ≡ room_of_entries P.D (shown node.entry).level (shown node.entry).chain }
+    ensures some { 1 ≤ result }
+    ensures limit { result ≤ 2 ^ 20 + 2 ^ 16 }
 {
     // A use that makes the range of the level known.
     let _level = node.level();
-    node.words().len()
+    node.words().len() + node.children().len()
 }

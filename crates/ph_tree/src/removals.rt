@@ -6,7 +6,6 @@ ghost use Rattle.ph_specs.specs.EntryEdits.{what_at, without};
 ghost use Rattle.ph_specs.specs.Lawful.{IsLawful, IsLawfulFrom};
 ghost use Rattle.ph_specs.specs.PutTree.{find_node, find_tree};
 ghost use Rattle.ph_specs.specs.DelTree.{del_node, del_tree};
-ghost use Rattle.ph_specs.specs.Pack.{pack};
 ghost use Rattle.ph_bits.specs.Block.{room_of};
 ghost use Rattle.ph_node.specs.Merge.{IsPair, entries_held, merge_node};
 ghost use Rattle.ph_node.specs.Shown.{shown};
@@ -14,12 +13,12 @@ ghost use Rattle.ph_node.specs.Split.{IsValue, body_at};
 ghost use Rattle.ph_node.specs.Spots.{IsSpot};
 ghost use Rattle.ph_tree.specs.Opened.{opened_below, opened_in};
 ghost use Rattle.ph_tree.specs.Placed.{value_gone};
-ghost use Rattle.ph_tree.specs.Rooms.{spare_wanted, spare_wanted_in};
+ghost use Rattle.ph_tree.specs.Rooms.{room_of_entries, spare_wanted, spare_wanted_in};
 ghost use Rattle.ph_tree.specs.Spares.{HasRoom};
 ghost use Rattle.ph_tree.specs.Step.{IsAmong};
 
 use crate::key::KeyOf;
-use crate::records::record_words;
+use crate::records::record_room;
 use crate::step::{StepOf, step};
 use ph_bits::Words;
 use ph_coord::Dims;
@@ -40,9 +39,10 @@ pub(crate) struct Removal {
 }
 
 impl Removal {
-    // A block with room for so many words. One that is there is not taken anew.
+    // A block with room for so many words. Where one is there, none is taken.
     fn block(&mut self, room: usize) -> Result<Words, NoMemory>
-        requires { room < 2 ^ 32 }
+        requires some { 1 ≤ room }
+        requires limit { room < 2 ^ 21 }
         ensures room { IfOk result (λ b. room ≤ room_of b) }
         ensures there { HasRoom self.old room → IsOk result }
     {
@@ -84,8 +84,8 @@ impl Removed {
     }
 }
 
-// Takes a point out of a tree. The root goes with the last row. Memory is taken where the point is found, before the
-// first change.
+// Takes a point out of a tree. The root goes with the last row. Memory is taken where the point is found and its node's record
+// is written anew, before the first change.
 pub(crate) fn del_in<P: Dims, V: Ledger, C: Ledger>(
     root: &mut Option<NodeOf<P>>,
     key: &KeyOf<P>,
@@ -153,13 +153,13 @@ pub(crate) fn del_at<P: Dims, V: Ledger, C: Ledger>(
     match step(node, key, visits) {
         StepOf::Absent(_) => Removed::Nothing,
         StepOf::Same(spot, value) => {
-            let words = record_words(node);
-            drop_point(cur, spot, value, words, removal, changes)
+            let room = record_room(node);
+            drop_point(cur, spot, value, room, removal, changes)
         }
         StepOf::Below(spot, rank, below) => match point_among(below, 2, key) {
             Some((own, value)) => {
-                let words = record_words(node);
-                drop_child(cur, spot, own.place, value, words, removal, changes)
+                drop_child(cur, spot, own.place, value, removal, changes);
+                Removed::Gone
             }
             None => {
                 let slot = cur.child_mut(spot, rank);
@@ -170,31 +170,32 @@ pub(crate) fn del_at<P: Dims, V: Ledger, C: Ledger>(
     }
 }
 
-// Lets a point entry of a node go, whose record has so many words, and leaves its value in the removal.
+// Lets a point entry of a node go, which takes so much room, and leaves its value in the removal.
 #[inline(never)]
 fn drop_point<P: Dims, C: Ledger>(
     cur: &mut NodeOf<P>,
     spot: Spot,
     value: u64,
-    words: usize,
+    room: usize,
     removal: &mut Removal,
     changes: &mut Steps<C>,
 ) -> Removed
     requires spot { IsSpot (entries cur.old) spot }
     requires point { IsValue (what_at (entries cur.old) spot.place) }
     requires many { 2 ≤ length (entries cur.old) }
-    requires words { words ≡ length (pack P.D cur.old) }
-    requires limit { words < 2 ^ 31 }
+    requires room { room ≡ room_of_entries P.D cur.old.level cur.old.chain }
+    requires some { 1 ≤ room }
+    requires limit { room < 2 ^ 21 }
     ensures answer { IfOk (value_gone result removal.new.value) (λ a. a ≡ Some value) }
     ensures del { OnOk (value_gone result removal.new.value) (cur.new ≡ node_of cur.old.level (without (entries cur.old) spot.place)) }
     ensures err { OnErr (value_gone result removal.new.value) (cur.new ≡ cur.old) }
-    ensures roomy { HasRoom removal.old words → IsOk (value_gone result removal.new.value) }
+    ensures roomy { HasRoom removal.old room → IsOk (value_gone result removal.new.value) }
     ensures changes { changes.new ≤ changes.old + 1 }
     ensures spared { OnErr (value_gone result removal.new.value) (changes.new ≡ changes.old) }
     ensures kept { changes.old ≤ changes.new }
     ensures made { IfOk (value_gone result removal.new.value) (λ a. IsSome a → changes.old + 1 ≤ changes.new) }
 {
-    let Ok(block) = removal.block(words) else {
+    let Ok(block) = removal.block(room) else {
         return Removed::Failed;
     };
     cur.drop_entry(spot, block, changes);
@@ -202,39 +203,26 @@ fn drop_point<P: Dims, C: Ledger>(
     Removed::Gone
 }
 
-// Lets the child of an entry and its point entry `j` go, in a node whose record has so many words, and leaves the
-// point's value in the removal.
+// Lets the child of an entry and its point entry `j` go, and leaves the point's value in the removal. Takes no memory.
 #[inline(never)]
 fn drop_child<P: Dims, C: Ledger>(
     cur: &mut NodeOf<P>,
     spot: Spot,
     j: usize,
     value: u64,
-    words: usize,
     removal: &mut Removal,
     changes: &mut Steps<C>,
-) -> Removed
+)
     requires spot { IsSpot (entries cur.old) spot }
     requires child { IsPair cur.old.level (body_at (entries cur.old) spot.place) (what_at (entries cur.old) spot.place) }
     requires one { j < 2 }
     requires point { IsValue (what_at (entries_held (what_at (entries cur.old) spot.place)) j) }
-    requires words { words ≡ length (pack P.D cur.old) }
-    requires limit { words < 2 ^ 31 }
-    ensures answer { IfOk (value_gone result removal.new.value) (λ a. a ≡ Some value) }
-    ensures del { OnOk (value_gone result removal.new.value) (cur.new ≡ merge_node cur.old spot.place j) }
-    ensures err { OnErr (value_gone result removal.new.value) (cur.new ≡ cur.old) }
-    ensures roomy { HasRoom removal.old (words + 1) → IsOk (value_gone result removal.new.value) }
-    ensures changes { changes.new ≤ changes.old + 2 }
-    ensures spared { OnErr (value_gone result removal.new.value) (changes.new ≡ changes.old) }
-    ensures kept { changes.old ≤ changes.new }
-    ensures made { IfOk (value_gone result removal.new.value) (λ a. IsSome a → changes.old + 1 ≤ changes.new) }
+    ensures value { removal.new.value ≡ value }
+    ensures del { cur.new ≡ merge_node cur.old spot.place j }
+    ensures cost { changes.new ≡ changes.old + 2 }
 {
-    let Ok(block) = removal.block(words + 1) else {
-        return Removed::Failed;
-    };
-    cur.merge(spot, j, block, changes);
+    cur.merge(spot, j, changes);
     removal.value = value;
-    Removed::Gone
 }
 
 // The entry that is a point and its value, in a visited node of so many entries. Where all of them are children, none is looked for.

@@ -10,6 +10,7 @@ ghost use Rattle.ph_specs.specs.WorkSets.{all_nodes, path};
 ghost use Rattle.ph_table.specs.Rows.{put_answer};
 ghost use Rattle.ph_tree.specs.Tree.{with_row, without_row};
 ghost use Rattle.ph_tree.specs.Moves.{move_answer, with_moved};
+ghost use Rattle.ph_tree.specs.Rooms.{spare_wanted_in};
 
 use crate::compare::is_same_node;
 use crate::error::PutError;
@@ -237,7 +238,8 @@ impl<const D: usize> PhTree<D> {
     ///
     /// A node that would keep one entry goes, and that entry takes its place; only the root may have one.
     ///
-    /// A row that is there may want memory, for the record of the node that loses an entry. An error leaves all as it was.
+    /// It takes memory only where it writes a record anew, in a node that loses a point and stays: for the words of that record
+    /// and for the node's children. An absent point, the last row, and a node that goes take none. An error leaves all as it was.
     pub fn del<V: Ledger, C: Ledger>(
         &mut self,
         p: &Point<D>,
@@ -249,6 +251,7 @@ impl<const D: usize> PhTree<D> {
         ensures answer { IfOk result (λ a. a ≡ find self.old.table p.now) }
         ensures err { OnErr result (self.new ≡ self.old) }
         ensures absent { find self.old.table p.now ≡ None → IsOk result }
+        ensures lean { spare_wanted_in self.old.width D (shape self.old.width self.old.table) p.now ≡ 0 → IsOk result }
         ensures visits { visits.new ≤ visits.old + 2 * length (path self.old.width D self.old.table p.now) }
         ensures limit { visits.new ≤ visits.old + 2 * self.old.width }
         ensures later { visits.old ≤ visits.new }

@@ -3,10 +3,12 @@
 ghost use Rattle.std.specs.Prelude.{◌≡◌, ◌+◌, ◌*◌, ◌≤◌, ◌↔◌, [], length, None, Ok, true, false, IfOk, OnOk, OnErr, IsErrOf, IsSome, IsOk};
 ghost use Rattle.ph_specs.specs.Coordinate.{IsPoint};
 ghost use Rattle.ph_specs.specs.Past.{without_past, keep, back, put_kept, del_kept, move_kept};
+ghost use Rattle.ph_specs.specs.Shape.{shape};
 ghost use Rattle.ph_specs.specs.Table.{find};
 ghost use Rattle.ph_specs.specs.WorkSets.{path};
 ghost use Rattle.ph_table.specs.Rows.{put_answer};
 ghost use Rattle.ph_tree.specs.Moves.{move_answer};
+ghost use Rattle.ph_tree.specs.Rooms.{spare_wanted_in};
 ghost use Rattle.ph_undo.specs.Kept.{tree_of};
 
 use crate::ring::{
@@ -150,7 +152,7 @@ impl<const D: usize> Kept<D> {
 
     /// Takes the row at a point out, and tells its value, or `None` where no row is there. What takes a removal back is kept.
     ///
-    /// It wants memory where the tree's removal does. An error leaves the tree and what is kept as they were.
+    /// It takes memory where the tree's removal does, and none to keep it. An error leaves the tree and what is kept as they were.
     pub fn del<V: Ledger, C: Ledger>(
         &mut self,
         p: &Point<D>,
@@ -162,6 +164,7 @@ impl<const D: usize> Kept<D> {
         ensures answer { IfOk result (λ a. a ≡ find self.old.table p.now) }
         ensures err { OnErr result (self.new ≡ self.old) }
         ensures absent { find self.old.table p.now ≡ None → IsOk result }
+        ensures lean { spare_wanted_in self.old.width D (shape self.old.width self.old.table) p.now ≡ 0 → IsOk result }
         ensures visits { visits.new ≤ visits.old + 2 * length (path self.old.width D self.old.table p.now) }
         ensures limit { visits.new ≤ visits.old + 2 * self.old.width }
         ensures later { visits.old ≤ visits.new }

@@ -108,7 +108,7 @@ digits-small cube dims level n f b w =
     ]
 
 -- a record of points has few words
-pub room-small : (cube : Bool) (dims level n step : ℕ) → dims ≤ 16 → level ≤ 61 → 1 ≤ step → n * step ≤ 2 ^ dims → 1 + words_for (digits cube dims level n) + n < 2 ^ 32
+pub room-small : (cube : Bool) (dims level n step : ℕ) → dims ≤ 16 → level ≤ 61 → 1 ≤ step → n * step ≤ 2 ^ dims → 1 + words_for (digits cube dims level n) + n < 2 ^ 21
 room-small cube dims level n step f b s w =
     let p : 0 < 2 = omega arith in
     let q : 2 ^ dims ≤ 2 ^ 16 = pow-le-pow_right p f in

@@ -25,7 +25,7 @@ pub struct Record<P: Dims, L: Layout<P>> {
 /// How many words the record of points has.
 pub fn room_for<P: Dims, L: Layout<P>>(points: &Points<P>) -> usize
     ensures value { result ≡ 1 + words_for (digits L.cube P.D points.now.level points.now.count) + points.now.count }
-    ensures limit { result < 2 ^ 32 }
+    ensures limit { result < 2 ^ 21 }
 {
     1 + L::bits_of(points).div_ceil(64) as usize + points.count as usize
 }

@@ -27,7 +27,6 @@ use Rattle.ph_bits.proofs.places.Right.TheLaws.{lowers as right-lowers}
 use Rattle.ph_bits.proofs.places.release.Statement.{statement}
 use Rattle.ph_bits.proofs.places.release.Code as code
 use Rattle.ph_bits.proofs.PlaceSteps.{to_room}
-use Rattle.ph_bits.proofs.Made.{right_had}
 
 pub release_spec : {M : Type 1} → statement M
 release_spec 𝓤 𝓛 𝓜 𝓡 wired A L g d dd met md =
@@ -63,7 +62,7 @@ release_spec 𝓤 𝓛 𝓜 𝓡 wired A L g d dd met md =
     use1 𝓛 (‵ (froom (ty_array (ty_int w64) (length cells.slots)) b o)) (to_room 𝓛 b cells.slots o) $
     rewrite ! 0 (λ (n : ℕ). ‵ (froom (ty_array (ty_int w64) n) b o)) asked.1 refl $ move ! (1 ∷ []) $
     rewrite ! 0 (λ (r : A.Denot × Ptr × ℕ). ‵ (right_owns (g.dealloc_token r.0) r.1 r.2)) (λ j. (asked.4 j, (asked.2 ∙ e) j, asked.3 j)) refl $
-    use1 𝓛 (‵ (g.dealloc_token heap τ (block_ptr b o))) (right_had 𝓛 (g.dealloc_token heap) (block_ptr b o) room asked.5) $ move ! (1 ∷ 0 ∷ []) $
+    use1 𝓛 (‵ (g.dealloc_token heap τ (block_ptr b o))) (id⊢ 𝓤 _) $ move ! (1 ∷ 0 ∷ []) $
     take_at ! 2 $ rewrite ! 0 (λ (p : Ptr). ‵ (fat full_share (layout S) (l 2) 0 (word p))) (asked.0 ∙ e) refl $ give_at ! 2 $ first ! $ blocks ! $
     sets ! (of_opd ! (get_in ! (fld ! refl (stop !)) (sub ! 0 refl (whole !)))) refl (tt, tt) $
     sets ! (bin ! (get ! refl) (lit ! tt) (record { fits = bytes })) refl (tt, record { fits = bytes }) $

@@ -1,5 +1,5 @@
 -- `take` cuts the new block into places, and keeps the right to give it back. Assumes `Logic`.
-use Rattle.ph_bits.proofs.Walks.{◌*◌, ◌^◌, ◌<◌, List, [], ◌∷◌, refl, sym, subst, arith, length, length-replicate, None, replicate, lit<, true, false, Ok, Err, proved, ftrue, flft, ty_int, named, w64, Val, vstruct, vcons, vnil, fact, tables, ‵, raw, ◌⊛◌, at_ret, ◌$◌, ◌∵◌, !, qed, done, move, keep, use0, use1, use2, use3, split, join, fsplit, fjoin, flt_i, suffices, frame, whole, agg, enter, of_opd, and_then, no_more, bin, lit, stop, fld, first, exec, returns, word, word-Good, alloc_all, pass_all, free_all, look_at, get, get_in, get_tag, lands_as, sets, sets_last, env, usize, yes, uint_vals, uint_Tells, Ptr, block_ptr, owns, plain, nothing, heard, Stays, walk_of, says, stay_dropped, Goes-dropped, ends_at, after, head, arm_body}
+use Rattle.ph_bits.proofs.Walks.{◌*◌, ◌^◌, ◌<◌, List, [], ◌∷◌, refl, sym, subst, arith, length, length-replicate, None, replicate, lit<, true, false, Ok, Err, proved, id⊢, ftrue, flft, ty_int, named, w64, Val, vstruct, vcons, vnil, fact, tables, ‵, raw, ◌⊛◌, at_ret, ◌$◌, ◌∵◌, !, qed, done, move, keep, use0, use1, use2, use3, split, join, fsplit, fjoin, flt_i, suffices, frame, whole, agg, enter, of_opd, and_then, no_more, bin, lit, stop, fld, first, exec, returns, word, word-Good, alloc_all, pass_all, free_all, look_at, get, get_in, get_tag, lands_as, sets, sets_last, env, usize, yes, uint_vals, uint_Tells, Ptr, block_ptr, owns, plain, nothing, heard, Stays, walk_of, says, stay_dropped, Goes-dropped, ends_at, after, head, arm_body}
 use base.Fml.{Incl-trans}
 use contract.BorrowLft.{◌⊑◌}
 use denote.Builtin.{RefOf}
@@ -33,7 +33,7 @@ use Rattle.ph_bits.specs.contracts.places.Right as R
 use Rattle.ph_bits.proofs.places.take.Statement.{statement}
 use Rattle.ph_bits.proofs.places.take.Code as code
 use Rattle.ph_bits.proofs.PlaceSteps.{of_room}
-use Rattle.ph_bits.proofs.Made.{Mark, mark, mark_made, start_made, triple_val, triple_made, right_made}
+use Rattle.ph_bits.proofs.Made.{Mark, mark, mark_made, start_made, triple_val, triple_made}
 
 pub take_spec : {M : Type 1} → statement M
 take_spec 𝓤 𝓛 𝓜 𝓡 wired A L g d dd met md =
@@ -86,7 +86,7 @@ take_spec 𝓤 𝓛 𝓜 𝓡 wired A L g d dd met md =
     sets ! (agg ! (and_then ! (get ! refl) (and_then ! (get ! refl) (and_then ! (get ! refl) (no_more !))))) refl typed $
     sets_last ! (agg ! (and_then ! (lit ! tt) (and_then ! (get ! refl) (no_more !)))) refl ok $
     exec ! 𝓣.C 𝓣.Λ En (after 3 function.body) (at_ret En (W.post y)) $ sets ! (of_opd ! (get ! refl)) refl ok $
-    move ! (1 ∷ []) $ use1 𝓛 (‵ (right_owns (g.dealloc_token heap) p room)) (right_made 𝓛 (g.dealloc_token heap) p room asked.0) $
+    move ! (1 ∷ []) $ use1 𝓛 (‵ (right_owns (g.dealloc_token heap) p room)) (id⊢ 𝓤 _) $
     use0 𝓛 (‵ (Mark.own_val (tt, tt) (mark ∷ []))) (mark_made 𝓛) $ fjoin ! $ move ! (1 ∷ []) $
     use1 𝓛 (‵ (places b o cells.slots)) (of_room 𝓛 b room o) $
     flt_i ! (length cells.slots * 8) (2 ^ 63) (subst (λ k. k * 8 < 2 ^ 63) (sym (length-replicate room None)) (omega (arith, asked.1))) $ fjoin ! $

@@ -1,5 +1,4 @@
-use Rattle.std.proofs.Common.{rules, ◌≡◌, ◌+◌, ◌^◌, ◌<◌, take, replicate, arith, sym, ap, ◌∙◌, subst}
-use Rattle.std.specs.Prelude.{if◌then◌else◌}
+use Rattle.std.proofs.Common.{rules, ◌^◌, ◌<◌, take, replicate, arith, sym, ◌∙◌, subst}
 use Rattle.std.specs.List.{AllByRecursion as Each}
 use Rattle.ph_specs.specs.Pack.{bodies}
 use Rattle.ph_specs.specs.Record.{first_in}
@@ -39,8 +38,8 @@ returns c =
     let body = take d there.entry.body in
     let row : IsColumnOver c.put_field.new.words rows there (bodies (first_in old).level (replicate there.more body)) c.put_row.new.words =
     subst (λ s. IsColumnOver c.put_field.new.words rows there (bodies s (replicate there.more body)) c.put_row.new.words) c.level_in-level.ensures c.put_row.ensures in
-    let two : 0 < e.more → 2 ≡ 1 + (if e.entry.child then 1 else 0) = λ _. sym (ap (λ s. 1 + (if s then 1 else 0)) c.requires.child) in
-    put-table d old e a r fit c.requires.edit c.put_field.new.words c.put_row.new.words kinds rows there 2 body c.requires.entries
-    (kind-then d old e a r fit c.requires.edit 2 two (λ z. absurd (omega (arith, z, c.requires.more)))) (body-then d old e a r fit c.requires.edit there.entry.body t.some t.none)
+    let kind = c.new_kind.ensures in
+    put-table d old e a r fit c.requires.edit c.put_field.new.words c.put_row.new.words kinds rows there c.new_kind.result body c.requires.entries
+    (kind-then d old e a r fit c.requires.edit c.new_kind.result kind.some kind.none) (body-then d old e a r fit c.requires.edit there.entry.body t.some t.none)
     t.place t.less t.more ks.at ks.width ks.count rs.at rs.width rs.count
     c.put_field.auto.words (c.put_row.auto.words ∙ c.put_field.auto.words) (each-fits c.put_row.new.words c.type_inv.words) c.put_field.ensures row

@@ -1,7 +1,5 @@
-use Rattle.std.proofs.Common.{◌≡◌, ◌+◌, ◌*◌, ◌^◌, ◌<◌, ◌≤◌, ℕ, length, take, replicate, arith, sym, ap, ◌∙◌, subst, refl, Bool, true, false}
-use Rattle.std.specs.Prelude.{if◌then◌else◌}
+use Rattle.std.proofs.Common.{◌≡◌, ◌+◌, ◌*◌, ◌^◌, ◌<◌, ◌≤◌, ℕ, length, take, replicate, arith, sym, ap, ◌∙◌, subst, false}
 use Rattle.std.specs.List.{AllByRecursion as Each}
-use mir.Val.{bool_byte}
 use Rattle.ph_specs.specs.Digits.{field, number_after}
 use Rattle.ph_specs.specs.Pack.{bodies, linear_digits}
 use Rattle.ph_specs.specs.Record.{first_in}
@@ -17,13 +15,9 @@ use Rattle.ph_linear.specs.Edited.{column_edited}
 use Rattle.ph_linear.specs.Written.{kind_fields, address_fields}
 use Rattle.ph_linear.proofs.Writing.{table-number}
 use Rattle.ph_linear.proofs.EditedEntries.{place-low, length-new}
-use Rattle.ph_linear.proofs.EditedTables.{rising-new, kinds-edited, addresses-edited, bodies-edited}
+use Rattle.ph_linear.proofs.EditedTables.{byte, rising-new, kinds-edited, addresses-edited, bodies-edited}
 use Rattle.ph_linear.proofs.edits.edit_columns.Goals as goal
 use Rattle.ph_linear.proofs.edits.edit_columns.Goals.{After-bodies_of-bodies}
-
-byte : (t : Bool) → bool_byte t ≡ (if t then 1 else 0)
-byte true = refl
-byte false = refl
 
 -- ---- room
 

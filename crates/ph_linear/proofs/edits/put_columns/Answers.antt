@@ -9,7 +9,7 @@ use Rattle.ph_specs.proofs.laws.WordDigits.{each-fits}
 use Rattle.ph_bits.specs.Edits.{flats, new_flat}
 use Rattle.ph_linear.specs.Edited.{IsColumnOver}
 use Rattle.ph_linear.proofs.EditedEntries.{table-old}
-use Rattle.ph_linear.proofs.EditedTables.{rising-new}
+use Rattle.ph_linear.proofs.EditedTables.{byte, rising-new}
 use Rattle.ph_linear.proofs.PutTables.{put-table}
 use Rattle.ph_linear.proofs.edits.put_columns.Goals as goal
 
@@ -41,7 +41,7 @@ returns c =
     let w : e.place + e.less ≤ (first_in old).entries = omega (arith, c.requires.within, c.requires.less) in
     let fit : Each (λ x. x < 2 ^ 64) old = each-fits old (search rules) in
     let kind : IsColumnOver old kinds e (replicate e.more (field kinds.width (if e.entry.child then 1 else 0))) c.put_field.new.words =
-    subst (λ t. IsColumnOver old kinds e (replicate e.more (field kinds.width (if t then 1 else 0))) c.put_field.new.words) (sym c.requires.child) c.put_field.ensures in
+    subst (λ t. IsColumnOver old kinds e (replicate e.more (field kinds.width t)) c.put_field.new.words) (byte e.entry.child) c.put_field.ensures in
     let row : IsColumnOver c.put_field.new.words rows e (bodies (first_in old).level (replicate e.more (take d e.entry.body))) c.put_row.new.words =
     subst (λ t. IsColumnOver c.put_field.new.words rows e (bodies t (replicate e.more (take d e.entry.body))) c.put_row.new.words) c.level_in-level.ensures c.put_row.ensures in
     put-table d old e c.requires.record fit w c.put_field.new.words c.put_row.new.words kinds rows c.requires.entries c.requires.less c.requires.more c.requires.address

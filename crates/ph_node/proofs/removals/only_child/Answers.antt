@@ -7,10 +7,10 @@ use Rattle.ph_node.proofs.removals.only_child.Goals as goal
 
 pub remove-requires : goal.remove-requires
 remove-requires g c =
-    omega (arith, c.requires, ap (λ u. length u) (old _ _ _ _ c.node.view_is c.node.invariant).nodes, length-nodes c.node.inside.children.items, c.node.inside.children.ok.0)
+    omega (arith, c.requires, ap (λ u. length u) (old _ _ _ _ c.node.view_is c.node.invariant).nodes, length-nodes c.node.inside.block.values)
 
 pub returns : goal.returns
 returns g c =
     let n = (old _ _ _ _ c.node.view_is c.node.invariant).nodes in
-    at-slot c.node.inside.children.items 0 c.remove.result (omega (arith, c.requires, ap (λ u. length u) n, length-nodes c.node.inside.children.items)) c.remove.ensures.value
+    at-slot c.node.inside.block.values 0 c.remove.result (omega (arith, c.requires, ap (λ u. length u) n, length-nodes c.node.inside.block.values)) c.remove.ensures.value
     ∙ ap (λ u. node_at u 0) (sym n)

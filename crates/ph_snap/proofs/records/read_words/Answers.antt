@@ -14,3 +14,7 @@ loop-i-preserved c =
       words = c.push.ensures.words ∙ ap (λ t. t ++ c.word_at.result ∷ []) c.loop-i.invariant.words ∙ ap (λ t. words_in c.loop-i.i c.args.bytes.now ++ t ∷ []) c.word_at.ensures ∙ sym (words-more c.loop-i.i c.args.bytes.now);
       room = c.push.ensures.places.0 ∙ c.loop-i.invariant.room;
     }
+
+pub returns-clause-room : goal.returns-clause-room
+returns-clause-room c =
+    omega (arith, c.loop-i.invariant.room, ap length c.loop-i.invariant.words, length-words_in c.loop-i.i c.args.bytes.now)

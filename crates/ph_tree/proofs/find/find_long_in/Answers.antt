@@ -1,7 +1,7 @@
-use Rattle.std.proofs.Common.{◌≡◌, ◌-◌, ℕ, length, arith, refl, rules, sym, ap, ◌∙◌, nat_cmp, max}
+use Rattle.std.proofs.Common.{◌≡◌, ◌-◌, ℕ, arith, refl, rules, sym, ap, ◌∙◌, nat_cmp, max}
 use Rattle.std.specs.Ordering.{ord_max}
-use Rattle.ph_specs.specs.Pack.{pack}
 use Rattle.ph_node.specs.Shown.{shown}
+use Rattle.ph_tree.specs.Rooms.{room_of_entries}
 use Rattle.ph_tree.proofs.Walks.{IsStepAt, absent_found, absent_opened, same_found, same_opened, way_below, other_found, other_opened}
 use Rattle.ph_tree.proofs.Wanted.{same_longest, below_longest}
 use Rattle.ph_tree.proofs.find.find_long_in.Given.{Over}
@@ -15,9 +15,9 @@ greatest a b = search rules
 stepped : (g : Over) (c : After-step g) → IsStepAt g.P.Dims.D c.args.key.now.width c.args.key.now.point (shown c.down.node) c.step.result (c.step.new.visits - c.down.visits)
 stepped g c = record { lawful = c.down.invariant.lawful; step = c.step.ensures.step }
 
--- the longest record so far, with that of the node
-so_far : (g : Over) (c : After-step g) → c.max-longest.result ≡ max c.down.longest (length (pack g.P.Dims.D (shown c.down.node)))
-so_far g c = c.max-longest.ensures ∙ greatest c.down.longest c.record_words.result ∙ ap (max c.down.longest) c.record_words.ensures.words
+-- the most room so far, with that of the node
+so_far : (g : Over) (c : After-step g) → c.max-longest.result ≡ max c.down.longest (room_of_entries g.P.Dims.D (shown c.down.node).level (shown c.down.node).chain)
+so_far g c = c.max-longest.ensures ∙ greatest c.down.longest c.record_room.result ∙ ap (max c.down.longest) c.record_room.ensures.room
 
 pub down-init : goal.down-init
 down-init g c =
@@ -30,8 +30,8 @@ down-init g c =
       cost = refl;
     }
 
-pub record_words-requires-clause-lawful : goal.record_words-requires-clause-lawful
-record_words-requires-clause-lawful g c = c.down.invariant.lawful
+pub record_room-requires-clause-lawful : goal.record_room-requires-clause-lawful
+record_room-requires-clause-lawful g c = c.down.invariant.lawful
 
 pub step-requires-clause-lawful : goal.step-requires-clause-lawful
 step-requires-clause-lawful g c = c.down.invariant.lawful
@@ -61,7 +61,7 @@ returns-in-Same-clause-longest g c =
 
 pub returns-in-Same-clause-limit : goal.returns-in-Same-clause-limit
 returns-in-Same-clause-limit g c =
-    omega (arith, c.max-longest.ensures ∙ greatest c.down.longest c.record_words.result, c.record_words.ensures.limit, c.down.invariant.limit)
+    omega (arith, c.max-longest.ensures ∙ greatest c.down.longest c.record_room.result, c.record_room.ensures.limit, c.down.invariant.limit)
 
 pub returns-in-Same-clause-cost : goal.returns-in-Same-clause-cost
 returns-in-Same-clause-cost g c =
@@ -83,7 +83,7 @@ down-preserved g c =
       level = omega (arith, below.lower, c.down.invariant.level);
       found = sym below.found ∙ c.down.invariant.found;
       longest = omega (arith, so_far g at, below_longest k c.in-Below.is, c.down.invariant.longest);
-      limit = omega (arith, c.max-longest.ensures ∙ greatest c.down.longest c.record_words.result, c.record_words.ensures.limit, c.down.invariant.limit);
+      limit = omega (arith, c.max-longest.ensures ∙ greatest c.down.longest c.record_room.result, c.record_room.ensures.limit, c.down.invariant.limit);
       cost = omega (arith, below.opened, c.step.ensures.cost, c.down.invariant.cost);
     }
 

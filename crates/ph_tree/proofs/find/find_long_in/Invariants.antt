@@ -1,4 +1,4 @@
-use Rattle.std.proofs.Common.{◌≡◌, ◌+◌, ◌^◌, ◌<◌, max}
+use Rattle.std.proofs.Common.{◌≡◌, ◌+◌, ◌^◌, ◌<◌, ◌≤◌, max}
 use Rattle.ph_specs.specs.Lawful.{IsLawfulFrom}
 use Rattle.ph_specs.specs.PutTree.{find_node}
 use Rattle.ph_node.specs.Shown.{shown}
@@ -13,7 +13,7 @@ invariant-down g l =
       level : (shown l.node).level < l.key.width;
       found : find_node l.key.width (shown l.node) l.key.point ≡ find_node l.key.width (shown l.initial.node) l.key.point;
       longest : max l.longest (longest l.key.width g.P.Dims.D (shown l.node) l.key.point) ≡ longest l.key.width g.P.Dims.D (shown l.initial.node) l.key.point;
-      limit : l.longest < 2 ^ 31;
+      limit : l.longest ≤ 2 ^ 20 + 2 ^ 16;
       cost : l.visits + opened_below l.key.width (shown l.node).level (shown l.node).chain l.key.point ≡ l.initial.visits + opened_below l.key.width (shown l.initial.node).level (shown l.initial.node).chain l.key.point;
     }
 

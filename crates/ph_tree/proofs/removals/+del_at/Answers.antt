@@ -1,28 +1,25 @@
-use Rattle.std.proofs.Common.{◌≡◌, ◌+◌, ◌-◌, ℕ, arith, refl, rules, sym, ap, ◌∙◌, subst, length}
+use Rattle.std.proofs.Common.{◌≡◌, ◌-◌, ℕ, arith, refl, rules, sym, ap, ◌∙◌, subst}
+use Rattle.std.specs.Prelude.{Some}
 use Rattle.ph_specs.specs.Node.{node}
 use Rattle.ph_specs.specs.EntryEdits.{with_child}
-use Rattle.ph_specs.specs.Pack.{pack}
 use Rattle.ph_tree.specs.Placed.{value_gone}
+use Rattle.ph_tree.specs.Rooms.{room_of_entries}
 use Rattle.ph_tree.specs.Spares.{HasRoom}
 use Rattle.ph_tree.proofs.Walks.{IsStepAt, step_at, absent_found, absent_opened, same_found, same_opened, same_value, same_spot, below_node, below_spot, below_rank, below_lent, way_below, some_none, found_as, on_ok, on_err, other_found, other_opened}
 use Rattle.ph_tree.proofs.Gone.{absent_del, other_del, same_del, same_many, below_left, below_del, merges}
-use Rattle.ph_tree.proofs.Wanted.{same_wanted, merge_wanted, child_wanted}
+use Rattle.ph_tree.proofs.Wanted.{same_wanted, child_wanted}
 use Rattle.ph_tree.proofs.removals.+del_at.Given.{Over}
-use Rattle.ph_tree.proofs.removals.+del_at.Goals.{After-step, After-record_words-words, After-record_words-words-in-Some}
+use Rattle.ph_tree.proofs.removals.+del_at.Goals.{After-step, After-record_room-room}
 use Rattle.ph_tree.proofs.removals.+del_at.Goals as goal
 
 -- what the step finds in the node
 stepped : (g : Over) (t : ℕ) (c : After-step g t) → IsStepAt g.P.Dims.D c.args.key.now.width c.args.key.now.point c.args.cur.now c.step.result (c.step.new.visits - c.visit-node.new.visits)
 stepped g t c = step_at c.visit-node.ensures.shows c.requires.lawful c.step.ensures.step
 
--- the words of the node's record, before an entry goes
-words_drop : (g : Over) (t : ℕ) (c : After-record_words-words g t) → c.record_words-words.result ≡ length (pack g.P.Dims.D c.args.cur.now)
-words_drop g t c = c.record_words-words.ensures.words ∙ ap (λ n. length (pack g.P.Dims.D n)) c.visit-node.ensures.shows
-
--- and before a child goes
-words_merge : (g : Over) (t : ℕ) (c : After-record_words-words-in-Some g t) → c.record_words-words-in-Some.result ≡ length (pack g.P.Dims.D c.args.cur.now)
-words_merge g t c =
-    c.record_words-words-in-Some.ensures.words ∙ ap (λ n. length (pack g.P.Dims.D n)) c.visit-node.ensures.shows
+-- the room that the node takes
+room_taken : (g : Over) (t : ℕ) (c : After-record_room-room g t) → c.record_room-room.result ≡ room_of_entries g.P.Dims.D c.args.cur.now.level c.args.cur.now.chain
+room_taken g t c =
+    c.record_room-room.ensures.room ∙ ap (λ n. room_of_entries g.P.Dims.D n.level n.chain) c.visit-node.ensures.shows
 
 pub drop_point-requires : goal.drop_point-requires
 drop_point-requires g t c =
@@ -32,8 +29,9 @@ drop_point-requires g t c =
       spot = same_spot k c.in-Same.is;
       point = same_value k c.in-Same.is;
       many = same_many k c.in-Same.is c.requires.left;
-      words = words_drop g t at.After-record_words-words;
-      limit = c.record_words-words.ensures.limit;
+      room = room_taken g t at.After-record_room-room;
+      some = c.record_room-room.ensures.some;
+      limit = omega (arith, c.record_room-room.ensures.limit);
     }
 
 pub point_among-requires : goal.point_among-requires
@@ -45,14 +43,7 @@ pub drop_child-requires : goal.drop_child-requires
 drop_child-requires g t c =
     let at = goal.at.drop_child-requires g t c in
     let m = merges (stepped g t at.After-step) c.in-Below.is c.in-Some.ensures in
-    record {
-      spot = m.there;
-      child = m.pair;
-      one = m.one;
-      point = m.point;
-      words = words_merge g t at.After-record_words-words-in-Some;
-      limit = c.record_words-words-in-Some.ensures.limit;
-    }
+    record { spot = m.there; child = m.pair; one = m.one; point = m.point }
 
 pub child_mut-slot-requires : goal.child_mut-slot-requires
 child_mut-slot-requires g t c =
@@ -90,7 +81,7 @@ returns-in-Same g t c =
     let at = goal.at.returns-in-Same g t c in
     let k = stepped g t at.After-step in
     let drop = c.drop_point.ensures in
-    let wanted = same_wanted k c.in-Same.is ∙ sym (words_drop g t at.After-record_words-words) in
+    let wanted = same_wanted k c.in-Same.is ∙ sym (room_taken g t at.After-record_room-room) in
     record {
       answer = found_as (value_gone c.drop_point.result c.drop_point.new.removal.value) _ _ (sym (same_found k c.in-Same.is)) drop.answer;
       del = on_ok (value_gone c.drop_point.result c.drop_point.new.removal.value) (λ q. q ∙ same_del k c.in-Same.is) drop.del;
@@ -113,20 +104,19 @@ returns-in-Some g t c =
     let m = merges k c.in-Below.is c.in-Some.ensures in
     let below = way_below k c.in-Below.is refl in
     let drop = c.drop_child.ensures in
-    let wanted = merge_wanted k c.in-Below.is c.in-Some.own c.in-Some.value c.in-Some.ensures ∙ ap (λ n. n + 1) (sym (words_merge g t at.After-record_words-words-in-Some)) in
     record {
-      answer = found_as (value_gone c.drop_child.result c.drop_child.new.removal.value) _ _ (sym m.found) drop.answer;
-      del = on_ok (value_gone c.drop_child.result c.drop_child.new.removal.value) (λ q. q ∙ m.del) drop.del;
-      err = drop.err;
-      absent = λ none. some_none (sym m.found ∙ none);
-      roomy = λ room. drop.roomy (subst (HasRoom c.args.removal.now) wanted room);
+      answer = ap Some drop.value ∙ sym m.found;
+      del = drop.del ∙ m.del;
+      err = tt;
+      absent = λ _. refl;
+      roomy = λ _. refl;
       visits = omega (arith, below.one, below.opened, c.in-Below.ensures.cost, c.visit-node.ensures.cost);
       later = omega (arith, c.in-Below.ensures.cost, c.visit-node.ensures.cost);
-      changes = drop.changes;
+      changes = omega (arith, drop.cost);
       idle = λ none. some_none (sym m.found ∙ none);
-      spared = drop.spared;
-      kept = drop.kept;
-      made = drop.made;
+      spared = tt;
+      kept = omega (arith, drop.cost);
+      made = λ _. omega (arith, drop.cost);
     }
 
 pub returns-in-None : goal.returns-in-None

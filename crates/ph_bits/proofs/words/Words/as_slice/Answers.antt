@@ -1,7 +1,7 @@
-use Rattle.std.proofs.Common.{sym, ◌∙◌, ap}
+use Rattle.std.proofs.Common.{◌∙◌, ap}
 use Rattle.ph_bits.specs.Block.{Block}
-use Rattle.ph_bits.proofs.SlotLists.{words-given}
+use Rattle.ph_bits.proofs.SlotLists.{in-shown}
 use Rattle.ph_bits.proofs.words.Words.as_slice.Goals as goal
 
 pub returns : goal.returns
-returns c = sym (words-given c.self.inside.len c.self.inside.places.slots c.words.result.now c.words.ensures) ∙ ap (λ (b : Block). b.words) c.self.view_is
+returns c = in-shown c.self.inside.len c.self.inside.places.slots c.words.result.now c.words.ensures ∙ ap (λ (b : Block). b.words) c.self.view_is

@@ -47,8 +47,8 @@ loop-k-preserved c =
 end : (i k n m : ℕ) → i < m → n ≡ m → (i ≤ n - 1 → k ≤ n - 1) → n - 1 ≤ k → (k ≤ n - 1) × (suc k ≡ m)
 end i k n m h e u d = (omega (arith, h, e, u, d), omega (arith, h, e, u, d))
 
-pub pop-requires : goal.pop-requires
-pop-requires c =
+pub truncate-requires : goal.truncate-requires
+truncate-requires c =
     let z = end c.args.i c.loop-k.k c.len-k-end.result (length c.args.self.now.words) c.requires c.len-k-end.ensures c.loop-k.auto.k-end c.loop-k-test.false in
     let m = many c.args.self.now.words c.loop-k.self.words c.args.i c.loop-k.k c.len-k-end.result c.requires c.loop-k.auto.k z.0 c.len-k-end.ensures c.loop-k.invariant.words in
     omega (arith, m, c.requires)
@@ -62,7 +62,7 @@ returns-clause-words c =
     let z = end c.args.i c.loop-k.k c.len-k-end.result (length c.args.self.now.words) c.requires c.len-k-end.ensures c.loop-k.auto.k-end c.loop-k-test.false in
     let m = many c.args.self.now.words c.loop-k.self.words c.args.i c.loop-k.k c.len-k-end.result c.requires c.loop-k.auto.k z.0 c.len-k-end.ensures c.loop-k.invariant.words in
     let last : length c.loop-k.self.words - 1 ≡ c.loop-k.k = omega (arith, m, z.1) in
-    c.pop.ensures.words
-    ∙ ap (λ t. take t xs) last
+    c.truncate.ensures.words
+    ∙ ap (λ t. take (t - 1) xs) c.len-left.ensures ∙ ap (λ t. take t xs) last
     ∙ ap (take k) c.loop-k.invariant.words
     ∙ moved-last ws i k c.requires z.1

@@ -7,5 +7,5 @@ use Rattle.ph_node.proofs.node.NodeOf.assemble.Goals as goal
 
 pub invariant_of-result : goal.invariant_of-result
 invariant_of-result g c =
-    recorded g.P.Dims.D c.args.words.words (nodes_of c.args.children.items) c.requires.record (subst (Each (λ x. x < 2 ^ 64)) c.as_slice.ensures c.are_words.ensures)
-    (length-nodes c.args.children.items ∙ c.requires.children)
+    recorded g.P.Dims.D c.args.block.words (nodes_of c.args.block.values) c.requires.record (subst (Each (λ x. x < 2 ^ 64)) c.words.ensures c.are_words.ensures)
+    (length-nodes c.args.block.values ∙ c.requires.children)

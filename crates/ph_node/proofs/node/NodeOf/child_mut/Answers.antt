@@ -8,30 +8,30 @@ use Rattle.ph_node.proofs.Lists.{kept_new, seen_new}
 use Rattle.ph_node.proofs.OldNodes.{old}
 use Rattle.ph_node.proofs.node.NodeOf.child_mut.Goals as goal
 
-pub index_mut-requires : goal.index_mut-requires
-index_mut-requires g c =
+pub value_mut-requires : goal.value_mut-requires
+value_mut-requires g c =
     let o = old _ _ _ _ c.self.view_is c.self.invariant in
-    let n : length (nodes_held (entries c.args.self.now)) ≡ length (nodes_of c.self.inside.children.items) = ap (λ u. length u) o.nodes in
-    omega (arith, c.requires.rank, lent-below (entries c.args.self.now) c.args.spot.place c.requires.child, n, length-nodes c.self.inside.children.items, c.self.inside.children.ok.0)
+    let n : length (nodes_held (entries c.args.self.now)) ≡ length (nodes_of c.self.inside.block.values) = ap (λ u. length u) o.nodes in
+    omega (arith, c.requires.rank, lent-below (entries c.args.self.now) c.args.spot.place c.requires.child, n, length-nodes c.self.inside.block.values)
 
 pub invariant_of-self-lent : goal.invariant_of-self-lent
 invariant_of-self-lent g c w =
     let o = old _ _ _ _ c.self.view_is c.self.invariant in
     let k = c.requires.rank in
-    kept_new _ _ _ _ _ (lent _ _ c.self.inside.children.items _ o c.args.spot.place c.args.rank w c.requires.spot.within c.requires.child k) c.self.inside.words.words o.words
+    kept_new _ _ _ _ _ (lent _ _ c.self.inside.block.values _ o c.args.spot.place c.args.rank w c.requires.spot.within c.requires.child k) c.self.inside.block.words o.words
 
 pub returns : goal.returns
 returns g c =
     let o = old _ _ _ _ c.self.view_is c.self.invariant in
     let t = c.args.self.now in
     let k = c.requires.rank in (
-      (refl, λ w. seen_new _ _ _ _ _ (lent _ _ c.self.inside.children.items _ o c.args.spot.place c.args.rank w c.requires.spot.within c.requires.child k) c.self.inside.words.words o.words),
+      (refl, λ w. seen_new _ _ _ _ _ (lent _ _ c.self.inside.block.values _ o c.args.spot.place c.args.rank w c.requires.spot.within c.requires.child k) c.self.inside.block.words o.words),
       record {
         lends = tt;
         shows =
-            lent-is (entries t) c.args.spot.place c.index_mut.result.now.node c.requires.child
-            (get-nodes c.self.inside.children.items c.args.rank c.index_mut.result.now c.index_mut.ensures.value
-            ∙ ap (λ j. get_or (nodes_of c.self.inside.children.items) j c.index_mut.result.now.node) k
-            ∙ ap (λ u. get_or u (before (entries t) c.args.spot.place) c.index_mut.result.now.node) (sym o.nodes));
+            lent-is (entries t) c.args.spot.place c.value_mut.result.now.node c.requires.child
+            (get-nodes c.self.inside.block.values c.args.rank c.value_mut.result.now c.value_mut.ensures.value
+            ∙ ap (λ j. get_or (nodes_of c.self.inside.block.values) j c.value_mut.result.now.node) k
+            ∙ ap (λ u. get_or u (before (entries t) c.args.spot.place) c.value_mut.result.now.node) (sym o.nodes));
       },
     )

@@ -1,5 +1,4 @@
-use Rattle.std.proofs.Common.{◌≡◌, ◌^◌, ◌<◌, ◌≤◌, ℕ, List, [], ◌∷◌, take, arith, ap, refl, subst, ◌∙◌}
-use Rattle.std.specs.Prelude.{IfOk}
+use Rattle.std.proofs.Common.{◌≡◌, ◌^◌, ◌<◌, ◌≤◌, ℕ, List, [], ◌∷◌, take, arith, ap, refl, sym, ◌∙◌, length}
 use Rattle.ph_specs.specs.Node.{PlainNode, node_of, chained}
 use Rattle.ph_specs.specs.EntryEdits.{point_entry}
 use Rattle.ph_specs.specs.Lawful.{IsBody}
@@ -16,10 +15,17 @@ node-is d b a v body o f l m h = record { some = o; few = f; low = l; rise = (om
 shown : (d b a v : ℕ) (body : List ℕ) → 1 ≤ d → d ≤ 16 → b ≤ 61 → a < 2 ^ d → IsBody d b body → unpacked d (pack d (node_of b (point_entry a body v ∷ []))) [] ≡ node_of b (point_entry a body v ∷ [])
 shown d b a v body o f l m h = again d b (chained (point_entry a body v ∷ [])) (node-is d b a v body o f l m h) (omega arith) (λ z. refl)
 
+pub assemble-requires-clause-record : goal.assemble-requires-clause-record
+assemble-requires-clause-record g c = c.in_ok-block.ensures.laid (λ z. refl)
+
+pub assemble-requires-clause-children : goal.assemble-requires-clause-children
+assemble-requires-clause-children g c = ap (λ ss. length ss) c.in_ok-block.ensures.none ∙ sym c.in_ok-block.ensures.children
+
 pub returns-clause-ok : goal.returns-clause-ok
 returns-clause-ok g c =
     let r = c.requires in
     let n : PlainNode = node_of c.args.level (point_entry c.args.addr (take g.P.Dims.D c.args.body) c.args.v ∷ []) in
-    subst (λ t. IfOk c.from_entries.result (λ m. m ≡ t))
-    (ap (λ ss. unpacked g.P.Dims.D (pack g.P.Dims.D n) (nodes_of ss)) c.new.ensures.items ∙ shown g.P.Dims.D c.args.level c.args.addr c.args.v (take g.P.Dims.D c.args.body) r.some r.few r.low r.address r.body.fields)
-    c.from_entries.ensures.ok
+    c.assemble.ensures.node
+    ∙ ap (λ ws. unpacked g.P.Dims.D ws (nodes_of c.in_ok-block.block.values)) c.in_ok-block.ensures.words
+    ∙ ap (λ ss. unpacked g.P.Dims.D (pack g.P.Dims.D n) (nodes_of ss)) c.in_ok-block.ensures.none
+    ∙ shown g.P.Dims.D c.args.level c.args.addr c.args.v (take g.P.Dims.D c.args.body) r.some r.few r.low r.address r.body.fields

@@ -1,28 +1,27 @@
-use Rattle.std.proofs.Common.{◌≡◌, ℕ, arith, ap, sym, ◌∙◌, subst, take, true, Some, refl, ◌+◌}
+use Rattle.std.proofs.Common.{◌≡◌, ℕ, arith, ap, sym, ◌∙◌, subst, length, take, true, Some, false, refl, ◌+◌, ◌≤◌, Bool}
+use Rattle.std.specs.Prelude.{if◌then◌else◌}
 use Rattle.ph_specs.specs.EntryEdits.{what_at}
 use Rattle.ph_specs.specs.Node.{entries, node_of}
-use Rattle.ph_specs.specs.Layout.{AreRising}
 use Rattle.ph_specs.specs.Pack.{record_of}
 use Rattle.ph_specs.specs.Record.{unpacked}
 use Rattle.ph_specs.proofs.laws.EntryLists.{node_of-entries}
 use Rattle.ph_bits.specs.Edits.{edited}
 use Rattle.ph_bits.specs.Packed.{IsPadded}
-use Rattle.ph_bits.specs.declared.edits.Edit.{Edit}
-use Rattle.ph_node.specs.OneEdit.{ones_of, before, edit_flats}
+use Rattle.ph_node.specs.OneEdit.{IsEdit, ones_of, before, edit_flats}
 use Rattle.ph_node.specs.RecordEdit.{IsRecordEdit, record_with}
 use Rattle.ph_node.specs.Recorded.{IsRecorded}
 use Rattle.ph_node.specs.Slots.{nodes_of}
 use Rattle.ph_node.specs.Split.{body_at, split_node}
 use Rattle.ph_node.proofs.Addressed.{address_low, front_at, behind_at}
 use Rattle.ph_node.proofs.Filled.{padded-above, padded-filled}
-use Rattle.ph_node.proofs.Halves.{lower, part_there, addresses_differ, child_new, parent_new, pair_entries, front_within, place_left, kids_are, put_is}
+use Rattle.ph_node.proofs.Halves.{lower, part_there, addresses_differ, child_new, child_room, parent_new, parent_long, pair_entries, front_within, place_left, kids_are, put_is}
 use Rattle.ph_node.proofs.Lists.{rise_new, kept_new, seen_new}
-use Rattle.ph_node.proofs.OldEdits.{source_at, count_at, moved}
+use Rattle.ph_node.proofs.NodeEdits.{record_edit, record_is}
 use Rattle.ph_node.proofs.OldNodes.{old}
-use Rattle.ph_node.proofs.Reading.{front-there, spot-there}
+use Rattle.ph_node.proofs.Reading.{spot-there}
 use Rattle.ph_node.proofs.node.NodeOf.split.Given.{Over}
 use Rattle.ph_node.proofs.node.NodeOf.split.Goals as goal
-use Rattle.ph_node.proofs.node.NodeOf.split.Goals.{After-D, After-insert_within}
+use Rattle.ph_node.proofs.node.NodeOf.split.Goals.{After-D, After-insert}
 
 pub pair_below-requires-clause-low : goal.pair_below-requires-clause-low
 pair_below-requires-clause-low g c =
@@ -44,88 +43,115 @@ body_above-requires g c =
 pub pair_below-requires-clause-body_padded : goal.pair_below-requires-clause-body_padded
 pair_below-requires-clause-body_padded g c = padded-filled g.P.Dims.D c.args.body.now c.requires.body.fields.0 c.requires.body.filled
 
--- the edit is one of the record
-record_edit : (g : Over) (c : After-D g) → IsRecordEdit g.P.Dims.D c.self.inside.words.words (record { place = c.args.spot.place; less = 1; more = 1; entry = record { addr = c.old_entry-old.result.addr; child = true; body = c.body_above.result; rank = 0 }; value = 0 })
-record_edit g c =
+-- the edit is one of the node
+node_edit : (g : Over) (c : After-D g) → IsEdit g.P.Dims.D c.args.self.now (record { place = c.args.spot.place; less = 1; more = 1; entry = record { addr = c.old_entry-old.result.addr; child = true; body = c.body_above.result; rank = 0 }; value = 0 })
+node_edit g c =
     let q = c.requires in
     let i : ℕ = c.args.spot.place in
     let o = old _ _ _ _ c.self.view_is c.self.invariant in
-    let e : Edit = (record { place = c.args.spot.place; less = 1; more = 1; entry = record { addr = c.old_entry-old.result.addr; child = true; body = c.body_above.result; rank = 0 }; value = 0 }) in
     record {
-      source = source_at _ _ _ _ _ o refl;
-      within = omega (arith, q.spot.within, count_at _ _ _ _ _ o refl);
+      within = omega (arith, q.spot.within);
       few = omega arith;
+      some = o.kept.some;
       address = address_low _ _ _ _ o i q.spot.within _ c.old_entry-old.ensures.addr;
-      front = front_at _ _ _ _ o i q.spot.within _ c.old_entry-old.ensures.addr ∙ sym (front-there _ _ _ _ _ _ c.self.view_is c.self.invariant refl refl c.old_entry-old.result.addr);
-      behind = behind_at _ _ _ _ o i q.spot.within _ c.old_entry-old.ensures.addr ∙ sym (front-there _ _ _ _ _ _ c.self.view_is c.self.invariant refl refl (c.old_entry-old.result.addr + 1));
-      rise = moved _ _ _ _ _ o refl e _ refl (λ l fs. AreRising g.P.Dims.D l 0 fs) (rise_new _ _ _ _ _ (parent_new _ _ _ _ o i c.old_entry-old.result c.old_entry-old.ensures q.spot.within c.place_apart-level.result c.args.v c.args.body.now q.body c.place_apart-level.ensures c.body_above.result c.body_above.ensures));
+      front = front_at _ _ _ _ o i q.spot.within _ c.old_entry-old.ensures.addr;
+      behind = behind_at _ _ _ _ o i q.spot.within _ c.old_entry-old.ensures.addr;
+      rise = rise_new _ _ _ _ _ (parent_new _ _ _ _ o c.args.spot.place c.old_entry-old.result c.old_entry-old.ensures q.spot.within c.place_apart-level.result c.args.v c.args.body.now q.body c.place_apart-level.ensures c.body_above.result c.body_above.ensures);
       padded = subst (λ b. IsPadded g.P.Dims.D b) (sym c.body_above.ensures) (padded-above g.P.Dims.D c.place_apart-level.result c.args.body.now (padded-filled g.P.Dims.D c.args.body.now q.body.fields.0 q.body.filled));
     }
 
-pub put_child-requires-clause-edit : goal.put_child-requires-clause-edit
-put_child-requires-clause-edit g c =
-    subst (λ d. IsRecordEdit d c.self.inside.words.words (record { place = c.args.spot.place; less = 1; more = 1; entry = record { addr = c.old_entry-old.result.addr; child = true; body = c.body_above.result; rank = 0 }; value = 0 })) (sym c.D.ensures) (record_edit g (goal.at.put_child-requires-clause-edit g c).After-D)
+-- its record, and how long that is
+record_new : (g : Over) (c : After-D g) → record_with c.D.result c.self.inside.block.words (record { place = c.args.spot.place; less = 1; more = 1; entry = record { addr = c.old_entry-old.result.addr; child = true; body = c.body_above.result; rank = 0 }; value = 0 }) ≡ record_of g.P.Dims.D c.args.self.now.level (edit_flats g.P.Dims.D c.args.self.now (record { place = c.args.spot.place; less = 1; more = 1; entry = record { addr = c.old_entry-old.result.addr; child = true; body = c.body_above.result; rank = 0 }; value = 0 }))
+record_new g c =
+    ap (λ k. record_with k c.self.inside.block.words (record { place = c.args.spot.place; less = 1; more = 1; entry = record { addr = c.old_entry-old.result.addr; child = true; body = c.body_above.result; rank = 0 }; value = 0 })) c.D.ensures
+    ∙ record_is _ _ _ _ c.self.view_is c.self.invariant (record { place = c.args.spot.place; less = 1; more = 1; entry = record { addr = c.old_entry-old.result.addr; child = true; body = c.body_above.result; rank = 0 }; value = 0 })
 
-pub put_child-requires-clause-address : goal.put_child-requires-clause-address
-put_child-requires-clause-address g c =
+record_length : (g : Over) (c : After-D g) → length (record_with c.D.result c.self.inside.block.words (record { place = c.args.spot.place; less = 1; more = 1; entry = record { addr = c.old_entry-old.result.addr; child = true; body = c.body_above.result; rank = 0 }; value = 0 })) + 1 ≡ length c.self.inside.block.words + (if c.old_entry-old.result.child then 1 else 0)
+record_length g c =
+    let q = c.requires in
+    let o = old _ _ _ _ c.self.view_is c.self.invariant in
+    omega (arith, ap (λ u. length u) (record_new g c), parent_long _ _ _ _ o c.args.spot.place c.old_entry-old.result c.old_entry-old.ensures q.spot.within c.place_apart-level.result c.args.v c.args.body.now q.body c.place_apart-level.ensures c.body_above.result c.body_above.ensures)
+
+one-at-most : (b : Bool) → (if b then 1 else 0) ≤ 1
+one-at-most true = omega arith
+one-at-most false = omega arith
+
+pub put_entry-requires-clause-edit : goal.put_entry-requires-clause-edit
+put_entry-requires-clause-edit g c =
+    subst (λ d. IsRecordEdit d c.self.inside.block.words (record { place = c.args.spot.place; less = 1; more = 1; entry = record { addr = c.old_entry-old.result.addr; child = true; body = c.body_above.result; rank = 0 }; value = 0 })) (sym c.D.ensures)
+    (record_edit _ _ _ _ c.self.view_is c.self.invariant _ (node_edit g (goal.at.put_entry-requires-clause-edit g c).After-D))
+
+pub put_entry-requires-clause-address : goal.put_entry-requires-clause-address
+put_entry-requires-clause-address g c =
     let q = c.requires in
     spot-there _ _ _ _ _ _ c.self.view_is c.self.invariant refl c.D.ensures c.args.spot q.spot ∙ ap Some (q.spot.address ∙ c.old_entry-old.ensures.addr)
 
--- the record is that of the node with the edit
-made : (g : Over) (c : After-insert_within g) → c.put_child.new.words.words ≡ record_of g.P.Dims.D c.args.self.now.level (edit_flats g.P.Dims.D c.args.self.now (record { place = c.args.spot.place; less = 1; more = 1; entry = record { addr = c.old_entry-old.result.addr; child = true; body = c.body_above.result; rank = 0 }; value = 0 }))
-made g c =
-    let d = g.P.Dims.D in
-    let t = c.args.self.now in
-    let e : Edit = (record { place = c.args.spot.place; less = 1; more = 1; entry = record { addr = c.old_entry-old.result.addr; child = true; body = c.body_above.result; rank = 0 }; value = 0 }) in
-    c.put_child.ensures.words
-    ∙ ap (λ k. record_with k c.self.inside.words.words e) c.D.ensures
-    ∙ sym (moved _ _ _ _ _ (old _ _ _ _ c.self.view_is c.self.invariant) refl e _ refl (λ l fs. record_of d t.level (edit_flats d t e) ≡ record_of d l fs) refl)
+pub put_entry-requires-clause-long : goal.put_entry-requires-clause-long
+put_entry-requires-clause-long g c h =
+    omega (arith, record_length g (goal.at.put_entry-requires-clause-long g c).After-D, one-at-most c.old_entry-old.result.child)
 
 pub take_child-requires-clause-within : goal.take_child-requires-clause-within
 take_child-requires-clause-within g c h =
-    let o = old _ _ _ _ c.self.view_is c.self.invariant in
-    omega (arith, front_within _ _ c.self.inside.children.items _ o c.args.spot.place c.old_entry-old.result c.old_entry-old.ensures c.requires.spot.within c.room_for.new.children.items c.room_for.ensures.same h, c.room_for.new.children.ok.0)
+    front_within _ _ c.self.inside.block.values _ (old _ _ _ _ c.self.view_is c.self.invariant) c.args.spot.place c.old_entry-old.result c.old_entry-old.ensures c.requires.spot.within c.put_entry.new.block.values c.put_entry.ensures.same.0 h
 
-pub insert_within-requires-clause-place : goal.insert_within-requires-clause-place
-insert_within-requires-clause-place g c =
+pub take_child-requires-clause-room : goal.take_child-requires-clause-room
+take_child-requires-clause-room g c h =
+    let q = c.requires in
     let o = old _ _ _ _ c.self.view_is c.self.invariant in
-    omega (arith, place_left _ _ c.self.inside.children.items _ o c.args.spot.place c.old_entry-old.result c.old_entry-old.ensures c.requires.spot.within c.room_for.new.children.items c.room_for.ensures.same _ c.take_child.ensures.left, c.take_child.new.from.ok.0)
+    let k : ◌≡◌ {A = ℕ} (if c.old_entry-old.result.child then 1 else 0) 1 = ap {B = ℕ} (λ (b : Bool). if b then 1 else 0) h in
+    omega (arith, child_room _ _ _ _ o c.args.spot.place c.old_entry-old.result c.old_entry-old.ensures q.spot.within c.place_apart-level.result c.args.v c.args.body.now q.body c.place_apart-level.ensures q.above _ c.in_ok-words.ensures.room, ap (λ u. length u) c.in_ok-words.ensures.words, k, ap (λ b. b.spare) c.of-below.ensures)
+
+pub take_child-requires-clause-free : goal.take_child-requires-clause-free
+take_child-requires-clause-free g c h =
+    let k : ◌≡◌ {A = ℕ} (if c.old_entry-old.result.child then 1 else 0) 0 = ap {B = ℕ} (λ (b : Bool). if b then 1 else 0) h in
+    omega (arith, record_length g (goal.at.take_child-requires-clause-free g c).After-D, k, c.put_entry.ensures.places, ap (λ u. length u) c.put_entry.ensures.words)
+
+pub insert-requires-clause-rank : goal.insert-requires-clause-rank
+insert-requires-clause-rank g c =
+    place_left _ _ c.self.inside.block.values _ (old _ _ _ _ c.self.view_is c.self.invariant) c.args.spot.place c.old_entry-old.result c.old_entry-old.ensures c.requires.spot.within c.put_entry.new.block.values c.put_entry.ensures.same.0 _ c.take_child.ensures.left
 
 pub invariant_of-node : goal.invariant_of-node
 invariant_of-node g c =
     let q = c.requires in
     let o = old _ _ _ _ c.self.view_is c.self.invariant in
-    let k = kids_are _ _ c.self.inside.children.items _ o c.args.spot.place c.old_entry-old.result c.old_entry-old.ensures q.spot.within c.room_for.new.children.items c.room_for.ensures.same _ c.take_child.ensures.taken in
-    subst (IsRecorded g.P.Dims.D c.in_ok-below.below.words) (sym k)
-    (kept_new _ _ _ _ _ (child_new _ _ _ _ o c.args.spot.place c.old_entry-old.result c.old_entry-old.ensures q.spot.within c.place_apart-level.result c.args.v c.args.body.now q.body c.place_apart-level.ensures q.above) _ c.in_ok-below.ensures)
+    let k = kids_are _ _ c.self.inside.block.values _ o c.args.spot.place c.old_entry-old.result c.old_entry-old.ensures q.spot.within c.put_entry.new.block.values c.put_entry.ensures.same.0 _ c.take_child.ensures.taken in
+    subst (IsRecorded g.P.Dims.D c.take_child.new.to.words) (sym k)
+    (kept_new _ _ _ _ _ (child_new _ _ _ _ o c.args.spot.place c.old_entry-old.result c.old_entry-old.ensures q.spot.within c.place_apart-level.result c.args.v c.args.body.now q.body c.place_apart-level.ensures q.above) _ (c.take_child.ensures.words ∙ ap (λ b. b.words) c.of-below.ensures ∙ c.in_ok-words.ensures.words))
 
 -- the node that the entry holds
-seen : (g : Over) (c : After-insert_within g) → unpacked g.P.Dims.D c.in_ok-below.below.words (nodes_of c.take_child.new.to.items) ≡ node_of c.place_apart-level.result (pair_entries c.place_apart-level.result (body_at (entries c.args.self.now) c.args.spot.place) (what_at (entries c.args.self.now) c.args.spot.place) (take g.P.Dims.D c.args.body.now) c.args.v)
+seen : (g : Over) (c : After-insert g) → unpacked g.P.Dims.D c.take_child.new.to.words (nodes_of c.take_child.new.to.values) ≡ node_of c.place_apart-level.result (pair_entries c.place_apart-level.result (body_at (entries c.args.self.now) c.args.spot.place) (what_at (entries c.args.self.now) c.args.spot.place) (take g.P.Dims.D c.args.body.now) c.args.v)
 seen g c =
     let q = c.requires in
     let o = old _ _ _ _ c.self.view_is c.self.invariant in
-    ap (λ ns. unpacked g.P.Dims.D c.in_ok-below.below.words ns) (kids_are _ _ c.self.inside.children.items _ o c.args.spot.place c.old_entry-old.result c.old_entry-old.ensures q.spot.within c.room_for.new.children.items c.room_for.ensures.same _ c.take_child.ensures.taken)
-    ∙ seen_new _ _ _ _ _ (child_new _ _ _ _ o c.args.spot.place c.old_entry-old.result c.old_entry-old.ensures q.spot.within c.place_apart-level.result c.args.v c.args.body.now q.body c.place_apart-level.ensures q.above) _ c.in_ok-below.ensures
+    ap (λ ns. unpacked g.P.Dims.D c.take_child.new.to.words ns) (kids_are _ _ c.self.inside.block.values _ o c.args.spot.place c.old_entry-old.result c.old_entry-old.ensures q.spot.within c.put_entry.new.block.values c.put_entry.ensures.same.0 _ c.take_child.ensures.taken)
+    ∙ seen_new _ _ _ _ _ (child_new _ _ _ _ o c.args.spot.place c.old_entry-old.result c.old_entry-old.ensures q.spot.within c.place_apart-level.result c.args.v c.args.body.now q.body c.place_apart-level.ensures q.above) _ (c.take_child.ensures.words ∙ ap (λ b. b.words) c.of-below.ensures ∙ c.in_ok-words.ensures.words)
 
 -- the children with it
-put : (g : Over) (c : After-insert_within g) → nodes_of c.insert_within.new.v.items ≡ edited (before (entries c.args.self.now) c.args.spot.place) (ones_of (what_at (entries c.args.self.now) c.args.spot.place)) 1 (node_of c.place_apart-level.result (pair_entries c.place_apart-level.result (body_at (entries c.args.self.now) c.args.spot.place) (what_at (entries c.args.self.now) c.args.spot.place) (take g.P.Dims.D c.args.body.now) c.args.v)) (nodes_of c.self.inside.children.items)
+put : (g : Over) (c : After-insert g) → nodes_of c.insert.new.self.values ≡ edited (before (entries c.args.self.now) c.args.spot.place) (ones_of (what_at (entries c.args.self.now) c.args.spot.place)) 1 (node_of c.place_apart-level.result (pair_entries c.place_apart-level.result (body_at (entries c.args.self.now) c.args.spot.place) (what_at (entries c.args.self.now) c.args.spot.place) (take g.P.Dims.D c.args.body.now) c.args.v)) (nodes_of c.self.inside.block.values)
 put g c =
     let o = old _ _ _ _ c.self.view_is c.self.invariant in
-    put_is _ _ c.self.inside.children.items _ o c.args.spot.place c.old_entry-old.result c.old_entry-old.ensures c.requires.spot.within c.room_for.new.children.items c.room_for.ensures.same _ _ _ c.take_child.ensures.left c.insert_within.ensures
-    ∙ ap (λ n. edited (before (entries c.args.self.now) c.args.spot.place) (ones_of (what_at (entries c.args.self.now) c.args.spot.place)) 1 n (nodes_of c.self.inside.children.items)) (seen g c)
+    put_is _ _ c.self.inside.block.values _ o c.args.spot.place c.old_entry-old.result c.old_entry-old.ensures c.requires.spot.within c.put_entry.new.block.values c.put_entry.ensures.same.0 _ _ _ c.take_child.ensures.left c.insert.ensures.values
+    ∙ ap (λ n. edited (before (entries c.args.self.now) c.args.spot.place) (ones_of (what_at (entries c.args.self.now) c.args.spot.place)) 1 n (nodes_of c.self.inside.block.values)) (seen g c)
 
-pub invariant_of-self-2 : goal.invariant_of-self-2
-invariant_of-self-2 g c =
+-- the record is that of the node with the edit
+made : (g : Over) (c : After-insert g) → c.insert.new.self.words ≡ record_of g.P.Dims.D c.args.self.now.level (edit_flats g.P.Dims.D c.args.self.now (record { place = c.args.spot.place; less = 1; more = 1; entry = record { addr = c.old_entry-old.result.addr; child = true; body = c.body_above.result; rank = 0 }; value = 0 }))
+made g c =
+    c.insert.ensures.same.0 ∙ c.take_child.ensures.same ∙ c.put_entry.ensures.words
+    ∙ ap (λ k. record_with k c.self.inside.block.words (record { place = c.args.spot.place; less = 1; more = 1; entry = record { addr = c.old_entry-old.result.addr; child = true; body = c.body_above.result; rank = 0 }; value = 0 })) c.D.ensures
+    ∙ record_is _ _ _ _ c.self.view_is c.self.invariant (record { place = c.args.spot.place; less = 1; more = 1; entry = record { addr = c.old_entry-old.result.addr; child = true; body = c.body_above.result; rank = 0 }; value = 0 })
+
+pub invariant_of-self : goal.invariant_of-self
+invariant_of-self g c =
     let q = c.requires in
     let o = old _ _ _ _ c.self.view_is c.self.invariant in
-    subst (IsRecorded g.P.Dims.D c.put_child.new.words.words) (sym (put g c))
+    subst (IsRecorded g.P.Dims.D c.insert.new.self.words) (sym (put g c))
     (kept_new _ _ _ _ _ (parent_new _ _ _ _ o c.args.spot.place c.old_entry-old.result c.old_entry-old.ensures q.spot.within c.place_apart-level.result c.args.v c.args.body.now q.body c.place_apart-level.ensures c.body_above.result c.body_above.ensures) _ (made g c))
 
 pub returns-clause-ok : goal.returns-clause-ok
 returns-clause-ok g c =
     let q = c.requires in
     let o = old _ _ _ _ c.self.view_is c.self.invariant in
-    ap (λ ns. unpacked g.P.Dims.D c.put_child.new.words.words ns) (put g c)
+    ap (λ ns. unpacked g.P.Dims.D c.insert.new.self.words ns) (put g c)
     ∙ seen_new _ _ _ _ _ (parent_new _ _ _ _ o c.args.spot.place c.old_entry-old.result c.old_entry-old.ensures q.spot.within c.place_apart-level.result c.args.v c.args.body.now q.body c.place_apart-level.ensures c.body_above.result c.body_above.ensures) _ (made g c)
     ∙ node_of-entries (split_node c.args.self.now c.args.spot.place c.place_apart-level.result (take g.P.Dims.D c.args.body.now) c.args.v)
     ∙ ap (λ k. split_node c.args.self.now c.args.spot.place k (take g.P.Dims.D c.args.body.now) c.args.v) (sym (part_there _ _ _ _ o c.args.spot.place c.old_entry-old.result c.old_entry-old.ensures q.spot.within c.place_apart-level.result c.args.v c.args.body.now q.body c.place_apart-level.ensures))

@@ -11,22 +11,22 @@ use Rattle.ph_node.proofs.node.NodeOf.value_place.Goals as goal
 pub overflow_sub-points : goal.overflow_sub-points
 overflow_sub-points g c =
     let o = old _ _ _ _ c.self.view_is c.self.invariant in
-    omega (arith, c.count.ensures, count_at _ _ _ _ _ o c.as_slice.ensures, o.points, c.len.ensures, length-nodes c.self.inside.children.items, c.self.inside.children.ok.0)
+    omega (arith, c.count.ensures, count_at _ _ _ _ _ o c.words.ensures, o.points, c.count-children.ensures.value, length-nodes c.self.inside.block.values)
 
 pub overflow_sub-result : goal.overflow_sub-result
 overflow_sub-result g c =
     let o = old _ _ _ _ c.self.view_is c.self.invariant in
-    let w : length c.self.inside.words.words ≡ length (record_of g.P.Dims.D c.args.self.now.level (flats_of c.args.self.now)) = ap (λ (u : List ℕ). length u) o.words in
-    omega (arith, c.count.ensures, count_at _ _ _ _ _ o c.as_slice.ensures, o.points, c.len.ensures, length-nodes c.self.inside.children.items, c.self.inside.children.ok.0, c.len-len.ensures, w, values-fit g.P.Dims.D c.args.self.now.level (flats_of c.args.self.now))
+    let w : length c.self.inside.block.words ≡ length (record_of g.P.Dims.D c.args.self.now.level (flats_of c.args.self.now)) = ap (λ (u : List ℕ). length u) o.words in
+    omega (arith, c.count.ensures, count_at _ _ _ _ _ o c.words.ensures, o.points, c.count-children.ensures.value, length-nodes c.self.inside.block.values, c.len-len.ensures.value, w, values-fit g.P.Dims.D c.args.self.now.level (flats_of c.args.self.now))
 
 pub overflow_add-result : goal.overflow_add-result
 overflow_add-result g c =
     let o = old _ _ _ _ c.self.view_is c.self.invariant in
-    let w : length c.self.inside.words.words ≡ length (record_of g.P.Dims.D c.args.self.now.level (flats_of c.args.self.now)) = ap (λ (u : List ℕ). length u) o.words in
-    omega (arith, c.count.ensures, count_at _ _ _ _ _ o c.as_slice.ensures, o.points, c.len.ensures, length-nodes c.self.inside.children.items, c.self.inside.children.ok.0, c.len-len.ensures, w, values-fit g.P.Dims.D c.args.self.now.level (flats_of c.args.self.now), c.points_before.ensures, values-below (entries c.args.self.now) c.args.spot.place c.requires.spot.within c.requires.point)
+    let w : length c.self.inside.block.words ≡ length (record_of g.P.Dims.D c.args.self.now.level (flats_of c.args.self.now)) = ap (λ (u : List ℕ). length u) o.words in
+    omega (arith, c.count.ensures, count_at _ _ _ _ _ o c.words.ensures, o.points, c.count-children.ensures.value, length-nodes c.self.inside.block.values, c.len-len.ensures.value, w, values-fit g.P.Dims.D c.args.self.now.level (flats_of c.args.self.now), c.points_before.ensures, values-below (entries c.args.self.now) c.args.spot.place c.requires.spot.within c.requires.point)
 
 pub returns : goal.returns
 returns g c =
     let o = old _ _ _ _ c.self.view_is c.self.invariant in
-    let w : length c.self.inside.words.words ≡ length (record_of g.P.Dims.D c.args.self.now.level (flats_of c.args.self.now)) = ap (λ (u : List ℕ). length u) o.words in
-    omega (arith, c.count.ensures, count_at _ _ _ _ _ o c.as_slice.ensures, o.points, c.len.ensures, length-nodes c.self.inside.children.items, c.self.inside.children.ok.0, c.len-len.ensures, w, values-fit g.P.Dims.D c.args.self.now.level (flats_of c.args.self.now), c.points_before.ensures)
+    let w : length c.self.inside.block.words ≡ length (record_of g.P.Dims.D c.args.self.now.level (flats_of c.args.self.now)) = ap (λ (u : List ℕ). length u) o.words in
+    omega (arith, c.count.ensures, count_at _ _ _ _ _ o c.words.ensures, o.points, c.count-children.ensures.value, length-nodes c.self.inside.block.values, c.len-len.ensures.value, w, values-fit g.P.Dims.D c.args.self.now.level (flats_of c.args.self.now), c.points_before.ensures)

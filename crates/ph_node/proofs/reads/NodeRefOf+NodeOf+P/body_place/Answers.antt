@@ -8,16 +8,16 @@ use Rattle.ph_node.proofs.reads.NodeRefOf+NodeOf+P.body_place.Goals as goal
 
 pub body_at-requires-clause-within : goal.body_at-requires-clause-within
 body_at-requires-clause-within g c =
-    within-there _ _ _ _ _ _ c.node.view_is c.node.invariant c.as_slice.ensures c.D.ensures c.args.spot.place c.requires.within
+    within-there _ _ _ _ _ _ c.node.view_is c.node.invariant c.words.ensures c.D.ensures c.args.spot.place c.requires.within
 
 pub body_at-requires-clause-address : goal.body_at-requires-clause-address
 body_at-requires-clause-address g c =
-    spot-there _ _ _ _ _ _ c.node.view_is c.node.invariant c.as_slice.ensures c.D.ensures c.args.spot c.requires
+    spot-there _ _ _ _ _ _ c.node.view_is c.node.invariant c.words.ensures c.D.ensures c.args.spot c.requires
 
 pub returns-clause-body : goal.returns-clause-body
 returns-clause-body g c =
-    row-there _ _ _ _ _ _ c.node.view_is c.node.invariant c.as_slice.ensures c.D.ensures c.body_at.result _
-    (body-told _ _ _ _ _ _ c.node.view_is c.node.invariant c.as_slice.ensures c.D.ensures c.args.spot.place c.requires.within _ c.body_at.ensures.body)
+    row-there _ _ _ _ _ _ c.node.view_is c.node.invariant c.words.ensures c.D.ensures c.body_at.result _
+    (body-told _ _ _ _ _ _ c.node.view_is c.node.invariant c.words.ensures c.D.ensures c.args.spot.place c.requires.within _ c.body_at.ensures.body)
 
 pub returns-clause-digits : goal.returns-clause-digits
 returns-clause-digits g c =

@@ -4,4 +4,4 @@ use Rattle.ph_node.proofs.OldNodes.{nodes_are}
 use Rattle.ph_node.proofs.reads.NodeRefOf+NodeOf+P.children.Goals as goal
 
 pub returns : goal.returns
-returns g c = ap (λ ss. nodes_of ss) c.deref.ensures.value ∙ sym (nodes_are _ _ _ _ c.node.view_is c.node.invariant)
+returns g c = ap (λ ss. nodes_of ss) c.values.ensures ∙ sym (nodes_are _ _ _ _ c.node.view_is c.node.invariant)

@@ -1,7 +1,7 @@
 use Rattle.std.proofs.Common.{sym, ◌∙◌, refl, arith}
 use Rattle.ph_specs.specs.Table.{find}
 use Rattle.ph_tree.proofs.Walks.{not_none, some_none}
-use Rattle.ph_tree.proofs.Trees.{IsKeyed, found_is, opened_is, opened_few}
+use Rattle.ph_tree.proofs.Trees.{IsKeyed, found_is, wanted_is, opened_is, opened_few}
 use Rattle.ph_tree.proofs.Fewer.{removal}
 use Rattle.ph_tree.proofs.tree.PhTree.del.Given.{Over}
 use Rattle.ph_tree.proofs.tree.PhTree.del.Goals.{After-del_in}
@@ -29,6 +29,11 @@ returns-in_err-value-clause-absent g c none =
     let k = keyed g (goal.at.returns-in_err-value-clause-absent g c).After-del_in in
     absurd (let no = c.in_err-value.ensures.absent (found_is k ∙ none) in cc)
 
+pub returns-in_err-value-clause-lean : goal.returns-in_err-value-clause-lean
+returns-in_err-value-clause-lean g c none =
+    let k = keyed g (goal.at.returns-in_err-value-clause-lean g c).After-del_in in
+    absurd (let no = c.in_err-value.ensures.roomy (wanted_is k ∙ none) in cc)
+
 pub returns-in_err-value-clause-visits : goal.returns-in_err-value-clause-visits
 returns-in_err-value-clause-visits g c =
     omega (arith, opened_is (keyed g (goal.at.returns-in_err-value-clause-visits g c).After-del_in))
@@ -47,6 +52,7 @@ returns-in-Some g c =
       answer = sym c.in-Some.is ∙ row.answer;
       err = tt;
       absent = λ _. refl;
+      lean = λ _. refl;
       visits = omega (arith, del.visits, opened_is k);
       limit = omega (arith, del.visits, opened_few k);
       later = del.later;
@@ -67,6 +73,7 @@ returns g c =
       answer = sym c.in-None.is ∙ row.answer;
       err = tt;
       absent = λ _. refl;
+      lean = λ _. refl;
       visits = omega (arith, del.visits, opened_is k);
       limit = omega (arith, del.visits, opened_few k);
       later = del.later;

@@ -1,0 +1,84 @@
+//! Records by hand of two dimensions at level 2, in which an entry becomes a child or a point where it lies.
+
+use ph_bits::{Edit, Packed};
+use ph_cube::by_dims as cube;
+use ph_linear::by_dims as linear;
+
+// An edit of the entry at a place.
+macro_rules! edit_at {
+    ($place:expr, $addr:expr, $child:expr, $x:expr, $y:expr, $value:expr) => {
+        Edit {
+            place: $place,
+            less: 1,
+            more: 1,
+            entry: Packed {
+                addr: $addr,
+                child: $child,
+                body: [$x, $y, 0, 0, 0, 0, 0, 0, 0, 0, 0, 0, 0, 0, 0, 0],
+                rank: 0,
+            },
+            value: $value,
+        }
+    };
+}
+
+// A call of a layout: one of a cube record also gets the address.
+macro_rules! put {
+    (linear, $put:ident, $words:ident, $addr:expr, $edit:ident) => {
+        linear::$put(&mut $words, 2, &$edit)
+    };
+    (cube, $put:ident, $words:ident, $addr:expr, $edit:ident) => {
+        cube::$put(&mut $words, 2, &$edit, $addr)
+    };
+}
+
+// Each row is a place and its address, the body of a child and the record with it, and the body and the value of a point and the
+// record with that. The point becomes the child, and the child the point.
+macro_rules! try_rows {
+    ($rt:ident, $layout:ident, $(
+        $place:literal at $addr:literal:
+        [$cx:literal, $cy:literal] in [$($child:literal),*],
+        [$px:literal, $py:literal] = $value:literal in [$($point:literal),*];
+    )*) => {
+        $({
+            let mut words = [$($point),*];
+            let edit = edit_at!($place, $addr, true, $cx, $cy, 0);
+            let len = put!($layout, put_child, words, $addr, edit);
+            assert!($rt; words[..len] == [$($child),*]);
+            let mut words = [$($child,)* u64::MAX];
+            let edit = edit_at!($place, $addr, false, $px, $py, $value);
+            put!($layout, put_point, words, $addr, edit);
+            assert!($rt; words[..] == [$($point),*]);
+        })*
+    };
+}
+
+// A record of points alone, one of children alone, and an entry between two.
+#[test]
+fn linear_entries_put(rt: HostRuntime) {
+    try_rows! { rt, linear,
+        1 at 2: [3, 1] in [0x0200000002000001, 0x4974000000000000, 8], [0, 2] = 9 in [0x0200000002000000, 0x0948000000000000, 8, 9];
+        0 at 1: [2, 0] in [0x0200000002000002, 0xde10000000000000], [3, 3] = 6 in [0x0200000002000001, 0x5fd0000000000000, 6];
+        1 at 1: [0, 3] in [0x0200000003000001, 0x43b1c80000000000, 5, 7], [3, 0] = 6 in [0x0200000003000000, 0x03b6480000000000, 5, 6, 7];
+    }
+}
+
+#[test]
+fn cube_entries_put(rt: HostRuntime) {
+    try_rows! { rt, cube,
+        1 at 2: [3, 1] in [0x0201000002000001, 0x4850d00000000000, 8], [0, 2] = 9 in [0x0201000002000000, 0x4450200000000000, 8, 9];
+        0 at 1: [2, 0] in [0x0201000002000002, 0x2208040000000000], [3, 3] = 6 in [0x0201000002000001, 0x120f040000000000, 6];
+        1 at 1: [0, 3] in [0x0201000003000001, 0x6163090000000000, 5, 7], [3, 0] = 6 in [0x0201000003000000, 0x516c090000000000, 5, 6, 7];
+    }
+}
+
+#[test]
+fn child_gets_another_body(rt: HostRuntime) {
+    let edit = edit_at!(1, 1, true, 3, 0, 0);
+    let mut words = [0x0200000003000001, 0x43b1c80000000000, 5, 7];
+    let len = put!(linear, put_child, words, 1, edit);
+    assert!(rt; words[..len] == [0x0200000003000001, 0x43b6480000000000, 5, 7]);
+    let mut words = [0x0201000003000001, 0x6163090000000000, 5, 7];
+    let len = put!(cube, put_child, words, 1, edit);
+    assert!(rt; words[..len] == [0x0201000003000001, 0x616c090000000000, 5, 7]);
+}
