@@ -1,17 +1,19 @@
--- A number of few digits at the front of a text.
-use Rattle.std.proofs.Common.{◌≡◌, ℕ, zero, suc, ◌+◌, ◌^◌, ◌<◌, ◌≤◌, List, [], ◌∷◌, length, take, drop, get_or, Bool, true, false, refl, sym, ap, ◌∙◌, arith, inl, inr}
-use Rattle.std.specs.Prelude.{ℤ, pos, neg_ℤ, Some, ◌⊎◌, ◌==◌, ◌||◌, ◌&&◌, not, nat_lt, if◌then◌else◌}
+-- A number of few digits at a place of a text.
+use Rattle.std.proofs.Common.{◌≡◌, ℕ, zero, suc, ◌+◌, ◌*◌, ◌-◌, ◌%◌, ◌^◌, ◌<◌, ◌≤◌, List, [], ◌∷◌, length, take, drop, get_or, ◌++◌, Bool, true, false, refl, sym, ap, ◌∙◌, subst, add-one, lit<, arith, inl, inr}
+use Rattle.std.specs.Prelude.{ℤ, pos, neg_ℤ, Some, ◌⊎◌, ◌==◌, ◌||◌, ◌&&◌, not, nat_lt, fold, if◌then◌else◌}
 use Rattle.std.specs.Char.{is_ascii_digit}
 use Rattle.std.specs.List.{list_all, position_or_len}
-use Rattle.std.proofs.Math.Nat.{pow-le-pow_right}
+use Rattle.std.proofs.Math.Nat.{pow-le-pow_right, pow-succ', mod-eq_of_lt}
 use Rattle.std.proofs.lemmas.Bool.{and_parts, lt-ltb}
 use Rattle.std.proofs.lemmas.Bool.Decides.{nat_tests}
-use Rattle.std.proofs.lemmas.List.{length-take}
+use Rattle.std.proofs.lemmas.List.{length-take, length-drop, drop-drop, get_or-drop, take_more}
+use Rattle.std.proofs.lemmas.List.Sums.{fold-append}
+use Rattle.std.proofs.lemmas.List.Folds.{list_all-append}
 use Rattle.ph_coord.specs.Spelling.{size_of, of_whole, number_of}
 use Rattle.ph_coord.specs.declared.number.Number.TheVariants.{Whole}
 use Rattle.ph_specs.proofs.laws.Put.{either}
 use Rattle.ph_script.specs.declared.numbers.Short.{Short}
-use Rattle.ph_script.specs.Words.{IsShort}
+use Rattle.ph_script.specs.Words.{IsShort, IsDigits, IsNumberAt}
 use Rattle.ph_specs.specs.Lines.{is_blank, natural, number}
 
 -- so many digits are below this
@@ -106,3 +108,56 @@ sign-of text minus start l m s =
 -- a short number in the code's terms
 pub short-number : (text : List ℕ) (s : Short) → IsShort text s → Whole (s.minus && not (s.size == 0)) s.size ≡ number_of text
 short-number text s h = rw h.same (short-whole s.minus s.size h.limit)
+
+-- ---- digits one by one
+
+-- what is below a power of ten, times ten and with a digit more
+power-more : (k size digit : ℕ) → size < 10 ^ k → digit ≤ 9 → size * 10 + digit < 10 ^ (k + 1)
+power-more k size digit l d = rw (add-one k, pow-succ' 10 k) (omega (arith, l, d))
+
+pub digits-more : (text : List ℕ) (from before at size digit next : ℕ) → IsDigits text from before at size → at < length text → is_ascii_digit (get_or text at 0) ≡ true → digit ≤ 9 → digit ≡ get_or text at 0 - 48 → next ≡ ((size * 10) % 2 ^ 64 + digit) % 2 ^ 64 → IsDigits text from before (at + 1) next
+digits-more text from before at size digit next h l is few d e =
+    let ds = drop from text in
+    let here : get_or ds h.count 0 ≡ get_or text at 0 = get_or-drop from text h.count 0 ∙ ap (λ i. get_or text i 0) h.reaches in
+    let behind : h.count < length ds = omega (arith, length-drop from text, h.reaches, l) in
+    let taken : take (h.count + 1) ds ≡ take h.count ds ++ get_or text at 0 ∷ [] = take_more ds h.count 0 behind ∙ ap (λ b. take h.count ds ++ b ∷ []) here in
+    record {
+      count = h.count + 1;
+      reaches = omega (arith, h.reaches);
+      within = omega (arith, l);
+      digits = ap (list_all is_ascii_digit) taken ∙ list_all-append is_ascii_digit (take h.count ds) (get_or text at 0 ∷ []) ∙ rw (h.digits, is) refl;
+      value = λ k b most.
+          let v = h.value k b (omega (arith, most)) in
+          let below : size < 10 ^ 17 = few-digits (k + h.count) 17 size (omega (arith, most)) v.1 in
+          let ten : (size * 10) % 2 ^ 64 ≡ size * 10 = mod-eq_of_lt (omega (arith, below)) in
+          let all : (size * 10 + digit) % 2 ^ 64 ≡ size * 10 + digit = mod-eq_of_lt (omega (arith, below, few)) in
+          let is : next ≡ size * 10 + digit = e ∙ rw ten all in
+          let sum : k + h.count + 1 ≡ k + (h.count + 1) = omega arith in (
+            is ∙ rw (d, v.0) (sym (ap (fold (λ n b. n * 10 + (b - 48)) before) taken ∙ fold-append (λ n b. n * 10 + (b - 48)) before (take h.count ds) (get_or text at 0 ∷ []))),
+            rw is (subst (λ j. size * 10 + digit < 10 ^ j) sum (power-more (k + h.count) size digit v.1 few)),
+          );
+    }
+
+-- the number of a word at a place of a text
+pub number-at : (text : List ℕ) (from : ℕ) (minus : Bool) (sign end size : ℕ) → from < length text → minus ≡ (get_or text from 0 == 45) → sign ≡ (if (get_or text from 0 == 45) || (get_or text from 0 == 43) then 1 else 0) → IsDigits text (from + sign) 0 end size → 0 < end - (from + sign) → end - (from + sign) ≤ 18 → (end < length text → is_blank (get_or text end 0) ≡ true) → IsNumberAt text from end (record { minus = minus; size = size })
+number-at text from minus sign end size l m s h some few blank =
+    let word = drop from text in
+    let count = h.count in
+    let none : from + 0 ≡ from = omega arith in
+    let first : get_or text from 0 ≡ get_or word 0 0 = sym (get_or-drop from text 0 0 ∙ ap (λ i. get_or text i 0) none) in
+    let total : from + (sign + count) ≡ end = omega (arith, h.reaches) in
+    let behind : drop (from + sign) text ≡ drop sign word = sym (drop-drop sign from text) in
+    let signed = sign-of word minus sign (omega (arith, l, length-drop from text)) (rw first at m) (rw first at s) in
+    let any : 0 < count = omega (arith, some, h.reaches) in
+    let v = h.value 0 (lit< tt) (omega (arith, few, h.reaches)) in
+    let inside : count ≤ length (drop (from + sign) text) = omega (arith, h.within, h.reaches, length-drop (from + sign) text) in
+    let ends = front-ends word minus sign count size signed any (rw behind at inside) (rw behind at h.digits) (rw behind at v.0) (λ k. rw (get_or-drop from text (sign + count) 0, total) (blank (omega (arith, k, total, length-drop from text)))) in
+    record {
+      count = sign + count;
+      reaches = total;
+      some = omega (arith, any);
+      within = h.within;
+      ends = ends.blank;
+      number = record { same = ends.same; limit = few-digits (0 + count) 18 size (omega (arith, few, h.reaches)) v.1 };
+      blank = blank;
+    }

@@ -9,6 +9,7 @@ mod KeptNumbers
 mod LinePieces
 mod NameBytes
 pub mod Pieces
+mod PlainLines
 mod ReadPlaces
 mod RowTexts
 mod WordCuts

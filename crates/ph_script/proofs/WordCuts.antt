@@ -1,5 +1,5 @@
 -- Where the words of a text stand.
-use Rattle.std.proofs.Common.{◌≡◌, ℕ, suc, ◌+◌, ◌<◌, ◌≤◌, List, [], ◌∷◌, length, take, drop, Bool, true, not, refl, sym, ap, ◌∙◌, subst, arith, inl, inr}
+use Rattle.std.proofs.Common.{◌≡◌, ℕ, suc, min, ◌+◌, ◌<◌, ◌≤◌, List, [], ◌∷◌, length, take, drop, get_or, Bool, true, not, refl, sym, ap, ◌∙◌, subst, arith, inl, inr}
 use Rattle.std.specs.Prelude.{filter, nat_lt, unwrap_or, Some, None}
 use Rattle.std.specs.List.{slice_split, position, position_or_len}
 use Rattle.std.proofs.lemmas.Bool.Decides.{nat_tests}
@@ -9,6 +9,10 @@ use Rattle.std.proofs.lemmas.List.Folds.{length-prefix_len}
 use Rattle.std.proofs.lemmas.Bool.{lt-ltb}
 use Rattle.ph_specs.specs.Lines.{is_blank, words}
 use Rattle.ph_specs.proofs.laws.Put.{either}
+use Rattle.ph_script.specs.declared.numbers.Short.{Short}
+use Rattle.ph_script.specs.Words.{IsShort, IsNumberAt}
+use Rattle.ph_script.specs.Plain.{IsNext}
+use Rattle.std.proofs.lemmas.List.{drop-drop, drop_more}
 
 abbrev pub is_other : ℕ → Bool
 is_other b = not (is_blank b)
@@ -110,3 +114,33 @@ some_word text start h =
     let rest = drop (position_or_len is_other text) text in
     let some = first-other text (omega (arith, p.0, p.1)) in
     rw (sym (words-blanks text) ∙ words-word rest (position_or_len is_blank rest) refl some) (omega arith)
+
+-- a blank in front goes
+words-blank : (text : List ℕ) (at : ℕ) → at < length text → is_blank (get_or text at 0) ≡ true → words (drop (at + 1) text) ≡ words (drop at text)
+words-blank text at l blank = sym (ap words (drop_more text at 0 l) ∙ rw blank refl)
+
+-- a number at the front of a text
+pub number_front : (text : List ℕ) (end : ℕ) (s : Short) → IsNumberAt text 0 end s → (end ≡ position_or_len is_blank text) × (end ≤ length text) × IsShort (take end text) s
+number_front text end s h =
+    let e : h.count ≡ end = omega (arith, h.reaches) in
+    (sym (h.ends ∙ e), h.within, subst (λ n. IsShort (take n text) s) e h.number)
+
+-- the number of a word, behind which one blank goes
+pub next_number : (text : List ℕ) (from end next : ℕ) (s : Short) → IsNumberAt text from end s → next ≡ min (length text) (end + 1) → IsNext (drop from text) s (drop next text)
+next_number text from end next s h e =
+    let word = take h.count (drop from text) in
+    let left : words (drop next text) ≡ words (drop end text) = elim (either (nat_lt end (length text))) [
+      | inl more ↦ (let l : end < length text = grind (arith, nat_tests) in
+          ap (λ i. words (drop i text)) (omega (arith, e, l)) ∙ words-blank text end l (h.blank l))
+      | inr none ↦ (let l : length text ≤ end = grind (arith, nat_tests) in
+          ap (λ i. words (drop i text)) (omega (arith, e, l, h.within)))
+    ] in
+    record {
+      word = word;
+      first = words-word (drop from text) h.count h.ends h.some ∙ ap (λ rest. word ∷ words rest) (drop-drop h.count from text ∙ ap (λ i. drop i text) h.reaches) ∙ ap (λ ws. word ∷ ws) (sym left);
+      number = h.number;
+    }
+
+-- no word is left at the end
+pub no-words : (text : List ℕ) (at : ℕ) → at ≡ length text → words (drop at text) ≡ []
+no-words text at e = ap (λ i. words (drop i text)) e ∙ ap words (drop_length text)

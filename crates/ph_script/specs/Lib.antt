@@ -3,6 +3,7 @@ pub mod Forms
 pub mod Words
 pub mod Parts
 pub mod Fit
+pub mod Plain
 pub mod Shown
 pub mod RowNumbers
 pub mod Unended

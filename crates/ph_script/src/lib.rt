@@ -11,6 +11,7 @@ mod name;
 mod numbers;
 mod parts;
 mod places;
+mod plain;
 mod read;
 mod reply;
 mod spread;

@@ -1,12 +1,13 @@
 //! The numbers that words spell.
-ghost use Rattle.std.specs.Prelude.{◌≡◌, ◌+◌, ◌<◌, ◌≤◌, ◌^◌, ◌==◌, ◌&&◌, ◌||◌, not, if◌then◌else◌, IfSome, Some, length, take, slice_index, true, false};
+ghost use Rattle.std.specs.Prelude.{◌≡◌, ◌+◌, ◌-◌, ◌<◌, ◌≤◌, ◌^◌, ◌==◌, ◌&&◌, ◌||◌, not, if◌then◌else◌, true, false};
+ghost use Rattle.std.specs.Prelude.{length, slice_index, pos, neg_ℤ, Some, IfSome};
 ghost use Rattle.std.specs.Char.{is_ascii_digit};
-ghost use Rattle.std.specs.List.{list_all, position_or_len};
 ghost use Rattle.ph_coord.specs.declared.number.Number.TheVariants.{Whole};
-ghost use Rattle.ph_coord.specs.Spelling.{number_of, size_of};
+ghost use Rattle.ph_coord.specs.Spelling.{number_of};
 ghost use Rattle.ph_specs.specs.Lines.{is_blank};
+ghost use Rattle.ph_script.specs.declared.coords.Coord.TheVariants.{Whole as WholeCoord};
 ghost use Rattle.ph_script.specs.Parts.{coord_of, count_of};
-ghost use Rattle.ph_script.specs.Words.{IsNumbered, IsShort};
+ghost use Rattle.ph_script.specs.Words.{IsDigits, IsNumbered, IsNumberAt};
 
 use crate::coords::Coord;
 use crate::words::{Word, is_blank};
@@ -31,18 +32,29 @@ impl Short {
             size: u128::from(self.size),
         }
     }
+
+    /// The coordinate.
+    #[inline(always)]
+    pub(crate) fn coord(self) -> Coord
+        requires { self.size < 10 ^ 18 }
+        ensures { result ≡ WholeCoord (if self.minus then neg_ℤ (pos self.size) else pos self.size) }
+    {
+        let size = self.size as i64;
+        Coord::Whole(if self.minus { -size } else { size })
+    }
 }
 
-/// The number that the word at the front of a text spells, and the length of the word, where it has at most 18 digits.
-pub(crate) fn front_number(text: &[u8]) -> Option<(Short, usize)>
-    requires { 0 < length text.now }
-    ensures { IfSome result (λ r. (r.1 ≤ length text.now) × (position_or_len is_blank text.now ≡ r.1) × IsShort (take r.1 text.now) r.0) }
+/// The number that the word at a place of a text spells, and where the word ends, if it spells one of at most 18 digits.
+#[inline(always)]
+pub(crate) fn number_at(text: &[u8], from: usize) -> Option<(Short, usize)>
+    requires { from < length text.now }
+    ensures { IfSome result (λ r. IsNumberAt text.now from r.1 r.0) }
 {
-    let (minus, start) = sign(text[0]);
-    let (_, digits) = text.split_at(start);
-    let (size, count) = front_digits(digits);
-    let end = start + count;
-    if count > 0 && is_end(text, end) {
+    let (minus, len) = sign(text[from]);
+    let start = from + len;
+    let (size, end) = digits_behind(text, start, 0);
+    let count = end - start;
+    if 0 < count && count <= MOST_DIGITS && is_end(text, end) {
         return Some((Short { minus, size }, end));
     }
     None
@@ -68,23 +80,30 @@ fn is_end(text: &[u8], at: usize) -> bool
     at == text.len() || is_blank(text[at])
 }
 
-// The number of the first digits of a text, at most 18, and how many they are.
-fn front_digits(text: &[u8]) -> (u64, usize)
-    ensures size { result.0 ≡ size_of (take result.1 text.now) }
-    ensures digits { list_all is_ascii_digit (take result.1 text.now) ≡ true }
-    ensures count { result.1 ≤ length text.now }
-    ensures limit { result.0 < 10 ^ 18 }
+// The number that the digits from a place on make behind one that was read, where both have at most 18 digits, and where they end.
+#[inline(always)]
+fn digits_behind(text: &[u8], from: usize, before: u64) -> (u64, usize)
+    requires { from ≤ length text.now }
+    ensures { IsDigits text.now from before result.1 result.0 }
 {
-    let most = text.len().min(MOST_DIGITS);
-    let mut size = 0u64;
-    for i in 0..most {
-        let digit = text[i];
-        if !digit.is_ascii_digit() {
-            return (size, i);
+    let mut size = before;
+    for at in from..text.len() {
+        let digit = digit_of(text[at]);
+        if 9 < digit {
+            return (size, at);
         }
-        size = size * 10 + u64::from(digit - b'0');
+        size = size.wrapping_mul(10).wrapping_add(digit);
     }
-    (size, most)
+    (size, text.len())
+}
+
+// What a byte is as a digit, or more than 9 where it is none.
+#[inline(always)]
+fn digit_of(byte: u8) -> u64
+    ensures digit { result ≤ 9 → is_ascii_digit byte ≡ true }
+    ensures value { result ≤ 9 → result ≡ byte - 48 }
+{
+    u64::from(byte).wrapping_sub(48)
 }
 
 // The number that a word spells.

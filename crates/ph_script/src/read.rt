@@ -17,6 +17,7 @@ use crate::forms::{Verb, forms};
 use crate::name::Name;
 use crate::parts::Parts;
 use crate::places::{has_own_words, read_places};
+use crate::plain::read_plain;
 use crate::spread::Spread;
 use crate::words::next_word;
 use ph_coord::Kind;
@@ -264,13 +265,30 @@ pub fn read_command<'c>(
     ensures meaning { reading_of result ≡ read_words dims (words line.now) }
     ensures dims { ReadsDims dims result }
 {
+    let dims = dims as usize;
+    if let Some((plain, number)) = read_plain(line, dims, coords) {
+        return Ok(Some(plain.command(dims, coords.as_slice(), number)));
+    }
+    read_any(line, dims, coords)
+}
+
+/// The same by the forms of all commands.
+#[inline(never)]
+pub(crate) fn read_any<'c>(
+    line: &'c [u8],
+    dims: usize,
+    coords: &'c mut CoordBuffer,
+) -> Result<Option<Command<'c>>, Bad>
+    requires { dims ≤ 16 }
+    ensures meaning { reading_of result ≡ read_words dims (words line.now) }
+    ensures dims { ReadsDims dims result }
+{
     let Some((word, rest)) = next_word(line) else {
         return Ok(None);
     };
     if word.text[0] == COMMENT {
         return Ok(None);
     }
-    let dims = dims as usize;
     let mut parts = Parts::new();
     coords.clear();
     match read_form(word.text, rest, dims, coords, &mut parts) {

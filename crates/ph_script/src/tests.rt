@@ -2,5 +2,6 @@
 mod commands;
 mod lines;
 mod names;
+mod plain;
 mod refusals;
 mod replies;

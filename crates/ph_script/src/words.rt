@@ -4,7 +4,7 @@ ghost use Rattle.std.specs.List.{position, position_or_len};
 ghost use Rattle.ph_specs.specs.Lines.{is_blank, words};
 ghost use Rattle.ph_script.specs.Words.{IsNumbered};
 
-use crate::numbers::{Short, front_number};
+use crate::numbers::{Short, number_at};
 
 /// A word of a line, with the number that it spells where that is known.
 #[derive(Clone, Copy)]
@@ -59,7 +59,7 @@ pub(crate) fn next_word(text: &[u8]) -> Option<(Word<'_>, &[u8])>
 }
 
 // The number that the word at the front of a text spells, where that is known, and the length of the word.
-#[tactic(auto, using(crate::proofs::WordCuts::first_or_len))]
+#[tactic(auto, using(crate::proofs::WordCuts::first_or_len, crate::proofs::WordCuts::number_front))]
 #[inline(always)]
 fn front_word(text: &[u8]) -> (Option<Short>, usize)
     requires { 0 < length text.now }
@@ -67,7 +67,7 @@ fn front_word(text: &[u8]) -> (Option<Short>, usize)
     ensures within { result.1 ≤ length text.now }
     ensures number { IsNumbered (take result.1 text.now) result.0 }
 {
-    match front_number(text) {
+    match number_at(text, 0) {
         Some((number, end)) => (Some(number), end),
         None => (None, first_blank(text).unwrap_or(text.len())),
     }

@@ -1,0 +1,197 @@
+//! The plain lines: a command's word, its coordinates, and a number or none behind them.
+ghost use Rattle.std.specs.Prelude.{◌≡◌, ◌<◌, ◌≤◌, ◌+◌, ◌++◌, ◌∷◌, [], ℕ, List, length, drop, map, pos, None, IfSome};
+ghost use Rattle.ph_specs.specs.Lines.{words};
+ghost use Rattle.ph_script.specs.Meaning.{command_of, numbers_of};
+ghost use Rattle.ph_script.specs.Forms.{command_by};
+ghost use Rattle.ph_script.specs.Fit.{IsFit, HasDims};
+ghost use Rattle.ph_script.specs.Plain.{word_of, verb_of, coords_of, most_of, number_by, IsNext, IsSpelled, IsLast, IsPlain};
+
+use crate::command::Command;
+use crate::coords::{Coord, CoordBuffer, Coords, MOST_OF_COMMAND};
+use crate::numbers::{Short, number_at};
+
+/// A command of one form, whose places are those of coordinates and of a number or none.
+#[derive(Clone, Copy)]
+pub(crate) enum Plain {
+    Put,
+    Get,
+    Del,
+    Relocate,
+    Window,
+    Near,
+    Within,
+    Overlap,
+    Inside,
+    Covers,
+}
+
+impl Plain {
+    // How many coordinates it has.
+    fn coords(self, dims: usize) -> usize
+        requires { dims ≤ 16 }
+        ensures { result ≡ coords_of self dims }
+    {
+        match self {
+            Plain::Relocate | Plain::Window => dims + dims,
+            _ => dims,
+        }
+    }
+
+    // The most that the number behind its coordinates may be here, if it has one there.
+    fn most(self) -> Option<u64>
+        ensures { result ≡ most_of self }
+    {
+        match self {
+            Plain::Put | Plain::Within => Some(u64::MAX),
+            Plain::Near => Some(u64::from(u32::MAX)),
+            _ => None,
+        }
+    }
+
+    /// The command, of its coordinates and the number behind them.
+    #[inline(always)]
+    pub(crate) fn command<'c>(self, dims: usize, coords: &'c [Coord], number: u64) -> Command<'c>
+        requires limit { dims ≤ 16 }
+        requires fit { IsFit (verb_of self) dims coords.now (number_by self number) None None }
+        ensures meaning { (texts : List (List ℕ))
+            → command_of result ≡ command_by (verb_of self) dims (numbers_of coords.now ++ map pos (number_by self number)) texts }
+        ensures dims { HasDims dims result }
+    {
+        match self {
+            Plain::Put => Command::Put {
+                at: Coords::new(coords),
+                value: number,
+            },
+            Plain::Get => Command::Get {
+                at: Coords::new(coords),
+            },
+            Plain::Del => Command::Del {
+                at: Coords::new(coords),
+            },
+            Plain::Relocate => {
+                let (from, to) = coords.split_at(dims);
+                Command::Relocate {
+                    from: Coords::new(from),
+                    to: Coords::new(to),
+                }
+            }
+            Plain::Window => {
+                let (lo, hi) = coords.split_at(dims);
+                Command::Window {
+                    lo: Coords::new(lo),
+                    hi: Coords::new(hi),
+                }
+            }
+            Plain::Near => Command::Near {
+                q: Coords::new(coords),
+                n: number as u32,
+            },
+            Plain::Within => Command::Within {
+                q: Coords::new(coords),
+                r: u128::from(number),
+            },
+            Plain::Overlap => Command::Overlap {
+                bounds: Coords::new(coords),
+            },
+            Plain::Inside => Command::Inside {
+                bounds: Coords::new(coords),
+            },
+            Plain::Covers => Command::Covers {
+                bounds: Coords::new(coords),
+            },
+        }
+    }
+}
+
+// The command whose word and one space stand at the front of a line, and how many bytes these are.
+#[inline(always)]
+fn plain_word(line: &[u8]) -> Option<(Plain, usize)>
+    ensures { IfSome result (λ r. (r.1 ≤ length line.now) × (line.now ≡ word_of r.0 ++ 32 ∷ drop r.1 line.now)) }
+{
+    match line {
+        [b'p', b'u', b't', b' ', ..] => Some((Plain::Put, 4)),
+        [b'g', b'e', b't', b' ', ..] => Some((Plain::Get, 4)),
+        [b'd', b'e', b'l', b' ', ..] => Some((Plain::Del, 4)),
+        [b'm', b'o', b'v', b'e', b' ', ..] => Some((Plain::Relocate, 5)),
+        [b'w', b'i', b'n', b'd', b'o', b'w', b' ', ..] => Some((Plain::Window, 7)),
+        [b'n', b'e', b'a', b'r', b' ', ..] => Some((Plain::Near, 5)),
+        [b'w', b'i', b't', b'h', b'i', b'n', b' ', ..] => Some((Plain::Within, 7)),
+        [b'o', b'v', b'e', b'r', b'l', b'a', b'p', b' ', ..] => Some((Plain::Overlap, 8)),
+        [b'i', b'n', b's', b'i', b'd', b'e', b' ', ..] => Some((Plain::Inside, 7)),
+        [b'c', b'o', b'v', b'e', b'r', b's', b' ', ..] => Some((Plain::Covers, 7)),
+        _ => None,
+    }
+}
+
+// The number of few digits that the word at a place spells, and the place behind the word and one blank.
+#[inline(always)]
+fn next_number(line: &[u8], from: usize) -> Option<(Short, usize)>
+    requires { from ≤ length line.now }
+    ensures { IfSome result (λ r. (r.1 ≤ length line.now) × IsNext (drop from line.now) r.0 (drop r.1 line.now)) }
+{
+    if from == line.len() {
+        return None;
+    }
+    match number_at(line, from) {
+        Some((short, end)) => Some((short, line.len().min(end + 1))),
+        None => None,
+    }
+}
+
+// Reads the next words as so many coordinates, and tells the place behind them and one blank.
+#[inline(always)]
+fn read_coords(line: &[u8], from: usize, count: usize, coords: &mut CoordBuffer) -> Option<usize>
+    requires within { from ≤ length line.now }
+    requires empty { coords.old ≡ [] }
+    requires room { count ≤ MOST_OF_COMMAND }
+    ensures within { IfSome result (λ end. end ≤ length line.now) }
+    ensures spelled { IfSome result (λ end. IsSpelled (drop from line.now) coords.new (drop end line.now)) }
+    ensures count { IfSome result (λ _. length coords.new ≡ count) }
+{
+    let mut at = from;
+    for _ in 0..count {
+        let Some((short, end)) = next_number(line, at) else {
+            return None;
+        };
+        coords.push(short.coord());
+        at = end;
+    }
+    Some(at)
+}
+
+// The number behind the coordinates, if the command has one, and the place behind it and one blank.
+#[inline(always)]
+fn read_last(plain: Plain, line: &[u8], from: usize) -> Option<(u64, usize)>
+    requires { from ≤ length line.now }
+    ensures { IfSome result (λ r. (r.1 ≤ length line.now) × IsLast plain (drop from line.now) r.0 (drop r.1 line.now)) }
+{
+    let Some(most) = plain.most() else {
+        return Some((0, from));
+    };
+    match next_number(line, from) {
+        Some((short, end)) if !short.minus && short.size <= most => Some((short.size, end)),
+        _ => None,
+    }
+}
+
+/// The command that a line spells plainly, and the number behind its coordinates, which are read into a buffer.
+///
+/// It is plain if its word stands first, with one space behind it, each number has at most 18 digits, and one blank behind it where
+/// it is not the last, and the number behind the coordinates has no minus.
+#[inline(always)]
+pub(crate) fn read_plain(line: &[u8], dims: usize, coords: &mut CoordBuffer) -> Option<(Plain, u64)>
+    requires { dims ≤ 16 }
+    ensures { IfSome result (λ r. IsPlain r.0 dims (words line.now) coords.new r.1) }
+{
+    let Some((plain, from)) = plain_word(line) else {
+        return None;
+    };
+    coords.clear();
+    let Some(end) = read_coords(line, from, plain.coords(dims), coords) else {
+        return None;
+    };
+    match read_last(plain, line, end) {
+        Some((number, end)) if end == line.len() => Some((plain, number)),
+        _ => None,
+    }
+}
