@@ -1,0 +1,3 @@
+mod Gathered
+mod Gets
+mod Reloads
