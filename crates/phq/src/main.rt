@@ -8,6 +8,7 @@ use ph_io::{DirFiles, StdSink, StdSource};
 use ph_steps::Steps;
 use std::env;
 use std::marker::Brand;
+use std::mem;
 use std::process::ExitCode;
 use std::sync::ledger::{Blank, Ledger};
 
@@ -37,16 +38,19 @@ fn serve<V: Ledger, C: Ledger>(rt: HostRuntime, visits: Blank, changes: Blank) -
     };
     let mut visits: Steps<V> = Steps::new(visits);
     let mut changes: Steps<C> = Steps::new(changes);
+    let mut engine = Engine::new(rt.alloc());
     let status = top(
         rt.alloc(),
         words.as_slice(),
         &mut StdSource::new(rt.stdin()),
         &mut StdSink::new(rt.stdout()),
         &mut DirFiles::new(&rt),
-        &mut Engine::new(rt.alloc()),
+        &mut engine,
         &LIMITS,
         &mut visits,
         &mut changes,
     );
+    // The memory of the tables goes back with the process, all at once.
+    mem::forget(engine);
     ExitCode::from(status as u8)
 }
