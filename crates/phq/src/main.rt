@@ -6,11 +6,10 @@ ghost use Rattle.std.specs.Prelude.{◌≡◌, ◌<◌};
 use ph_engine::{Engine, Limits, top};
 use ph_io::{DirFiles, StdSink, StdSource};
 use ph_steps::Steps;
-use std::env;
 use std::marker::Brand;
-use std::mem;
 use std::process::ExitCode;
 use std::sync::ledger::{Blank, Ledger};
+use std::{env, mem};
 
 const LIMITS: Limits = Limits {
     script_bytes: 1 << 32,
