@@ -77,12 +77,6 @@ top-place xs ys m long small some e =
 
 -- ---- of lists that differ
 
-pub top-differ : (xs ys : List ℕ) (place : ℕ) → IsTopDifference xs ys place → xs ≢ ys
-top-differ xs ys place t e = t.differ (ap (digits_from place) e)
-
-pub top-turned : (xs ys : List ℕ) (place : ℕ) → IsTopDifference xs ys place → IsTopDifference ys xs place
-top-turned xs ys place t = record { within = t.within; agree = sym t.agree; differ = λ e. t.differ (sym e) }
-
 -- numbers below a level differ below it
 pub top-lower : (dims level place : ℕ) (xs ys : List ℕ) → IsBody dims level xs → IsBody dims level ys → IsTopDifference xs ys place → place < level
 top-lower dims level place xs ys h k t =

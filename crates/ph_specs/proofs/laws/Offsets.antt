@@ -2,14 +2,12 @@
 use Rattle.std.proofs.Common.{◌≡◌, ℕ, ◌+◌, ◌-◌, ◌*◌, ◌^◌, ◌<◌, ◌≤◌, refl, ◌∙◌, ap, subst, arith, Bool, true, false, ltb-true, ltb-false, leb-true, leb-false}
 use Rattle.std.specs.Prelude.{ℤ, ◌-ℤ◌, nat_abs, int_le, nat_le, if◌then◌else◌}
 use Rattle.std.proofs.lemmas.Int.{ints}
-use Rattle.std.proofs.Math.Pow.{pow_mono}
 use Rattle.std.proofs.lemmas.Bool.{lt-leb}
 use Rattle.ph_specs.specs.Coordinate.{offset, coordinate, fits}
 use Rattle.ph_specs.specs.Distance.{squared_gap}
 use Rattle.ph_specs.specs.Region.{clamp, prefix, gap}
 use Rattle.ph_specs.proofs.lemmas.Gaps.{low_end, high_end, rising_coordinate}
 use Rattle.ph_specs.proofs.laws.TableShape.{coordinate-offset}
-use Rattle.ph_specs.proofs.laws.Order.{offset_small}
 
 -- coordinates are as far from each other as their offsets
 pub coordinate-apart : (w a b : ℕ) → nat_abs (coordinate w a -ℤ coordinate w b) ≡ (a - b) + (b - a)
@@ -43,7 +41,3 @@ clamp-gap w l c x f =
 
 pub square-gap : (w l : ℕ) (c x : ℤ) → fits w x ≡ true → squared_gap (clamp (low_end w l c) (high_end w l c) x) x ≡ gap l (offset w c) (offset w x) * gap l (offset w c) (offset w x)
 square-gap w l c x f = ap (λ n. n * n) (clamp-gap w l c x f)
-
--- offsets of coordinates of at most 62 binary digits
-pub offset_fits : (w : ℕ) (c : ℤ) → 1 ≤ w → w ≤ 62 → fits w c ≡ true → offset w c < 2 ^ 62
-offset_fits w c l h f = omega (arith, offset_small w c l f, pow_mono {i = w} {j = 62} h)

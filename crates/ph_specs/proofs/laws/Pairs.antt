@@ -3,7 +3,6 @@ use Rattle.std.proofs.Common.{◌≡◌, ℕ, ◌/◌, ◌≤◌, suc, ◌*◌, 
 use Rattle.std.specs.Prelude.{ℤ, filter}
 use Rattle.std.specs.List.{AllByRecursion as Each}
 use Rattle.std.proofs.Math.Nat.{suc-mul}
-use Rattle.std.proofs.lemmas.Grind.{flat_map-append}
 use Rattle.std.proofs.lemmas.List.{length-append, length-map}
 use Rattle.ph_specs.specs.Boxes.{overlapping, overlaps, IsWindowFor, AreBoxes}
 use Rattle.ph_specs.specs.Coordinate.{low_corner, high_corner, IsPoint, IsBox}
@@ -12,14 +11,6 @@ use Rattle.ph_specs.specs.Sets.{pairs, partners, paired}
 use Rattle.ph_specs.specs.Table.{Row, IsTable}
 use Rattle.ph_specs.proofs.laws.BallSearch.{ArePoints, table-points}
 use Rattle.ph_specs.proofs.laws.Boxes.{window_lists}
-
--- those of the first row come first
-pub pairs-cons : (r : Row) (a b : List Row) → pairs (r ∷ a) b ≡ partners r b ++ pairs a b
-pairs-cons r a b = refl
-
--- those of the front of a table come before those of the rest
-pub pairs-append : (a rest b : List Row) → pairs (a ++ rest) b ≡ pairs a b ++ pairs rest b
-pairs-append a rest b = flat_map-append (λ r. partners r b) a rest
 
 pub pairs-none : (a : List Row) → pairs a [] ≡ []
 pairs-none [] = refl
