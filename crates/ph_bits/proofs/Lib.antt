@@ -21,3 +21,4 @@ mod Pieces
 mod Betweens
 mod JoinedNumbers
 mod Aparts
+mod MovedRuns

@@ -84,11 +84,6 @@ field-more ws xs at w low i l =
     ∙ ap (λ t. same_digits (digits_row ws (at + i * w) w (suc (length xs - (i + 1)))) (map (cut w low) t)) (drop_one xs i l)
     ∙ ap (λ t. (digits_at ws (at + i * w) w == cut w low (slice_index_or xs i 0)) && same_digits (digits_row ws t w (length xs - (i + 1))) (map (cut w low) (drop (i + 1) xs))) a
 
-pub field-last : (ws xs : List ℕ) (at w low i : ℕ) → i ≡ length xs → same_digits (digits_row ws (at + i * w) w (length xs - i)) (map (cut w low) (drop i xs)) ≡ true
-field-last ws xs at w low i e =
-    let m : length xs - i ≡ 0 = omega (arith, e) in
-    ap (λ t. same_digits (digits_row ws (at + i * w) w t) (map (cut w low) (drop i xs))) m ∙ ap (λ t. same_digits [] (map (cut w low) t)) (drop_all xs i e)
-
 pub packed-more : (w low all i : ℕ) (xs : List ℕ) → i < length xs
     → number_after all (map (field w) (map (cut w low) (drop i xs))) ≡ number_after (all * 2 ^ w + cut w low (slice_index_or xs i 0)) (map (field w) (map (cut w low) (drop (i + 1) xs)))
 packed-more w low all i xs l = ap (λ t. number_after all (map (field w) (map (cut w low) t))) (drop_one xs i l)

@@ -1,6 +1,6 @@
 -- One field more: in the word that is kept, or over its end.
 use Rattle.std.proofs.Common.{◌≡◌, ℕ, suc, ◌+◌, ◌-◌, ◌*◌, ◌/◌, ◌%◌, ◌^◌, ◌<◌, ◌≤◌, sym, ◌∙◌, ap, subst, arith, List, [], ◌∷◌, ◌++◌, length, length-append, bit_and}
-use Rattle.std.proofs.lemmas.Nat.{pow-add, pow_pos, shl_whole, shr_split, shr_below, mod_below, and_mask}
+use Rattle.std.proofs.lemmas.Nat.{pow-add, shl_whole, shr_split, shr_below, and_mask}
 use Rattle.std.proofs.Math.Nat.{mul-le-mul_left, mod-eq_of_lt, pow-le-pow_right}
 use Rattle.ph_bits.specs.Fields.{number_in}
 use Rattle.ph_specs.specs.Digits.{digits_at}
@@ -61,9 +61,6 @@ masked v low l =
     let e : 1 * 2 ^ low % 2 ^ 64 ≡ 2 ^ low = ap (λ t. t % 2 ^ 64) o ∙ mod-eq_of_lt p in
     ap (λ t. bit_and v (t - 1)) e ∙ and_mask v low
 
-pub masked_below : (v low : ℕ) → low < 64 → bit_and v (1 * 2 ^ low % 2 ^ 64 - 1) < 2 ^ low
-masked_below v low l = subst (λ t. t < 2 ^ low) (sym (masked v low l)) (mod_below v (2 ^ low) (pow_pos low))
-
 pub number_full : (n k room w v : ℕ) → k < 2 ^ (64 - room) → room ≤ 64 → 1 ≤ room → room ≤ w → w ≤ 64
     → (n * 2 ^ 64 + (k * 2 ^ room % 2 ^ 64 + v / 2 ^ (w - room))) * 2 ^ (64 - (64 - (w - room))) + bit_and v (1 * 2 ^ (w - room) % 2 ^ 64 - 1) ≡ (n * 2 ^ (64 - room) + k) * 2 ^ w + v
 number_full n k room w v a l o m q =
@@ -88,19 +85,6 @@ shifted_twice k room a o l =
     let p : 2 ^ room ≡ 2 ^ (room - 1) * 2 ^ 1 = ap (λ t. 2 ^ t) (sym e) ∙ pow-add 2 (room - 1) 1 in
     let q : k * 2 ^ (room - 1) * 2 ^ 1 ≡ k * 2 ^ room = omega (arith, ap (λ t. k * t) p) in
     ap (λ t. t * 2 ^ 1 % 2 ^ 64) (shifted k room (room - 1) a l (omega arith)) ∙ ap (λ t. t % 2 ^ 64) q
-
-pub fits_word : (k room v : ℕ) → k < 2 ^ (64 - room) → 1 ≤ room → room ≤ 64 → v < 2 ^ 64 → k * 2 ^ (room - 1) % 2 ^ 64 * 2 ^ 1 % 2 ^ 64 + v / 2 ^ (64 - room) < 2 ^ 64
-fits_word k room v a o l b =
-    subst (λ t. t + v / 2 ^ (64 - room) < 2 ^ 64) (sym (shifted_twice k room a o l)) (fits_full k room 64 v a l l b)
-
-pub number_word : (n k room v : ℕ) → k < 2 ^ (64 - room) → 1 ≤ room → room ≤ 64
-    → (n * 2 ^ 64 + (k * 2 ^ (room - 1) % 2 ^ 64 * 2 ^ 1 % 2 ^ 64 + v / 2 ^ (64 - room))) * 2 ^ (64 - room) + bit_and v (1 * 2 ^ (64 - room) % 2 ^ 64 - 1) ≡ (n * 2 ^ (64 - room) + k) * 2 ^ 64 + v
-number_word n k room v a o l =
-    let e : 64 - room ≡ 64 - (64 - (64 - room)) = omega arith in
-    let m : ℕ = bit_and v (1 * 2 ^ (64 - room) % 2 ^ 64 - 1) in
-    ap (λ t. (n * 2 ^ 64 + (t + v / 2 ^ (64 - room))) * 2 ^ (64 - room) + m) (shifted_twice k room a o l)
-    ∙ ap (λ t. (n * 2 ^ 64 + (k * 2 ^ room % 2 ^ 64 + v / 2 ^ (64 - room))) * 2 ^ t + m) e
-    ∙ number_full n k room 64 v a l o l (omega arith)
 
 -- digits that are copied, in two parts
 pub number_copied : (ws : List ℕ) (at m w n r : ℕ) → at + m + w ≤ 64 * length ws → r ≡ n * 2 ^ m + digits_at ws at m → r * 2 ^ w + digits_at ws (at + m) w ≡ n * 2 ^ (m + w) + digits_at ws at (m + w)

@@ -11,6 +11,7 @@ pub mod LendsFilled
 pub mod LendsKid
 pub mod LendsSlice
 pub mod Memory
+pub mod Moved
 pub mod Packed
 pub mod Parts
 pub mod Slots

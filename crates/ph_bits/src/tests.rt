@@ -309,3 +309,52 @@ fn rows_apart(rt: HostRuntime) {
         );
     }
 }
+
+// Whether the digits of one list at a place are those of another at another.
+fn are_moved(words: &[u64; 4], to: u64, old: &[u64; 4], from: u64, len: u64) -> bool
+    requires to { to + len ≤ 256 }
+    requires from { from + len ≤ 256 }
+{
+    for i in 0..len {
+        if digit(words, to + i) != digit(old, from + i) {
+            return false;
+        }
+    }
+    true
+}
+
+// Whether digits that were moved are as wanted, and all others as they were.
+fn is_move(words: &[u64; 4], from: u64, to: u64, len: u64) -> bool
+    requires to { to + len ≤ 256 }
+    requires from { from + len ≤ 256 }
+{
+    are_moved(words, to, &WORDS, from, len)
+        && are_moved(words, 0, &WORDS, 0, to)
+        && are_moved(words, to + len, &WORDS, to + len, 256 - (to + len))
+}
+
+// Whether digits are moved as wanted, down to a place and up from it.
+fn is_moved_both_ways(low: u64, more: u64, len: u64) -> bool
+    requires { low + more + len ≤ 256 }
+{
+    let mut down = WORDS;
+    move_down(&mut down, low + more, low, len);
+    let mut up = WORDS;
+    move_up(&mut up, low, low + more, len);
+    is_move(&down, low + more, low, len) && is_move(&up, low, low + more, len)
+}
+
+#[test]
+fn digits_moved_down_and_up(rt: HostRuntime) {
+    for i in 0..6u64 {
+        for j in 0..6u64 {
+            for k in 0..12u64 {
+                let (low, more, len) = (13 * i, 17 * j, 9 * k);
+                assert!(rt;
+                    is_moved_both_ways(low, more, len),
+                    "{len} digits by {more} at {low}"
+                );
+            }
+        }
+    }
+}

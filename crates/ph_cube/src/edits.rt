@@ -1,4 +1,4 @@
-//! Writing a cube record that differs from an old one in what stands at one address.
+//! Cube records that differ from an old one in what stands at one address: written anew, or changed where the old one lies.
 
 ghost use Rattle.std.specs.Prelude.{◌≡◌, ◌+◌, ◌-◌, ◌*◌, ◌^◌, ◌<◌, ◌≤◌, ◌++◌, true, false, Some, length, map, take, replicate, slice_get, if◌then◌else◌};
 ghost use Rattle.ph_specs.specs.Digits.{number_after, words_for};
@@ -108,6 +108,7 @@ fn addresses(dims: usize) -> u64
 }
 
 // The edit as one of columns, which have a body for each address.
+#[inline(always)]
 fn at_address(edit: &Edit, addr: u32) -> Edit
     ensures place { result.place ≡ addr }
     ensures less { result.less ≡ 1 }
@@ -135,6 +136,7 @@ fn at_address(edit: &Edit, addr: u32) -> Edit
 }
 
 // The kind that stands at the address then.
+#[inline(always)]
 fn new_kind(edit: &Edit) -> u64
     ensures some { 0 < edit.now.more → result ≡ 1 + (if edit.now.entry.child then 1 else 0) }
     ensures none { edit.now.more ≡ 0 → result ≡ 0 }
@@ -216,12 +218,58 @@ pub fn put_point(words: &mut [u64], dims: usize, edit: &Edit, addr: u32)
     put_value(words, 1, outline, edit.value);
 }
 
+/// Puts a point in at an address of a record where nothing stands, where the record lies. There is one word more behind the record,
+/// whatever it holds. The value is put in, and what else the record has stays. It takes no memory.
+#[inline(always)]
+pub fn insert_point(words: &mut [u64], dims: usize, edit: &Edit, addr: u32)
+    requires some { 1 ≤ length words.old }
+    requires record { IsRecord true dims (take (length words.old - 1) words.old) }
+    requires edit { IsEditAt dims (take (length words.old - 1) words.old) edit.now addr }
+    requires less { edit.now.less ≡ 0 }
+    requires more { edit.now.more ≡ 1 }
+    requires point { edit.now.entry.child ≡ false }
+    requires entries { AreRising dims (first_in (take (length words.old - 1) words.old)).level 0
+        (edited_as true dims (take (length words.old - 1) words.old) edit.now) }
+    ensures { words.new
+        ≡ record_in true dims (first_in (take (length words.old - 1) words.old)).level
+        (edited_as true dims (take (length words.old - 1) words.old) edit.now) }
+{
+    let len = words.len() - 1;
+    let old = put_table(&mut words[..len], dims, edit, addr);
+    let outline = Outline {
+        count: old.count + 1,
+        ..old
+    };
+    put_value(words, 1, outline, edit.value);
+}
+
+/// Takes the point at an address out of a record, where the record lies. Its value is taken out, and what else the record has stays.
+/// Gives how many words the record has then: the one that is left over behind them has no meaning. It takes no memory.
+#[inline(always)]
+pub fn remove_point(words: &mut [u64], dims: usize, edit: &Edit, addr: u32) -> usize
+    requires record { IsRecord true dims words.old }
+    requires edit { IsEditAt dims words.old edit.now addr }
+    requires less { edit.now.less ≡ 1 }
+    requires more { edit.now.more ≡ 0 }
+    requires was { slice_get (map is_child (entries_as true dims words.old)) edit.now.place ≡ Some false }
+    requires entries { AreRising dims (first_in words.old).level 0 (edited_as true dims words.old edit.now) }
+    ensures words { take result words.new ≡ record_in true dims (first_in words.old).level (edited_as true dims words.old edit.now) }
+    ensures len { result ≡ length (record_in true dims (first_in words.old).level (edited_as true dims words.old edit.now)) }
+    ensures same { length words.new ≡ length words.old }
+{
+    let old = put_table(words, dims, edit, addr);
+    let outline = Outline {
+        count: old.count - 1,
+        ..old
+    };
+    drop_value(words, 1, outline)
+}
+
 // Puts the kind and the body. Gives what the end of the change has to know of the record before it.
 #[inline(always)]
 fn put_table(words: &mut [u64], dims: usize, edit: &Edit, addr: u32) -> Outline
     requires record { IsRecord true dims words.old }
     requires edit { IsEditAt dims words.old edit.now addr }
-    requires more { edit.now.more ≡ 1 }
     requires entries { AreRising dims (first_in words.old).level 0 (edited_as true dims words.old edit.now) }
     ensures outline { IsOutline true dims words.old edit.now result }
     ensures words { words.new ≡ with_table true dims words.old edit.now }
@@ -248,10 +296,10 @@ fn outline_of(old: &[u64], dims: usize, edit: &Edit, addr: u32) -> Outline
 }
 
 // The kind and the body.
+#[inline(always)]
 fn put_columns(words: &mut [u64], dims: usize, edit: &Edit, addr: u32)
     requires record { IsRecord true dims words.old }
     requires edit { IsEditAt dims words.old edit.now addr }
-    requires more { edit.now.more ≡ 1 }
     requires entries { AreRising dims (first_in words.old).level 0 (edited_as true dims words.old edit.now) }
     ensures { words.new ≡ with_table true dims words.old edit.now }
 {

@@ -12,3 +12,12 @@ pub mod EditedTables
 pub mod Overs
 pub mod PutTables
 pub mod PutRecords
+pub mod RunNumbers
+pub mod FieldWords
+pub mod ClosedRuns
+pub mod ClosedColumns
+pub mod ClosedValues
+pub mod LessRecords
+pub mod OpenedColumns
+pub mod OpenedValues
+pub mod MoreRecords

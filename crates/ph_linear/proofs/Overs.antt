@@ -106,7 +106,7 @@ digits-row w (x ∷ xs) = omega (arith, digits-row w xs)
 
 -- ---- a table in place of one with as many digits
 
-all-digits : (ws : List ℕ) → Each (λ x. x < 2 ^ 64) ws → digits_at ws 0 (64 * length ws) ≡ number_in ws
+pub all-digits : (ws : List ℕ) → Each (λ x. x < 2 ^ 64) ws → digits_at ws 0 (64 * length ws) ≡ number_in ws
 all-digits ws h =
     let z : 64 * length ws - 0 - 64 * length ws ≡ 0 = omega arith in
     ap (λ t. number_in ws / 2 ^ t % 2 ^ (64 * length ws)) z
@@ -152,7 +152,7 @@ behind-table w fs vs d r h k a e =
     below : (a b c : ℕ) → a < b → b ≤ c → a < c
     below a b c x y = omega (arith, x, y)
 
-same-number : (xs ys : List ℕ) → Each (λ x. x < 2 ^ 64) xs → Each (λ x. x < 2 ^ 64) ys → length xs ≡ length ys → number_in xs ≡ number_in ys → xs ≡ ys
+pub same-number : (xs ys : List ℕ) → Each (λ x. x < 2 ^ 64) xs → Each (λ x. x < 2 ^ 64) ys → length xs ≡ length ys → number_in xs ≡ number_in ys → xs ≡ ys
 same-number xs ys h k l e =
     sym (pieces-number 64 xs h) ∙ ap (λ n. pieces 64 n (number_in xs)) l ∙ ap (pieces 64 (length ys)) e ∙ pieces-number 64 ys k
 

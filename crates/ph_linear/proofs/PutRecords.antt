@@ -1,17 +1,18 @@
--- A record whose entry at a place became a child or a point, where the record lies: its table is made, and a value goes or comes.
+-- A record that an entry comes into or goes out of, or in which one became a child or a point, where the record lies: its table is
+-- made, and a value goes or comes.
 use Rattle.std.proofs.Common.{◌≡◌, ℕ, zero, suc, ◌+◌, ◌-◌, ◌^◌, ◌≤◌, ◌<◌, refl, sym, ◌∙◌, ap, subst, arith, List, [], ◌∷◌, ◌++◌, length, length-append, map, take, drop, replicate, slice_set, slice_index_or, Bool, true, false}
 use Rattle.std.specs.Prelude.{Some, slice_get, if◌then◌else◌}
 use Rattle.std.specs.List.{AllByRecursion as Each}
 use Rattle.std.proofs.lemmas.List.{length-drop, length-take-le, take_at}
 use Rattle.ph_specs.specs.Digits.{words_for, words_of}
-use Rattle.ph_specs.specs.Layout.{IsRecord, entries_as, values_as, is_child, AreRising}
+use Rattle.ph_specs.specs.Layout.{IsRecord, digits_as, entries_as, values_as, is_child, AreRising}
 use Rattle.ph_specs.specs.Node.{Flat}
 use Rattle.ph_specs.specs.NodeSize.{points_in}
 use Rattle.ph_specs.specs.Pack.{children, values, table, layout, first_word, cube_digits, linear_digits, record_in}
 use Rattle.ph_specs.specs.Record.{Read, read_point, read_child, first_in}
 use Rattle.ph_specs.proofs.lemmas.LayoutTables.{children-few, table-digits}
 use Rattle.ph_specs.proofs.lemmas.Numbers.{length-words_of}
-use Rattle.ph_bits.specs.Edits.{edited_as}
+use Rattle.ph_bits.specs.Edits.{edited_as, count_edited}
 use Rattle.ph_bits.specs.declared.edits.Edit.{Edit}
 use Rattle.ph_linear.specs.Edited.{IsOutline, IsOutlined, new_values, with_table, points_then, values_put, with_values}
 use Rattle.ph_linear.specs.declared.outlines.Outline.{Outline}
@@ -19,7 +20,7 @@ use Rattle.ph_linear.proofs.EditedEntries.{length-new, values-put, points-within
 use Rattle.ph_linear.proofs.Writing.{few}
 
 -- one entry more is a point or none
-points-more : (rs : List Read) (i : ℕ) → points_in (take i rs) ≤ points_in (take (i + 1) rs)
+pub points-more : (rs : List Read) (i : ℕ) → points_in (take i rs) ≤ points_in (take (i + 1) rs)
 points-more rs i =
     let e : suc i ≡ i + 1 = omega arith in
     subst (λ t. points_in (take i rs) ≤ points_in (take t rs)) e (next rs i)
@@ -31,6 +32,13 @@ points-more rs i =
     next (read_child a b ∷ rs) zero = omega arith
     next (read_point a b ∷ rs) (suc i) = omega (arith, next rs i)
     next (read_child a b ∷ rs) (suc i) = next rs i
+
+-- so many entries more are points or none
+points-rise : (rs : List Read) (i k : ℕ) → points_in (take i rs) ≤ points_in (take (i + k) rs)
+points-rise rs i zero = let e : i + 0 ≡ i = omega arith in subst (λ t. points_in (take i rs) ≤ points_in (take t rs)) (sym e) (omega arith)
+points-rise rs i (suc k) =
+    let e : i + k + 1 ≡ i + suc k = omega arith in
+    subst (λ t. points_in (take i rs) ≤ points_in (take t rs)) e (omega (arith, points-rise rs i k, points-more rs (i + k)))
 
 -- none where it is a child
 pub points-child : (rs : List Read) (i : ℕ) → slice_get (map is_child rs) i ≡ Some true → (i < length rs) × (points_in (take (i + 1) rs) ≡ points_in (take i rs))
@@ -83,57 +91,81 @@ module _ (cube : Bool) (dims : ℕ) (words : List ℕ) (e : Edit) (r : IsRecord 
   abbrev front : List ℕ
   front = slice_index_or words 0 0 ∷ words_of (table cube dims (first_in words).level (edited_as cube dims words e))
 
-  many : e.less ≡ 1 → e.more ≡ 1 → length es ≡ o.count
-  many less more = length-new cube dims words e r h l ∙ omega (arith, l, less, more, k.count)
+  one-value : e.more ≡ 1 → e.entry.child ≡ false → new_values e ≡ e.value ∷ []
+  one-value more point = ap (λ t. if t then [] else replicate e.more e.value) point ∙ ap (λ t. replicate t e.value) more
 
-  long-front : AreRising dims (first_in words).level 0 (edited_as cube dims words e) → e.less ≡ 1 → e.more ≡ 1 → length front ≡ o.values
-  long-front up less more =
-      ap suc (length-words_of (table cube dims (first_in words).level es) ∙ ap words_for (table-digits cube dims (first_in words).level 0 es up ∙ ap (λ t. if cube then cube_digits dims (first_in words).level else linear_digits dims (first_in words).level t) (many less more ∙ k.count)))
+  -- the digits of a table of so many entries
+  abbrev pub digits_then : ℕ → ℕ
+  digits_then n = if cube then cube_digits dims (first_in words).level else linear_digits dims (first_in words).level n
+
+  -- the outline of a record that has so many entries then
+  abbrev pub counted : ℕ → Outline
+  counted n = record o { count = n }
+
+  many : length (edited_as cube dims words e) ≡ count_edited (first_in words).entries e
+  many = length-new cube dims words e r h l
+
+  long-front : AreRising dims (first_in words).level 0 (edited_as cube dims words e) → digits_then (length (edited_as cube dims words e)) ≡ digits_as cube dims (first_in words) → length front ≡ o.values
+  long-front up same =
+      ap suc (length-words_of (table cube dims (first_in words).level es) ∙ ap words_for (table-digits cube dims (first_in words).level 0 es up ∙ same))
       ∙ omega (arith, k.values)
 
-  one : e.less ≡ 1 → o.until ≡ points_in (take (e.place + 1) (entries_as cube dims words))
-  one less = k.until ∙ ap (λ t. points_in (take (e.place + t) (entries_as cube dims words))) less
-
-  order : e.less ≡ 1 → o.front ≤ o.until
-  order less = omega (arith, points-more (entries_as cube dims words) e.place, one less, k.front)
+  order : o.front ≤ o.until
+  order = omega (arith, points-rise (entries_as cube dims words) e.place e.less, k.until, k.front)
 
   -- a child has no value
   pub none : e.less ≡ 1 → slice_get (map is_child (entries_as cube dims words)) e.place ≡ Some true → o.until ≡ o.front
-  none less was = one less ∙ (points-child (entries_as cube dims words) e.place was).1 ∙ sym k.front
+  none less was =
+      k.until ∙ ap (λ t. points_in (take (e.place + t) (entries_as cube dims words))) less ∙ (points-child (entries_as cube dims words) e.place was).1 ∙ sym k.front
 
-  put : (new : List ℕ) → AreRising dims (first_in words).level 0 (edited_as cube dims words e) → e.less ≡ 1 → e.more ≡ 1 → new_values e ≡ new → values_put o new (with_table cube dims words e) ≡ front ++ values es
-  put new up less more n =
-      ap (λ t. take (t + o.front) (front ++ vs) ++ (new ++ drop (t + o.until) (front ++ vs))) (sym (long-front up less more))
+  -- nor has an entry that only comes
+  pub none-gone : e.less ≡ 0 → o.until ≡ o.front
+  none-gone less =
+      let p : e.place + e.less ≡ e.place = omega (arith, less) in k.until ∙ ap (λ t. points_in (take t (entries_as cube dims words))) p ∙ sym k.front
+
+  put : (new : List ℕ) → length front ≡ o.values → new_values e ≡ new → values_put o new (with_table cube dims words e) ≡ front ++ values es
+  put new g n =
+      ap (λ t. take (t + o.front) (front ++ vs) ++ (new ++ drop (t + o.until) (front ++ vs))) (sym g)
       ∙ behind front new vs o.front o.until
       ∙ ap (λ t. front ++ (take o.front vs ++ (t ++ drop o.until vs))) (sym n)
       ∙ ap (λ t. front ++ t) (values-put cube dims words e r h l vs o.front o.until refl k.front k.until)
 
-  -- the words with the new table fit the outline, and with the new values they are the new record
-  values-changed : (new ws : List ℕ) → AreRising dims (first_in words).level 0 (edited_as cube dims words e) → e.less ≡ 1 → e.more ≡ 1 → new_values e ≡ new → ws ≡ with_table cube dims words e
-      → IsOutlined o new ws × (with_values (layout cube) o new ws ≡ record_in cube dims (first_in words).level (edited_as cube dims words e))
-  values-changed new ws up less more n p =
-      let g = long-front up less more in
-      let m = many less more in
-      let q : values_put o new ws ≡ front ++ values es = ap (values_put o new) p ∙ put new up less more n in
+  -- the words with the new table fit the outline with as many entries as there are then, and with the new values they are the new record
+  entries-changed : (new ws : List ℕ) (n : ℕ) → AreRising dims (first_in words).level 0 (edited_as cube dims words e) → digits_then (length (edited_as cube dims words e)) ≡ digits_as cube dims (first_in words)
+      → length (edited_as cube dims words e) ≡ n → new_values e ≡ new → ws ≡ with_table cube dims words e
+      → IsOutlined (counted n) new ws × (with_values (layout cube) (counted n) new ws ≡ record_in cube dims (first_in words).level (edited_as cube dims words e))
+  entries-changed new ws n up same m v p =
+      let g = long-front up same in
+      let q : values_put o new ws ≡ front ++ values es = ap (values_put o new) p ∙ put new g v in
       let f = children-few es in
       let long : length ws ≡ length front + length vs = ap length p ∙ length-append front vs in
       let w : o.until ≤ length vs = omega (arith, k.until, points-within cube dims words e r h l (e.place + e.less)) in
       let all : length (values_put o new ws) ≡ length front + length (values es) = ap length q ∙ length-append front (values es) in
-      let sum : length (values_put o new ws) ≡ o.values + o.front + (length new + (length ws - (o.values + o.until))) = length-put (o.values + o.front) (o.values + o.until) new ws (omega (arith, long, g, w, order less)) in
+      let sum : length (values_put o new ws) ≡ o.values + o.front + (length new + (length ws - (o.values + o.until))) = length-put (o.values + o.front) (o.values + o.until) new ws (omega (arith, long, g, w, order)) in
       let points : points_then o new ws ≡ length (values es) = omega (arith, all, sum, g) in
-      let kids : o.count - points_then o new ws ≡ children es = omega (arith, points, f, m) in (
+      let kids : n - points_then o new ws ≡ children es = omega (arith, points, f, m) in (
         record {
-          order = order less;
+          order = order;
           first = omega (arith, k.values);
           within = omega (arith, long, g, w);
           points = omega (arith, points, f, m);
           few = omega (arith, m, few dims (first_in words).level es r.few up);
           low = omega (arith, k.level, r.low);
         },
-        ap (λ t. slice_set t 0 (first_word o.level (layout cube) o.count (o.count - points_then o new ws))) q
+        ap (λ t. slice_set t 0 (first_word o.level (layout cube) n (n - points_then o new ws))) q
             ∙ ap {B = List ℕ} (λ t. t ∷ words_of (table cube dims (first_in words).level es) ++ values es)
-            (ap (first_word o.level (layout cube) o.count) kids ∙ ap (λ t. first_word o.level (layout cube) t (children es)) (sym m) ∙ ap (λ t. first_word t (layout cube) (length es) (children es)) k.level),
+            (ap (first_word o.level (layout cube) n) kids ∙ ap (λ t. first_word o.level (layout cube) t (children es)) (sym m) ∙ ap (λ t. first_word t (layout cube) (length es) (children es)) k.level),
       )
+
+  -- ---- an entry that stays
+
+  same-many : e.less ≡ 1 → e.more ≡ 1 → length (edited_as cube dims words e) ≡ o.count
+  same-many less more = many ∙ omega (arith, l, less, more, k.count)
+
+  values-changed : (new ws : List ℕ) → AreRising dims (first_in words).level 0 (edited_as cube dims words e) → e.less ≡ 1 → e.more ≡ 1 → new_values e ≡ new → ws ≡ with_table cube dims words e
+      → IsOutlined o new ws × (with_values (layout cube) o new ws ≡ record_in cube dims (first_in words).level (edited_as cube dims words e))
+  values-changed new ws up less more n p =
+      entries-changed new ws o.count up (ap digits_then (same-many less more ∙ k.count)) (same-many less more) n p
 
   pub child-changed : (ws : List ℕ) → AreRising dims (first_in words).level 0 (edited_as cube dims words e) → e.less ≡ 1 → e.more ≡ 1 → e.entry.child ≡ true → ws ≡ with_table cube dims words e
       → IsOutlined o [] ws × (with_values (layout cube) o [] ws ≡ record_in cube dims (first_in words).level (edited_as cube dims words e))
@@ -144,5 +176,23 @@ module _ (cube : Bool) (dims : ℕ) (words : List ℕ) (e : Edit) (r : IsRecord 
   pub point-changed : (new ws : List ℕ) → AreRising dims (first_in words).level 0 (edited_as cube dims words e) → e.less ≡ 1 → e.more ≡ 1 → e.entry.child ≡ false → 1 ≤ length ws → length new ≡ length (take (length ws - 1) ws) → new ≡ with_table cube dims words e
       → IsOutlined o (e.value ∷ []) (part_lent new ws) × (with_values (layout cube) o (e.value ∷ []) (part_lent new ws) ≡ record_in cube dims (first_in words).level (edited_as cube dims words e))
   point-changed new ws up less more point some long p =
-      let one : new_values e ≡ e.value ∷ [] = ap (λ t. if t then [] else replicate e.more e.value) point ∙ ap (λ t. replicate t e.value) more in
-      values-changed (e.value ∷ []) (part_lent new ws) up less more one (part-new new ws some long ∙ p)
+      values-changed (e.value ∷ []) (part_lent new ws) up less more (one-value more point) (part-new new ws some long ∙ p)
+
+  -- ---- an entry that comes or goes, with no other digits of the table
+
+  no-values : (t : Bool) (m v : ℕ) → m ≡ 0 → (if t then [] else replicate m v) ≡ []
+  no-values true m v z = refl
+  no-values false m v z = ap (λ t. replicate t v) z
+
+  pub entry-gone : (ws : List ℕ) → AreRising dims (first_in words).level 0 (edited_as cube dims words e) → digits_then (length (edited_as cube dims words e)) ≡ digits_as cube dims (first_in words)
+      → e.less ≡ 1 → e.more ≡ 0 → ws ≡ with_table cube dims words e
+      → IsOutlined (counted (o.count - 1)) [] ws × (with_values (layout cube) (counted (o.count - 1)) [] ws ≡ record_in cube dims (first_in words).level (edited_as cube dims words e))
+  entry-gone ws up same less more p =
+      entries-changed [] ws (o.count - 1) up same (many ∙ omega (arith, l, less, more, k.count)) (no-values e.entry.child e.more e.value more) p
+
+  -- the same where the words are all but the last of those that there are
+  pub point-come : (new ws : List ℕ) → AreRising dims (first_in words).level 0 (edited_as cube dims words e) → digits_then (length (edited_as cube dims words e)) ≡ digits_as cube dims (first_in words)
+      → e.less ≡ 0 → e.more ≡ 1 → e.entry.child ≡ false → 1 ≤ length ws → length new ≡ length (take (length ws - 1) ws) → new ≡ with_table cube dims words e
+      → IsOutlined (counted (o.count + 1)) (e.value ∷ []) (part_lent new ws) × (with_values (layout cube) (counted (o.count + 1)) (e.value ∷ []) (part_lent new ws) ≡ record_in cube dims (first_in words).level (edited_as cube dims words e))
+  point-come new ws up same less more point some long p =
+      entries-changed (e.value ∷ []) (part_lent new ws) (o.count + 1) up same (many ∙ omega (arith, l, less, more, k.count)) (one-value more point) (part-new new ws some long ∙ p)

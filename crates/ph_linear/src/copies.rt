@@ -21,6 +21,16 @@ pub struct Column {
 }
 
 impl Column {
+    /// The digit at which the digits of an entry begin, or those of the last one end.
+    #[inline(always)]
+    pub fn start(self, i: u64) -> u64
+        requires within { i ≤ self.count }
+        requires near { self.at + self.count * self.width ≤ 2 ^ 62 }
+        ensures { result ≡ self.at + i * self.width }
+    {
+        self.at + i * self.width
+    }
+
     /// Writes a column of one field for each entry, with one edit: the field of the new entry is `v`.
     #[inline(always)]
     pub fn edit_fields(self, pen: &mut Pen, words: &mut Words, old: &[u64], edit: &Edit, v: u64)
@@ -205,7 +215,7 @@ fn put_new_row(pen: &mut Pen, words: &mut Words, edit: &Edit, level: u32, dims: 
 }
 
 // Puts a body in place of the digits from one on.
-fn set_row(words: &mut [u64], at: u64, level: u32, dims: usize, body: &[u64; 16])
+pub(crate) fn set_row(words: &mut [u64], at: u64, level: u32, dims: usize, body: &[u64; 16])
     requires few { dims ≤ 16 }
     requires low { level ≤ 63 }
     requires inside { at + dims * level ≤ 64 * length words.old }

@@ -74,7 +74,7 @@ fn edit_columns(pen: &mut Pen, words: &mut Words, dims: usize, old: &[u64], edit
 
 // The column of the kinds of a record.
 #[inline(always)]
-fn kinds_of(old: &[u64], dims: usize) -> Column
+pub(crate) fn kinds_of(old: &[u64], dims: usize) -> Column
     requires { IsRecord false dims old.now }
     ensures column { IsColumn old.now result }
     ensures at { result.at ≡ 64 }
@@ -90,7 +90,7 @@ fn kinds_of(old: &[u64], dims: usize) -> Column
 
 // The column of the addresses.
 #[inline(always)]
-fn addresses_of(old: &[u64], dims: usize) -> Column
+pub(crate) fn addresses_of(old: &[u64], dims: usize) -> Column
     requires { IsRecord false dims old.now }
     ensures column { IsColumn old.now result }
     ensures at { result.at ≡ 64 + (first_in old.now).entries }
@@ -107,7 +107,7 @@ fn addresses_of(old: &[u64], dims: usize) -> Column
 
 // The column of the bodies.
 #[inline(always)]
-fn bodies_of(old: &[u64], dims: usize) -> Column
+pub(crate) fn bodies_of(old: &[u64], dims: usize) -> Column
     requires { IsRecord false dims old.now }
     ensures column { IsColumn old.now result }
     ensures at { result.at ≡ 64 + (first_in old.now).entries + (first_in old.now).entries * dims }
@@ -242,7 +242,7 @@ fn put_table(words: &mut [u64], dims: usize, edit: &Edit) -> Outline
 
 // What the end of the change has to know of the record before it.
 #[inline(always)]
-fn outline_of(old: &[u64], dims: usize, edit: &Edit) -> Outline
+pub(crate) fn outline_of(old: &[u64], dims: usize, edit: &Edit) -> Outline
     requires record { IsRecord false dims old.now }
     requires within { edit.now.place + edit.now.less ≤ (first_in old.now).entries }
     ensures { IsOutline false dims old.now edit.now result }

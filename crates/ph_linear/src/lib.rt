@@ -8,10 +8,13 @@ mod copies;
 mod edits;
 mod fixed;
 mod heads;
+mod inserts;
 mod outlines;
 mod parts;
 mod reads;
+mod removes;
 mod searches;
+mod tables;
 mod writes;
 
 pub use copies::Column;
@@ -27,8 +30,10 @@ pub use writes::put_values;
 /// knows it.
 pub mod by_dims {
     pub use crate::edits::{put_child, put_point, write_edited};
+    pub use crate::inserts::insert_point;
     pub use crate::parts::rank_of;
     pub use crate::reads::{address, bits_of, body_at, entry, find_entry, is_child, rank};
+    pub use crate::removes::remove_point;
     pub use crate::searches::{find, next_at_or_after, search};
     pub use crate::writes::write;
 }

@@ -1,5 +1,5 @@
-//! The end of a change where a record lies, in either layout: the value of an entry that became a child is taken out, or that of
-//! one that became a point is put in.
+//! The end of a change where a record lies, in either layout: the value of an entry that became a child or that went is taken out,
+//! or that of one that became a point or that came is put in.
 
 ghost use Rattle.std.specs.Prelude.{◌≡◌, ◌+◌, ◌-◌, ◌^◌, ◌<◌, ◌≤◌, ◌∷◌, ◌++◌, [], length, take, drop, slice_set};
 ghost use Rattle.ph_specs.specs.Pack.{first_word};
@@ -7,17 +7,17 @@ ghost use Rattle.ph_linear.specs.Edited.{IsOutlined, with_values};
 
 use crate::heads::first_of;
 
-/// What is known of a record before an entry of it becomes a child or a point.
+/// What is known of a record before an entry of it becomes a child or a point, or comes or goes.
 #[derive(Clone, Copy)]
 pub struct Outline {
     pub level: u32,
-    /// How many entries it has.
+    /// How many entries it has: for the end of the change, how many it has then.
     pub count: usize,
     /// The place of the first value among the words.
     pub values: usize,
     /// How many points stand in front of the entry.
     pub front: usize,
-    /// How many of the entries up to this one, which may be a point, are points.
+    /// How many of the entries up to this one, which may be a point, are points. It is the same where the entry only comes.
     pub until: usize,
 }
 

@@ -1,0 +1,61 @@
+-- The columns of a record where they lie, with an entry less or more: which runs of digits stand there, one behind the other.
+use Rattle.std.specs.Prelude.{◌≡◌, ℕ, ◌+◌, ◌-◌, ◌*◌, ◌^◌, ◌≤◌, List, [], ◌∷◌, ◌++◌, length, take, drop, slice_index_or}
+use Rattle.ph_specs.specs.Digits.{Field, field, digits_of, digits_at, words_for, words_of}
+use Rattle.ph_specs.specs.Pack.{body_fields}
+use Rattle.ph_specs.specs.Record.{first_in}
+use Rattle.ph_bits.specs.declared.edits.Edit.{Edit}
+use Rattle.ph_linear.specs.declared.copies.Column.{Column}
+use Rattle.ph_linear.specs.declared.tables.Columns.{Columns}
+
+-- the digit at which an entry of a column begins
+abbrev pub start : Column → ℕ → ℕ
+start c i = c.at + i * c.width
+
+-- columns of as many entries each, one behind the other from the second word on
+pub record AreColumns (words : List ℕ) (cs : Columns) : Type 0 where
+  pub begin : cs.kinds.at ≡ 64
+  pub one : cs.kinds.width ≡ 1
+  pub addresses : cs.addresses.at ≡ start cs.kinds cs.kinds.count
+  pub addresses_many : cs.addresses.count ≡ cs.kinds.count
+  pub bodies : cs.bodies.at ≡ start cs.addresses cs.kinds.count
+  pub bodies_many : cs.bodies.count ≡ cs.kinds.count
+  pub inside : start cs.bodies cs.kinds.count ≤ 64 * length words
+  pub near : start cs.bodies cs.kinds.count + cs.kinds.width + cs.addresses.width + cs.bodies.width ≤ 2 ^ 62
+
+-- those of a record
+pub record AreColumnsOf (dims : ℕ) (words : List ℕ) (cs : Columns) : Type 0 where
+  pub columns : AreColumns words cs
+  pub many : cs.kinds.count ≡ (first_in words).entries
+  pub addresses_wide : cs.addresses.width ≡ dims
+  pub bodies_wide : cs.bodies.width ≡ dims * (first_in words).level
+
+-- the digits from one up to another, as one field
+abbrev pub run : List ℕ → ℕ → ℕ → Field
+run words from until = field (until - from) (digits_at words from (until - from))
+
+-- the columns without an entry
+abbrev pub runs_without : List ℕ → Columns → ℕ → List Field
+runs_without words cs i =
+    run words 64 (start cs.kinds i)
+    ∷ run words (start cs.kinds (i + 1)) (start cs.addresses i)
+    ∷ run words (start cs.addresses (i + 1)) (start cs.bodies i)
+    ∷ run words (start cs.bodies (i + 1)) (start cs.bodies cs.bodies.count)
+    ∷ []
+
+-- the columns with a new point entry
+abbrev pub runs_with : List ℕ → Columns → ℕ → ℕ → Edit → List Field
+runs_with words cs level dims e =
+    run words 64 (start cs.kinds e.place)
+    ∷ field 1 0
+    ∷ run words (start cs.kinds e.place) (start cs.addresses e.place)
+    ∷ field cs.addresses.width e.entry.addr
+    ∷ run words (start cs.addresses e.place) (start cs.bodies e.place)
+    ∷ body_fields level (take dims e.entry.body) ++ run words (start cs.bodies e.place) (start cs.bodies cs.bodies.count) ∷ []
+
+-- how many digits they have then
+abbrev pub digits_more : Columns → ℕ
+digits_more cs = start cs.bodies cs.bodies.count - 64 + 1 + cs.addresses.width + cs.bodies.width
+
+-- words with fields in place of those behind the first word, and zeros up to the end of the last of them
+abbrev pub with_fields : List Field → List ℕ → List ℕ
+with_fields fs words = slice_index_or words 0 0 ∷ words_of fs ++ drop (1 + words_for (digits_of fs)) words
