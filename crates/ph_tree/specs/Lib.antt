@@ -7,4 +7,5 @@ pub mod Tree
 pub mod Moves
 pub mod Rooms
 pub mod Spares
+pub mod Spare
 pub mod Stats

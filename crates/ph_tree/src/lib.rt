@@ -10,6 +10,7 @@ mod moves;
 mod puts;
 mod records;
 mod removals;
+mod spare;
 mod stats;
 mod step;
 mod tree;

@@ -8,11 +8,11 @@ ghost use Rattle.ph_specs.specs.DelTree.{del_tree};
 ghost use Rattle.ph_tree.specs.Opened.{opened_in};
 ghost use Rattle.ph_tree.specs.Rooms.{longest_in, more_words};
 
-use crate::find::{Found, find_long};
+use crate::find::Found;
 use crate::key::KeyOf;
 use crate::puts::{PutOf, put_in};
 use crate::removals::{Removal, del_in};
-use ph_bits::Words;
+use crate::spare::Spare;
 use ph_coord::Dims;
 use ph_node::{NoMemory, NodeOf};
 use ph_steps::Steps;
@@ -31,9 +31,9 @@ pub enum Moved {
     Taken,
 }
 
-// Puts the value at one point of a tree to another, and then takes the first out, where no row is at the other. That is looked
-// up first, so a point that is taken takes no memory. All memory is taken before the first change: the block for the removal
-// has the most room that a node on the way of the first point takes, and what the put may add to one.
+// Puts the value at one point of a tree to another, and then takes the first out, where no row is at the other. The put sees
+// whether one is there, and then takes no memory. Else all memory is taken before the first change: the put takes the block for
+// the removal, with the most room that a node on the way of the first point takes, and what the put may add to one.
 pub(crate) fn move_in<P: Dims, V: Ledger, C: Ledger>(
     root: &mut Option<NodeOf<P>>,
     alloc: Global,
@@ -64,7 +64,7 @@ pub(crate) fn move_in<P: Dims, V: Ledger, C: Ledger>(
     ensures err { OnErr result (root.new ≡ root.old) }
     ensures visits { visits.new
         ≤ visits.old
-        + 3 * opened_in to.now.width root.old to.now.point
+        + 2 * opened_in to.now.width root.old to.now.point
         + 2
         * opened_in from.now.width (put_tree to.now.width P.D root.old to.now.point found.value)
         from.now.point }
@@ -75,29 +75,26 @@ pub(crate) fn move_in<P: Dims, V: Ledger, C: Ledger>(
     ensures kept { changes.old ≤ changes.new }
     ensures made { find_tree to.now.width P.D root.old to.now.point ≡ None → OnOk result (changes.old + 1 ≤ changes.new) }
 {
-    if find_long(root, to, visits).is_some() {
-        return Ok(Moved::Taken);
-    }
-    let Ok(block) = Words::with_room(alloc, found.longest + more_words(to.width(), P::D)) else {
-        return Err(NoMemory);
-    };
-    let mut removal = Removal {
-        alloc,
-        there: Some(block),
-        value: 0,
-    };
     let mut put = PutOf {
         key: to,
         value: found.value,
         room: true,
         fresh: true,
         former: 0,
+        spare: Spare::new(alloc, found.longest + more_words(to.width(), P::D)),
     };
     match put_in(root, alloc, &mut put, visits, changes) {
-        Ok(Put::New) => match del_in(root, from, &mut removal, visits, changes) {
-            Ok(_) => Ok(Moved::Done),
-            Err(_) => unreachable!(),
-        },
+        Ok(Put::New) => {
+            let mut removal = Removal {
+                alloc,
+                there: put.spare.block,
+                value: 0,
+            };
+            match del_in(root, from, &mut removal, visits, changes) {
+                Ok(_) => Ok(Moved::Done),
+                Err(_) => unreachable!(),
+            }
+        }
         Ok(Put::Old(_)) => Ok(Moved::Taken),
         Err(_) => Err(NoMemory),
     }

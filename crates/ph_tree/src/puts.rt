@@ -1,6 +1,6 @@
 //! Putting a value at a point, below a node and in a tree.
 
-ghost use Rattle.std.specs.Prelude.{◌≡◌, ◌+◌, ◌*◌, ◌<◌, ◌≤◌, true, false, None, position, IsSome, IfOk, OnOk, OnErr, IsErrOf};
+ghost use Rattle.std.specs.Prelude.{◌≡◌, ◌+◌, ◌*◌, ◌^◌, ◌<◌, ◌≤◌, true, false, None, position, IsSome, IfOk, OnOk, OnErr, IsErrOf};
 ghost use Rattle.ph_specs.specs.ZOrder.{address};
 ghost use Rattle.ph_specs.specs.Node.{entries, node_of, value};
 ghost use Rattle.ph_specs.specs.Lawful.{IsLawful, IsLawfulFrom};
@@ -12,10 +12,12 @@ ghost use Rattle.ph_node.specs.Spots.{IsSpot};
 ghost use Rattle.ph_table.specs.Rows.{put_answer};
 ghost use Rattle.ph_tree.specs.Opened.{opened_below, opened_in};
 ghost use Rattle.ph_tree.specs.Placed.{outcome};
+ghost use Rattle.ph_tree.specs.Spare.{IsRoomy};
 ghost use Rattle.ph_tree.specs.Step.{IsApartAt};
 
 use crate::error::PutError;
 use crate::key::KeyOf;
+use crate::spare::Spare;
 use crate::step::{StepOf, step};
 use ph_coord::Dims;
 use ph_node::{NodeOf, Spot};
@@ -35,6 +37,8 @@ pub(crate) struct PutOf<'t, P: Dims> {
     pub(crate) fresh: bool,
     // The value that the point had, once it was found.
     pub(crate) former: u64,
+    // A block that is taken before a new point is put.
+    pub(crate) spare: Spare,
 }
 
 // What came of a put below the root. The value that the point had stays in the put, so that this is one number: only then the
@@ -77,6 +81,7 @@ pub(crate) fn put_in<P: Dims, V: Ledger, C: Ledger>(
     requires some { 1 ≤ P.D }
     requires few { P.D ≤ 16 }
     requires lawful { IsLawful put.old.key.now.width P.D root.old }
+    requires room { put.old.spare.room < 2 ^ 21 }
     ensures answer { IfOk result (λ a. a ≡ put_answer (find_tree put.old.key.now.width P.D root.old put.old.key.now.point)) }
     ensures put { put.old.fresh ≡ false → OnOk result (root.new ≡ put_tree put.old.key.now.width P.D root.old put.old.key.now.point put.old.value) }
     ensures joined { find_tree put.old.key.now.width P.D root.old put.old.key.now.point ≡ None
@@ -94,6 +99,7 @@ pub(crate) fn put_in<P: Dims, V: Ledger, C: Ledger>(
     ensures made { IfOk result (λ a. a ≡ Put.New → changes.old + 1 ≤ changes.new) }
     ensures replaced { put.old.fresh ≡ false → IsSome (find_tree put.old.key.now.width P.D root.old put.old.key.now.point) → changes.new ≡ changes.old + 1 }
     ensures idle { put.old.fresh ≡ true → IsSome (find_tree put.old.key.now.width P.D root.old put.old.key.now.point) → changes.new ≡ changes.old }
+    ensures roomy { IfOk result (λ a. a ≡ Put.New → IsRoomy put.new.spare.block put.old.spare.room) }
 {
     let key = put.key;
     let top = key.width() - 1;
@@ -102,6 +108,9 @@ pub(crate) fn put_in<P: Dims, V: Ledger, C: Ledger>(
         None => {
             if !put.room {
                 return Err(PutError::Full);
+            }
+            if !put.spare.take() {
+                return Err(PutError::NoMemory);
             }
             match NodeOf::single(
                 alloc,
@@ -130,6 +139,7 @@ pub(crate) fn put_at<P: Dims, V: Ledger, C: Ledger>(
 ) -> Placed
     requires lawful { IsLawfulFrom P.D cur.old.level 0 cur.old.chain }
     requires level { cur.old.level < put.old.key.now.width }
+    requires room { put.old.spare.room < 2 ^ 21 }
     ensures answer { IfOk (outcome result put.new.former) (λ a. a ≡ put_answer (find_node put.old.key.now.width cur.old put.old.key.now.point)) }
     ensures put { put.old.fresh ≡ false → OnOk (outcome result put.new.former) (cur.new ≡ put_node put.old.key.now.width cur.old put.old.key.now.point put.old.value) }
     ensures joined { find_node put.old.key.now.width cur.old put.old.key.now.point ≡ None
@@ -149,6 +159,7 @@ pub(crate) fn put_at<P: Dims, V: Ledger, C: Ledger>(
     ensures made { IfOk (outcome result put.new.former) (λ a. a ≡ Put.New → changes.old + 1 ≤ changes.new) }
     ensures replaced { put.old.fresh ≡ false → IsSome (find_node put.old.key.now.width cur.old put.old.key.now.point) → changes.new ≡ changes.old + 1 }
     ensures idle { put.old.fresh ≡ true → IsSome (find_node put.old.key.now.width cur.old put.old.key.now.point) → changes.new ≡ changes.old }
+    ensures roomy { IfOk (outcome result put.new.former) (λ a. a ≡ Put.New → IsRoomy put.new.spare.block put.old.spare.room) }
 {
     let node = cur.visit(visits);
     let level = node.level();
@@ -189,31 +200,36 @@ fn replace_value<P: Dims, C: Ledger>(
     Placed::Present
 }
 
-// Adds a point to a node at a level that has no entry at its address, in the place of one.
+// Adds a point to a node at a level that has no entry at its address, in the place of one, once the spare block is there.
 #[inline(never)]
 fn add_point<P: Dims, C: Ledger>(
     cur: &mut NodeOf<P>,
     i: usize,
     level: u32,
-    put: &PutOf<'_, P>,
+    put: &mut PutOf<'_, P>,
     changes: &mut Steps<C>,
 ) -> Placed
     requires level { level ≡ cur.old.level }
-    requires below { level < put.now.key.now.width }
-    requires absent { position (has_address (address put.now.key.now.width put.now.key.now.point level)) (entries cur.old) ≡ None }
-    requires place { i ≡ place_for (address put.now.key.now.width put.now.key.now.point level) (entries cur.old) }
-    ensures answer { IfOk (outcome result put.now.former) (λ a. a ≡ Put.New) }
-    ensures put { OnOk (outcome result put.now.former) (cur.new ≡ put_node put.now.key.now.width cur.old put.now.key.now.point put.now.value) }
-    ensures err { OnErr (outcome result put.now.former) (cur.new ≡ cur.old) }
-    ensures full { IsErrOf (outcome result put.now.former) PutError.Full → put.now.room ≡ false }
-    ensures refused { put.now.room ≡ false → IsErrOf (outcome result put.now.former) PutError.Full }
+    requires below { level < put.old.key.now.width }
+    requires absent { position (has_address (address put.old.key.now.width put.old.key.now.point level)) (entries cur.old) ≡ None }
+    requires place { i ≡ place_for (address put.old.key.now.width put.old.key.now.point level) (entries cur.old) }
+    requires room { put.old.spare.room < 2 ^ 21 }
+    ensures answer { IfOk (outcome result put.new.former) (λ a. a ≡ Put.New) }
+    ensures put { OnOk (outcome result put.new.former) (cur.new ≡ put_node put.old.key.now.width cur.old put.old.key.now.point put.old.value) }
+    ensures err { OnErr (outcome result put.new.former) (cur.new ≡ cur.old) }
+    ensures full { IsErrOf (outcome result put.new.former) PutError.Full → put.old.room ≡ false }
+    ensures refused { put.old.room ≡ false → IsErrOf (outcome result put.new.former) PutError.Full }
     ensures changes { changes.new ≤ changes.old + 1 }
-    ensures spared { OnErr (outcome result put.now.former) (changes.new ≡ changes.old) }
+    ensures spared { OnErr (outcome result put.new.former) (changes.new ≡ changes.old) }
     ensures kept { changes.old ≤ changes.new }
-    ensures made { IfOk (outcome result put.now.former) (λ a. a ≡ Put.New → changes.old + 1 ≤ changes.new) }
+    ensures made { IfOk (outcome result put.new.former) (λ a. a ≡ Put.New → changes.old + 1 ≤ changes.new) }
+    ensures roomy { IfOk (outcome result put.new.former) (λ a. a ≡ Put.New → IsRoomy put.new.spare.block put.old.spare.room) }
 {
     if !put.room {
         return Placed::Refused;
+    }
+    if !put.spare.take() {
+        return Placed::Failed;
     }
     match cur.add(
         i,
@@ -227,31 +243,36 @@ fn add_point<P: Dims, C: Ledger>(
     }
 }
 
-// Splits an entry of a node at a level, so that a point stands beside what it holds.
+// Splits an entry of a node at a level, so that a point stands beside what it holds, once the spare block is there.
 #[inline(never)]
 fn split_entry<P: Dims, C: Ledger>(
     cur: &mut NodeOf<P>,
     spot: Spot,
     level: u32,
-    put: &PutOf<'_, P>,
+    put: &mut PutOf<'_, P>,
     changes: &mut Steps<C>,
 ) -> Placed
     requires lawful { IsLawfulFrom P.D cur.old.level 0 cur.old.chain }
     requires level { level ≡ cur.old.level }
-    requires below { level < put.now.key.now.width }
-    requires apart { IsApartAt put.now.key.now.width put.now.key.now.point cur.old spot }
-    ensures answer { IfOk (outcome result put.now.former) (λ a. a ≡ Put.New) }
-    ensures put { OnOk (outcome result put.now.former) (cur.new ≡ put_node put.now.key.now.width cur.old put.now.key.now.point put.now.value) }
-    ensures err { OnErr (outcome result put.now.former) (cur.new ≡ cur.old) }
-    ensures full { IsErrOf (outcome result put.now.former) PutError.Full → put.now.room ≡ false }
-    ensures refused { put.now.room ≡ false → IsErrOf (outcome result put.now.former) PutError.Full }
+    requires below { level < put.old.key.now.width }
+    requires apart { IsApartAt put.old.key.now.width put.old.key.now.point cur.old spot }
+    requires room { put.old.spare.room < 2 ^ 21 }
+    ensures answer { IfOk (outcome result put.new.former) (λ a. a ≡ Put.New) }
+    ensures put { OnOk (outcome result put.new.former) (cur.new ≡ put_node put.old.key.now.width cur.old put.old.key.now.point put.old.value) }
+    ensures err { OnErr (outcome result put.new.former) (cur.new ≡ cur.old) }
+    ensures full { IsErrOf (outcome result put.new.former) PutError.Full → put.old.room ≡ false }
+    ensures refused { put.old.room ≡ false → IsErrOf (outcome result put.new.former) PutError.Full }
     ensures changes { changes.new ≤ changes.old + 2 }
-    ensures spared { OnErr (outcome result put.now.former) (changes.new ≡ changes.old) }
+    ensures spared { OnErr (outcome result put.new.former) (changes.new ≡ changes.old) }
     ensures kept { changes.old ≤ changes.new }
-    ensures made { IfOk (outcome result put.now.former) (λ a. a ≡ Put.New → changes.old + 1 ≤ changes.new) }
+    ensures made { IfOk (outcome result put.new.former) (λ a. a ≡ Put.New → changes.old + 1 ≤ changes.new) }
+    ensures roomy { IfOk (outcome result put.new.former) (λ a. a ≡ Put.New → IsRoomy put.new.spare.block put.old.spare.room) }
 {
     if !put.room {
         return Placed::Refused;
+    }
+    if !put.spare.take() {
+        return Placed::Failed;
     }
     match cur.split(spot, &put.key.below(level), put.value, changes) {
         Ok(()) => Placed::Joined,

@@ -19,6 +19,7 @@ use crate::key::KeyOf;
 use crate::moves::{Moved, move_in};
 use crate::puts::{PutOf, put_in};
 use crate::removals::{Removal, del_in};
+use crate::spare::Spare;
 use ph_coord::{Dim, Point, Width};
 use ph_node::{NoMemory, Node};
 use ph_steps::Steps;
@@ -223,6 +224,7 @@ impl<const D: usize> PhTree<D> {
             room,
             fresh: false,
             former: 0,
+            spare: Spare::new(self.alloc, 0),
         };
         match put_in(&mut self.root, self.alloc, &mut put, visits, changes) {
             Ok(Put::New) => {

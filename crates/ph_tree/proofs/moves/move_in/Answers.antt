@@ -1,16 +1,22 @@
-use Rattle.std.proofs.Common.{◌≡◌, ℕ, ◌+◌, ◌^◌, ◌≤◌, arith, lt-ltb, sym, ap, ◌∙◌, subst, true}
-use Rattle.std.specs.Prelude.{Some, None}
+use Rattle.std.proofs.Common.{◌≡◌, ℕ, ◌+◌, ◌^◌, ◌≤◌, arith, lt-ltb, sym, ap, ◌∙◌, subst, refl, true}
+use Rattle.std.specs.Prelude.{Option, Some, None}
 use Rattle.ph_specs.specs.Coordinate.{is_point}
 use Rattle.ph_specs.specs.Lawful.{IsLawful}
 use Rattle.ph_specs.specs.PutTree.{find_tree, put_tree}
 use Rattle.ph_specs.proofs.laws.PutTree.{lawful-put_tree}
-use Rattle.ph_bits.specs.Block.{room_of}
+use Rattle.ph_bits.specs.Block.{Block}
 use Rattle.ph_tree.specs.Rooms.{spare_wanted_in, longest_in, more_words}
+use Rattle.ph_tree.specs.Spare.{IsRoomy}
 use Rattle.ph_tree.proofs.Rooms.{room-between}
 use Rattle.ph_tree.proofs.Trees.{new_absent}
 use Rattle.ph_tree.proofs.moves.move_in.Given.{Over}
 use Rattle.ph_tree.proofs.moves.move_in.Goals.{In-Ok-New}
 use Rattle.ph_tree.proofs.moves.move_in.Goals as goal
+
+-- a block with room for many words has room for fewer
+roomy-less : (block : Option Block) (n m : ℕ) → n ≤ m → IsRoomy block m → IsRoomy block n
+roomy-less None n m fewer h = omega (arith, fewer, h)
+roomy-less (Some words) n m fewer h = omega (arith, fewer, h)
 
 -- no row is at the new point where the put makes one
 free : (g : Over) (c : In-Ok-New g) → find_tree c.args.to.now.width g.P.Dims.D c.args.root.now c.args.to.now.point ≡ None
@@ -47,7 +53,7 @@ unreachable-requires g c =
     let made = subst (λ u. spare_wanted_in k.width D u f.point ≤ c.args.found.longest + more) (sym (between g at)) enough in
     let wanted = subst (λ n. spare_wanted_in n D c.put_in.new.root f.point ≤ c.args.found.longest + more) (sym c.requires.width) made in
     let few : c.more_words.result ≡ more_words c.args.to.now.width g.P.Dims.D = c.more_words.ensures.value ∙ ap (λ n. more_words n c.D.result) c.width.ensures.value ∙ ap (more_words c.args.to.now.width) c.D.ensures in
-    let taken : room_of c.in-Ok.block ≡ 0 + (c.args.found.longest + c.more_words.result) = ap (λ b. room_of b) c.in-Ok.ensures.empty in
-    let room : c.args.found.longest + more_words c.args.to.now.width g.P.Dims.D ≡ room_of c.in-Ok.block = omega (arith, few, taken) in
-    let no = c.in-Err-del_in.ensures.roomy (subst (λ n. spare_wanted_in f.width D c.put_in.new.root f.point ≤ n) room wanted) in
+    let room : c.args.found.longest + more_words c.args.to.now.width g.P.Dims.D ≡ c.new.result.room = omega (arith, few, c.new.ensures.room) in
+    let put = rw c.in-Ok-New.field-0-is at c.in-Ok-New.ensures in
+    let no = c.in-Err-del_in.ensures.roomy (roomy-less c.put_in.new.put.spare.block _ _ (subst (λ n. spare_wanted_in f.width D c.put_in.new.root f.point ≤ n) room wanted) (put.roomy refl)) in
     cc

@@ -28,15 +28,15 @@ pub put_at-requires : goal.put_at-requires
 put_at-requires g t c κs within =
     let k = stepped g t (goal.at.put_at-requires g t c).After-step in
     let below = way_below k c.in-Below.is (below_lent k c.in-Below.is (ap node c.node_mut.ensures.shows ∙ c.child_mut-slot.ensures.shows)) in
-    (omega (arith, below.lower, c.decreases), search (rules, within, below.lower, below.lawful, c.requires.level))
+    (omega (arith, below.lower, c.decreases), search (rules, within, below.lower, below.lawful, c.requires.level, c.requires.room))
 
 pub returns-in-Absent-clause-answer : goal.returns-in-Absent-clause-answer
 returns-in-Absent-clause-answer g t c =
-    answered_new (outcome c.add_point.result c.args.put.now.former) _ (absent_found (stepped g t (goal.at.returns-in-Absent-clause-answer g t c).After-step) c.in-Absent.is) c.add_point.ensures.answer
+    answered_new (outcome c.add_point.result c.add_point.new.put.former) _ (absent_found (stepped g t (goal.at.returns-in-Absent-clause-answer g t c).After-step) c.in-Absent.is) c.add_point.ensures.answer
 
 pub returns-in-Absent-clause-absent : goal.returns-in-Absent-clause-absent
 returns-in-Absent-clause-absent g t c =
-    always_err (outcome c.add_point.result c.args.put.now.former) (absent_found (stepped g t (goal.at.returns-in-Absent-clause-absent g t c).After-step) c.in-Absent.is)
+    always_err (outcome c.add_point.result c.add_point.new.put.former) (absent_found (stepped g t (goal.at.returns-in-Absent-clause-absent g t c).After-step) c.in-Absent.is)
 
 pub returns-in-Same-clause-answer : goal.returns-in-Same-clause-answer
 returns-in-Same-clause-answer g t c =
@@ -77,6 +77,7 @@ returns-in-Below g t c =
       made = put.made;
       replaced = λ stale some. put.replaced stale (subst IsSome below.found some);
       idle = λ fresh some. put.idle fresh (subst IsSome below.found some);
+      roomy = put.roomy;
     }
 
 pub returns-in-Absent-clause-replaced : goal.returns-in-Absent-clause-replaced
@@ -105,11 +106,11 @@ returns-in-Other-clause-idle g t c fresh some =
 
 pub returns-in-Other-clause-answer : goal.returns-in-Other-clause-answer
 returns-in-Other-clause-answer g t c =
-    answered_new (outcome c.split_entry.result c.args.put.now.former) _ (other_found (stepped g t (goal.at.returns-in-Other-clause-answer g t c).After-step) c.in-Other.is) c.split_entry.ensures.answer
+    answered_new (outcome c.split_entry.result c.split_entry.new.put.former) _ (other_found (stepped g t (goal.at.returns-in-Other-clause-answer g t c).After-step) c.in-Other.is) c.split_entry.ensures.answer
 
 pub returns-in-Other-clause-absent : goal.returns-in-Other-clause-absent
 returns-in-Other-clause-absent g t c =
-    always_err (outcome c.split_entry.result c.args.put.now.former) (other_found (stepped g t (goal.at.returns-in-Other-clause-absent g t c).After-step) c.in-Other.is)
+    always_err (outcome c.split_entry.result c.split_entry.new.put.former) (other_found (stepped g t (goal.at.returns-in-Other-clause-absent g t c).After-step) c.in-Other.is)
 
 pub returns-in-Other-clause-visits : goal.returns-in-Other-clause-visits
 returns-in-Other-clause-visits g t c =

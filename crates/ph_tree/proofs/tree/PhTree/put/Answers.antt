@@ -66,9 +66,9 @@ returns-in-Ok-Old g c =
       replaced = λ some. put.replaced refl (subst IsSome (sym (found_is k)) some);
     }
 
-pub returns-in-Err : goal.returns-in-Err
-returns-in-Err g c =
-    let k = keyed g (goal.at.returns-in-Err g c).After-put_in in
+pub returns : goal.returns
+returns g c =
+    let k = keyed g (goal.at.returns g c).After-put_in in
     let put = c.in-Err.ensures in
     let none : find c.args.self.now.table c.args.p ≡ None = sym (found_is k) ∙ put.absent in
     record {

@@ -30,7 +30,7 @@ new_moved g c =
 there : (g : Over) (c : After-move_in g) → find c.args.self.now.table c.args.from.now ≡ Some c.in-Some.found.value
 there g c = sym (found_is (old_moved g c)) ∙ c.in-Some.ensures.found
 
--- two look-ups, a put and a removal visit no more than six ways
+-- a look-up, a put and a removal visit no more than five ways
 few_visits : (g : Over) (c : After-move_in g) → c.move_in.new.visits ≤ c.args.visits.now + 6 * c.args.self.now.width
 few_visits g c =
     let few = opened_few (old_moved g c) in
