@@ -1,14 +1,17 @@
 -- Lemmas of searches and of balls.
 pub mod ZNumbers
-pub mod Bounds
-pub mod Entering
-pub mod Steps
-pub mod Pruned
 pub mod Starts
 pub mod NearestRows
+pub mod FoundOrder
+pub mod Nearing
+pub mod Reached
+pub mod Listing
+pub mod HalfGaps
+pub mod Entries
+pub mod Ranks
+pub mod Searches
 mod Distances
 mod FarRegions
-mod TooFar
 mod BallEntries
 mod BallStarts
 mod BallSteps

@@ -20,7 +20,7 @@ use Rattle.ph_specs.proofs.laws.Order.{decided_cases}
 use Rattle.ph_digits.specs.Differences.{IsTopDifference}
 use Rattle.ph_digits.proofs.Cuts.{other_address}
 use Rattle.ph_zorder.proofs.Decided.{address-is}
-use Rattle.ph_near.specs.Waiting.{addresses, z_numbers}
+use Rattle.ph_near.specs.Found.{addresses, z_numbers}
 
 -- ---- one address
 

@@ -15,6 +15,11 @@ abbrev pub gaps_squared : ℕ → List ℕ → List ℕ → ℕ
 gaps_squared level (a ∷ p) (b ∷ q) = gap level a b * gap level a b + gaps_squared level p q
 gaps_squared level _ _ = 0
 
+-- the same where the others have zeros below the level
+abbrev pub gaps_above : ℕ → List ℕ → List ℕ → ℕ
+gaps_above level (a ∷ p) (b ∷ q) = gap_above level a b * gap_above level a b + gaps_above level p q
+gaps_above level _ _ = 0
+
 abbrev pub zeros : List ℕ → List ℕ
 zeros xs = map (λ x. 0) xs
 

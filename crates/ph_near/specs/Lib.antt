@@ -1,8 +1,12 @@
+pub mod Found
 pub mod Waiting
+pub mod Ranking
 pub mod Queue
 pub mod Ball
 pub mod BallSphere
 pub mod BallSweep
-pub mod Bound
 pub mod Far
+pub mod Halves
+pub mod Opening
+pub mod Nearing
 pub mod Nearest

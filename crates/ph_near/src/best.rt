@@ -10,29 +10,28 @@ ghost use Rattle.ph_near.specs.Nearest.{rows_hit};
 ghost use Rattle.ph_specs.specs.WorkSets.{reach};
 ghost use Rattle.ph_table.specs.Hits.{hits_of};
 
-use crate::bound::Bound;
-use crate::opening::open;
-use crate::queue::{empty_queue, start, take_first};
-use ph_coord::{Point, Row, Width};
-use ph_node::{NoMemory, Node, WhatOf};
+use crate::opening::{Opened, enter, open};
+use crate::ranking::Ranking;
+use crate::waiting::{empty_queue, next_within};
+use ph_coord::{Point, Width};
+use ph_node::{NoMemory, Node};
 use ph_steps::Steps;
 use ph_table::Hit;
 use ph_tree::PhTree;
 use std::alloc::Global;
-use std::cmp::min;
 use std::sync::ledger::Ledger;
 
-// Room for so many rows is taken at once.
-const FEW_ROWS: usize = 16;
+// Room for so many opened nodes is taken at once.
+const FEW_NODES: usize = 32;
 
 /// The first `n` rows by their distance from a point, and of equal distances in Z-order, each with the square of its distance.
 ///
 /// It is the best-first search of G. R. Hjaltason and H. Samet ("Distance Browsing in Spatial Databases", ACM TODS 24, 1999).
-/// One queue has the rows and the nodes that were found and wait, the nodes by the least distance of their regions. The one that goes
-/// first is at hand instead. What is farther than `n` rows that were found is left out.
+/// The nodes that were found wait in a queue by the least distances of their regions, and the best `n` rows that were found stand apart. What is
+/// farther than the last of these is left out, and the search ends where the nearest node that waits is farther.
 ///
-/// It takes memory for what waits, at most an item for each entry of a visited node or 64 of them, and for the rows as they are
-/// found, from room for the first 16 on. It takes none where `n` is 0. Without memory it gives no rows; the nodes visited by then are counted.
+/// It takes memory for the children that wait and for the nodes that it visits, from room for 64 and 32 of them on, and twice for the rows, from room for
+/// the first 16 on. It takes none where `n` is 0 or the tree is empty. Without memory it gives no rows; the nodes visited by then are counted.
 pub fn nearest<const D: usize, V: Ledger>(
     alloc: Global,
     tree: &PhTree<D>,
@@ -77,38 +76,19 @@ fn search<const D: usize, V: Ledger>(
     if n == 0 {
         return Ok(Vec::new(alloc));
     }
-    let mut hits = Vec::with_capacity(alloc, min(n as usize, FEW_ROWS))?;
-    let mut next = start(w, root, center);
+    let Some(root) = root else {
+        return Ok(Vec::new(alloc));
+    };
+    let mut ranking = Ranking::new(alloc, n as usize)?;
     let mut queue = empty_queue(alloc)?;
-    let mut bound = Bound::new(n as usize);
-    while hits.len() < n as usize {
-        let Some(item) = next.take() else {
-            return Ok(hits);
-        };
-        match item.what {
-            WhatOf::Value(value) => {
-                let point = Point::from_offsets(w, &item.known);
-                let row = Row { point, value };
-                let distance = item.distance;
-                match hits.push(Hit { row, distance }) {
-                    Ok(()) => {}
-                    Err(_) => return Err(NoMemory),
-                }
-                next = take_first(&mut queue);
-            }
-            WhatOf::Child(node) => {
-                let node = node.visit(visits);
-                open(
-                    node,
-                    &item.known,
-                    w,
-                    center,
-                    &mut bound,
-                    &mut next,
-                    &mut queue,
-                )?
-            }
-        }
+    let mut opened = Vec::with_capacity(alloc, FEW_NODES)?;
+    let node = root.visit(visits);
+    let known = [0; D];
+    let top = Opened { node, known };
+    open(&top, &mut opened, w, center, &mut ranking, &mut queue)?;
+    while let Some(item) = next_within(&mut queue, ranking.limit()) {
+        let next = enter(w, &opened[item.opened], item.place, visits);
+        open(&next, &mut opened, w, center, &mut ranking, &mut queue)?;
     }
-    Ok(hits)
+    ranking.into_hits(alloc, w)
 }

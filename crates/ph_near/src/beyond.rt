@@ -64,7 +64,7 @@ pub(crate) fn is_region_beyond(
 
 // The square of the distance of a number from those that begin at another one and differ from it below a level alone.
 #[inline(always)]
-fn squared_gap(level: u32, low: u64, number: u64) -> u128
+pub(crate) fn squared_gap(level: u32, low: u64, number: u64) -> u128
     requires level { level ≤ 61 }
     requires low { low + 2 ^ level ≤ 2 ^ 62 }
     requires number { number < 2 ^ 62 }

@@ -4,9 +4,10 @@
 mod ball;
 mod best;
 mod beyond;
-mod bound;
+mod found;
+mod halves;
 mod opening;
-mod queue;
+mod ranking;
 mod sphere;
 mod sweep;
 #[cfg(test)]

@@ -1,150 +1,208 @@
-//! Opening a node: its entries wait from then on.
+//! Opening nodes: their rows are found, and their children wait from then on.
 
-ghost use Rattle.std.specs.Prelude.{◌≡◌, ◌<◌, ◌≤◌, length, map, if◌then◌else◌, OnOk};
+ghost use Rattle.std.specs.Prelude.{◌≡◌, ◌+◌, ◌<◌, ◌≤◌, [], ◌∷◌, ◌++◌, length, map, true, false, OnOk};
 ghost use Rattle.std.specs.BinaryHeap.{heap_items, IsHeap};
 ghost use Rattle.ph_specs.specs.Coordinate.{coordinate};
+ghost use Rattle.ph_specs.specs.EntryEdits.{what_at};
+ghost use Rattle.ph_specs.specs.Lawful.{IsBody};
 ghost use Rattle.ph_specs.specs.Node.{entries};
-ghost use Rattle.ph_specs.specs.Lawful.{IsAbove, IsBody};
-ghost use Rattle.ph_specs.specs.BestFirst.{items_below};
-ghost use Rattle.ph_node.specs.Kept.{IsNodeOf};
+ghost use Rattle.ph_node.specs.Kinds.{is_node};
 ghost use Rattle.ph_node.specs.Shown.{shown};
 ghost use Rattle.ph_node.specs.Spots.{IsSpot};
-ghost use Rattle.ph_near.specs.Bound.{known, IsOpened};
-ghost use Rattle.ph_near.specs.Waiting.{waiting_cmp, item_of, line_of, IsWaiting, IsItemWithin, Leads};
-ghost use Rattle.ph_near.specs.Queue.{entry_item, entry_at};
+ghost use Rattle.ph_near.specs.Halves.{AreHalves, AreSmall};
+ghost use Rattle.ph_near.specs.Nearing.{IsKept};
+ghost use Rattle.ph_near.specs.Opening.{IsOpened, IsEntered, opened_items, place_item, line_of, AreWaiting, IsTried, IsTreated};
+ghost use Rattle.ph_near.specs.Ranking.{IsRanking};
+ghost use Rattle.ph_near.specs.Waiting.{waiting_cmp};
 
 use crate::beyond::is_point_beyond;
-use crate::bound::Bound;
-use crate::queue::lead;
+use crate::found::Found;
+use crate::halves::Halves;
+use crate::ranking::Ranking;
 use crate::waiting::Waiting;
 use ph_coord::Width;
-use ph_node::{NoMemory, NodeRef, Spot, WhatOf};
-use ph_zorder::{offset_distance, offset_least_distance};
+use ph_node::{NoMemory, Node, NodeRef, NodeRefOf, Spot, WhatOf};
+use ph_steps::Steps;
+use ph_zorder::offset_distance;
 use std::collections::BinaryHeap;
-use std::mem;
+use std::sync::ledger::Ledger;
 
-// In up to so many dimensions most of the points that are found wait, and a trial does not pay.
+// In up to so many dimensions a row is told as fast as it is tried.
 const FEW_DIMS: usize = 3;
 
-// Opens a visited node: its entries, behind digits that are known above its level, and the items of the queue are what waits now, but
-// for those that the bound keeps out. The one that goes first is put at hand.
-pub(crate) fn open<'t, const D: usize>(
-    node: NodeRef<'t, D>,
-    above: &[u64; D],
+// A visited node, and the digits that are known above its level.
+#[derive_where(Clone, Copy)]
+pub(crate) struct OpenedOf<'t, N, const D: usize> {
+    pub node: NodeRefOf<'t, N>,
+    pub known: [u64; D],
+}
+
+pub(crate) type Opened<'t, const D: usize> = OpenedOf<'t, Node<D>, D>;
+
+// Visits the child at a place of an opened node, and joins its digits.
+#[inline(always)]
+pub(crate) fn enter<'t, const D: usize, V: Ledger>(
     w: Width,
-    q: &[u64; D],
-    bound: &mut Bound,
-    next: &mut Option<Waiting<'t, D>>,
-    queue: &mut BinaryHeap<Waiting<'t, D>>,
+    from: &Opened<'t, D>,
+    place: usize,
+    visits: &mut Steps<V>,
+) -> Opened<'t, D>
+    requires few { D ≤ 16 }
+    requires opened { IsOpened w D from.now }
+    requires place { place < length (entries (shown from.now.node)) }
+    requires child { is_node (what_at (entries (shown from.now.node)) place) ≡ true }
+    ensures opened { IsOpened w D result }
+    ensures entered { IsEntered w from.now place result }
+    ensures cost { visits.new ≡ visits.old + 1 }
+{
+    let _bits = w.bits();
+    let spot = from.node.spot(place);
+    let mut known = from.known;
+    match from.node.what(spot) {
+        WhatOf::Child(child) => {
+            let node = child.visit(visits);
+            from.node.join_child(spot, node.level(), &mut known);
+            Opened { node, known }
+        }
+        WhatOf::Value(_) => unreachable!(),
+    }
+}
+
+// Opens a visited node: of its entries that may be near enough, the rows are ranked and the children wait.
+pub(crate) fn open<'t, const D: usize>(
+    from: &Opened<'t, D>,
+    opened: &mut Vec<Opened<'t, D>>,
+    w: Width,
+    center: &[u64; D],
+    ranking: &mut Ranking<D>,
+    queue: &mut BinaryHeap<Waiting>,
 ) -> Result<(), NoMemory>
     requires few { D ≤ 16 }
-    requires kept { IsNodeOf D (shown node) }
-    requires low { (shown node).level < w }
-    requires above { IsAbove D (shown node).level above.now }
-    requires known { IsBody D w above.now }
-    requires point { IsBody D w q.now }
-    ensures n { bound.new.n ≡ bound.old.n }
-    ensures opened { OnOk result
-        (IsOpened bound.old.n w D (map (coordinate w) q.now)
-        (items_below w (shown node.entry).level above.now (shown node.entry).chain) (heap_items queue.old)
-        (line_of next.new (heap_items queue.new)) (known bound.old) (known bound.new)) }
-    ensures order { OnOk result (IsHeap waiting_cmp (heap_items queue.old) → IsHeap waiting_cmp (heap_items queue.new) × Leads next.new (heap_items queue.new)) }
-{
-    *next = None;
-    for i in 0..node.len() {
-        let Some(item) = waiting(node, i, above, w, q, bound.limit()) else {
-            continue;
-        };
-        bound.note(&item);
-        let Some(first) = next else {
-            *next = Some(item);
-            continue;
-        };
-        let goes_first = (*first).cmp(&item).is_lt();
-        match queue.push(left_over(first, item, goes_first)) {
-            Ok(()) => {}
-            Err(_) => return Err(NoMemory),
-        }
-    }
-    lead(next, queue)
-}
-
-// Puts an item in the place of another one where it is to, and hands back the one that is left over.
-#[inline(always)]
-fn left_over<T>(first: &mut T, item: T, goes_first: bool) -> T
-    ensures first { first.new ≡ (if goes_first then item else first.old) }
-    ensures other { result ≡ (if goes_first then first.old else item) }
-{
-    if goes_first {
-        mem::replace(first, item)
-    } else {
-        item
-    }
-}
-
-// Entry `i` of a node, behind digits that are known above its level, if it is no farther than a limit.
-#[inline(always)]
-fn waiting<'t, const D: usize>(
-    node: NodeRef<'t, D>,
-    i: usize,
-    above: &[u64; D],
-    w: Width,
-    q: &[u64; D],
-    limit: u128,
-) -> Option<Waiting<'t, D>>
-    requires few { D ≤ 16 }
-    requires kept { IsNodeOf D (shown node) }
-    requires low { (shown node).level < w }
-    requires within { i < length (entries (shown node)) }
-    requires above { IsAbove D (shown node).level above.now }
-    requires known { IsBody D w above.now }
-    requires point { IsBody D w q.now }
-    ensures { IsItemWithin limit w (map (coordinate w) q.now) (entry_item w (shown node.entry).level above.now (entry_at (entries (shown node.entry)) i)) result }
+    requires opened { IsOpened w D from.now }
+    requires point { IsBody D w center.now }
+    requires ranking { IsRanking ranking.old }
+    requires order { IsHeap waiting_cmp (heap_items queue.old) }
+    requires waits { AreWaiting w (map (coordinate w) center.now) opened.old.items (heap_items queue.old) }
+    ensures n { ranking.new.n ≡ ranking.old.n }
+    ensures ranking { OnOk result (IsRanking ranking.new) }
+    ensures order { OnOk result (IsHeap waiting_cmp (heap_items queue.new)) }
+    ensures opened { OnOk result (opened.new.items ≡ opened.old.items ++ from.now ∷ []) }
+    ensures waits { OnOk result (AreWaiting w (map (coordinate w) center.now) opened.new.items (heap_items queue.new)) }
+    ensures kept { OnOk result
+        (IsKept w ranking.old.n (map (coordinate w) center.now)
+        (heap_items ranking.old.rows) (opened_items w from.now ++ line_of w opened.old.items (heap_items queue.old))
+        (heap_items ranking.new.rows) (line_of w opened.new.items (heap_items queue.new))) }
 {
     let _bits = w.bits();
-    let spot = node.spot(i);
-    if D > FEW_DIMS && is_point_beyond(node, spot, above, q, limit) {
-        return None;
+    let at = opened.len();
+    keep(from.node, from.known, opened)?;
+    let halves = Halves::new(from.node.level(), &from.known, center);
+    for place in 0..from.node.len() {
+        treat(at, from, place, &halves, w, center, ranking, queue)?;
     }
-    let item = item_at(node, spot, above, w, q);
-    if item.distance > limit {
-        return None;
-    }
-    Some(item)
+    Ok(())
 }
 
-// An entry of a node, behind digits that are known above its level.
-#[inline(always)]
-fn item_at<'t, const D: usize>(
+// Keeps a node among those that were opened.
+fn keep<'t, const D: usize>(
     node: NodeRef<'t, D>,
-    spot: Spot,
-    above: &[u64; D],
-    w: Width,
-    q: &[u64; D],
-) -> Waiting<'t, D>
+    known: [u64; D],
+    opened: &mut Vec<Opened<'t, D>>,
+) -> Result<(), NoMemory>
     requires few { D ≤ 16 }
-    requires low { (shown node).level < w }
-    requires spot { IsSpot (entries (shown node)) spot }
-    requires above { IsAbove D (shown node).level above.now }
-    requires known { IsBody D w above.now }
-    requires point { IsBody D w q.now }
-    ensures waiting { IsWaiting w D (map (coordinate w) q.now) result }
-    ensures item { item_of w result ≡ entry_item w (shown node.entry).level above.now (entry_at (entries (shown node.entry)) spot.place) }
+    ensures { OnOk result (opened.new.items ≡ opened.old.items ++ record { node = node.entry; known = known.entry } ∷ []) }
+{
+    match opened.push(Opened { node, known }) {
+        Ok(()) => Ok(()),
+        Err(_) => Err(NoMemory),
+    }
+}
+
+// Treats the entry at a place of a node, which is the one at `at` of those that were opened.
+#[inline(always)]
+fn treat<'t, const D: usize>(
+    at: usize,
+    from: &Opened<'t, D>,
+    place: usize,
+    halves: &Halves<D>,
+    w: Width,
+    center: &[u64; D],
+    ranking: &mut Ranking<D>,
+    queue: &mut BinaryHeap<Waiting>,
+) -> Result<(), NoMemory>
+    requires few { D ≤ 16 }
+    requires opened { IsOpened w D from.now }
+    requires place { place < length (entries (shown from.now.node)) }
+    requires halves { AreHalves (shown from.now.node).level from.now.known center.now halves.now }
+    requires small { AreSmall halves.now }
+    requires point { IsBody D w center.now }
+    requires ranking { IsRanking ranking.old }
+    requires order { IsHeap waiting_cmp (heap_items queue.old) }
+    ensures n { ranking.new.n ≡ ranking.old.n }
+    ensures ranking { OnOk result (IsRanking ranking.new) }
+    ensures order { OnOk result (IsHeap waiting_cmp (heap_items queue.new)) }
+    ensures treated { OnOk result
+        (IsTreated ranking.old.n w (map (coordinate w) center.now) at from.now place
+        (heap_items ranking.old.rows) (heap_items ranking.new.rows) (heap_items queue.old) (heap_items queue.new)) }
 {
     let _bits = w.bits();
-    let level = node.level();
-    let below = level.saturating_sub(1);
-    let mut known = *above;
-    node.join(spot, &mut known);
-    let what = node.what(spot);
-    let distance = match what {
-        WhatOf::Value(_) => offset_distance(w, &known, q),
-        WhatOf::Child(_) => offset_least_distance(w, below, &known, q),
-    };
-    Waiting {
+    let spot = from.node.spot(place);
+    let distance = halves.least(spot.addr);
+    if distance > ranking.limit() {
+        return Ok(());
+    }
+    if !from.node.is_child(spot) {
+        return find(from, spot, w, center, ranking);
+    }
+    let child = Waiting {
         distance,
-        known,
-        level: below,
-        what,
+        opened: at,
+        place,
+    };
+    match queue.push(child) {
+        Ok(()) => Ok(()),
+        Err(_) => Err(NoMemory),
+    }
+}
+
+// Ranks the row of an entry if it is near enough.
+fn find<'t, const D: usize>(
+    from: &Opened<'t, D>,
+    spot: Spot,
+    w: Width,
+    center: &[u64; D],
+    ranking: &mut Ranking<D>,
+) -> Result<(), NoMemory>
+    requires few { D ≤ 16 }
+    requires opened { IsOpened w D from.now }
+    requires spot { IsSpot (entries (shown from.now.node)) spot }
+    requires row { is_node (what_at (entries (shown from.now.node)) spot.place) ≡ false }
+    requires point { IsBody D w center.now }
+    requires ranking { IsRanking ranking.old }
+    ensures n { ranking.new.n ≡ ranking.old.n }
+    ensures ranking { OnOk result (IsRanking ranking.new) }
+    ensures tried { OnOk result
+        (IsTried ranking.old.n w (map (coordinate w) center.now) (place_item w from.now spot.place)
+        (heap_items ranking.old.rows) (heap_items ranking.new.rows)) }
+{
+    let _bits = w.bits();
+    if D > FEW_DIMS && is_point_beyond(from.node, spot, &from.known, center, ranking.limit()) {
+        return Ok(());
+    }
+    let mut known = from.known;
+    from.node.join(spot, &mut known);
+    match from.node.what(spot) {
+        WhatOf::Value(value) => {
+            let distance = offset_distance(w, &known, center);
+            if distance > ranking.limit() {
+                return Ok(());
+            }
+            ranking.add(Found {
+                distance,
+                known,
+                value,
+            })
+        }
+        WhatOf::Child(_) => unreachable!(),
     }
 }

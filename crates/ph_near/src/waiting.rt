@@ -1,76 +1,53 @@
-//! What waits in the queue of a search.
+//! What waits in a search: children of nodes that were opened.
 
-ghost use Rattle.std.specs.Prelude.{◌≡◌, ◌<◌, refl, Some, length};
+ghost use Rattle.std.specs.Prelude.{◌≡◌, ◌<◌, ◌≤◌, [], refl, Some, IfOk, IfSome, IfNone};
+ghost use Rattle.std.specs.BinaryHeap.{heap_items, IsHeap};
 ghost use Rattle.std.specs.Cmp.{partial_order_from_agreeing_total, partial_equiv_from_equiv, eq_by_cmp_equiv};
-ghost use Rattle.std.specs.Ordering.{eq_by_cmp, nat_cmp};
-ghost use Rattle.ph_specs.specs.PutTree.{body_address};
-ghost use Rattle.ph_near.specs.Waiting.{rank, z_numbers, tied_cmp, waiting_cmp, waiting_total};
+ghost use Rattle.std.specs.List.{AllByRecursion as Each};
+ghost use Rattle.std.specs.Ordering.{eq_by_cmp};
+ghost use Rattle.ph_near.specs.Waiting.{waiting_cmp, waiting_total, IsNext};
 
-use ph_digits::{digit, top_difference};
-use ph_node::{Node, WhatOf};
+use ph_node::NoMemory;
+use std::alloc::Global;
 use std::cmp::Ordering;
+use std::collections::BinaryHeap;
 
-// A row that was found, or a child with what is known of its points before it is opened: their digits above a level.
-#[derive_where(Clone, Copy)]
-pub(crate) struct WaitingOf<'t, N, const D: usize> {
+// Room for so many items is taken at once. Most searches for some ten rows have fewer that wait.
+const ROOM: usize = 64;
+
+// A child by the place of its entry in a node, which is one of those that were opened, and the square of the least distance of its region.
+#[derive(Clone, Copy)]
+pub(crate) struct Waiting {
     pub distance: u128,
-    pub known: [u64; D],
-    pub level: u32,
-    pub what: WhatOf<'t, N>,
+    pub opened: usize,
+    pub place: usize,
 }
 
-// An item of a search in a tree.
-pub(crate) type Waiting<'t, const D: usize> = WaitingOf<'t, Node<D>, D>;
-
-impl<'t, N, const D: usize> WaitingOf<'t, N, D> {
-    // How two items of the same distance stand.
-    fn tied_cmp(&self, other: &WaitingOf<'t, N, D>) -> Ordering
-        ensures { result ≡ tied_cmp self.now other.now }
-    {
-        rank(&self.what)
-            .cmp(&rank(&other.what))
-            .then(z_numbers(&other.known, &self.known))
-    }
-}
-
-// 1 for a node, and 0 for a row.
-fn rank<N>(what: &WhatOf<'_, N>) -> u8
-    ensures { result ≡ rank what.now }
+// A queue in which nothing waits.
+pub(crate) fn empty_queue(alloc: Global) -> Result<BinaryHeap<Waiting>, NoMemory>
+    ensures items { IfOk result (λ queue. heap_items queue ≡ []) }
+    ensures order { IfOk result (λ queue. IsHeap waiting_cmp (heap_items queue)) }
 {
-    match what {
-        WhatOf::Value(_) => 0,
-        WhatOf::Child(_) => 1,
-    }
+    BinaryHeap::with_capacity(alloc, ROOM)
 }
 
-// How two lists of numbers stand in Z-order.
-fn z_numbers(xs: &[u64], ys: &[u64]) -> Ordering
-    requires { length xs.now ≡ length ys.now }
-    ensures { result ≡ z_numbers xs.now ys.now }
+// The nearest child that waits, if it is no farther than a limit. It leaves the queue.
+#[inline(always)]
+pub(crate) fn next_within(queue: &mut BinaryHeap<Waiting>, limit: u128) -> Option<Waiting>
+    requires { IsHeap waiting_cmp (heap_items queue.old) }
+    ensures next { IfSome result (λ item. IsNext limit (heap_items queue.old) item (heap_items queue.new)) }
+    ensures none { IfNone result (Each (λ i. limit < i.distance) (heap_items queue.old)) }
 {
-    match top_difference(xs, ys) {
-        None => Ordering::Equal,
-        Some(place) => address_cmp(place, xs, ys),
+    let Some(item) = queue.pop() else {
+        return None;
+    };
+    if item.distance > limit {
+        return None;
     }
+    Some(item)
 }
 
-// How the digits at a place stand as numbers, those of the first words the most significant.
-fn address_cmp(place: u32, xs: &[u64], ys: &[u64]) -> Ordering
-    requires place { place < 64 }
-    requires same { length xs.now ≡ length ys.now }
-    ensures { result ≡ nat_cmp (body_address place xs.now) (body_address place ys.now) }
-{
-    for (x, y) in xs.iter().zip(ys) {
-        let a = digit(place, *x);
-        let b = digit(place, *y);
-        if a != b {
-            return a.cmp(&b);
-        }
-    }
-    Ordering::Equal
-}
-
-impl<'t, N, const D: usize> Ord for WaitingOf<'t, N, D> {
+impl Ord for Waiting {
     ghost cmp = { waiting_cmp };
 
     ghost total = { waiting_total };
@@ -79,38 +56,32 @@ impl<'t, N, const D: usize> Ord for WaitingOf<'t, N, D> {
 
     ghost matches_eq = { λ x y. refl };
 
-    // The nearer item is the greater one.
-    fn cmp(&self, other: &WaitingOf<'t, N, D>) -> Ordering {
-        if self.distance < other.distance {
-            return Ordering::Greater;
-        }
-        if other.distance < self.distance {
-            return Ordering::Less;
-        }
-        self.tied_cmp(other)
+    // The nearer child is the greater one.
+    fn cmp(&self, other: &Waiting) -> Ordering {
+        other.distance.cmp(&self.distance)
     }
 }
 
-impl<'t, N, const D: usize> PartialOrd for WaitingOf<'t, N, D> {
+impl PartialOrd for Waiting {
     ghost partial_cmp = { λ x y. Some (waiting_cmp x y) };
 
     ghost laws = { partial_order_from_agreeing_total waiting_cmp waiting_total (λ x y. refl) (λ x y. refl) };
 
-    fn partial_cmp(&self, other: &WaitingOf<'t, N, D>) -> Option<Ordering> {
+    fn partial_cmp(&self, other: &Waiting) -> Option<Ordering> {
         Some(self.cmp(other))
     }
 }
 
-impl<'t, N, const D: usize> PartialEq for WaitingOf<'t, N, D> {
+impl PartialEq for Waiting {
     ghost eq = { eq_by_cmp waiting_cmp };
 
     ghost laws = { partial_equiv_from_equiv (eq_by_cmp_equiv waiting_total) };
 
-    fn eq(&self, other: &WaitingOf<'t, N, D>) -> bool {
+    fn eq(&self, other: &Waiting) -> bool {
         self.cmp(other).is_eq()
     }
 }
 
-impl<'t, N, const D: usize> Eq for WaitingOf<'t, N, D> {
+impl Eq for Waiting {
     ghost laws = { eq_by_cmp_equiv waiting_total };
 }

@@ -1,56 +1,71 @@
-use Rattle.std.proofs.Common.{◌≡◌, ◌∷◌, ◌∙◌, refl, sym, subst, arith, map}
-use Rattle.std.specs.Prelude.{Some, None}
+use Rattle.std.proofs.Common.{◌≡◌, ◌<◌, ◌≤◌, ◌++◌, ◌+◌, [], ◌∙◌, refl, ap, sym, subst, arith, rules, map, drop, length}
 use Rattle.std.specs.BinaryHeap.{heap_items}
-use Rattle.std.specs.List.Sorted.{IsPermutation}
-use Rattle.std.proofs.lemmas.List.Sorted.{IsPermutation-refl}
-use Rattle.std.proofs.lemmas.Result.{on_ok_weaker}
 use Rattle.ph_specs.specs.Coordinate.{coordinate}
-use Rattle.ph_specs.specs.Node.{entries}
 use Rattle.ph_node.specs.Shown.{shown}
-use Rattle.ph_near.specs.Bound.{known}
-use Rattle.ph_near.specs.Queue.{entry_at, entry_item}
-use Rattle.ph_near.specs.Waiting.{line_of, IsItemWithin}
-use Rattle.ph_near.proofs.Bounds.{kept_out, lined_up}
-use Rattle.ph_near.proofs.Entering.{none_opened, one_opened, all_opened, kept_apart}
+use Rattle.ph_near.specs.Nearing.{IsKept}
+use Rattle.ph_near.specs.Opening.{opened_items, opened_at, line_of, AreWaiting, IsTreated}
+use Rattle.ph_near.proofs.Entries.{small-wide, items-more, items-none, later-waits, later-line, last-at, treated-kept, treated-waits}
+use Rattle.ph_near.proofs.Nearing.{kept-all, kept-then}
 use Rattle.ph_near.proofs.opening.open.Goals as goal
 
-pub loop-i-init : goal.loop-i-init
-loop-i-init g c = record { n = refl; opened = none_opened c.args.above.now (shown c.args.node); order = λ h. h }
-
-pub loop-i-preserved-in_default : goal.loop-i-preserved-in_default
-loop-i-preserved-in_default g c =
-    let left = subst (IsItemWithin {d = g.row.D} c.limit.result c.args.w (map (coordinate c.args.w) c.args.q.now) (entry_item c.args.w (shown c.args.node).level c.args.above.now (entry_at (entries (shown c.args.node)) c.loop-i.i))) c.in_default.is c.waiting.ensures in
+pub loop-place-init : goal.loop-place-init
+loop-place-init g c =
+    let q = map (coordinate c.args.w) c.args.center.now in
+    let os = c.args.opened.now.items in
+    let waits = heap_items c.args.queue.now in
+    let more = c.in_ok-keep.ensures in
+    let all = opened_items c.args.w c.args.from.now in
     record {
-      n = c.loop-i.invariant.n;
-      opened = one_opened c.args.above.now (shown c.args.node) c.loop-i.i left.0 (omega (arith, c.loop-i-test.true, c.len-i-end.ensures)) left.1.item left.1.waiting c.loop-i.invariant.opened
-          (kept_out left.0 (line_of c.loop-i.next (heap_items c.loop-i.queue)) (known c.loop-i.bound) (omega (arith, c.limit.ensures left.0.distance left.2 left.3, c.loop-i.invariant.n)));
-      order = c.loop-i.invariant.order;
+      n = refl;
+      ranking = c.requires.ranking;
+      order = c.requires.order;
+      waits = subst (λ os. AreWaiting c.args.w (map (coordinate c.args.w) c.args.center.now) os (heap_items c.args.queue.now)) (sym more) (later-waits c.args.w q os c.args.from.now waits c.requires.waits);
+      kept = subst (λ is. IsKept c.args.w c.args.ranking.now.n (map (coordinate c.args.w) c.args.center.now) (heap_items c.args.ranking.now.rows) (opened_items c.args.w c.args.from.now ++ line_of c.args.w c.args.opened.now.items (heap_items c.args.queue.now)) (heap_items c.args.ranking.now.rows) (opened_items c.args.w c.args.from.now ++ is))
+          (sym (ap (λ os. line_of c.args.w os waits) more ∙ later-line c.args.w q os c.args.from.now waits c.requires.waits))
+          (kept-all (all ++ line_of c.args.w os waits));
     }
 
-pub loop-i-preserved-in_default-next : goal.loop-i-preserved-in_default-next
-loop-i-preserved-in_default-next g c =
-    let none : c.loop-i.next ≡ None = c.in_default-next.is in
+pub new-halves-requires : goal.new-halves-requires
+new-halves-requires g c =
+    let narrow : c.args.w ≤ 62 = omega (arith, c.bits-bits.ensures.value, c.bits-bits.ensures.limit) in (
+      search rules,
+      (
+        search rules,
+        (
+          c.level.ensures.limit,
+          (
+            (c.requires.opened.known.0, small-wide c.args.w c.args.from.now.known narrow c.requires.opened.known.1),
+            (c.requires.point.0, small-wide c.args.w c.args.center.now narrow c.requires.point.1),
+          ),
+        ),
+      ),
+    )
+
+pub loop-place-preserved : goal.loop-place-preserved
+loop-place-preserved g c =
+    let w = c.args.w in
+    let q = map (coordinate c.args.w) c.args.center.now in
+    let from = c.args.from.now in
+    let old = c.args.opened.now.items in
+    let os = c.keep.new.opened.items in
+    let at = c.len-at.result in
+    let place = c.loop-place.place in
+    let inside : (c.len-at.result < length c.keep.new.opened.items) × (opened_at c.keep.new.opened.items c.len-at.result ≡ c.args.from.now) = subst (λ os. (c.len-at.result < length os) × (opened_at os c.len-at.result ≡ c.args.from.now)) (sym c.in_ok-keep.ensures) (last-at old from at (omega (arith, c.len-at.ensures, c.args.opened.now.ok.0))) in
+    let treated : IsTreated c.args.ranking.now.n c.args.w (map (coordinate c.args.w) c.args.center.now) c.len-at.result c.args.from.now c.loop-place.place (heap_items c.loop-place.ranking.rows) (heap_items c.treat.new.ranking.rows) (heap_items c.loop-place.queue) (heap_items c.treat.new.queue) = subst (λ n. IsTreated n c.args.w (map (coordinate c.args.w) c.args.center.now) c.len-at.result c.args.from.now c.loop-place.place (heap_items c.loop-place.ranking.rows) (heap_items c.treat.new.ranking.rows) (heap_items c.loop-place.queue) (heap_items c.treat.new.queue)) c.loop-place.invariant.n c.in_ok-treat.ensures.treated in
+    let more = items-more w (shown from.node).level place from.known (shown from.node).chain (omega (arith, c.loop-place-test.true, c.len-place-end.ensures)) in
     record {
-      n = c.note.ensures.n ∙ c.loop-i.invariant.n;
-      opened = one_opened c.args.above.now (shown c.args.node) c.loop-i.i c.in-Some.item (omega (arith, c.loop-i-test.true, c.len-i-end.ensures)) c.in-Some.ensures.item c.in-Some.ensures.waiting c.loop-i.invariant.opened
-          (lined_up c.in-Some.item c.note.ensures.known
-          (subst (λ o. IsPermutation (c.in-Some.item ∷ line_of o (heap_items c.loop-i.queue)) (c.in-Some.item ∷ heap_items c.loop-i.queue)) (sym none) (IsPermutation-refl (c.in-Some.item ∷ heap_items c.loop-i.queue))));
-      order = c.loop-i.invariant.order;
+      n = c.treat.ensures.n ∙ c.loop-place.invariant.n;
+      ranking = c.in_ok-treat.ensures.ranking;
+      order = c.in_ok-treat.ensures.order;
+      waits = treated-waits os at from place inside treated c.loop-place.invariant.waits;
+      kept = kept-then c.loop-place.invariant.kept
+          (subst (λ is. IsKept c.args.w c.args.ranking.now.n (map (coordinate c.args.w) c.args.center.now) (heap_items c.loop-place.ranking.rows) (is ++ line_of c.args.w c.keep.new.opened.items (heap_items c.loop-place.queue)) (heap_items c.treat.new.ranking.rows) (drop (c.loop-place.place + 1) (opened_items c.args.w c.args.from.now) ++ line_of c.args.w c.keep.new.opened.items (heap_items c.treat.new.queue))) (sym more)
+          (treated-kept os at from place inside treated (drop (place + 1) (opened_items w from))));
     }
 
-pub loop-i-preserved : goal.loop-i-preserved
-loop-i-preserved g c =
-    let some : c.loop-i.next ≡ Some c.in-Some-next.first = c.in-Some-next.is in
-    record {
-      n = c.note.ensures.n ∙ c.loop-i.invariant.n;
-      opened = one_opened c.args.above.now (shown c.args.node) c.loop-i.i c.in-Some.item (omega (arith, c.loop-i-test.true, c.len-i-end.ensures)) c.in-Some.ensures.item c.in-Some.ensures.waiting c.loop-i.invariant.opened
-          (lined_up c.in-Some.item c.note.ensures.known
-          (subst (λ o. IsPermutation (c.in-Some.item ∷ line_of o (heap_items c.loop-i.queue)) (c.left_over.new.first ∷ heap_items c.push.new.self)) (sym some)
-          (kept_apart c.is_lt-goes_first.result c.in-Some.item c.in-Some-next.first c.left_over.result c.left_over.new.first (heap_items c.loop-i.queue) (heap_items c.push.new.self)
-          c.left_over.ensures.first c.left_over.ensures.other c.in-Ok.ensures.permutation)));
-      order = λ h. c.in-Ok.ensures.heap_order (c.loop-i.invariant.order h);
-    }
-
-pub returns-clause-opened : goal.returns-clause-opened
-returns-clause-opened g c =
-    on_ok_weaker c.lead.result (all_opened c.args.above.now (shown c.args.node) c.loop-i.i (omega (arith, c.loop-i-test.false, c.len-i-end.ensures)) c.loop-i.invariant.opened) c.lead.ensures.items
+pub returns-clause-kept : goal.returns-clause-kept
+returns-clause-kept g c =
+    let from = c.args.from.now in
+    subst (λ is. IsKept c.args.w c.args.ranking.now.n (map (coordinate c.args.w) c.args.center.now) (heap_items c.args.ranking.now.rows) (opened_items c.args.w c.args.from.now ++ line_of c.args.w c.args.opened.now.items (heap_items c.args.queue.now)) (heap_items c.loop-place.ranking.rows) (is ++ line_of c.args.w c.keep.new.opened.items (heap_items c.loop-place.queue)))
+    (items-none c.args.w (shown from.node).level c.loop-place.place from.known (shown from.node).chain (omega (arith, c.loop-place-test.false, c.len-place-end.ensures)))
+    c.loop-place.invariant.kept

@@ -1,15 +1,17 @@
-use Rattle.std.proofs.Common.{◌≡◌, take, map}
-use Rattle.std.specs.BinaryHeap.{heap_items, KeepsHeap}
+use Rattle.std.proofs.Common.{◌≡◌, ◌++◌, [], map, drop}
+use Rattle.std.specs.BinaryHeap.{heap_items, IsHeap}
 use Rattle.ph_specs.specs.Coordinate.{coordinate}
-use Rattle.ph_specs.specs.BestFirst.{items_below}
-use Rattle.ph_node.specs.Shown.{shown}
-use Rattle.ph_near.specs.Bound.{known, IsOpened}
-use Rattle.ph_near.specs.Waiting.{waiting_cmp, line_of}
+use Rattle.ph_near.specs.Nearing.{IsKept}
+use Rattle.ph_near.specs.Opening.{opened_items, line_of, AreWaiting}
+use Rattle.ph_near.specs.Ranking.{IsRanking}
+use Rattle.ph_near.specs.Waiting.{waiting_cmp}
 use Rattle.ph_near.proofs.opening.open.Given as goal
 
-abbrev pub invariant-loop-i : goal.invariant-loop-i
-invariant-loop-i g l = record {
-  n : l.bound.n ≡ l.fn.bound.n;
-  opened : IsOpened l.fn.bound.n l.fn.w g.row.D (map (coordinate l.fn.w) l.fn.q) (take l.i (items_below l.fn.w (shown l.fn.node).level l.fn.above (shown l.fn.node).chain)) (heap_items l.fn.queue) (line_of l.next (heap_items l.queue)) (known l.fn.bound) (known l.bound);
-  order : KeepsHeap waiting_cmp (heap_items l.fn.queue) (heap_items l.queue);
+abbrev pub invariant-loop-place : goal.invariant-loop-place
+invariant-loop-place g l = record {
+  n : l.ranking.n ≡ l.fn.ranking.n;
+  ranking : IsRanking l.ranking;
+  order : IsHeap waiting_cmp (heap_items l.queue);
+  waits : AreWaiting l.w (map (coordinate l.w) l.center) l.opened.items (heap_items l.queue);
+  kept : IsKept l.w l.fn.ranking.n (map (coordinate l.w) l.center) (heap_items l.fn.ranking.rows) (opened_items l.w l.from ++ line_of l.w l.fn.opened.items (heap_items l.fn.queue)) (heap_items l.ranking.rows) (drop l.place (opened_items l.w l.from) ++ line_of l.w l.opened.items (heap_items l.queue));
 }

@@ -1,0 +1,113 @@
+//! The best rows that were found.
+
+ghost use Rattle.std.specs.Prelude.{◌≡◌, ℕ, ◌^◌, ◌<◌, ◌≤◌, [], ◌∷◌, IfOk, OnOk};
+ghost use Rattle.std.specs.BinaryHeap.{heap_items, IsHeap};
+ghost use Rattle.std.specs.List.{AllByRecursion as Each};
+ghost use Rattle.std.specs.List.Sorted.{IsPermutation};
+ghost use Rattle.ph_specs.specs.Lawful.{IsBody};
+ghost use Rattle.ph_near.specs.Found.{found_cmp};
+ghost use Rattle.ph_near.specs.Ranking.{IsRanking, IsAdded, IsBeyond, IsWanted, IsListed};
+
+use crate::found::Found;
+use ph_coord::{Point, Row, Width};
+use ph_node::NoMemory;
+use ph_table::Hit;
+use std::alloc::Global;
+use std::cmp::min;
+use std::collections::BinaryHeap;
+
+// Room for so many rows is taken at once.
+const FEW_ROWS: usize = 16;
+
+// The first n rows of those that were found, or all where these are fewer. The last of them is on top.
+#[derive(Drop)]
+pub(crate) struct Ranking<const D: usize> {
+    n: usize,
+    rows: BinaryHeap<Found<D>>,
+}
+
+impl<const D: usize> Ranking<D> {
+    // No row is found yet.
+    pub(crate) fn new(alloc: Global, n: usize) -> Result<Ranking<D>, NoMemory>
+        requires some { 1 ≤ n }
+        requires few { D ≤ 16 }
+        ensures n { IfOk result (λ r. r.n ≡ n) }
+        ensures rows { IfOk result (λ r. heap_items r.rows ≡ []) }
+        ensures ranking { IfOk result (λ r. IsRanking r) }
+    {
+        let rows = BinaryHeap::with_capacity(alloc, min(n, FEW_ROWS))?;
+        Ok(Ranking { n, rows })
+    }
+
+    // How far the last of n rows is: what is farther is none of the n nearest.
+    #[inline(always)]
+    pub(crate) fn limit(&self) -> u128
+        requires few { D ≤ 16 }
+        requires ranking { IsRanking self.now }
+        ensures beyond { (t : ℕ) → result < t → t < 2 ^ 128 → IsBeyond self.now.n (heap_items self.now.rows) t }
+        ensures wanted { (t : ℕ) → t ≤ result → IsWanted self.now.n (heap_items self.now.rows) t }
+    {
+        if self.rows.len() < self.n {
+            return u128::MAX;
+        }
+        match self.rows.peek() {
+            Some(last) => last.distance,
+            None => u128::MAX,
+        }
+    }
+
+    // Takes in a row if it is one of the first n of those found.
+    pub(crate) fn add(&mut self, found: Found<D>) -> Result<(), NoMemory>
+        requires { IsRanking self.old }
+        ensures n { self.new.n ≡ self.old.n }
+        ensures ranking { OnOk result (IsRanking self.new) }
+        ensures added { OnOk result (IsAdded self.old.n found.entry (heap_items self.old.rows) (heap_items self.new.rows)) }
+    {
+        if self.rows.len() < self.n {
+            return self.push(found);
+        }
+        let Some(last) = self.rows.pop() else {
+            return Ok(());
+        };
+        if found.cmp(&last).is_lt() {
+            return self.push(found);
+        }
+        self.push(last)
+    }
+
+    #[inline(always)]
+    fn push(&mut self, found: Found<D>) -> Result<(), NoMemory>
+        ensures n { self.new.n ≡ self.old.n }
+        ensures moved { OnOk result (IsPermutation (found.entry ∷ heap_items self.old.rows) (heap_items self.new.rows)) }
+        ensures order { OnOk result (IsHeap found_cmp (heap_items self.old.rows) → IsHeap found_cmp (heap_items self.new.rows)) }
+    {
+        match self.rows.push(found) {
+            Ok(()) => Ok(()),
+            Err(_) => Err(NoMemory),
+        }
+    }
+
+    // The rows in their order, each with its distance.
+    pub(crate) fn into_hits(self, alloc: Global, w: Width) -> Result<Vec<Hit<D>>, NoMemory>
+        requires few { D ≤ 16 }
+        requires ranking { IsRanking self }
+        requires known { Each (λ f. IsBody D w f.known) (heap_items self.rows) }
+        ensures { IfOk result (λ hits. IsListed w (heap_items self.entry.rows) hits.items) }
+    {
+        let rows = self.rows.into_sorted_vec();
+        let mut hits = Vec::with_capacity(alloc, rows.len())?;
+        for found in &rows {
+            let point = Point::from_offsets(w, &found.known);
+            let row = Row {
+                point,
+                value: found.value,
+            };
+            let distance = found.distance;
+            match hits.push(Hit { row, distance }) {
+                Ok(()) => {}
+                Err(_) => return Err(NoMemory),
+            }
+        }
+        Ok(hits)
+    }
+}
