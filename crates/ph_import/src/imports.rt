@@ -21,8 +21,9 @@ use std::sync::ledger::Ledger;
 /// A tree without rows gets all of them at once, from the sorted rows. No node is visited, each is made once, and an error
 /// leaves the tree as it was. It takes memory to sort, for another copy of the rows where a point stands twice, and for the nodes.
 ///
-/// A tree with rows gets one after another, in their order. `NoMemory` leaves the rows in it that were put before, and the last edits of the tree where there are none. Where it
-/// would have room for as many new points as there are rows, none is looked up before; otherwise that takes memory for a set of the new points.
+/// A tree with rows gets one after another, in their order. `NoMemory` leaves the rows in it that were put before, and the last edits
+/// of the tree where there are none. Where it would have room for as many new points as there are rows, none is looked up before;
+/// otherwise that takes memory for a set of the new points.
 pub fn import_rows<const D: usize, V: Ledger, C: Ledger>(
     alloc: Global,
     kept: &mut Kept<D>,

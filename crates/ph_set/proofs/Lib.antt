@@ -5,4 +5,6 @@ mod Walking
 mod Joining
 mod Descending
 mod Meetings
+mod Overs
+mod Pairs
 mod Rooted

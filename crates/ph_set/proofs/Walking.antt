@@ -7,14 +7,13 @@ use Rattle.std.proofs.lemmas.Bool.{cases_lt, le-leb, lt-leb, eqb-false}
 use Rattle.ph_specs.specs.Node.{Entries, end, point, child, Entry, What, value, node, PlainNode, listed, entries}
 use Rattle.ph_specs.specs.EntryEdits.{what_at, has_address}
 use Rattle.ph_specs.specs.Lawful.{IsBody, IsLawfulEntry, IsLawfulFrom, put_together}
-use Rattle.ph_specs.specs.PutTree.{body_above}
 use Rattle.ph_specs.proofs.laws.EntryLists.{chained-listed, entry-lawful}
 use Rattle.ph_specs.proofs.laws.EntryEdits.{IsAbsent, absent-by}
 use Rattle.ph_specs.proofs.lemmas.RowsBehind.{Each-each}
 use Rattle.ph_node.specs.Merge.{addr_at}
 use Rattle.ph_node.specs.Places.{place_for}
 use Rattle.ph_node.specs.Split.{body_at}
-use Rattle.ph_node.specs.Spots.{IsSpot}
+use Rattle.ph_node.specs.Spots.{IsSpot, joined_digits}
 use Rattle.ph_node.specs.declared.spots.Spot.{Spot}
 use Rattle.ph_path.proofs.Knowns.{above-whole, wider}
 use Rattle.ph_path.proofs.Paths.{drop-at}
@@ -81,7 +80,7 @@ module _ (w d : ℕ) (ds : List ℕ) (n : PlainNode) (h : IsPart w d ds (node n)
   pub entry-is : IsLawfulEntry d n.level (entry_at (entries n) i)
   entry-is = entry-lawful d n.level 0 i n.chain (entry_at (entries n) i) h.held.2 (entry-there (entries n) i (let m : s.place < length (entries n) = at.within in omega (arith, m, e)))
 
-  module _ (new : List ℕ) (o : What) (made : new ≡ put_together n.level s.addr (body_above n.level ds) (body_at (entries n) s.place)) (held : o ≡ what_at (entries n) s.place) where
+  module _ (new : List ℕ) (o : What) (made : new ≡ joined_digits n s ds) (held : o ≡ what_at (entries n) s.place) where
     pub new-digits : new ≡ behind n.level ds (entry_at (entries n) i)
     new-digits =
         made ∙ ap (λ t. put_together n.level s.addr t (body_at (entries n) s.place)) (above-whole n.level ds h.held.1)
@@ -100,12 +99,14 @@ module _ (w d : ℕ) (ds : List ℕ) (n : PlainNode) (h : IsPart w d ds (node n)
         subst (λ t. height t ≤ n.level) (sym new-held) (behind-height w d n.level ds h.held.0 (record { long = h.long; zeros = h.held.1 }) h.small (entry_at (entries n) i) entry-is)
 
 -- the digits behind an entry, as a visit of it makes them
-pub spot-behind : (w d : ℕ) (ds : List ℕ) (n : PlainNode) → IsPart w d ds (node n) → (s : Spot) → IsSpot (entries n) s → behind n.level ds (entry_at (entries n) s.place) ≡ put_together n.level s.addr (body_above n.level ds) (body_at (entries n) s.place)
+pub spot-behind : (w d : ℕ) (ds : List ℕ) (n : PlainNode) → IsPart w d ds (node n) → (s : Spot) → IsSpot (entries n) s
+    → behind n.level ds (entry_at (entries n) s.place) ≡ joined_digits n s ds
 spot-behind w d ds n h s at =
     ap (λ a. put_together n.level a ds (body_at (entries n) s.place)) (sym at.address) ∙ ap (λ t. put_together n.level s.addr t (body_at (entries n) s.place)) (sym (above-whole n.level ds h.held.1))
 
 -- the rows and the nodes of an entry in front of those of a stretch
-pub step-rows : (w c from to : ℕ) (ds new : List ℕ) (o : What) (es : List Entry) → from < to → to ≤ length es → new ≡ behind c ds (entry_at es from) → o ≡ (entry_at es from).what → rows_in w c ds (stretch from to es) ≡ part_rows w new o ++ rows_in w c ds (stretch (from + 1) to es)
+pub step-rows : (w c from to : ℕ) (ds new : List ℕ) (o : What) (es : List Entry) → from < to → to ≤ length es → new ≡ behind c ds (entry_at es from)
+    → o ≡ (entry_at es from).what → rows_in w c ds (stretch from to es) ≡ part_rows w new o ++ rows_in w c ds (stretch (from + 1) to es)
 step-rows w c from to ds new o es l m e f =
     ap (rows_in w c ds) (stretch-step from to es l m) ∙ rows-first w c ds (entry_at es from) (stretch (from + 1) to es)
     ∙ ap (λ t. part_rows w t (entry_at es from).what ++ rows_in w c ds (stretch (from + 1) to es)) (sym e) ∙ ap (λ t. part_rows w new t ++ rows_in w c ds (stretch (from + 1) to es)) (sym f)
@@ -114,7 +115,9 @@ pub entry-count : (w c : ℕ) (ds : List ℕ) (o : What) → length (entry_nodes
 entry-count w c ds (value v) = refl
 entry-count w c ds (node n) = omega arith
 
-pub step-nodes : (w c from to : ℕ) (ds new : List ℕ) (o : What) (es : List Entry) → from < to → to ≤ length es → new ≡ behind c ds (entry_at es from) → o ≡ (entry_at es from).what → length (nodes_in w c ds (stretch from to es)) ≡ openings o + length (part_nodes w new o) + length (nodes_in w c ds (stretch (from + 1) to es))
+pub step-nodes : (w c from to : ℕ) (ds new : List ℕ) (o : What) (es : List Entry) → from < to → to ≤ length es → new ≡ behind c ds (entry_at es from)
+    → o ≡ (entry_at es from).what
+    → length (nodes_in w c ds (stretch from to es)) ≡ openings o + length (part_nodes w new o) + length (nodes_in w c ds (stretch (from + 1) to es))
 step-nodes w c from to ds new o es l m e f =
     let a : length (nodes_in w c ds (stretch from to es)) ≡ length (entry_nodes w c (behind c ds (entry_at es from)) (entry_at es from).what ++ nodes_in w c ds (stretch (from + 1) to es)) =
     ap (λ t. length (nodes_in w c ds t)) (stretch-step from to es l m) ∙ ap (λ t. length t) (nodes-first w c ds (entry_at es from) (stretch (from + 1) to es)) in
@@ -138,7 +141,8 @@ rising-from least [] h = tt
 rising-from least (e ∷ es) h = (h.0, Each-each es (λ f l. let m : e.addr + 1 ≤ f.addr = l in let n : least ≤ e.addr = h.0 in omega (arith, m, n)) (rising-from (e.addr + 1) es h.1))
 
 -- behind entry i, and in front of it
-pub rising-behind : (least : ℕ) (es : List Entry) (i : ℕ) → Rising least es → i < length es → (least ≤ addr_at es i) × Each (λ f. addr_at es i + 1 ≤ f.addr) (drop (i + 1) es)
+pub rising-behind : (least : ℕ) (es : List Entry) (i : ℕ) → Rising least es → i < length es
+    → (least ≤ addr_at es i) × Each (λ f. addr_at es i + 1 ≤ f.addr) (drop (i + 1) es)
 rising-behind least [] i h l = absurd (omega (arith, l))
 rising-behind least (e ∷ es) zero h l = (h.0, rising-from (e.addr + 1) es h.1)
 rising-behind least (e ∷ es) (suc i) h l =

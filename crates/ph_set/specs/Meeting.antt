@@ -1,13 +1,16 @@
 -- Two parts of trees that meet: what is listed, and how many nodes may be opened for that.
 use Rattle.std.specs.Prelude.{◌≡◌, ℕ, ◌+◌, ◌≤◌, List, Option, Some, None}
-use Rattle.ph_specs.specs.Node.{What}
+use Rattle.ph_specs.specs.Lawful.{rows}
+use Rattle.ph_specs.specs.Node.{PlainNode, What}
 use Rattle.ph_specs.specs.PutTree.{digits_from}
 use Rattle.ph_specs.specs.Table.{Row}
-use Rattle.ph_specs.specs.WorkSets.{Placed}
+use Rattle.ph_specs.specs.WorkSets.{Placed, placed}
 use Rattle.ph_digits.specs.Differences.{IsTopDifference}
 use Rattle.ph_specs.specs.Combined.{combined}
 use Rattle.ph_specs.specs.WorkSets.{seen_nodes}
-use Rattle.ph_set.specs.Parts.{part_rows, part_nodes}
+use Rattle.ph_set.specs.Held.{part_digits, part_what}
+use Rattle.ph_set.specs.Parts.{height, part_rows, part_nodes}
+use Rattle.ph_set.specs.declared.part.PartOf.{PartOf}
 use Rattle.ph_set.specs.declared.plan.Plan.{Plan}
 
 -- what a plan keeps of two tables, and how many nodes it may open below two trees for that
@@ -17,7 +20,14 @@ kept p xs ys = combined p.width p.left p.both p.right xs ys
 abbrev pub work : Plan → List Row → List Placed → List Row → List Placed → ℕ
 work p xs ns ys ms = seen_nodes p.width p.left ys ns + seen_nodes p.width p.right xs ms
 
--- the same of two parts
+-- the same of two trees
+abbrev pub kept_trees : Plan → ℕ → Option PlainNode → Option PlainNode → List Row
+kept_trees p d a b = kept p (rows p.width d a) (rows p.width d b)
+
+abbrev pub work_trees : Plan → ℕ → Option PlainNode → Option PlainNode → ℕ
+work_trees p d a b = work p (rows p.width d a) (placed p.width d a) (rows p.width d b) (placed p.width d b)
+
+-- the same of two parts, by the digits that are known of each and what it holds
 abbrev pub kept_of : Plan → List ℕ → What → List ℕ → What → List Row
 kept_of p ds o es q = kept p (part_rows p.width ds o) (part_rows p.width es q)
 
@@ -25,7 +35,17 @@ abbrev pub work_of : Plan → List ℕ → What → List ℕ → What → ℕ
 work_of p ds o es q =
     work p (part_rows p.width ds o) (part_nodes p.width ds o) (part_rows p.width es q) (part_nodes p.width es q)
 
+-- the same of two parts in memory
+abbrev pub kept_parts : Plan → ℕ → PartOf PlainNode → PartOf PlainNode → List Row
+kept_parts p d x y = kept_of p (part_digits d x) (part_what x) (part_digits d y) (part_what y)
+
+abbrev pub work_parts : Plan → ℕ → PartOf PlainNode → PartOf PlainNode → ℕ
+work_parts p d x y = work_of p (part_digits d x) (part_what x) (part_digits d y) (part_what y)
+
 -- the greatest place at which digits differ, where it is known of both; else they are the same from where both are known on
 abbrev pub IsParting : ℕ → ℕ → List ℕ → List ℕ → Option ℕ → Type 0
 IsParting high low ds es None = (k : ℕ) → high ≤ k → low ≤ k → digits_from k ds ≡ digits_from k es
 IsParting high low ds es (Some place) = IsTopDifference ds es place × (high ≤ place) × (low ≤ place)
+
+abbrev pub IsPartingOf : ℕ → PartOf PlainNode → PartOf PlainNode → Option ℕ → Type 0
+IsPartingOf d x y place = IsParting (height (part_what x)) (height (part_what y)) (part_digits d x) (part_digits d y) place

@@ -1,15 +1,15 @@
 //! All rows of a part of a tree.
-ghost use Rattle.std.specs.Prelude.{◌≡◌, ◌+◌, ◌≤◌, ◌++◌, [], length, map, take, OnOk};
+ghost use Rattle.std.specs.Prelude.{◌≡◌, ◌+◌, ◌≤◌, [], length, take, OnOk};
 ghost use Rattle.ph_specs.specs.Node.{entries, node as held_node};
 ghost use Rattle.ph_node.specs.Shown.{shown};
 ghost use Rattle.ph_specs.specs.Combined.{chosen};
 ghost use Rattle.ph_specs.specs.WorkSets.{seen_nodes};
-ghost use Rattle.ph_set.specs.Held.{held_what};
-ghost use Rattle.ph_specs.specs.EntryEdits.{what_at};
+ghost use Rattle.ph_set.specs.Held.{IsLawfulPart, nodes_held, rows_held};
 ghost use Rattle.ph_specs.specs.Lawful.{IsBody};
-ghost use Rattle.ph_specs.specs.PutTree.{body_above, digits_from};
-ghost use Rattle.ph_node.specs.Spots.{IsSpot, joined_digits};
-ghost use Rattle.ph_set.specs.Parts.{IsPart, openings, part_rows, part_nodes, rows_in, nodes_in, stretch};
+ghost use Rattle.ph_specs.specs.PutTree.{digits_from};
+ghost use Rattle.ph_node.specs.Spots.{IsSpot};
+ghost use Rattle.ph_set.specs.Parts.{AreListed, IsPart, digits_over, nodes_over, rows_over, spot_openings, spot_rows, stretch_nodes, stretch_rows};
+ghost use Rattle.ph_set.specs.Sides.{side_digits, side_entries, side_node};
 
 use crate::NoMemory;
 use crate::part::{HeldOf, PartOf, join_entry};
@@ -28,9 +28,9 @@ pub(crate) fn list_part<P: Space, V: Ledger>(
     visits: &mut Steps<V>,
 ) -> Result<(), NoMemory>
     requires dims { P.D ≤ 16 }
-    requires part { IsPart w P.D (take P.D part.now.digits) (held_what part.now.held) }
-    ensures rows { OnOk result (map P.row_of rows.new.items ≡ map P.row_of rows.old.items ++ part_rows w (take P.D part.now.digits) (held_what part.now.held)) }
-    ensures visits { visits.new ≤ visits.old + length (part_nodes w (take P.D part.now.digits) (held_what part.now.held)) }
+    requires part { IsLawfulPart w P.D part.now }
+    ensures rows { OnOk result (AreListed P.row_of rows.old.items rows.new.items (rows_held w P.D part.now)) }
+    ensures visits { visits.new ≤ visits.old + length (nodes_held w P.D part.now) }
     ensures later { visits.old ≤ visits.new }
 {
     match part.held {
@@ -57,8 +57,8 @@ fn list_stretch<P: Space, V: Ledger>(
     requires dims { P.D ≤ 16 }
     requires part { IsPart w P.D (take P.D digits.now) (held_node (shown node)) }
     requires within { to ≤ length (entries (shown node)) }
-    ensures rows { OnOk result (map P.row_of rows.new.items ≡ map P.row_of rows.old.items ++ rows_in w (shown node.entry).level (take P.D digits.now) (stretch from to (entries (shown node.entry)))) }
-    ensures visits { visits.new ≤ visits.old + length (nodes_in w (shown node.entry).level (take P.D digits.now) (stretch from to (entries (shown node.entry)))) }
+    ensures rows { OnOk result (AreListed P.row_of rows.old.items rows.new.items (stretch_rows w (shown node.entry) (take P.D digits.now) from to)) }
+    ensures visits { visits.new ≤ visits.old + length (stretch_nodes w (shown node.entry) (take P.D digits.now) from to) }
     ensures later { visits.old ≤ visits.new }
 {
     let mut known = *digits;
@@ -79,10 +79,10 @@ fn list_entries<P: Space, V: Ledger>(
 ) -> Result<(), NoMemory>
     requires dims { P.D ≤ 16 }
     requires known { IsBody P.D w (take P.D known.old) }
-    requires part { IsPart w P.D (body_above (shown node).level (take P.D known.old)) (held_node (shown node)) }
+    requires part { IsPart w P.D (digits_over P.D (shown node) known.old) (held_node (shown node)) }
     requires within { to ≤ length (entries (shown node)) }
-    ensures rows { OnOk result (map P.row_of rows.new.items ≡ map P.row_of rows.old.items ++ rows_in w (shown node.entry).level (body_above (shown node.entry).level (take P.D known.old)) (stretch from to (entries (shown node.entry)))) }
-    ensures visits { visits.new ≤ visits.old + length (nodes_in w (shown node.entry).level (body_above (shown node.entry).level (take P.D known.old)) (stretch from to (entries (shown node.entry)))) }
+    ensures rows { OnOk result (AreListed P.row_of rows.old.items rows.new.items (rows_over w P.D (shown node.entry) known.old from to)) }
+    ensures visits { visits.new ≤ visits.old + length (nodes_over w P.D (shown node.entry) known.old from to) }
     ensures later { visits.old ≤ visits.new }
     ensures known { OnOk result (IsBody P.D w (take P.D known.new)) }
     ensures above { OnOk result (digits_from ((shown node.entry).level + 1) (take P.D known.new) ≡ digits_from ((shown node.entry).level + 1) (take P.D known.old)) }
@@ -106,9 +106,9 @@ fn list_entry<P: Space, V: Ledger>(
     requires dims { P.D ≤ 16 }
     requires spot { IsSpot (entries (shown node)) spot }
     requires known { IsBody P.D w (take P.D known.old) }
-    requires part { IsPart w P.D (body_above (shown node).level (take P.D known.old)) (held_node (shown node)) }
-    ensures rows { OnOk result (map P.row_of rows.new.items ≡ map P.row_of rows.old.items ++ part_rows w (joined_digits (shown node.entry) spot (take P.D known.old)) (what_at (entries (shown node.entry)) spot.place)) }
-    ensures visits { visits.new ≤ visits.old + (openings (what_at (entries (shown node.entry)) spot.place) + length (part_nodes w (joined_digits (shown node.entry) spot (take P.D known.old)) (what_at (entries (shown node.entry)) spot.place))) }
+    requires part { IsPart w P.D (digits_over P.D (shown node) known.old) (held_node (shown node)) }
+    ensures rows { OnOk result (AreListed P.row_of rows.old.items rows.new.items (spot_rows w (shown node.entry) spot (take P.D known.old))) }
+    ensures visits { visits.new ≤ visits.old + spot_openings w (shown node.entry) spot (take P.D known.old) }
     ensures later { visits.old ≤ visits.new }
     ensures known { OnOk result (IsBody P.D w (take P.D known.new)) }
     ensures above { OnOk result (digits_from ((shown node.entry).level + 1) (take P.D known.new) ≡ digits_from ((shown node.entry).level + 1) (take P.D known.old)) }
@@ -137,9 +137,9 @@ pub(crate) fn list_part_if<P: Space, V: Ledger>(
     visits: &mut Steps<V>,
 ) -> Result<(), NoMemory>
     requires dims { P.D ≤ 16 }
-    requires part { IsPart w P.D (take P.D part.now.digits) (held_what part.now.held) }
-    ensures rows { OnOk result (map P.row_of rows.new.items ≡ map P.row_of rows.old.items ++ chosen keep (part_rows w (take P.D part.now.digits) (held_what part.now.held))) }
-    ensures visits { visits.new ≤ visits.old + seen_nodes w keep [] (part_nodes w (take P.D part.now.digits) (held_what part.now.held)) }
+    requires part { IsLawfulPart w P.D part.now }
+    ensures rows { OnOk result (AreListed P.row_of rows.old.items rows.new.items (chosen keep (rows_held w P.D part.now))) }
+    ensures visits { visits.new ≤ visits.old + seen_nodes w keep [] (nodes_held w P.D part.now) }
     ensures later { visits.old ≤ visits.new }
 {
     if keep {
@@ -160,10 +160,10 @@ pub(crate) fn list_stretch_if<P: Space, V: Ledger>(
     visits: &mut Steps<V>,
 ) -> Result<(), NoMemory>
     requires dims { P.D ≤ 16 }
-    requires part { IsPart w P.D (take P.D side.now.digits.now) (held_node (shown side.now.node)) }
-    requires within { to ≤ length (entries (shown side.now.node)) }
-    ensures rows { OnOk result (map P.row_of rows.new.items ≡ map P.row_of rows.old.items ++ chosen keep (rows_in w (shown side.now.node).level (take P.D side.now.digits.now) (stretch from to (entries (shown side.now.node))))) }
-    ensures visits { visits.new ≤ visits.old + seen_nodes w keep [] (nodes_in w (shown side.now.node).level (take P.D side.now.digits.now) (stretch from to (entries (shown side.now.node)))) }
+    requires part { IsPart w P.D (side_digits P.D side.now) (held_node (side_node side.now)) }
+    requires within { to ≤ length (side_entries side.now) }
+    ensures rows { OnOk result (AreListed P.row_of rows.old.items rows.new.items (chosen keep (stretch_rows w (side_node side.now) (side_digits P.D side.now) from to))) }
+    ensures visits { visits.new ≤ visits.old + seen_nodes w keep [] (stretch_nodes w (side_node side.now) (side_digits P.D side.now) from to) }
     ensures later { visits.old ≤ visits.new }
 {
     if keep {

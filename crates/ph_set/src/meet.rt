@@ -3,18 +3,15 @@
 //! Two parts meet where the points of the lower one lie in the region of the higher one. A child is visited where its entry
 //! has something of the other tree at its address, which is where its region holds a point of the other tree, or where all its
 //! rows are listed.
-ghost use Rattle.std.specs.Prelude.{◌≡◌, ◌+◌, ◌<◌, ◌≤◌, ◌++◌, length, map, take, None, Some, OnOk, IfOk};
-ghost use Rattle.std.specs.List.{AllByRecursion as Each};
-ghost use Rattle.ph_specs.specs.Node.{entries, node as held_node, value as held_value};
+ghost use Rattle.std.specs.Prelude.{◌≡◌, ◌+◌, ◌<◌, ◌≤◌, ◌++◌, length, map, None, Some, OnOk, IfOk};
+ghost use Rattle.ph_specs.specs.Node.{node as held_node};
 ghost use Rattle.ph_specs.specs.PutTree.{digits_from};
-ghost use Rattle.ph_node.specs.Merge.{addr_at};
 ghost use Rattle.ph_node.specs.Shown.{shown};
 ghost use Rattle.ph_specs.specs.Combined.{chosen};
-ghost use Rattle.ph_specs.specs.WorkSets.{seen_nodes};
-ghost use Rattle.ph_set.specs.Held.{held_what};
-ghost use Rattle.ph_set.specs.Meeting.{IsParting, kept, work, kept_of, work_of};
+ghost use Rattle.ph_set.specs.Held.{IsLawfulPart, held_what, part_digits, part_what, rows_held, with_node, with_value};
+ghost use Rattle.ph_set.specs.Meeting.{IsPartingOf, kept_parts, work_parts};
 ghost use Rattle.ph_set.specs.Sides.{AreBeside, side_entries, kept_from, work_from};
-ghost use Rattle.ph_set.specs.Parts.{IsPart, height, part_rows, part_nodes, rows_in, nodes_in, rows_on, nodes_on, stretch};
+ghost use Rattle.ph_set.specs.Parts.{AreListed, height};
 
 use crate::NoMemory;
 use crate::lists::{list_part_if, list_stretch_if};
@@ -38,10 +35,10 @@ pub(crate) fn meet<P: Space, V: Ledger>(
     visits: &mut Steps<V>,
 ) -> Result<(), NoMemory>
     requires dims { P.D ≤ 16 }
-    requires left { IsPart plan.now.width P.D (take P.D x.now.digits) (held_what x.now.held) }
-    requires right { IsPart plan.now.width P.D (take P.D y.now.digits) (held_what y.now.held) }
-    ensures rows { OnOk result (map P.row_of rows.new.items ≡ map P.row_of rows.old.items ++ kept_of plan.now (take P.D x.now.digits) (held_what x.now.held) (take P.D y.now.digits) (held_what y.now.held)) }
-    ensures visits { visits.new ≤ visits.old + work_of plan.now (take P.D x.now.digits) (held_what x.now.held) (take P.D y.now.digits) (held_what y.now.held) }
+    requires left { IsLawfulPart plan.now.width P.D x.now }
+    requires right { IsLawfulPart plan.now.width P.D y.now }
+    ensures rows { OnOk result (AreListed P.row_of rows.old.items rows.new.items (kept_parts plan.now P.D x.now y.now)) }
+    ensures visits { visits.new ≤ visits.old + work_parts plan.now P.D x.now y.now }
     ensures later { visits.old ≤ visits.new }
 {
     if let Some(place) = parting(x, y) {
@@ -67,13 +64,13 @@ fn meet_nodes<P: Space, V: Ledger>(
     visits: &mut Steps<V>,
 ) -> Result<(), NoMemory>
     requires dims { P.D ≤ 16 }
-    requires left { IsPart plan.now.width P.D (take P.D x.now.digits) (held_node (shown a)) }
-    requires right { IsPart plan.now.width P.D (take P.D y.now.digits) (held_node (shown b)) }
-    requires low { held_what x.now.held ≡ held_node (shown a) }
-    requires high { held_what y.now.held ≡ held_node (shown b) }
-    requires agree { IsParting ((shown a).level + 1) ((shown b).level + 1) (take P.D x.now.digits) (take P.D y.now.digits) None }
-    ensures rows { OnOk result (map P.row_of rows.new.items ≡ map P.row_of rows.old.items ++ kept_of plan.now (take P.D x.now.digits) (held_node (shown a.entry)) (take P.D y.now.digits) (held_node (shown b.entry))) }
-    ensures visits { visits.new ≤ visits.old + work_of plan.now (take P.D x.now.digits) (held_node (shown a.entry)) (take P.D y.now.digits) (held_node (shown b.entry)) }
+    requires left { IsLawfulPart plan.now.width P.D (with_node x.now a) }
+    requires right { IsLawfulPart plan.now.width P.D (with_node y.now b) }
+    requires low { part_what x.now ≡ held_node (shown a) }
+    requires high { part_what y.now ≡ held_node (shown b) }
+    requires agree { IsPartingOf P.D (with_node x.now a) (with_node y.now b) None }
+    ensures rows { OnOk result (AreListed P.row_of rows.old.items rows.new.items (kept_parts plan.now P.D (with_node x.now a.entry) (with_node y.now b.entry))) }
+    ensures visits { visits.new ≤ visits.old + work_parts plan.now P.D (with_node x.now a.entry) (with_node y.now b.entry) }
     ensures later { visits.old ≤ visits.new }
 {
     if a.level() > b.level() {
@@ -104,12 +101,12 @@ fn over_left<P: Space, V: Ledger>(
     visits: &mut Steps<V>,
 ) -> Result<(), NoMemory>
     requires dims { P.D ≤ 16 }
-    requires left { IsPart plan.now.width P.D (take P.D x.now.digits) (held_node (shown a)) }
-    requires right { IsPart plan.now.width P.D (take P.D y.now.digits) (held_what y.now.held) }
-    requires lower { height (held_what y.now.held) ≤ (shown a).level }
-    requires agree { digits_from ((shown a).level + 1) (take P.D x.now.digits) ≡ digits_from ((shown a).level + 1) (take P.D y.now.digits) }
-    ensures rows { OnOk result (map P.row_of rows.new.items ≡ map P.row_of rows.old.items ++ kept_of plan.now (take P.D x.now.digits) (held_node (shown a.entry)) (take P.D y.now.digits) (held_what y.now.held)) }
-    ensures visits { visits.new ≤ visits.old + work_of plan.now (take P.D x.now.digits) (held_node (shown a.entry)) (take P.D y.now.digits) (held_what y.now.held) }
+    requires left { IsLawfulPart plan.now.width P.D (with_node x.now a) }
+    requires right { IsLawfulPart plan.now.width P.D y.now }
+    requires lower { height (part_what y.now) ≤ (shown a).level }
+    requires agree { digits_from ((shown a).level + 1) (part_digits P.D x.now) ≡ digits_from ((shown a).level + 1) (part_digits P.D y.now) }
+    ensures rows { OnOk result (AreListed P.row_of rows.old.items rows.new.items (kept_parts plan.now P.D (with_node x.now a.entry) y.now)) }
+    ensures visits { visits.new ≤ visits.old + work_parts plan.now P.D (with_node x.now a.entry) y.now }
     ensures later { visits.old ≤ visits.new }
 {
     // A use that makes the range of the width known.
@@ -149,12 +146,12 @@ fn over_right<P: Space, V: Ledger>(
     visits: &mut Steps<V>,
 ) -> Result<(), NoMemory>
     requires dims { P.D ≤ 16 }
-    requires left { IsPart plan.now.width P.D (take P.D x.now.digits) (held_what x.now.held) }
-    requires right { IsPart plan.now.width P.D (take P.D y.now.digits) (held_node (shown b)) }
-    requires lower { height (held_what x.now.held) ≤ (shown b).level }
-    requires agree { digits_from ((shown b).level + 1) (take P.D x.now.digits) ≡ digits_from ((shown b).level + 1) (take P.D y.now.digits) }
-    ensures rows { OnOk result (map P.row_of rows.new.items ≡ map P.row_of rows.old.items ++ kept_of plan.now (take P.D x.now.digits) (held_what x.now.held) (take P.D y.now.digits) (held_node (shown b.entry))) }
-    ensures visits { visits.new ≤ visits.old + work_of plan.now (take P.D x.now.digits) (held_what x.now.held) (take P.D y.now.digits) (held_node (shown b.entry)) }
+    requires left { IsLawfulPart plan.now.width P.D x.now }
+    requires right { IsLawfulPart plan.now.width P.D (with_node y.now b) }
+    requires lower { height (part_what x.now) ≤ (shown b).level }
+    requires agree { digits_from ((shown b).level + 1) (part_digits P.D x.now) ≡ digits_from ((shown b).level + 1) (part_digits P.D y.now) }
+    ensures rows { OnOk result (AreListed P.row_of rows.old.items rows.new.items (kept_parts plan.now P.D x.now (with_node y.now b.entry))) }
+    ensures visits { visits.new ≤ visits.old + work_parts plan.now P.D x.now (with_node y.now b.entry) }
     ensures later { visits.old ≤ visits.new }
 {
     // A use that makes the range of the width known.
@@ -197,7 +194,7 @@ fn side_by_side<P: Space, V: Ledger>(
 ) -> Result<(), NoMemory>
     requires dims { P.D ≤ 16 }
     requires sides { AreBeside plan.now.width P.D a.now b.now }
-    ensures rows { OnOk result (map P.row_of rows.new.items ≡ map P.row_of rows.old.items ++ kept_from plan.now P.D a.now 0 b.now 0) }
+    ensures rows { OnOk result (AreListed P.row_of rows.old.items rows.new.items (kept_from plan.now P.D a.now 0 b.now 0)) }
     ensures visits { visits.new ≤ visits.old + work_from plan.now P.D a.now 0 b.now 0 }
     ensures later { visits.old ≤ visits.new }
 {
@@ -231,7 +228,9 @@ fn pair_at<P: Space, V: Ledger>(
     requires sides { AreBeside plan.now.width P.D a.now b.now }
     requires first { i < length (side_entries a.now) }
     requires second { j < length (side_entries b.now) }
-    ensures rows { IfOk result (λ k. map P.row_of rows.new.items ++ kept_from plan.now P.D a.now k.0 b.now k.1 ≡ map P.row_of rows.old.items ++ kept_from plan.now P.D a.now i b.now j) }
+    ensures rows { IfOk result (λ k.
+        map P.row_of rows.new.items ++ kept_from plan.now P.D a.now k.0 b.now k.1
+        ≡ map P.row_of rows.old.items ++ kept_from plan.now P.D a.now i b.now j) }
     ensures left_over { IfOk result (λ k. visits.new + work_from plan.now P.D a.now k.0 b.now k.1 ≤ visits.old + work_from plan.now P.D a.now i b.now j) }
     ensures visits { visits.new ≤ visits.old + work_from plan.now P.D a.now i b.now j }
     ensures later { visits.old ≤ visits.new }
@@ -265,7 +264,7 @@ fn pair_at<P: Space, V: Ledger>(
 // both are known on.
 fn parting<P: Dims>(x: &PartOf<'_, NodeOf<P>>, y: &PartOf<'_, NodeOf<P>>) -> Option<u32>
     requires dims { P.D ≤ 16 }
-    ensures { IsParting (height (held_what x.now.held)) (height (held_what y.now.held)) (take P.D x.now.digits) (take P.D y.now.digits) result }
+    ensures { IsPartingOf P.D x.now y.now result }
 {
     let dims = P::D;
     let Some(place) = top_difference(&x.digits[..dims], &y.digits[..dims]) else {
@@ -300,11 +299,11 @@ fn list_apart<P: Space, V: Ledger>(
     visits: &mut Steps<V>,
 ) -> Result<(), NoMemory>
     requires dims { P.D ≤ 16 }
-    requires left { IsPart plan.now.width P.D (take P.D x.now.digits) (held_what x.now.held) }
-    requires right { IsPart plan.now.width P.D (take P.D y.now.digits) (held_what y.now.held) }
-    requires apart { IsParting (height (held_what x.now.held)) (height (held_what y.now.held)) (take P.D x.now.digits) (take P.D y.now.digits) (Some place) }
-    ensures rows { OnOk result (map P.row_of rows.new.items ≡ map P.row_of rows.old.items ++ kept_of plan.now (take P.D x.now.digits) (held_what x.now.held) (take P.D y.now.digits) (held_what y.now.held)) }
-    ensures visits { visits.new ≤ visits.old + work_of plan.now (take P.D x.now.digits) (held_what x.now.held) (take P.D y.now.digits) (held_what y.now.held) }
+    requires left { IsLawfulPart plan.now.width P.D x.now }
+    requires right { IsLawfulPart plan.now.width P.D y.now }
+    requires apart { IsPartingOf P.D x.now y.now (Some place) }
+    ensures rows { OnOk result (AreListed P.row_of rows.old.items rows.new.items (kept_parts plan.now P.D x.now y.now)) }
+    ensures visits { visits.new ≤ visits.old + work_parts plan.now P.D x.now y.now }
     ensures later { visits.old ≤ visits.new }
 {
     let dims = P::D;
@@ -327,8 +326,8 @@ fn list_both<P: Space>(
     rows: &mut Vec<P::Row>,
 ) -> Result<(), NoMemory>
     requires dims { P.D ≤ 16 }
-    requires left { IsPart plan.now.width P.D (take P.D x.now.digits) (held_value value) }
-    ensures { OnOk result (map P.row_of rows.new.items ≡ map P.row_of rows.old.items ++ chosen plan.now.both (part_rows plan.now.width (take P.D x.now.digits) (held_value value))) }
+    requires left { IsLawfulPart plan.now.width P.D (with_value x.now value) }
+    ensures { OnOk result (AreListed P.row_of rows.old.items rows.new.items (chosen plan.now.both (rows_held plan.now.width P.D (with_value x.now value)))) }
 {
     if plan.both {
         rows.push(P::with_offsets(plan.width, &x.digits, value))?;

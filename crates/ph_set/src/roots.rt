@@ -1,5 +1,5 @@
 //! A descent of two trees from their roots.
-ghost use Rattle.std.specs.Prelude.{◌≡◌, ◌+◌, ◌≤◌, ◌++◌, [], map, take, replicate, Some, OnOk};
+ghost use Rattle.std.specs.Prelude.{◌≡◌, ◌+◌, ◌≤◌, [], take, replicate, Some, OnOk};
 ghost use Rattle.std.specs.Option.{option_copied};
 ghost use Rattle.ph_specs.specs.Lawful.{IsLawful, rows as rows_of};
 ghost use Rattle.ph_specs.specs.Node.{node as held_node};
@@ -7,7 +7,8 @@ ghost use Rattle.ph_specs.specs.WorkSets.{placed};
 ghost use Rattle.ph_specs.specs.Combined.{chosen};
 ghost use Rattle.ph_specs.specs.WorkSets.{seen_nodes};
 ghost use Rattle.ph_set.specs.Held.{held_what};
-ghost use Rattle.ph_set.specs.Meeting.{kept, work};
+ghost use Rattle.ph_set.specs.Meeting.{kept_trees, work_trees};
+ghost use Rattle.ph_set.specs.Parts.{AreListed};
 
 use crate::NoMemory;
 use crate::lists::list_part;
@@ -31,8 +32,8 @@ pub(crate) fn list_roots<P: Space, V: Ledger>(
     requires dims { P.D ≤ 16 }
     requires left { IsLawful plan.now.width P.D (option_copied a) }
     requires right { IsLawful plan.now.width P.D (option_copied b) }
-    ensures rows { OnOk result (map P.row_of rows.new.items ≡ map P.row_of rows.old.items ++ kept plan.now (rows_of plan.now.width P.D (option_copied a.entry)) (rows_of plan.now.width P.D (option_copied b.entry))) }
-    ensures visits { visits.new ≤ visits.old + work plan.now (rows_of plan.now.width P.D (option_copied a.entry)) (placed plan.now.width P.D (option_copied a.entry)) (rows_of plan.now.width P.D (option_copied b.entry)) (placed plan.now.width P.D (option_copied b.entry)) }
+    ensures rows { OnOk result (AreListed P.row_of rows.old.items rows.new.items (kept_trees plan.now P.D (option_copied a.entry) (option_copied b.entry))) }
+    ensures visits { visits.new ≤ visits.old + work_trees plan.now P.D (option_copied a.entry) (option_copied b.entry) }
     ensures later { visits.old ≤ visits.new }
 {
     match (a, b) {
@@ -54,8 +55,8 @@ fn meet_roots<P: Space, V: Ledger>(
     requires dims { P.D ≤ 16 }
     requires left { IsLawful plan.now.width P.D (Some x.now) }
     requires right { IsLawful plan.now.width P.D (Some y.now) }
-    ensures rows { OnOk result (map P.row_of rows.new.items ≡ map P.row_of rows.old.items ++ kept plan.now (rows_of plan.now.width P.D (Some x.now)) (rows_of plan.now.width P.D (Some y.now))) }
-    ensures visits { visits.new ≤ visits.old + work plan.now (rows_of plan.now.width P.D (Some x.now)) (placed plan.now.width P.D (Some x.now)) (rows_of plan.now.width P.D (Some y.now)) (placed plan.now.width P.D (Some y.now)) }
+    ensures rows { OnOk result (AreListed P.row_of rows.old.items rows.new.items (kept_trees plan.now P.D (Some x.now) (Some y.now))) }
+    ensures visits { visits.new ≤ visits.old + work_trees plan.now P.D (Some x.now) (Some y.now) }
     ensures later { visits.old ≤ visits.new }
 {
     // A use that makes the range of the width known.
@@ -75,7 +76,7 @@ fn list_root<P: Space, V: Ledger>(
 ) -> Result<(), NoMemory>
     requires dims { P.D ≤ 16 }
     requires tree { IsLawful w P.D (Some x.now) }
-    ensures rows { OnOk result (map P.row_of rows.new.items ≡ map P.row_of rows.old.items ++ chosen keep (rows_of w P.D (Some x.now))) }
+    ensures rows { OnOk result (AreListed P.row_of rows.old.items rows.new.items (chosen keep (rows_of w P.D (Some x.now)))) }
     ensures visits { visits.new ≤ visits.old + seen_nodes w keep [] (placed w P.D (Some x.now)) }
     ensures later { visits.old ≤ visits.new }
 {

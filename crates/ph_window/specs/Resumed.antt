@@ -45,5 +45,11 @@ pub record IsResumed (d : ℕ) (m : Mark) (n : PlainNode) (b : Bounds) (path : L
   pub high : c.high ≡ b.high
   pub bounds : AreBounds d c
   pub way : IsPath d c.width (point_at c.width c.low) (point_at c.width c.high) c.known new
-  pub rows : path_rows c.width (point_at c.width c.low) (point_at c.width c.high) c.known new ≡ rest b.width (behind_mark b m) (rows_behind b.width n.level (body_above n.level b.known) n.chain) ++ path_rows b.width (point_at b.width b.low) (point_at b.width b.high) b.known path
-  pub nodes : path_nodes c.width (point_at c.width c.low) (point_at c.width c.high) c.known new ≤ length (opened_below b.width (point_at b.width b.low) (point_at b.width b.high) n.level (body_above n.level b.known) n.chain) + path_nodes b.width (point_at b.width b.low) (point_at b.width b.high) b.known path
+  pub rows :
+      path_rows c.width (point_at c.width c.low) (point_at c.width c.high) c.known new
+      ≡ rest b.width (behind_mark b m) (rows_behind b.width n.level (body_above n.level b.known) n.chain)
+      ++ path_rows b.width (point_at b.width b.low) (point_at b.width b.high) b.known path
+  pub nodes :
+      path_nodes c.width (point_at c.width c.low) (point_at c.width c.high) c.known new
+      ≤ length (opened_below b.width (point_at b.width b.low) (point_at b.width b.high) n.level (body_above n.level b.known) n.chain)
+      + path_nodes b.width (point_at b.width b.low) (point_at b.width b.high) b.known path

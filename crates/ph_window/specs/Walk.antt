@@ -43,8 +43,12 @@ walk_of d b root path =
     record {
       width = b.width;
       known = b.known;
-      rest = path_rows b.width (point_at b.width b.low) (point_at b.width b.high) b.known path ++ root_rows b.width d (point_at b.width b.low) (point_at b.width b.high) root;
-      visits = path_nodes b.width (point_at b.width b.low) (point_at b.width b.high) b.known path + root_nodes b.width d (point_at b.width b.low) (point_at b.width b.high) root;
+      rest =
+          path_rows b.width (point_at b.width b.low) (point_at b.width b.high) b.known path
+          ++ root_rows b.width d (point_at b.width b.low) (point_at b.width b.high) root;
+      visits =
+          path_nodes b.width (point_at b.width b.low) (point_at b.width b.high) b.known path
+          + root_nodes b.width d (point_at b.width b.low) (point_at b.width b.high) root;
       steps = path_steps path + root_steps root;
     }
 

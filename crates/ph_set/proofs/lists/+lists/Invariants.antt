@@ -1,9 +1,8 @@
 use Rattle.std.proofs.Common.{◌≡◌, ◌+◌, ◌≤◌, ◌*◌, ◌++◌, length, map, take}
 use Rattle.ph_specs.specs.Lawful.{IsBody}
-use Rattle.ph_specs.specs.Node.{entries}
-use Rattle.ph_specs.specs.PutTree.{body_above, digits_from}
+use Rattle.ph_specs.specs.PutTree.{digits_from}
 use Rattle.ph_node.specs.Shown.{shown}
-use Rattle.ph_set.specs.Parts.{rows_in, nodes_in, stretch}
+use Rattle.ph_set.specs.Parts.{rows_over, nodes_over}
 use Rattle.ph_set.proofs.lists.+lists.Given as goal
 
 abbrev pub decreases-list_entry : goal.decreases-list_entry
@@ -14,8 +13,8 @@ decreases-list_entries g l = 2 * (shown l.node).level + 1
 
 abbrev pub invariant-list_entries-loop-i : goal.invariant-list_entries-loop-i
 invariant-list_entries-loop-i g l = record {
-  rows : map g.P.Space.row_of l.rows.items ++ rows_in l.w (shown l.node).level (body_above (shown l.node).level (take g.P.Dims.D l.fn.known)) (stretch l.i l.to (entries (shown l.node))) ≡ map g.P.Space.row_of l.fn.rows.items ++ rows_in l.w (shown l.node).level (body_above (shown l.node).level (take g.P.Dims.D l.fn.known)) (stretch l.from l.to (entries (shown l.node)));
-  visits : l.visits + length (nodes_in l.w (shown l.node).level (body_above (shown l.node).level (take g.P.Dims.D l.fn.known)) (stretch l.i l.to (entries (shown l.node)))) ≤ l.fn.visits + length (nodes_in l.w (shown l.node).level (body_above (shown l.node).level (take g.P.Dims.D l.fn.known)) (stretch l.from l.to (entries (shown l.node))));
+  rows : map g.P.Space.row_of l.rows.items ++ rows_over l.w g.P.Dims.D (shown l.node) l.fn.known l.i l.to ≡ map g.P.Space.row_of l.fn.rows.items ++ rows_over l.w g.P.Dims.D (shown l.node) l.fn.known l.from l.to;
+  visits : l.visits + length (nodes_over l.w g.P.Dims.D (shown l.node) l.fn.known l.i l.to) ≤ l.fn.visits + length (nodes_over l.w g.P.Dims.D (shown l.node) l.fn.known l.from l.to);
   later : l.fn.visits ≤ l.visits;
   known : IsBody g.P.Dims.D l.w (take g.P.Dims.D l.known);
   above : digits_from ((shown l.node).level + 1) (take g.P.Dims.D l.known) ≡ digits_from ((shown l.node).level + 1) (take g.P.Dims.D l.fn.known);
