@@ -11,7 +11,8 @@ use Rattle.ph_shape.specs.declared.plain.HeldOf.{HeldOf}
 use Rattle.ph_shape.specs.declared.plain.HeldOf.TheVariants.{Value, Child}
 use Rattle.ph_shape.specs.declared.plain.PlainOf.TheDeep.{deep-EntryOf, deep-HeldOf}
 
-pub falls_front : {P : Type 0} (D : Ghosts P) (h : HeldOf P) (a : ℕ) (body : List ℕ) (rest : Entries) (n : ℕ) → n ≤ nodes_in rest + 1 → max (deep-HeldOf P D h) n ≤ nodes_in (in_front a body (what_of h) rest) + 1
+pub falls_front : {P : Type 0} (D : Ghosts P) (h : HeldOf P) (a : ℕ) (body : List ℕ) (rest : Entries) (n : ℕ) → n ≤ nodes_in rest + 1
+    → max (deep-HeldOf P D h) n ≤ nodes_in (in_front a body (what_of h) rest) + 1
 falls_front D (Value v) a body rest n h = omega arith
 falls_front D (Child below) a body rest n h = omega arith
 

@@ -12,6 +12,7 @@ pub record IsCut (width : ℕ) (rows : List Row) (p : List ℤ) (i : ℕ) : Type
 -- `Ok(i)`: row i stands at the point. `Err(i)`: no row does, and a new one goes in at i
 abbrev pub IsPlace : ℕ → List Row → List ℤ → Result ℕ ℕ → Type 0
 IsPlace width rows p (Ok i) =
-    (i < length rows) × (find rows p ≡ option_map (λ r. r.value) (slice_get rows i)) × ((v : ℕ) → put width rows p v ≡ slice_set rows i (row p v)) × (del rows p ≡ remove rows i)
+    (i < length rows) × (find rows p ≡ option_map (λ r. r.value) (slice_get rows i))
+    × ((v : ℕ) → put width rows p v ≡ slice_set rows i (row p v)) × (del rows p ≡ remove rows i)
 IsPlace width rows p (Err i) =
     (i ≤ length rows) × (find rows p ≡ None) × ((v : ℕ) → put width rows p v ≡ insert rows i (row p v)) × (del rows p ≡ rows)
