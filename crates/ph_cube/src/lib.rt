@@ -1,23 +1,17 @@
 //! Cube records of nodes: the kinds and the bodies of all addresses, packed one behind the other, and then the values.
 //!
 //! The kind of an absent address is 0, of a point 1 and of a child 2. So each entry has exactly one digit 1 among the kinds,
-//! and its place is the number of ones in front of its kind. The calls at the root take the number of dimensions as a const
-//! parameter, and those in `by_dims` as an argument.
+//! and its place is the number of ones in front of its kind.
 #![tactic(auto)]
 
 mod edits;
-mod fixed;
 mod known;
 mod parts;
 mod reads;
 mod searches;
 mod writes;
 
-pub use fixed::{
-    address, bits_of, entry, find, find_entry, is_child, next_at_or_after, rank, write,
-};
-
-/// The calls by a number of dimensions that is handed in. All are inlined, so that it is a constant again where the caller
+/// The calls of records. The number of dimensions is an argument; all are inlined, so that it is a constant where the caller
 /// knows it.
 pub mod by_dims {
     pub use crate::edits::{insert_point, put_child, put_point, remove_point, write_edited};

@@ -1,12 +1,9 @@
 //! Linear records of nodes: the kinds, the addresses and the bodies of the entries in rising address order, packed one
 //! behind the other, and then the values.
-//!
-//! The calls at the root take the number of dimensions as a const parameter, and those in `by_dims` as an argument.
 #![tactic(auto)]
 
 mod copies;
 mod edits;
-mod fixed;
 mod heads;
 mod inserts;
 mod outlines;
@@ -19,14 +16,11 @@ mod writes;
 
 pub use copies::Column;
 pub use edits::put_edited_values;
-pub use fixed::{
-    address, bits_of, entry, find, find_entry, is_child, next_at_or_after, rank, write,
-};
 pub use heads::{children_in, count_in, first_of, level_in};
 pub use outlines::{Outline, drop_value, put_value};
 pub use writes::put_values;
 
-/// The calls by a number of dimensions that is handed in. All are inlined, so that it is a constant again where the caller
+/// The calls of records. The number of dimensions is an argument; all are inlined, so that it is a constant where the caller
 /// knows it.
 pub mod by_dims {
     pub use crate::edits::{put_child, put_point, write_edited};

@@ -6,6 +6,7 @@ ghost use Rattle.ph_specs.specs.Layout.{IsRecord};
 
 use crate::items::{Item, Items, is_writable};
 use ph_bits::Words;
+use ph_coord::Dim;
 use std::alloc::Global;
 
 // More words than a record of two dimensions has.
@@ -24,7 +25,7 @@ pub fn linear_of<const D: usize>(alloc: Global, level: u32, items: &[Item]) -> O
         return None;
     };
     let from = Items { items };
-    ph_linear::write::<D, Items<'_>>(&mut words, level, &from);
+    ph_linear::by_dims::write::<Dim<D>, Items<'_>>(&mut words, level, &from);
     Some(words)
 }
 
@@ -41,6 +42,6 @@ pub fn cube_of<const D: usize>(alloc: Global, level: u32, items: &[Item]) -> Opt
         return None;
     };
     let from = Items { items };
-    ph_cube::write::<D, Items<'_>>(&mut words, level, &from);
+    ph_cube::by_dims::write::<Dim<D>, Items<'_>>(&mut words, level, &from);
     Some(words)
 }

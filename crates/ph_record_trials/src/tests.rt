@@ -4,6 +4,8 @@ ghost use Rattle.std.specs.Prelude.{◌≤◌};
 
 use crate::{Item, cube_of, is_cube_back, is_linear_back, linear_of};
 use ph_bits::Words;
+use ph_cube::by_dims as cube_calls;
+use ph_linear::by_dims as linear_calls;
 use std::alloc::Global;
 
 fn point(addr: u32, fields: (u64, u64), value: u64) -> Item {
@@ -134,33 +136,33 @@ fn all_small_records(rt: HostRuntime) {
     }
 }
 
-// Each read of a layout at a const parameter, of a record of three entries.
+// Each read of a layout, of a record of three entries.
 macro_rules! read_three {
     ($layout:ident, $rt:expr, $words:expr) => {{
-        assert_eq!($rt; $layout::find::<2>($words, 3), Some(2));
-        assert_eq!($rt; $layout::find::<2>($words, 2), None);
-        assert_eq!($rt; $layout::next_at_or_after::<2>($words, 2), Some(2));
-        let entry = $layout::entry::<2>($words, 2);
+        assert_eq!($rt; $layout::find($words, 2, 3), Some(2));
+        assert_eq!($rt; $layout::find($words, 2, 2), None);
+        assert_eq!($rt; $layout::next_at_or_after($words, 2, 2), Some(2));
+        let entry = $layout::entry($words, 2, 2);
         assert_eq!($rt; (entry.addr, entry.child, entry.rank), (3, false, 1));
         assert_eq!($rt; (entry.body[0], entry.body[1], entry.body[2]), (2, 1, 0));
-        assert!($rt; $layout::find_entry::<2>($words, 1).is_some());
-        assert_eq!($rt; $layout::address::<2>($words, 1), 1);
-        assert!($rt; $layout::is_child::<2>($words, 1));
-        assert_eq!($rt; $layout::rank::<2>($words, 2), 1);
+        assert!($rt; $layout::find_entry($words, 2, 1).is_some());
+        assert_eq!($rt; $layout::address($words, 2, 1), 1);
+        assert!($rt; $layout::is_child($words, 2, 1));
+        assert_eq!($rt; $layout::rank($words, 2, 2), 1);
     }};
 }
 
 #[test]
-fn reads_at_a_const_parameter(rt: HostRuntime) {
+fn reads_of_each_layout(rt: HostRuntime) {
     let three = [point(0, (1, 2), 5), child(1, (3, 0)), point(3, (2, 1), 7)];
     let Some(linear) = linear_of::<2>(rt.alloc(), 2, &three) else {
         panic!(rt; "no linear record");
     };
-    read_three!(ph_linear, rt, linear.as_slice());
-    assert_eq!(rt; ph_linear::bits_of::<2>(3, 2), 21);
+    read_three!(linear_calls, rt, linear.as_slice());
+    assert_eq!(rt; linear_calls::bits_of(2, 3, 2), 21);
     let Some(cube) = cube_of::<2>(rt.alloc(), 2, &three) else {
         panic!(rt; "no cube record");
     };
-    read_three!(ph_cube, rt, cube.as_slice());
-    assert_eq!(rt; ph_cube::bits_of::<2>(3, 2), 24);
+    read_three!(cube_calls, rt, cube.as_slice());
+    assert_eq!(rt; cube_calls::bits_of(2, 3, 2), 24);
 }
