@@ -78,14 +78,6 @@ number_full n k room w v a l o m q =
     sum : (n k v A R L h r : ℕ) → h * L + r ≡ v → (n * (A * R) + (k * R + h)) * L + r ≡ (n * A + k) * (R * L) + v
     sum n k v A R L h r e = omega (arith, e)
 
--- a whole word more: a shift by `room`, which may be 64, in two
-pub shifted_twice : (k room : ℕ) → k < 2 ^ (64 - room) → 1 ≤ room → room ≤ 64 → k * 2 ^ (room - 1) % 2 ^ 64 * 2 ^ 1 % 2 ^ 64 ≡ k * 2 ^ room % 2 ^ 64
-shifted_twice k room a o l =
-    let e : room - 1 + 1 ≡ room = omega (arith, o) in
-    let p : 2 ^ room ≡ 2 ^ (room - 1) * 2 ^ 1 = ap (λ t. 2 ^ t) (sym e) ∙ pow-add 2 (room - 1) 1 in
-    let q : k * 2 ^ (room - 1) * 2 ^ 1 ≡ k * 2 ^ room = omega (arith, ap (λ t. k * t) p) in
-    ap (λ t. t * 2 ^ 1 % 2 ^ 64) (shifted k room (room - 1) a l (omega arith)) ∙ ap (λ t. t % 2 ^ 64) q
-
 -- digits that are copied, in two parts
 pub number_copied : (ws : List ℕ) (at m w n r : ℕ) → at + m + w ≤ 64 * length ws → r ≡ n * 2 ^ m + digits_at ws at m → r * 2 ^ w + digits_at ws (at + m) w ≡ n * 2 ^ (m + w) + digits_at ws at (m + w)
 number_copied ws at m w n r l e =

@@ -1,70 +1,18 @@
-//! Cube records that differ from an old one in what stands at one address: written anew, or changed where the old one lies.
+//! Changing what stands at one address of a cube record where the record lies.
 
-ghost use Rattle.std.specs.Prelude.{◌≡◌, ◌+◌, ◌-◌, ◌*◌, ◌^◌, ◌<◌, ◌≤◌, ◌++◌, true, false, Some, length, map, take, replicate, slice_get, if◌then◌else◌};
-ghost use Rattle.ph_specs.specs.Digits.{number_after, words_for};
-ghost use Rattle.ph_specs.specs.Layout.{IsRecord, AreRising, entries_as, values_as, is_child};
+ghost use Rattle.std.specs.Prelude.{◌≡◌, ◌+◌, ◌-◌, ◌*◌, ◌^◌, ◌<◌, ◌≤◌, true, false, Some, length, map, take, replicate, slice_get, if◌then◌else◌};
+ghost use Rattle.ph_specs.specs.Digits.{words_for};
+ghost use Rattle.ph_specs.specs.Layout.{IsRecord, AreRising, entries_as, is_child};
 ghost use Rattle.ph_specs.specs.NodeSize.{points_in};
-ghost use Rattle.ph_specs.specs.Pack.{values, cube_digits, cube_table, record_in};
+ghost use Rattle.ph_specs.specs.Pack.{cube_digits, record_in};
 ghost use Rattle.ph_specs.specs.Record.{first_in};
-ghost use Rattle.ph_bits.specs.Block.{room_of, IsSamePlaces};
 ghost use Rattle.ph_bits.specs.Edits.{edited_as};
-ghost use Rattle.ph_bits.specs.Written.{IsPen, digits_by, number_by};
 ghost use Rattle.ph_linear.specs.Edited.{IsColumn, IsOutline, with_table};
 ghost use Rattle.ph_cube.specs.Edited.{IsEditAt, entries_below};
 
 use crate::parts::children_before;
-use ph_bits::{Edit, Packed, Pen, Words};
-use ph_linear::{
-    Column, Outline, children_in, count_in, drop_value, first_of, level_in, put_edited_values,
-    put_value,
-};
-
-/// Writes the record of the entries of an old record with one edit into the room of a block, whatever the block held before.
-/// The edit is of what stands at an address.
-///
-/// The kinds and the bodies of the other addresses, and the values in front of the edit and behind it, are copied. It takes no memory.
-pub fn write_edited(words: &mut Words, dims: usize, old: &[u64], edit: &Edit, addr: u32)
-    requires record { IsRecord true dims old.now }
-    requires edit { IsEditAt dims old.now edit.now addr }
-    requires entries { AreRising dims (first_in old.now).level 0 (edited_as true dims old.now edit.now) }
-    requires room { 1 + words_for (cube_digits dims (first_in old.now).level) + length (values (edited_as true dims old.now edit.now)) ≤ room_of words.old }
-    ensures words { words.new.words ≡ record_in true dims (first_in old.now).level (edited_as true dims old.now edit.now) }
-    ensures places { IsSamePlaces words.old words.new }
-{
-    words.reset(0);
-    words.push(0);
-    let mut pen = Pen::new();
-    edit_columns(&mut pen, words, dims, old, edit, addr);
-    pen.finish(words);
-    let begun = words.len();
-    edit_values(words, dims, old, edit, addr);
-    let points = words.len() - begun;
-    let count = count_in(old) as usize - edit.less + edit.more;
-    let first = first_of(level_in(old), 1, count, (count - points) as u64);
-    words.set(0, first);
-}
-
-// The columns.
-fn edit_columns(pen: &mut Pen, words: &mut Words, dims: usize, old: &[u64], edit: &Edit, addr: u32)
-    requires pen { IsPen pen.old }
-    requires record { IsRecord true dims old.now }
-    requires edit { IsEditAt dims old.now edit.now addr }
-    requires entries { AreRising dims (first_in old.now).level 0 (edited_as true dims old.now edit.now) }
-    requires inside { digits_by words.old.words pen.old + cube_digits dims (first_in old.now).level ≤ 64 * room_of words.old }
-    ensures pen { IsPen pen.new }
-    ensures digits { digits_by words.new.words pen.new ≡ digits_by words.old.words pen.old + cube_digits dims (first_in old.now).level }
-    ensures number { number_by words.new.words pen.new
-        ≡ number_after (number_by words.old.words pen.old)
-        (cube_table dims (first_in old.now).level (edited_as true dims old.now edit.now)) }
-    ensures places { IsSamePlaces words.old words.new }
-{
-    let kinds = kinds_of(old, dims);
-    let bodies = bodies_of(old, dims);
-    let level = level_in(old);
-    let there = at_address(edit, addr);
-    kinds.edit_fields(pen, words, old, &there, new_kind(edit));
-    bodies.edit_rows(pen, words, old, &there, level, dims);
-}
+use ph_bits::{Edit, Packed};
+use ph_linear::{Column, Outline, children_in, count_in, drop_value, level_in, put_value};
 
 // The column of the kinds of a record.
 #[inline(always)]
@@ -148,27 +96,6 @@ fn new_kind(edit: &Edit) -> u64
     if edit.entry.child { 2 } else { 1 }
 }
 
-// The values.
-fn edit_values(words: &mut Words, dims: usize, old: &[u64], edit: &Edit, addr: u32)
-    requires record { IsRecord true dims old.now }
-    requires edit { IsEditAt dims old.now edit.now addr }
-    requires room { length words.old.words + length (values (edited_as true dims old.now edit.now)) ≤ room_of words.old }
-    ensures words { words.new.words ≡ words.old.words ++ values (edited_as true dims old.now edit.now) }
-    ensures places { IsSamePlaces words.old words.new }
-{
-    let front = points_before(old, dims, edit.place, addr as u64);
-    let behind = points_before(old, dims, edit.place + edit.less, addr as u64 + 1);
-    put_edited_values(words, values_of(old, dims), front, behind, edit);
-}
-
-// The values of a record.
-fn values_of(old: &[u64], dims: usize) -> &[u64]
-    requires { IsRecord true dims old.now }
-    ensures { result.now ≡ values_as true dims old.now }
-{
-    &old[values_place(old, dims)..]
-}
-
 // How many of the first `i` entries, which are those in front of an address, are points.
 fn points_before(old: &[u64], dims: usize, i: usize, addr: u64) -> usize
     requires record { IsRecord true dims old.now }
@@ -182,6 +109,7 @@ fn points_before(old: &[u64], dims: usize, i: usize, addr: u64) -> usize
 /// Makes the entry at an address of a record a child, or gives a child another body, where the entry lies. The value of a point is
 /// taken out, and what else the record has stays. Gives how many words the record has then: the one that is left over behind them
 /// has no meaning. It takes no memory.
+#[inline(always)]
 pub fn put_child(words: &mut [u64], dims: usize, edit: &Edit, addr: u32) -> usize
     requires record { IsRecord true dims words.old }
     requires edit { IsEditAt dims words.old edit.now addr }
@@ -199,6 +127,7 @@ pub fn put_child(words: &mut [u64], dims: usize, edit: &Edit, addr: u32) -> usiz
 
 /// Makes the child at an address of a record a point, where the entry lies. There is one word more behind the record, whatever it
 /// holds. The value is put in, and what else the record has stays. It takes no memory.
+#[inline(always)]
 pub fn put_point(words: &mut [u64], dims: usize, edit: &Edit, addr: u32)
     requires some { 1 ≤ length words.old }
     requires record { IsRecord true dims (take (length words.old - 1) words.old) }

@@ -14,7 +14,7 @@ mod writes;
 /// The calls of records. The number of dimensions is an argument; all are inlined, so that it is a constant where the caller
 /// knows it.
 pub mod by_dims {
-    pub use crate::edits::{insert_point, put_child, put_point, remove_point, write_edited};
+    pub use crate::edits::{insert_point, put_child, put_point, remove_point};
     pub use crate::known::{body_at, is_child_at, rank_at};
     pub use crate::reads::{address, bits_of, entry, find_entry, is_child, rank};
     pub use crate::searches::{find, next_at_or_after, search};

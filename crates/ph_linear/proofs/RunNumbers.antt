@@ -15,10 +15,6 @@ starts c i j l =
     let m : c.width * i ≤ c.width * j = mul-le-mul_left c.width l in
     omega (arith, m)
 
--- the next entry begins a field further on
-pub start-next : (c : Column) (i : ℕ) → start c (i + 1) ≡ start c i + c.width
-start-next c i = omega arith
-
 pub start-first : (c : Column) → start c 0 ≡ c.at
 start-first c = omega arith
 

@@ -15,6 +15,7 @@ use ph_bits::Edit;
 
 /// Puts a new point entry into a record where the record lies: the record is the first `len` words. Behind them there are as many
 /// words more as it grows by, whatever they hold. It takes no memory.
+#[inline(always)]
 pub fn insert_point(words: &mut [u64], dims: usize, len: usize, edit: &Edit)
     requires front { len ≤ length words.old }
     requires record { IsRecord false dims (take len words.old) }

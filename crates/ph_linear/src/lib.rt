@@ -15,7 +15,6 @@ mod tables;
 mod writes;
 
 pub use copies::Column;
-pub use edits::put_edited_values;
 pub use heads::{children_in, count_in, first_of, level_in};
 pub use outlines::{Outline, drop_value, put_value};
 pub use writes::put_values;
@@ -23,7 +22,7 @@ pub use writes::put_values;
 /// The calls of records. The number of dimensions is an argument; all are inlined, so that it is a constant where the caller
 /// knows it.
 pub mod by_dims {
-    pub use crate::edits::{put_child, put_point, write_edited};
+    pub use crate::edits::{put_child, put_point};
     pub use crate::inserts::insert_point;
     pub use crate::parts::rank_of;
     pub use crate::reads::{address, bits_of, body_at, entry, find_entry, is_child, rank};

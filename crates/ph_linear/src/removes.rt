@@ -15,6 +15,7 @@ use ph_bits::Edit;
 
 /// Leaves a point entry out of a record where the record lies. Gives how many words the record has then: those that are left over
 /// behind them have no meaning. It takes no memory.
+#[inline(always)]
 pub fn remove_point(words: &mut [u64], dims: usize, edit: &Edit) -> usize
     requires record { IsRecord false dims words.old }
     requires within { edit.now.place < (first_in words.old).entries }
