@@ -99,7 +99,8 @@ pub record CheckDone (most : ℕ) (file : List ℕ) (b now_b : Beside) (status :
   pub most_visits : AreTold b.files → now_b.visits ≤ b.visits + nodes_saved (bytes_checked most (told_files b.files) file)
   pub most_changes : AreTold b.files → now_b.changes ≤ b.changes + length (bytes_checked most (told_files b.files) file) / 16
   pub clean_changes : AreTold b.files → status ≡ Clean → now_b.changes ≤ b.changes + nodes_saved (bytes_checked most (told_files b.files) file)
-  pub snapshot_clean : AreTold b.files → fault ≡ false → (bytes : List ℕ) → fetch most (told_files b.files) file ≡ Some bytes → own_fault bytes ≡ None → status ≡ Refused → ⊥
+  pub snapshot_clean : AreTold b.files → fault ≡ false → (bytes : List ℕ)
+      → fetch most (told_files b.files) file ≡ Some bytes → own_fault bytes ≡ None → status ≡ Refused → ⊥
   pub few_visits : now_b.visits ≤ b.visits + most / 16
   pub few_changes : now_b.changes ≤ b.changes + most / 16
 

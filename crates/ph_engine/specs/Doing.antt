@@ -131,7 +131,8 @@ rows_loaded s files _ = None
 
 -- A command that loads rows counts no more changes than their tree has nodes.
 abbrev pub MakesNodes : Slot → Files → Command → ℕ → ℕ → Type 0
-MakesNodes s files command changes now_changes = (rows : List Row) → rows_loaded s files command ≡ Some rows → now_changes ≤ changes + length (all_nodes s.width s.dims rows)
+MakesNodes s files command changes now_changes =
+    (rows : List Row) → rows_loaded s files command ≡ Some rows → now_changes ≤ changes + length (all_nodes s.width s.dims rows)
 
 -- whether a command takes memory on a slot: a put of a row that is new and has room, a removal of a row that is there, a move to another point,
 -- and what keeps nodes, rows or bytes in memory while it goes
@@ -279,8 +280,11 @@ DoneOr most e command b now_b now (Err NoMemory) = Undone most e command b now_b
 
 -- the same of a slot, of a command that asks for no file and counts no changes
 pub record DoneWith (s : Slot) (command : Command) (sink now_sink : Taken) (visits now_visits : ℕ) (now : Slot) (result : Result Answer Stop) : Type 0 where
-  pub done : (most : ℕ) (files : Option Files) (filings changes : ℕ) → DoneOr most (engine_of s) command (beside_sink sink files filings visits changes) (beside_sink now_sink files filings now_visits changes) (engine_of now) result
+  pub done : (most : ℕ) (files : Option Files) (filings changes : ℕ)
+      → DoneOr most (engine_of s) command (beside_sink sink files filings visits changes)
+      (beside_sink now_sink files filings now_visits changes) (engine_of now) result
 
 -- the same of an engine that stays as it was
 pub record DoneBeside (e : Engine) (command : Command) (sink now_sink : Taken) (visits now_visits : ℕ) (result : Result Answer Stop) : Type 0 where
-  pub done : (most : ℕ) (files : Option Files) (filings changes : ℕ) → DoneOr most e command (beside_sink sink files filings visits changes) (beside_sink now_sink files filings now_visits changes) e result
+  pub done : (most : ℕ) (files : Option Files) (filings changes : ℕ)
+      → DoneOr most e command (beside_sink sink files filings visits changes) (beside_sink now_sink files filings now_visits changes) e result

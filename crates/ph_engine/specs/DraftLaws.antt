@@ -15,7 +15,15 @@ stays_on (Some x) None c h k = absurd (let no : None ≡ Some x = h in cc)
 stays_on (Some x) (Some y) c h k = k ∙ h
 
 pub follows_itself : (a : Drafted) → Follows a a
-follows_itself a = record { loan = refl; files = stays_itself a.files; name = stays_itself a.name; later = omega arith; none = λ h. (h, refl); fell = λ h k. absurd (let no : true ≡ false = cc in cc) }
+follows_itself a =
+    record {
+      loan = refl;
+      files = stays_itself a.files;
+      name = stays_itself a.name;
+      later = omega arith;
+      none = λ h. (h, refl);
+      fell = λ h k. absurd (let no : true ≡ false = cc in cc);
+    }
 
 fell-on : (a b c : Drafted) (m : Bool) → Follows a b → Follows b c → b.works ≡ m → a.works ≡ true → c.works ≡ false → Rose a.faults c.faults
 fell-on a b c true h k e w f = let r = k.fell e f in omega (arith, h.later, r)

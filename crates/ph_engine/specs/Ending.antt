@@ -29,7 +29,8 @@ pub record TakesAtMost (most : ℕ) (left now_left : Option (List ℕ)) : Type 0
 pub record RunEnds (limits : Limits) (before now : Seen) (status : Status) : Type 0 where
   pub outcome : ServesScript limits.file_bytes limits.script_bytes before.left before.at now.left now.at status
   pub taken : TakesAtMost (limits.script_bytes + 1) before.left now.left
-  pub defined : IsKnown before.at → IsRead status → RunsAsDefined limits.file_bytes before.left now.left before.at.beside now.at.beside (whole_of before.at) (whole_of now.at)
+  pub defined : IsKnown before.at → IsRead status
+      → RunsAsDefined limits.file_bytes before.left now.left before.at.beside now.at.beside (whole_of before.at) (whole_of now.at)
   pub read_cause : status ≡ ReadFault → Rose before.reads now.reads
   pub write_cause : status ≡ WriteFault → Rose before.writes now.writes
   pub is_run : status ≡ Usage → ⊥

@@ -54,7 +54,8 @@ FiledOr most e command b now_b now (Err error) = Unfiled most e command b now_b 
 
 -- A command that asks for no file has this reply, or memory is missing for it.
 pub record QuietOr {E : Type 0} (e : Engine) (command : Command) (visits now_visits changes now_changes : ℕ) (now : Engine) (result : Result Told E) : Type 0 where
-  pub filed : (most : ℕ) (files : Option Files) (filings : ℕ) → FiledOr most e command (aside files filings visits changes) (aside files filings now_visits now_changes) now result
+  pub filed : (most : ℕ) (files : Option Files) (filings : ℕ)
+      → FiledOr most e command (aside files filings visits changes) (aside files filings now_visits now_changes) now result
 
 -- A command on a slot has this reply, whatever was counted of changes, of which it makes none, and however many bytes a file may have.
 pub record Replies (s : Slot) (command : Command) (b now_b : Beside) (now : Slot) (reply : Reply) : Type 0 where
@@ -74,7 +75,8 @@ EnteredOr before now name bytes (Err _) = Unfilled before now
 
 -- a save of a table, whatever cursors stand beside it and whatever was counted of changes
 pub record TableSaved (kind : Kind) (t : AnyTable) (name : List ℕ) (b now_b : Beside) (reply : Reply) : Type 0 where
-  pub filed : (most changes : ℕ) (cursors : Named Cursor) → let e = engine_of (slot_of kind t cursors) in Filed most e (Command.Save name) (with_changes changes b) (with_changes changes now_b) e reply
+  pub filed : (most changes : ℕ) (cursors : Named Cursor) → let e = engine_of (slot_of kind t cursors) in
+      Filed most e (Command.Save name) (with_changes changes b) (with_changes changes now_b) e reply
 
 -- ---- a file that is read
 
@@ -111,7 +113,9 @@ pub record SameFrame (kind : Kind) (t now : AnyTable) : Type 0 where
 
 -- a load of a table, whatever cursors stand beside it and whatever was counted of visits
 pub record TableLoaded {E : Type 0} (most : ℕ) (kind : Kind) (t : AnyTable) (name : List ℕ) (b now_b : Beside) (now : AnyTable) (result : Result Told E) : Type 0 where
-  pub filed : (visits : ℕ) (cursors : Named Cursor) → FiledOr most (engine_of (slot_of kind t cursors)) (Command.Load name) (with_visits visits b) (with_visits visits now_b) (engine_of (slot_of kind now cursors)) result
+  pub filed : (visits : ℕ) (cursors : Named Cursor)
+      → FiledOr most (engine_of (slot_of kind t cursors)) (Command.Load name) (with_visits visits b)
+      (with_visits visits now_b) (engine_of (slot_of kind now cursors)) result
 
 -- a reply tells the first fault of bytes, or memory was missing for them
 abbrev pub TellsFault : {E : Type 0} → LoadFault → Result Told E → Type 0

@@ -139,12 +139,15 @@ pub record PageListed (t : AnyTable) (c : Cursor) (n : ℕ) (sink now_sink : Tak
 
 abbrev pub ListsPage : AnyTable → Cursor → ℕ → Taken → Taken → ℕ → ℕ → Result Cursor Stop → Type 0
 ListsPage t c n sink now_sink visits now_visits (Ok behind) = PageListed t c n sink now_sink visits now_visits behind
-ListsPage t c n sink now_sink visits now_visits (Err stop) = FrontListed (page_replies t c n) (most_to_resume t.tree.width c.last + met t c.lo c.hi) sink now_sink visits now_visits stop
+ListsPage t c n sink now_sink visits now_visits (Err stop) =
+    FrontListed (page_replies t c n) (most_to_resume t.tree.width c.last + met t c.lo c.hi) sink now_sink visits now_visits stop
 
 -- the same by cursors of any number of dimensions
 abbrev pub ListsAnyPage : AnyTable → AnyCursor → ℕ → Taken → Taken → ℕ → ℕ → Result AnyCursor Stop → Type 0
-ListsAnyPage t c n sink now_sink visits now_visits (Ok behind) = (cursor_dims behind ≡ t.dims) × PageListed t (cursor_of c) n sink now_sink visits now_visits (cursor_of behind)
-ListsAnyPage t c n sink now_sink visits now_visits (Err stop) = FrontListed (page_replies t (cursor_of c) n) (most_to_resume t.tree.width (cursor_of c).last + met t (cursor_of c).lo (cursor_of c).hi) sink now_sink visits now_visits stop
+ListsAnyPage t c n sink now_sink visits now_visits (Ok behind) =
+    (cursor_dims behind ≡ t.dims) × PageListed t (cursor_of c) n sink now_sink visits now_visits (cursor_of behind)
+ListsAnyPage t c n sink now_sink visits now_visits (Err stop) =
+    ListsPage t (cursor_of c) n sink now_sink visits now_visits (Err stop)
 
 abbrev pub is_more : Tail → Bool
 is_more More = true

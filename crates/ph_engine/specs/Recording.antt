@@ -66,8 +66,11 @@ ImportsOr t read now (Ok reply) = (now ≡ imported_table t read) × (reply_of r
 ImportsOr t read now (Err error) = (part : ℕ) × (now ≡ table_with_first t part read)
 
 -- an import into a table, whatever cursors stand beside it
-pub record TableImported {E : Type 0} (most : ℕ) (kind : Kind) (t : AnyTable) (name : List ℕ) (header : Bool) (b now_b : Beside) (now : AnyTable) (result : Result Told E) : Type 0 where
-  pub filed : (cursors : Named Cursor) → FiledOr most (engine_of (slot_of kind t cursors)) (Command.Import name header) b now_b (engine_of (slot_of kind now cursors)) result
+pub record TableImported {E : Type 0} (most : ℕ) (kind : Kind) (t : AnyTable) (name : List ℕ) (header : Bool)
+    (b now_b : Beside) (now : AnyTable) (result : Result Told E) : Type 0 where
+  pub filed : (cursors : Named Cursor)
+      → FiledOr most (engine_of (slot_of kind t cursors)) (Command.Import name header) b now_b
+      (engine_of (slot_of kind now cursors)) result
 
 -- a reply tells the fault of a text, or memory was missing for its rows
 abbrev pub TellsRecord : {E : Type 0} → CsvFault → Result Told E → Type 0
@@ -88,4 +91,5 @@ ExportedOr before now name bytes (Err _) = Unfilled before now
 
 -- an export of a table, of whatever kind, whatever cursors stand beside it and whatever was counted of changes
 pub record TableExported (t : AnyTable) (name : List ℕ) (b now_b : Beside) (reply : Reply) : Type 0 where
-  pub filed : (most changes : ℕ) (kind : Kind) (cursors : Named Cursor) → let e = engine_of (slot_of kind t cursors) in Filed most e (Command.Export name) (with_changes changes b) (with_changes changes now_b) e reply
+  pub filed : (most changes : ℕ) (kind : Kind) (cursors : Named Cursor) → let e = engine_of (slot_of kind t cursors) in
+      Filed most e (Command.Export name) (with_changes changes b) (with_changes changes now_b) e reply

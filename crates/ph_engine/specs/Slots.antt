@@ -106,7 +106,8 @@ entered h held = entered_at (place h.name (named held)) h held
 
 -- a slot of a kind with such cursors
 abbrev pub slot_of : Kind → AnyTable → Named Cursor → Slot
-slot_of kind t cursors = record { kind = kind; dims = t.dims; width = t.tree.width; max = t.tree.max; table = t.tree.table; cursors = cursors; depth = t.tree.depth; past = t.tree.past }
+slot_of kind t cursors =
+    record { kind = kind; dims = t.dims; width = t.tree.width; max = t.tree.max; table = t.tree.table; cursors = cursors; depth = t.tree.depth; past = t.tree.past }
 
 -- a cursor that serves in a table: its corners and its last point are points of it
 pub record IsCursorIn (t : AnyTable) (c : AnyCursor) : Type 0 where

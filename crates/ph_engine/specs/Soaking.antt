@@ -78,7 +78,8 @@ pub record SoakDone (most n start : ℕ) (e now_e : Engine) (b now_b : Beside) (
   pub none : status ≡ Memory → Given b.sink now_b.sink []
   pub engine : (files : Files) → (status ≡ Clean) ⊎ (status ≡ WriteFault) → now_e ≡ (soaked most e files n start).engine
   pub part : status ≡ Memory → (k : ℕ) × ((files : Files) → now_e ≡ (act_all most (opened e files) files (take k (generate n start))).engine)
-  pub most_visits : (files : Files) → now_b.visits ≤ b.visits + visits_most most (opened e files) files (generate n start) + nodes_of (soaked most e files n start).engine.a
+  pub most_visits : (files : Files)
+      → now_b.visits ≤ b.visits + visits_most most (opened e files) files (generate n start) + nodes_of (soaked most e files n start).engine.a
   pub most_changes : (files : Files) → now_b.changes ≤ b.changes + changes_most most (opened e files) files (generate n start)
   pub least_visits : (files : Files) → status ≡ Clean → b.visits + visits_least most (opened e files) files (generate n start) ≤ now_b.visits
   pub least_changes : (files : Files) → status ≡ Clean → b.changes + changes_least most (opened e files) files (generate n start) ≤ now_b.changes

@@ -16,7 +16,11 @@ most_of version = if version == 1 then 8 else 16
 -- the tests behind the first four bytes that ask for no kind, no number of dimensions and no width
 abbrev pub own_tests : ℕ → List ℕ → List (Bool × Fault)
 own_tests version bytes =
-    (has_byte bytes 4 is_flag, bad_header 4) ∷ (has_byte bytes 5 (dims_fit (most_of version) (slice_index bytes 4)), bad_header 5) ∷ (has_byte bytes 6 (if version == 1 then is_flag else is_width), bad_header 6) ∷ (has_byte bytes 7 (if version == 1 then (λ b. b == 0) else is_flag), bad_header 7) ∷ []
+    (has_byte bytes 4 is_flag, bad_header 4)
+    ∷ (has_byte bytes 5 (dims_fit (most_of version) (slice_index bytes 4)), bad_header 5)
+    ∷ (has_byte bytes 6 (if version == 1 then is_flag else is_width), bad_header 6)
+    ∷ (has_byte bytes 7 (if version == 1 then (λ b. b == 0) else is_flag), bad_header 7)
+    ∷ []
 
 abbrev pub flag_byte : Bool → ℕ
 flag_byte true = 1

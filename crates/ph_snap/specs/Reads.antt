@@ -7,7 +7,9 @@ use Rattle.ph_specs.specs.NodeSize.{node_size}
 -- bytes are read as these nodes and what the rest is read as
 abbrev pub ReadAs : ℕ → List ℕ → List PlainNode → List ℕ → Type 0
 ReadAs dims bytes ns rest =
-    (n : ℕ) (more : List PlainNode × List ℕ) → ((most : ℕ) → length rest ≤ most → read_nodes most dims n rest ≡ more) → (most : ℕ) → length bytes ≤ most → read_nodes most dims (length ns + n) bytes ≡ (ns ++ more.0, more.1)
+    (n : ℕ) (more : List PlainNode × List ℕ)
+    → ((most : ℕ) → length rest ≤ most → read_nodes most dims n rest ≡ more)
+    → (most : ℕ) → length bytes ≤ most → read_nodes most dims (length ns + n) bytes ≡ (ns ++ more.0, more.1)
 
 -- the point entries of a node and of all below it
 abbrev pub points_below : Entries → ℕ

@@ -10,7 +10,9 @@ abbrev pub opened_below : ℕ → ℕ → Entries → List ℤ → ℕ
 opened_below width level end p = 0
 opened_below width level (point a body v rest) p = opened_below width level rest p
 opened_below width level (child a body below chain rest) p =
-    (if a == address width p level then 1 + (if same_digits body (digits_between width level below p) then opened_below width below chain p else 0) else 0) + opened_below width level rest p
+    (if a == address width p level
+    then 1 + (if same_digits body (digits_between width level below p) then opened_below width below chain p else 0)
+    else 0) + opened_below width level rest p
 
 -- how many nodes of a tree
 abbrev pub opened_in : ℕ → Option PlainNode → List ℤ → ℕ

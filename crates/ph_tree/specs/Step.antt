@@ -38,7 +38,8 @@ IsStep width p n (Absent i) opened =
 IsStep width p n (Same s v) opened =
     (x : Entry) × IsAt width p n s x × (x.what ≡ value v) × (x.body ≡ digits_below width n.level p) × (opened ≡ 0)
 IsStep width p n (Below s rank m) opened =
-    (x : Entry) × IsAt width p n s x × (x.what ≡ node (shown m)) × (x.body ≡ digits_between width n.level (shown m).level p) × (opened ≡ 1) × (rank ≡ before (entries n) s.place)
+    (x : Entry) × IsAt width p n s x × (x.what ≡ node (shown m)) × (x.body ≡ digits_between width n.level (shown m).level p)
+    × (opened ≡ 1) × (rank ≡ before (entries n) s.place)
 IsStep width p n (Other s) opened =
     (x : Entry) × IsAt width p n s x × IsApart width p n.level x.body x.what × (opened ≡ opened_for x.what)
 
