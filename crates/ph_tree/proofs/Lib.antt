@@ -5,6 +5,7 @@ mod Gone
 mod NodeRooms
 mod Offsets
 mod PutRooms
+mod PutCases
 mod RoomLimits
 mod Rooms
 mod Shifted

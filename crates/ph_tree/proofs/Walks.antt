@@ -16,9 +16,6 @@ use Rattle.ph_node.specs.Split.{IsNode, IsValue}
 use Rattle.ph_node.specs.Spots.{IsSpot}
 use Rattle.ph_node.specs.declared.reads.NodeRefOf.{NodeRefOf}
 use Rattle.ph_node.specs.declared.spots.Spot.{Spot}
-use Rattle.ph_table.specs.declared.table.Put.{Put}
-use Rattle.ph_table.specs.declared.table.Put.TheVariants.{New}
-use Rattle.ph_table.specs.Rows.{put_answer}
 use Rattle.ph_tree.specs.declared.step.StepOf.{StepOf}
 use Rattle.ph_tree.specs.declared.step.StepOf.TheVariants.{Absent, Same, Below, Other}
 use Rattle.ph_tree.specs.Opened.{opened_below}
@@ -194,14 +191,6 @@ module _ {dims w o : ℕ} {p : List ℤ} {t : PlainNode} {found : StepOf PlainNo
 
 -- ---- what an answer tells
 
-pub answered : {E : Type 0} (r : Result Put E) (x y : Option ℕ) → x ≡ y → IfOk r (λ a. a ≡ put_answer x) → IfOk r (λ a. a ≡ put_answer y)
-answered (Ok a) x y e h = h ∙ ap put_answer e
-answered (Err b) x y e h = h
-
-pub answered_new : {E : Type 0} (r : Result Put E) (y : Option ℕ) → y ≡ None → IfOk r (λ a. a ≡ New) → IfOk r (λ a. a ≡ put_answer y)
-answered_new (Ok a) y e h = h ∙ sym (ap put_answer e)
-answered_new (Err b) y e h = h
-
 pub found_as : {E : Type 0} (r : Result (Option ℕ) E) (x y : Option ℕ) → x ≡ y → IfOk r (λ a. a ≡ x) → IfOk r (λ a. a ≡ y)
 found_as (Ok a) x y e h = h ∙ e
 found_as (Err b) x y e h = h
@@ -226,10 +215,6 @@ either_way (Err e) p q = q
 pub always_ok : {T E P : Type 0} (r : Result T E) → P → OnOk r P
 always_ok (Ok x) p = p
 always_ok (Err e) p = tt
-
-pub always_err : {T E P : Type 0} (r : Result T E) → P → OnErr r P
-always_err (Ok x) p = tt
-always_err (Err e) p = p
 
 -- a call that succeeds has no error
 pub no_error : {T E A : Type 0} {x : T} {e : E} → IsErrOf (Ok x) e → A

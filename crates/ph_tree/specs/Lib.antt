@@ -3,6 +3,7 @@ pub mod Key
 pub mod Step
 pub mod Opened
 pub mod Placed
+pub mod Puts
 pub mod Tree
 pub mod Moves
 pub mod Rooms

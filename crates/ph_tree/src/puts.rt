@@ -1,6 +1,6 @@
 //! Putting a value at a point, below a node and in a tree.
 
-ghost use Rattle.std.specs.Prelude.{◌≡◌, ◌+◌, ◌*◌, ◌^◌, ◌<◌, ◌≤◌, true, false, None, position, IsSome, IfOk, OnOk, OnErr, IsErrOf};
+ghost use Rattle.std.specs.Prelude.{◌≡◌, ◌+◌, ◌*◌, ◌^◌, ◌<◌, ◌≤◌, None, Some, position, IfOk};
 ghost use Rattle.ph_specs.specs.ZOrder.{address};
 ghost use Rattle.ph_specs.specs.Node.{entries, node_of, value};
 ghost use Rattle.ph_specs.specs.Lawful.{IsLawful, IsLawfulFrom};
@@ -9,9 +9,9 @@ ghost use Rattle.ph_specs.specs.EntryEdits.{has_address, what_at, with_what};
 ghost use Rattle.ph_node.specs.Places.{place_for};
 ghost use Rattle.ph_node.specs.Split.{IsValue};
 ghost use Rattle.ph_node.specs.Spots.{IsSpot};
-ghost use Rattle.ph_table.specs.Rows.{put_answer};
 ghost use Rattle.ph_tree.specs.Opened.{opened_below, opened_in};
 ghost use Rattle.ph_tree.specs.Placed.{outcome};
+ghost use Rattle.ph_tree.specs.Puts.{IsPut};
 ghost use Rattle.ph_tree.specs.Spare.{IsRoomy};
 ghost use Rattle.ph_tree.specs.Step.{IsApartAt};
 
@@ -82,23 +82,11 @@ pub(crate) fn put_in<P: Dims, V: Ledger, C: Ledger>(
     requires few { P.D ≤ 16 }
     requires lawful { IsLawful put.old.key.now.width P.D root.old }
     requires room { put.old.spare.room < 2 ^ 21 }
-    ensures answer { IfOk result (λ a. a ≡ put_answer (find_tree put.old.key.now.width P.D root.old put.old.key.now.point)) }
-    ensures put { put.old.fresh ≡ false → OnOk result (root.new ≡ put_tree put.old.key.now.width P.D root.old put.old.key.now.point put.old.value) }
-    ensures joined { find_tree put.old.key.now.width P.D root.old put.old.key.now.point ≡ None
-        → OnOk result (root.new ≡ put_tree put.old.key.now.width P.D root.old put.old.key.now.point put.old.value) }
-    ensures held { put.old.fresh ≡ true → IsSome (find_tree put.old.key.now.width P.D root.old put.old.key.now.point) → root.new ≡ root.old }
-    ensures err { OnErr result (root.new ≡ root.old) }
-    ensures full { IsErrOf result PutError.Full → put.old.room ≡ false }
-    ensures absent { OnErr result (find_tree put.old.key.now.width P.D root.old put.old.key.now.point ≡ None) }
-    ensures refused { find_tree put.old.key.now.width P.D root.old put.old.key.now.point ≡ None → put.old.room ≡ false → IsErrOf result PutError.Full }
+    ensures put { IsPut put.old.fresh put.old.room (find_tree put.old.key.now.width P.D root.old put.old.key.now.point)
+        root.old (put_tree put.old.key.now.width P.D root.old put.old.key.now.point put.old.value) root.new
+        changes.old changes.new result }
     ensures visits { visits.new ≤ visits.old + 2 * opened_in put.old.key.now.width root.old put.old.key.now.point }
     ensures later { visits.old ≤ visits.new }
-    ensures changes { changes.new ≤ changes.old + 2 }
-    ensures spared { OnErr result (changes.new ≡ changes.old) }
-    ensures kept { changes.old ≤ changes.new }
-    ensures made { IfOk result (λ a. a ≡ Put.New → changes.old + 1 ≤ changes.new) }
-    ensures replaced { put.old.fresh ≡ false → IsSome (find_tree put.old.key.now.width P.D root.old put.old.key.now.point) → changes.new ≡ changes.old + 1 }
-    ensures idle { put.old.fresh ≡ true → IsSome (find_tree put.old.key.now.width P.D root.old put.old.key.now.point) → changes.new ≡ changes.old }
     ensures roomy { IfOk result (λ a. a ≡ Put.New → IsRoomy put.new.spare.block put.old.spare.room) }
 {
     let key = put.key;
@@ -140,25 +128,11 @@ pub(crate) fn put_at<P: Dims, V: Ledger, C: Ledger>(
     requires lawful { IsLawfulFrom P.D cur.old.level 0 cur.old.chain }
     requires level { cur.old.level < put.old.key.now.width }
     requires room { put.old.spare.room < 2 ^ 21 }
-    ensures answer { IfOk (outcome result put.new.former) (λ a. a ≡ put_answer (find_node put.old.key.now.width cur.old put.old.key.now.point)) }
-    ensures put { put.old.fresh ≡ false → OnOk (outcome result put.new.former) (cur.new ≡ put_node put.old.key.now.width cur.old put.old.key.now.point put.old.value) }
-    ensures joined { find_node put.old.key.now.width cur.old put.old.key.now.point ≡ None
-        → OnOk (outcome result put.new.former)
-        (cur.new ≡ put_node put.old.key.now.width cur.old put.old.key.now.point put.old.value) }
-    ensures held { put.old.fresh ≡ true → IsSome (find_node put.old.key.now.width cur.old put.old.key.now.point) → cur.new ≡ cur.old }
-    ensures err { OnErr (outcome result put.new.former) (cur.new ≡ cur.old) }
-    ensures full { IsErrOf (outcome result put.new.former) PutError.Full → put.old.room ≡ false }
-    ensures absent { OnErr (outcome result put.new.former) (find_node put.old.key.now.width cur.old put.old.key.now.point ≡ None) }
-    ensures refused { find_node put.old.key.now.width cur.old put.old.key.now.point ≡ None → put.old.room ≡ false
-        → IsErrOf (outcome result put.new.former) PutError.Full }
+    ensures put { IsPut put.old.fresh put.old.room (find_node put.old.key.now.width cur.old put.old.key.now.point)
+        cur.old (put_node put.old.key.now.width cur.old put.old.key.now.point put.old.value) cur.new
+        changes.old changes.new (outcome result put.new.former) }
     ensures visits { visits.new ≤ visits.old + 2 * opened_below put.old.key.now.width cur.old.level cur.old.chain put.old.key.now.point + 1 }
     ensures later { visits.old ≤ visits.new }
-    ensures changes { changes.new ≤ changes.old + 2 }
-    ensures spared { OnErr (outcome result put.new.former) (changes.new ≡ changes.old) }
-    ensures kept { changes.old ≤ changes.new }
-    ensures made { IfOk (outcome result put.new.former) (λ a. a ≡ Put.New → changes.old + 1 ≤ changes.new) }
-    ensures replaced { put.old.fresh ≡ false → IsSome (find_node put.old.key.now.width cur.old put.old.key.now.point) → changes.new ≡ changes.old + 1 }
-    ensures idle { put.old.fresh ≡ true → IsSome (find_node put.old.key.now.width cur.old put.old.key.now.point) → changes.new ≡ changes.old }
     ensures roomy { IfOk (outcome result put.new.former) (λ a. a ≡ Put.New → IsRoomy put.new.spare.block put.old.spare.room) }
 {
     let node = cur.visit(visits);
@@ -186,12 +160,10 @@ fn replace_value<P: Dims, C: Ledger>(
 ) -> Placed
     requires spot { IsSpot (entries cur.old) spot }
     requires point { IsValue (what_at (entries cur.old) spot.place) }
-    ensures answer { result ≡ Placed.Present }
-    ensures former { put.new.former ≡ old }
-    ensures put { put.old.fresh ≡ false → cur.new ≡ node_of cur.old.level (with_what (entries cur.old) spot.place (value put.old.value)) }
-    ensures held { put.old.fresh ≡ true → cur.new ≡ cur.old }
-    ensures replaced { put.old.fresh ≡ false → changes.new ≡ changes.old + 1 }
-    ensures idle { put.old.fresh ≡ true → changes.new ≡ changes.old }
+    ensures put { IsPut put.old.fresh put.old.room (Some old)
+        cur.old (node_of cur.old.level (with_what (entries cur.old) spot.place (value put.old.value))) cur.new
+        changes.old changes.new (outcome result put.new.former) }
+    ensures there { result ≡ Placed.Present }
 {
     if !put.fresh {
         cur.set_value(spot, put.value, changes);
@@ -214,15 +186,9 @@ fn add_point<P: Dims, C: Ledger>(
     requires absent { position (has_address (address put.old.key.now.width put.old.key.now.point level)) (entries cur.old) ≡ None }
     requires place { i ≡ place_for (address put.old.key.now.width put.old.key.now.point level) (entries cur.old) }
     requires room { put.old.spare.room < 2 ^ 21 }
-    ensures answer { IfOk (outcome result put.new.former) (λ a. a ≡ Put.New) }
-    ensures put { OnOk (outcome result put.new.former) (cur.new ≡ put_node put.old.key.now.width cur.old put.old.key.now.point put.old.value) }
-    ensures err { OnErr (outcome result put.new.former) (cur.new ≡ cur.old) }
-    ensures full { IsErrOf (outcome result put.new.former) PutError.Full → put.old.room ≡ false }
-    ensures refused { put.old.room ≡ false → IsErrOf (outcome result put.new.former) PutError.Full }
-    ensures changes { changes.new ≤ changes.old + 1 }
-    ensures spared { OnErr (outcome result put.new.former) (changes.new ≡ changes.old) }
-    ensures kept { changes.old ≤ changes.new }
-    ensures made { IfOk (outcome result put.new.former) (λ a. a ≡ Put.New → changes.old + 1 ≤ changes.new) }
+    ensures put { IsPut put.old.fresh put.old.room None
+        cur.old (put_node put.old.key.now.width cur.old put.old.key.now.point put.old.value) cur.new
+        changes.old changes.new (outcome result put.new.former) }
     ensures roomy { IfOk (outcome result put.new.former) (λ a. a ≡ Put.New → IsRoomy put.new.spare.block put.old.spare.room) }
 {
     if !put.room {
@@ -257,15 +223,9 @@ fn split_entry<P: Dims, C: Ledger>(
     requires below { level < put.old.key.now.width }
     requires apart { IsApartAt put.old.key.now.width put.old.key.now.point cur.old spot }
     requires room { put.old.spare.room < 2 ^ 21 }
-    ensures answer { IfOk (outcome result put.new.former) (λ a. a ≡ Put.New) }
-    ensures put { OnOk (outcome result put.new.former) (cur.new ≡ put_node put.old.key.now.width cur.old put.old.key.now.point put.old.value) }
-    ensures err { OnErr (outcome result put.new.former) (cur.new ≡ cur.old) }
-    ensures full { IsErrOf (outcome result put.new.former) PutError.Full → put.old.room ≡ false }
-    ensures refused { put.old.room ≡ false → IsErrOf (outcome result put.new.former) PutError.Full }
-    ensures changes { changes.new ≤ changes.old + 2 }
-    ensures spared { OnErr (outcome result put.new.former) (changes.new ≡ changes.old) }
-    ensures kept { changes.old ≤ changes.new }
-    ensures made { IfOk (outcome result put.new.former) (λ a. a ≡ Put.New → changes.old + 1 ≤ changes.new) }
+    ensures put { IsPut put.old.fresh put.old.room None
+        cur.old (put_node put.old.key.now.width cur.old put.old.key.now.point put.old.value) cur.new
+        changes.old changes.new (outcome result put.new.former) }
     ensures roomy { IfOk (outcome result put.new.former) (λ a. a ≡ Put.New → IsRoomy put.new.spare.block put.old.spare.room) }
 {
     if !put.room {

@@ -21,11 +21,11 @@ roomy-less (Some words) n m fewer h = omega (arith, fewer, h)
 -- no row is at the new point where the put makes one
 free : (g : Over) (c : In-Ok-New g) → find_tree c.args.to.now.width g.P.Dims.D c.args.root.now c.args.to.now.point ≡ None
 free g c =
-    let put = rw c.in-Ok-New.field-0-is at c.in-Ok-New.ensures in new_absent _ put.answer
+    let put = rw c.in-Ok-New.field-0-is at c.in-Ok-New.ensures in new_absent _ put.put.answer
 
 -- the tree between the put and the removal
 between : (g : Over) (c : In-Ok-New g) → c.put_in.new.root ≡ put_tree c.args.to.now.width g.P.Dims.D c.args.root.now c.args.to.now.point c.args.found.value
-between g c = c.in-Ok-New.ensures.joined (free g c)
+between g c = c.in-Ok-New.ensures.put.joined (free g c)
 
 pub del_in-requires : goal.del_in-requires
 del_in-requires g c =

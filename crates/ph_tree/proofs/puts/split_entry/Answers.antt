@@ -1,4 +1,5 @@
-use Rattle.std.proofs.Common.{◌∙◌, take}
+use Rattle.std.proofs.Common.{◌∙◌, take, arith}
+use Rattle.ph_tree.proofs.PutCases.{added}
 use Rattle.ph_tree.proofs.Steps.{Splits, splits}
 use Rattle.ph_tree.proofs.puts.split_entry.Given.{Over}
 use Rattle.ph_tree.proofs.puts.split_entry.Goals.{After-below}
@@ -21,4 +22,4 @@ split-requires g c =
 
 pub returns-in-Ok-clause-put : goal.returns-in-Ok-clause-put
 returns-in-Ok-clause-put g c =
-    c.in-Ok.ensures.ok ∙ (split_there g (goal.at.returns-in-Ok-clause-put g c).After-below).put c.args.put.now.value
+    added _ _ c.if-not-put.false (c.in-Ok.ensures.ok ∙ (split_there g (goal.at.returns-in-Ok-clause-put g c).After-below).put c.args.put.now.value) (omega (arith, c.in-Ok.ensures.cost)) (omega (arith, c.in-Ok.ensures.cost))

@@ -17,28 +17,31 @@ keyed g c =
 pub invariant_of-self : goal.invariant_of-self
 invariant_of-self g c =
     let k = keyed g (goal.at.invariant_of-self g c).After-put_in in
-    let put = rw c.in-Ok-New.field-0-is at c.in-Ok-New.ensures in
+    let ensured = rw c.in-Ok-New.field-0-is at c.in-Ok-New.ensures in
+    let put = ensured.put in
     new_tree k (omega arith) (put.put refl) put.answer (λ none full. no_error (put.refused none full))
 
 pub invariant_of-self-in-Ok-Old : goal.invariant_of-self-in-Ok-Old
 invariant_of-self-in-Ok-Old g c =
     let k = keyed g (goal.at.invariant_of-self-in-Ok-Old g c).After-put_in in
-    let put = rw c.in-Ok-Old.field-0-is at c.in-Ok-Old.ensures in
+    let ensured = rw c.in-Ok-Old.field-0-is at c.in-Ok-Old.ensures in
+    let put = ensured.put in
     old_tree k (omega arith) (put.put refl) c.in-Ok-Old.old put.answer
 
 pub returns-in-Ok-New : goal.returns-in-Ok-New
 returns-in-Ok-New g c =
     let k = keyed g (goal.at.returns-in-Ok-New g c).After-put_in in
-    let put = rw c.in-Ok-New.field-0-is at c.in-Ok-New.ensures in
+    let ensured = rw c.in-Ok-New.field-0-is at c.in-Ok-New.ensures in
+    let put = ensured.put in
     record {
       put = put_table k (omega arith) (put.put refl);
       answer = put.answer ∙ ap put_answer (found_is k);
       err = tt;
       full = full_when k no_error put.full put.refused;
       present = λ _. refl;
-      visits = omega (arith, put.visits, opened_is k);
-      limit = omega (arith, put.visits, opened_few k);
-      later = put.later;
+      visits = omega (arith, ensured.visits, opened_is k);
+      limit = omega (arith, ensured.visits, opened_few k);
+      later = ensured.later;
       changes = omega arith;
       spared = tt;
       kept = put.kept;
@@ -49,16 +52,17 @@ returns-in-Ok-New g c =
 pub returns-in-Ok-Old : goal.returns-in-Ok-Old
 returns-in-Ok-Old g c =
     let k = keyed g (goal.at.returns-in-Ok-Old g c).After-put_in in
-    let put = rw c.in-Ok-Old.field-0-is at c.in-Ok-Old.ensures in
+    let ensured = rw c.in-Ok-Old.field-0-is at c.in-Ok-Old.ensures in
+    let put = ensured.put in
     record {
       put = put_table k (omega arith) (put.put refl);
       answer = put.answer ∙ ap put_answer (found_is k);
       err = tt;
       full = full_when k no_error put.full put.refused;
       present = λ _. refl;
-      visits = omega (arith, put.visits, opened_is k);
-      limit = omega (arith, put.visits, opened_few k);
-      later = put.later;
+      visits = omega (arith, ensured.visits, opened_is k);
+      limit = omega (arith, ensured.visits, opened_few k);
+      later = ensured.later;
       changes = omega arith;
       spared = tt;
       kept = put.kept;
@@ -69,7 +73,8 @@ returns-in-Ok-Old g c =
 pub returns : goal.returns
 returns g c =
     let k = keyed g (goal.at.returns g c).After-put_in in
-    let put = c.in-Err.ensures in
+    let ensured = c.in-Err.ensures in
+    let put = ensured.put in
     let none : find c.args.self.now.table c.args.p ≡ None = sym (found_is k) ∙ put.absent in
     record {
       put = tt;
@@ -77,9 +82,9 @@ returns g c =
       err = ap (λ t. tree_table g.row.D c.self.inside.width t c.self.inside.max) put.err ∙ c.self.view_is;
       full = full_when k (λ _. put.absent) put.full put.refused;
       present = λ some. rw none at some;
-      visits = omega (arith, put.visits, opened_is k);
-      limit = omega (arith, put.visits, opened_few k);
-      later = put.later;
+      visits = omega (arith, ensured.visits, opened_is k);
+      limit = omega (arith, ensured.visits, opened_few k);
+      later = ensured.later;
       changes = omega arith;
       spared = put.spared;
       kept = put.kept;
