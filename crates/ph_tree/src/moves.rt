@@ -1,10 +1,11 @@
 //! Moving the value at one point to another.
 
-ghost use Rattle.std.specs.Prelude.{◌≡◌, ◌+◌, ◌*◌, ◌^◌, ◌≤◌, None, Some, Ok, IsSome, IfOk, OnOk, OnErr};
+ghost use Rattle.std.specs.Prelude.{◌≡◌, ◌+◌, ◌*◌, ◌^◌, ◌≤◌, Some};
 ghost use Rattle.ph_specs.specs.Coordinate.{IsPoint};
 ghost use Rattle.ph_specs.specs.Lawful.{IsLawful};
 ghost use Rattle.ph_specs.specs.PutTree.{find_tree, put_tree};
 ghost use Rattle.ph_specs.specs.DelTree.{del_tree};
+ghost use Rattle.ph_tree.specs.Moves.{IsMoveOf};
 ghost use Rattle.ph_tree.specs.Opened.{opened_in};
 ghost use Rattle.ph_tree.specs.Rooms.{longest_in, more_words};
 
@@ -53,15 +54,9 @@ pub(crate) fn move_in<P: Dims, V: Ledger, C: Ledger>(
     requires found { find_tree from.now.width P.D root.old from.now.point ≡ Some found.value }
     requires longest { found.longest ≡ longest_in from.now.width P.D root.old from.now.point }
     requires short { found.longest ≤ 2 ^ 20 + 2 ^ 16 }
-    ensures taken { IsSome (find_tree to.now.width P.D root.old to.now.point) → result ≡ Ok Moved.Taken }
-    ensures done { find_tree to.now.width P.D root.old to.now.point ≡ None → IfOk result (λ a. a ≡ Moved.Done) }
-    ensures moved { find_tree to.now.width P.D root.old to.now.point ≡ None
-        → OnOk result
-        (root.new
-        ≡ del_tree from.now.width P.D (put_tree to.now.width P.D root.old to.now.point found.value)
-        from.now.point) }
-    ensures held { IsSome (find_tree to.now.width P.D root.old to.now.point) → root.new ≡ root.old }
-    ensures err { OnErr result (root.new ≡ root.old) }
+    ensures done { IsMoveOf (find_tree to.now.width P.D root.old to.now.point) root.old
+        (del_tree from.now.width P.D (put_tree to.now.width P.D root.old to.now.point found.value) from.now.point)
+        root.new changes.old changes.new result }
     ensures visits { visits.new
         ≤ visits.old
         + 2 * opened_in to.now.width root.old to.now.point
@@ -69,11 +64,6 @@ pub(crate) fn move_in<P: Dims, V: Ledger, C: Ledger>(
         * opened_in from.now.width (put_tree to.now.width P.D root.old to.now.point found.value)
         from.now.point }
     ensures later { visits.old ≤ visits.new }
-    ensures changes { changes.new ≤ changes.old + 4 }
-    ensures spared { OnErr result (changes.new ≡ changes.old) }
-    ensures idle { IsSome (find_tree to.now.width P.D root.old to.now.point) → changes.new ≡ changes.old }
-    ensures kept { changes.old ≤ changes.new }
-    ensures made { find_tree to.now.width P.D root.old to.now.point ≡ None → OnOk result (changes.old + 1 ≤ changes.new) }
 {
     let mut put = PutOf {
         key: to,

@@ -9,7 +9,7 @@ ghost use Rattle.ph_specs.specs.Shape.{shape};
 ghost use Rattle.ph_specs.specs.WorkSets.{all_nodes, path};
 ghost use Rattle.ph_table.specs.Rows.{put_answer};
 ghost use Rattle.ph_tree.specs.Tree.{with_row, without_row};
-ghost use Rattle.ph_tree.specs.Moves.{move_answer, with_moved};
+ghost use Rattle.ph_tree.specs.Moves.{IsMoved};
 ghost use Rattle.ph_tree.specs.Rooms.{spare_wanted_in};
 
 use crate::compare::is_same_node;
@@ -292,19 +292,9 @@ impl<const D: usize> PhTree<D> {
     ) -> Result<Moved, NoMemory>
         requires from { IsPoint self.old.width D from.now }
         requires to { IsPoint self.old.width D to.now }
-        ensures moved { OnOk result (self.new ≡ with_moved self.old from.now to.now) }
-        ensures answer { IfOk result (λ a. a ≡ move_answer self.old.table from.now to.now) }
-        ensures err { OnErr result (self.new ≡ self.old) }
-        ensures absent { find self.old.table from.now ≡ None → IsOk result }
-        ensures taken { IsSome (find self.old.table to.now) → IsOk result }
+        ensures done { IsMoved self.old self.new from.now to.now changes.old changes.new result }
         ensures limit { visits.new ≤ visits.old + 6 * self.old.width }
         ensures later { visits.old ≤ visits.new }
-        ensures changes { changes.new ≤ changes.old + 4 }
-        ensures spared { OnErr result (changes.new ≡ changes.old) }
-        ensures idle { find self.old.table from.now ≡ None → changes.new ≡ changes.old }
-        ensures held { IsSome (find self.old.table to.now) → changes.new ≡ changes.old }
-        ensures kept { changes.old ≤ changes.new }
-        ensures made { IsSome (find self.old.table from.now) → find self.old.table to.now ≡ None → OnOk result (changes.old + 1 ≤ changes.new) }
     {
         let old = KeyOf::new(self.width, from.as_slice());
         let Some(found) = find_long(&self.root, &old, visits) else {

@@ -23,7 +23,7 @@ record IsLeft (g : Over) (c : After-note_move g) : Type 0 where
 steps : (g : Over) (c : After-note_move g) (b : Bool) → moves_by (find c.self.inside.tree.table c.args.from.now) (find c.self.inside.tree.table c.args.to.now) ≡ b
     → steps_in c.note_move.new.ring ≡ cond b (take (room_in c.self.inside.ring) (Return c.args.to.now c.args.from.now ∷ steps_in c.self.inside.ring)) (steps_in c.self.inside.ring)
 steps g c b e =
-    steps-move (room_in c.self.inside.ring) c.self.inside.tree.table c.args.from.now c.args.to.now c.in_ok-moved.moved (steps_in c.self.inside.ring) (steps_in c.note_move.new.ring) c.in_ok-moved.ensures.answer c.note_move.ensures.steps b e
+    steps-move (room_in c.self.inside.ring) c.self.inside.tree.table c.args.from.now c.args.to.now c.in_ok-moved.moved (steps_in c.self.inside.ring) (steps_in c.note_move.new.ring) c.in_ok-moved.ensures.done.answer c.note_move.ensures.steps b e
 
 -- it did
 moved : (g : Over) (c : After-note_move g) → moves_by (find c.self.inside.tree.table c.args.from.now) (find c.self.inside.tree.table c.args.to.now) ≡ true → IsLeft g c
@@ -59,10 +59,10 @@ left g c =
 
 pub invariant_of-self-2 : goal.invariant_of-self-2
 invariant_of-self-2 g c =
-    subst (λ t. IsKept g.row.D t c.self.inside.depth c.note_move.new.ring) (sym c.in_ok-moved.ensures.moved) (left g c).kept
+    subst (λ t. IsKept g.row.D t c.self.inside.depth c.note_move.new.ring) (sym c.in_ok-moved.ensures.done.moved) (left g c).kept
 
 pub returns-clause-moved : goal.returns-clause-moved
 returns-clause-moved g c =
-    ap (λ t. kept_of t c.self.inside.depth c.note_move.new.ring) c.in_ok-moved.ensures.moved
+    ap (λ t. kept_of t c.self.inside.depth c.note_move.new.ring) c.in_ok-moved.ensures.done.moved
     ∙ (left g c).view
     ∙ ap (λ k. move_kept k c.args.from.now c.args.to.now) c.self.view_is
