@@ -25,9 +25,11 @@ mod OldNodes
 mod PairLists
 mod Parts
 mod Places
+mod PointEdits
 mod Reading
 mod RecordEdits
 mod Removed
+mod Resized
 mod Slotted
 mod Spliced
 mod Standing

@@ -1,18 +1,16 @@
 -- A node with an entry less.
-use Rattle.std.proofs.Common.{◌≡◌, ℕ, zero, suc, ◌+◌, ◌-◌, ◌<◌, ◌≤◌, List, [], ◌∷◌, ◌++◌, length, map, refl, ap, sym, ◌∙◌, subst, arith, lt-ltb, le-ltb, inl, inr}
+use Rattle.std.proofs.Common.{◌≡◌, ℕ, zero, suc, ◌+◌, ◌<◌, ◌≤◌, List, [], ◌∷◌, ◌++◌, length, map, refl, ap, sym, ◌∙◌, subst, arith, lt-ltb, le-ltb, inl, inr}
 use Rattle.std.specs.Prelude.{nat_lt, if◌then◌else◌}
 use Rattle.ph_specs.specs.EntryEdits.{what_at, without}
 use Rattle.ph_specs.specs.Node.{Entry, PlainNode, entries, Flat}
-use Rattle.ph_specs.specs.Pack.{values, cube_digits, linear_digits, pack}
-use Rattle.ph_specs.specs.Record.{unpacked, first_in}
+use Rattle.ph_specs.specs.Pack.{cube_digits, linear_digits}
 use Rattle.ph_linear.proofs.Entries.{split}
 use Rattle.ph_bits.specs.Edits.{edited, least_digits, words_wanted}
 use Rattle.ph_node.specs.OneEdit.{held_nodes, nodes_held, flat_of, flats_of}
-use Rattle.ph_node.specs.Recorded.{IsRecorded}
 use Rattle.ph_node.specs.Split.{IsValue}
 use Rattle.ph_node.proofs.Keeps.{still-without}
-use Rattle.ph_node.proofs.Lists.{Renewed, long_new, points_new}
-use Rattle.ph_node.proofs.OldNodes.{IsOld, children-are}
+use Rattle.ph_node.proofs.Lists.{Renewed}
+use Rattle.ph_node.proofs.OldNodes.{IsOld}
 use Rattle.ph_node.proofs.Valued.{none-held}
 
 flats-without : (es : List Entry) (i : ℕ) (x : Flat) → i < length es → edited i 1 0 x (map flat_of es) ≡ map flat_of (without es i)
@@ -42,7 +40,7 @@ least-of-two a b c h =
       ]
     ]
 
-shorter : (d level n p m q : ℕ) → n + 1 ≡ m → p ≤ q → words_wanted d level n p ≤ words_wanted d level m q
+pub shorter : (d level n p m q : ℕ) → n + 1 ≡ m → p ≤ q → words_wanted d level n p ≤ words_wanted d level m q
 shorter d level n p m q e f =
     let l : linear_digits d level n ≤ linear_digits d level m = subst (λ k. linear_digits d level n ≤ linear_digits d level k) e (omega arith) in
     let h : least_digits d level n ≤ least_digits d level m = least-of-two (cube_digits d level) (linear_digits d level n) (linear_digits d level m) l in
@@ -59,18 +57,3 @@ module _ (d : ℕ) (ws : List ℕ) (ns : List PlainNode) (t : PlainNode) (o : Is
     some = omega (arith, m, length-without (entries t) i l);
     bottom = o.bottom;
   }
-
-  pub room_removed : (p room : ℕ) → p ≡ words_wanted d t.level (length (entries t)) (length (entries t) - length ns) → p ≤ room
-      → words_wanted d t.level (length (edited i 1 0 x (flats_of t))) (length (values (edited i 1 0 x (flats_of t)))) ≤ room
-  room_removed p room e f =
-      let n : length (edited i 1 0 x (flats_of t)) + 1 ≡ length (entries t) = omega (arith, long_new _ _ _ _ _ removed, length-without (entries t) i l) in
-      let s = shorter d t.level (length (edited i 1 0 x (flats_of t))) (length (values (edited i 1 0 x (flats_of t)))) (length (entries t)) (length (entries t) - length ns) n (omega (arith, n, points_new _ _ _ _ _ removed)) in
-      omega (arith, s, e, f)
-
--- how many words the record of the node has
-pub length_is : (d : ℕ) (ws : List ℕ) (ns : List PlainNode) (t : PlainNode) (is : unpacked d ws ns ≡ t) (kept : IsRecorded d ws ns) → IsOld d ws ns t → length (pack d t) ≡ words_wanted d t.level (length (entries t)) (length (entries t) - length ns)
-length_is d ws ns t is kept o =
-    ap (λ u. length (pack d u)) (sym is) ∙ ap (λ u. length u) (sym kept.packed.packed) ∙ kept.laid.tables.long
-    ∙ ap (λ k. words_wanted d (first_in ws).level (first_in ws).entries ((first_in ws).entries - k)) (sym (children-are d ws ns t is kept))
-    ∙ ap (λ k. words_wanted d k (first_in ws).entries ((first_in ws).entries - length ns)) o.level
-    ∙ ap (λ k. words_wanted d t.level k (k - length ns)) o.count

@@ -15,4 +15,5 @@ pub mod Merge
 pub mod OneEdit
 pub mod Pairs
 pub mod RecordEdit
+pub mod Relaid
 pub mod Spots

@@ -7,8 +7,8 @@ ghost use Rattle.ph_node.specs.Bodies.{IsBodyArray};
 ghost use Rattle.ph_node.specs.Places.{place_for};
 
 use crate::NoMemory;
-use crate::moves::move_into;
 use crate::node::NodeOf;
+use crate::points::add_point;
 use ph_bits::{Edit, Packed};
 use ph_coord::Dims;
 use ph_steps::Steps;
@@ -17,7 +17,9 @@ use std::sync::ledger::Ledger;
 impl<P: Dims> NodeOf<P> {
     /// Adds a point entry at an address that no entry has, in the place that [`NodeRefOf::search`] gives for it.
     ///
-    /// Takes memory for the node's new block, before the first change. Without it nothing has changed. The old block is given back.
+    /// The record is changed where it lies, as long as its layout stays. Takes memory for a block of more room where the node's has too
+    /// few spare places, or where the layout changes, before the first change; the old block is given back. Without memory nothing
+    /// has changed.
     pub fn add<C: Ledger>(
         &mut self,
         i: usize,
@@ -48,9 +50,8 @@ impl<P: Dims> NodeOf<P> {
             entry,
             value: v,
         };
-        let words = self.edited(&edit, self.block.count())?;
+        add_point(&mut self.block, &edit)?;
         changes.tick();
-        move_into(&mut self.block, words);
         Ok(())
     }
 }

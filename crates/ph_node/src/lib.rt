@@ -17,6 +17,7 @@ mod moves;
 mod node;
 mod olds;
 mod pairs;
+mod points;
 mod reads;
 mod records;
 mod removals;
@@ -26,6 +27,8 @@ mod splits;
 mod spots;
 #[cfg(test)]
 mod tests;
+#[cfg(test)]
+mod twins;
 
 pub use node::{Node, NodeOf, Slot, SlotOf};
 pub use ph_coord::{Dim, Dims};

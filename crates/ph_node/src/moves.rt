@@ -1,9 +1,10 @@
 //! Words and children that go from one block to another.
 
-ghost use Rattle.std.specs.Prelude.{◌≡◌, ◌<◌, ◌≤◌, [], true, false, length, take, drop, if◌then◌else◌};
+ghost use Rattle.std.specs.Prelude.{◌≡◌, ◌+◌, ◌^◌, ◌<◌, ◌≤◌, [], true, false, length, take, drop, if◌then◌else◌, OnOk};
 ghost use Rattle.std.specs.List.{remove};
 ghost use Rattle.ph_bits.specs.Kids.{IsWord};
 
+use crate::{NoMemory, records};
 use ph_bits::{Block, Words};
 
 /// Puts words in place of those of a block, in the memory of the new ones. The values move there, and the old memory is given back.
@@ -12,10 +13,43 @@ pub(crate) fn move_into<T: Drop>(old: &mut Block<T>, words: Words)
     requires sized { IsWord T.row }
     ensures words { old.new.words ≡ words.words }
     ensures values { old.new.values ≡ old.old.values }
+    ensures spare { words.spare ≡ old.new.spare + length old.old.values }
 {
     let mut block = Block::of(words);
     block.take_values(old);
     *old = block;
+}
+
+/// Sees to it that a block has places for so many words. Where it has too few, its words and its values go to other memory, with more
+/// room, and the old memory is given back. Without memory nothing has changed.
+#[inline(always)]
+pub(crate) fn make_room<T: Drop>(block: &mut Block<T>, long: usize) -> Result<(), NoMemory>
+    requires sized { IsWord T.row }
+    requires limit { long + length block.old.values ≤ 2 ^ 20 + 2 ^ 16 }
+    ensures room { OnOk result (long ≤ length block.new.words + block.new.spare) }
+    ensures words { block.new.words ≡ block.old.words }
+    ensures values { block.new.values ≡ block.old.values }
+{
+    if long <= block.len() + block.spare() {
+        return Ok(());
+    }
+    widen(block, long)
+}
+
+// Moves a block to other memory, with more room.
+#[inline(never)]
+fn widen<T: Drop>(block: &mut Block<T>, long: usize) -> Result<(), NoMemory>
+    requires sized { IsWord T.row }
+    requires limit { long + length block.old.values ≤ 2 ^ 20 + 2 ^ 16 }
+    requires more { length block.old.words ≤ long }
+    ensures room { OnOk result (long ≤ length block.new.words + block.new.spare) }
+    ensures words { block.new.words ≡ block.old.words }
+    ensures values { block.new.values ≡ block.old.values }
+{
+    let mut words = records::roomy(block.allocator(), long + block.count())?;
+    words.extend(block.words());
+    move_into(block, words);
+    Ok(())
 }
 
 /// Moves the value with a number into a block that has none, where there is one to move.

@@ -1,19 +1,17 @@
-//! What edits read of a node, and the record of the node with an edit.
+//! What edits read of a node.
 
-ghost use Rattle.std.specs.Prelude.{◌≡◌, ◌+◌, ◌<◌, ◌≤◌, length, take, IfOk};
+ghost use Rattle.std.specs.Prelude.{◌≡◌, ◌+◌, ◌<◌, ◌≤◌, length, take};
 ghost use Rattle.ph_specs.specs.EntryEdits.{what_at};
 ghost use Rattle.ph_specs.specs.Node.{entries};
 ghost use Rattle.ph_specs.specs.Pack.{values, record_of};
-ghost use Rattle.ph_bits.specs.Block.{room_of, IsSamePlaces};
-ghost use Rattle.ph_bits.specs.Edits.{words_wanted};
-ghost use Rattle.ph_node.specs.OneEdit.{IsEdit, IsOldEntry, edit_flats, flats_of};
+ghost use Rattle.ph_node.specs.OneEdit.{IsOldEntry, flats_of};
 ghost use Rattle.ph_node.specs.Split.{IsValue};
 ghost use Rattle.ph_node.specs.Spots.{IsSpot};
 
 use crate::node::NodeOf;
+use crate::records;
 use crate::spots::Spot;
-use crate::{NoMemory, records, rewrites};
-use ph_bits::{Edit, Words, row};
+use ph_bits::row;
 use ph_coord::Dims;
 use ph_linear::level_in;
 
@@ -96,34 +94,5 @@ impl<P: Dims> NodeOf<P> {
         let children = self.block.count();
         let points = records::count(self.block.words()) - children;
         len - points + self.points_before(spot)
-    }
-
-    /// The record of the node with an edit, where it has so many children then, in new words that have room for them behind it.
-    pub(crate) fn edited(&self, edit: &Edit, children: usize) -> Result<Words, NoMemory>
-        requires edit { IsEdit P.D self.now edit.now }
-        requires children { length (values (edit_flats P.D self.now edit.now)) + children ≡ length (edit_flats P.D self.now edit.now) }
-        ensures words { IfOk result (λ w. w.words ≡ record_of P.D self.now.level (edit_flats P.D self.now edit.now)) }
-        ensures room { IfOk result (λ w. words_wanted P.D self.now.level (length (edit_flats P.D self.now edit.now))
-            (length (values (edit_flats P.D self.now edit.now)))
-            + children
-            ≤ room_of w) }
-    {
-        let words = self.block.words();
-        let n = records::count(words) - edit.less + edit.more;
-        let mut block = records::block::<P>(self.block.allocator(), level_in(words), n, children)?;
-        self.write_edited(edit, &mut block);
-        Ok(block)
-    }
-
-    /// Writes the record of the node with an edit into the room of a block.
-    pub(crate) fn write_edited(&self, edit: &Edit, block: &mut Words)
-        requires edit { IsEdit P.D self.now edit.now }
-        requires room { words_wanted P.D self.now.level (length (edit_flats P.D self.now edit.now))
-            (length (values (edit_flats P.D self.now edit.now)))
-            ≤ room_of block.old }
-        ensures words { block.new.words ≡ record_of P.D self.now.level (edit_flats P.D self.now edit.now) }
-        ensures places { IsSamePlaces block.old block.new }
-    {
-        rewrites::write_edited::<P>(block, self.block.words(), edit);
     }
 }

@@ -17,6 +17,7 @@ ghost use Rattle.ph_node.specs.Places.{place_for};
 ghost use Rattle.ph_node.specs.Shown.{shown, entry_of, what_of};
 ghost use Rattle.ph_node.specs.Slots.{nodes_of};
 ghost use Rattle.ph_node.specs.OneEdit.{before};
+ghost use Rattle.ph_node.specs.Relaid.{is_relaid};
 ghost use Rattle.ph_node.specs.Split.{IsNode, body_at};
 ghost use Rattle.ph_node.specs.Spots.{IsSpot, joined_digits};
 
@@ -314,6 +315,19 @@ impl<'t, P: Dims> NodeRefOf<'t, NodeOf<P>> {
     {
         let node = self.node;
         records::has_cube(node.block.words(), P::D)
+    }
+
+    /// Whether the record changes its layout when one of the entries goes: only then
+    /// [`drop_entry`](NodeOf::drop_entry) wants words to lay it out in.
+    #[inline(always)]
+    pub fn is_relaid(&self) -> bool
+        ensures { result ≡ is_relaid P.D (shown self.now).level (length (entries (shown self.now))) }
+    {
+        let node = self.node;
+        let dims = P::D;
+        let words = node.block.words();
+        let left = records::count(words) - 1;
+        records::changes_layout(words, dims, left)
     }
 
     // Whether the body of an entry is the digits of these numbers below the node's level, of which the last `low` count as

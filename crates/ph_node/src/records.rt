@@ -10,13 +10,14 @@ ghost use Rattle.ph_bits.specs.Block.{room_of, IsSamePlaces, empty};
 ghost use Rattle.ph_bits.specs.Edits.{least_digits, words_wanted};
 ghost use Rattle.ph_bits.specs.Packed.{read_of, rank_at, IsBodyAt, IsPadded};
 ghost use Rattle.ph_node.specs.Recorded.{IsLaidOut};
+ghost use Rattle.ph_node.specs.Relaid.{differ};
 
 use crate::NoMemory;
 use crate::spots::Spot;
 use ph_bits::{Entries, Packed, Words};
 use ph_coord::Dims;
 use ph_cube::by_dims as cube;
-use ph_linear::{by_dims as linear, children_in, count_in};
+use ph_linear::{by_dims as linear, children_in, count_in, level_in};
 use std::alloc::Global;
 use std::cmp::min;
 
@@ -223,8 +224,8 @@ pub(crate) fn count(words: &[u64]) -> usize
     count_in(words) as usize
 }
 
-// How many words the record of `n` entries at a level has, of which some are points.
-fn size(dims: usize, level: u32, n: usize, points: usize) -> usize
+/// How many words the record of `n` entries at a level has, of which some are points.
+pub(crate) fn size(dims: usize, level: u32, n: usize, points: usize) -> usize
     requires few { dims ≤ 16 }
     requires low { level ≤ 61 }
     requires entries { n ≤ 2 ^ dims }
@@ -267,7 +268,15 @@ pub(crate) fn block<P: Dims>(
     ensures none { IfOk result (λ w. w.words ≡ []) }
     ensures room { IfOk result (λ w. words_wanted P.D level n (n - children) + children ≤ room_of w) }
 {
-    let room = size(P::D, level, n, n - children) + children;
+    roomy(alloc, size(P::D, level, n, n - children) + children)
+}
+
+/// A block without words that has room for so many of them, and for some more where that is many.
+pub(crate) fn roomy(alloc: Global, room: usize) -> Result<Words, NoMemory>
+    requires { room ≤ 2 ^ 20 + 2 ^ 16 }
+    ensures none { IfOk result (λ w. w.words ≡ []) }
+    ensures room { IfOk result (λ w. room ≤ room_of w) }
+{
     Words::with_room(alloc, rounded(room))
 }
 
@@ -308,6 +317,16 @@ pub(crate) fn wants_cube(dims: usize, level: u32, n: usize) -> bool
     ensures { result ≡ is_cube dims level n }
 {
     cube::bits_of(dims, n as u32, level) < linear::bits_of(dims, n as u32, level)
+}
+
+/// Whether the record of `n` entries at the level of this one has the other layout.
+#[inline(always)]
+pub(crate) fn changes_layout(words: &[u64], dims: usize, n: usize) -> bool
+    requires record { IsLaidOut dims words.now }
+    requires entries { n ≤ 2 ^ dims }
+    ensures { result ≡ differ (is_cube dims (first_in words.now).level n) (has_cube dims (first_in words.now)) }
+{
+    wants_cube(dims, level_in(words), n) != has_cube(words, dims)
 }
 
 /// Writes the record of these entries in the smaller layout into the room of a block, whatever it held before.

@@ -1,6 +1,6 @@
 //! An entry less, and a child of two entries whose place one of them takes. Neither takes memory.
 
-ghost use Rattle.std.specs.Prelude.{◌≡◌, ◌+◌, ◌-◌, ◌<◌, ◌≤◌, true, false, length, if◌then◌else◌};
+ghost use Rattle.std.specs.Prelude.{◌≡◌, ◌+◌, ◌-◌, ◌<◌, ◌≤◌, true, false, length, MatchOption, if◌then◌else◌};
 ghost use Rattle.ph_specs.specs.Node.{node_of, entries};
 ghost use Rattle.ph_specs.specs.EntryEdits.{what_at, without};
 ghost use Rattle.ph_node.specs.Split.{IsValue, body_at};
@@ -11,11 +11,12 @@ ghost use Rattle.ph_bits.specs.Block.{room_of};
 ghost use Rattle.ph_bits.specs.Edits.{edited};
 ghost use Rattle.ph_node.specs.Merge.{IsPair, entries_held, merge_node};
 ghost use Rattle.ph_node.specs.OneEdit.{IsOldEntry, node_at, nodes_held};
+ghost use Rattle.ph_node.specs.Relaid.{is_relaid};
 ghost use Rattle.ph_node.specs.Slots.{nodes_of};
 
-use crate::moves::move_into;
 use crate::node::{NodeOf, SlotOf};
 use crate::olds::OldEntry;
+use crate::points::remove_point;
 use crate::rewrites;
 use crate::spots::Spot;
 use ph_bits::{Block, Edit, Packed, Words};
@@ -25,13 +26,20 @@ use ph_steps::Steps;
 use std::sync::ledger::Ledger;
 
 impl<P: Dims> NodeOf<P> {
-    /// Lets a point entry go. Another entry is left. The record is written into words that the caller hands in, which have
-    /// room for the node's own and for its children, and the children move behind it. Takes no memory.
-    pub fn drop_entry<C: Ledger>(&mut self, spot: Spot, spare: Words, changes: &mut Steps<C>)
+    /// Lets a point entry go. Another entry is left. The record is changed where it lies, as long as its layout stays. Else it is laid
+    /// out in words that the caller hands in, which have room for the node's own and for its children, and the children move behind
+    /// it; [`NodeRefOf::is_relaid`](crate::NodeRefOf::is_relaid) tells before whether they are wanted. Takes no memory.
+    pub fn drop_entry<C: Ledger>(
+        &mut self,
+        spot: Spot,
+        spare: Option<Words>,
+        changes: &mut Steps<C>,
+    )
         requires spot { IsSpot (entries self.old) spot }
         requires point { IsValue (what_at (entries self.old) spot.place) }
         requires many { 2 ≤ length (entries self.old) }
-        requires room { length (pack P.D self.old) + length (child_nodes self.old.chain) ≤ room_of spare }
+        requires room { is_relaid P.D self.old.level (length (entries self.old)) ≡ true
+            → MatchOption spare ⊥ (λ w. length (pack P.D self.old) + length (child_nodes self.old.chain) ≤ room_of w) }
         ensures node { self.new ≡ node_of self.old.level (without (entries self.old) spot.place) }
         ensures cost { changes.new ≡ changes.old + 1 }
     {
@@ -48,10 +56,8 @@ impl<P: Dims> NodeOf<P> {
             entry: gone,
             value: 0,
         };
-        let mut words = spare;
-        self.write_edited(&edit, &mut words);
+        remove_point(&mut self.block, &edit, spare);
         changes.tick();
-        move_into(&mut self.block, words);
     }
 
     /// Lets the child of an entry and its point entry `j` go. The other of the child's two entries takes the

@@ -3,7 +3,6 @@
 ghost use Rattle.std.specs.Prelude.{◌≡◌, ◌<◌};
 
 use crate::{NoMemory, Node, NodeOf, NodeRef, Spot, What};
-use ph_bits::Words;
 use ph_steps::Steps;
 use std::alloc::Global;
 use std::marker::Brand;
@@ -115,8 +114,7 @@ fn removals<V: Ledger, C: Ledger>(
     assert_eq!(rt; (root.level(), root.len()), (5, 2));
     assert!(rt; is_entry(root, 0, &(1, 4, 30, Some(71))));
     assert!(rt; is_entry(root, 1, &(2, 9, 3, Some(70))));
-    let spare = Words::with_room(alloc, 8)?;
-    node.drop_entry(FIRST, spare, &mut changes);
+    node.drop_entry(FIRST, None, &mut changes);
     let root = node.visit(&mut visits);
     assert_eq!(rt; (root.level(), root.len()), (5, 1));
     assert!(rt; is_entry(root, 0, &(2, 9, 3, Some(70))));
@@ -145,8 +143,7 @@ fn lifts<V: Ledger, C: Ledger>(
     assert_eq!(rt; (root.words().len(), root.children().len()), (3, 1));
     assert!(rt; is_entry(root, 0, &(1, 4, 30, Some(71))));
     assert!(rt; is_entry(root, 1, &(2, 0, 0, None)));
-    let spare = Words::with_room(alloc, 4)?;
-    node.drop_entry(FIRST, spare, &mut changes);
+    node.drop_entry(FIRST, None, &mut changes);
     let root = node.visit(&mut visits);
     assert_eq!(rt; (root.level(), root.len()), (5, 1));
     let Some(lower) = child_at(root, 0) else {

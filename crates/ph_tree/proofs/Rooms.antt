@@ -12,9 +12,19 @@ use Rattle.ph_specs.specs.DelTree.{del_entries}
 use Rattle.ph_specs.proofs.laws.Layouts.{rising}
 use Rattle.ph_specs.proofs.laws.Put.{either}
 use Rattle.ph_specs.proofs.lemmas.PointDigits.{IsWhole, point-whole}
-use Rattle.ph_tree.specs.Rooms.{room_of_entries, wanted_below, longest_below, spare_wanted_in, longest_in, more_words}
+use Rattle.ph_node.specs.Relaid.{is_relaid}
+use Rattle.ph_tree.specs.Rooms.{room_of_entries, relaid_room, wanted_below, longest_below, spare_wanted_in, longest_in, more_words}
 use Rattle.ph_tree.proofs.NodeRooms.{entry_digits, entry-words, some-room}
 use Rattle.ph_tree.proofs.PutRooms.{put-room, point-room, child-room}
+
+-- ---- a removal wants at most what its node takes
+
+pub relaid-least : (dims level : ℕ) (e : Entries) → relaid_room dims level e ≤ room_of_entries dims level e
+relaid-least dims level e = by_test (is_relaid dims level (count e)) (room_of_entries dims level e)
+  where
+    by_test : (b : Bool) (n : ℕ) → (if b then n else 0) ≤ n
+    by_test true n = omega arith
+    by_test false n = omega arith
 
 -- ---- the way by the entry at the point's address
 
@@ -30,11 +40,11 @@ module _ (w dims limit : ℕ) (p : List ℤ) where
       by_tests true true f = h
 
   -- at a child, below it or behind it
-  over-child : (b room a c : ℕ) (body : List ℕ) (chain rest : Entries) → ((a == address w p b) ≡ true → same_digits body (digits_between w b c p) ≡ true → wanted_below w dims (room_of_entries dims c chain) c chain p ≤ limit) → ((a == address w p b) ≡ false → wanted_below w dims room b rest p ≤ limit) → wanted_below w dims room b (child a body c chain rest) p ≤ limit
+  over-child : (b room a c : ℕ) (body : List ℕ) (chain rest : Entries) → ((a == address w p b) ≡ true → same_digits body (digits_between w b c p) ≡ true → wanted_below w dims (relaid_room dims c chain) c chain p ≤ limit) → ((a == address w p b) ≡ false → wanted_below w dims room b rest p ≤ limit) → wanted_below w dims room b (child a body c chain rest) p ≤ limit
   over-child b room a c body chain rest deeper later =
       by_tests (a == address w p b) (same_digits body (digits_between w b c p)) (count (del_entries w c chain p) == 1) deeper later
     where
-      by_tests : (s t n : Bool) → (s ≡ true → t ≡ true → wanted_below w dims (room_of_entries dims c chain) c chain p ≤ limit) → (s ≡ false → wanted_below w dims room b rest p ≤ limit) → (if s then (if t then (if n then 0 else wanted_below w dims (room_of_entries dims c chain) c chain p) else 0) else wanted_below w dims room b rest p) ≤ limit
+      by_tests : (s t n : Bool) → (s ≡ true → t ≡ true → wanted_below w dims (relaid_room dims c chain) c chain p ≤ limit) → (s ≡ false → wanted_below w dims room b rest p ≤ limit) → (if s then (if t then (if n then 0 else wanted_below w dims (relaid_room dims c chain) c chain p) else 0) else wanted_below w dims room b rest p) ≤ limit
       by_tests false t n f g = g refl
       by_tests true false n f g = omega arith
       by_tests true true false f g = f refl refl
@@ -57,7 +67,7 @@ module _ (w dims limit : ℕ) (p : List ℤ) where
       over-point b room a v body rest h (λ s. kept b room rest h (past-point b a v body rest k s))
   kept b room (child a body c chain rest) h k =
       over-child b room a c body chain rest
-      (λ s t. let l = into-child b a c body chain rest k s t in kept c (room_of_entries dims c chain) chain (omega (arith, l)) (omega (arith, l)))
+      (λ s t. let l = into-child b a c body chain rest k s t in kept c (relaid_room dims c chain) chain (omega (arith, l, relaid-least dims c chain)) (omega (arith, l)))
       (λ s. kept b room rest h (past-child b a c body chain rest k s))
 
 module _ (w b a u : ℕ) (body : List ℕ) (rest : Entries) (p : List ℤ) where
@@ -102,7 +112,7 @@ module _ (w dims limit : ℕ) (from to : List ℤ) (v : ℕ) where
     where
       with_child : (rest : Entries) → ((a == address w from k) ≡ false → wanted_below w dims room k rest from ≤ limit) → wanted_below w dims room k (child a body c chain rest) from ≤ limit
       with_child rest =
-          over-child w dims limit from k room a c body chain rest (λ s t. kept w dims limit from c (room_of_entries dims c chain) chain (omega (arith, l)) (omega (arith, l)))
+          over-child w dims limit from k room a c body chain rest (λ s t. kept w dims limit from c (relaid_room dims c chain) chain (omega (arith, l, relaid-least dims c chain)) (omega (arith, l)))
 
 -- where no node on the way takes more than the most that there is, and a put may add to it
 module _ (w dims most limit : ℕ) (from to : List ℤ) (v : ℕ) (whole : IsWhole w dims to) (more : most + more_words w dims ≤ limit) where
@@ -126,7 +136,7 @@ module _ (w dims most limit : ℕ) (from to : List ℤ) (v : ℕ) (whole : IsWho
                 let new : Entries = with_point w place (point_below place body x) to v in
                 let long : room_of_entries dims place new ≤ 3 + words_for (entry_digits dims b) + words_for (entry_digits dims b) = point-room w dims b a body rest to v whole late here x (omega arith, ok.1, ok.2, ok.3, ok.4) unlike in
                 rw (late, here, unlike) (over-child w dims limit from b room a place (digits_between w b place to) new rest
-                (λ s t. beside_point w dims limit from to v place (room_of_entries dims place new) (body_address place body) x (body_below place body) (omega (arith, long, m, entry-words dims b w l)))
+                (λ s t. beside_point w dims limit from to v place (relaid_room dims place new) (body_address place body) x (body_below place body) (omega (arith, relaid-least dims place new, long, m, entry-words dims b w l)))
                 (λ s. kept w dims limit from b room rest h (omega (arith, past s, more))))
           ]
         ]
@@ -143,7 +153,7 @@ module _ (w dims most limit : ℕ) (from to : List ℤ) (v : ℕ) (whole : IsWho
         | inr late ↦ elim (either (nat_lt a (address w to b))) [
           | inl later ↦
               rw (late, later) (over-child w dims limit from b room a c body chain (put_entries w b rest to v)
-              (λ s t. let n = into s t in kept w dims limit from c (room_of_entries dims c chain) chain (omega (arith, n, more)) (omega (arith, n, more)))
+              (λ s t. let n = into s t in kept w dims limit from c (relaid_room dims c chain) chain (omega (arith, n, more, relaid-least dims c chain)) (omega (arith, n, more)))
               (λ s. grown b (a + 1) room rest u l ok.7 (found-behind w b a u body rest from c chain found s) h m (past s)))
           | inr here ↦ elim (either (same_digits body (digits_between w b c to))) [
             | inl alike ↦
@@ -152,14 +162,14 @@ module _ (w dims most limit : ℕ) (from to : List ℤ) (v : ℕ) (whole : IsWho
                 let some : 2 + words_for (entry_digits dims c) ≤ room_of_entries dims c chain = some-room dims c 0 chain (rising dims c 0 chain ok.6) (omega (arith, ok.5)) in
                 rw (late, here, alike) (over-child w dims limit from b room a c body new rest
                 (λ s t. let n = into s t in
-                grown c 0 (room_of_entries dims c new) chain u low ok.6 (below s).1 (omega (arith, n, more, put-room w dims c chain to v whole ok.6, entry-words dims c w low)) (omega (arith, n, more, some)) (omega (arith, n)))
+                grown c 0 (relaid_room dims c new) chain u low ok.6 (below s).1 (omega (arith, relaid-least dims c new, n, more, put-room w dims c chain to v whole ok.6, entry-words dims c w low)) (omega (arith, n, more, some)) (omega (arith, n)))
                 behind)
             | inr unlike ↦
                 let place : ℕ = split_place b body (digits_between w b c to) in
                 let new : Entries = with_point w place (child_below place body c chain) to v in
                 let long : room_of_entries dims place new ≤ 3 + words_for (entry_digits dims b) + words_for (entry_digits dims b) = child-room w dims b a body rest to v whole late here c chain (omega arith, ok.1, ok.2, ok.3, ok.4, ok.5, ok.6, ok.7) unlike in
                 rw (late, here, unlike) (over-child w dims limit from b room a place (digits_between w b place to) new rest
-                (λ s t. beside_child w dims limit from to v place (room_of_entries dims place new) (body_address place body) c (body_below place body) chain (omega (arith, long, m, entry-words dims b w l)) (omega (arith, into s (below s).0, more)))
+                (λ s t. beside_child w dims limit from to v place (relaid_room dims place new) (body_address place body) c (body_below place body) chain (omega (arith, relaid-least dims place new, long, m, entry-words dims b w l)) (omega (arith, into s (below s).0, more)))
                 behind)
           ]
         ]
@@ -179,5 +189,5 @@ room-between w dims (Some n) from to u v wide some at_from at_to ok found free =
     let most : ℕ = longest_in w dims (Some n) from in
     let more : words_for (entry_digits dims n.level) ≤ words_for (entry_digits dims w) = entry-words dims n.level w low in
     let least : 2 + words_for (entry_digits dims n.level) ≤ room_of_entries dims n.level n.chain = some-room dims n.level 0 n.chain (rising dims n.level 0 n.chain ok.2) ok.1 in
-    let wanted : wanted_below w dims (room_of_entries dims n.level new) n.level new from ≤ most + more_words w dims = grown w dims most (most + more_words w dims) from to v whole (omega arith) n.level 0 (room_of_entries dims n.level new) n.chain u low ok.2 found (omega (arith, put-room w dims n.level n.chain to v whole ok.2, more)) (omega (arith, least)) (omega arith) in
-    if_any (count (del_entries w n.level new from) == 0) (wanted_below w dims (room_of_entries dims n.level new) n.level new from) (most + more_words w dims) wanted
+    let wanted : wanted_below w dims (relaid_room dims n.level new) n.level new from ≤ most + more_words w dims = grown w dims most (most + more_words w dims) from to v whole (omega arith) n.level 0 (relaid_room dims n.level new) n.chain u low ok.2 found (omega (arith, relaid-least dims n.level new, put-room w dims n.level n.chain to v whole ok.2, more)) (omega (arith, least)) (omega arith) in
+    if_any (count (del_entries w n.level new from) == 0) (wanted_below w dims (relaid_room dims n.level new) n.level new from) (most + more_words w dims) wanted

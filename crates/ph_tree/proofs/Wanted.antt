@@ -14,7 +14,7 @@ use Rattle.ph_node.specs.declared.reads.NodeRefOf.{NodeRefOf}
 use Rattle.ph_node.specs.declared.spots.Spot.{Spot}
 use Rattle.ph_tree.specs.declared.step.StepOf.{StepOf}
 use Rattle.ph_tree.specs.declared.step.StepOf.TheVariants.{Same, Below}
-use Rattle.ph_tree.specs.Rooms.{room_of_entries, wanted_below, spare_wanted, spare_wanted_in, longest_below, longest}
+use Rattle.ph_tree.specs.Rooms.{room_of_entries, relaid_room, wanted_below, spare_wanted, spare_wanted_in, longest_below, longest}
 use Rattle.ph_tree.specs.Step.{IsAmong, IsStep}
 use Rattle.ph_tree.proofs.Walks.{no_entry, least-address, IsStepAt, step_as, below_digits}
 use Rattle.ph_tree.proofs.Gone.{length-count, below_left, root_left}
@@ -72,12 +72,12 @@ module _ {dims w o : ℕ} {p : List ℤ} {t : PlainNode} {found : StepOf PlainNo
     abbrev own : IsStep w p t (Same spot v) o
     own = step_as k is
 
-    -- the node that loses the point is written anew
-    pub same_wanted : spare_wanted w dims t p ≡ room_of_entries dims t.level t.chain
+    -- the node that loses the point may want room for its record
+    pub same_wanted : spare_wanted w dims t p ≡ relaid_room dims t.level t.chain
     same_wanted =
-        wanted-at w dims (room_of_entries dims t.level t.chain) t.level 0 t.chain spot.place own.0 p k.lawful own.1.0 own.1.1
-        ∙ ap (wanted_by w dims (room_of_entries dims t.level t.chain) t.level p own.0.body) own.2
-        ∙ ap (λ z. cond z (room_of_entries dims t.level t.chain) 0) (same_digits-refl own.0.body (digits_below w t.level p) own.3)
+        wanted-at w dims (relaid_room dims t.level t.chain) t.level 0 t.chain spot.place own.0 p k.lawful own.1.0 own.1.1
+        ∙ ap (wanted_by w dims (relaid_room dims t.level t.chain) t.level p own.0.body) own.2
+        ∙ ap (λ z. cond z (relaid_room dims t.level t.chain) 0) (same_digits-refl own.0.body (digits_below w t.level p) own.3)
 
     pub same_longest : longest w dims t p ≡ room_of_entries dims t.level t.chain
     same_longest =
@@ -90,8 +90,8 @@ module _ {dims w o : ℕ} {p : List ℤ} {t : PlainNode} {found : StepOf PlainNo
 
     below_wanted : spare_wanted w dims t p ≡ cond (count (del_entries w (shown m).level (shown m).chain p) == 1) 0 (spare_wanted w dims (shown m) p)
     below_wanted =
-        wanted-at w dims (room_of_entries dims t.level t.chain) t.level 0 t.chain spot.place nearer.0 p k.lawful nearer.1.0 nearer.1.1
-        ∙ ap (wanted_by w dims (room_of_entries dims t.level t.chain) t.level p nearer.0.body) nearer.2
+        wanted-at w dims (relaid_room dims t.level t.chain) t.level 0 t.chain spot.place nearer.0 p k.lawful nearer.1.0 nearer.1.1
+        ∙ ap (wanted_by w dims (relaid_room dims t.level t.chain) t.level p nearer.0.body) nearer.2
         ∙ ap (λ z. cond z (cond (count (del_entries w (shown m).level (shown m).chain p) == 1) 0 (spare_wanted w dims (shown m) p)) 0) (below_digits k is)
 
     -- a child that keeps two entries wants what is wanted

@@ -1,6 +1,6 @@
 //! Taking a point out, below a node and out of a tree.
 
-ghost use Rattle.std.specs.Prelude.{◌≡◌, ◌+◌, ◌*◌, ◌^◌, ◌<◌, ◌≤◌, None, Some, length, IfOk, OnOk, OnErr, IsOk, IsSome};
+ghost use Rattle.std.specs.Prelude.{◌≡◌, ◌+◌, ◌*◌, ◌^◌, ◌<◌, ◌≤◌, None, Some, length, MatchOption, IfOk, OnOk, OnErr, IsOk, IsSome};
 ghost use Rattle.ph_specs.specs.Node.{node_of, entries};
 ghost use Rattle.ph_specs.specs.EntryEdits.{what_at, without};
 ghost use Rattle.ph_specs.specs.Lawful.{IsLawful, IsLawfulFrom};
@@ -13,12 +13,12 @@ ghost use Rattle.ph_node.specs.Split.{IsValue, body_at};
 ghost use Rattle.ph_node.specs.Spots.{IsSpot};
 ghost use Rattle.ph_tree.specs.Opened.{opened_below, opened_in};
 ghost use Rattle.ph_tree.specs.Placed.{value_gone};
-ghost use Rattle.ph_tree.specs.Rooms.{room_of_entries, spare_wanted, spare_wanted_in};
+ghost use Rattle.ph_tree.specs.Rooms.{relaid_room, spare_wanted, spare_wanted_in};
 ghost use Rattle.ph_tree.specs.Spares.{HasRoom};
 ghost use Rattle.ph_tree.specs.Step.{IsAmong};
 
 use crate::key::KeyOf;
-use crate::records::record_room;
+use crate::records::relaid_room;
 use crate::step::{StepOf, step};
 use ph_bits::Words;
 use ph_coord::Dims;
@@ -30,7 +30,7 @@ use std::sync::ledger::Ledger;
 // What a removal takes along on its way down.
 #[derive(Drop)]
 pub(crate) struct Removal {
-    // Where a block for the record that it writes is taken from, once the point is found.
+    // Where a block for a record that is laid out anew is taken from, once the point is found.
     pub(crate) alloc: Global,
     // Or else a block that is there.
     pub(crate) there: Option<Words>,
@@ -39,20 +39,22 @@ pub(crate) struct Removal {
 }
 
 impl Removal {
-    // A block with room for so many words. Where one is there, none is taken.
-    fn block(&mut self, room: usize) -> Result<Words, NoMemory>
-        requires some { 1 ≤ room }
+    // A block with room for so many words, where any are wanted. Where one is there, none is taken.
+    fn block(&mut self, room: usize) -> Result<Option<Words>, NoMemory>
         requires limit { room < 2 ^ 21 }
-        ensures room { IfOk result (λ b. room ≤ room_of b) }
+        ensures room { IfOk result (λ b. MatchOption b (room ≡ 0) (λ words. room ≤ room_of words)) }
         ensures there { HasRoom self.old room → IsOk result }
     {
+        if room == 0 {
+            return Ok(None);
+        }
         match self.there.take() {
-            None => Words::with_room(self.alloc, room),
+            None => Ok(Some(Words::with_room(self.alloc, room)?)),
             Some(words) => {
                 if words.room() < room {
                     return Err(NoMemory);
                 }
-                Ok(words)
+                Ok(Some(words))
             }
         }
     }
@@ -85,7 +87,7 @@ impl Removed {
 }
 
 // Takes a point out of a tree. The root goes with the last row. Memory is taken where the point is found and its node's record
-// is written anew, before the first change.
+// changes its layout, before the first change.
 pub(crate) fn del_in<P: Dims, V: Ledger, C: Ledger>(
     root: &mut Option<NodeOf<P>>,
     key: &KeyOf<P>,
@@ -153,7 +155,7 @@ pub(crate) fn del_at<P: Dims, V: Ledger, C: Ledger>(
     match step(node, key, visits) {
         StepOf::Absent(_) => Removed::Nothing,
         StepOf::Same(spot, value) => {
-            let room = record_room(node);
+            let room = relaid_room(node);
             drop_point(cur, spot, value, room, removal, changes)
         }
         StepOf::Below(spot, rank, below) => match point_among(below, 2, key) {
@@ -170,7 +172,7 @@ pub(crate) fn del_at<P: Dims, V: Ledger, C: Ledger>(
     }
 }
 
-// Lets a point entry of a node go, which takes so much room, and leaves its value in the removal.
+// Lets a point entry of a node go, which wants so much room for that, and leaves its value in the removal.
 #[inline(never)]
 fn drop_point<P: Dims, C: Ledger>(
     cur: &mut NodeOf<P>,
@@ -183,8 +185,7 @@ fn drop_point<P: Dims, C: Ledger>(
     requires spot { IsSpot (entries cur.old) spot }
     requires point { IsValue (what_at (entries cur.old) spot.place) }
     requires many { 2 ≤ length (entries cur.old) }
-    requires room { room ≡ room_of_entries P.D cur.old.level cur.old.chain }
-    requires some { 1 ≤ room }
+    requires room { room ≡ relaid_room P.D cur.old.level cur.old.chain }
     requires limit { room < 2 ^ 21 }
     ensures answer { IfOk (value_gone result removal.new.value) (λ a. a ≡ Some value) }
     ensures del { OnOk (value_gone result removal.new.value) (cur.new ≡ node_of cur.old.level (without (entries cur.old) spot.place)) }

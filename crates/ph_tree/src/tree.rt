@@ -240,8 +240,9 @@ impl<const D: usize> PhTree<D> {
     ///
     /// A node that would keep one entry goes, and that entry takes its place; only the root may have one.
     ///
-    /// It takes memory only where it writes a record anew, in a node that loses a point and stays: for the words of that record
-    /// and for the node's children. An absent point, the last row, and a node that goes take none. An error leaves all as it was.
+    /// It takes memory only where a node loses a point and its record changes its layout by that: for the words of that record
+    /// and for the node's children. Where the layout stays the record is changed where it lies. An absent point, the last row, and a
+    /// node that goes take none either. An error leaves all as it was.
     pub fn del<V: Ledger, C: Ledger>(
         &mut self,
         p: &Point<D>,

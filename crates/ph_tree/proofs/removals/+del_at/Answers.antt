@@ -3,23 +3,23 @@ use Rattle.std.specs.Prelude.{Some}
 use Rattle.ph_specs.specs.Node.{node}
 use Rattle.ph_specs.specs.EntryEdits.{with_child}
 use Rattle.ph_tree.specs.Placed.{value_gone}
-use Rattle.ph_tree.specs.Rooms.{room_of_entries}
+use Rattle.ph_tree.specs.Rooms.{relaid_room}
 use Rattle.ph_tree.specs.Spares.{HasRoom}
 use Rattle.ph_tree.proofs.Walks.{IsStepAt, step_at, absent_found, absent_opened, same_found, same_opened, same_value, same_spot, below_node, below_spot, below_rank, below_lent, way_below, some_none, found_as, on_ok, on_err, other_found, other_opened}
 use Rattle.ph_tree.proofs.Gone.{absent_del, other_del, same_del, same_many, below_left, below_del, merges}
 use Rattle.ph_tree.proofs.Wanted.{same_wanted, child_wanted}
 use Rattle.ph_tree.proofs.removals.+del_at.Given.{Over}
-use Rattle.ph_tree.proofs.removals.+del_at.Goals.{After-step, After-record_room-room}
+use Rattle.ph_tree.proofs.removals.+del_at.Goals.{After-step, After-relaid_room-room}
 use Rattle.ph_tree.proofs.removals.+del_at.Goals as goal
 
 -- what the step finds in the node
 stepped : (g : Over) (t : ℕ) (c : After-step g t) → IsStepAt g.P.Dims.D c.args.key.now.width c.args.key.now.point c.args.cur.now c.step.result (c.step.new.visits - c.visit-node.new.visits)
 stepped g t c = step_at c.visit-node.ensures.shows c.requires.lawful c.step.ensures.step
 
--- the room that the node takes
-room_taken : (g : Over) (t : ℕ) (c : After-record_room-room g t) → c.record_room-room.result ≡ room_of_entries g.P.Dims.D c.args.cur.now.level c.args.cur.now.chain
+-- the room that the node wants
+room_taken : (g : Over) (t : ℕ) (c : After-relaid_room-room g t) → c.relaid_room-room.result ≡ relaid_room g.P.Dims.D c.args.cur.now.level c.args.cur.now.chain
 room_taken g t c =
-    c.record_room-room.ensures.room ∙ ap (λ n. room_of_entries g.P.Dims.D n.level n.chain) c.visit-node.ensures.shows
+    c.relaid_room-room.ensures.room ∙ ap (λ n. relaid_room g.P.Dims.D n.level n.chain) c.visit-node.ensures.shows
 
 pub drop_point-requires : goal.drop_point-requires
 drop_point-requires g t c =
@@ -29,9 +29,8 @@ drop_point-requires g t c =
       spot = same_spot k c.in-Same.is;
       point = same_value k c.in-Same.is;
       many = same_many k c.in-Same.is c.requires.left;
-      room = room_taken g t at.After-record_room-room;
-      some = c.record_room-room.ensures.some;
-      limit = omega (arith, c.record_room-room.ensures.limit);
+      room = room_taken g t at.After-relaid_room-room;
+      limit = omega (arith, c.relaid_room-room.ensures.limit);
     }
 
 pub point_among-requires : goal.point_among-requires
@@ -81,7 +80,7 @@ returns-in-Same g t c =
     let at = goal.at.returns-in-Same g t c in
     let k = stepped g t at.After-step in
     let drop = c.drop_point.ensures in
-    let wanted = same_wanted k c.in-Same.is ∙ sym (room_taken g t at.After-record_room-room) in
+    let wanted = same_wanted k c.in-Same.is ∙ sym (room_taken g t at.After-relaid_room-room) in
     record {
       answer = found_as (value_gone c.drop_point.result c.drop_point.new.removal.value) _ _ (sym (same_found k c.in-Same.is)) drop.answer;
       del = on_ok (value_gone c.drop_point.result c.drop_point.new.removal.value) (λ q. q ∙ same_del k c.in-Same.is) drop.del;

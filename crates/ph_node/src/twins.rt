@@ -1,0 +1,244 @@
+//! A node that points come into and go out of where its record lies, beside one whose record is laid out anew each time.
+
+ghost use Rattle.std.specs.Prelude.{◌≡◌, ◌^◌, ◌<◌, ◌≤◌, None, position};
+ghost use Rattle.ph_specs.specs.EntryEdits.{has_address, what_at};
+ghost use Rattle.ph_specs.specs.Node.{entries};
+ghost use Rattle.ph_node.specs.Bodies.{IsBodyArray};
+ghost use Rattle.ph_node.specs.Places.{place_for};
+ghost use Rattle.ph_node.specs.Split.{IsValue};
+ghost use Rattle.ph_node.specs.Spots.{IsSpot};
+
+use crate::{Dim, Dims, NoMemory, NodeOf, Spot, points};
+use ph_bits::{Edit, Packed, Words};
+use ph_digits::body_below;
+use ph_steps::Steps;
+use std::alloc::Global;
+use std::marker::Brand;
+use std::process::Abort;
+use std::sync::ledger::{Blank, Ledger};
+use std::test::Fail;
+
+// How the record of a node is changed.
+#[derive(Clone, Copy, PartialEq)]
+enum Way {
+    AsItLies,
+    Anew,
+}
+
+// Numbers that have little to do with one another.
+fn scatter(fields: &mut [u64], seed: u64) {
+    let mut x = seed;
+    for field in fields.iter_mut() {
+        x = x
+            .wrapping_mul(0x9E37_79B9_7F4A_7C15)
+            .wrapping_add(0x7F4A_7C15);
+        *field = x >> 3;
+    }
+}
+
+fn body_for<P: Dims>(level: u32, seed: u64) -> [u64; 16]
+    requires few { P.D ≤ 16 }
+    requires low { level ≤ 61 }
+    ensures { IsBodyArray P.D level result }
+{
+    let mut fields = [0; 16];
+    scatter(&mut fields[..P::D], seed);
+    body_below(level, fields)
+}
+
+impl<P: Dims> NodeOf<P> {
+    // Adds a point entry, as `add` does, and lays the record out for it.
+    fn add_anew(&mut self, i: usize, addr: u32, body: [u64; 16], v: u64) -> Result<(), NoMemory>
+        requires address { addr < 2 ^ P.D }
+        requires absent { position (has_address addr) (entries self.old) ≡ None }
+        requires place { i ≡ place_for addr (entries self.old) }
+        requires body { IsBodyArray P.D self.old.level body }
+    {
+        let entry = Packed {
+            addr,
+            child: false,
+            body,
+            rank: 0,
+        };
+        let edit = Edit {
+            place: i,
+            less: 0,
+            more: 1,
+            entry,
+            value: v,
+        };
+        points::add_anew(&mut self.block, &edit)
+    }
+
+    // Lets a point entry go, as `drop_entry` does, and lays the record out without it.
+    fn drop_anew(&mut self, spot: Spot) -> Result<(), NoMemory>
+        requires spot { IsSpot (entries self.old) spot }
+        requires point { IsValue (what_at (entries self.old) spot.place) }
+        requires many { 2 ≤ length (entries self.old) }
+    {
+        let gone = Packed {
+            addr: spot.addr,
+            child: false,
+            body: [0; 16],
+            rank: 0,
+        };
+        let edit = Edit {
+            place: spot.place,
+            less: 1,
+            more: 0,
+            entry: gone,
+            value: 0,
+        };
+        let room = self.block.len() + self.block.count();
+        let words = Words::with_room(self.block.allocator(), room)?;
+        points::lay_out(&mut self.block, &edit, words);
+        Ok(())
+    }
+}
+
+// Adds a point at an address where none is, with a body and a value of its own.
+fn add<P: Dims, V: Ledger, C: Ledger>(
+    node: &mut NodeOf<P>,
+    addr: u32,
+    way: Way,
+    visits: &mut Steps<V>,
+    changes: &mut Steps<C>,
+) -> Result<(), NoMemory>
+    requires { addr < 2 ^ P.D }
+{
+    let seen = node.visit(visits);
+    let Err(i) = seen.search(addr) else {
+        return Ok(());
+    };
+    let body = body_for::<P>(seen.level(), addr as u64);
+    let v = addr as u64 * 3;
+    match way {
+        Way::AsItLies => node.add(i, addr, body, v, changes),
+        Way::Anew => node.add_anew(i, addr, body, v),
+    }
+}
+
+// Lets the point at an address go, where one is and another is left.
+fn drop_at<P: Dims, V: Ledger, C: Ledger>(
+    node: &mut NodeOf<P>,
+    addr: u32,
+    way: Way,
+    visits: &mut Steps<V>,
+    changes: &mut Steps<C>,
+) -> Result<(), NoMemory>
+    requires { addr < 2 ^ P.D }
+{
+    let seen = node.visit(visits);
+    let Ok(spot) = seen.search(addr) else {
+        return Ok(());
+    };
+    if seen.len() < 2 || seen.is_child(spot) {
+        return Ok(());
+    }
+    if way == Way::Anew {
+        return node.drop_anew(spot);
+    }
+    let spare = if seen.is_relaid() {
+        let room = seen.words().len() + seen.children().len();
+        Some(Words::with_room(node.block.allocator(), room)?)
+    } else {
+        None
+    };
+    node.drop_entry(spot, spare, changes);
+    Ok(())
+}
+
+// The k-th address in an order in which neighbours lie far apart. All below 2^D come before one comes again.
+fn scattered<P: Dims>(k: u32) -> u32
+    requires { P.D ≤ 16 }
+    ensures { result < 2 ^ P.D }
+{
+    k.wrapping_mul(0x9E37_79B1) % (1 << P::D)
+}
+
+// How the other node is changed: the way that takes long is left out in the middle of many points.
+fn way_for(k: u32, most: u32) -> Way
+    requires { k < most }
+{
+    if most <= 256 || k < 16 || most - k < 16 {
+        Way::Anew
+    } else {
+        Way::AsItLies
+    }
+}
+
+fn has_words(words: &[u64], want: &[u64]) -> bool {
+    *words == *want
+}
+
+// Brings points to two nodes until they have `most`, and takes all but one out again, in both layouts.
+fn there_and_back<P: Dims, V: Ledger, C: Ledger>(
+    rt: &impl Abort,
+    alloc: Global,
+    level: u32,
+    most: u32,
+    visits: Blank,
+    changes: Blank,
+) -> Result<(), NoMemory>
+    requires some { 1 ≤ P.D }
+    requires few { P.D ≤ 16 }
+    requires low { level ≤ 61 }
+    requires visits { (visits.name ≡ V.name) × (visits.parts ≡ V.parts) × (0 < visits.parts) }
+    requires changes { (changes.name ≡ C.name) × (changes.parts ≡ C.parts) × (0 < changes.parts) }
+{
+    let mut visits: Steps<V> = Steps::new(visits);
+    let mut changes: Steps<C> = Steps::new(changes);
+    let body = body_for::<P>(level, 0);
+    let mut node: NodeOf<P> = NodeOf::single(alloc, level, 0, body, 0, &mut changes)?;
+    let mut twin: NodeOf<P> = NodeOf::single(alloc, level, 0, body, 0, &mut changes)?;
+    for k in 1..most {
+        let addr = scattered::<P>(k);
+        add(&mut node, addr, Way::AsItLies, &mut visits, &mut changes)?;
+        add(&mut twin, addr, way_for(k, most), &mut visits, &mut changes)?;
+        assert!(rt;
+            has_words(
+                node.visit(&mut visits).words(),
+                twin.visit(&mut visits).words()
+            ),
+            "{k}"
+        );
+    }
+    assert!(rt; node.visit(&mut visits).is_cube());
+    for k in 1..most {
+        let addr = scattered::<P>(k);
+        drop_at(&mut node, addr, Way::AsItLies, &mut visits, &mut changes)?;
+        drop_at(&mut twin, addr, way_for(k, most), &mut visits, &mut changes)?;
+        assert!(rt;
+            has_words(
+                node.visit(&mut visits).words(),
+                twin.visit(&mut visits).words()
+            ),
+            "{k}"
+        );
+    }
+    let left = node.visit(&mut visits);
+    assert_eq!(rt; (left.len(), left.is_cube()), (1, false));
+    Ok(())
+}
+
+#[test]
+fn few_dimensions(rt: HostRuntime) -> Result<(), Fail> {
+    let alloc = rt.alloc();
+    there_and_back::<Dim<2>, Brand, Brand>(&rt, alloc, 5, 4, Blank::new(1), Blank::new(1))?;
+    there_and_back::<Dim<3>, Brand, Brand>(&rt, alloc, 5, 8, Blank::new(1), Blank::new(1))?;
+    there_and_back::<Dim<8>, Brand, Brand>(&rt, alloc, 3, 256, Blank::new(1), Blank::new(1))?;
+    Ok(())
+}
+
+#[test]
+fn sixteen_dimensions(rt: HostRuntime) -> Result<(), Fail> {
+    there_and_back::<Dim<16>, Brand, Brand>(
+        &rt,
+        rt.alloc(),
+        0,
+        7720,
+        Blank::new(1),
+        Blank::new(1),
+    )?;
+    Ok(())
+}
