@@ -6,6 +6,7 @@ mod NodeRooms
 mod Offsets
 mod PutRooms
 mod PutCases
+mod RemovalCases
 mod RoomLimits
 mod Rooms
 mod Shifted

@@ -191,10 +191,6 @@ module _ {dims w o : ℕ} {p : List ℤ} {t : PlainNode} {found : StepOf PlainNo
 
 -- ---- what an answer tells
 
-pub found_as : {E : Type 0} (r : Result (Option ℕ) E) (x y : Option ℕ) → x ≡ y → IfOk r (λ a. a ≡ x) → IfOk r (λ a. a ≡ y)
-found_as (Ok a) x y e h = h ∙ e
-found_as (Err b) x y e h = h
-
 pub answered_as : {T E : Type 0} (r : Result T E) (x y : T) → x ≡ y → IfOk r (λ a. a ≡ x) → IfOk r (λ a. a ≡ y)
 answered_as (Ok a) x y e h = h ∙ e
 answered_as (Err b) x y e h = h

@@ -4,6 +4,7 @@ pub mod Step
 pub mod Opened
 pub mod Placed
 pub mod Puts
+pub mod Removals
 pub mod Tree
 pub mod Moves
 pub mod Rooms

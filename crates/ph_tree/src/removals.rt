@@ -13,6 +13,7 @@ ghost use Rattle.ph_node.specs.Split.{IsValue, body_at};
 ghost use Rattle.ph_node.specs.Spots.{IsSpot};
 ghost use Rattle.ph_tree.specs.Opened.{opened_below, opened_in};
 ghost use Rattle.ph_tree.specs.Placed.{value_gone};
+ghost use Rattle.ph_tree.specs.Removals.{IsRemoval};
 ghost use Rattle.ph_tree.specs.Rooms.{relaid_room, spare_wanted, spare_wanted_in};
 ghost use Rattle.ph_tree.specs.Spares.{HasRoom};
 ghost use Rattle.ph_tree.specs.Step.{IsAmong};
@@ -96,18 +97,12 @@ pub(crate) fn del_in<P: Dims, V: Ledger, C: Ledger>(
     changes: &mut Steps<C>,
 ) -> Result<Option<u64>, NoMemory>
     requires lawful { IsLawful key.now.width P.D root.old }
-    ensures answer { IfOk result (λ a. a ≡ find_tree key.now.width P.D root.old key.now.point) }
-    ensures del { OnOk result (root.new ≡ del_tree key.now.width P.D root.old key.now.point) }
-    ensures err { OnErr result (root.new ≡ root.old) }
-    ensures absent { find_tree key.now.width P.D root.old key.now.point ≡ None → IsOk result }
+    ensures del { IsRemoval (find_tree key.now.width P.D root.old key.now.point)
+        root.old (del_tree key.now.width P.D root.old key.now.point) root.new
+        changes.old changes.new result }
     ensures roomy { HasRoom removal.old (spare_wanted_in key.now.width P.D root.old key.now.point) → IsOk result }
     ensures visits { visits.new ≤ visits.old + 2 * opened_in key.now.width root.old key.now.point }
     ensures later { visits.old ≤ visits.new }
-    ensures changes { changes.new ≤ changes.old + 2 }
-    ensures idle { find_tree key.now.width P.D root.old key.now.point ≡ None → changes.new ≡ changes.old }
-    ensures spared { OnErr result (changes.new ≡ changes.old) }
-    ensures kept { changes.old ≤ changes.new }
-    ensures made { IfOk result (λ a. IsSome a → changes.old + 1 ≤ changes.new) }
 {
     // A use that makes the range of the width known.
     let _width = key.width();
@@ -138,18 +133,12 @@ pub(crate) fn del_at<P: Dims, V: Ledger, C: Ledger>(
     requires lawful { IsLawfulFrom P.D cur.old.level 0 cur.old.chain }
     requires level { cur.old.level < key.now.width }
     requires left { 1 ≤ length (entries (del_node key.now.width cur.old key.now.point)) }
-    ensures answer { IfOk (value_gone result removal.new.value) (λ a. a ≡ find_node key.now.width cur.old key.now.point) }
-    ensures del { OnOk (value_gone result removal.new.value) (cur.new ≡ del_node key.now.width cur.old key.now.point) }
-    ensures err { OnErr (value_gone result removal.new.value) (cur.new ≡ cur.old) }
-    ensures absent { find_node key.now.width cur.old key.now.point ≡ None → IsOk (value_gone result removal.new.value) }
+    ensures del { IsRemoval (find_node key.now.width cur.old key.now.point)
+        cur.old (del_node key.now.width cur.old key.now.point) cur.new
+        changes.old changes.new (value_gone result removal.new.value) }
     ensures roomy { HasRoom removal.old (spare_wanted key.now.width P.D cur.old key.now.point) → IsOk (value_gone result removal.new.value) }
     ensures visits { visits.new ≤ visits.old + 2 * opened_below key.now.width cur.old.level cur.old.chain key.now.point + 1 }
     ensures later { visits.old ≤ visits.new }
-    ensures changes { changes.new ≤ changes.old + 2 }
-    ensures idle { find_node key.now.width cur.old key.now.point ≡ None → changes.new ≡ changes.old }
-    ensures spared { OnErr (value_gone result removal.new.value) (changes.new ≡ changes.old) }
-    ensures kept { changes.old ≤ changes.new }
-    ensures made { IfOk (value_gone result removal.new.value) (λ a. IsSome a → changes.old + 1 ≤ changes.new) }
 {
     let node = cur.visit(visits);
     match step(node, key, visits) {
@@ -187,14 +176,10 @@ fn drop_point<P: Dims, C: Ledger>(
     requires many { 2 ≤ length (entries cur.old) }
     requires room { room ≡ relaid_room P.D cur.old.level cur.old.chain }
     requires limit { room < 2 ^ 21 }
-    ensures answer { IfOk (value_gone result removal.new.value) (λ a. a ≡ Some value) }
-    ensures del { OnOk (value_gone result removal.new.value) (cur.new ≡ node_of cur.old.level (without (entries cur.old) spot.place)) }
-    ensures err { OnErr (value_gone result removal.new.value) (cur.new ≡ cur.old) }
+    ensures del { IsRemoval (Some value)
+        cur.old (node_of cur.old.level (without (entries cur.old) spot.place)) cur.new
+        changes.old changes.new (value_gone result removal.new.value) }
     ensures roomy { HasRoom removal.old room → IsOk (value_gone result removal.new.value) }
-    ensures changes { changes.new ≤ changes.old + 1 }
-    ensures spared { OnErr (value_gone result removal.new.value) (changes.new ≡ changes.old) }
-    ensures kept { changes.old ≤ changes.new }
-    ensures made { IfOk (value_gone result removal.new.value) (λ a. IsSome a → changes.old + 1 ≤ changes.new) }
 {
     let Ok(block) = removal.block(room) else {
         return Removed::Failed;

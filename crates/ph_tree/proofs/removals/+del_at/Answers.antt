@@ -2,11 +2,11 @@ use Rattle.std.proofs.Common.{◌≡◌, ◌-◌, ℕ, arith, refl, rules, sym, 
 use Rattle.std.specs.Prelude.{Some}
 use Rattle.ph_specs.specs.Node.{node}
 use Rattle.ph_specs.specs.EntryEdits.{with_child}
-use Rattle.ph_tree.specs.Placed.{value_gone}
 use Rattle.ph_tree.specs.Rooms.{relaid_room}
 use Rattle.ph_tree.specs.Spares.{HasRoom}
-use Rattle.ph_tree.proofs.Walks.{IsStepAt, step_at, absent_found, absent_opened, same_found, same_opened, same_value, same_spot, below_node, below_spot, below_rank, below_lent, way_below, some_none, found_as, on_ok, on_err, other_found, other_opened}
+use Rattle.ph_tree.proofs.Walks.{IsStepAt, step_at, absent_found, absent_opened, same_found, same_opened, same_value, same_spot, below_node, below_spot, below_rank, below_lent, way_below, some_none, other_found, other_opened}
 use Rattle.ph_tree.proofs.Gone.{absent_del, other_del, same_del, same_many, below_left, below_del, merges}
+use Rattle.ph_tree.proofs.RemovalCases.{removal_as, lifted}
 use Rattle.ph_tree.proofs.Wanted.{same_wanted, child_wanted}
 use Rattle.ph_tree.proofs.removals.+del_at.Given.{Over}
 use Rattle.ph_tree.proofs.removals.+del_at.Goals.{After-step, After-relaid_room-room}
@@ -61,18 +61,20 @@ pub returns-in-Absent : goal.returns-in-Absent
 returns-in-Absent g t c =
     let k = stepped g t (goal.at.returns-in-Absent g t c).After-step in
     record {
-      answer = sym (absent_found k c.in-Absent.is);
-      del = absent_del k c.in-Absent.is;
-      err = tt;
-      absent = λ _. refl;
+      del = record {
+        answer = sym (absent_found k c.in-Absent.is);
+        del = absent_del k c.in-Absent.is;
+        err = tt;
+        absent = λ _. refl;
+        changes = omega arith;
+        idle = λ _. refl;
+        spared = tt;
+        kept = omega arith;
+        made = λ some. absurd cc;
+      };
       roomy = λ _. refl;
       visits = omega (arith, absent_opened k c.in-Absent.is, c.in-Absent.ensures.cost, c.visit-node.ensures.cost);
       later = omega (arith, c.in-Absent.ensures.cost, c.visit-node.ensures.cost);
-      changes = omega arith;
-      idle = λ _. refl;
-      spared = tt;
-      kept = omega arith;
-      made = λ some. absurd cc;
     }
 
 pub returns-in-Same : goal.returns-in-Same
@@ -82,18 +84,10 @@ returns-in-Same g t c =
     let drop = c.drop_point.ensures in
     let wanted = same_wanted k c.in-Same.is ∙ sym (room_taken g t at.After-relaid_room-room) in
     record {
-      answer = found_as (value_gone c.drop_point.result c.drop_point.new.removal.value) _ _ (sym (same_found k c.in-Same.is)) drop.answer;
-      del = on_ok (value_gone c.drop_point.result c.drop_point.new.removal.value) (λ q. q ∙ same_del k c.in-Same.is) drop.del;
-      err = drop.err;
-      absent = λ none. some_none (sym (same_found k c.in-Same.is) ∙ none);
+      del = removal_as (sym (same_found k c.in-Same.is)) (same_del k c.in-Same.is) drop.del;
       roomy = λ room. drop.roomy (subst (HasRoom c.args.removal.now) wanted room);
       visits = omega (arith, same_opened k c.in-Same.is, c.in-Same.ensures.cost, c.visit-node.ensures.cost);
       later = omega (arith, c.in-Same.ensures.cost, c.visit-node.ensures.cost);
-      changes = omega (arith, drop.changes);
-      idle = λ none. some_none (sym (same_found k c.in-Same.is) ∙ none);
-      spared = drop.spared;
-      kept = drop.kept;
-      made = drop.made;
     }
 
 pub returns-in-Some : goal.returns-in-Some
@@ -104,18 +98,20 @@ returns-in-Some g t c =
     let below = way_below k c.in-Below.is refl in
     let drop = c.drop_child.ensures in
     record {
-      answer = ap Some drop.value ∙ sym m.found;
-      del = drop.del ∙ m.del;
-      err = tt;
-      absent = λ _. refl;
+      del = record {
+        answer = ap Some drop.value ∙ sym m.found;
+        del = drop.del ∙ m.del;
+        err = tt;
+        absent = λ _. refl;
+        changes = omega (arith, drop.cost);
+        idle = λ none. some_none (sym m.found ∙ none);
+        spared = tt;
+        kept = omega (arith, drop.cost);
+        made = λ _. omega (arith, drop.cost);
+      };
       roomy = λ _. refl;
       visits = omega (arith, below.one, below.opened, c.in-Below.ensures.cost, c.visit-node.ensures.cost);
       later = omega (arith, c.in-Below.ensures.cost, c.visit-node.ensures.cost);
-      changes = omega (arith, drop.cost);
-      idle = λ none. some_none (sym m.found ∙ none);
-      spared = tt;
-      kept = omega (arith, drop.cost);
-      made = λ _. omega (arith, drop.cost);
     }
 
 pub returns-in-None : goal.returns-in-None
@@ -124,36 +120,29 @@ returns-in-None g t c =
     let is = below_lent k c.in-Below.is (ap node c.node_mut.ensures.shows ∙ c.child_mut-slot.ensures.shows) in
     let below = way_below k c.in-Below.is is in
     let del = c.del_at.ensures in
-    let over = with_child c.args.cur.now c.in-Below.spot.place in
     record {
-      answer = found_as (value_gone c.del_at.result c.del_at.new.removal.value) _ _ (sym below.found) del.answer;
-      del = on_ok (value_gone c.del_at.result c.del_at.new.removal.value) (λ q. ap over q ∙ below_del k c.in-Below.is is c.in-None.ensures) del.del;
-      err = on_err (value_gone c.del_at.result c.del_at.new.removal.value) (λ q. ap over q ∙ below.back) del.err;
-      absent = λ none. del.absent (sym below.found ∙ none);
+      del = lifted (with_child c.args.cur.now c.in-Below.spot.place) (sym below.found) below.back (below_del k c.in-Below.is is c.in-None.ensures) del.del;
       roomy = λ room. del.roomy (subst (HasRoom c.args.removal.now) (child_wanted k c.in-Below.is is c.in-None.ensures) room);
       visits = omega (arith, below.one, below.opened, c.in-Below.ensures.cost, del.visits, c.visit-node.ensures.cost);
       later = omega (arith, c.in-Below.ensures.cost, del.later, c.visit-node.ensures.cost);
-      changes = del.changes;
-      idle = λ none. del.idle (sym below.found ∙ none);
-      spared = del.spared;
-      kept = del.kept;
-      made = del.made;
     }
 
 pub returns-in-Other : goal.returns-in-Other
 returns-in-Other g t c =
     let k = stepped g t (goal.at.returns-in-Other g t c).After-step in
     record {
-      answer = sym (other_found k c.in-Other.is);
-      del = other_del k c.in-Other.is;
-      err = tt;
-      absent = λ _. refl;
+      del = record {
+        answer = sym (other_found k c.in-Other.is);
+        del = other_del k c.in-Other.is;
+        err = tt;
+        absent = λ _. refl;
+        changes = omega arith;
+        idle = λ _. refl;
+        spared = tt;
+        kept = omega arith;
+        made = λ some. absurd cc;
+      };
       roomy = λ _. refl;
       visits = omega (arith, other_opened k c.in-Other.is, c.in-Other.ensures.cost, c.visit-node.ensures.cost);
       later = omega (arith, c.in-Other.ensures.cost, c.visit-node.ensures.cost);
-      changes = omega arith;
-      idle = λ _. refl;
-      spared = tt;
-      kept = omega arith;
-      made = λ some. absurd cc;
     }

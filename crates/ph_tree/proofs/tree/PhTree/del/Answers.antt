@@ -14,20 +14,20 @@ keyed g c =
 
 pub overflow_sub-self : goal.overflow_sub-self
 overflow_sub-self g c =
-    (removal (keyed g (goal.at.overflow_sub-self g c).After-del_in) c.in_ok-value.ensures.del c.in_ok-value.ensures.answer).some_row _ c.in-Some.is
+    (removal (keyed g (goal.at.overflow_sub-self g c).After-del_in) c.in_ok-value.ensures.del.del c.in_ok-value.ensures.del.answer).some_row _ c.in-Some.is
 
 pub invariant_of-self-in-Some : goal.invariant_of-self-in-Some
 invariant_of-self-in-Some g c =
-    (removal (keyed g (goal.at.invariant_of-self-in-Some g c).After-del_in) c.in_ok-value.ensures.del c.in_ok-value.ensures.answer).fewer _ c.in-Some.is
+    (removal (keyed g (goal.at.invariant_of-self-in-Some g c).After-del_in) c.in_ok-value.ensures.del.del c.in_ok-value.ensures.del.answer).fewer _ c.in-Some.is
 
 pub invariant_of-self-in-None : goal.invariant_of-self-in-None
 invariant_of-self-in-None g c =
-    (removal (keyed g (goal.at.invariant_of-self-in-None g c).After-del_in) c.in_ok-value.ensures.del c.in_ok-value.ensures.answer).kept c.in-None.is
+    (removal (keyed g (goal.at.invariant_of-self-in-None g c).After-del_in) c.in_ok-value.ensures.del.del c.in_ok-value.ensures.del.answer).kept c.in-None.is
 
 pub returns-in_err-value-clause-absent : goal.returns-in_err-value-clause-absent
 returns-in_err-value-clause-absent g c none =
     let k = keyed g (goal.at.returns-in_err-value-clause-absent g c).After-del_in in
-    absurd (let no = c.in_err-value.ensures.absent (found_is k ∙ none) in cc)
+    absurd (let no = c.in_err-value.ensures.del.absent (found_is k ∙ none) in cc)
 
 pub returns-in_err-value-clause-lean : goal.returns-in_err-value-clause-lean
 returns-in_err-value-clause-lean g c none =
@@ -45,7 +45,8 @@ returns-in_err-value-clause-limit g c =
 pub returns-in-Some : goal.returns-in-Some
 returns-in-Some g c =
     let k = keyed g (goal.at.returns-in-Some g c).After-del_in in
-    let del = c.in_ok-value.ensures in
+    let ensured = c.in_ok-value.ensures in
+    let del = ensured.del in
     let row = removal k del.del del.answer in
     record {
       del = row.table;
@@ -53,9 +54,9 @@ returns-in-Some g c =
       err = tt;
       absent = λ _. refl;
       lean = λ _. refl;
-      visits = omega (arith, del.visits, opened_is k);
-      limit = omega (arith, del.visits, opened_few k);
-      later = del.later;
+      visits = omega (arith, ensured.visits, opened_is k);
+      limit = omega (arith, ensured.visits, opened_few k);
+      later = ensured.later;
       changes = omega arith;
       idle = λ none. some_none (sym c.in-Some.is ∙ row.answer ∙ none);
       spared = tt;
@@ -66,7 +67,8 @@ returns-in-Some g c =
 pub returns : goal.returns
 returns g c =
     let k = keyed g (goal.at.returns g c).After-del_in in
-    let del = c.in_ok-value.ensures in
+    let ensured = c.in_ok-value.ensures in
+    let del = ensured.del in
     let row = removal k del.del del.answer in
     record {
       del = row.table;
@@ -74,9 +76,9 @@ returns g c =
       err = tt;
       absent = λ _. refl;
       lean = λ _. refl;
-      visits = omega (arith, del.visits, opened_is k);
-      limit = omega (arith, del.visits, opened_few k);
-      later = del.later;
+      visits = omega (arith, ensured.visits, opened_is k);
+      limit = omega (arith, ensured.visits, opened_few k);
+      later = ensured.later;
       changes = omega arith;
       idle = λ none. del.idle (found_is k ∙ none);
       spared = tt;
