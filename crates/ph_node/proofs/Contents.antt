@@ -11,7 +11,6 @@ use Rattle.ph_node.specs.Merge.{addr_at}
 use Rattle.ph_node.specs.OneEdit.{value_of, ones_of, held_nodes, nodes_held, flat_of, flats_of, before}
 use Rattle.ph_node.proofs.Lists.{Renewed, front-nodes}
 use Rattle.ph_node.proofs.OldNodes.{IsOld}
-use Rattle.ph_node.proofs.Spliced.{length-edited}
 
 -- ---- a split and a merge are changes of contents
 
@@ -97,11 +96,6 @@ module _ (d : ℕ) (ws : List ℕ) (ns : List PlainNode) (t : PlainNode) (o : Is
 
   pub own_nodes : take (ones_of (what_at (entries t) i)) (drop (before (entries t) i) ns) ≡ held_nodes (what_at (entries t) i)
   own_nodes = ap (λ u. take (ones_of (what_at (entries t) i)) (drop (before (entries t) i) u)) (sym o.nodes) ∙ own-nodes (entries t) i
-
-  -- how many children there are with another content
-  pub count_changed : (c : Bool) (x : PlainNode) (k : ℕ) → ones_of (what_at (entries t) i) ≡ (if c then 1 else 0) → k ≡ length ns → k + 1 - bool_byte c ≡ length (edited (before (entries t) i) (ones_of (what_at (entries t) i)) 1 x ns)
-  count_changed c x k e f =
-      omega (arith, length-edited (before (entries t) i) (ones_of (what_at (entries t) i)) 1 x ns front_fits, e, f, byte c)
 
   pub changed : (body : List ℕ) (w : What) → IsBody d t.level body → 1 ≤ t.level
       → Renewed d t.level (edited i 1 1 (record { addr = addr_at (entries t) i; body = body; value = value_of w }) (flats_of t)) (edited (before (entries t) i) (ones_of (what_at (entries t) i)) (ones_of w) (node_in w) ns) (with_content (entries t) i body w)

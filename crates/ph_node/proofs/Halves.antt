@@ -59,9 +59,6 @@ module _ (d : ℕ) (ws : List ℕ) (ns : List PlainNode) (t : PlainNode) (o : Is
   body-was : IsBody d t.level (body_at (entries t) i)
   body-was = kept-body d t.level 0 (entries t) i o.kept.rise l
 
-  pub old_long : length (take d old.body) ≡ d
-  old_long = ap (λ u. length u) (sym r.body) ∙ body-was.0
-
   module _ (place v : ℕ) (body : List ℕ) (b : IsBodyArray d t.level body) (top : IsTopDifference (take d old.body) (take d body) place) where
     two : AreApart d t.level place (body_at (entries t) i) (take d body)
     two = apart d t.level place (body_at (entries t) i) (take d body) body-was b.fields (subst (λ u. IsTopDifference u (take d body) place) (sym r.body) top)

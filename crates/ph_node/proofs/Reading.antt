@@ -128,12 +128,6 @@ module _ (d e : ℕ) (ws us : List ℕ) (ns : List PlainNode) (t : PlainNode) (i
 
 -- ---- bodies beside numbers
 
-pub cut-none : (l : ℕ) (xs : List ℕ) → map (cut l 0) xs ≡ body_below l xs
-cut-none l [] = refl
-cut-none l (x ∷ xs) =
-    let e : x % 2 ^ l / 2 ^ 0 * 2 ^ 0 ≡ x % 2 ^ l = omega arith in
-    ap (λ y. y ∷ map (cut l 0) xs) e ∙ ap {B = List ℕ} (λ ys. x % 2 ^ l ∷ ys) (cut-none l xs)
-
 pub cut-above : (l low : ℕ) (xs : List ℕ) → map (cut l (low + 1)) xs ≡ body_above low (body_below l xs)
 cut-above l low [] = refl
 cut-above l low (x ∷ xs) = ap {B = List ℕ} (λ ys. x % 2 ^ l / 2 ^ (low + 1) * 2 ^ (low + 1) ∷ ys) (cut-above l low xs)

@@ -73,9 +73,6 @@ module _ {P : Type 0} {dims : ℕ} {n : PlainNode} {ws : List ℕ} {ss : List (S
   seen-size = omega (arith, ap length (below-children ss n n h.children refl))
 
 module _ {P : Type 0} {dims : ℕ} {n m : PlainNode} {ws us : List ℕ} {ss ts : List (SlotOf P)} (h : IsSeen dims n ws ss) (k : IsSeen dims m us ts) where
-  pub seen-words : n ≡ m → ws ≡ us
-  seen-words e = h.words ∙ ap (pack dims) e ∙ sym k.words
-
   module _ (e : ws ≡ us) where
     pub seen-long : length ss ≡ length ts
     seen-long = seen-length h ∙ ap (λ t. (first_in t).children) e ∙ sym (seen-length k)
@@ -85,13 +82,6 @@ module _ {P : Type 0} {dims : ℕ} {n m : PlainNode} {ws us : List ℕ} {ss ts :
       λ f. sym (seen-again h) ∙ ap (λ t. unpacked dims t (nodes_of ss)) e ∙ ap (λ t. unpacked dims us t) f ∙ seen-again k,
       λ f. h.children ∙ ap (λ t. child_nodes t.chain) f ∙ sym k.children,
     )
-
--- a first child that is the same, and those behind it
-pub first-same : {A : Type 0} {n m : PlainNode} {ns ms : List PlainNode} → n ≡ m → ((n ∷ ns ≡ m ∷ ms) ↔ A) → (ns ≡ ms) ↔ A
-first-same {A} {n} {m} {ns} {ms} e h = (
-  λ f. h.0 (λ i. e i ∷ f i),
-  λ a. let g : n ∷ ns ≡ m ∷ ms = h.1 a in cc,
-)
 
 pub first-other : {A : Type 0} {n m : PlainNode} {ns ms : List PlainNode} → (n ≡ m → ⊥) → ((n ∷ ns ≡ m ∷ ms) ↔ A) → A → ⊥
 first-other {A} {n} {m} {ns} {ms} differ h a = let g : n ∷ ns ≡ m ∷ ms = h.1 a in differ cc

@@ -19,7 +19,7 @@ use Rattle.ph_node.specs.declared.spots.Spot.{Spot}
 use Rattle.ph_tree.specs.declared.step.StepOf.{StepOf}
 use Rattle.ph_tree.specs.declared.step.StepOf.TheVariants.{Absent, Same, Below, Other}
 use Rattle.ph_tree.specs.Opened.{opened_below}
-use Rattle.ph_tree.specs.Step.{IsApart, IsApartAt, IsStep, opened_for}
+use Rattle.ph_tree.specs.Step.{IsApart, IsStep, opened_for}
 use Rattle.ph_tree.proofs.Steps.{what_got, spot_at, put_back, same_node}
 
 abbrev pub no_entry : Entry
@@ -168,9 +168,6 @@ module _ {dims w o : ℕ} {p : List ℤ} {t : PlainNode} {found : StepOf PlainNo
   module _ {spot : Spot} (is : found ≡ Other spot) where
     abbrev other : IsStep w p t (Other spot) o
     other = step_as is
-
-    pub other_apart : IsApartAt w p t spot
-    other_apart = (other.0, other.1, other.2)
 
     found_by : (held : What) → other.0.what ≡ held → IsApart w p t.level other.0.body held → find_node w t p ≡ None
     found_by (value u) q a =

@@ -16,18 +16,22 @@ room_of_entries dims level e = length (record_of dims level (flat e)) + children
 
 -- ---- a removal
 
--- the room that a node at a level wants to lose an entry: that of the record, which is laid out anew where it changes its layout. Where the layout stays it is changed as it lies, and wants none
+-- the room that a node at a level wants to lose an entry: that of the record, which is laid out anew where it changes its layout. Where the layout stays
+-- it is changed as it lies, and wants none
 abbrev pub relaid_room : ℕ → ℕ → Entries → ℕ
 relaid_room dims level e = if is_relaid dims level (count e) then room_of_entries dims level e else 0
 
--- the room that the removal of a point wants below a node at a level that wants so much to lose an entry. None is wanted where the point is not found, and none where a child of two entries loses one: the other takes the child's place in the record as it lies
+-- the room that the removal of a point wants below a node at a level that wants so much to lose an entry. None is wanted where the point is not found,
+-- and none where a child of two entries loses one: the other takes the child's place in the record as it lies
 abbrev pub wanted_below : ℕ → ℕ → ℕ → ℕ → Entries → List ℤ → ℕ
 wanted_below width dims room level end p = 0
 wanted_below width dims room level (point a body v rest) p =
     if a == address width p level then (if same_digits body (digits_below width level p) then room else 0) else wanted_below width dims room level rest p
 wanted_below width dims room level (child a body below chain rest) p =
     if a == address width p level then
-    (if same_digits body (digits_between width level below p) then (if count (del_entries width below chain p) == 1 then 0 else wanted_below width dims (relaid_room dims below chain) below chain p) else 0)
+    (if same_digits body (digits_between width level below p)
+    then (if count (del_entries width below chain p) == 1 then 0 else wanted_below width dims (relaid_room dims below chain) below chain p)
+    else 0)
     else wanted_below width dims room level rest p
 
 -- the room that the removal of a point from a node or from below it wants
