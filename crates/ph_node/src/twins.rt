@@ -1,8 +1,11 @@
 //! A node that points come into and go out of where its record lies, beside one whose record is laid out anew each time.
 
-ghost use Rattle.std.specs.Prelude.{◌≡◌, ◌^◌, ◌<◌, ◌≤◌, None, position};
+ghost use Rattle.std.specs.Prelude.{◌≡◌, ◌+◌, ◌^◌, ◌<◌, ◌≤◌, true, None, length, MatchOption, IfOk, position};
 ghost use Rattle.ph_specs.specs.EntryEdits.{has_address, what_at};
 ghost use Rattle.ph_specs.specs.Node.{entries};
+ghost use Rattle.ph_specs.specs.Pack.{pack};
+ghost use Rattle.ph_specs.proofs.laws.Unpacked.{child_nodes};
+ghost use Rattle.ph_bits.specs.Block.{room_of};
 ghost use Rattle.ph_node.specs.Bodies.{IsBodyArray};
 ghost use Rattle.ph_node.specs.Places.{place_for};
 ghost use Rattle.ph_node.specs.Split.{IsValue};
@@ -46,54 +49,71 @@ fn body_for<P: Dims>(level: u32, seed: u64) -> [u64; 16]
     body_below(level, fields)
 }
 
-impl<P: Dims> NodeOf<P> {
-    // Adds a point entry, as `add` does, and lays the record out for it.
-    fn add_anew(&mut self, i: usize, addr: u32, body: [u64; 16], v: u64) -> Result<(), NoMemory>
-        requires address { addr < 2 ^ P.D }
-        requires absent { position (has_address addr) (entries self.old) ≡ None }
-        requires place { i ≡ place_for addr (entries self.old) }
-        requires body { IsBodyArray P.D self.old.level body }
-    {
-        let entry = Packed {
-            addr,
-            child: false,
-            body,
-            rank: 0,
-        };
-        let edit = Edit {
-            place: i,
-            less: 0,
-            more: 1,
-            entry,
-            value: v,
-        };
-        points::add_anew(&mut self.block, &edit)
-    }
+// Adds a point entry, as `NodeOf::add` does, and lays the record out for it.
+fn add_anew<P: Dims>(
+    node: &mut NodeOf<P>,
+    i: usize,
+    addr: u32,
+    body: [u64; 16],
+    v: u64,
+) -> Result<(), NoMemory>
+    requires address { addr < 2 ^ P.D }
+    requires absent { position (has_address addr) (entries node.old) ≡ None }
+    requires place { i ≡ place_for addr (entries node.old) }
+    requires body { IsBodyArray P.D node.old.level body }
+{
+    let entry = Packed {
+        addr,
+        child: false,
+        body,
+        rank: 0,
+    };
+    let edit = Edit {
+        place: i,
+        less: 0,
+        more: 1,
+        entry,
+        value: v,
+    };
+    points::add_anew(&mut node.block, &edit)
+}
 
-    // Lets a point entry go, as `drop_entry` does, and lays the record out without it.
-    fn drop_anew(&mut self, spot: Spot) -> Result<(), NoMemory>
-        requires spot { IsSpot (entries self.old) spot }
-        requires point { IsValue (what_at (entries self.old) spot.place) }
-        requires many { 2 ≤ length (entries self.old) }
-    {
-        let gone = Packed {
-            addr: spot.addr,
-            child: false,
-            body: [0; 16],
-            rank: 0,
-        };
-        let edit = Edit {
-            place: spot.place,
-            less: 1,
-            more: 0,
-            entry: gone,
-            value: 0,
-        };
-        let room = self.block.len() + self.block.count();
-        let words = Words::with_room(self.block.allocator(), room)?;
-        points::lay_out(&mut self.block, &edit, words);
-        Ok(())
+// Lets a point entry go, as `NodeOf::drop_entry` does, and lays the record out without it.
+fn drop_anew<P: Dims>(node: &mut NodeOf<P>, spot: Spot) -> Result<(), NoMemory>
+    requires spot { IsSpot (entries node.old) spot }
+    requires point { IsValue (what_at (entries node.old) spot.place) }
+    requires many { 2 ≤ length (entries node.old) }
+{
+    let gone = Packed {
+        addr: spot.addr,
+        child: false,
+        body: [0; 16],
+        rank: 0,
+    };
+    let edit = Edit {
+        place: spot.place,
+        less: 1,
+        more: 0,
+        entry: gone,
+        value: 0,
+    };
+    let room = node.block.len() + node.block.count();
+    let words = Words::with_room(node.block.allocator(), room)?;
+    points::lay_out(&mut node.block, &edit, words);
+    Ok(())
+}
+
+// The words that `NodeOf::drop_entry` wants where it lays the record out.
+fn spare_for<P: Dims>(node: &NodeOf<P>, relaid: bool) -> Result<Option<Words>, NoMemory>
+    ensures { IfOk result (λ spare. relaid ≡ true
+        → MatchOption spare ⊥ (λ w. length (pack P.D node.now) + length (child_nodes node.now.chain) ≤ room_of w)) }
+{
+    if !relaid {
+        return Ok(None);
     }
+    let room = node.block.len() + node.block.count();
+    let words = Words::with_room(node.block.allocator(), room)?;
+    Ok(Some(words))
 }
 
 // Adds a point at an address where none is, with a body and a value of its own.
@@ -114,7 +134,7 @@ fn add<P: Dims, V: Ledger, C: Ledger>(
     let v = addr as u64 * 3;
     match way {
         Way::AsItLies => node.add(i, addr, body, v, changes),
-        Way::Anew => node.add_anew(i, addr, body, v),
+        Way::Anew => add_anew(node, i, addr, body, v),
     }
 }
 
@@ -136,14 +156,10 @@ fn drop_at<P: Dims, V: Ledger, C: Ledger>(
         return Ok(());
     }
     if way == Way::Anew {
-        return node.drop_anew(spot);
+        return drop_anew(node, spot);
     }
-    let spare = if seen.is_relaid() {
-        let room = seen.words().len() + seen.children().len();
-        Some(Words::with_room(node.block.allocator(), room)?)
-    } else {
-        None
-    };
+    let relaid = seen.is_relaid();
+    let spare = spare_for(node, relaid)?;
     node.drop_entry(spot, spare, changes);
     Ok(())
 }

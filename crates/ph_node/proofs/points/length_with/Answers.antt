@@ -6,10 +6,6 @@ use Rattle.ph_node.proofs.RecordEdits.{few_with}
 use Rattle.ph_node.proofs.Resized.{count_more, words_more}
 use Rattle.ph_node.proofs.points.length_with.Goals as goal
 
-pub overflow_sub-points : goal.overflow_sub-points
-overflow_sub-points g c =
-    omega (arith, c.count-n.ensures, c.count-children.ensures.value, c.requires.children, c.requires.edit.source.laid.tables.kids, ap (λ u. (first_in u).entries) c.words-words.ensures)
-
 pub size-requires-clause-entries : goal.size-requires-clause-entries
 size-requires-clause-entries g c =
     omega (arith, c.count-n.ensures, ap (λ u. (first_in u).entries) c.words-words.ensures, count_more _ _ _ c.requires.edit c.requires.less c.requires.more c.requires.point, few_with _ _ _ c.requires.edit, ap (λ d. 2 ^ d) c.D-dims.ensures)

@@ -1,21 +1,16 @@
-use Rattle.std.proofs.Common.{◌≡◌, ◌+◌, ◌≤◌, ◌^◌, true, length, ap, sym, ◌∙◌, subst, arith}
+use Rattle.std.proofs.Common.{◌≡◌, ◌+◌, ◌≤◌, true, length, ap, sym, ◌∙◌, subst, arith}
 use Rattle.std.specs.Prelude.{MatchOption}
 use Rattle.ph_specs.specs.Pack.{is_cube}
 use Rattle.ph_specs.specs.Record.{first_in, has_cube}
 use Rattle.ph_bits.specs.Block.{room_of}
 use Rattle.ph_node.specs.RecordEdit.{IsRecordEdit, with_edit}
 use Rattle.ph_node.specs.Relaid.{is_relaid}
-use Rattle.ph_node.proofs.RecordEdits.{few_with}
-use Rattle.ph_node.proofs.Resized.{count_less, stays_less, relaid, shorter_with}
+use Rattle.ph_node.proofs.Resized.{stays_less, relaid, shorter_with}
 use Rattle.ph_node.proofs.points.remove_point.Goals as goal
 
 pub overflow_sub-left : goal.overflow_sub-left
 overflow_sub-left g c =
     omega (arith, c.count-left.ensures, ap (λ u. (first_in u).entries) c.words-words.ensures, c.requires.edit.source.laid.tables.least)
-
-pub changes_layout-requires-clause-entries : goal.changes_layout-requires-clause-entries
-changes_layout-requires-clause-entries g c =
-    omega (arith, c.count-left.ensures, ap (λ u. (first_in u).entries) c.words-words.ensures, count_less _ _ _ c.requires.edit c.requires.less c.requires.more, few_with _ _ _ c.requires.edit, ap (λ d. 2 ^ d) c.D-dims.ensures)
 
 pub lay_out-requires-clause-room : goal.lay_out-requires-clause-room
 lay_out-requires-clause-room g c =

@@ -1,26 +1,12 @@
-use Rattle.std.proofs.Common.{◌≡◌, ◌+◌, ◌-◌, length, replicate, ap, sym, ◌∙◌, subst, arith}
+use Rattle.std.proofs.Common.{◌≡◌, ◌+◌, ◌-◌, length, replicate, ap, sym, ◌∙◌, arith}
 use Rattle.std.proofs.lemmas.List.{length-append, length-replicate}
-use Rattle.ph_specs.specs.Pack.{is_cube}
-use Rattle.ph_specs.specs.Record.{first_in, has_cube}
-use Rattle.ph_node.specs.RecordEdit.{IsRecordEdit, with_edit, words_with}
+use Rattle.ph_node.specs.RecordEdit.{words_with}
 use Rattle.ph_node.proofs.Resized.{longer_with, front_is}
 use Rattle.ph_node.proofs.rewrites.insert_entry.Goals as goal
 
 pub overflow_sub-more : goal.overflow_sub-more
 overflow_sub-more g c =
     omega (arith, c.len-len.ensures.value, c.requires.long, longer_with _ _ _ c.requires.edit c.requires.less c.requires.more c.requires.point)
-
-pub insert_point-requires-clause-edit : goal.insert_point-requires-clause-edit
-insert_point-requires-clause-edit g c =
-    let ws = c.args.block.now.words in
-    let front = front_is ws c.push_zeros.new.block.words c.words_mut.result.now _ c.len-len.result c.words_mut.ensures.words c.push_zeros.ensures.words c.len-len.ensures.value in
-    subst (λ us. IsRecordEdit c.args.dims us c.args.edit.now) (sym front) c.requires.edit
-
-pub insert_point-requires-clause-layout : goal.insert_point-requires-clause-layout
-insert_point-requires-clause-layout g c =
-    let ws = c.args.block.now.words in
-    let front = front_is ws c.push_zeros.new.block.words c.words_mut.result.now _ c.len-len.result c.words_mut.ensures.words c.push_zeros.ensures.words c.len-len.ensures.value in
-    subst (λ us. is_cube c.args.dims (first_in us).level (length (with_edit c.args.dims us c.args.edit.now)) ≡ has_cube c.args.dims (first_in us)) (sym front) c.requires.layout
 
 pub insert_point-requires-clause-long : goal.insert_point-requires-clause-long
 insert_point-requires-clause-long g c =

@@ -57,8 +57,3 @@ returns-then-has_cube c =
     let one : c.args.len ≡ length ws - 1 = omega (arith, q.long, cube_longer c.args.dims (take c.args.len ws) c.args.edit.now q.edit q.less q.more q.point q.layout hc, length-take-le c.args.len ws q.front) in
     subst (λ n. c.insert_point.new.words ≡ record_in true c.args.dims (first_in (take n ws)).level (edited_as true c.args.dims (take n ws) c.args.edit.now)) (sym one) c.insert_point.ensures
     ∙ record_kept c.args.dims (take c.args.len ws) c.args.edit.now q.edit true q.layout hc
-
-pub returns-else-has_cube : goal.returns-else-has_cube
-returns-else-has_cube c =
-    let q = c.requires in
-    c.insert_point-else-has_cube.ensures ∙ record_kept c.args.dims (take c.args.len c.args.words.now) c.args.edit.now q.edit false q.layout (sym c.has_cube.ensures ∙ c.if-has_cube.false)

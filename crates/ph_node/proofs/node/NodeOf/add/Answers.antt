@@ -15,12 +15,6 @@ pub add_point-requires-clause-children : goal.add_point-requires-clause-children
 add_point-requires-clause-children g c =
     sym (length-nodes c.self.inside.block.values) ∙ children-are _ _ _ _ c.self.view_is c.self.invariant
 
--- without memory nothing has changed
-pub invariant_of-self : goal.invariant_of-self
-invariant_of-self g c =
-    subst (λ ss. IsRecorded g.P.Dims.D c.add_point.new.block.words (nodes_of ss)) (sym c.in_err-add_point.ensures.values)
-    (subst (λ ws. IsRecorded g.P.Dims.D ws (nodes_of c.self.inside.block.values)) (sym c.in_err-add_point.ensures.kept) c.self.invariant)
-
 pub invariant_of-self-2 : goal.invariant_of-self-2
 invariant_of-self-2 g c =
     subst (λ ss. IsRecorded g.P.Dims.D c.add_point.new.block.words (nodes_of ss)) (sym c.in_ok-add_point.ensures.values)
