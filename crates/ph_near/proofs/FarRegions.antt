@@ -1,5 +1,5 @@
 -- Regions of children by what is known above them, number by number.
-use Rattle.std.proofs.Common.{◌≡◌, ℕ, zero, suc, ◌+◌, ◌*◌, ◌-◌, ◌/◌, ◌%◌, ◌^◌, ◌<◌, ◌≤◌, List, [], ◌∷◌, length, map, drop, get_or, true, false, refl, sym, ◌∙◌, ap, subst, arith}
+use Rattle.std.proofs.Common.{◌≡◌, ℕ, zero, suc, ◌+◌, ◌*◌, ◌-◌, ◌/◌, ◌%◌, ◌^◌, ◌<◌, ◌≤◌, List, [], ◌∷◌, length, map, drop, get_or, true, refl, sym, ◌∙◌, ap, subst, arith}
 use Rattle.std.specs.List.{AllByRecursion as Each}
 use Rattle.std.proofs.Math.Nat.{mul-le-mul, mul-le-mul_right, div-mul-le_self, mul-mod_left}
 use Rattle.std.proofs.lemmas.List.{drop_more, get_or-map}
@@ -14,7 +14,7 @@ use Rattle.ph_specs.proofs.laws.LawfulRows.{put_together-small}
 use Rattle.ph_specs.proofs.lemmas.Joined.{length-put_together, get-put_together}
 use Rattle.ph_digits.proofs.Joins.{above-long}
 use Rattle.ph_zorder.proofs.Gaps.{offset-bound-on}
-use Rattle.ph_node.specs.Apart.{squares_apart, greatest_square}
+use Rattle.ph_node.specs.Apart.{greatest_square}
 use Rattle.ph_node.specs.Kinds.{is_node}
 use Rattle.ph_near.specs.Queue.{what_item}
 use Rattle.ph_near.proofs.Distances.{apart-distance, apart-small}
@@ -140,10 +140,6 @@ gaps-small l (x ∷ xs) (y ∷ ys) h k =
 pub child-gap : (limit level : ℕ) (joined center : List ℕ) (o : What) → is_node o ≡ true → limit < gaps_squared (level - 1) joined center → limit < entry_gap level joined center o
 child-gap limit level joined center (value v) e h = absurd cc
 child-gap limit level joined center (node n) e h = h
-
-pub point-gap : (limit level : ℕ) (joined center : List ℕ) (o : What) → is_node o ≡ false → limit < squares_apart joined center → limit < entry_gap level joined center o
-point-gap limit level joined center (value v) e h = h
-point-gap limit level joined center (node n) e h = absurd cc
 
 -- the gap of an entry is the distance of its item
 pub entry-distance : (w level : ℕ) (joined center : List ℕ) (o : What) → 1 ≤ w → Each (λ y. y < 2 ^ w) center → entry_gap level joined center o ≡ item_distance w (map (coordinate w) center) (what_item w (level - 1) joined o)

@@ -12,7 +12,5 @@ pub mod Ranks
 pub mod Searches
 mod Distances
 mod FarRegions
-mod BallEntries
 mod BallStarts
-mod BallSteps
-mod BallGoes
+mod Balls

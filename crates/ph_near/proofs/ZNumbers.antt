@@ -31,9 +31,6 @@ pub record IsSameFront (place : ℕ) (xs ys xs-left ys-left : List ℕ) : Type 0
   pub second : body_address place ys ≡ body_address_from front place ys-left
   pub long : length xs-left ≡ length ys-left
 
-pub front-start : (place : ℕ) (xs ys : List ℕ) → length xs ≡ length ys → IsSameFront place xs ys xs ys
-front-start place xs ys n = record { front = 0; first = refl; second = refl; long = n }
-
 pub front-more : {place : ℕ} {xs ys us vs : List ℕ} (x y : ℕ) (xs-left ys-left : List ℕ) → IsSameFront place xs ys us vs → us ≡ x ∷ xs-left → vs ≡ y ∷ ys-left → x / 2 ^ place % 2 ≡ y / 2 ^ place % 2 → IsSameFront place xs ys xs-left ys-left
 front-more {place} {xs} {ys} {us} {vs} x y xs-left ys-left h e f g = record {
   front = h.front * 2 + x / 2 ^ place % 2;
@@ -41,10 +38,6 @@ front-more {place} {xs} {ys} {us} {vs} x y xs-left ys-left h e f g = record {
   second = h.second ∙ ap (body_address_from h.front place) f ∙ ap (λ d. body_address_from (h.front * 2 + d) place ys-left) (sym g);
   long = omega (arith, h.long, ap length e, ap length f);
 }
-
-pub front-all : {place : ℕ} {xs ys us vs : List ℕ} → IsSameFront place xs ys us vs → us ≡ [] → vs ≡ [] → Equal ≡ nat_cmp (body_address place xs) (body_address place ys)
-front-all {place} {xs} {ys} h e f =
-    nat_cmp_is (body_address place xs) (body_address place ys) Equal (h.first ∙ ap (body_address_from h.front place) e ∙ sym (h.second ∙ ap (body_address_from h.front place) f))
 
 -- behind a smaller number as many digits make a smaller number
 address-grows : (s t k : ℕ) (xs ys : List ℕ) → length xs ≡ length ys → s < t → body_address_from s k xs < body_address_from t k ys

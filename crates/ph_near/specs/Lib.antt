@@ -4,7 +4,6 @@ pub mod Ranking
 pub mod Queue
 pub mod Ball
 pub mod BallSphere
-pub mod BallSweep
 pub mod Far
 pub mod Halves
 pub mod Opening

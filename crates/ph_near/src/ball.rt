@@ -5,29 +5,31 @@ ghost use Rattle.ph_specs.specs.Distance.{within};
 ghost use Rattle.ph_specs.specs.WorkSets.{ball};
 ghost use Rattle.ph_table.specs.Hits.{hits_of};
 
-use crate::sweep::{Step, SweepOf};
-use ph_coord::{Dim, Dims, Point, Row};
+use crate::sphere::SphereOf;
+use ph_coord::{Dim, Dims, Point};
 use ph_steps::Steps;
 use ph_table::Hit;
 use ph_tree::PhTree;
+use ph_walk::WalkOf;
 use std::marker::Model;
 use std::sync::ledger::Ledger;
 
 /// The rows within a radius of a point, and how far they have been listed. It takes no memory.
 #[derive(Drop)]
 pub struct BallOf<'t, P: Dims> {
-    sweep: SweepOf<'t, P>,
+    walk: WalkOf<'t, P, SphereOf<P>>,
 }
 
 pub type Ball<'t, const D: usize> = BallOf<'t, Dim<D>>;
 
 impl<'t, P: Dims> Model for BallOf<'t, P> {
     ghost use Rattle.ph_near.specs.Ball.{Listing};
+    ghost use Rattle.ph_near.specs.BallSphere.{center_of};
     ghost use Rattle.ph_table.specs.Hits.{hits_of};
 
     ghost Value = { Listing };
 
-    ghost view = { λ a. record { hits = hits_of a.sweep.center a.sweep.rest; visits = a.sweep.visits } };
+    ghost view = { λ a. record { hits = hits_of (center_of a.walk.area) a.walk.rest; visits = a.walk.visits } };
 }
 
 impl<'t, const D: usize> BallOf<'t, Dim<D>> {
@@ -41,8 +43,9 @@ impl<'t, const D: usize> BallOf<'t, Dim<D>> {
         // A use that makes the range of the width known.
         let _bits = w.bits();
         let root = tree.root();
+        let sphere = SphereOf::new(w, q.as_slice(), r);
         BallOf {
-            sweep: SweepOf::new(w, root, q.as_slice(), r),
+            walk: WalkOf::new(w, root, sphere),
         }
     }
 
@@ -54,16 +57,9 @@ impl<'t, const D: usize> BallOf<'t, Dim<D>> {
         ensures grows { visits.old ≤ visits.new }
         ensures end { result ≡ None → self.new.visits ≡ 0 }
     {
-        loop {
-            match self.sweep.step(visits) {
-                Step::Found(value, distance) => {
-                    let point = self.sweep.known().point();
-                    let row = Row { point, value };
-                    return Some(Hit { row, distance });
-                }
-                Step::Moved => {}
-                Step::Done => return None,
-            }
-        }
+        let Some((row, distance)) = self.walk.next(visits) else {
+            return None;
+        };
+        Some(Hit { row, distance })
     }
 }

@@ -9,7 +9,6 @@ mod halves;
 mod opening;
 mod ranking;
 mod sphere;
-mod sweep;
 #[cfg(test)]
 mod tests;
 mod waiting;

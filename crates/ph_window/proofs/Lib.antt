@@ -1,11 +1,8 @@
+-- Lemmas of windows.
 pub mod Seeks
-pub mod Lists
 pub mod MaskDigits
-pub mod Paths
-pub mod Corners
-pub mod Steps
-pub mod Matches
-pub mod Goes
+pub mod Between
+pub mod Areas
 pub mod Starts
 pub mod Marks
 pub mod Rests

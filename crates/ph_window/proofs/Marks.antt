@@ -8,9 +8,8 @@ use Rattle.ph_specs.specs.PutTree.{body_address, body_address_from, body_above}
 use Rattle.ph_specs.proofs.lemmas.Joined.{from_place, number_at, offsets-coordinate, same_number, same_from}
 use Rattle.ph_zorder.proofs.Decided.{address-is, before-decided, is_body-point}
 use Rattle.ph_specs.proofs.laws.Order.{before_irrefl}
-use Rattle.ph_path.specs.Known.{point_at}
-use Rattle.ph_window.specs.Bounds.{Bounds}
-use Rattle.ph_window.specs.Mark.{Mark}
+use Rattle.ph_path.specs.Known.{Known, point_at}
+use Rattle.ph_window.specs.Mark.{Mark, IsMark, mark_at}
 use Rattle.ph_path.proofs.Knowns.{above-same, above-from, offsets-point}
 use Rattle.ph_digits.specs.Differences.{IsTopDifference}
 use Rattle.ph_digits.proofs.Cuts.{other_address}
@@ -44,33 +43,27 @@ above-apart : (level place : ℕ) (xs ys : List ℕ) → level < place → IsTop
 above-apart level place xs ys l p e =
     p.differ (same_from (level + 1) place xs ys (omega (arith, l)) (sym (above-from level xs) ∙ ap (from_place (level + 1)) (sym e) ∙ above-from level ys))
 
-module _ (d n w u : ℕ) (known ks offsets : List ℕ) (m : Mark) (b : Bounds) (e : n ≡ d) (hk : IsBody d w known) (hm : IsBody d u (take d offsets)) (s : ks ≡ known) (sk : known ≡ b.known) (wk : w ≡ b.width) (sm : take d offsets ≡ m.digits) (same : m.width ≡ b.width) (um : u ≡ m.width) where
-  mk : take n offsets ≡ m.digits
-  mk = ap (λ k. take k offsets) e ∙ sm
+module _ {d u : ℕ} {ks xs os : List ℕ} {m : Mark} {k : Known} (e : xs ≡ os) (h : IsMark d (mark_at u os)) (v : mark_at u os ≡ m) (b : IsBody d k.width ks) (s : ks ≡ k.digits) (same : m.width ≡ k.width) where
+  mk : xs ≡ m.digits
+  mk = e ∙ ap (λ (m : Mark). m.digits) v
 
-  kk : ks ≡ b.known
-  kk = s ∙ sk
+  body-k : IsBody d m.width k.digits
+  body-k = subst (λ w. IsBody d w k.digits) (sym same) (subst (IsBody d k.width) s b)
 
-  body-m : IsBody d m.width m.digits
-  body-m = subst (λ k. IsBody d k m.digits) um (subst (IsBody d u) sm hm)
+  at-place : (place : ℕ) → IsTopDifference xs ks place → IsTopDifference m.digits k.digits place
+  at-place place p = subst (λ x. IsTopDifference x k.digits place) mk (subst (λ y. IsTopDifference xs y place) s p)
 
-  body-k : IsBody d m.width b.known
-  body-k = subst (λ k. IsBody d k b.known) (wk ∙ sym same) (subst (IsBody d w) sk hk)
+  pub part-order : (place : ℕ) (late : Bool) → IsTopDifference xs ks place × (late ≡ nat_lt (body_address place xs) (body_address place ks)) → late ≡ before m.width (point_at m.width m.digits) (point_at m.width k.digits)
+  part-order place late p =
+      p.1 ∙ (λ i. nat_lt (body_address place (mk i)) (body_address place (s i)))
+      ∙ sym (parting-order d m.width place m.digits k.digits (subst (IsMark d) v h).body body-k (at-place place p.0))
 
-  at-place : (place : ℕ) → IsTopDifference (take n offsets) ks place → IsTopDifference m.digits b.known place
-  at-place place p = subst (λ x. IsTopDifference x b.known place) mk (subst (λ y. IsTopDifference (take n offsets) y place) kk p)
-
-  pub part-order : (place : ℕ) (late : Bool) → IsTopDifference (take n offsets) ks place → late ≡ nat_lt (body_address place (take n offsets)) (body_address place ks) → late ≡ before m.width (point_at m.width m.digits) (point_at m.width b.known)
-  part-order place late p q =
-      q ∙ ap (λ x. nat_lt (body_address place x) (body_address place ks)) mk ∙ ap (λ y. nat_lt (body_address place m.digits) (body_address place y)) kk
-      ∙ sym (parting-order d m.width place m.digits b.known body-m body-k (at-place place p))
-
-  pub part-none : take n offsets ≡ ks → false ≡ before m.width (point_at m.width m.digits) (point_at m.width b.known)
+  pub part-none : xs ≡ ks → false ≡ before m.width (point_at m.width m.digits) (point_at m.width k.digits)
   part-none q =
-      sym (ap (λ x. before m.width (point_at m.width m.digits) (point_at m.width x)) (sym kk ∙ sym q ∙ mk) ∙ before_irrefl m.width (point_at m.width m.digits))
+      sym (ap (λ x. before m.width (point_at m.width m.digits) (point_at m.width x)) (sym s ∙ sym q ∙ mk) ∙ before_irrefl m.width (point_at m.width m.digits))
 
-  pub part-holds : (place level : ℕ) → place ≤ level → IsTopDifference (take n offsets) ks place → body_above level b.known ≡ body_above level m.digits
-  part-holds place level l p = above-top-same level place m.digits b.known l (at-place place p)
+  pub part-holds : (place level : ℕ) → place ≤ level → IsTopDifference xs ks place → body_above level k.digits ≡ body_above level m.digits
+  part-holds place level l p = above-top-same level place m.digits k.digits l (at-place place p)
 
-  pub part-apart : (place level : ℕ) → level < place → IsTopDifference (take n offsets) ks place → body_above level b.known ≡ body_above level m.digits → ⊥
-  part-apart place level l p = above-apart level place m.digits b.known l (at-place place p)
+  pub part-apart : (place level : ℕ) → level < place → IsTopDifference xs ks place → body_above level k.digits ≡ body_above level m.digits → ⊥
+  part-apart place level l p = above-apart level place m.digits k.digits l (at-place place p)

@@ -9,20 +9,17 @@ use Rattle.ph_specs.specs.Table.{Row, row}
 use Rattle.ph_specs.specs.Node.{Entries, end, point, child, What, value, node, Entry, PlainNode, listed, chained, in_front}
 use Rattle.ph_specs.specs.Lawful.{put_together, rows_behind, IsBody, IsLawfulFrom, IsLawfulEntry, IsLawfulWhat}
 use Rattle.ph_specs.specs.Region.{is_in}
-use Rattle.ph_specs.specs.Window.{Cursor, window, rest, is_between}
-use Rattle.ph_specs.specs.WindowWalk.{node_region, is_open, point_of, listed_below}
+use Rattle.ph_specs.specs.Window.{window, rest, is_between}
+use Rattle.ph_specs.specs.WindowWalk.{node_region, is_open, point_of}
 use Rattle.ph_specs.proofs.lemmas.RowsBehind.{Each-each, Each-append, IsUnder, under-point, point-address, rows-under}
 use Rattle.ph_specs.proofs.lemmas.PutRows.{before-by, before-not}
 use Rattle.ph_specs.proofs.laws.WindowRest.{Each-filter}
 use Rattle.ph_specs.proofs.laws.WindowSteps.{node-digits}
-use Rattle.ph_specs.proofs.laws.WindowWalk.{At, IsChildRow, child-rows, at-child, listed-window, none-pass, shut-rows, under-in}
+use Rattle.ph_specs.proofs.laws.WindowWalk.{At, IsChildRow, child-rows, at-child, none-pass, shut-rows, under-in}
 use Rattle.ph_specs.proofs.laws.OneSide.{one-side}
 use Rattle.ph_specs.proofs.laws.EntryLists.{chained-listed}
 use Rattle.ph_path.specs.Known.{point_at}
-
--- behind one point
-abbrev pub behind : List ℤ → List ℤ → List ℤ → Cursor
-behind lo hi l = record { lo = lo; hi = hi; last = Some l }
+use Rattle.ph_window.specs.Window.{behind}
 
 -- the rows of entries that are in the window and behind the point
 abbrev pub rest_of : ℕ → List ℤ → List ℤ → List ℤ → ℕ → List ℕ → Entries → List Row
@@ -114,9 +111,8 @@ module _ (d w b : ℕ) (above : List ℕ) (lo hi l : List ℤ) (t : At w d b abo
       (Each-each rs (λ r q. later-row r.point r.value q.under (let z : address w r.point b ≡ a = q.address in omega (arith, z, m, h.0))) (child-rows w d b c a above body lo hi chain others least t h))
       (after-all (a + 1) others h.7 (omega (arith, m, h.0)))
 
-  pub later-rest : (least : ℕ) (e : Entries) → IsLawfulFrom d b least e → address w l b < least → rest_of w lo hi l b above e ≡ listed_below w lo hi b above e
-  later-rest least e h m =
-      rest-all w lo hi l (rows_behind w b above e) (after-all least e h m) ∙ sym (listed-window w d b least above lo hi e t h)
+  pub later-rest : (least : ℕ) (e : Entries) → IsLawfulFrom d b least e → address w l b < least → rest_of w lo hi l b above e ≡ window lo hi (rows_behind w b above e)
+  later-rest least e h m = rest-all w lo hi l (rows_behind w b above e) (after-all least e h m)
 
   -- ---- the entry at the point's address
 
@@ -125,7 +121,7 @@ module _ (d w b : ℕ) (above : List ℕ) (lo hi l : List ℤ) (t : At w d b abo
     later = omega (arith, same)
 
     -- a point
-    pub passed-rest : (v : ℕ) → x.what ≡ value v → before w l (point_of w b x.addr above x.body) ≡ false → rest_of w lo hi l b above (in_front x.addr x.body x.what others) ≡ listed_below w lo hi b above others
+    pub passed-rest : (v : ℕ) → x.what ≡ value v → before w l (point_of w b x.addr above x.body) ≡ false → rest_of w lo hi l b above (in_front x.addr x.body x.what others) ≡ window lo hi (rows_behind w b above others)
     passed-rest v e f =
         let p : List ℤ = point_of w b x.addr above x.body in
         ap (λ o. rest_of w lo hi l b above (in_front x.addr x.body o others)) e
@@ -133,19 +129,18 @@ module _ (d w b : ℕ) (above : List ℕ) (lo hi l : List ℤ) (t : At w d b abo
         ∙ ap (λ z. z ++ rest_of w lo hi l b above others) (rest-none w lo hi l (row p v ∷ []) (f, tt))
         ∙ later-rest (x.addr + 1) others more later
 
-    pub ahead-rest : (v : ℕ) → v < 2 ^ 64 → x.what ≡ value v → before w l (point_of w b x.addr above x.body) ≡ true → rest_of w lo hi l b above (in_front x.addr x.body x.what others) ≡ listed_below w lo hi b above (in_front x.addr x.body x.what others)
-    ahead-rest v z e f =
+    pub ahead-rest : (v : ℕ) → x.what ≡ value v → before w l (point_of w b x.addr above x.body) ≡ true → rest_of w lo hi l b above (in_front x.addr x.body x.what others) ≡ window lo hi (rows_behind w b above (in_front x.addr x.body x.what others))
+    ahead-rest v e f =
         ap (λ o. rest_of w lo hi l b above (in_front x.addr x.body o others)) e
         ∙ rest-all w lo hi l (row (point_of w b x.addr above x.body) v ∷ rows_behind w b above others) (f, after-all (x.addr + 1) others more later)
-        ∙ sym (listed-window w d b x.addr above lo hi (point x.addr x.body v others) t (omega arith, s, k, more, z))
-        ∙ sym (ap (λ o. listed_below w lo hi b above (in_front x.addr x.body o others)) e)
+        ∙ sym (ap (λ o. window lo hi (rows_behind w b above (in_front x.addr x.body o others))) e)
 
     -- a child
     module _ (m : PlainNode) (e : x.what ≡ node m) (h : IsLawfulWhat d b x.body (node m)) where
       abbrev known : List ℕ
       known = put_together b x.addr above x.body
 
-      pub child-rest : rest_of w lo hi l b above (in_front x.addr x.body x.what others) ≡ rest_of w lo hi l m.level known m.chain ++ listed_below w lo hi b above others
+      pub child-rest : rest_of w lo hi l b above (in_front x.addr x.body x.what others) ≡ rest_of w lo hi l m.level known m.chain ++ window lo hi (rows_behind w b above others)
       child-rest =
           ap (λ o. rest_of w lo hi l b above (in_front x.addr x.body o others)) e
           ∙ rest-append w lo hi l (rows_behind w m.level known m.chain) (rows_behind w b above others)
@@ -169,7 +164,6 @@ module _ (d w b : ℕ) (above : List ℕ) (lo hi l : List ℤ) (t : At w d b abo
         pub child-done : before w l (point_at w known) ≡ false → rest_of w lo hi l m.level known m.chain ≡ []
         child-done f = rest-none w lo hi l (rows_behind w m.level known m.chain) (Each-each (rows_behind w m.level known m.chain) (λ r u. one r u ∙ f) unders)
 
-        pub child-ahead : before w l (point_at w known) ≡ true → rest_of w lo hi l m.level known m.chain ≡ listed_below w lo hi m.level known m.chain
+        pub child-ahead : before w l (point_at w known) ≡ true → rest_of w lo hi l m.level known m.chain ≡ window lo hi (rows_behind w m.level known m.chain)
         child-ahead f =
             rest-all w lo hi l (rows_behind w m.level known m.chain) (Each-each (rows_behind w m.level known m.chain) (λ r u. one r u ∙ f) unders)
-            ∙ sym (listed-window w d m.level 0 known lo hi m.chain child-at h.3)

@@ -1,120 +1,80 @@
--- A walk before its first step.
-use Rattle.std.proofs.Common.{◌≡◌, ℕ, ◌-◌, ◌≤◌, List, [], ◌∷◌, length, take, map, replicate, refl, sym, ◌∙◌, ap, arith, Bool, true, false}
+-- A window before its first step.
+use Rattle.std.proofs.Common.{◌≡◌, ℕ, ◌-◌, ◌≤◌, List, [], length, take, map, replicate, refl, sym, ◌∙◌, ap, subst, arith, Bool, true, false}
 use Rattle.std.specs.Prelude.{ℤ, Option, Some, None, is_some, if◌then◌else◌}
 use Rattle.ph_specs.specs.Coordinate.{offset, IsPoint}
-use Rattle.ph_specs.specs.Table.{Row, IsTable}
-use Rattle.ph_specs.specs.Shape.{shape}
-use Rattle.ph_specs.specs.Window.{window}
-use Rattle.ph_specs.proofs.laws.WindowWalk.{window_listed-shape, opened-shape}
+use Rattle.ph_specs.specs.Lawful.{rows}
+use Rattle.ph_specs.specs.Masks.{masks, mask}
 use Rattle.ph_specs.specs.Node.{PlainNode}
-use Rattle.ph_specs.specs.Lawful.{IsLawful}
+use Rattle.ph_specs.specs.PutTree.{body_above}
 use Rattle.ph_specs.specs.Region.{meets_window}
-use Rattle.ph_specs.specs.WorkSets.{Placed, meets}
-use Rattle.ph_specs.specs.Masks.{mask, masks}
-use Rattle.ph_specs.specs.WindowWalk.{node_region, opened_below, window_listed, opened}
+use Rattle.ph_specs.specs.Shape.{shape}
+use Rattle.ph_specs.specs.Table.{Row, IsTable}
+use Rattle.ph_specs.specs.Window.{window}
+use Rattle.ph_specs.specs.WindowWalk.{node_region}
+use Rattle.ph_specs.specs.WorkSets.{placed, meets}
+use Rattle.ph_specs.proofs.laws.TableShape.{table-shape}
 use Rattle.ph_specs.proofs.lemmas.Joined.{offsets}
 use Rattle.ph_specs.proofs.lemmas.PointDigits.{point-whole}
-use Rattle.ph_specs.specs.PutTree.{body_above}
 use Rattle.ph_zorder.proofs.Decided.{is_body-point}
-use Rattle.ph_path.specs.Known.{known_at, point_at}
-use Rattle.ph_window.specs.Bounds.{Bounds, AreBounds, bounds_at}
-use Rattle.ph_window.specs.Walk.{root_rows, root_nodes}
 use Rattle.ph_path.proofs.Knowns.{above-top, offsets-point, zeros-body}
-use Rattle.ph_window.proofs.Lists.{none-rows}
+use Rattle.ph_path.proofs.Roots.{shape-lawful}
+use Rattle.ph_walk.specs.Area.{IsArea, kept, touched}
+use Rattle.ph_walk.proofs.Below.{none-in-tree}
+use Rattle.ph_window.specs.Corners.{Corners, AreCorners, corners_at, window_of, points_of}
+use Rattle.ph_window.proofs.Areas.{window-exact}
 
-pub start-bounds : (d w : ℕ) (lo hi : List ℤ) → 1 ≤ d → d ≤ 16 → 1 ≤ w → w ≤ 62 → IsPoint w d lo → IsPoint w d hi → AreBounds d (bounds_at w (replicate d 0) (offsets w lo) (offsets w hi))
-start-bounds d w lo hi s f l u p q =
-    record { some = s; few = f; wide = l; narrow = u; digits = zeros-body d w; starts = is_body-point w d lo l p; ends = is_body-point w d hi l q }
+-- the corners as the code makes them
+pub made-corners : (d w : ℕ) (lo hi : List ℤ) (low high : List ℕ) → IsPoint w d lo → IsPoint w d hi → take (length lo) low ≡ map (offset w) lo → take (length hi) high ≡ map (offset w) hi → corners_at w (take d low) (take d high) ≡ corners_at w (offsets w lo) (offsets w hi)
+made-corners d w lo hi low high p q e g =
+    λ i. corners_at w (offsets-point w d lo low p e i) (offsets-point w d hi high q g i)
 
--- the bounds as the code makes them
-pub made-bounds : (d w k : ℕ) (lo hi : List ℤ) (known low high : List ℕ) → IsPoint w d lo → IsPoint w d hi → known_at k known ≡ known_at w (replicate d 0) → take (length lo) low ≡ map (offset w) lo → take (length hi) high ≡ map (offset w) hi → bounds_at k known (take d low) (take d high) ≡ bounds_at w (replicate d 0) (offsets w lo) (offsets w hi)
-made-bounds d w k lo hi known low high p q n e g =
-    (λ i. bounds_at (n i).width (n i).digits (take d low) (take d high))
-    ∙ (λ i. bounds_at w (replicate d 0) (offsets-point w d lo low p e i) (offsets-point w d hi high q g i))
+pub start-corners : (d w : ℕ) (lo hi : List ℤ) → d ≤ 16 → 1 ≤ w → w ≤ 62 → IsPoint w d lo → IsPoint w d hi → AreCorners d (corners_at w (offsets w lo) (offsets w hi))
+start-corners d w lo hi f l u p q = record { few = f; wide = l; narrow = u; starts = is_body-point w d lo l p; ends = is_body-point w d hi l q }
 
-module _ (d w k : ℕ) (lo hi : List ℤ) (b : Bounds) (root : Option PlainNode) (m : Option (ℕ × ℕ)) (l : 1 ≤ w) (p : IsPoint w d lo) (q : IsPoint w d hi) (h : IsLawful w d root) (made : b ≡ bounds_at w (replicate d 0) (offsets w lo) (offsets w hi)) (same : k ≡ w) (is : m ≡ masks b.width (node_region b.width (k - 1) (body_above (k - 1) b.known)) (point_at b.width b.low) (point_at b.width b.high)) where
-  low-is : point_at w (offsets w lo) ≡ lo
-  low-is = (point-whole w d lo p).back
+-- the points between them
+module _ (d w : ℕ) (lo hi : List ℤ) {c : Corners} (p : IsPoint w d lo) (q : IsPoint w d hi) (made : c ≡ corners_at w (offsets w lo) (offsets w hi)) where
+  pub corner-points : points_of c ≡ window_of w lo hi
+  corner-points =
+      ap points_of made ∙ (λ i. window_of w ((point-whole w d lo p).back i) ((point-whole w d hi q).back i))
 
-  high-is : point_at w (offsets w hi) ≡ hi
-  high-is = (point-whole w d hi q).back
+  pub corner-exact : IsArea d (points_of c)
+  corner-exact = subst (IsArea d) (sym corner-points) (window-exact d w lo hi p q)
 
-  zeros : body_above (w - 1) (replicate d 0) ≡ replicate d 0
-  zeros = above-top d (w - 1) w (replicate d 0) (omega (arith, l)) (zeros-body d w)
+-- whether there are any, by the masks of the root
+some-met : (t : Bool) (m : ℕ × ℕ) → is_some (if t then Some m else None) ≡ t
+some-met true m = refl
+some-met false m = refl
 
-  root-masks : m ≡ masks w (node_region w (w - 1) (replicate d 0)) lo hi
-  root-masks =
-      is
-      ∙ ap (λ b. masks b.width (node_region b.width (k - 1) (body_above (k - 1) b.known)) (point_at b.width b.low) (point_at b.width b.high)) made
-      ∙ ap (λ n. masks w (node_region w (n - 1) (body_above (n - 1) (replicate d 0))) (point_at w (offsets w lo)) (point_at w (offsets w hi))) same
-      ∙ ap (λ t. masks w (node_region w (w - 1) t) (point_at w (offsets w lo)) (point_at w (offsets w hi))) zeros
-      ∙ ap (λ t. masks w (node_region w (w - 1) (replicate d 0)) t (point_at w (offsets w hi))) low-is
-      ∙ ap (λ t. masks w (node_region w (w - 1) (replicate d 0)) lo t) high-is
-
-  masks-by : (t : Bool) → meets_window w (node_region w (w - 1) (replicate d 0)) lo hi ≡ t → masks w (node_region w (w - 1) (replicate d 0)) lo hi ≡ (if t then Some (mask w (node_region w (w - 1) (replicate d 0)) lo, mask w (node_region w (w - 1) (replicate d 0)) hi) else None)
-  masks-by t e = ap {B = Option (ℕ × ℕ)} (λ b. if b then Some (mask w (node_region w (w - 1) (replicate d 0)) lo, mask w (node_region w (w - 1) (replicate d 0)) hi) else None) e
-
-  meets-is : meets_window w (node_region w (w - 1) (replicate d 0)) lo hi ≡ is_some m
-  meets-is = by_test (meets_window w (node_region w (w - 1) (replicate d 0)) lo hi) refl
-    where
-      by_test : (t : Bool) → meets_window w (node_region w (w - 1) (replicate d 0)) lo hi ≡ t → t ≡ is_some m
-      by_test true e = sym (ap is_some (root-masks ∙ masks-by true e))
-      by_test false e = sym (ap is_some (root-masks ∙ masks-by false e))
-
-  rows-at : (o : Option PlainNode) → root_rows b.width d (point_at b.width b.low) (point_at b.width b.high) o ≡ root_rows w d lo hi o
-  rows-at o =
-      ap (λ b. root_rows b.width d (point_at b.width b.low) (point_at b.width b.high) o) made
-      ∙ ap (λ t. root_rows w d t (point_at w (offsets w hi)) o) low-is ∙ ap (λ t. root_rows w d lo t o) high-is
-
-  nodes-at : (o : Option PlainNode) → root_nodes b.width d (point_at b.width b.low) (point_at b.width b.high) o ≡ root_nodes w d lo hi o
-  nodes-at o =
-      ap (λ b. root_nodes b.width d (point_at b.width b.low) (point_at b.width b.high) o) made
-      ∙ ap (λ t. root_nodes w d t (point_at w (offsets w hi)) o) low-is ∙ ap (λ t. root_nodes w d lo t o) high-is
-
-  -- the window meets the root's region
-  pub met-rows : (o : Option PlainNode) → o ≡ root → is_some m ≡ true → root_rows b.width d (point_at b.width b.low) (point_at b.width b.high) o ≡ window_listed w d lo hi root
-  met-rows o e t = rows-at o ∙ ap (root_rows w d lo hi) e ∙ by_root root
-    where
-      by_root : (o : Option PlainNode) → root_rows w d lo hi o ≡ window_listed w d lo hi o
-      by_root None = refl
-      by_root (Some n) = refl
-
-  pub met-nodes : (o : Option PlainNode) → o ≡ root → is_some m ≡ true → root_nodes b.width d (point_at b.width b.low) (point_at b.width b.high) o ≡ length (opened w d lo hi root)
-  met-nodes o e t = nodes-at o ∙ ap (root_nodes w d lo hi) e ∙ by_root root
-    where
-      by_root : (o : Option PlainNode) → root_nodes w d lo hi o ≡ length (opened w d lo hi o)
-      by_root None = refl
-      by_root (Some n) =
-          let x : Placed = record { node = n; region = node_region w (w - 1) (replicate d 0) } in
-          sym (ap (λ t. length (if t then x ∷ opened_below w lo hi n.level (replicate d 0) n.chain else [])) (meets-is ∙ t))
-
-  -- and where it does not
-  pub apart-rows : (o : Option PlainNode) → o ≡ None → is_some m ≡ false → root_rows b.width d (point_at b.width b.low) (point_at b.width b.high) o ≡ window_listed w d lo hi root
-  apart-rows o e t = ap (root_rows b.width d (point_at b.width b.low) (point_at b.width b.high)) e ∙ sym (by_root root h)
-    where
-      by_root : (o : Option PlainNode) → IsLawful w d o → window_listed w d lo hi o ≡ []
-      by_root None h = refl
-      by_root (Some n) h =
-          let f : masks w (node_region w (w - 1) (replicate d 0)) lo hi ≡ None = masks-by false (meets-is ∙ t) in
-          none-rows w n.level (replicate d 0) lo hi (ap (λ c. masks w (node_region w c (replicate d 0)) lo hi) h.0 ∙ f) n.chain
-
-  pub apart-nodes : (o : Option PlainNode) → o ≡ None → is_some m ≡ false → root_nodes b.width d (point_at b.width b.low) (point_at b.width b.high) o ≡ length (opened w d lo hi root)
-  apart-nodes o e t = ap (root_nodes b.width d (point_at b.width b.low) (point_at b.width b.high)) e ∙ sym (by_root root)
-    where
-      by_root : (o : Option PlainNode) → length (opened w d lo hi o) ≡ 0
-      by_root None = refl
-      by_root (Some n) =
-          let x : Placed = record { node = n; region = node_region w (w - 1) (replicate d 0) } in
-          ap (λ t. length (if t then x ∷ opened_below w lo hi n.level (replicate d 0) n.chain else [])) (meets-is ∙ t)
+pub met-root : (d w : ℕ) (lo hi : List ℤ) {b : ℕ} {ks : List ℕ} {m : Option (ℕ × ℕ)} → 1 ≤ w → b ≡ w → ks ≡ replicate d 0 → m ≡ masks w (node_region w (b - 1) (body_above (b - 1) ks)) lo hi → is_some m ≡ meets_window w (node_region w (w - 1) (replicate d 0)) lo hi
+met-root d w lo hi l same none is =
+    ap is_some (is ∙ (λ i. masks w (node_region w (same i - 1) (body_above (same i - 1) (none i))) lo hi))
+    ∙ ap (λ t. is_some (masks w (node_region w (w - 1) t) lo hi)) (above-top d (w - 1) w (replicate d 0) (omega (arith, l)) (zeros-body d w))
+    ∙ some-met (meets_window w (node_region w (w - 1) (replicate d 0)) lo hi) (mask w (node_region w (w - 1) (replicate d 0)) lo, mask w (node_region w (w - 1) (replicate d 0)) hi)
 
 -- ---- of a table
 
-pub table-rows : (d w u : ℕ) (o : Option PlainNode) (table : List Row) (lo hi p q : List ℤ) → 1 ≤ w → w ≡ u → IsTable u d table → o ≡ shape u table → p ≡ lo → q ≡ hi → IsPoint u d lo → IsPoint u d hi → window_listed w d p q o ≡ window lo hi table
-table-rows d w u o table lo hi p q l e h f a b x y =
-    ap (λ n. window_listed n d p q o) e ∙ ap (λ t. window_listed u d t q o) a ∙ ap (λ t. window_listed u d lo t o) b ∙ ap (window_listed u d lo hi) f
-    ∙ window_listed-shape u d lo hi table (omega (arith, l, e)) x y h
+module _ (d w u : ℕ) (o : Option PlainNode) (table : List Row) (lo hi p q : List ℤ) {c : Corners} (l : 1 ≤ w) (e : w ≡ u) (h : IsTable u d table) (f : o ≡ shape u table) (a : p ≡ lo) (b : q ≡ hi) (x : IsPoint w d p) (y : IsPoint w d q) (made : c ≡ corners_at w (offsets w p) (offsets w q)) where
+  points : points_of c ≡ window_of w p q
+  points = corner-points d w p q x y made
 
-pub table-nodes : (d w u : ℕ) (o : Option PlainNode) (table : List Row) (lo hi p q : List ℤ) → 1 ≤ w → w ≡ u → IsTable u d table → o ≡ shape u table → p ≡ lo → q ≡ hi → IsPoint u d lo → IsPoint u d hi → length (opened w d p q o) ≡ length (meets u d table lo hi)
-table-nodes d w u o table lo hi p q l e h f a b x y =
-    ap (λ n. length (opened n d p q o)) e ∙ ap (λ t. length (opened u d t q o)) a ∙ ap (λ t. length (opened u d lo t o)) b ∙ ap (λ o. length (opened u d lo hi o)) f
-    ∙ ap length (opened-shape u d lo hi table (omega (arith, l, e)) x y h)
+  pub table-rows : kept (points_of c) (rows w d o) ≡ window lo hi table
+  table-rows =
+      ap (λ t. kept t (rows w d o)) points ∙ (λ i. window (a i) (b i) (rows (e i) d (f i)))
+      ∙ ap (window lo hi) (table-shape u d table (omega (arith, l, e)) h).1
+
+  pub table-nodes : length (touched (points_of c) (placed w d o)) ≡ length (meets u d table lo hi)
+  table-nodes =
+      ap (λ t. length (touched t (placed w d o))) points ∙ (λ i. length (touched (window_of (e i) (a i) (b i)) (placed (e i) d (f i))))
+
+  -- where no point lies between the corners there is nothing
+  module _ (out : (points_of c).touches (node_region (points_of c).width ((points_of c).width - 1) (replicate d 0)) ≡ false) where
+    nothing : (kept (points_of c) (rows w d o) ≡ []) × (length (touched (points_of c) (placed w d o)) ≡ 0)
+    nothing =
+        let n = none-in-tree d (window_of w p q) (window-exact d w p q x y) l o (shape-lawful d w u o table l e h f) (subst (λ t. t.touches (node_region t.width (t.width - 1) (replicate d 0)) ≡ false) points out) in
+        (ap (λ t. kept t (rows w d o)) points ∙ n.0, ap (λ t. length (touched t (placed w d o))) points ∙ n.1)
+
+    pub empty-rows : [] ≡ window lo hi table
+    empty-rows = sym nothing.0 ∙ table-rows
+
+    pub empty-nodes : 0 ≡ length (meets u d table lo hi)
+    empty-nodes = sym nothing.1 ∙ table-nodes

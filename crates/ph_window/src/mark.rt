@@ -1,18 +1,29 @@
 //! The point behind which a walk goes on.
 ghost use Rattle.std.specs.Prelude.{◌≡◌, ◌<◌, ◌≤◌, ◌^◌, map};
 ghost use Rattle.ph_specs.specs.Coordinate.{offset, IsPoint};
-ghost use Rattle.ph_specs.specs.ZOrder.{address};
+ghost use Rattle.ph_specs.specs.ZOrder.{address, before};
 ghost use Rattle.ph_path.specs.Known.{point_at};
 ghost use Rattle.ph_window.specs.Mark.{mark_at};
+ghost use Rattle.ph_window.specs.Resumed.{IsStand};
 
+use crate::parting::parting;
 use ph_coord::{Dims, Width, offsets_of};
 use ph_digits::body_address;
+use ph_path::KnownOf;
 use std::marker::{Model, PhantomData};
+
+// How a point stands to a region: it holds it, or all its points come later, or earlier.
+#[derive(Drop)]
+pub(crate) enum Stand {
+    Holds,
+    Later,
+    Earlier,
+}
 
 // A point, by the offsets of its coordinates.
 #[derive(Drop)]
 pub(crate) struct MarkOf<P: Dims> {
-    pub(crate) offsets: [u64; 16],
+    offsets: [u64; 16],
     width: Width,
     dims: PhantomData<P>,
 }
@@ -49,5 +60,36 @@ impl<P: Dims> MarkOf<P> {
         ensures limit { result < 2 ^ P.D }
     {
         body_address(level, &self.offsets[..P::D])
+    }
+
+    // How it stands to the region of the digits at hand above a level.
+    pub(crate) fn stand(&self, known: &KnownOf<P>, level: u32) -> Stand
+        requires width { self.now.width ≡ known.now.width }
+        ensures { IsStand level known.now self.now result }
+    {
+        let point = &self.offsets[..P::D];
+        let Some((place, is_later)) = parting(point, known.digits()) else {
+            return Stand::Holds;
+        };
+        if place <= level {
+            return Stand::Holds;
+        }
+        if is_later {
+            Stand::Later
+        } else {
+            Stand::Earlier
+        }
+    }
+
+    // Whether the digits at hand come behind it.
+    pub(crate) fn is_before(&self, known: &KnownOf<P>) -> bool
+        requires width { self.now.width ≡ known.now.width }
+        ensures { result ≡ before self.now.width (point_at self.now.width self.now.digits) (point_at self.now.width known.now.digits) }
+    {
+        let point = &self.offsets[..P::D];
+        match parting(point, known.digits()) {
+            Some((_, is_later)) => is_later,
+            None => false,
+        }
     }
 }

@@ -3,45 +3,41 @@ ghost use Rattle.std.specs.Prelude.{◌≡◌, ◌+◌, ◌≤◌};
 ghost use Rattle.ph_node.specs.Shown.{shown};
 ghost use Rattle.ph_window.specs.Resumed.{IsReady, IsResumed};
 
-use crate::bounds::{BoundsOf, Stand};
-use crate::enter::enter;
-use crate::frame::{Masks, WayOf};
-use crate::mark::MarkOf;
+use crate::corners::CornersOf;
+use crate::mark::{MarkOf, Stand};
 use crate::seek::fits;
 use ph_coord::Dims;
 use ph_node::{NodeOf, NodeRefOf, WhatOf};
-use ph_path::FrameOf;
+use ph_path::{FrameOf, KnownOf};
 use ph_steps::Steps;
+use ph_walk::{Area, WayOf, enter};
 use std::sync::ledger::Ledger;
 
 // Goes down to the point, from a node whose region holds it, and leaves on the path what comes behind it.
 pub(crate) fn resume<'t, P: Dims, V: Ledger>(
     path: &mut WayOf<'t, NodeOf<P>>,
-    bounds: &mut BoundsOf<P>,
+    known: &mut KnownOf<P>,
+    corners: &CornersOf<P>,
     mark: &MarkOf<P>,
     node: NodeRefOf<'t, NodeOf<P>>,
     visits: &mut Steps<V>,
 )
-    requires { IsReady P.D mark.now bounds.old path.old (shown node) }
-    ensures done { IsResumed P.D mark.now (shown node.entry) bounds.old path.old bounds.new path.new }
+    requires { IsReady P.D mark.now corners.now known.old path.old (shown node) }
+    ensures done { IsResumed P.D mark.now corners.now (shown node.entry) known.old path.old known.new path.new }
     ensures cost { visits.new ≤ visits.old + (shown node.entry).level }
     ensures grows { visits.old ≤ visits.new }
 {
     let level = node.level();
     // A use that makes known that there is a place behind each entry.
     let _many = node.len();
-    let Some((lower, upper)) = bounds.masks(level) else {
+    let Some(note) = corners.note(known, level) else {
         return;
     };
     let address = mark.address(level);
     let Some(place) = node.next_at_or_after(address) else {
         return;
     };
-    let frame = FrameOf {
-        node,
-        place,
-        note: Masks { lower, upper },
-    };
+    let frame = FrameOf { node, place, note };
     let spot = node.spot(place);
     if spot.addr != address {
         path.push(frame);
@@ -51,10 +47,10 @@ pub(crate) fn resume<'t, P: Dims, V: Ledger>(
         place: place + 1,
         ..frame
     };
-    bounds.join(node, spot);
+    known.join(node, spot);
     match node.what(spot) {
         WhatOf::Value(_) => {
-            if bounds.is_behind(mark) {
+            if mark.is_before(known) {
                 path.push(frame);
             } else {
                 path.push(next);
@@ -62,13 +58,13 @@ pub(crate) fn resume<'t, P: Dims, V: Ledger>(
         }
         WhatOf::Child(child) => {
             path.push(next);
-            if !fits(address, lower, upper) {
+            if !fits(address, note.lower, note.upper) {
                 return;
             }
             let below = child.visit(visits);
-            match bounds.stand(mark, below.level()) {
-                Stand::Holds => resume(path, bounds, mark, below, visits),
-                Stand::Later => enter(path, below, bounds),
+            match mark.stand(known, below.level()) {
+                Stand::Holds => resume(path, known, corners, mark, below, visits),
+                Stand::Later => enter(path, below, corners.note(known, below.level())),
                 Stand::Earlier => {}
             }
         }

@@ -7,10 +7,10 @@ ghost use Rattle.ph_node.specs.Shown.{shown};
 ghost use Rattle.ph_node.specs.Spots.{IsSpot};
 ghost use Rattle.ph_window.specs.Seek.{AreBelow, AreShut, IsNextEntry, IsPassed};
 
-use crate::frame::Masks;
 use ph_coord::Dims;
 use ph_node::{NodeOf, NodeRefOf, Spot};
 use ph_path::FrameOf;
+use ph_walk::Masks;
 use ph_zorder::next_address;
 
 // So many entries of a linear node are looked at one by one before a later one is searched for, which costs about as much.

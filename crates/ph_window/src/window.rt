@@ -5,17 +5,21 @@ ghost use Rattle.ph_specs.specs.Window.{window, rest};
 ghost use Rattle.ph_window.specs.Window.{behind};
 ghost use Rattle.ph_specs.specs.WorkSets.{meets};
 
-use crate::walk::{Step, WalkOf};
+use crate::corners::CornersOf;
+use crate::mark::MarkOf;
+use crate::resume::resume;
 use ph_coord::{Dim, Dims, Point, Row};
+use ph_path::{KnownOf, PathOf};
 use ph_steps::Steps;
 use ph_tree::PhTree;
+use ph_walk::WalkOf;
 use std::marker::Model;
 use std::sync::ledger::Ledger;
 
 /// A window over a tree, and how far it has been listed. It takes no memory.
 #[derive(Drop)]
 pub struct WindowOf<'t, P: Dims> {
-    walk: WalkOf<'t, P>,
+    walk: WalkOf<'t, P, CornersOf<P>>,
 }
 
 pub type Window<'t, const D: usize> = WindowOf<'t, Dim<D>>;
@@ -39,9 +43,11 @@ impl<'t, const D: usize> WindowOf<'t, Dim<D>> {
         let w = tree.width();
         // A use that makes the range of the width known.
         let _bits = w.bits();
-        let root = tree.root();
+        let all = tree.root();
+        let corners = CornersOf::new(w, lo.as_slice(), hi.as_slice());
+        let root = if corners.have_points() { all } else { None };
         WindowOf {
-            walk: WalkOf::new(w, root, lo.as_slice(), hi.as_slice()),
+            walk: WalkOf::new(w, root, corners),
         }
     }
 
@@ -67,15 +73,19 @@ impl<'t, const D: usize> WindowOf<'t, Dim<D>> {
         // A use that makes the range of the width known.
         let _bits = w.bits();
         let root = tree.root();
+        let corners = CornersOf::new(w, lo.as_slice(), hi.as_slice());
+        let mut path = PathOf::new();
+        let mut known = KnownOf::new(w);
+        let Some(root) = root else {
+            return WindowOf {
+                walk: WalkOf::on_path(path, known, corners),
+            };
+        };
+        let mark = MarkOf::new(w, last.as_slice());
+        let node = root.visit(visits);
+        resume(&mut path, &mut known, &corners, &mark, node, visits);
         WindowOf {
-            walk: WalkOf::after(
-                w,
-                root,
-                lo.as_slice(),
-                hi.as_slice(),
-                last.as_slice(),
-                visits,
-            ),
+            walk: WalkOf::on_path(path, known, corners),
         }
     }
 
@@ -87,15 +97,9 @@ impl<'t, const D: usize> WindowOf<'t, Dim<D>> {
         ensures grows { visits.old ≤ visits.new }
         ensures end { result ≡ None → self.new.visits ≡ 0 }
     {
-        loop {
-            match self.walk.step(visits) {
-                Step::Found(value) => {
-                    let point = self.walk.known().point();
-                    return Some(Row { point, value });
-                }
-                Step::Moved => {}
-                Step::Done => return None,
-            }
-        }
+        let Some((row, _)) = self.walk.next(visits) else {
+            return None;
+        };
+        Some(row)
     }
 }

@@ -1,4 +1,4 @@
-use Rattle.ph_window.proofs.Matches.{none_of}
+use Rattle.ph_walk.proofs.Notes.{none_of}
 use Rattle.ph_window.proofs.parting.parting.Goals as goal
 
 pub returns-in_default : goal.returns-in_default
