@@ -1,12 +1,13 @@
 -- A number of few digits at a place of a text.
 use Rattle.std.proofs.Common.{◌≡◌, ℕ, zero, suc, ◌+◌, ◌*◌, ◌-◌, ◌%◌, ◌^◌, ◌<◌, ◌≤◌, List, [], ◌∷◌, length, take, drop, get_or, ◌++◌, Bool, true, false, refl, sym, ap, ◌∙◌, subst, add-one, lit<, arith, inl, inr}
-use Rattle.std.specs.Prelude.{ℤ, pos, neg_ℤ, Some, ◌⊎◌, ◌==◌, ◌||◌, ◌&&◌, not, nat_lt, fold, if◌then◌else◌}
+use Rattle.std.specs.Prelude.{ℤ, pos, neg_ℤ, Option, Some, None, IfSome, ◌⊎◌, ◌==◌, ◌||◌, ◌&&◌, not, nat_lt, fold, if◌then◌else◌}
+use Rattle.std.specs.Array.{IsFirstChunk}
 use Rattle.std.specs.Char.{is_ascii_digit}
 use Rattle.std.specs.List.{list_all, position_or_len}
 use Rattle.std.proofs.Math.Nat.{pow-le-pow_right, pow-succ', mod-eq_of_lt}
 use Rattle.std.proofs.lemmas.Bool.{and_parts, lt-ltb}
 use Rattle.std.proofs.lemmas.Bool.Decides.{nat_tests}
-use Rattle.std.proofs.lemmas.List.{length-take, length-drop, drop-drop, get_or-drop, take_more}
+use Rattle.std.proofs.lemmas.List.{length-take, length-take-le, length-drop, drop-drop, drop-take, take-take, take-append-drop, get_or-drop, take_more}
 use Rattle.std.proofs.lemmas.List.Sums.{fold-append}
 use Rattle.std.proofs.lemmas.List.Folds.{list_all-append}
 use Rattle.ph_coord.specs.Spelling.{size_of, of_whole, number_of}
@@ -135,6 +136,58 @@ digits-more text from before at size digit next h l is few d e =
           let sum : k + h.count + 1 ≡ k + (h.count + 1) = omega arith in (
             is ∙ rw (d, v.0) (sym (ap (fold (λ n b. n * 10 + (b - 48)) before) taken ∙ fold-append (λ n b. n * 10 + (b - 48)) before (take h.count ds) (get_or text at 0 ∷ []))),
             rw is (subst (λ j. size * 10 + digit < 10 ^ j) sum (power-more (k + h.count) size digit v.1 few)),
+          );
+    }
+
+digit-below : (d : ℕ) → is_ascii_digit d ≡ true → d - 48 ≤ 9
+digit-below d h = grind (arith, nat_tests)
+
+fold-below : (k n : ℕ) (ds : List ℕ) → n < 10 ^ k → list_all is_ascii_digit ds ≡ true → fold (λ n b. n * 10 + (b - 48)) n ds < 10 ^ (k + length ds)
+fold-below k n [] l h = subst (λ j. n < 10 ^ j) (omega arith) l
+fold-below k n (d ∷ ds) l h =
+    let p = and_parts (is_ascii_digit d) (list_all is_ascii_digit ds) h in
+    subst (λ j. fold (λ n b. n * 10 + (b - 48)) (n * 10 + (d - 48)) ds < 10 ^ j) (omega arith)
+    (fold-below (k + 1) (n * 10 + (d - 48)) ds (power-more k n (d - 48) l (digit-below d p.0)) p.1)
+
+-- a number that the first bytes of a text spell
+digits-first : (text bytes : List ℕ) (from count size : ℕ) → from ≤ length text → IsFirstChunk (drop from text) bytes count → list_all is_ascii_digit bytes ≡ true
+    → size ≡ fold (λ n b. n * 10 + (b - 48)) 0 bytes → IsDigits text from 0 (from + count) size
+digits-first text bytes from count size l front digits is =
+    let long : length bytes ≡ count = ap length front.same ∙ length-take-le count (drop from text) front.enough in
+    record {
+      count = count;
+      reaches = refl;
+      within = omega (arith, front.enough, length-drop from text, l);
+      digits = rw front.same at digits;
+      value = λ k b most. (is ∙ ap (fold (λ n b. n * 10 + (b - 48)) 0) front.same, rw (is, sym long) (fold-below k 0 bytes b digits));
+    }
+
+pub digits-read : (text bytes : List ℕ) (from count : ℕ) (read : Option ℕ) → from ≤ length text → IsFirstChunk (drop from text) bytes count
+    → IfSome read (λ n. (list_all is_ascii_digit bytes ≡ true) × (n ≡ fold (λ n b. n * 10 + (b - 48)) 0 bytes)) → IfSome read (λ n. IsDigits text from 0 (from + count) n)
+digits-read text bytes from count None l front h = h
+digits-read text bytes from count (Some n) l front h = digits-first text bytes from count n l front h.0 h.1
+
+take-both : (m n : ℕ) (xs : List ℕ) → take (m + n) xs ≡ take m xs ++ take n (drop m xs)
+take-both m n xs = sym (take-append-drop m (take (m + n) xs)) ∙ rw (take-take m (m + n) xs (omega arith), drop-take m n xs) refl
+
+-- digits behind others
+pub digits-both : (text : List ℕ) (from at end front size : ℕ) → IsDigits text from 0 at front → IsDigits text at front end size → IsDigits text from 0 end size
+digits-both text from at end front size f h =
+    let ds = drop from text in
+    let behind : drop at text ≡ drop f.count ds = sym (drop-drop f.count from text ∙ ap (λ i. drop i text) f.reaches) in
+    let taken : take (f.count + h.count) ds ≡ take f.count ds ++ take h.count (drop at text) = take-both f.count h.count ds ∙ ap (λ l. take f.count ds ++ take h.count l) (sym behind) in
+    record {
+      count = f.count + h.count;
+      reaches = omega (arith, f.reaches, h.reaches);
+      within = h.within;
+      digits = ap (list_all is_ascii_digit) taken ∙ list_all-append is_ascii_digit (take f.count ds) (take h.count (drop at text)) ∙ rw (f.digits, h.digits) refl;
+      value = λ k b most.
+          let first = f.value k b (omega (arith, most)) in
+          let more = h.value (k + f.count) first.1 (omega (arith, most)) in
+          let sum : k + f.count + h.count ≡ k + (f.count + h.count) = omega arith in (
+            more.0 ∙ ap (λ n. fold (λ n b. n * 10 + (b - 48)) n (take h.count (drop at text))) first.0
+                ∙ sym (ap (fold (λ n b. n * 10 + (b - 48)) 0) taken ∙ fold-append (λ n b. n * 10 + (b - 48)) 0 (take f.count ds) (take h.count (drop at text))),
+            subst (λ j. size < 10 ^ j) sum more.1,
           );
     }
 

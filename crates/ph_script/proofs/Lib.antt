@@ -1,6 +1,7 @@
 -- `Pieces` has the laws that callers cite; the others are steps of this crate's proofs.
 mod FaultText
 mod Draws
+mod EightDigits
 mod FileNameBytes
 mod FormRooms
 mod FormsOfWord

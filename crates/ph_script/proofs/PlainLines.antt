@@ -38,9 +38,6 @@ short-coord word s h = rw h.same (signed-coord s.minus s.size h.limit)
 
 -- ---- coordinates, word by word
 
-pub spelled-none : (text : List ℕ) (cs : List Coord) → cs ≡ [] → IsSpelled text cs text
-spelled-none text cs e = record { front = []; before = refl; spelled = rw e refl }
-
 pub spelled-more : (text rest behind : List ℕ) (cs more : List Coord) (s : Short) → IsSpelled text cs rest → IsNext rest s behind → more ≡ cs ++ Whole (if s.minus then neg_ℤ (pos s.size) else pos s.size) ∷ [] → IsSpelled text more behind
 spelled-more text rest behind cs more s h n e =
     record {

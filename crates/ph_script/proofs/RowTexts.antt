@@ -21,11 +21,6 @@ numbers-spaced (c ∷ p) last = ap (λ bytes. spaced c ++ bytes) (numbers-spaced
 pub row-behind : (front : List ℕ) (r : Row) → (front ++ flat_map spaced r.point) ++ (32 ∷ decimal r.value) ≡ front ++ row_numbers r
 row-behind front r = append_assoc front (flat_map spaced r.point) (32 ∷ decimal r.value)
 
-pub numbers-behind : (front : List ℕ) (r : Row) → ((front ++ flat_map spaced r.point) ++ (32 ∷ decimal r.value)) ++ 10 ∷ [] ≡ front ++ numbers_line r
-numbers-behind front r =
-    ap (λ bytes. bytes ++ 10 ∷ []) (append_assoc front (flat_map spaced r.point) (32 ∷ decimal r.value))
-    ∙ append_assoc front (flat_map spaced r.point ++ (32 ∷ decimal r.value)) (10 ∷ [])
-
 -- behind a word
 pub row-line : (word : List ℕ) (r : Row) → word ++ numbers_line r ≡ line_of (word ∷ row_words r)
 row-line word r =

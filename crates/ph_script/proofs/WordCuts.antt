@@ -1,5 +1,5 @@
 -- Where the words of a text stand.
-use Rattle.std.proofs.Common.{◌≡◌, ℕ, suc, min, ◌+◌, ◌<◌, ◌≤◌, List, [], ◌∷◌, length, take, drop, get_or, Bool, true, not, refl, sym, ap, ◌∙◌, subst, arith, inl, inr}
+use Rattle.std.proofs.Common.{◌≡◌, ℕ, suc, ◌+◌, ◌<◌, ◌≤◌, List, [], ◌∷◌, length, take, drop, get_or, Bool, true, not, refl, sym, ap, ◌∙◌, subst, arith, inl, inr}
 use Rattle.std.specs.Prelude.{filter, nat_lt, unwrap_or, Some, None}
 use Rattle.std.specs.List.{slice_split, position, position_or_len}
 use Rattle.std.proofs.lemmas.Bool.Decides.{nat_tests}
@@ -12,7 +12,7 @@ use Rattle.ph_specs.proofs.laws.Put.{either}
 use Rattle.ph_script.specs.declared.numbers.Short.{Short}
 use Rattle.ph_script.specs.Words.{IsShort, IsNumberAt}
 use Rattle.ph_script.specs.Plain.{IsNext}
-use Rattle.std.proofs.lemmas.List.{drop-drop, drop_more}
+use Rattle.std.proofs.lemmas.List.{drop-drop, drop_all, drop_more}
 
 abbrev pub is_other : ℕ → Bool
 is_other b = not (is_blank b)
@@ -78,9 +78,6 @@ position-none p xs h =
 drop_length : (xs : List ℕ) → drop (length xs) xs ≡ []
 drop_length xs = grind (arith, common_steps)
 
-take_length : (xs : List ℕ) → take (length xs) xs ≡ xs
-take_length xs = grind (arith, common_steps)
-
 pub no_word : (text : List ℕ) → position is_other text ≡ None → words text ≡ []
 no_word text h = sym (words-blanks text) ∙ rw (position-none is_other text h, drop_length text) refl
 
@@ -126,14 +123,14 @@ number_front text end s h =
     (sym (h.ends ∙ e), h.within, subst (λ n. IsShort (take n text) s) e h.number)
 
 -- the number of a word, behind which one blank goes
-pub next_number : (text : List ℕ) (from end next : ℕ) (s : Short) → IsNumberAt text from end s → next ≡ min (length text) (end + 1) → IsNext (drop from text) s (drop next text)
+pub next_number : (text : List ℕ) (from end next : ℕ) (s : Short) → IsNumberAt text from end s → next ≡ end + 1 → IsNext (drop from text) s (drop next text)
 next_number text from end next s h e =
     let word = take h.count (drop from text) in
     let left : words (drop next text) ≡ words (drop end text) = elim (either (nat_lt end (length text))) [
       | inl more ↦ (let l : end < length text = grind (arith, nat_tests) in
-          ap (λ i. words (drop i text)) (omega (arith, e, l)) ∙ words-blank text end l (h.blank l))
+          ap (λ i. words (drop i text)) e ∙ words-blank text end l (h.blank l))
       | inr none ↦ (let l : length text ≤ end = grind (arith, nat_tests) in
-          ap (λ i. words (drop i text)) (omega (arith, e, l, h.within)))
+          ap words (drop_all next text (omega (arith, e, l)) ∙ sym (drop_all end text l)))
     ] in
     record {
       word = word;
@@ -142,5 +139,5 @@ next_number text from end next s h e =
     }
 
 -- no word is left at the end
-pub no-words : (text : List ℕ) (at : ℕ) → at ≡ length text → words (drop at text) ≡ []
-no-words text at e = ap (λ i. words (drop i text)) e ∙ ap words (drop_length text)
+pub no-words : (text : List ℕ) (at : ℕ) → length text ≤ at → words (drop at text) ≡ []
+no-words text at l = ap words (drop_all at text l)

@@ -15,7 +15,8 @@ abbrev pub IsFit : Verb → ℕ → List Coord → List ℕ → Option (List ℕ
 IsFit Open dims coords counts name file = (coords ≡ []) × (length counts ≡ 1) × (slice_index counts 0 < 2 ^ 32)
 IsFit OpenBits dims coords counts name file = (coords ≡ []) × (length counts ≡ 2) × (slice_index counts 0 < 2 ^ 32) × (slice_index counts 1 < 2 ^ 32)
 IsFit OpenMax dims coords counts name file = (coords ≡ []) × (length counts ≡ 2) × (slice_index counts 0 < 2 ^ 32) × (slice_index counts 1 < 2 ^ 64)
-IsFit OpenBitsMax dims coords counts name file = (coords ≡ []) × (length counts ≡ 3) × (slice_index counts 0 < 2 ^ 32) × (slice_index counts 1 < 2 ^ 32) × (slice_index counts 2 < 2 ^ 64)
+IsFit OpenBitsMax dims coords counts name file =
+    (coords ≡ []) × (length counts ≡ 3) × (slice_index counts 0 < 2 ^ 32) × (slice_index counts 1 < 2 ^ 32) × (slice_index counts 2 < 2 ^ 64)
 IsFit Put dims coords counts name file = (length coords ≡ dims) × (length counts ≡ 1) × (slice_index counts 0 < 2 ^ 64)
 IsFit Get dims coords counts name file = (length coords ≡ dims) × (counts ≡ [])
 IsFit Del dims coords counts name file = (length coords ≡ dims) × (counts ≡ [])
@@ -69,7 +70,9 @@ IsFault Name sized numbers names = (sized ≡ true) × (numbers ≡ true) × (na
 -- words that fit in as many places, and the parts that they spell there
 abbrev pub IsRead : List Place → List (List ℕ) → List Coord → List ℕ → Option (List ℕ) → Option (List ℕ) → Bool → Type 0
 IsRead places ws coords counts name file second =
-    (length places ≡ length ws) × (pointwise number_fits places ws ≡ true) × (pointwise name_fits places ws ≡ true) × (coords ≡ coords_at places ws) × (counts ≡ counts_at places ws) × (name ≡ name_from None places ws) × (file ≡ file_from None places ws) × (second ≡ second_from false places ws)
+    (length places ≡ length ws) × (pointwise number_fits places ws ≡ true) × (pointwise name_fits places ws ≡ true)
+    × (coords ≡ coords_at places ws) × (counts ≡ counts_at places ws)
+    × (name ≡ name_from None places ws) × (file ≡ file_from None places ws) × (second ≡ second_from false places ws)
 
 -- each point of the command has so many coordinates
 abbrev pub HasDims : ℕ → Command → Type 0

@@ -128,16 +128,18 @@ bad_in f ws = if pointwise number_fits f.places ws then BadName else BadNumber
 unfoldable pub read_among : Bad → List ℕ → List (List ℕ) → List Spelling → Reading
 read_among bad word ws [] = Reading.Refused (bad_reply bad)
 read_among bad word ws (f ∷ fs) =
-    if bytes_eq f.word word
-    then (if length f.places == length ws then (if pointwise fixed_fits f.places ws then read_form f ws else read_among (bad_in f ws) word ws fs) else read_among (counted bad) word ws fs)
-    else read_among bad word ws fs
+    let own : Reading = if pointwise fixed_fits f.places ws then read_form f ws else read_among (bad_in f ws) word ws fs in
+    let sized : Reading = if length f.places == length ws then own else read_among (counted bad) word ws fs in
+    if bytes_eq f.word word then sized else read_among bad word ws fs
 
 -- a form of the word with these places is passed over, behind which so much is wrong
 abbrev pub IsPassed : Bad → Bad → List Asks → List (List ℕ) → Type 0
 IsPassed bad next places ws =
-    (f : Spelling) (word : List ℕ) (fs : List Spelling) → f.places ≡ places → bytes_eq f.word word ≡ true → read_among bad word ws (f ∷ fs) ≡ read_among next word ws fs
+    (f : Spelling) (word : List ℕ) (fs : List Spelling) → f.places ≡ places → bytes_eq f.word word ≡ true
+    → read_among bad word ws (f ∷ fs) ≡ read_among next word ws fs
 
 -- it refuses the words
 abbrev pub IsRefusing : Bad → Bad → List Asks → List (List ℕ) → Type 0
 IsRefusing bad b places ws =
-    (f : Spelling) (word : List ℕ) (fs : List Spelling) → f.places ≡ places → bytes_eq f.word word ≡ true → read_among bad word ws (f ∷ fs) ≡ Reading.Refused (bad_reply b)
+    (f : Spelling) (word : List ℕ) (fs : List Spelling) → f.places ≡ places → bytes_eq f.word word ≡ true
+    → read_among bad word ws (f ∷ fs) ≡ Reading.Refused (bad_reply b)

@@ -108,8 +108,9 @@ impl CoordBuffer {
         requires { length self.old < MOST_OF_COMMAND }
         ensures { self.new ≡ self.old ++ coord ∷ [] }
     {
-        self.room[self.len] = coord;
-        self.len += 1;
+        let at = self.len;
+        self.room[at] = coord;
+        self.len = at + 1;
     }
 
     pub(crate) fn as_slice(&self) -> &[Coord]

@@ -3,6 +3,7 @@
 
 mod command;
 mod coords;
+mod digits;
 mod file_name;
 mod forms;
 mod generator;

@@ -1,15 +1,15 @@
 //! The numbers that words spell.
 ghost use Rattle.std.specs.Prelude.{◌≡◌, ◌+◌, ◌-◌, ◌<◌, ◌≤◌, ◌^◌, ◌==◌, ◌&&◌, ◌||◌, not, if◌then◌else◌, true, false};
 ghost use Rattle.std.specs.Prelude.{length, slice_index, pos, neg_ℤ, Some, IfSome};
-ghost use Rattle.std.specs.Char.{is_ascii_digit};
 ghost use Rattle.ph_coord.specs.declared.number.Number.TheVariants.{Whole};
 ghost use Rattle.ph_coord.specs.Spelling.{number_of};
 ghost use Rattle.ph_specs.specs.Lines.{is_blank};
 ghost use Rattle.ph_script.specs.declared.coords.Coord.TheVariants.{Whole as WholeCoord};
 ghost use Rattle.ph_script.specs.Parts.{coord_of, count_of};
-ghost use Rattle.ph_script.specs.Words.{IsDigits, IsNumbered, IsNumberAt};
+ghost use Rattle.ph_script.specs.Words.{IsNumbered, IsNumberAt};
 
 use crate::coords::Coord;
+use crate::digits::digits_at;
 use crate::words::{Word, is_blank};
 use ph_coord::{Number, read_number};
 
@@ -52,7 +52,7 @@ pub(crate) fn number_at(text: &[u8], from: usize) -> Option<(Short, usize)>
 {
     let (minus, len) = sign(text[from]);
     let start = from + len;
-    let (size, end) = digits_behind(text, start, 0);
+    let (size, end) = digits_at(text, start);
     let count = end - start;
     if 0 < count && count <= MOST_DIGITS && is_end(text, end) {
         return Some((Short { minus, size }, end));
@@ -60,16 +60,14 @@ pub(crate) fn number_at(text: &[u8], from: usize) -> Option<(Short, usize)>
     None
 }
 
-// Whether a number that begins with this byte has a minus, and how many bytes its sign has.
+// Whether a number that begins with this byte has a minus, and how many bytes its sign has. No branch depends on the sign, which comes in no
+// order.
 fn sign(first: u8) -> (bool, usize)
     ensures minus { result.0 ≡ (first == 45) }
     ensures len { result.1 ≡ (if (first == 45) || (first == 43) then 1 else 0) }
 {
-    match first {
-        b'-' => (true, 1),
-        b'+' => (false, 1),
-        _ => (false, 0),
-    }
+    let minus = first == b'-';
+    (minus, usize::from(minus || first == b'+'))
 }
 
 // Whether there is a blank at a place, or the end.
@@ -78,32 +76,6 @@ fn is_end(text: &[u8], at: usize) -> bool
     ensures { result ≡ true → at < length text.now → is_blank (slice_index text.now at) ≡ true }
 {
     at == text.len() || is_blank(text[at])
-}
-
-// The number that the digits from a place on make behind one that was read, where both have at most 18 digits, and where they end.
-#[inline(always)]
-fn digits_behind(text: &[u8], from: usize, before: u64) -> (u64, usize)
-    requires { from ≤ length text.now }
-    ensures { IsDigits text.now from before result.1 result.0 }
-{
-    let mut size = before;
-    for at in from..text.len() {
-        let digit = digit_of(text[at]);
-        if 9 < digit {
-            return (size, at);
-        }
-        size = size.wrapping_mul(10).wrapping_add(digit);
-    }
-    (size, text.len())
-}
-
-// What a byte is as a digit, or more than 9 where it is none.
-#[inline(always)]
-fn digit_of(byte: u8) -> u64
-    ensures digit { result ≤ 9 → is_ascii_digit byte ≡ true }
-    ensures value { result ≤ 9 → result ≡ byte - 48 }
-{
-    u64::from(byte).wrapping_sub(48)
 }
 
 // The number that a word spells.

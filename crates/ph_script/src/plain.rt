@@ -106,7 +106,7 @@ impl Plain {
 // The command whose word and one space stand at the front of a line, and how many bytes these are.
 #[inline(always)]
 fn plain_word(line: &[u8]) -> Option<(Plain, usize)>
-    ensures { IfSome result (λ r. (r.1 ≤ length line.now) × (line.now ≡ word_of r.0 ++ 32 ∷ drop r.1 line.now)) }
+    ensures { IfSome result (λ r. line.now ≡ word_of r.0 ++ 32 ∷ drop r.1 line.now) }
 {
     match line {
         [b'p', b'u', b't', b' ', ..] => Some((Plain::Put, 4)),
@@ -123,17 +123,17 @@ fn plain_word(line: &[u8]) -> Option<(Plain, usize)>
     }
 }
 
-// The number of few digits that the word at a place spells, and the place behind the word and one blank.
+// The number of few digits that the word at a place spells, and the place behind the word and one blank. At the end of the line no blank
+// is there, and the place lies one behind the end.
 #[inline(always)]
 fn next_number(line: &[u8], from: usize) -> Option<(Short, usize)>
-    requires { from ≤ length line.now }
-    ensures { IfSome result (λ r. (r.1 ≤ length line.now) × IsNext (drop from line.now) r.0 (drop r.1 line.now)) }
+    ensures { IfSome result (λ r. IsNext (drop from line.now) r.0 (drop r.1 line.now)) }
 {
-    if from == line.len() {
+    if line.len() <= from {
         return None;
     }
     match number_at(line, from) {
-        Some((short, end)) => Some((short, line.len().min(end + 1))),
+        Some((short, end)) => Some((short, end + 1)),
         None => None,
     }
 }
@@ -141,10 +141,8 @@ fn next_number(line: &[u8], from: usize) -> Option<(Short, usize)>
 // Reads the next words as so many coordinates, and tells the place behind them and one blank.
 #[inline(always)]
 fn read_coords(line: &[u8], from: usize, count: usize, coords: &mut CoordBuffer) -> Option<usize>
-    requires within { from ≤ length line.now }
     requires empty { coords.old ≡ [] }
     requires room { count ≤ MOST_OF_COMMAND }
-    ensures within { IfSome result (λ end. end ≤ length line.now) }
     ensures spelled { IfSome result (λ end. IsSpelled (drop from line.now) coords.new (drop end line.now)) }
     ensures count { IfSome result (λ _. length coords.new ≡ count) }
 {
@@ -162,8 +160,7 @@ fn read_coords(line: &[u8], from: usize, count: usize, coords: &mut CoordBuffer)
 // The number behind the coordinates, if the command has one, and the place behind it and one blank.
 #[inline(always)]
 fn read_last(plain: Plain, line: &[u8], from: usize) -> Option<(u64, usize)>
-    requires { from ≤ length line.now }
-    ensures { IfSome result (λ r. (r.1 ≤ length line.now) × IsLast plain (drop from line.now) r.0 (drop r.1 line.now)) }
+    ensures { IfSome result (λ r. IsLast plain (drop from line.now) r.0 (drop r.1 line.now)) }
 {
     let Some(most) = plain.most() else {
         return Some((0, from));
@@ -191,7 +188,7 @@ pub(crate) fn read_plain(line: &[u8], dims: usize, coords: &mut CoordBuffer) -> 
         return None;
     };
     match read_last(plain, line, end) {
-        Some((number, end)) if end == line.len() => Some((plain, number)),
+        Some((number, end)) if line.len() <= end => Some((plain, number)),
         _ => None,
     }
 }

@@ -269,7 +269,22 @@ pub fn read_command<'c>(
     if let Some((plain, number)) = read_plain(line, dims, coords) {
         return Ok(Some(plain.command(dims, coords.as_slice(), number)));
     }
-    read_any(line, dims, coords)
+    read_other(line, dims, coords)
+}
+
+// Reads a line that is not plain. What it answers lies in a place of its own first, so that the command of a plain line needs no place.
+#[inline(always)]
+fn read_other<'c>(
+    line: &'c [u8],
+    dims: usize,
+    coords: &'c mut CoordBuffer,
+) -> Result<Option<Command<'c>>, Bad>
+    requires { dims ≤ 16 }
+    ensures meaning { reading_of result ≡ read_words dims (words line.now) }
+    ensures dims { ReadsDims dims result }
+{
+    let command = read_any(line, dims, coords)?;
+    Ok(command)
 }
 
 /// The same by the forms of all commands.

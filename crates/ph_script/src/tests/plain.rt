@@ -274,6 +274,8 @@ fn wrong_numbers(rt: HostRuntime) -> Result<(), Fail> {
         b"near 1 2 4294967296",
         b"within 1 2 340282366920938463463374607431768211456",
         b"get 1 1234567890123456x",
+        b"get 1 1234567/",
+        b"get 1 123:5678",
     ] {
         assert!(rt; reads(rt.alloc(), line, false, "Number")?);
     }

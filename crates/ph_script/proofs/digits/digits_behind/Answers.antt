@@ -1,6 +1,6 @@
 use Rattle.std.proofs.Common.{refl}
 use Rattle.ph_script.proofs.FrontNumbers.{digits-more}
-use Rattle.ph_script.proofs.numbers.digits_behind.Goals as goal
+use Rattle.ph_script.proofs.digits.digits_behind.Goals as goal
 
 pub loop-at-preserved : goal.loop-at-preserved
 loop-at-preserved c =
