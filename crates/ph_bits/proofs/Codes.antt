@@ -23,14 +23,16 @@ none ws at width v e l h =
     same n k d v e l = let f : v ≡ 0 = omega (arith, l) in ap (λ t. n + t * k) (e ∙ sym f)
 
 pub one : (ws : List ℕ) (at width x v : ℕ) → width ≤ 64 - at % 64 → 0 < width → at + width ≤ 64 * length ws → ((i : ℕ) → Fits w64 (slice_index_or ws i 0)) → x < 2 ^ 64
-    → x + slice_index_or ws (at / 64) 0 / 2 ^ (64 - at % 64 - width) % 2 ^ width * 2 ^ (64 - at % 64 - width) ≡ slice_index_or ws (at / 64) 0 + v * 2 ^ (64 - at % 64 - width)
+    → x + slice_index_or ws (at / 64) 0 / 2 ^ (64 - at % 64 - width) % 2 ^ width * 2 ^ (64 - at % 64 - width) ≡
+    slice_index_or ws (at / 64) 0 + v * 2 ^ (64 - at % 64 - width)
     → slice_set ws (at / 64) x ≡ with_digits ws at width v
 one ws at width x v l p m h f e =
     let w : 64 * (at / 64) + at % 64 ≡ at = omega arith in
     with_digits-one ws (at / 64) (at % 64) width (64 - at % 64 - width) x v (omega (arith, l)) (omega (arith, l, m, p)) (each-fits ws h) f e
     ∙ ap (λ t. with_digits ws t width v) w
 
-pub two : (ws : List ℕ) (at width x y v : ℕ) → width ≤ 64 → 64 - at % 64 < width → at + width ≤ 64 * length ws → ((i : ℕ) → Fits w64 (slice_index_or ws i 0)) → x < 2 ^ 64 → y < 2 ^ 64
+pub two : (ws : List ℕ) (at width x y v : ℕ) → width ≤ 64 → 64 - at % 64 < width → at + width ≤ 64 * length ws →
+    ((i : ℕ) → Fits w64 (slice_index_or ws i 0)) → x < 2 ^ 64 → y < 2 ^ 64
     → x + slice_index_or ws (at / 64) 0 / 1 % 2 ^ (64 - at % 64) * 1 ≡ slice_index_or ws (at / 64) 0 + v / 2 ^ (width - (64 - at % 64)) * 1
     → y + slice_index_or ws (at / 64 + 1) 0 / 2 ^ (64 - (width - (64 - at % 64))) % 2 ^ (width - (64 - at % 64)) * 2 ^ (64 - (width - (64 - at % 64)))
     ≡ slice_index_or ws (at / 64 + 1) 0 + v * 2 ^ (64 - (width - (64 - at % 64))) % 2 ^ 64 / 2 ^ (64 - (width - (64 - at % 64))) * 2 ^ (64 - (width - (64 - at % 64)))
@@ -45,11 +47,15 @@ two ws at width x y v n l m h fx fy ex ey =
     let b : 64 - at % 64 + (width - (64 - at % 64)) ≡ width = omega (arith, l) in
     let next : at / 64 + 1 ≡ suc (at / 64) = omega arith in
     let all : 64 ≡ width - (64 - at % 64) + (64 - (width - (64 - at % 64))) = omega (arith, n) in
-    let front : x + slice_index_or ws (at / 64) 0 % 2 ^ (64 - at % 64) ≡ slice_index_or ws (at / 64) 0 + v / 2 ^ (width - (64 - at % 64)) = plain x (slice_index_or ws place 0) (2 ^ room) (v / 2 ^ low) ex in
+    let front : x + slice_index_or ws (at / 64) 0 % 2 ^ (64 - at % 64) ≡ slice_index_or ws (at / 64) 0 + v / 2 ^
+    (width - (64 - at % 64)) = plain x (slice_index_or ws place 0) (2 ^ room) (v / 2 ^ low) ex in
     let other : slice_index_or ws (at / 64 + 1) 0 ≡ slice_index_or ws (suc (at / 64)) 0 = ap (λ t. slice_index_or ws t 0) next in
-    let small : slice_index_or ws (suc (at / 64)) 0 / 2 ^ (64 - (width - (64 - at % 64))) % 2 ^ (width - (64 - at % 64)) ≡ slice_index_or ws (suc (at / 64)) 0 / 2 ^ (64 - (width - (64 - at % 64))) =
+    let small : slice_index_or ws (suc (at / 64)) 0 / 2 ^ (64 - (width - (64 - at % 64))) % 2 ^
+    (width - (64 - at % 64)) ≡ slice_index_or ws (suc (at / 64)) 0 / 2 ^ (64 - (width - (64 - at % 64))) =
     mod-eq_of_lt (shr_below z low behind (subst (λ t. z < 2 ^ t) all (h (suc (at / 64))).fits)) in
-    let back : y + slice_index_or ws (suc (at / 64)) 0 / 2 ^ (64 - (width - (64 - at % 64))) * 2 ^ (64 - (width - (64 - at % 64))) ≡ slice_index_or ws (suc (at / 64)) 0 + v % 2 ^ (width - (64 - at % 64)) * 2 ^ (64 - (width - (64 - at % 64))) =
+    let back : y + slice_index_or ws (suc (at / 64)) 0 / 2 ^ (64 - (width - (64 - at % 64))) * 2 ^
+    (64 - (width - (64 - at % 64))) ≡ slice_index_or ws (suc (at / 64)) 0 + v % 2 ^ (width - (64 - at % 64)) * 2 ^
+    (64 - (width - (64 - at % 64))) =
     sym (ap (λ t. y + t * 2 ^ behind) small)
     ∙ subst (λ t. y + t / 2 ^ behind % 2 ^ low * 2 ^ behind ≡ t + v * 2 ^ behind % 2 ^ 64 / 2 ^ behind * 2 ^ behind) other ey
     ∙ ap (λ t. z + t * 2 ^ behind) (last v low (omega (arith, n))) in

@@ -39,10 +39,12 @@ module _ (ws known : List ℕ) (at level a : ℕ) where
   joined-long = length-put_together level a (body_above level known) row long ∙ above-long level known
 
   -- a number as the code makes it
-  pub joined-at : (i p q r : ℕ) → i < length known → p ≡ get_or known i 0 / 2 ^ (level + 1) * 2 ^ (level + 1) → q ≡ a / 2 ^ (length known - 1 - i) % 2 * 2 ^ level → r ≡ digits_at ws (at + i * level) level
+  pub joined-at : (i p q r : ℕ) → i < length known → p ≡ get_or known i 0 / 2 ^ (level + 1) * 2 ^ (level + 1) →
+      q ≡ a / 2 ^ (length known - 1 - i) % 2 * 2 ^ level → r ≡ digits_at ws (at + i * level) level
       → p + q + r ≡ get_or (put_together level a (body_above level known) (digits_row ws at level (length known))) i 0
   joined-at i p q r l e f g =
       ap (λ t. t + q + r) (e ∙ sym (get_or-map (λ x. x / 2 ^ (level + 1) * 2 ^ (level + 1)) known i 0 0 l))
       ∙ ap (λ t. get_or (body_above level known) i 0 + t + r) (f ∙ ap (λ t. a / 2 ^ (t - 1 - i) % 2 * 2 ^ level) (sym (above-long level known)))
-      ∙ ap (λ t. get_or (body_above level known) i 0 + a / 2 ^ (length (body_above level known) - 1 - i) % 2 * 2 ^ level + t) (g ∙ sym (row-at ws at level (length known) i l))
+      ∙ ap (λ t. get_or (body_above level known) i 0 + a / 2 ^ (length (body_above level known) - 1 - i) % 2 * 2 ^
+      level + t) (g ∙ sym (row-at ws at level (length known) i l))
       ∙ sym (get-put_together level a i (body_above level known) row long (subst (λ t. i < t) (sym (above-long level known)) l))

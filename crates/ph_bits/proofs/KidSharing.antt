@@ -28,9 +28,12 @@ module _ {M : Type 1} {𝓤 : Ura M} (𝓛 : Logic 𝓤) (l : Lft) (R : RattleTy
   Lends-values b o [] = Lends-nothing 𝓛 ftrue l
   Lends-values b o (x ∷ xs) =
       Lends-both 𝓛 (fsep (word_sized R) (part_at R full_share x b o)) (kids R b (o + 8) xs) (beside (said (word_sized R)) (shared_of R x b o)) (lent R b (o + 8) xs) l
-      (Lends-both 𝓛 (word_sized R) (part_at R full_share x b o) (said (word_sized R)) (shared_of R x b o) l (Lends-said 𝓛 (word_sized R) (tt, tt) l) (λ κ ts. Shares-less 𝓛 R R.lives l inc (L.shares 𝓛) x κ ts b o)) (Lends-values b (o + 8) xs)
+      (Lends-both 𝓛 (word_sized R) (part_at R full_share x b o) (said (word_sized R)) (shared_of R x b o) l
+      (Lends-said 𝓛 (word_sized R) (tt, tt) l) (λ κ ts. Shares-less 𝓛 R R.lives l inc (L.shares 𝓛) x κ ts b o))
+      (Lends-values b (o + 8) xs)
 
   pub Lends-kids : (p : Ptr) (from : ℕ) (xs : List R.Denot) → Lends 𝓛 (kids_own R p from xs) (kids_lent R p from xs) l
   Lends-kids (block_ptr b o) from xs =
-      Lends-both 𝓛 (fit R from xs) (kids R b (from * 8 + o) xs) (said (fit R from xs)) (lent R b (from * 8 + o) xs) l (Lends-said 𝓛 (fit R from xs) tt l) (Lends-values b (from * 8 + o) xs)
+      Lends-both 𝓛 (fit R from xs) (kids R b (from * 8 + o) xs) (said (fit R from xs)) (lent R b (from * 8 + o) xs) l
+      (Lends-said 𝓛 (fit R from xs) tt l) (Lends-values b (from * 8 + o) xs)
   Lends-kids null_ptr from xs = Lends-false 𝓛 (said ffalse) l

@@ -4,7 +4,8 @@
 --     to_cells, of_cells      places with words are a row of cells
 --     front_seen      a `&` to the places is one to the words of the first
 --     of_room, to_room      room for an array is a row of places without words
-use Rattle.std.proofs.Common.{◌≡◌, ℕ, zero, suc, ◌+◌, ◌*◌, ◌<◌, ◌≤◌, refl, sym, ◌∙◌, ap, arith, List, [], ◌∷◌, ◌++◌, length, map, take, take-append-drop, replicate, get_or, slice_set, Option, Some, None}
+use Rattle.std.proofs.Common.{◌≡◌, ℕ, zero, suc, ◌+◌, ◌*◌, ◌<◌, ◌≤◌, refl, sym, ◌∙◌, ap, arith, List, [], ◌∷◌, ◌++◌, length}
+use Rattle.std.proofs.Common.{map, take, take-append-drop, replicate, get_or, slice_set, Option, Some, None}
 use Rattle.std.proofs.Common.{drop as behind}
 use seplogic.Ra.Ura.{Ura}
 use base.Fraction.{full_share}
@@ -65,7 +66,8 @@ module _ {M : Type 1} {𝓤 : Ura M} (𝓛 : Logic 𝓤) (b : ℕ) where
       → ent 𝓤 (sem 𝓛 (places b o cs)) (sep 𝓤 (sem 𝓛 (places b o (take n cs))) (sem 𝓛 (places b (n * 8 + o) (behind n cs))))
   front_out cs zero o l =
       let e : o ≡ zero * 8 + o = omega arith in
-      qed 𝓛 (‵ (places b o cs) ∷ []) ∵ rewrite ! 0 (λ k. ‵ (places b k cs)) e refl $ use1 𝓛 (‵ ftrue ⊛ ‵ (places b (zero * 8 + o) cs)) (alone cs (zero * 8 + o)) $ split ! $ done !
+      qed 𝓛 (‵ (places b o cs) ∷ []) ∵ rewrite ! 0 (λ k. ‵ (places b k cs)) e refl $ use1 𝓛
+      (‵ ftrue ⊛ ‵ (places b (zero * 8 + o) cs)) (alone cs (zero * 8 + o)) $ split ! $ done !
     where
       alone : (cs : List (Option ℕ)) (o : ℕ) → ent 𝓤 (sem 𝓛 (places b o cs)) (sep 𝓤 (sem 𝓛 ftrue) (sem 𝓛 (places b o cs)))
       alone cs o = qed 𝓛 (‵ (places b o cs) ∷ []) ∵ nothing ! $ done !

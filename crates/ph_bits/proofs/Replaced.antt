@@ -22,7 +22,8 @@ number-with_digits ws at width v l m h =
     let e : ℕ = 64 * length ws - at - width in
     let a : at + (width + (64 * length ws - at - width)) ≡ 64 * length ws = omega (arith, l) in
     number_of-pieces 64 (length ws) (made (number_in ws) width e v)
-    ∙ mod-eq_of_lt (subst (λ t. made (number_in ws) width e v < 2 ^ t) a (replaced-fits (number_in ws) width e at v m (subst (λ t. number_in ws < 2 ^ t) (sym a) (number-small ws h))))
+    ∙ mod-eq_of_lt (subst (λ t. made (number_in ws) width e v < 2 ^ t) a
+    (replaced-fits (number_in ws) width e at v m (subst (λ t. number_in ws < 2 ^ t) (sym a) (number-small ws h))))
 
 read : (ws : List ℕ) (at width v a k : ℕ) → at + width ≤ 64 * length ws → v < 2 ^ width → Each (λ x. x < 2 ^ 64) ws
     → digits_at (with_digits ws at width v) a k ≡ made (number_in ws) width (64 * length ws - at - width) v / 2 ^ (64 * length ws - a - k) % 2 ^ k
@@ -76,7 +77,8 @@ digits-after ws at width v a k l m h f g =
     ∙ sym (up (x / 2 ^ e))
     ∙ ap (λ t. t / 2 ^ far % 2 ^ k) (shr_split x e)
 
-pub put : (ws xs : List ℕ) (at width v : ℕ) → at + width ≤ 64 * length ws → v < 2 ^ width → ((i : ℕ) → Fits w64 (slice_index_or ws i 0)) → xs ≡ with_digits ws at width v → IsPut ws at width v xs
+pub put : (ws xs : List ℕ) (at width v : ℕ) → at + width ≤ 64 * length ws → v < 2 ^ width →
+    ((i : ℕ) → Fits w64 (slice_index_or ws i 0)) → xs ≡ with_digits ws at width v → IsPut ws at width v xs
 put ws xs at width v l m f e =
     let h : Each (λ x. x < 2 ^ 64) ws = each-fits ws f in
     subst (IsPut ws at width v) (sym e)

@@ -1,5 +1,6 @@
 -- Rows of fields, place by place.
-use Rattle.std.proofs.Common.{◌≡◌, ℕ, zero, suc, ◌+◌, ◌-◌, ◌*◌, ◌/◌, ◌%◌, ◌^◌, ◌<◌, ◌≤◌, refl, sym, ◌∙◌, ap, subst, arith, List, [], ◌∷◌, ◌++◌, length, take, drop, replicate, slice_index_or, slice_set}
+use Rattle.std.proofs.Common.{◌≡◌, ℕ, zero, suc, ◌+◌, ◌-◌, ◌*◌, ◌/◌, ◌%◌, ◌^◌, ◌<◌, ◌≤◌, refl, sym, ◌∙◌, ap, subst, arith}
+use Rattle.std.proofs.Common.{List, [], ◌∷◌, ◌++◌, length, take, drop, replicate, slice_index_or, slice_set}
 use Rattle.std.proofs.lemmas.List.{take_more_set}
 use Rattle.ph_specs.specs.Digits.{pieces, digits_at}
 use Rattle.ph_specs.proofs.lemmas.Numbers.{length-pieces}
@@ -32,7 +33,8 @@ take_more (x ∷ xs) (suc i) l =
     ap (λ t. take t (x ∷ xs)) e ∙ ap {B = List ℕ} (λ t. x ∷ t) (take_more xs i (omega (arith, l)))
 
 -- one place more of a list that is copied
-pub copied : (body xs : List ℕ) (i v : ℕ) → i < length body → i < length xs → v ≡ slice_index_or xs i 0 → take i body ≡ take i xs → take (i + 1) (slice_set body i v) ≡ take (i + 1) xs
+pub copied : (body xs : List ℕ) (i v : ℕ) → i < length body → i < length xs → v ≡ slice_index_or xs i 0 →
+    take i body ≡ take i xs → take (i + 1) (slice_set body i v) ≡ take (i + 1) xs
 copied body xs i v l m e h =
     take_more_set body i v l ∙ ap (λ t. t ++ v ∷ []) h ∙ ap (λ t. take i xs ++ t ∷ []) e ∙ sym (take_more xs i m)
 

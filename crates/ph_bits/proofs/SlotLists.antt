@@ -1,5 +1,6 @@
 -- The words of the first places, where one place more has a word, and where a place has another word.
-use Rattle.std.proofs.Common.{◌≡◌, ℕ, zero, suc, ◌+◌, ◌-◌, ◌<◌, ◌≤◌, refl, sym, ◌∙◌, ap, subst, arith, List, [], ◌∷◌, ◌++◌, append_assoc, length, length-append, length-drop, length-take, map, take, take_at, drop, slice_set, Option, Some}
+use Rattle.std.proofs.Common.{◌≡◌, ℕ, zero, suc, ◌+◌, ◌-◌, ◌<◌, ◌≤◌, refl, sym, ◌∙◌, ap, subst, arith, List, [], ◌∷◌, ◌++◌, append_assoc}
+use Rattle.std.proofs.Common.{length, length-append, length-drop, length-take, map, take, take_at, drop, slice_set, Option, Some}
 use Rattle.std.proofs.lemmas.List.{length-set, length-map, map-append, take-map}
 use Rattle.std.specs.List.{refill}
 use Rattle.ph_bits.specs.Slots.{given, words_at, words_in, AreWritten}
@@ -31,11 +32,13 @@ words-more : (n : ℕ) (cs : List (Option ℕ)) (x : ℕ) → n < length cs → 
 words-more n cs x l = ap (map given) (take-more n cs x l) ∙ map-append given (take n cs) (Some x ∷ [])
 
 -- one word more behind i of them
-pub written-behind : (n i : ℕ) (cs ds : List (Option ℕ)) (x : ℕ) → ds ≡ slice_set cs (n + i) (Some x) → n + i < length cs → AreWritten (n + i) cs → AreWritten (n + (i + 1)) ds
+pub written-behind : (n i : ℕ) (cs ds : List (Option ℕ)) (x : ℕ) → ds ≡ slice_set cs (n + i) (Some x) →
+    n + i < length cs → AreWritten (n + i) cs → AreWritten (n + (i + 1)) ds
 written-behind n i cs ds x e l h =
     let next : n + i + 1 ≡ n + (i + 1) = omega arith in subst (λ t. AreWritten t ds) next (subst (AreWritten (n + i + 1)) (sym e) (written-more (n + i) cs x h l))
 
-pub words-behind : (n i : ℕ) (cs ds : List (Option ℕ)) (x : ℕ) (ws xs : List ℕ) → ds ≡ slice_set cs (n + i) (Some x) → n + i < length cs → words_at (n + i) cs ≡ ws ++ xs → words_at (n + (i + 1)) ds ≡ ws ++ (xs ++ x ∷ [])
+pub words-behind : (n i : ℕ) (cs ds : List (Option ℕ)) (x : ℕ) (ws xs : List ℕ) → ds ≡ slice_set cs (n + i) (Some x) →
+    n + i < length cs → words_at (n + i) cs ≡ ws ++ xs → words_at (n + (i + 1)) ds ≡ ws ++ (xs ++ x ∷ [])
 words-behind n i cs ds x ws xs e l h =
     let next : n + (i + 1) ≡ n + i + 1 = omega arith in
     ap (λ t. words_at t ds) next ∙ ap (words_at (n + i + 1)) e ∙ words-more (n + i) cs x l ∙ ap (λ t. t ++ x ∷ []) h ∙ append_assoc ws xs (x ∷ [])
@@ -124,7 +127,8 @@ in-at n cs = let e : n + 1 ≡ suc n = omega arith in behind n cs ∙ ap (λ k. 
 pub written-in : (n : ℕ) (cs : List (Option ℕ)) → AreWritten (n + 1) cs → AreWritten n (drop 1 cs)
 written-in n cs h =
     let next : n + 1 ≡ suc n = omega arith in
-    let m : n ≤ length (drop 1 cs) = omega (arith, h.0, length-drop 1 cs) in (m, (drop 1 h.1.0, behind n cs ∙ ap (λ k. drop 1 (take k cs)) (sym next) ∙ ap (drop 1) h.1.1 ∙ others h.1.0))
+    let m : n ≤ length (drop 1 cs) = omega (arith, h.0, length-drop 1 cs) in
+    (m, (drop 1 h.1.0, behind n cs ∙ ap (λ k. drop 1 (take k cs)) (sym next) ∙ ap (drop 1) h.1.1 ∙ others h.1.0))
   where
     behind : (n : ℕ) (cs : List (Option ℕ)) → take n (drop 1 cs) ≡ drop 1 (take (suc n) cs)
     behind zero [] = refl

@@ -1,5 +1,6 @@
 -- The number of words in which some digits were replaced.
-use Rattle.std.proofs.Common.{◌≡◌, ℕ, zero, suc, ◌+◌, ◌-◌, ◌*◌, ◌/◌, ◌%◌, ◌^◌, ◌<◌, ◌≤◌, refl, sym, ◌∙◌, ap, subst, arith, List, [], ◌∷◌, length, slice_index_or, slice_set}
+use Rattle.std.proofs.Common.{◌≡◌, ℕ, zero, suc, ◌+◌, ◌-◌, ◌*◌, ◌/◌, ◌%◌, ◌^◌, ◌<◌, ◌≤◌, refl, sym, ◌∙◌, ap}
+use Rattle.std.proofs.Common.{subst, arith, List, [], ◌∷◌, length, slice_index_or, slice_set}
 use Rattle.std.specs.List.{AllByRecursion as Each}
 use Rattle.std.proofs.lemmas.List.{length-set}
 use Rattle.std.proofs.lemmas.Nat.{field_of, shl-shr, shr-shr, pow-add, mod-pow-add, pow_pos, shr_split, mod_below, shr_below}
@@ -60,10 +61,12 @@ number-set (x ∷ ws) zero y l =
     let r : y * 2 ^ (64 * (suc (length ws) - 1)) ≡ y * 2 ^ (64 * length ws) = ap (λ t. y * t) p in
     omega (arith, q, r, number-front x ws, number-front y ws)
 number-set (x ∷ ws) (suc i) y l =
-    let m : number_in (slice_set ws i y) + slice_index_or ws i 0 * 2 ^ (64 * (length ws - suc i)) ≡ number_in ws + y * 2 ^ (64 * (length ws - suc i)) = number-set ws i y (omega (arith, l)) in
+    let m : number_in (slice_set ws i y) + slice_index_or ws i 0 * 2 ^ (64 * (length ws - suc i)) ≡
+    number_in ws + y * 2 ^ (64 * (length ws - suc i)) = number-set ws i y (omega (arith, l)) in
     let n : 64 * (suc (length ws) - suc (suc i)) ≡ 64 * (length ws - suc i) = omega arith in
     let p : 2 ^ (64 * (suc (length ws) - suc (suc i))) ≡ 2 ^ (64 * (length ws - suc i)) = ap (λ t. 2 ^ t) n in
-    let q : slice_index_or ws i 0 * 2 ^ (64 * (suc (length ws) - suc (suc i))) ≡ slice_index_or ws i 0 * 2 ^ (64 * (length ws - suc i)) = ap (λ t. slice_index_or ws i 0 * t) p in
+    let q : slice_index_or ws i 0 * 2 ^ (64 * (suc (length ws) - suc (suc i))) ≡
+    slice_index_or ws i 0 * 2 ^ (64 * (length ws - suc i)) = ap (λ t. slice_index_or ws i 0 * t) p in
     let r : y * 2 ^ (64 * (suc (length ws) - suc (suc i))) ≡ y * 2 ^ (64 * (length ws - suc i)) = ap (λ t. y * t) p in
     let s : x * 2 ^ (64 * length (slice_set ws i y)) ≡ x * 2 ^ (64 * length ws) = ap (λ t. x * 2 ^ (64 * t)) (length-set ws i y) in
     omega (arith, m, q, r, s, number-front x ws, number-front x (slice_set ws i y))
@@ -90,7 +93,8 @@ with_digits-one ws place before width behind x v e l h f n =
     let w : ℕ = slice_index_or ws place 0 in
     let r : ℕ = slice_index_or ws place 0 / 2 ^ behind % 2 ^ width in
     let s : 64 * length ws - (64 * place + before) - width ≡ behind + 64 * (length ws - suc place) = omega (arith, e, l) in
-    let p : 2 ^ (64 * length ws - (64 * place + before) - width) ≡ 2 ^ behind * 2 ^ (64 * (length ws - suc place)) = ap (λ t. 2 ^ t) s ∙ pow-add 2 behind (64 * (length ws - suc place)) in
+    let p : 2 ^ (64 * length ws - (64 * place + before) - width) ≡ 2 ^ behind * 2 ^ (64 * (length ws - suc place)) =
+    ap (λ t. 2 ^ t) s ∙ pow-add 2 behind (64 * (length ws - suc place)) in
     same_number ws (slice_set ws place x) (64 * place + before) width v (length-set ws place x) (each-set ws place x f h)
     (ap (λ t. number_in (slice_set ws place x) + t * 2 ^ (64 * length ws - (64 * place + before) - width)) (digits-one ws place before width behind e l h)
     ∙ both (number_in ws) (number_in (slice_set ws place x)) w x r v (2 ^ behind) P _ p (number-set ws place x l) n)
@@ -103,7 +107,8 @@ with_digits-one ws place before width behind x v e l h f n =
         omega (arith, a, f, g, h)
 
 -- two words were changed
-pub with_digits-two : (ws : List ℕ) (place before room low behind x y v : ℕ) → before + room ≡ 64 → low + behind ≡ 64 → suc place < length ws → Each (λ x. x < 2 ^ 64) ws → x < 2 ^ 64 → y < 2 ^ 64
+pub with_digits-two : (ws : List ℕ) (place before room low behind x y v : ℕ) → before + room ≡ 64 →
+    low + behind ≡ 64 → suc place < length ws → Each (λ x. x < 2 ^ 64) ws → x < 2 ^ 64 → y < 2 ^ 64
     → x + (slice_index_or ws place 0 % 2 ^ room) ≡ slice_index_or ws place 0 + v / 2 ^ low
     → y + (slice_index_or ws (suc place) 0 / 2 ^ behind) * 2 ^ behind ≡ slice_index_or ws (suc place) 0 + (v % 2 ^ low) * 2 ^ behind
     → slice_set (slice_set ws place x) (suc place) y ≡ with_digits ws (64 * place + before) (room + low) v
@@ -114,21 +119,34 @@ with_digits-two ws place before room low behind x y v e e' l h fx fy nx ny =
     let z : ℕ = slice_index_or ws (suc place) 0 in
     let r : ℕ = slice_index_or ws place 0 % 2 ^ room in
     let s : 64 * length ws - (64 * place + before) - (room + low) ≡ behind + 64 * (length ws - suc (suc place)) = omega (arith, e, e', l) in
-    let p : 2 ^ (64 * length ws - (64 * place + before) - (room + low)) ≡ 2 ^ behind * 2 ^ (64 * (length ws - suc (suc place))) = ap (λ t. 2 ^ t) s ∙ pow-add 2 behind (64 * (length ws - suc (suc place))) in
+    let p : 2 ^ (64 * length ws - (64 * place + before) - (room + low)) ≡
+    2 ^ behind * 2 ^ (64 * (length ws - suc (suc place))) = ap (λ t. 2 ^ t) s ∙
+    pow-add 2 behind (64 * (length ws - suc (suc place))) in
     let u : 64 * (length ws - suc place) ≡ low + (behind + 64 * (length ws - suc (suc place))) = omega (arith, e', l) in
     let q : 2 ^ (64 * (length ws - suc place)) ≡ 2 ^ low * (2 ^ behind * 2 ^ (64 * (length ws - suc (suc place)))) =
     ap (λ t. 2 ^ t) u ∙ pow-add 2 low (behind + 64 * (length ws - suc (suc place))) ∙ ap (λ t. 2 ^ low * t) (pow-add 2 behind (64 * (length ws - suc (suc place)))) in
     let same : length (slice_set ws place x) ≡ length ws = length-set ws place x in
-    let m : number_in (slice_set (slice_set ws place x) (suc place) y) + slice_index_or (slice_set ws place x) (suc place) 0 * 2 ^ (64 * (length (slice_set ws place x) - suc (suc place))) ≡ number_in (slice_set ws place x) + y * 2 ^ (64 * (length (slice_set ws place x) - suc (suc place))) =
+    let m : number_in (slice_set (slice_set ws place x) (suc place) y) + slice_index_or (slice_set ws place x)
+    (suc place) 0 * 2 ^ (64 * (length (slice_set ws place x) - suc (suc place))) ≡
+    number_in (slice_set ws place x) + y * 2 ^ (64 * (length (slice_set ws place x) - suc (suc place))) =
     number-set (slice_set ws place x) (suc place) y (subst (λ t. suc place < t) (sym same) l) in
-    let m1 : number_in (slice_set (slice_set ws place x) (suc place) y) + slice_index_or (slice_set ws place x) (suc place) 0 * 2 ^ (64 * (length ws - suc (suc place))) ≡ number_in (slice_set ws place x) + y * 2 ^ (64 * (length ws - suc (suc place))) =
-    subst (λ t. number_in (slice_set (slice_set ws place x) (suc place) y) + slice_index_or (slice_set ws place x) (suc place) 0 * 2 ^ (64 * (t - suc (suc place))) ≡ number_in (slice_set ws place x) + y * 2 ^ (64 * (t - suc (suc place)))) same m in
-    let m2 : number_in (slice_set (slice_set ws place x) (suc place) y) + slice_index_or ws (suc place) 0 * 2 ^ (64 * (length ws - suc (suc place))) ≡ number_in (slice_set ws place x) + y * 2 ^ (64 * (length ws - suc (suc place))) =
-    subst (λ t. number_in (slice_set (slice_set ws place x) (suc place) y) + t * 2 ^ (64 * (length ws - suc (suc place))) ≡ number_in (slice_set ws place x) + y * 2 ^ (64 * (length ws - suc (suc place)))) (next ws place x) m1 in
+    let m1 : number_in (slice_set (slice_set ws place x) (suc place) y) + slice_index_or (slice_set ws place x)
+    (suc place) 0 * 2 ^ (64 * (length ws - suc (suc place))) ≡ number_in (slice_set ws place x) + y * 2 ^
+    (64 * (length ws - suc (suc place))) =
+    subst (λ t. number_in (slice_set (slice_set ws place x) (suc place) y) + slice_index_or (slice_set ws place x)
+    (suc place) 0 * 2 ^ (64 * (t - suc (suc place))) ≡ number_in (slice_set ws place x) + y * 2 ^
+    (64 * (t - suc (suc place)))) same m in
+    let m2 : number_in (slice_set (slice_set ws place x) (suc place) y) + slice_index_or ws (suc place) 0 * 2 ^
+    (64 * (length ws - suc (suc place))) ≡ number_in (slice_set ws place x) + y * 2 ^ (64 * (length ws - suc (suc place))) =
+    subst (λ t. number_in (slice_set (slice_set ws place x) (suc place) y) + t * 2 ^
+    (64 * (length ws - suc (suc place))) ≡ number_in (slice_set ws place x) + y * 2 ^
+    (64 * (length ws - suc (suc place)))) (next ws place x) m1 in
     same_number ws (slice_set (slice_set ws place x) (suc place) y) (64 * place + before) (room + low) v
     (length-set (slice_set ws place x) (suc place) y ∙ same) (each-set (slice_set ws place x) (suc place) y fy (each-set ws place x fx h))
-    (ap (λ t. number_in (slice_set (slice_set ws place x) (suc place) y) + t * 2 ^ (64 * length ws - (64 * place + before) - (room + low))) (digits-two ws place before room low behind e e' l h)
-    ∙ both (number_in ws) (number_in xs) (number_in (slice_set xs (suc place) y)) w x z y r (z / 2 ^ behind) v (v / 2 ^ low) (v % 2 ^ low) (2 ^ behind) (2 ^ low) Q (2 ^ (64 * (length ws - suc place))) _ p q
+    (ap (λ t. number_in (slice_set (slice_set ws place x) (suc place) y) + t * 2 ^
+    (64 * length ws - (64 * place + before) - (room + low))) (digits-two ws place before room low behind e e' l h)
+    ∙ both (number_in ws) (number_in xs) (number_in (slice_set xs (suc place) y)) w x z y r (z / 2 ^ behind) v
+    (v / 2 ^ low) (v % 2 ^ low) (2 ^ behind) (2 ^ low) Q (2 ^ (64 * (length ws - suc place))) _ p q
     (number-set ws place x (omega (arith, l))) m2 nx ny (sym (shr_split v low)))
   where
     next : (ws : List ℕ) (i x : ℕ) → slice_index_or (slice_set ws i x) (suc i) 0 ≡ slice_index_or ws (suc i) 0
@@ -136,7 +154,8 @@ with_digits-two ws place before room low behind x y v e e' l h fx fy nx ny =
     next (w ∷ ws) zero x = refl
     next (w ∷ ws) (suc i) x = next ws i x
 
-    both : (N M L w x z y r c v u t K J Q P E : ℕ) → E ≡ K * Q → P ≡ J * (K * Q) → M + w * P ≡ N + x * P → L + z * Q ≡ M + y * Q → x + r ≡ w + u → y + c * K ≡ z + t * K → v ≡ u * J + t
+    both : (N M L w x z y r c v u t K J Q P E : ℕ) → E ≡ K * Q → P ≡ J * (K * Q) → M + w * P ≡ N + x * P →
+        L + z * Q ≡ M + y * Q → x + r ≡ w + u → y + c * K ≡ z + t * K → v ≡ u * J + t
         → L + (r * J + c) * E ≡ N + v * E
     both N M L w x z y r c v u t K J Q P E e p a b f g d =
         let f1 : (x + r) * P ≡ (w + u) * P = times P f in

@@ -16,7 +16,8 @@ same-number xs ys h k l e =
     sym (pieces-number 64 xs h) ∙ ap (λ n. pieces 64 n (number_in xs)) l ∙ ap (pieces 64 (length ys)) e ∙ pieces-number 64 ys k
 
 -- words whose number is that of the fields behind other words
-pub table-words : (front ws : List ℕ) (fs : List Field) → Each (λ x. x < 2 ^ 64) front → Each (λ x. x < 2 ^ 64) ws → Fit fs → length ws ≡ length front + words_for (digits_of fs)
+pub table-words : (front ws : List ℕ) (fs : List Field) → Each (λ x. x < 2 ^ 64) front → Each (λ x. x < 2 ^ 64) ws →
+    Fit fs → length ws ≡ length front + words_for (digits_of fs)
     → number_in ws ≡ number_after (number_in front) fs * 2 ^ (64 * words_for (digits_of fs) - digits_of fs) → ws ≡ front ++ words_of fs
 table-words front ws fs f h k l e =
     let d : ℕ = digits_of fs in
@@ -25,9 +26,12 @@ table-words front ws fs f h k l e =
     let n : ℕ = number_in front in
     let long : length ws ≡ length (front ++ words_of fs) = l ∙ ap (λ s. length front + s) (sym (length-words_of fs)) ∙ sym (length-append front (words_of fs)) in
     let c : 64 * words_for (digits_of fs) ≡ digits_of fs + (64 * words_for (digits_of fs) - digits_of fs) = omega arith in
-    let p : 2 ^ (64 * words_for (digits_of fs)) ≡ 2 ^ digits_of fs * 2 ^ (64 * words_for (digits_of fs) - digits_of fs) = ap (λ s. 2 ^ s) c ∙ pow-add 2 (digits_of fs) (64 * words_for (digits_of fs) - digits_of fs) in
+    let p : 2 ^ (64 * words_for (digits_of fs)) ≡
+    2 ^ digits_of fs * 2 ^ (64 * words_for (digits_of fs) - digits_of fs) = ap (λ s. 2 ^ s) c ∙
+    pow-add 2 (digits_of fs) (64 * words_for (digits_of fs) - digits_of fs) in
     let q : number_in (front ++ words_of fs) ≡ n * 2 ^ (64 * t) + number_of fs * 2 ^ pad =
-    number-append front (words_of fs) ∙ ap (λ s. n * 2 ^ (64 * s) + number_in (words_of fs)) (length-words_of fs) ∙ ap (λ s. n * 2 ^ (64 * t) + s) (number_of-words_of fs k) in
+    number-append front (words_of fs) ∙ ap (λ s. n * 2 ^ (64 * s) + number_in (words_of fs)) (length-words_of fs) ∙
+    ap (λ s. n * 2 ^ (64 * t) + s) (number_of-words_of fs k) in
     same-number ws (front ++ words_of fs) h (Each-append (λ x. x < 2 ^ 64) front (words_of fs) f (pieces-small 64 t (number_of fs * 2 ^ pad))) long
     (e ∙ ap (λ s. s * 2 ^ pad) (number_after-start n fs) ∙ parts n (2 ^ d) (number_of fs) (2 ^ pad) (2 ^ (64 * t)) p ∙ sym q)
   where

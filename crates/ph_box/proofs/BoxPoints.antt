@@ -1,5 +1,6 @@
 -- Corners of boxes, and boxes, as points of a width.
-use Rattle.std.proofs.Common.{◌≡◌, ℕ, ◌+◌, ◌*◌, ◌≤◌, ◌∙◌, Bool, true, List, ◌++◌, length, take, drop, take-append-drop, replicate, length-append, eq-eqb, eqb-true, arith, ap, sym, subst}
+use Rattle.std.proofs.Common.{◌≡◌, ℕ, ◌+◌, ◌*◌, ◌≤◌, ◌∙◌, Bool, true, List, ◌++◌, length, take, drop}
+use Rattle.std.proofs.Common.{take-append-drop, replicate, length-append, eq-eqb, eqb-true, arith, ap, sym, subst}
 use Rattle.std.specs.Prelude.{ℤ, ◌==◌}
 use Rattle.std.specs.List.{list_all}
 use Rattle.std.proofs.lemmas.Bool.{and_parts}
@@ -28,7 +29,8 @@ point-joined w k d lo hi e l h =
 -- the coordinates behind and in front of a place fit too
 parts-fit : (w k : ℕ) (p : List ℤ) → list_all (fits w) p ≡ true → (list_all (fits w) (take k p) ≡ true) × (list_all (fits w) (drop k p) ≡ true)
 parts-fit w k p h =
-    and_parts (list_all (fits w) (take k p)) (list_all (fits w) (drop k p)) (sym (list_all-append (fits w) (take k p) (drop k p)) ∙ ap (list_all (fits w)) (take-append-drop k p) ∙ h)
+    and_parts (list_all (fits w) (take k p)) (list_all (fits w) (drop k p))
+    (sym (list_all-append (fits w) (take k p) (drop k p)) ∙ ap (list_all (fits w)) (take-append-drop k p) ∙ h)
 
 pub point-part : (w d from k : ℕ) (p : List ℤ) → from + k ≤ d → IsPoint w d p → IsPoint w k (take k (drop from p))
 point-part w d from k p e h =
@@ -37,11 +39,15 @@ point-part w d from k p e h =
 -- the least coordinates in front of a point, and the greatest behind it
 pub least-joined : (w k d : ℕ) (p : List ℤ) → k * 2 ≡ d → IsPoint w k p → IsPoint w d (replicate (length p) (least w) ++ p)
 least-joined w k d p e h =
-    point-joined w k d (replicate (length p) (least w)) p e (point w k (replicate (length p) (least w)) (length-replicate (length p) (least w) ∙ long w k p h) (least_all w (length p))) h
+    point-joined w k d (replicate (length p) (least w)) p e
+    (point w k (replicate (length p) (least w)) (length-replicate (length p) (least w) ∙ long w k p h)
+    (least_all w (length p))) h
 
 pub joined-greatest : (w k d : ℕ) (p : List ℤ) → k * 2 ≡ d → IsPoint w k p → IsPoint w d (p ++ replicate (length p) (greatest w))
 joined-greatest w k d p e h =
-    point-joined w k d p (replicate (length p) (greatest w)) e h (point w k (replicate (length p) (greatest w)) (length-replicate (length p) (greatest w) ∙ long w k p h) (greatest_all w (length p)))
+    point-joined w k d p (replicate (length p) (greatest w)) e h
+    (point w k (replicate (length p) (greatest w)) (length-replicate (length p) (greatest w) ∙ long w k p h)
+    (greatest_all w (length p)))
 
 -- a window by the names of its corners
 pub window-named : (w d : ℕ) (asks : List ℤ → Bool) (low high from to : List ℤ) → from ≡ low → to ≡ high → IsWindowFor w d asks low high → IsWindowFor w d asks from to

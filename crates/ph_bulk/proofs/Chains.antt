@@ -79,7 +79,12 @@ children-part : {X : Type 0} (f : X → Entry) (xs : List X) (i : ℕ) → lengt
 children-part f xs zero = omega arith
 children-part f [] (suc i) = omega arith
 children-part f (x ∷ xs) (suc i) =
-    omega (arith, held-front (f x).addr (f x).body (f x).what (chained (map f (take i xs))), held-front (f x).addr (f x).body (f x).what (chained (map f xs)), children-part f xs i)
+    omega (
+      arith,
+      held-front (f x).addr (f x).body (f x).what (chained (map f (take i xs))),
+      held-front (f x).addr (f x).body (f x).what (chained (map f xs)),
+      children-part f xs i,
+    )
 
 module _ {X : Type 0} (f : X → Entry) (xs : List X) (i : ℕ) (x : X) (l : i < length xs) (e : x ≡ get_or xs i x) where
   one-more : map f (take (i + 1) xs) ≡ map f (take i xs) ++ f x ∷ []
@@ -104,7 +109,8 @@ module _ {X : Type 0} (f : X → Entry) (xs : List X) (i : ℕ) (x : X) (l : i <
   pub entry-at : (dims level least : ℕ) → IsLawfulFrom dims level least (chained (map f xs)) → IsLawfulEntry dims level (f x)
   entry-at dims level least h =
       entry-lawful dims level least i (chained (map f xs)) (f x) h
-      (ap (λ t. slice_get t i) (listed-chained (map f xs)) ∙ slice_get-map f xs i ∙ ap (λ o. option_over f o) (slice_get-get_or xs i x l ∙ ap {B = Option X} Some (sym e)))
+      (ap (λ t. slice_get t i) (listed-chained (map f xs)) ∙ slice_get-map f xs i ∙
+      ap (λ o. option_over f o) (slice_get-get_or xs i x l ∙ ap {B = Option X} Some (sym e)))
     where
       option_over : (X → Entry) → Option X → Option Entry
       option_over g None = None
@@ -114,7 +120,12 @@ pub size-part : {X : Type 0} (f : X → Entry) (xs : List X) (i : ℕ) → nodes
 size-part f xs zero = omega arith
 size-part f [] (suc i) = omega arith
 size-part f (x ∷ xs) (suc i) =
-    omega (arith, size-front (f x).addr (f x).body (f x).what (chained (map f (take i xs))), size-front (f x).addr (f x).body (f x).what (chained (map f xs)), size-part f xs i)
+    omega (
+      arith,
+      size-front (f x).addr (f x).body (f x).what (chained (map f (take i xs))),
+      size-front (f x).addr (f x).body (f x).what (chained (map f xs)),
+      size-part f xs i,
+    )
 
 -- ---- counts
 

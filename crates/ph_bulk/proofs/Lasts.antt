@@ -13,7 +13,8 @@ not-true : (b : Bool) → not b ≡ true → b ≡ false
 not-true true h = cc
 not-true false h = refl
 
-pub put-behind : (w : ℕ) (rows : List Row) (p : List ℤ) (v : ℕ) → is_rising w rows ≡ true → list_all (λ r. not (before w p r.point)) rows ≡ true → without_last rows p ++ row p v ∷ [] ≡ put w rows p v
+pub put-behind : (w : ℕ) (rows : List Row) (p : List ℤ) (v : ℕ) → is_rising w rows ≡ true →
+    list_all (λ r. not (before w p r.point)) rows ≡ true → without_last rows p ++ row p v ∷ [] ≡ put w rows p v
 put-behind w [] p v h k = refl
 put-behind w (r ∷ []) p v h k =
     let b : before w p r.point ≡ false = not-true (before w p r.point) (and_parts _ _ k).0 in
@@ -25,10 +26,15 @@ put-behind w (r ∷ s ∷ rows) p v h k =
     let b : before w p r.point ≡ false = not-true (before w p r.point) (and_parts _ _ k).0 in
     let c : before w p s.point ≡ false = not-true (before w p s.point) (and_parts _ _ (and_parts (not (before w p r.point)) _ k).1).0 in
     let first : before w r.point s.point ≡ true = (and_parts _ _ (and_parts _ _ h).0).0 in
-    let ih : without_last (s ∷ rows) p ++ row p v ∷ [] ≡ put w (s ∷ rows) p v = put-behind w (s ∷ rows) p v (and_parts (list_all (λ t. before w r.point t.point) (s ∷ rows)) _ h).1 (and_parts (not (before w p r.point)) _ k).1 in
+    let ih : without_last (s ∷ rows) p ++ row p v ∷ [] ≡ put w (s ∷ rows) p v =
+    put-behind w (s ∷ rows) p v (and_parts (list_all (λ t. before w r.point t.point) (s ∷ rows)) _ h).1
+    (and_parts (not (before w p r.point)) _ k).1 in
     elim (either (same_point r.point p)) [
       | inl same ↦ absurd (let clash : true ≡ false = sym first ∙ ap (λ q. before w q s.point) (same_from_test r.point p same) ∙ c in cc)
-      | inr other ↦ ap {B = List Row} (λ t. r ∷ t) ih ∙ sym (ap {B = List Row} (λ t. cond t (row p v ∷ s ∷ rows) (cond (before w p r.point) (row p v ∷ r ∷ s ∷ rows) (r ∷ put w (s ∷ rows) p v))) other ∙ ap {B = List Row} (λ t. cond t (row p v ∷ r ∷ s ∷ rows) (r ∷ put w (s ∷ rows) p v)) b)
+      | inr other ↦ ap {B = List Row} (λ t. r ∷ t) ih ∙
+          sym (ap {B = List Row} (λ t. cond t (row p v ∷ s ∷ rows)
+          (cond (before w p r.point) (row p v ∷ r ∷ s ∷ rows) (r ∷ put w (s ∷ rows) p v))) other ∙
+          ap {B = List Row} (λ t. cond t (row p v ∷ r ∷ s ∷ rows) (r ∷ put w (s ∷ rows) p v)) b)
     ]
 
 -- ---- the last row

@@ -1,5 +1,6 @@
 -- Rows stand in an order.
-use Rattle.std.proofs.Common.{map, cond, subst, ◌≡◌, ◌≢◌, ℕ, zero, suc, ◌+◌, ◌<◌, ◌⊎◌, Bool, true, false, List, [], ◌∷◌, length, sym, ◌∙◌, inl, inr, arith, refl, lt-ltb, le-ltb, ne_eqb}
+use Rattle.std.proofs.Common.{map, cond, subst, ◌≡◌, ◌≢◌, ℕ, zero, suc, ◌+◌, ◌<◌, ◌⊎◌, Bool, true, false, List, []}
+use Rattle.std.proofs.Common.{◌∷◌, length, sym, ◌∙◌, inl, inr, arith, refl, lt-ltb, le-ltb, ne_eqb}
 use Rattle.std.specs.Prelude.{nat_lt, ◌==◌, ◌*◌, ◌/◌, ◌%◌, ◌^◌}
 use Rattle.std.proofs.lemmas.Bool.{cases_lt, cases_eq}
 use Rattle.std.specs.Cmp.{IsStrictWeakOrder}
@@ -76,11 +77,14 @@ decided-apart a b below d =
       | inr h ↦ rw (le-ltb a b h, ne_eqb a b d) refl
     ]
 
-words-decided : (n t : ℕ) (xs ys : List ℕ) → t < n → ((k : ℕ) → t < k → k < n → body_address k xs ≡ body_address k ys) → body_address t xs ≢ body_address t ys → words_before n xs ys ≡ nat_lt (body_address t xs) (body_address t ys)
+words-decided : (n t : ℕ) (xs ys : List ℕ) → t < n →
+    ((k : ℕ) → t < k → k < n → body_address k xs ≡ body_address k ys) → body_address t xs ≢ body_address t ys →
+    words_before n xs ys ≡ nat_lt (body_address t xs) (body_address t ys)
 words-decided zero t xs ys l e d = absurd (let no : ⊥ = omega (arith, l) in no)
 words-decided (suc n) t xs ys l e d =
     elim (cases_lt t n) [
-      | inl h ↦ decided-eq (body_address n xs) (body_address n ys) (words_before n xs ys) (e n h (omega arith)) ∙ words-decided n t xs ys h (λ k g m. e k g (omega (arith, m))) d
+      | inl h ↦ decided-eq (body_address n xs) (body_address n ys) (words_before n xs ys) (e n h (omega arith)) ∙
+          words-decided n t xs ys h (λ k g m. e k g (omega (arith, m))) d
       | inr h ↦
           let same : t ≡ n = omega (arith, l, h) in
           subst (λ k. words_before (suc n) xs ys ≡ nat_lt (body_address k xs) (body_address k ys)) (sym same)
@@ -103,7 +107,9 @@ pub top-first : (xs ys : List ℕ) (t : ℕ) → length xs ≡ length ys → IsT
 unfolding words_first
 top-first xs ys t long d =
     is_lt-nat_cmp (body_address t xs) (body_address t ys)
-    ∙ sym (words-decided 64 t xs ys d.within (λ k g m. address-number 0 k xs ∙ same_number 0 (t + 1) k xs ys (omega (arith, g)) d.agree ∙ sym (address-number 0 k ys)) (other_address t xs ys long d.agree d.differ))
+    ∙ sym (words-decided 64 t xs ys d.within
+    (λ k g m. address-number 0 k xs ∙ same_number 0 (t + 1) k xs ys (omega (arith, g)) d.agree ∙
+    sym (address-number 0 k ys)) (other_address t xs ys long d.agree d.differ))
 
 pub same-first : (xs ys : List ℕ) → xs ≡ ys → false ≡ words_first xs ys
 unfolding words_first

@@ -33,9 +33,11 @@ pub record IsRoot (w dims place : ℕ) (table : List Row) (n : PlainNode) : Type
 root-shape : (w bits : ℕ) (table : List Row) → bits ≡ w → 1 ≤ length table → shape w table ≡ Some (node_made w (bits - 1) (map (λ r. r) table))
 root-shape w bits [] e l = absurd (let no : ⊥ = omega (arith, l) in no)
 root-shape w bits (r ∷ table) e l =
-    ap {B = Option PlainNode} (λ b. Some (node_made w (b - 1) (r ∷ table))) (sym e) ∙ ap {B = Option PlainNode} (λ t. Some (node_made w (bits - 1) t)) (sym (map-same (r ∷ table)))
+    ap {B = Option PlainNode} (λ b. Some (node_made w (b - 1) (r ∷ table))) (sym e) ∙
+    ap {B = Option PlainNode} (λ t. Some (node_made w (bits - 1) t)) (sym (map-same (r ∷ table)))
 
-pub root-is : (w dims bits : ℕ) (table : List Row) → bits ≡ w → 1 ≤ w → 1 ≤ length table → IsTable w dims table → IsRoot w dims (bits - 1) table (node_made w (bits - 1) (map (λ r. r) table))
+pub root-is : (w dims bits : ℕ) (table : List Row) → bits ≡ w → 1 ≤ w → 1 ≤ length table → IsTable w dims table →
+    IsRoot w dims (bits - 1) table (node_made w (bits - 1) (map (λ r. r) table))
 root-is w dims bits table e positive l h =
     let n : PlainNode = node_made w (bits - 1) (map (λ r. r) table) in
     let s = root-shape w bits table e l in

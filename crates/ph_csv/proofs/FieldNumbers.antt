@@ -32,7 +32,8 @@ pub numbers-kept : (front : List (List ℕ)) (text : List ℕ) (c : ℤ) → num
 numbers-kept front text c h = filter_map-append number front (text ∷ []) ∙ ap (λ t. filter_map number front ++ t) (rw h refl)
 
 -- one more field that is a number
-pub numbers-next : (front : List (List ℕ)) (text : List ℕ) (c : ℤ) → number text ≡ Some c → list_all is_number front ≡ true → list_all is_number (front ++ text ∷ []) ≡ true
+pub numbers-next : (front : List (List ℕ)) (text : List ℕ) (c : ℤ) → number text ≡ Some c →
+    list_all is_number front ≡ true → list_all is_number (front ++ text ∷ []) ≡ true
 numbers-next front text c h k = numbers-more front text ∙ both_true k (rw h refl)
 
 pub numbers-stop : (front : List (List ℕ)) (text : List ℕ) → number text ≡ None → list_all is_number (front ++ text ∷ []) ≡ false

@@ -68,7 +68,14 @@ leaves s fields field [] p e =
       | false ↦ λ k. cc
     ] e
 leaves s fields field (c ∷ rest) p e =
-    elim (is_end (step default_config s c).1) as (λ b. is_end (step default_config s c).1 ≡ b → (if b then Some (fields_after (step default_config s c).1 fields field, (step default_config s c).0, rest) else next_record default_config (step default_config s c).0 (fields_after (step default_config s c).1 fields field) (field_after (step default_config s c).1 c field) rest) ≡ Some p → Leaves (c ∷ rest) p) [
+    elim (is_end (step default_config s c).1) as (λ b. is_end (step default_config s c).1 ≡ b →
+    (if b then Some (
+      fields_after (step default_config s c).1 fields field,
+      (step default_config s c).0,
+      rest,
+    ) else next_record default_config (step default_config s c).0
+    (fields_after (step default_config s c).1 fields field) (field_after (step default_config s c).1 c field)
+    rest) ≡ Some p → Leaves (c ∷ rest) p) [
       | true ↦ λ t k. subst (Leaves (c ∷ rest)) (some-is _ p k) (record { less = omega arith; between = between s c t })
       | false ↦ λ t k.
           let l = leaves (step default_config s c).0 (fields_after (step default_config s c).1 fields field) (field_after (step default_config s c).1 c field) rest p k in
@@ -80,19 +87,34 @@ takes : (s : State) (bytes : List ℕ) (p : Read) → ends_at_end s ≡ false �
 unfolding next_record
 takes s [] p h e = let none : next_record default_config s [] [] [] ≡ None = rw h refl in cc
 takes s (c ∷ rest) p h e =
-    elim (is_end (step default_config s c).1) as (λ b. (if b then Some (fields_after (step default_config s c).1 [] [], (step default_config s c).0, rest) else next_record default_config (step default_config s c).0 (fields_after (step default_config s c).1 [] []) (field_after (step default_config s c).1 c []) rest) ≡ Some p → length p.2 < suc (length rest)) [
+    elim (is_end (step default_config s c).1)
+    as (λ b. (if b then Some (
+      fields_after (step default_config s c).1 [] [],
+      (step default_config s c).0,
+      rest,
+    ) else next_record default_config (step default_config s c).0
+    (fields_after (step default_config s c).1 [] []) (field_after (step default_config s c).1 c []) rest) ≡
+    Some p → length p.2 < suc (length rest)) [
       | true ↦ λ k. subst (λ (q : Read). length q.2 < suc (length rest)) (some-is _ p k) (omega arith)
-      | false ↦ λ k. omega (arith, (leaves (step default_config s c).0 (fields_after (step default_config s c).1 [] []) (field_after (step default_config s c).1 c []) rest p k).less)
+      | false ↦ λ k. omega (
+        arith,
+        (leaves (step default_config s c).0
+            (fields_after (step default_config s c).1 [] []) (field_after (step default_config s c).1 c []) rest p k).less,
+      )
     ] e
 
 -- ---- the number of turns does not matter
 
-same-rest : (n m : ℕ) (s : State) (bytes : List ℕ) → ends_at_end s ≡ false → length bytes < n → length bytes < m → records_from default_config n s bytes ≡ records_from default_config m s bytes
+same-rest : (n m : ℕ) (s : State) (bytes : List ℕ) → ends_at_end s ≡ false → length bytes < n → length bytes < m →
+    records_from default_config n s bytes ≡ records_from default_config m s bytes
 unfolding records_from
 same-rest zero m s bytes b h k = absurd (omega arith)
 same-rest (suc n) zero s bytes b h k = absurd (omega arith)
 same-rest (suc n) (suc m) s bytes b h k =
-    let go : (o : Option Read) → next_record default_config s [] [] bytes ≡ o → records_next (records_from default_config n) o ≡ records_next (records_from default_config m) o = λ o. elim o as (λ v. next_record default_config s [] [] bytes ≡ v → records_next (records_from default_config n) v ≡ records_next (records_from default_config m) v) [
+    let go : (o : Option Read) → next_record default_config s [] [] bytes ≡ o →
+    records_next (records_from default_config n) o ≡ records_next (records_from default_config m) o =
+    λ o. elim o as (λ v. next_record default_config s [] [] bytes ≡ v →
+    records_next (records_from default_config n) v ≡ records_next (records_from default_config m) v) [
       | None ↦ λ e. refl
       | Some p ↦ λ e. let t = takes s bytes p b e in ap (λ rs. p.0 ∷ rs) (same-rest n m p.1 p.2 (leaves s [] [] bytes p e).between (omega (arith, t)) (omega (arith, t)))
     ] in go _ refl
@@ -109,7 +131,8 @@ rest-none s bytes e = rw (add-one, e) refl
 
 -- ---- a step of a reader
 
-step-some : {R : Type 0} (rem : R → Option (List ℕ)) (a b : Reader R) (f : List (List ℕ)) → IsReading rem a → ReadRecord rem a b true f → b.first ≡ true → IsNext rem a b f
+step-some : {R : Type 0} (rem : R → Option (List ℕ)) (a b : Reader R) (f : List (List ℕ)) → IsReading rem a →
+    ReadRecord rem a b true f → b.first ≡ true → IsNext rem a b f
 unfolding Reached
 step-some rem a b f i r t =
     let m = rows-more rem a b f default_config a.state (left_in rem a) (left_in rem a) [] i.plain i.source (refl, refl) r in
@@ -136,7 +159,8 @@ step-some rem a b f i r t =
 step-none : {R : Type 0} (rem : R → Option (List ℕ)) (a b : Reader R) (f : List (List ℕ)) → IsReading rem a → ReadRecord rem a b false f → rest_in rem a ≡ []
 step-none rem a b f i r = rest-none a.state (left_in rem a) (rows-end rem a b f default_config (left_in rem a) i.plain i.source r)
 
-pub reads-next : {R : Type 0} (rem : R → Option (List ℕ)) (a b : Reader R) (found : Bool) (f : List (List ℕ)) → IsReading rem a → ReadRecord rem a b found f → b.first ≡ true → ReadsNext rem a b found f
+pub reads-next : {R : Type 0} (rem : R → Option (List ℕ)) (a b : Reader R) (found : Bool) (f : List (List ℕ)) →
+    IsReading rem a → ReadRecord rem a b found f → b.first ≡ true → ReadsNext rem a b found f
 reads-next rem a b true f i r t = step-some rem a b f i r t
 reads-next rem a b false f i r t = step-none rem a b f i r
 

@@ -28,9 +28,14 @@ fields-split fields dims text h k = let size : length fields ≡ suc dims = omeg
 no-left : (a b : Bool) → a ≡ false → (a && b) ≡ false
 no-left a b h = rw h refl
 
-numbers-length-step : (f : List ℕ) (front : List (List ℕ)) (o : Option ℤ) → number f ≡ o → list_all is_number (f ∷ front) ≡ true → (list_all is_number front ≡ true → length (filter_map number front) ≡ length front) → length (filter_map number (f ∷ front)) ≡ suc (length front)
+numbers-length-step : (f : List ℕ) (front : List (List ℕ)) (o : Option ℤ) → number f ≡ o →
+    list_all is_number (f ∷ front) ≡ true →
+    (list_all is_number front ≡ true → length (filter_map number front) ≡ length front) →
+    length (filter_map number (f ∷ front)) ≡ suc (length front)
 numbers-length-step f front None e h more = let never : list_all is_number (f ∷ front) ≡ false = rw e refl in cc
-numbers-length-step f front (Some c) e h more = let rest : list_all is_number front ≡ true = sym (let same : list_all is_number (f ∷ front) ≡ list_all is_number front = rw e refl in same) ∙ h in rw e (ap suc (more rest))
+numbers-length-step f front (Some c) e h more = let rest : list_all is_number front ≡ true =
+    sym (let same : list_all is_number (f ∷ front) ≡ list_all is_number front = rw e refl in same) ∙ h in
+    rw e (ap suc (more rest))
 
 pub numbers-length : (front : List (List ℕ)) → list_all is_number front ≡ true → length (filter_map number front) ≡ length front
 numbers-length [] h = refl
@@ -43,12 +48,14 @@ module _ (front : List (List ℕ)) (text : List ℕ) where
   bad-value : is_number_below (2 ^ 64) (number text) ≡ false → are_numbers (length front) (front ++ text ∷ []) ≡ false
   bad-value h = rw drop-append_seam (and_right (list_all is_number (front ++ text ∷ [])) _ (no-left _ _ h))
 
-  good-numbers : (v : ℕ) → list_all is_number front ≡ true → number text ≡ Some (pos v) → is_number_below (2 ^ 64) (number text) ≡ true → are_numbers (length front) (front ++ text ∷ []) ≡ true
+  good-numbers : (v : ℕ) → list_all is_number front ≡ true → number text ≡ Some (pos v) →
+      is_number_below (2 ^ 64) (number text) ≡ true → are_numbers (length front) (front ++ text ∷ []) ≡ true
   good-numbers v h k b = rw drop-append_seam (both_true (numbers-more front text ∙ both_true h (rw k refl)) (both_true b refl))
 
   good-row : (v : ℕ) → list_all is_number front ≡ true → number text ≡ Some (pos v) → record_row (length front) (front ++ text ∷ []) ≡ row (filter_map number front) v
   good-row v h k =
-      let all : filter_map number (front ++ text ∷ []) ≡ filter_map number front ++ pos v ∷ [] = filter_map-append number front (text ∷ []) ∙ ap (λ t. filter_map number front ++ t) (rw k refl) in
+      let all : filter_map number (front ++ text ∷ []) ≡ filter_map number front ++ pos v ∷ [] =
+      filter_map-append number front (text ∷ []) ∙ ap (λ t. filter_map number front ++ t) (rw k refl) in
       let size = numbers-length front h in
       rw (all, ← size, take-append_seam, get_or-append_seam) refl
 
@@ -60,10 +67,12 @@ same-number n = grind (arith, nat_tests)
 front-size : (fields : List (List ℕ)) (dims : ℕ) → length fields ≡ dims + 1 → length (take dims fields) ≡ dims
 front-size fields dims h = omega (arith, length-take dims fields)
 
-by-number : (w dims : ℕ) (kind : Kind) (n : ℕ) (fields : List (List ℕ)) → length fields ≡ dims + 1 → are_numbers dims fields ≡ false → read_record w dims kind n fields ≡ Err (BadNumber n)
+by-number : (w dims : ℕ) (kind : Kind) (n : ℕ) (fields : List (List ℕ)) → length fields ≡ dims + 1 →
+    are_numbers dims fields ≡ false → read_record w dims kind n fields ≡ Err (BadNumber n)
 by-number w dims kind n fields e h = rw (e, same-number (dims + 1), h) refl
 
-by-row : (w dims : ℕ) (kind : Kind) (n : ℕ) (fields : List (List ℕ)) → length fields ≡ dims + 1 → are_numbers dims fields ≡ true → read_record w dims kind n fields ≡ row_answer w kind n (record_row dims fields)
+by-row : (w dims : ℕ) (kind : Kind) (n : ℕ) (fields : List (List ℕ)) → length fields ≡ dims + 1 →
+    are_numbers dims fields ≡ true → read_record w dims kind n fields ≡ row_answer w kind n (record_row dims fields)
 by-row w dims kind n fields e h = rw (e, same-number (dims + 1), h) refl
 
 module _ (w dims : ℕ) (kind : Kind) (n : ℕ) (fields : List (List ℕ)) (text : List ℕ) (size : length fields ≡ dims + 1) (last : field_at fields dims ≡ Some text) where
@@ -75,11 +84,16 @@ module _ (w dims : ℕ) (kind : Kind) (n : ℕ) (fields : List (List ℕ)) (text
   read-bad-value h =
       by-number w dims kind n fields size (rw (front-size fields dims size, ← (fields-split fields dims text size last)) at (bad-value (take dims fields) text h))
 
-  pub read-numbers : (v : ℕ) → list_all is_number (take dims fields) ≡ true → IsValue text (Some v) → read_record w dims kind n fields ≡ row_answer w kind n (row (filter_map number (take dims fields)) v)
+  pub read-numbers : (v : ℕ) → list_all is_number (take dims fields) ≡ true → IsValue text (Some v) →
+      read_record w dims kind n fields ≡ row_answer w kind n (row (filter_map number (take dims fields)) v)
   read-numbers v front value =
-      let are : are_numbers dims fields ≡ true = rw (front-size fields dims size, ← (fields-split fields dims text size last)) at (good-numbers (take dims fields) text v front value.0 value.1) in
-      let good : record_row (length (take dims fields)) (take dims fields ++ text ∷ []) ≡ row (filter_map number (take dims fields)) v = good-row (take dims fields) text v front value.0 in
-      let is = sym (ap (λ d. record_row d (take dims fields ++ text ∷ [])) (front-size fields dims size) ∙ ap (record_row dims) (sym (fields-split fields dims text size last))) ∙ good in
+      let are : are_numbers dims fields ≡ true =
+      rw (front-size fields dims size, ← (fields-split fields dims text size last)) at
+      (good-numbers (take dims fields) text v front value.0 value.1) in
+      let good : record_row (length (take dims fields)) (take dims fields ++ text ∷ []) ≡
+      row (filter_map number (take dims fields)) v = good-row (take dims fields) text v front value.0 in
+      let is = sym (ap (λ d. record_row d (take dims fields ++ text ∷ [])) (front-size fields dims size) ∙
+      ap (record_row dims) (sym (fields-split fields dims text size last))) ∙ good in
       by-row w dims kind n fields size are ∙ ap (row_answer w kind n) is
 
 -- ---- the answer of a row

@@ -37,7 +37,8 @@ module _ (d : ℕ) (words : List ℕ) (a i : ℕ) (r : IsRecord true d words) (h
   pub body-digits : a < 2 ^ d → get_or (bodies d words) a [] ≡ digits_row words (64 + 2 ^ d * 2 + a * d * (first_in words).level) (first_in words).level d
   body-digits l = parts-at (2 ^ d) d (drop (2 ^ d) (fields_as true d words)) a l ∙ body-row d words (a * d) d r h (within a (2 ^ d) d l)
 
-  pub begins : i < (first_in words).entries → StandsAt d words a i → IsBodyAt d (first_in words).level words (entries_as true d words) i (64 + 2 ^ d * 2 + a * d * (first_in words).level)
+  pub begins : i < (first_in words).entries → StandsAt d words a i →
+      IsBodyAt d (first_in words).level words (entries_as true d words) i (64 + 2 ^ d * 2 + a * d * (first_in words).level)
   begins w s = record {
     body =
         slice_get-map read_body (entries_as true d words) i ∙ ap (option_map read_body) (entry-is d words a i r h w s)

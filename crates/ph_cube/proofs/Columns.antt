@@ -1,5 +1,6 @@
 -- The columns of a cube record as digits of its words.
-use Rattle.std.proofs.Common.{◌≡◌, ℕ, zero, suc, ◌+◌, ◌*◌, ◌^◌, ◌<◌, ◌≤◌, refl, sym, ◌∙◌, ap, subst, arith, List, ◌∷◌, ◌++◌, length, length-append, length-take, length-drop, min, take, drop, replicate, slice_index_or, true}
+use Rattle.std.proofs.Common.{◌≡◌, ℕ, zero, suc, ◌+◌, ◌*◌, ◌^◌, ◌<◌, ◌≤◌, refl, sym, ◌∙◌, ap, subst, arith, List, ◌∷◌, ◌++◌, length}
+use Rattle.std.proofs.Common.{length-append, length-take, length-drop, min, take, drop, replicate, slice_index_or, true}
 use Rattle.std.specs.List.{AllByRecursion as Each}
 use Rattle.std.proofs.lemmas.List.{get_or-take, get_or-drop, length-replicate, get_or-replicate}
 use Rattle.std.proofs.Math.Nat.{mul-le-mul_left}

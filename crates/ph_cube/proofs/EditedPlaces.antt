@@ -1,5 +1,6 @@
 -- What stands at the addresses, once what stands at one of them is replaced.
-use Rattle.std.proofs.Common.{◌≡◌, ◌≢◌, ℕ, zero, suc, ◌+◌, ◌*◌, ◌<◌, ◌≤◌, refl, sym, ◌∙◌, ap, subst, arith, List, [], ◌∷◌, ◌++◌, length, map, take, drop, replicate, Bool, true, false, not, cond, eq-eqb, ne_eqb}
+use Rattle.std.proofs.Common.{◌≡◌, ◌≢◌, ℕ, zero, suc, ◌+◌, ◌*◌, ◌<◌, ◌≤◌, refl, sym, ◌∙◌, ap, subst, arith, List, [], ◌∷◌, ◌++◌}
+use Rattle.std.proofs.Common.{length, map, take, drop, replicate, Bool, true, false, not, cond, eq-eqb, ne_eqb}
 use Rattle.std.specs.Prelude.{Option, Some, None, ◌==◌, nat_le, if◌then◌else◌}
 use Rattle.std.specs.List.{AllByRecursion as Each, position_or_len}
 use Rattle.std.proofs.lemmas.Bool.{leb-false, leb-true}
@@ -33,18 +34,23 @@ rises-flats a [] bs vs = tt
 rises-flats a (k ∷ ks) [] vs = tt
 rises-flats a (k ∷ ks) (b ∷ bs) vs = by (k == 0) (k == 2) vs (λ us. rises-flats (a + 1) ks bs us)
   where
-    by : (t u : Bool) (us : List ℕ) → ((us : List ℕ) → Rises (a + 1) (flats (read_cube (a + 1) ks bs) us)) → Rises a (flats (if t then read_cube (a + 1) ks bs else read u a b ∷ read_cube (a + 1) ks bs) us)
+    by : (t u : Bool) (us : List ℕ) → ((us : List ℕ) → Rises (a + 1) (flats (read_cube (a + 1) ks bs) us)) →
+        Rises a (flats (if t then read_cube (a + 1) ks bs else read u a b ∷ read_cube (a + 1) ks bs) us)
     by true u us i = rises-lower a _ (i us)
     by false true us i = (omega arith, i us)
     by false false [] i = tt
     by false false (x ∷ us) i = (omega arith, i us)
 
-pub long-flats : (d a : ℕ) (ks : List ℕ) (bs : List (List ℕ)) (vs : List ℕ) → Each (λ b. length b ≡ d) bs → Each (λ (e : Flat). length e.body ≡ d) (flats (read_cube a ks bs) vs)
+pub long-flats : (d a : ℕ) (ks : List ℕ) (bs : List (List ℕ)) (vs : List ℕ) → Each (λ b. length b ≡ d) bs →
+    Each (λ (e : Flat). length e.body ≡ d) (flats (read_cube a ks bs) vs)
 long-flats d a [] bs vs h = tt
 long-flats d a (k ∷ ks) [] vs h = tt
 long-flats d a (k ∷ ks) (b ∷ bs) vs h = by (k == 0) (k == 2) vs (λ us. long-flats d (a + 1) ks bs us h.1)
   where
-    by : (t u : Bool) (us : List ℕ) → ((us : List ℕ) → Each (λ (e : Flat). length e.body ≡ d) (flats (read_cube (a + 1) ks bs) us)) → Each (λ (e : Flat). length e.body ≡ d) (flats (if t then read_cube (a + 1) ks bs else read u a b ∷ read_cube (a + 1) ks bs) us)
+    by : (t u : Bool) (us : List ℕ) →
+        ((us : List ℕ) → Each (λ (e : Flat). length e.body ≡ d) (flats (read_cube (a + 1) ks bs) us)) →
+        Each (λ (e : Flat). length e.body ≡ d)
+        (flats (if t then read_cube (a + 1) ks bs else read u a b ∷ read_cube (a + 1) ks bs) us)
     by true u us i = i us
     by false true us i = (h.0, i us)
     by false false [] i = tt
@@ -73,7 +79,8 @@ front-below : (x : ℕ) (es : List Flat) → Each (λ (e : Flat). e.addr < x) (t
 front-below x [] = tt
 front-below x (e ∷ es) = by (nat_le x e.addr) refl (front-below x es)
   where
-    by : (t : Bool) → nat_le x e.addr ≡ t → Each (λ (e : Flat). e.addr < x) (take (below x es) es) → Each (λ (e : Flat). e.addr < x) (take (cond (not t) (1 + below x es) 0) (e ∷ es))
+    by : (t : Bool) → nat_le x e.addr ≡ t → Each (λ (e : Flat). e.addr < x) (take (below x es) es) →
+        Each (λ (e : Flat). e.addr < x) (take (cond (not t) (1 + below x es) 0) (e ∷ es))
     by true q h = tt
     by false q h =
         let k : suc (below x es) ≡ 1 + below x es = omega arith in
@@ -83,7 +90,8 @@ back-above : (x least : ℕ) (es : List Flat) → Rises least es → Each (λ (e
 back-above x least [] h = tt
 back-above x least (e ∷ es) h = by (nat_le x e.addr) refl (back-above x (e.addr + 1) es h.1)
   where
-    by : (t : Bool) → nat_le x e.addr ≡ t → Each (λ (e : Flat). x ≤ e.addr) (drop (below x es) es) → Each (λ (e : Flat). x ≤ e.addr) (drop (cond (not t) (1 + below x es) 0) (e ∷ es))
+    by : (t : Bool) → nat_le x e.addr ≡ t → Each (λ (e : Flat). x ≤ e.addr) (drop (below x es) es) →
+        Each (λ (e : Flat). x ≤ e.addr) (drop (cond (not t) (1 + below x es) 0) (e ∷ es))
     by true q i = let l : x ≤ e.addr = leb-true x e.addr q in (l, Each-each es (λ y m. omega (arith, m, l)) (rises-all (e.addr + 1) es h.1))
     by false q i =
         let k : suc (below x es) ≡ 1 + below x es = omega arith in
@@ -113,7 +121,8 @@ at-front a (x ∷ xs) ys zs h = ap {B = Option Flat} (λ t. if x.addr == a then 
 
 -- ---- one address replaced
 
-module _ (addr place less more least : ℕ) (x : Flat) (es : List Flat) (r : Rises least es) (p : place ≡ below addr es) (q : place + less ≡ below (addr + 1) es) (s : 0 < more → x.addr ≡ addr) where
+module _ (addr place less more least : ℕ) (x : Flat) (es : List Flat) (r : Rises least es) (p : place ≡ below addr es)
+    (q : place + less ≡ below (addr + 1) es) (s : 0 < more → x.addr ≡ addr) where
   abbrev front : List Flat
   front = take place es
 
@@ -140,7 +149,8 @@ module _ (addr place less more least : ℕ) (x : Flat) (es : List Flat) (r : Ris
   gone-high : Each (λ (e : Flat). addr ≤ e.addr) gone
   gone-high = each-take (λ e. addr ≤ e.addr) less (drop place es) (subst (λ t. Each (λ (e : Flat). addr ≤ e.addr) (drop t es)) (sym p) (back-above addr least es r))
 
-  gone-here : (a : ℕ) → a ≢ addr → (xs : List Flat) → Each (λ (e : Flat). e.addr < addr + 1) xs → Each (λ (e : Flat). addr ≤ e.addr) xs → Each (λ (e : Flat). e.addr ≢ a) xs
+  gone-here : (a : ℕ) → a ≢ addr → (xs : List Flat) → Each (λ (e : Flat). e.addr < addr + 1) xs →
+      Each (λ (e : Flat). addr ≤ e.addr) xs → Each (λ (e : Flat). e.addr ≢ a) xs
   gone-here a n [] h k = tt
   gone-here a n (y ∷ xs) h k = ((λ z. n (omega (arith, z, h.0, k.0))), gone-here a n xs h.1 k.1)
 
@@ -203,11 +213,18 @@ long-at d a (e ∷ es) h = by (e.addr == a) (long-at d a es h.1)
     by true i = h.0
     by false i = i
 
-pub digits-bodies : (d level m a : ℕ) (es : List Flat) → Each (λ (e : Flat). length e.body ≡ d) es → digits_of (bodies level (map (place_body d) (places m a es))) ≡ m * (d * level)
+pub digits-bodies : (d level m a : ℕ) (es : List Flat) → Each (λ (e : Flat). length e.body ≡ d) es →
+    digits_of (bodies level (map (place_body d) (places m a es))) ≡ m * (d * level)
 digits-bodies d level zero a es h = omega arith
 digits-bodies d level (suc m) a es h =
     let b : digits_of (body_fields level (place_body d (at_address a es))) ≡ d * level = body (place_body d (at_address a es)) ∙ ap (λ t. t * level) (long-at d a es h) in
-    omega (arith, digits_of-append (body_fields level (place_body d (at_address a es))) (bodies level (map (place_body d) (places m (a + 1) es))), b, digits-bodies d level m (a + 1) es h)
+    omega (
+      arith,
+      digits_of-append (body_fields level (place_body d (at_address a es)))
+          (bodies level (map (place_body d) (places m (a + 1) es))),
+      b,
+      digits-bodies d level m (a + 1) es h,
+    )
   where
     body : (b : List ℕ) → digits_of (body_fields level b) ≡ length b * level
     body [] = omega arith

@@ -1,5 +1,6 @@
 -- The columns of a record with one edit at an address are those of its entries then.
-use Rattle.std.proofs.Common.{◌≡◌, ◌≢◌, ℕ, suc, ◌+◌, ◌-◌, ◌*◌, ◌/◌, ◌^◌, ◌≤◌, ◌<◌, refl, sym, ◌∙◌, ap, subst, arith, List, [], ◌∷◌, ◌++◌, length, map, take, drop, replicate, Bool, true, false, ◌⊎◌, inl, inr}
+use Rattle.std.proofs.Common.{◌≡◌, ◌≢◌, ℕ, suc, ◌+◌, ◌-◌, ◌*◌, ◌/◌, ◌^◌, ◌≤◌, ◌<◌, refl, sym, ◌∙◌, ap, subst, arith, List, []}
+use Rattle.std.proofs.Common.{◌∷◌, ◌++◌, length, map, take, drop, replicate, Bool, true, false, ◌⊎◌, inl, inr}
 use Rattle.std.specs.Prelude.{Option, Some, None, nat_le, if◌then◌else◌}
 use Rattle.std.specs.List.{AllByRecursion as Each}
 use Rattle.std.proofs.lemmas.List.{append-nil, map-append}
@@ -25,7 +26,8 @@ use Rattle.ph_linear.proofs.OldTables.{IsTable, table-of}
 use Rattle.ph_linear.proofs.Segments.{column-number}
 use Rattle.ph_cube.specs.Cube as Cube
 use Rattle.ph_cube.specs.Edited.{IsEditAt, entries_below}
-use Rattle.ph_cube.proofs.EditedPlaces.{Rises, rises-flats, long-flats, below, below-flats, below-most, other, none-here, new-there, places-split, places-same, length-places, digits-kinds, digits-bodies}
+use Rattle.ph_cube.proofs.EditedPlaces.{Rises, rises-flats, long-flats, below, below-flats, below-most, other, none-here}
+use Rattle.ph_cube.proofs.EditedPlaces.{new-there, places-split, places-same, length-places, digits-kinds, digits-bodies}
 use Rattle.ph_cube.proofs.Standing.{zeros-front, zeros-fit}
 
 module _ (dims : ℕ) (words : List ℕ) (e : Edit) (addr : ℕ) (r : IsRecord true dims words) (h : Each (λ x. x < 2 ^ 64) words) (k : IsEditAt dims words e addr) where
@@ -58,11 +60,17 @@ module _ (dims : ℕ) (words : List ℕ) (e : Edit) (addr : ℕ) (r : IsRecord t
       let f : First = first_in words in
       let xs : List ℕ = fields_as true dims words in
       long-flats dims 0 (Cube.kinds dims words) (Cube.bodies dims words) (values_as true dims words)
-      (Each-each (Cube.bodies dims words) (λ b p. p.0) (cube-bodies dims f xs (length-fields true dims words ∙ length-widths true dims f) (fit-read (digits_as true dims f) (widths true dims f) (number_as true dims words / 2 ^ padding (digits_as true dims f)))))
+      (Each-each (Cube.bodies dims words) (λ b p. p.0)
+      (cube-bodies dims f xs (length-fields true dims words ∙ length-widths true dims f)
+      (fit-read (digits_as true dims f) (widths true dims f)
+      (number_as true dims words / 2 ^ padding (digits_as true dims f)))))
 
   -- ---- addresses
 
-  list-is : edited_as true dims words e ≡ take e.place (flats (entries_as true dims words) (values_as true dims words)) ++ (replicate e.more (new_flat dims e.entry e.value) ++ drop (e.place + e.less) (flats (entries_as true dims words) (values_as true dims words)))
+  list-is : edited_as true dims words e ≡
+      take e.place (flats (entries_as true dims words) (values_as true dims words)) ++
+      (replicate e.more (new_flat dims e.entry e.value) ++
+      drop (e.place + e.less) (flats (entries_as true dims words) (values_as true dims words)))
   list-is = parts-new true dims words e r h within
 
   same : (a : ℕ) → a ≢ addr → at_address a es ≡ at_address a (edited_as true dims words e)
@@ -80,7 +88,8 @@ module _ (dims : ℕ) (words : List ℕ) (e : Edit) (addr : ℕ) (r : IsRecord t
   some-or-none : (0 < e.more) ⊎ (e.more ≡ 0)
   some-or-none = elim (split 0 e.more) [ inl l ↦ inl l | inr l ↦ inr (omega (arith, l)) ]
 
-  pub kind-then : (v : ℕ) → (0 < e.more → v ≡ 1 + (if e.entry.child then 1 else 0)) → (e.more ≡ 0 → v ≡ 0) → place_kind (at_address addr (edited_as true dims words e)) ≡ field 2 v
+  pub kind-then : (v : ℕ) → (0 < e.more → v ≡ 1 + (if e.entry.child then 1 else 0)) → (e.more ≡ 0 → v ≡ 0) →
+      place_kind (at_address addr (edited_as true dims words e)) ≡ field 2 v
   kind-then v f g =
       elim some-or-none [
         | inl l ↦ ap place_kind (there-then l) ∙ ap (field 2) (mark e.entry.child ∙ sym (f l))
@@ -91,14 +100,17 @@ module _ (dims : ℕ) (words : List ℕ) (e : Edit) (addr : ℕ) (r : IsRecord t
       mark true = refl
       mark false = refl
 
-  pub body-then : (body : List ℕ) → (0 < e.more → body ≡ e.entry.body) → (e.more ≡ 0 → body ≡ replicate 16 0) → place_body dims (at_address addr (edited_as true dims words e)) ≡ take dims body
+  pub body-then : (body : List ℕ) → (0 < e.more → body ≡ e.entry.body) → (e.more ≡ 0 → body ≡ replicate 16 0) →
+      place_body dims (at_address addr (edited_as true dims words e)) ≡ take dims body
   body-then body f g =
       elim some-or-none [
         | inl l ↦ ap (place_body dims) (there-then l) ∙ ap (take dims) (sym (f l))
         | inr z ↦ ap (place_body dims) (gone-then z) ∙ sym (ap (take dims) (g z) ∙ zeros-front dims 16 r.few)
       ]
 
-  pub body-fits : (body : List ℕ) → (0 < e.more → body ≡ e.entry.body) → (e.more ≡ 0 → body ≡ replicate 16 0) → AreRising dims (first_in words).level 0 (edited_as true dims words e) → Each (λ t. t < 2 ^ (first_in words).level) (take dims body)
+  pub body-fits : (body : List ℕ) → (0 < e.more → body ≡ e.entry.body) → (e.more ≡ 0 → body ≡ replicate 16 0) →
+      AreRising dims (first_in words).level 0 (edited_as true dims words e) →
+      Each (λ t. t < 2 ^ (first_in words).level) (take dims body)
   body-fits body f g w =
       elim some-or-none [
         | inl l ↦
@@ -133,7 +145,8 @@ module _ (dims : ℕ) (words : List ℕ) (e : Edit) (addr : ℕ) (r : IsRecord t
 
   -- ---- columns
 
-  column : (g : List (Option Flat) → List Field) (w : ℕ) (fs hs : List Field) (c : Column) (at : Edit) (s : ℕ) → ((ps qs : List (Option Flat)) → g (ps ++ qs) ≡ g ps ++ g qs)
+  column : (g : List (Option Flat) → List Field) (w : ℕ) (fs hs : List Field) (c : Column) (at : Edit) (s : ℕ) →
+      ((ps qs : List (Option Flat)) → g (ps ++ qs) ≡ g ps ++ g qs)
       → ((m a : ℕ) → digits_of (g (places m a es)) ≡ m * w) → cube_table dims b es ≡ fs ++ (g (places n 0 es) ++ hs)
       → c.at ≡ 64 + digits_of fs → c.width ≡ w → c.count ≡ n → at.place ≡ addr → at.less ≡ 1
       → number_after s (column_edited words c at (g (at_address addr (edited_as true dims words e) ∷ []))) ≡ number_after s (g (places n 0 (edited_as true dims words e)))
@@ -155,16 +168,24 @@ module _ (dims : ℕ) (words : List ℕ) (e : Edit) (addr : ℕ) (r : IsRecord t
 
   pub kinds-edited : (c : Column) (at : Edit) (s v : ℕ) → place_kind (at_address addr (edited_as true dims words e)) ≡ field 2 v
       → c.at ≡ 64 → c.width ≡ 2 → c.count ≡ 2 ^ dims → at.place ≡ addr → at.less ≡ 1 → at.more ≡ 1
-      → number_after s (column_edited words c at (replicate at.more (field c.width v))) ≡ number_after s (map place_kind (places (2 ^ dims) 0 (edited_as true dims words e)))
+      → number_after s (column_edited words c at (replicate at.more (field c.width v))) ≡
+      number_after s (map place_kind (places (2 ^ dims) 0 (edited_as true dims words e)))
   kinds-edited c at s v q a cw cn p l m =
-      ap (λ t. number_after s (column_edited words c at t)) (ap (λ t. replicate t (field c.width v)) m ∙ ap {B = List Field} (λ t. field t v ∷ []) cw ∙ ap {B = List Field} (λ t. t ∷ []) (sym q))
-      ∙ column (map place_kind) 2 [] (bodies b (map (place_body dims) (places n 0 es))) c at s (map-append place_kind) (λ m a. digits-kinds (places m a es) ∙ ap (λ t. t * 2) (length-places m a es)) refl (omega (arith, a)) cw cn p l
+      ap (λ t. number_after s (column_edited words c at t))
+      (ap (λ t. replicate t (field c.width v)) m ∙ ap {B = List Field} (λ t. field t v ∷ []) cw ∙
+      ap {B = List Field} (λ t. t ∷ []) (sym q))
+      ∙ column (map place_kind) 2 [] (bodies b (map (place_body dims) (places n 0 es))) c at s (map-append place_kind)
+      (λ m a. digits-kinds (places m a es) ∙ ap (λ t. t * 2) (length-places m a es)) refl (omega (arith, a)) cw cn p l
 
   pub bodies-edited : (c : Column) (at : Edit) (s : ℕ) (body : List ℕ) → place_body dims (at_address addr (edited_as true dims words e)) ≡ body
       → c.at ≡ 64 + 2 ^ dims * 2 → c.width ≡ dims * (first_in words).level → c.count ≡ 2 ^ dims → at.place ≡ addr → at.less ≡ 1 → at.more ≡ 1
-      → number_after s (column_edited words c at (bodies (first_in words).level (replicate at.more body))) ≡ number_after s (bodies (first_in words).level (map (place_body dims) (places (2 ^ dims) 0 (edited_as true dims words e))))
+      → number_after s (column_edited words c at (bodies (first_in words).level (replicate at.more body))) ≡
+      number_after s (bodies (first_in words).level
+      (map (place_body dims) (places (2 ^ dims) 0 (edited_as true dims words e))))
   bodies-edited c at s body q a cw cn p l m =
       let d : digits_of (map place_kind (places n 0 es)) ≡ n * 2 = digits-kinds (places n 0 es) ∙ ap (λ t. t * 2) (length-places n 0 es) in
       ap (λ t. number_after s (column_edited words c at (bodies b t))) (ap (λ t. replicate t body) m ∙ ap {B = List (List ℕ)} (λ t. t ∷ []) (sym q))
-      ∙ column (λ ps. bodies b (map (place_body dims) ps)) (dims * b) (map place_kind (places n 0 es)) [] c at s (λ ps qs. ap (bodies b) (map-append (place_body dims) ps qs) ∙ bodies-append b (map (place_body dims) ps) (map (place_body dims) qs)) (λ m a. digits-bodies dims b m a es long)
+      ∙ column (λ ps. bodies b (map (place_body dims) ps)) (dims * b) (map place_kind (places n 0 es)) [] c at s
+      (λ ps qs. ap (bodies b) (map-append (place_body dims) ps qs) ∙ bodies-append b (map (place_body dims) ps)
+      (map (place_body dims) qs)) (λ m a. digits-bodies dims b m a es long)
       (ap (λ t. map place_kind (places n 0 es) ++ t) (sym (append-nil (bodies b (map (place_body dims) (places n 0 es)))))) (a ∙ ap (λ t. 64 + t) (sym d)) cw cn p l

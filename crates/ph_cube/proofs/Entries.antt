@@ -39,7 +39,8 @@ module _ (d : ℕ) (words : List ℕ) (a i : ℕ) (r : IsRecord true d words) (h
       ∙ children-at 0 (kinds d words) (bodies d words) a many (omega (arith, l, length-kinds d words))
       ∙ sym (twos-digits d words a r h (omega (arith, l)))
 
-  pub entry-is : i < (first_in words).entries → StandsAt d words a i → slice_get (entries_as true d words) i ≡ Some (read (digits_at words (64 + a * 2) 2 == 2) a (get_or (bodies d words) a []))
+  pub entry-is : i < (first_in words).entries → StandsAt d words a i →
+      slice_get (entries_as true d words) i ≡ Some (read (digits_at words (64 + a * 2) 2 == 2) a (get_or (bodies d words) a []))
   entry-is w s =
       let ks : List ℕ = kinds d words in
       let j : a < length ks = subst (λ t. a < t) (sym (length-kinds d words)) s.limit in

@@ -1,5 +1,6 @@
 -- The entries of a cube record, by the kinds in front of them.
-use Rattle.std.proofs.Common.{◌≡◌, ℕ, zero, suc, ◌+◌, ◌<◌, ◌≤◌, refl, sym, ◌∙◌, ap, arith, List, [], ◌∷◌, length, take, Bool, true, false, not, cond, get_or, slice_index_or, ne_eqb, eq-eqb, eqb-true}
+use Rattle.std.proofs.Common.{◌≡◌, ℕ, zero, suc, ◌+◌, ◌<◌, ◌≤◌, refl, sym, ◌∙◌, ap, arith, List, [], ◌∷◌, length, take}
+use Rattle.std.proofs.Common.{Bool, true, false, not, cond, get_or, slice_index_or, ne_eqb, eq-eqb, eqb-true}
 use Rattle.std.specs.Prelude.{◌==◌, nat_le, if◌then◌else◌}
 use Rattle.std.specs.List.{position_or_len}
 use Rattle.std.proofs.lemmas.Bool.{lt-leb, le-leb}
@@ -41,15 +42,20 @@ entry-at a (k ∷ ks) (b ∷ bs) zero e l h =
     let z : a ≡ a + 0 = omega arith in
     here (k == 0) h z
   where
-    here : (t : Bool) → t ≡ false → a ≡ a + 0 → (0 < length (if t then read_cube (a + 1) ks bs else read (k == 2) a b ∷ read_cube (a + 1) ks bs)) × (get_or (if t then read_cube (a + 1) ks bs else read (k == 2) a b ∷ read_cube (a + 1) ks bs) 0 no_read ≡ read (k == 2) (a + 0) b)
+    here : (t : Bool) → t ≡ false → a ≡ a + 0 →
+        (0 < length (if t then read_cube (a + 1) ks bs else read (k == 2) a b ∷ read_cube (a + 1) ks bs)) ×
+        (get_or (if t then read_cube (a + 1) ks bs else read (k == 2) a b ∷ read_cube (a + 1) ks bs) 0 no_read ≡
+        read (k == 2) (a + 0) b)
     here true q z = absurd (let f : mark true ≡ mark false = ap mark q in omega (arith, f))
     here false q z = (omega arith, ap (λ t. read (k == 2) t b) z)
 entry-at a (k ∷ ks) (b ∷ bs) (suc j) e l h =
     let z : a + 1 + j ≡ a + suc j = omega arith in
-    next (k == 0) a k b (read_cube (a + 1) ks bs) (present ks j) (slice_index_or ks j 0 == 2) (a + 1 + j) (a + suc j) (get_or bs j []) z (entry-at (a + 1) ks bs j (omega (arith, e)) (omega (arith, l)) h)
+    next (k == 0) a k b (read_cube (a + 1) ks bs) (present ks j) (slice_index_or ks j 0 == 2) (a + 1 + j) (a + suc j)
+    (get_or bs j []) z (entry-at (a + 1) ks bs j (omega (arith, e)) (omega (arith, l)) h)
   where
     next : (t : Bool) (a k : ℕ) (b : List ℕ) (rs : List Read) (p : ℕ) (u : Bool) (x y : ℕ) (c : List ℕ) → x ≡ y → (p < length rs) × (get_or rs p no_read ≡ read u x c)
-        → ((if t then 0 else 1) + p < length (if t then rs else read (k == 2) a b ∷ rs)) × (get_or (if t then rs else read (k == 2) a b ∷ rs) ((if t then 0 else 1) + p) no_read ≡ read u y c)
+        → ((if t then 0 else 1) + p < length (if t then rs else read (k == 2) a b ∷ rs)) ×
+        (get_or (if t then rs else read (k == 2) a b ∷ rs) ((if t then 0 else 1) + p) no_read ≡ read u y c)
     next true a k b rs p u x y c z h =
         let e : 0 + p ≡ p = omega arith in
         (omega (arith, h.0), ap (λ s. get_or rs s no_read) e ∙ h.1 ∙ ap (λ s. read u s c) z)
@@ -58,7 +64,8 @@ entry-at a (k ∷ ks) (b ∷ bs) (suc j) e l h =
         (omega (arith, h.0), ap (λ s. get_or (read (k == 2) a b ∷ rs) s no_read) e ∙ h.1 ∙ ap (λ s. read u s c) z)
 
 -- the children in front of it
-pub children-at : (a : ℕ) (ks : List ℕ) (bs : List (List ℕ)) (j : ℕ) → length bs ≡ length ks → j ≤ length ks → children_in (take (present ks j) (read_cube a ks bs)) ≡ twos ks j
+pub children-at : (a : ℕ) (ks : List ℕ) (bs : List (List ℕ)) (j : ℕ) → length bs ≡ length ks → j ≤ length ks →
+    children_in (take (present ks j) (read_cube a ks bs)) ≡ twos ks j
 children-at a ks bs zero e l = refl
 children-at a [] bs (suc j) e l = elim l [ ]
 children-at a (k ∷ ks) [] (suc j) e l = absurd (omega (arith, e))
@@ -99,11 +106,13 @@ long true u a b rs = omega arith
 long false u a b rs = omega arith
 
 -- an address behind all
-pub past : (x a : ℕ) (ks : List ℕ) (bs : List (List ℕ)) → a + length ks ≤ x → position_or_len (λ r. nat_le x (read_address r)) (read_cube a ks bs) ≡ length (read_cube a ks bs)
+pub past : (x a : ℕ) (ks : List ℕ) (bs : List (List ℕ)) → a + length ks ≤ x →
+    position_or_len (λ r. nat_le x (read_address r)) (read_cube a ks bs) ≡ length (read_cube a ks bs)
 past x a [] bs l = refl
 past x a (k ∷ ks) [] l = refl
 past x a (k ∷ ks) (b ∷ bs) l =
-    skip (λ y. nat_le x y) (k == 0) (k == 2) a b (read_cube (a + 1) ks bs) (length (read_cube (a + 1) ks bs)) (λ e. lt-leb x a (omega (arith, l))) (past x (a + 1) ks bs (omega (arith, l)))
+    skip (λ y. nat_le x y) (k == 0) (k == 2) a b (read_cube (a + 1) ks bs) (length (read_cube (a + 1) ks bs))
+    (λ e. lt-leb x a (omega (arith, l))) (past x (a + 1) ks bs (omega (arith, l)))
     ∙ long (k == 0) (k == 2) a b (read_cube (a + 1) ks bs)
 
 -- an address behind which all begin
@@ -111,7 +120,8 @@ pub gone : (x a : ℕ) (ks : List ℕ) (bs : List (List ℕ)) → x < a → posi
 gone x a [] bs l = refl
 gone x a (k ∷ ks) [] l = refl
 gone x a (k ∷ ks) (b ∷ bs) l =
-    skip (λ y. y == x) (k == 0) (k == 2) a b (read_cube (a + 1) ks bs) (length (read_cube (a + 1) ks bs)) (λ e. ne_eqb a x (λ q. omega (arith, l, q))) (gone x (a + 1) ks bs (omega (arith, l)))
+    skip (λ y. y == x) (k == 0) (k == 2) a b (read_cube (a + 1) ks bs) (length (read_cube (a + 1) ks bs))
+    (λ e. ne_eqb a x (λ q. omega (arith, l, q))) (gone x (a + 1) ks bs (omega (arith, l)))
     ∙ long (k == 0) (k == 2) a b (read_cube (a + 1) ks bs)
 
 pub first : (x a : ℕ) (ks : List ℕ) (bs : List (List ℕ)) → x ≤ a → position_or_len (λ r. nat_le x (read_address r)) (read_cube a ks bs) ≡ 0
@@ -119,11 +129,14 @@ first x a [] bs l = refl
 first x a (k ∷ ks) [] l = refl
 first x a (k ∷ ks) (b ∷ bs) l = by (k == 0) (k == 2) a b (read_cube (a + 1) ks bs) (le-leb x a l) (first x (a + 1) ks bs (omega (arith, l)))
   where
-    by : (t u : Bool) (a : ℕ) (b : List ℕ) (rs : List Read) → nat_le x a ≡ true → position_or_len (λ r. nat_le x (read_address r)) rs ≡ 0 → position_or_len (λ r. nat_le x (read_address r)) (if t then rs else read u a b ∷ rs) ≡ 0
+    by : (t u : Bool) (a : ℕ) (b : List ℕ) (rs : List Read) → nat_le x a ≡ true →
+        position_or_len (λ r. nat_le x (read_address r)) rs ≡ 0 →
+        position_or_len (λ r. nat_le x (read_address r)) (if t then rs else read u a b ∷ rs) ≡ 0
     by true u a b rs e h = h
     by false u a b rs e h = stop (λ y. nat_le x y) u a b rs e
 
-pub place-next : (a : ℕ) (ks : List ℕ) (bs : List (List ℕ)) (j : ℕ) → length bs ≡ length ks → j ≤ length ks → position_or_len (λ r. nat_le (a + j) (read_address r)) (read_cube a ks bs) ≡ present ks j
+pub place-next : (a : ℕ) (ks : List ℕ) (bs : List (List ℕ)) (j : ℕ) → length bs ≡ length ks → j ≤ length ks →
+    position_or_len (λ r. nat_le (a + j) (read_address r)) (read_cube a ks bs) ≡ present ks j
 place-next a ks bs zero e l = first (a + 0) a ks bs (omega arith)
 place-next a [] bs (suc j) e l = elim l [ ]
 place-next a (k ∷ ks) [] (suc j) e l = absurd (omega (arith, e))
@@ -132,12 +145,15 @@ place-next a (k ∷ ks) (b ∷ bs) (suc j) e l =
     skip (λ y. nat_le (a + suc j) y) (k == 0) (k == 2) a b (read_cube (a + 1) ks bs) (present ks j) (λ f. lt-leb (a + suc j) a (omega arith))
     (ap (λ s. position_or_len (λ r. nat_le s (read_address r)) (read_cube (a + 1) ks bs)) (sym z) ∙ place-next (a + 1) ks bs j (omega (arith, e)) (omega (arith, l)))
 
-pub place-at : (a : ℕ) (ks : List ℕ) (bs : List (List ℕ)) (j : ℕ) → length bs ≡ length ks → j < length ks → (slice_index_or ks j 0 == 0) ≡ false → position_or_len (λ r. read_address r == a + j) (read_cube a ks bs) ≡ present ks j
+pub place-at : (a : ℕ) (ks : List ℕ) (bs : List (List ℕ)) (j : ℕ) → length bs ≡ length ks → j < length ks →
+    (slice_index_or ks j 0 == 0) ≡ false → position_or_len (λ r. read_address r == a + j) (read_cube a ks bs) ≡ present ks j
 place-at a [] bs j e l h = absurd (omega (arith, l))
 place-at a (k ∷ ks) [] j e l h = absurd (omega (arith, e))
 place-at a (k ∷ ks) (b ∷ bs) zero e l h = here (k == 0) h
   where
-    here : (t : Bool) → t ≡ false → position_or_len (λ r. read_address r == a + 0) (if t then read_cube (a + 1) ks bs else read (k == 2) a b ∷ read_cube (a + 1) ks bs) ≡ 0
+    here : (t : Bool) → t ≡ false →
+        position_or_len (λ r. read_address r == a + 0)
+        (if t then read_cube (a + 1) ks bs else read (k == 2) a b ∷ read_cube (a + 1) ks bs) ≡ 0
     here true q = absurd (let f : mark true ≡ mark false = ap mark q in omega (arith, f))
     here false q = stop (λ y. y == a + 0) (k == 2) a b (read_cube (a + 1) ks bs) (eq-eqb a (a + 0) (omega arith))
 place-at a (k ∷ ks) (b ∷ bs) (suc j) e l h =
@@ -145,12 +161,17 @@ place-at a (k ∷ ks) (b ∷ bs) (suc j) e l h =
     skip (λ y. y == a + suc j) (k == 0) (k == 2) a b (read_cube (a + 1) ks bs) (present ks j) (λ f. not-same a (a + suc j) (omega arith))
     (ap (λ s. position_or_len (λ r. read_address r == s) (read_cube (a + 1) ks bs)) (sym z) ∙ place-at (a + 1) ks bs j (omega (arith, e)) (omega (arith, l)) h)
 
-pub place-none : (a : ℕ) (ks : List ℕ) (bs : List (List ℕ)) (j : ℕ) → length bs ≡ length ks → j < length ks → (slice_index_or ks j 0 == 0) ≡ true → position_or_len (λ r. read_address r == a + j) (read_cube a ks bs) ≡ length (read_cube a ks bs)
+pub place-none : (a : ℕ) (ks : List ℕ) (bs : List (List ℕ)) (j : ℕ) → length bs ≡ length ks → j < length ks →
+    (slice_index_or ks j 0 == 0) ≡ true → position_or_len (λ r. read_address r == a + j) (read_cube a ks bs) ≡
+    length (read_cube a ks bs)
 place-none a [] bs j e l h = absurd (omega (arith, l))
 place-none a (k ∷ ks) [] j e l h = absurd (omega (arith, e))
 place-none a (k ∷ ks) (b ∷ bs) zero e l h = here (k == 0) h
   where
-    here : (t : Bool) → t ≡ true → position_or_len (λ r. read_address r == a + 0) (if t then read_cube (a + 1) ks bs else read (k == 2) a b ∷ read_cube (a + 1) ks bs) ≡ length (if t then read_cube (a + 1) ks bs else read (k == 2) a b ∷ read_cube (a + 1) ks bs)
+    here : (t : Bool) → t ≡ true →
+        position_or_len (λ r. read_address r == a + 0)
+        (if t then read_cube (a + 1) ks bs else read (k == 2) a b ∷ read_cube (a + 1) ks bs) ≡
+        length (if t then read_cube (a + 1) ks bs else read (k == 2) a b ∷ read_cube (a + 1) ks bs)
     here true q = gone (a + 0) (a + 1) ks bs (omega arith)
     here false q = absurd (let f : mark false ≡ mark true = ap mark q in omega (arith, f))
 place-none a (k ∷ ks) (b ∷ bs) (suc j) e l h =

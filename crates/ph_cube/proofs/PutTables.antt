@@ -1,5 +1,6 @@
 -- A cube table in which what stands at an address became a child with another body, where the table lies.
-use Rattle.std.proofs.Common.{◌≡◌, ℕ, suc, ◌+◌, ◌*◌, ◌/◌, ◌^◌, ◌≤◌, ◌<◌, refl, sym, ◌∙◌, ap, subst, arith, List, [], ◌∷◌, ◌++◌, length, length-append, map, replicate, slice_index_or, true}
+use Rattle.std.proofs.Common.{◌≡◌, ℕ, suc, ◌+◌, ◌*◌, ◌/◌, ◌^◌, ◌≤◌, ◌<◌, refl, sym, ◌∙◌, ap, subst, arith, List, []}
+use Rattle.std.proofs.Common.{◌∷◌, ◌++◌, length, length-append, map, replicate, slice_index_or, true}
 use Rattle.std.specs.List.{AllByRecursion as Each}
 use Rattle.ph_specs.specs.Digits.{Field, field, number_of, digits_of, words_of}
 use Rattle.ph_specs.specs.Layout.{IsRecord, entries_as, values_as, AreRising}
@@ -44,9 +45,11 @@ module _ (dims : ℕ) (words : List ℕ) (e : Edit) (addr : ℕ) (r : IsRecord t
 
   old-digits : digits_of (cube_table dims b es) ≡ n * 2 + n * (dims * b)
   old-digits =
-      digits_of-append (kind_list es) (row_list es) ∙ ap (λ t. t + digits_of (row_list es)) (kind-digits es) ∙ ap (λ t. n * 2 + t) (digits-bodies dims b n 0 es (long dims words e addr r h k))
+      digits_of-append (kind_list es) (row_list es) ∙ ap (λ t. t + digits_of (row_list es)) (kind-digits es) ∙
+      ap (λ t. n * 2 + t) (digits-bodies dims b n 0 es (long dims words e addr r h k))
 
-  new-digits : AreRising dims (first_in words).level 0 (edited_as true dims words e) → digits_of (cube_table dims (first_in words).level (edited_as true dims words e)) ≡ n * 2 + n * (dims * b)
+  new-digits : AreRising dims (first_in words).level 0 (edited_as true dims words e) →
+      digits_of (cube_table dims (first_in words).level (edited_as true dims words e)) ≡ n * 2 + n * (dims * b)
   new-digits up = table-digits true dims b 0 new_es up ∙ omega arith
 
   row-digits : AreRising dims (first_in words).level 0 (edited_as true dims words e) → digits_of (row_list (edited_as true dims words e)) ≡ n * (dims * b)
@@ -57,7 +60,9 @@ module _ (dims : ℕ) (words : List ℕ) (e : Edit) (addr : ℕ) (r : IsRecord t
 
   -- the number of the table by its columns
   by-columns : AreRising dims (first_in words).level 0 (edited_as true dims words e)
-      → number_of (kind_list (edited_as true dims words e)) * 2 ^ (n * (dims * b)) + number_of (row_list (edited_as true dims words e)) ≡ number_of (cube_table dims (first_in words).level (edited_as true dims words e))
+      → number_of (kind_list (edited_as true dims words e)) * 2 ^ (n * (dims * b)) + number_of
+      (row_list (edited_as true dims words e)) ≡
+      number_of (cube_table dims (first_in words).level (edited_as true dims words e))
   by-columns up =
       let a : ℕ = number_of (kind_list new_es) in
       sym
@@ -81,21 +86,30 @@ module _ (dims : ℕ) (words : List ℕ) (e : Edit) (addr : ℕ) (r : IsRecord t
       let fs : List Field = cube_table dims b es in
       let gs : List Field = cube_table dims b new_es in
       let vs : List ℕ = values_as true dims words in
-      let room : 64 + (n * 2 + n * (dims * b)) ≤ 64 * length words = enough (digits_of fs) _ _ _ _ _ old-digits (length-append (words_of fs) vs) (length-words_of fs) (ap length old.is) in
+      let room : 64 + (n * 2 + n * (dims * b)) ≤ 64 * length words = enough (digits_of fs) _ _ _ _ _ old-digits
+      (length-append (words_of fs) vs) (length-words_of fs) (ap length old.is) in
       let k1 : IsOver words 64 (n * 2) (number_of (kind_list new_es)) mid =
-      over-equal words mid kinds.at 64 (kinds.count * kinds.width) (n * 2) _ (number_of (kind_list new_es)) ka (ap (λ t. t * kinds.width) kn ∙ ap (λ t. n * t) kw) (kinds-edited dims words e addr r h k kinds at 0 v kt ka kw kn ap1 al am) p in
+      over-equal words mid kinds.at 64 (kinds.count * kinds.width) (n * 2) _ (number_of (kind_list new_es)) ka
+      (ap (λ t. t * kinds.width) kn ∙ ap (λ t. n * t) kw)
+      (kinds-edited dims words e addr r h k kinds at 0 v kt ka kw kn ap1 al am) p in
       let r3 : 64 + n * 2 + n * (dims * b) ≤ 64 * length words = omega (arith, room) in
-      let whole : 64 + n * 2 + n * (dims * b) ≡ rows.at + rows.count * rows.width = ap (λ t. t + n * (dims * b)) (sym ra) ∙ ap (λ t. rows.at + t) (sym (ap (λ t. t * rows.width) rn ∙ ap (λ t. n * t) rv)) in
+      let whole : 64 + n * 2 + n * (dims * b) ≡ rows.at + rows.count * rows.width =
+      ap (λ t. t + n * (dims * b)) (sym ra) ∙
+      ap (λ t. rows.at + t) (sym (ap (λ t. t * rows.width) rn ∙ ap (λ t. n * t) rv)) in
       let bound : at.place + at.less ≤ rows.count = omega (arith, k.address, rn, ap1, al) in
       let same : column_edited mid rows at (bodies b (replicate at.more body)) ≡ column_edited words rows at (bodies b (replicate at.more body)) =
       column-same words mid rows at (bodies b (replicate at.more body)) bound (λ a j x y. k1.behind a j (omega (arith, x, ra)) (omega (arith, y, whole, r3))) in
       let k3 : IsOver mid (64 + n * 2) (n * (dims * b)) (number_of (row_list new_es)) new =
-      over-equal mid new rows.at (64 + n * 2) (rows.count * rows.width) (n * (dims * b)) _ (number_of (row_list new_es)) ra (ap (λ t. t * rows.width) rn ∙ ap (λ t. n * t) rv)
+      over-equal mid new rows.at (64 + n * 2) (rows.count * rows.width) (n * (dims * b)) _
+      (number_of (row_list new_es)) ra (ap (λ t. t * rows.width) rn ∙ ap (λ t. n * t) rv)
       (ap number_of same ∙ bodies-edited dims words e addr r h k rows at 0 body bt ra rv rn ap1 al am) q in
       let k4 : IsOver words 64 (n * 2 + n * (dims * b)) (number_of (kind_list new_es) * 2 ^ (n * (dims * b)) + number_of (row_list new_es)) new =
       over-next words mid new 64 (n * 2) (n * (dims * b)) _ _ lm ln r3 k1 k3 in
-      let k5 : IsOver words 64 (digits_of fs) (number_of gs) new = over-equal words new 64 64 _ (digits_of fs) _ (number_of gs) refl (sym old-digits) (by-columns up) k4 in
-      over-table w fs gs vs new (first-small words h) (new-digits up ∙ sym old-digits) old.fit (table-fit true dims b 0 new_es up) old.small nf (ln ∙ ap length old.is) (subst (λ t. IsOver t 64 (digits_of fs) (number_of gs) new) old.is k5)
+      let k5 : IsOver words 64 (digits_of fs) (number_of gs) new = over-equal words new 64 64 _ (digits_of fs) _
+      (number_of gs) refl (sym old-digits) (by-columns up) k4 in
+      over-table w fs gs vs new (first-small words h) (new-digits up ∙ sym old-digits) old.fit
+      (table-fit true dims b 0 new_es up) old.small nf (ln ∙ ap length old.is)
+      (subst (λ t. IsOver t 64 (digits_of fs) (number_of gs) new) old.is k5)
     where
       enough : (d x y z j len : ℕ) → d ≡ x → y ≡ z + j → z ≡ (d + 63) / 64 → len ≡ suc y → 64 + x ≤ 64 * len
       enough d x y z j len e f g i = omega (arith, e, f, g, i)

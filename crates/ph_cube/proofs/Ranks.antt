@@ -1,5 +1,6 @@
 -- Kinds are counted by the ones among their digits.
-use Rattle.std.proofs.Common.{◌≡◌, ℕ, zero, suc, ◌+◌, ◌*◌, ◌/◌, ◌^◌, ◌<◌, ◌≤◌, refl, sym, ◌∙◌, ap, subst, arith, List, [], ◌∷◌, length, true, slice_index_or, ne_eqb, cond, lt-ltb}
+use Rattle.std.proofs.Common.{◌≡◌, ℕ, zero, suc, ◌+◌, ◌*◌, ◌/◌, ◌^◌, ◌<◌, ◌≤◌, refl, sym, ◌∙◌, ap, subst, arith}
+use Rattle.std.proofs.Common.{List, [], ◌∷◌, length, true, slice_index_or, ne_eqb, cond, lt-ltb}
 use Rattle.std.specs.Prelude.{◌==◌, ◌&&◌, nat_le, nat_lt, count_by, if◌then◌else◌}
 use Rattle.std.specs.List.{AllByRecursion as Each, list_all}
 use Rattle.std.specs.Int.RustNames.{count_ones}
@@ -26,8 +27,10 @@ pub record Lawful (dims : ℕ) (words : List ℕ) : Type 0 where
 pub lawful : (dims : ℕ) (words : List ℕ) → IsRecord true dims words → Lawful dims words
 lawful dims words r =
     let ks : List ℕ = kinds dims words in
-    let a = and_parts (list_all (λ k. nat_le k 2) ks && (count_by (λ k. nat_lt 0 k) ks == (first_in words).entries) && (count_by (λ k. k == 2) ks == (first_in words).children)) (absent_are_zero ks (bodies dims words)) r.tables in
-    let b = and_parts (list_all (λ k. nat_le k 2) ks && (count_by (λ k. nat_lt 0 k) ks == (first_in words).entries)) (count_by (λ k. k == 2) ks == (first_in words).children) a.0 in
+    let a = and_parts (list_all (λ k. nat_le k 2) ks && (count_by (λ k. nat_lt 0 k) ks == (first_in words).entries) &&
+    (count_by (λ k. k == 2) ks == (first_in words).children)) (absent_are_zero ks (bodies dims words)) r.tables in
+    let b = and_parts (list_all (λ k. nat_le k 2) ks && (count_by (λ k. nat_lt 0 k) ks == (first_in words).entries))
+    (count_by (λ k. k == 2) ks == (first_in words).children) a.0 in
     let c = and_parts (list_all (λ k. nat_le k 2) ks) (count_by (λ k. nat_lt 0 k) ks == (first_in words).entries) b.0 in
     record { small = c.0; many = eqb-true (count_by (λ k. nat_lt 0 k) ks) (first_in words).entries c.1 }
 
@@ -51,7 +54,8 @@ present-all (suc k ∷ ks) =
 
 pub present-entries : (dims : ℕ) (words : List ℕ) → IsRecord true dims words → present (kinds dims words) (2 ^ dims) ≡ (first_in words).entries
 present-entries dims words r =
-    ap (present (kinds dims words)) (sym (length-kinds dims words)) ∙ present-all (kinds dims words) ∙ ones-count (λ k. nat_lt 0 k) (kinds dims words) ∙ (lawful dims words r).many
+    ap (present (kinds dims words)) (sym (length-kinds dims words)) ∙ present-all (kinds dims words) ∙
+    ones-count (λ k. nat_lt 0 k) (kinds dims words) ∙ (lawful dims words r).many
 
 -- ---- ones of a kind
 
@@ -75,7 +79,8 @@ pub kind-small : (dims : ℕ) (words : List ℕ) (j : ℕ) → IsRecord true dim
 kind-small dims words j r l = all-at (kinds dims words) j (lawful dims words r).small (subst (λ t. j < t) (sym (length-kinds dims words)) l)
 
 -- the entries in front of an address are the ones in front of its kind
-pub present-ones : (dims : ℕ) (words : List ℕ) (j : ℕ) → IsRecord true dims words → Each (λ x. x < 2 ^ 64) words → j ≤ 2 ^ dims → ones_in words 64 (j * 2) ≡ present (kinds dims words) j
+pub present-ones : (dims : ℕ) (words : List ℕ) (j : ℕ) → IsRecord true dims words → Each (λ x. x < 2 ^ 64) words →
+    j ≤ 2 ^ dims → ones_in words 64 (j * 2) ≡ present (kinds dims words) j
 unfolding count_ones
 present-ones dims words zero r h l = ap count_ones (none (digits_at words 64 0) (digits-below words 64 0))
   where
@@ -93,7 +98,8 @@ present-ones dims words (suc j) r h l =
     ∙ ap (λ t. present (kinds dims words) j + t) (ones-kind k (kind-small dims words j r l))
     ∙ sym (present-more (kinds dims words) j (subst (λ t. j < t) (sym (length-kinds dims words)) l))
 
-pub twos-digits : (dims : ℕ) (words : List ℕ) (j : ℕ) → IsRecord true dims words → Each (λ x. x < 2 ^ 64) words → j ≤ 2 ^ dims → twos_in words 64 j ≡ twos (kinds dims words) j
+pub twos-digits : (dims : ℕ) (words : List ℕ) (j : ℕ) → IsRecord true dims words → Each (λ x. x < 2 ^ 64) words →
+    j ≤ 2 ^ dims → twos_in words 64 j ≡ twos (kinds dims words) j
 twos-digits dims words zero r h l = refl
 twos-digits dims words (suc j) r h l =
     let k : ℕ = slice_index_or (kinds dims words) j 0 in

@@ -1,5 +1,6 @@
 -- What stands at the addresses one after the other, beside entries that rise.
-use Rattle.std.proofs.Common.{◌≡◌, ◌≢◌, ℕ, zero, suc, ◌+◌, ◌*◌, ◌^◌, ◌<◌, ◌≤◌, refl, sym, ◌∙◌, ap, subst, arith, List, [], ◌∷◌, ◌++◌, length, map, take, drop, replicate, Bool, true, false, get_or, eq-eqb, ne_eqb, eqb-true, ◌/◌}
+use Rattle.std.proofs.Common.{◌≡◌, ◌≢◌, ℕ, zero, suc, ◌+◌, ◌*◌, ◌^◌, ◌<◌, ◌≤◌, refl, sym, ◌∙◌, ap, subst, arith, List, [], ◌∷◌, ◌++◌}
+use Rattle.std.proofs.Common.{length, map, take, drop, replicate, Bool, true, false, get_or, eq-eqb, ne_eqb, eqb-true, ◌/◌}
 use Rattle.std.proofs.lemmas.Bool.{eqb-false}
 use Rattle.std.specs.Prelude.{Option, Some, None, ◌==◌, if◌then◌else◌}
 use Rattle.std.specs.List.{AllByRecursion as Each}
@@ -26,7 +27,8 @@ drop-first (e ∷ es) (suc i) l = drop-first es i (omega (arith, l))
 pub none-below : (dims level least a : ℕ) (es : List Flat) → AreRising dims level least es → a < least → at_address a es ≡ None
 none-below dims level least a [] h l = refl
 none-below dims level least a (e ∷ es) h l =
-    ap {B = Option Flat} (λ t. if t then Some e else at_address a es) (ne_eqb e.addr a (λ q. omega (arith, h.0, l, q))) ∙ none-below dims level (e.addr + 1) a es h.3 (omega (arith, h.0, l))
+    ap {B = Option Flat} (λ t. if t then Some e else at_address a es)
+    (ne_eqb e.addr a (λ q. omega (arith, h.0, l, q))) ∙ none-below dims level (e.addr + 1) a es h.3 (omega (arith, h.0, l))
 
 pub here : (a : ℕ) (e : Flat) (es : List Flat) → e.addr ≡ a → at_address a (e ∷ es) ≡ Some e
 here a e es q = ap {B = Option Flat} (λ t. if t then Some e else at_address a es) (eq-eqb e.addr a q)
@@ -66,13 +68,16 @@ pub next : (dims level addr i j : ℕ) (es : List Flat) → AreRising dims level
     → j ≡ is_there (at_address addr (drop i es)) → Next dims level addr es (drop (i + j) es)
 next dims level addr i j es h s e = by (drop i es) h s e refl
   where
-    tested : (x : Flat) (xs : List Flat) (t : Bool) → AreRising dims level addr (x ∷ xs) → ((a : ℕ) → addr ≤ a → at_address a es ≡ at_address a (x ∷ xs)) → (x.addr == addr) ≡ t → j ≡ is_there (if t then Some x else at_address addr xs) → drop i es ≡ x ∷ xs → Next dims level addr es (drop (i + j) es)
+    tested : (x : Flat) (xs : List Flat) (t : Bool) → AreRising dims level addr (x ∷ xs) →
+        ((a : ℕ) → addr ≤ a → at_address a es ≡ at_address a (x ∷ xs)) → (x.addr == addr) ≡ t →
+        j ≡ is_there (if t then Some x else at_address addr xs) → drop i es ≡ x ∷ xs → Next dims level addr es (drop (i + j) es)
     tested x xs true h s u e q =
         let z : x.addr ≡ addr = eqb-true x.addr addr u in
         let k : drop (i + j) es ≡ xs = ap (λ t. drop (i + t) es) e ∙ drop-more es i x xs q in
         record {
           rise = subst (AreRising dims level (addr + 1)) (sym k) (subst (λ t. AreRising dims level (t + 1) xs) z h.3);
-          same = λ a l. s a (omega (arith, l)) ∙ ap {B = Option Flat} (λ t. if t then Some x else at_address a xs) (ne_eqb x.addr a (λ w. omega (arith, w, z, l))) ∙ ap (at_address a) (sym k);
+          same = λ a l. s a (omega (arith, l)) ∙ ap {B = Option Flat} (λ t. if t then Some x else at_address a xs)
+              (ne_eqb x.addr a (λ w. omega (arith, w, z, l))) ∙ ap (at_address a) (sym k);
         }
     tested x xs false h s u e q =
         let n : x.addr ≢ addr = eqb-false x.addr addr u in
@@ -84,7 +89,9 @@ next dims level addr i j es h s e = by (drop i es) h s e refl
           same = λ a l. s a (omega (arith, l)) ∙ ap (at_address a) (sym k);
         }
 
-    by : (rest : List Flat) → AreRising dims level addr rest → ((a : ℕ) → addr ≤ a → at_address a es ≡ at_address a rest) → j ≡ is_there (at_address addr rest) → drop i es ≡ rest → Next dims level addr es (drop (i + j) es)
+    by : (rest : List Flat) → AreRising dims level addr rest →
+        ((a : ℕ) → addr ≤ a → at_address a es ≡ at_address a rest) → j ≡ is_there (at_address addr rest) →
+        drop i es ≡ rest → Next dims level addr es (drop (i + j) es)
     by [] h s e q =
         let k : drop (i + j) es ≡ [] = (let g : i + j ≡ i = omega (arith, e) in ap (λ t. drop t es) g) ∙ q in
         record { rise = subst (AreRising dims level (addr + 1)) (sym k) tt; same = λ a l. s a (omega (arith, l)) ∙ ap (at_address a) (sym k) }
@@ -100,7 +107,8 @@ places-more (suc n) a es =
     ∙ ap {B = List (Option Flat)} (λ t. at_address a es ∷ t) (places-more n (a + 1) es)
     ∙ ap {B = List (Option Flat)} (λ t. at_address a es ∷ (places n (a + 1) es ++ at_address t es ∷ [])) z
 
-pub kinds-more : (r n : ℕ) (es : List Flat) → number_after r (map place_kind (places (n + 1) 0 es)) ≡ number_after r (map place_kind (places n 0 es)) * 2 ^ 2 + kind_number (at_address n es)
+pub kinds-more : (r n : ℕ) (es : List Flat) → number_after r (map place_kind (places (n + 1) 0 es)) ≡
+    number_after r (map place_kind (places n 0 es)) * 2 ^ 2 + kind_number (at_address n es)
 kinds-more r n es =
     let z : 0 + n ≡ n = omega arith in
     ap (λ t. number_after r (map place_kind t)) (places-more n 0 es)
@@ -113,14 +121,18 @@ kinds-more r n es =
     by None s = refl
     by (Some e) s = refl
 
-bodies-last : (level r : ℕ) (bs : List (List ℕ)) (b : List ℕ) → number_after r (bodies level (bs ++ b ∷ [])) ≡ number_after (number_after r (bodies level bs)) (body_fields level b)
+bodies-last : (level r : ℕ) (bs : List (List ℕ)) (b : List ℕ) →
+    number_after r (bodies level (bs ++ b ∷ [])) ≡ number_after (number_after r (bodies level bs)) (body_fields level b)
 bodies-last level r [] b = number_after-append r (body_fields level b) []
 bodies-last level r (x ∷ bs) b =
     number_after-append r (body_fields level x) (bodies level (bs ++ b ∷ []))
     ∙ bodies-last level (number_after r (body_fields level x)) bs b
     ∙ ap (λ t. number_after t (body_fields level b)) (sym (number_after-append r (body_fields level x) (bodies level bs)))
 
-pub bodies-more : (dims level r n : ℕ) (es : List Flat) → number_after r (bodies level (map (place_body dims) (places (n + 1) 0 es))) ≡ number_after (number_after r (bodies level (map (place_body dims) (places n 0 es)))) (body_fields level (place_body dims (at_address n es)))
+pub bodies-more : (dims level r n : ℕ) (es : List Flat) →
+    number_after r (bodies level (map (place_body dims) (places (n + 1) 0 es))) ≡
+    number_after (number_after r (bodies level (map (place_body dims) (places n 0 es))))
+    (body_fields level (place_body dims (at_address n es)))
 bodies-more dims level r n es =
     let z : 0 + n ≡ n = omega arith in
     ap (λ t. number_after r (bodies level (map (place_body dims) t))) (places-more n 0 es)
@@ -147,13 +159,16 @@ children-front (y ∷ es) (suc i) x xs q =
     ap (λ t. children (take t (y ∷ es))) k ∙ omega (arith, children-front es i x xs q)
 
 -- on to the next address
-pub children-next : (dims level a i k : ℕ) (es : List Flat) → AreRising dims level a (drop i es) → k ≡ kind_number (at_address a (drop i es)) → children (take (i + (k + 1) / 2) es) ≡ children (take i es) + k / 2
+pub children-next : (dims level a i k : ℕ) (es : List Flat) → AreRising dims level a (drop i es) →
+    k ≡ kind_number (at_address a (drop i es)) → children (take (i + (k + 1) / 2) es) ≡ children (take i es) + k / 2
 children-next dims level a i k es h e = by (drop i es) h e refl
   where
     absent : k ≡ 0 → children (take (i + (k + 1) / 2) es) ≡ children (take i es) + k / 2
     absent z = let j : i + (k + 1) / 2 ≡ i = omega (arith, z) in ap (λ t. children (take t es)) j ∙ omega (arith, z)
 
-    tested : (x : Flat) (xs : List Flat) (t : Bool) → AreRising dims level a (x ∷ xs) → k ≡ kind_number (if t then Some x else at_address a xs) → drop i es ≡ x ∷ xs → children (take (i + (k + 1) / 2) es) ≡ children (take i es) + k / 2
+    tested : (x : Flat) (xs : List Flat) (t : Bool) → AreRising dims level a (x ∷ xs) →
+        k ≡ kind_number (if t then Some x else at_address a xs) → drop i es ≡ x ∷ xs →
+        children (take (i + (k + 1) / 2) es) ≡ children (take i es) + k / 2
     tested x xs true h e q =
         let m : child_mark x.value ≤ 1 = mark-small x.value in
         let j : i + (k + 1) / 2 ≡ i + 1 = omega (arith, e, m) in
@@ -161,7 +176,8 @@ children-next dims level a i k es h e = by (drop i es) h e refl
     tested x xs false h e q =
         absent (e ∙ ap kind_number (none-below dims level (x.addr + 1) a xs h.3 (omega (arith, h.0))))
 
-    by : (rest : List Flat) → AreRising dims level a rest → k ≡ kind_number (at_address a rest) → drop i es ≡ rest → children (take (i + (k + 1) / 2) es) ≡ children (take i es) + k / 2
+    by : (rest : List Flat) → AreRising dims level a rest → k ≡ kind_number (at_address a rest) → drop i es ≡ rest →
+        children (take (i + (k + 1) / 2) es) ≡ children (take i es) + k / 2
     by [] h e q = absent e
     by (x ∷ xs) h e q = tested x xs (x.addr == a) h e q
 
@@ -187,6 +203,8 @@ zeros-fit level (suc n) = (pow_pos level, zeros-fit level n)
 
 -- ---- the whole
 
-pub table-number : (dims level x : ℕ) (es : List Flat) → number_after (number_after x (map place_kind (places (2 ^ dims) 0 es))) (bodies level (map (place_body dims) (places (2 ^ dims) 0 es))) ≡ number_after x (cube_table dims level es)
+pub table-number : (dims level x : ℕ) (es : List Flat) →
+    number_after (number_after x (map place_kind (places (2 ^ dims) 0 es)))
+    (bodies level (map (place_body dims) (places (2 ^ dims) 0 es))) ≡ number_after x (cube_table dims level es)
 table-number dims level x es =
     sym (number_after-append x (map place_kind (places (2 ^ dims) 0 es)) (bodies level (map (place_body dims) (places (2 ^ dims) 0 es))))

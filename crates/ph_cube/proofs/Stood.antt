@@ -1,5 +1,6 @@
 -- Where an entry stands that was found by its address.
-use Rattle.std.proofs.Common.{◌≡◌, ◌+◌, ◌*◌, ◌<◌, ◌≤◌, ◌^◌, ℕ, zero, suc, sym, ◌∙◌, ap, subst, arith, length, map, false, true, List, [], ◌∷◌, slice_index_or, get_or, Bool, refl, lt-ltb, le-ltb}
+use Rattle.std.proofs.Common.{◌≡◌, ◌+◌, ◌*◌, ◌<◌, ◌≤◌, ◌^◌, ℕ, zero, suc, sym, ◌∙◌, ap, subst, arith, length, map}
+use Rattle.std.proofs.Common.{false, true, List, [], ◌∷◌, slice_index_or, get_or, Bool, refl, lt-ltb, le-ltb}
 use Rattle.std.specs.Prelude.{Some, None, Option, ◌==◌, if◌then◌else◌, position, nat_lt, nat_le, cond, slice_get}
 use Rattle.std.specs.Option.{option_map, unwrap_or}
 use Rattle.std.proofs.lemmas.Option.{slice_get-map, slice_get-get_or}
@@ -26,7 +27,8 @@ told i j o p q = let e : suc j ≡ suc i = ap at (sym p ∙ q) in omega (arith, 
 gone : (i : ℕ) (o : Option ℕ) → o ≡ None → o ≡ Some i → 1 ≤ 0
 gone i o p q = let e : 0 ≡ suc i = ap at (sym p ∙ q) in omega (arith, e)
 
-pub stands : (d : ℕ) (words : List ℕ) (a i : ℕ) → IsRecord true d words → Each (λ x. x < 2 ^ 64) words → a < 2 ^ d → position (λ r. read_address r == a) (entries_as true d words) ≡ Some i → StandsAt d words a i
+pub stands : (d : ℕ) (words : List ℕ) (a i : ℕ) → IsRecord true d words → Each (λ x. x < 2 ^ 64) words → a < 2 ^ d →
+    position (λ r. read_address r == a) (entries_as true d words) ≡ Some i → StandsAt d words a i
 stands d words a i r h l f = by (slice_index_or (kinds d words) a 0 == 0) refl
   where
     z : 0 + a ≡ a
@@ -61,7 +63,8 @@ stands d words a i r h l f = by (slice_index_or (kinds d words) a 0 == 0) refl
           some = omega (arith, o);
         }
 
-pub stands-within : (d : ℕ) (words : List ℕ) (a i : ℕ) → IsRecord true d words → position (λ r. read_address r == a) (entries_as true d words) ≡ Some i → i < (first_in words).entries
+pub stands-within : (d : ℕ) (words : List ℕ) (a i : ℕ) → IsRecord true d words →
+    position (λ r. read_address r == a) (entries_as true d words) ≡ Some i → i < (first_in words).entries
 stands-within d words a i r f =
     subst (λ t. i < t) (length-entries d words r) (position-Some (λ r. read_address r == a) (entries_as true d words) i no_read f).0
 
@@ -75,12 +78,16 @@ record Kind (a : ℕ) (ks : List ℕ) (i x : ℕ) : Type 0 where
   pub kind : (slice_index_or ks at_kind 0 == 0) ≡ false
   pub front : present ks at_kind ≡ i
 
-kind-of : (a : ℕ) (ks : List ℕ) (bs : List (List ℕ)) (i x : ℕ) → length bs ≡ length ks → i < length (read_cube a ks bs) → read_address (get_or (read_cube a ks bs) i no_read) ≡ x → Kind a ks i x
+kind-of : (a : ℕ) (ks : List ℕ) (bs : List (List ℕ)) (i x : ℕ) → length bs ≡ length ks →
+    i < length (read_cube a ks bs) → read_address (get_or (read_cube a ks bs) i no_read) ≡ x → Kind a ks i x
 kind-of a [] bs i x e l f = absurd (omega (arith, l))
 kind-of a (k ∷ ks) [] i x e l f = absurd (omega (arith, e))
 kind-of a (k ∷ ks) (b ∷ bs) i x e l f = by (k == 0) refl (λ j m g. kind-of (a + 1) ks bs j x (omega (arith, e)) m g) i l f
   where
-    by : (t : Bool) → (k == 0) ≡ t → ((j : ℕ) → j < length (read_cube (a + 1) ks bs) → read_address (get_or (read_cube (a + 1) ks bs) j no_read) ≡ x → Kind (a + 1) ks j x) → (i : ℕ) → i < length (if t then read_cube (a + 1) ks bs else read (k == 2) a b ∷ read_cube (a + 1) ks bs)
+    by : (t : Bool) → (k == 0) ≡ t →
+        ((j : ℕ) → j < length (read_cube (a + 1) ks bs) → read_address (get_or (read_cube (a + 1) ks bs) j no_read) ≡
+        x → Kind (a + 1) ks j x) → (i : ℕ) →
+        i < length (if t then read_cube (a + 1) ks bs else read (k == 2) a b ∷ read_cube (a + 1) ks bs)
         → read_address (get_or (if t then read_cube (a + 1) ks bs else read (k == 2) a b ∷ read_cube (a + 1) ks bs) i no_read) ≡ x → Kind a (k ∷ ks) i x
     by true q ih i l f =
         let h = ih i l f in
@@ -104,7 +111,8 @@ kind-of a (k ∷ ks) (b ∷ bs) i x e l f = by (k == 0) refl (λ j m g. kind-of 
           front = ap (λ t. (if t then 0 else 1) + present ks h.at_kind) q ∙ n;
         }
 
-pub stands-at : (d : ℕ) (words : List ℕ) (a i : ℕ) → IsRecord true d words → Each (λ x. x < 2 ^ 64) words → i < (first_in words).entries → slice_get (map read_address (entries_as true d words)) i ≡ Some a → StandsAt d words a i
+pub stands-at : (d : ℕ) (words : List ℕ) (a i : ℕ) → IsRecord true d words → Each (λ x. x < 2 ^ 64) words →
+    i < (first_in words).entries → slice_get (map read_address (entries_as true d words)) i ≡ Some a → StandsAt d words a i
 stands-at d words a i r h l f =
     let rs = entries_as true d words in
     let m : i < length (entries_as true d words) = subst (λ t. i < t) (sym (length-entries d words r)) l in
@@ -113,7 +121,8 @@ stands-at d words a i r h l f =
     let k = kind-of 0 (kinds d words) (bodies d words) i a (length-parts (2 ^ d) d _ ∙ sym (length-kinds d words)) m g in
     let e : k.at_kind ≡ a = omega (arith, k.there) in
     let b : a < 2 ^ d = omega (arith, k.inside, length-kinds d words, e) in
-    let o : ones_in words (64 + a * 2) 2 ≡ 1 = kind-one d words a r h b ∙ ap (λ t. if t then 0 else 1) (ap (λ t. slice_index_or (kinds d words) t 0 == 0) (sym e) ∙ k.kind) in
+    let o : ones_in words (64 + a * 2) 2 ≡ 1 = kind-one d words a r h b ∙
+    ap (λ t. if t then 0 else 1) (ap (λ t. slice_index_or (kinds d words) t 0 == 0) (sym e) ∙ k.kind) in
     record {
       limit = b;
       place = present-ones d words a r h (omega (arith, b)) ∙ ap (present (kinds d words)) (sym e) ∙ k.front;
@@ -121,7 +130,8 @@ stands-at d words a i r h l f =
     }
 
 -- the ones in front of an address are the entries in front of it
-pub place : (d : ℕ) (words : List ℕ) (a i : ℕ) → IsRecord true d words → Each (λ x. x < 2 ^ 64) words → a < 2 ^ d → i ≡ ones_in words 64 (a * 2) → position_or_len (λ r. nat_le a (read_address r)) (entries_as true d words) ≡ i
+pub place : (d : ℕ) (words : List ℕ) (a i : ℕ) → IsRecord true d words → Each (λ x. x < 2 ^ 64) words → a < 2 ^ d →
+    i ≡ ones_in words 64 (a * 2) → position_or_len (λ r. nat_le a (read_address r)) (entries_as true d words) ≡ i
 place d words a i r h l e =
     let n : length (bodies d words) ≡ length (kinds d words) = length-parts (2 ^ d) d _ ∙ sym (length-kinds d words) in
     let z : 0 + a ≡ a = omega arith in

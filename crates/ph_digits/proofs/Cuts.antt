@@ -61,19 +61,25 @@ from-place place x =
     let e : x / 2 ^ place / 2 ^ 1 ≡ x / 2 ^ (place + 1) = shr-shr x place 1 in omega (arith, e)
 
 -- bodies that agree above a place and have one address there agree from it on
-pub same_from_address : (place s t : ℕ) (xs ys : List ℕ) → length xs ≡ length ys → digits_from (place + 1) xs ≡ digits_from (place + 1) ys → body_address_from s place xs ≡ body_address_from t place ys → (s ≡ t) × (digits_from place xs ≡ digits_from place ys)
+pub same_from_address : (place s t : ℕ) (xs ys : List ℕ) → length xs ≡ length ys →
+    digits_from (place + 1) xs ≡ digits_from (place + 1) ys →
+    body_address_from s place xs ≡ body_address_from t place ys → (s ≡ t) × (digits_from place xs ≡ digits_from place ys)
 same_from_address place s t [] [] l e a = (a, refl)
 same_from_address place s t [] (y ∷ ys) l e a = absurd (omega (arith, l))
 same_from_address place s t (x ∷ xs) [] l e a = absurd (omega (arith, l))
 same_from_address place s t (x ∷ xs) (y ∷ ys) l e a =
-    let ih : (s * 2 + x / 2 ^ place % 2 ≡ t * 2 + y / 2 ^ place % 2) × (digits_from place xs ≡ digits_from place ys) = same_from_address place (s * 2 + x / 2 ^ place % 2) (t * 2 + y / 2 ^ place % 2) xs ys (omega (arith, l)) (ap (drop 1) e) a in
+    let ih : (s * 2 + x / 2 ^ place % 2 ≡ t * 2 + y / 2 ^ place % 2) × (digits_from place xs ≡ digits_from place ys) =
+    same_from_address place (s * 2 + x / 2 ^ place % 2) (t * 2 + y / 2 ^ place % 2) xs ys (omega (arith, l))
+    (ap (drop 1) e) a in
     let above : x / 2 ^ (place + 1) ≡ y / 2 ^ (place + 1) = ap (λ u. get_or u 0 0) e in
     let starts : s ≡ t = omega (arith, ih.0) in
     let digit : x / 2 ^ place % 2 ≡ y / 2 ^ place % 2 = omega (arith, ih.0) in
     let here : x / 2 ^ place ≡ y / 2 ^ place = omega (arith, from-place place x, from-place place y, above, digit) in
     (starts, ap (λ n. n ∷ digits_from place xs) here ∙ ap {B = List ℕ} (λ u. y / 2 ^ place ∷ u) ih.1)
 
-pub other_address : (place : ℕ) (xs ys : List ℕ) → length xs ≡ length ys → digits_from (place + 1) xs ≡ digits_from (place + 1) ys → (digits_from place xs ≡ digits_from place ys → ⊥) → body_address place xs ≢ body_address place ys
+pub other_address : (place : ℕ) (xs ys : List ℕ) → length xs ≡ length ys →
+    digits_from (place + 1) xs ≡ digits_from (place + 1) ys → (digits_from place xs ≡ digits_from place ys → ⊥) →
+    body_address place xs ≢ body_address place ys
 other_address place xs ys l e n a = n (same_from_address place 0 0 xs ys l e a).1
 
 -- bodies below a level have no digit from it on
@@ -83,7 +89,9 @@ none_from dims level [] (y ∷ ys) h k = absurd (omega (arith, h.0, k.0))
 none_from dims level (x ∷ xs) [] h k = absurd (omega (arith, h.0, k.0))
 none_from zero level (x ∷ xs) (y ∷ ys) h k = absurd (omega (arith, h.0))
 none_from (suc dims) level (x ∷ xs) (y ∷ ys) h k =
-    ap (λ n. n ∷ digits_from level xs) (none level x h.1.0 ∙ sym (none level y k.1.0)) ∙ ap {B = List ℕ} (λ u. y / 2 ^ level ∷ u) (none_from dims level xs ys (omega (arith, h.0), h.1.1) (omega (arith, k.0), k.1.1))
+    ap (λ n. n ∷ digits_from level xs) (none level x h.1.0 ∙ sym (none level y k.1.0)) ∙
+    ap {B = List ℕ} (λ u. y / 2 ^ level ∷ u)
+    (none_from dims level xs ys (omega (arith, h.0), h.1.1) (omega (arith, k.0), k.1.1))
   where
     none : (n x : ℕ) → x < 2 ^ n → x / 2 ^ n ≡ 0
     none n x l = div-eq_of_lt l

@@ -1,5 +1,6 @@
 -- Digits at a level.
-use Rattle.std.proofs.Common.{◌≡◌, ℕ, zero, suc, ◌+◌, ◌-◌, ◌*◌, ◌/◌, ◌%◌, ◌^◌, ◌<◌, ◌≤◌, List, [], ◌∷◌, ◌++◌, length, take, drop, arith, refl, ap, sym, ◌∙◌, get_or, slice_set, add-one}
+use Rattle.std.proofs.Common.{◌≡◌, ℕ, zero, suc, ◌+◌, ◌-◌, ◌*◌, ◌/◌, ◌%◌, ◌^◌, ◌<◌, ◌≤◌, List, [], ◌∷◌, ◌++◌}
+use Rattle.std.proofs.Common.{length, take, drop, arith, refl, ap, sym, ◌∙◌, get_or, slice_set, add-one}
 use Rattle.std.specs.List.{AllByRecursion as Each}
 use Rattle.std.proofs.Math.Nat.{mod-eq_of_lt, mod-lt}
 use Rattle.std.proofs.Math.Pow.{pow_mono}
@@ -60,7 +61,11 @@ kept-more i v xs ys e =
     ∙ ap (λ n. drop n xs) (add-one i) ∙ next-drop i xs ∙ ap (drop 1) e ∙ sym (next-drop i ys) ∙ ap (λ n. drop n ys) (sym (add-one i))
 
 -- a number more
-pub made-more : (level a i v : ℕ) (known old body : List ℕ) → length body ≡ length old → length known ≡ length old → i < length old → drop i known ≡ drop i old → take i known ≡ take i (put_together level a (body_above level old) body) → v ≡ get_or known i 0 / 2 ^ (level + 1) * 2 ^ (level + 1) + a / 2 ^ (length old - 1 - i) % 2 * 2 ^ level + get_or body i 0 → take (i + 1) (slice_set known i v) ≡ take (i + 1) (put_together level a (body_above level old) body)
+pub made-more : (level a i v : ℕ) (known old body : List ℕ) → length body ≡ length old → length known ≡ length old →
+    i < length old → drop i known ≡ drop i old →
+    take i known ≡ take i (put_together level a (body_above level old) body) →
+    v ≡ get_or known i 0 / 2 ^ (level + 1) * 2 ^ (level + 1) + a / 2 ^ (length old - 1 - i) % 2 * 2 ^ level + get_or
+    body i 0 → take (i + 1) (slice_set known i v) ≡ take (i + 1) (put_together level a (body_above level old) body)
 made-more level a i v known old body m k l d e f =
     let whole : List ℕ = put_together level a (body_above level old) body in
     let al : length (body_above level old) ≡ length old = above-long level old in
@@ -83,7 +88,9 @@ take-all zero (x ∷ xs) l = absurd (omega (arith, l))
 take-all (suc i) [] l = refl
 take-all (suc i) (x ∷ xs) l = ap {B = List _} (λ t. x ∷ t) (take-all i xs (omega (arith, l)))
 
-pub joined-all : (level a i : ℕ) (known old body : List ℕ) → length body ≡ length old → length known ≡ length old → length old ≤ i → take i known ≡ take i (put_together level a (body_above level old) body) → known ≡ put_together level a (body_above level old) body
+pub joined-all : (level a i : ℕ) (known old body : List ℕ) → length body ≡ length old → length known ≡ length old →
+    length old ≤ i → take i known ≡ take i (put_together level a (body_above level old) body) →
+    known ≡ put_together level a (body_above level old) body
 joined-all level a i known old body m k l e =
     let al : length (body_above level old) ≡ length old = above-long level old in
     let wl : length (put_together level a (body_above level old) body) ≡ length old = length-put_together level a (body_above level old) body (al ∙ sym m) ∙ al in

@@ -1,5 +1,6 @@
 -- The word of differences has a 1 exactly where the digits of some pair differ.
-use Rattle.std.proofs.Common.{◌≡◌, ◌≢◌, ℕ, suc, ◌+◌, ◌-◌, ◌*◌, ◌/◌, ◌%◌, ◌<◌, ◌≤◌, ◌^◌, List, [], ◌∷◌, length, map, inl, inr, sym, ◌∙◌, ap, refl, arith, get_or, drop, subst}
+use Rattle.std.proofs.Common.{◌≡◌, ◌≢◌, ℕ, suc, ◌+◌, ◌-◌, ◌*◌, ◌/◌, ◌%◌, ◌<◌, ◌≤◌, ◌^◌, List, [], ◌∷◌, length}
+use Rattle.std.proofs.Common.{map, inl, inr, sym, ◌∙◌, ap, refl, arith, get_or, drop, subst}
 use Rattle.std.specs.List.{AllByRecursion as Each}
 use Rattle.std.specs.Int.{bit_at}
 use Rattle.std.specs.Int.Bits.{bit_or, bit_xor}
@@ -16,12 +17,14 @@ use Rattle.ph_digits.proofs.Cuts.{none_from}
 use Rattle.ph_digits.specs.Differences.{differences, IsTopDifference}
 
 -- where the word has a 0, all digits are the same
-same-at : (m k : ℕ) (xs ys : List ℕ) → length xs ≡ length ys → bit_at (differences m xs ys) k ≡ 0 → (bit_at m k ≡ 0) × (map (λ x. bit_at x k) xs ≡ map (λ x. bit_at x k) ys)
+same-at : (m k : ℕ) (xs ys : List ℕ) → length xs ≡ length ys → bit_at (differences m xs ys) k ≡ 0 →
+    (bit_at m k ≡ 0) × (map (λ x. bit_at x k) xs ≡ map (λ x. bit_at x k) ys)
 same-at m k [] [] long e = (e, refl)
 same-at m k [] (y ∷ ys) long e = absurd (omega (arith, long))
 same-at m k (x ∷ xs) [] long e = absurd (omega (arith, long))
 same-at m k (x ∷ xs) (y ∷ ys) long e =
-    let more : (bit_at (bit_or m (bit_xor x y)) k ≡ 0) × (map (λ x. bit_at x k) xs ≡ map (λ x. bit_at x k) ys) = same-at (bit_or m (bit_xor x y)) k xs ys (omega (arith, long)) e in
+    let more : (bit_at (bit_or m (bit_xor x y)) k ≡ 0) × (map (λ x. bit_at x k) xs ≡ map (λ x. bit_at x k) ys) =
+    same-at (bit_or m (bit_xor x y)) k xs ys (omega (arith, long)) e in
     let here : (bit_at m k ≡ 0) × (bit_at x k ≡ bit_at y k) = joined-none m x y k more.0 in
     (here.0, ap (λ n. n ∷ map (λ x. bit_at x k) xs) here.1 ∙ ap {B = List ℕ} (λ u. bit_at y k ∷ u) more.1)
 
@@ -33,12 +36,15 @@ kept-at m k (x ∷ xs) (y ∷ ys) e =
     kept-at (bit_or m (bit_xor x y)) k xs ys (ap (drop 1) e) ∙ joined-same m x y k (ap (λ u. get_or u 0 0) e)
 
 -- the digits from a place on, by the digits at each place
-from_bits : (t : ℕ) (xs ys : List ℕ) → length xs ≡ length ys → ((k : ℕ) → t ≤ k → map (λ x. bit_at x k) xs ≡ map (λ x. bit_at x k) ys) → digits_from t xs ≡ digits_from t ys
+from_bits : (t : ℕ) (xs ys : List ℕ) → length xs ≡ length ys →
+    ((k : ℕ) → t ≤ k → map (λ x. bit_at x k) xs ≡ map (λ x. bit_at x k) ys) → digits_from t xs ≡ digits_from t ys
 from_bits t [] [] long e = refl
 from_bits t [] (y ∷ ys) long e = absurd (omega (arith, long))
 from_bits t (x ∷ xs) [] long e = absurd (omega (arith, long))
 from_bits t (x ∷ xs) (y ∷ ys) long e =
-    let here : x / 2 ^ t ≡ y / 2 ^ t = same_from_bits (x / 2 ^ t) (y / 2 ^ t) (λ i. ap (λ n. n % 2) (shr-shr x t i) ∙ ap (λ u. get_or u 0 0) (e (t + i) (omega arith)) ∙ sym (ap (λ n. n % 2) (shr-shr y t i))) in
+    let here : x / 2 ^ t ≡ y / 2 ^ t = same_from_bits (x / 2 ^ t) (y / 2 ^ t)
+    (λ i. ap (λ n. n % 2) (shr-shr x t i) ∙ ap (λ u. get_or u 0 0) (e (t + i) (omega arith)) ∙
+    sym (ap (λ n. n % 2) (shr-shr y t i))) in
     ap (λ n. n ∷ digits_from t xs) here ∙ ap {B = List ℕ} (λ u. y / 2 ^ t ∷ u) (from_bits t xs ys (omega (arith, long)) (λ k l. ap (drop 1) (e k l)))
 
 bits_from : (t : ℕ) (xs ys : List ℕ) → digits_from t xs ≡ digits_from t ys → map (λ x. bit_at x t) xs ≡ map (λ x. bit_at x t) ys

@@ -26,10 +26,18 @@ boxes-in w d rows t b =
     let values = list_all (λ r. is_value r.value) rows in
     both w d rows (and_parts points values (and_parts (is_rising w rows) (points && values) t).1).0 b
 
-pub lists-boxes : (question : Question) (t : AnyTable) (w : ℕ) (p q low high : List ℤ) (sink now_sink : Taken) (v now_v : ℕ) (result : Result Answer Stop) → w ≡ t.tree.width → p ≡ q → IsTable t.tree.width t.dims t.tree.table → AreBoxes t.tree.table → low ≡ low_bound question w p → high ≡ high_bound question w p → IsWindowFor w t.dims (asks question p) low high → ListsWindow t low high sink now_sink v now_v result → ListsBoxes question t q sink now_sink v now_v result
+pub lists-boxes : (question : Question) (t : AnyTable) (w : ℕ) (p q low high : List ℤ) (sink now_sink : Taken)
+    (v now_v : ℕ) (result : Result Answer Stop) → w ≡ t.tree.width → p ≡ q →
+    IsTable t.tree.width t.dims t.tree.table → AreBoxes t.tree.table → low ≡ low_bound question w p →
+    high ≡ high_bound question w p → IsWindowFor w t.dims (asks question p) low high →
+    ListsWindow t low high sink now_sink v now_v result → ListsBoxes question t q sink now_sink v now_v result
 lists-boxes question t w p q low high sink now_sink v now_v result e is table boxes from to f listed =
-    let bounded = subst (λ x. ListsRows (window low high t.tree.table) (met t (low_bound question w p) x) sink now_sink v now_v result) to (subst (λ x. ListsRows (window low high t.tree.table) (met t x high) sink now_sink v now_v result) from listed) in
+    let bounded = subst (λ x. ListsRows (window low high t.tree.table) (met t (low_bound question w p) x) sink
+    now_sink v now_v result) to (subst
+    (λ x. ListsRows (window low high t.tree.table) (met t x high) sink now_sink v now_v result) from listed) in
     let rows = t.tree.table in
-    let found = subst (λ rs. ListsRows rs (met t (low_bound question w p) (high_bound question w p)) sink now_sink v now_v result) (window_lists w t.dims (asks question p) low high rows f (rw e (boxes-in t.tree.width t.dims rows table boxes))) bounded in
+    let found = subst (λ rs. ListsRows rs (met t (low_bound question w p) (high_bound question w p)) sink now_sink v
+    now_v result) (window_lists w t.dims (asks question p) low high rows f
+    (rw e (boxes-in t.tree.width t.dims rows table boxes))) bounded in
     let asked = subst (λ x. ListsRows (answered question x rows) (met t (low_bound question w x) (high_bound question w x)) sink now_sink v now_v result) is found in
     subst (λ u. ListsRows (answered question q rows) (met t (low_bound question u q) (high_bound question u q)) sink now_sink v now_v result) e asked

@@ -53,7 +53,8 @@ module _ (bytes : List ℕ) (kind : Kind) (t : AnyTable) (h : IsSavedAs bytes ki
   rows-are = rows-by (load_fault kind t.dims t.tree.width bytes) no-fault (read-from_snapshot kind t.dims t.tree.width bytes t.tree.table h.snapshot)
 
   -- of what is told by the header the same is told by the table
-  told-as : {A : Type 0} (f : Option Fault → Kind → ℕ → ℕ → A) → f (own_fault bytes) (named_kind bytes) (slice_index bytes 5) (named_width bytes) ≡ f None kind t.dims t.tree.width
+  told-as : {A : Type 0} (f : Option Fault → Kind → ℕ → ℕ → A) →
+      f (own_fault bytes) (named_kind bytes) (slice_index bytes 5) (named_width bytes) ≡ f None kind t.dims t.tree.width
   told-as f =
       ap (λ k. f (load_fault k (slice_index bytes 5) (named_width bytes) bytes) k (slice_index bytes 5) (named_width bytes)) h.kind_is
       ∙ ap (λ d. f (load_fault kind d (named_width bytes) bytes) kind d (named_width bytes)) h.dims_are
@@ -71,7 +72,9 @@ module _ (bytes : List ℕ) (kind : Kind) (t : AnyTable) (h : IsSavedAs bytes ki
       ∙ ap (λ r. length (all_nodes t.tree.width t.dims r)) rows-are
 
   -- a text that was composed as its line
-  pub sizes-given : (sink now_sink : Taken) (said line : List ℕ) (result : Result Answer Stop) → said ≡ line → line ≡ line_of (checked_words kind t.dims (stats t.tree.width t.dims t.tree.table)) → LineGiven sink now_sink said result → LineGiven sink now_sink (line_of (words_of_snapshot bytes)) result
+  pub sizes-given : (sink now_sink : Taken) (said line : List ℕ) (result : Result Answer Stop) → said ≡ line →
+      line ≡ line_of (checked_words kind t.dims (stats t.tree.width t.dims t.tree.table)) →
+      LineGiven sink now_sink said result → LineGiven sink now_sink (line_of (words_of_snapshot bytes)) result
   sizes-given sink now_sink said line result s l g = subst (λ x. LineGiven sink now_sink x result) (s ∙ l ∙ ap line_of (sym words-are)) g
 
   pub has-sizes : HasSizes bytes (line_of (words_of_snapshot bytes))
@@ -85,7 +88,8 @@ IsReplyTo line (Ok reply) = line ≡ reply_text (reply_of reply)
 IsReplyTo line (Err error) = Unit {0}
 
 module _ (sink now_sink : Taken) where
-  pub reply-given : {E : Type 0} (line : List ℕ) (reply : Result Told E) (result : Result Answer Stop) → IsReplyTo line reply → ToldOr sink now_sink reply result → LineGiven sink now_sink line result
+  pub reply-given : {E : Type 0} (line : List ℕ) (reply : Result Told E) (result : Result Answer Stop) →
+      IsReplyTo line reply → ToldOr sink now_sink reply result → LineGiven sink now_sink line result
   reply-given line (Ok reply) (Ok answer) e t = rw e t
   reply-given line (Ok reply) (Err stop.WriteFault) e t = rw e t.1
   reply-given line (Ok reply) (Err stop.NoMemory) e t = absurd (let clash : stop.NoMemory ≡ stop.WriteFault = t.0 in cc)
@@ -101,7 +105,8 @@ module _ (sink now_sink : Taken) where
 
 -- ---- the fault of bytes
 
-words-of_fault : (first : Option Fault) (kind : Kind) (dims width : ℕ) (bytes : List ℕ) (reply : Reply) → option_map fault_reply first ≡ Some reply → words_unless first kind dims width bytes ≡ reply_words reply
+words-of_fault : (first : Option Fault) (kind : Kind) (dims width : ℕ) (bytes : List ℕ) (reply : Reply) →
+    option_map fault_reply first ≡ Some reply → words_unless first kind dims width bytes ≡ reply_words reply
 words-of_fault None kind dims width bytes reply h = absurd (let clash : None ≡ Some reply = h in cc)
 words-of_fault (Some fault) kind dims width bytes reply h = let same : fault_reply fault ≡ reply = cc in ap reply_words same
 
@@ -121,14 +126,17 @@ module _ (bytes : List ℕ) (fault : LoadFault) (f : IsLoadFault (own_fault byte
       ap line_of (words-of_fault first (named_kind bytes) (slice_index bytes 5) (named_width bytes) bytes (reply_of reply) (h first f))
   fault-line (Err error) h = tt
 
-  pub fault-given : {E : Type 0} (reply : Result Told E) (result : Result Answer Stop) → TellsFault fault reply → ToldOr sink now_sink reply result → LineGiven sink now_sink (line_of (words_of_snapshot bytes)) result
+  pub fault-given : {E : Type 0} (reply : Result Told E) (result : Result Answer Stop) → TellsFault fault reply →
+      ToldOr sink now_sink reply result → LineGiven sink now_sink (line_of (words_of_snapshot bytes)) result
   fault-given reply result h t = reply-given sink now_sink (line_of (words_of_snapshot bytes)) reply result (fault-line reply h) t
 
-  pub fault-sizes : {P : Type 0} {E : Type 0} (reply : Result Told E) (result : Result Answer Stop) → TellsFault fault reply → ToldOr sink now_sink reply result → result ≡ Ok answer.Good → P
+  pub fault-sizes : {P : Type 0} {E : Type 0} (reply : Result Told E) (result : Result Answer Stop) →
+      TellsFault fault reply → ToldOr sink now_sink reply result → result ≡ Ok answer.Good → P
   fault-sizes {E = E} (Ok reply) result h t e =
       let first = own_fault bytes in
       let told : Result Told E = Ok reply in
-      never-good sink now_sink (reply_text (reply_of reply)) result (fault-refused first (reply_of reply) (h first f)) (reply-given sink now_sink (reply_text (reply_of reply)) told result refl t) e
+      never-good sink now_sink (reply_text (reply_of reply)) result (fault-refused first (reply_of reply) (h first f))
+      (reply-given sink now_sink (reply_text (reply_of reply)) told result refl t) e
   fault-sizes (Err error) (Ok answer) h t e = absurd t
   fault-sizes (Err error) (Err why) h t e = cc
 
@@ -182,14 +190,18 @@ sizes-good : (kind : Kind) (dims : ℕ) (sizes : Stats) → is_refusal (line_of 
 sizes-good Points dims sizes = refl
 sizes-good Boxes dims sizes = refl
 
-words-good : (first : Option Fault) (kind : Kind) (dims width : ℕ) (bytes : List ℕ) → first ≡ None → is_refusal (line_of (words_unless first kind dims width bytes)) ≡ false
+words-good : (first : Option Fault) (kind : Kind) (dims width : ℕ) (bytes : List ℕ) → first ≡ None →
+    is_refusal (line_of (words_unless first kind dims width bytes)) ≡ false
 words-good (Some fault) kind dims width bytes e = absurd (let no : Some fault ≡ None = e in cc)
 words-good None kind dims width bytes e = sizes-good kind dims (stats width dims (rows_saved dims width bytes))
 
-snapshot-clean : (most : ℕ) (files : Files) (fault : Bool) (file bytes : List ℕ) → fault ≡ false → fetch most files file ≡ Some bytes → own_fault bytes ≡ None → is_refusal (check_line most files fault file) ≡ true → ⊥
+snapshot-clean : (most : ℕ) (files : Files) (fault : Bool) (file bytes : List ℕ) → fault ≡ false →
+    fetch most files file ≡ Some bytes → own_fault bytes ≡ None → is_refusal (check_line most files fault file) ≡ true → ⊥
 snapshot-clean most files fault file bytes none fetched sound refused =
-    let line : check_line most files fault file ≡ line_of (words_of_snapshot bytes) = ap (λ b. check_line most files b file) none ∙ ap (λ o. line_of (words_of_file o)) fetched in
-    let good : is_refusal (line_of (words_of_snapshot bytes)) ≡ false = words-good (own_fault bytes) (named_kind bytes) (slice_index bytes 5) (named_width bytes) bytes sound in
+    let line : check_line most files fault file ≡ line_of (words_of_snapshot bytes) =
+    ap (λ b. check_line most files b file) none ∙ ap (λ o. line_of (words_of_file o)) fetched in
+    let good : is_refusal (line_of (words_of_snapshot bytes)) ≡ false =
+    words-good (own_fault bytes) (named_kind bytes) (slice_index bytes 5) (named_width bytes) bytes sound in
     let clash : true ≡ false = sym refused ∙ ap is_refusal line ∙ good in
     cc
 
@@ -215,7 +227,12 @@ no-work clean most file told v c = record {
 
 module _ (most : ℕ) (file : List ℕ) (told now_told : Option Files) (f now_f : ℕ) (sink now_sink : Taken) where
   -- by the line, which is that of the definition where the files were told
-  done-by : (v now_v c now_c : ℕ) (fault : Bool) (line : List ℕ) (result : Result Answer Stop) → Filings true (one_if fault) f now_f → Stays told now_told → (AreTold told → check_line most (told_files told) fault file ≡ line) → LineGiven sink now_sink line result → (AreTold told → result ≡ Ok answer.Good → FileHasSizes (told_files told) file line) → IsBounded (result ≡ Ok answer.Good) most file told v now_v c now_c → CheckDone most file (beside_sink sink told f v c) (beside_sink now_sink now_told now_f now_v now_c) (status_of result)
+  done-by : (v now_v c now_c : ℕ) (fault : Bool) (line : List ℕ) (result : Result Answer Stop) →
+      Filings true (one_if fault) f now_f → Stays told now_told →
+      (AreTold told → check_line most (told_files told) fault file ≡ line) → LineGiven sink now_sink line result →
+      (AreTold told → result ≡ Ok answer.Good → FileHasSizes (told_files told) file line) →
+      IsBounded (result ≡ Ok answer.Good) most file told v now_v c now_c →
+      CheckDone most file (beside_sink sink told f v c) (beside_sink now_sink now_told now_f now_v now_c) (status_of result)
   done-by v now_v c now_c fault line result n k is g sizes b = record {
     fault = fault;
     counted = n;
@@ -233,51 +250,71 @@ module _ (most : ℕ) (file : List ℕ) (told now_told : Option Files) (f now_f 
     most_visits = b.most_visits;
     most_changes = b.most_changes;
     clean_changes = λ t e. b.clean_changes t (good-of sink now_sink line result e);
-    snapshot_clean = λ t none bytes fetched sound e. snapshot-clean most (told_files told) fault file bytes none fetched sound (ap is_refusal (is t) ∙ refused-of sink now_sink line result g e);
+    snapshot_clean = λ t none bytes fetched sound e. snapshot-clean most (told_files told) fault file bytes none
+        fetched sound (ap is_refusal (is t) ∙ refused-of sink now_sink line result g e);
     few_visits = b.few_visits;
     few_changes = b.few_changes;
   }
 
   -- a reply in place of the sizes: no file was read
-  unread-by : {E : Type 0} (v c : ℕ) (fault : Bool) (reply : Result Told E) (result : Result Answer Stop) → Filings true (one_if fault) f now_f → Stays told now_told → (AreTold told → check_line most (told_files told) fault file ≡ reply_text Reply.ErrorFile) → IsReplyTo (reply_text Reply.ErrorFile) reply → ToldOr sink now_sink reply result → CheckDone most file (beside_sink sink told f v c) (beside_sink now_sink now_told now_f v c) (status_of result)
+  unread-by : {E : Type 0} (v c : ℕ) (fault : Bool) (reply : Result Told E) (result : Result Answer Stop) →
+      Filings true (one_if fault) f now_f → Stays told now_told →
+      (AreTold told → check_line most (told_files told) fault file ≡ reply_text Reply.ErrorFile) →
+      IsReplyTo (reply_text Reply.ErrorFile) reply → ToldOr sink now_sink reply result →
+      CheckDone most file (beside_sink sink told f v c) (beside_sink now_sink now_told now_f v c) (status_of result)
   unread-by v c fault reply result n k is r t =
       let given : LineGiven sink now_sink (reply_text Reply.ErrorFile) result = reply-given sink now_sink (reply_text Reply.ErrorFile) reply result r t in
-      done-by v v c c fault (reply_text Reply.ErrorFile) result n k is given (λ _. never-good sink now_sink (reply_text Reply.ErrorFile) result refl given) (no-work (result ≡ Ok answer.Good) most file told v c)
+      done-by v v c c fault (reply_text Reply.ErrorFile) result n k is given
+      (λ _. never-good sink now_sink (reply_text Reply.ErrorFile) result refl given)
+      (no-work (result ≡ Ok answer.Good) most file told v c)
 
   -- memory was missing
-  starved-by : (v c : ℕ) → now_f ≡ f → Stays told now_told → now_sink ≡ sink → CheckDone most file (beside_sink sink told f v c) (beside_sink now_sink now_told now_f v c) Memory
+  starved-by : (v c : ℕ) → now_f ≡ f → Stays told now_told → now_sink ≡ sink →
+      CheckDone most file (beside_sink sink told f v c) (beside_sink now_sink now_told now_f v c) Memory
   starved-by v c n k s =
       done-by v v c c false (check_line most (told_files told) false file) (Err stop.NoMemory) (failed-never f now_f (omega (arith, n))) k (λ t. refl) s
       (λ t e. cc) (no-work _ most file told v c)
 
 -- the line for a file that was not there, or too long
-unread-line : (most : ℕ) (file bytes : List ℕ) (told : Option Files) (fault : FetchFault) → (fault ≡ unread.NoMemory → ⊥) → (fault ≡ unread.Failed → ⊥) → Fetches told file most bytes (Err fault) → AreTold told → check_line most (told_files told) false file ≡ reply_text Reply.ErrorFile
+unread-line : (most : ℕ) (file bytes : List ℕ) (told : Option Files) (fault : FetchFault) →
+    (fault ≡ unread.NoMemory → ⊥) → (fault ≡ unread.Failed → ⊥) → Fetches told file most bytes (Err fault) →
+    AreTold told → check_line most (told_files told) false file ≡ reply_text Reply.ErrorFile
 unread-line most file bytes None fault n m g t = absurd t
-unread-line most file bytes (Some files) fault n m g t = ap (λ o. line_of (words_of_file o)) (none-of (fetch most files file) (unfetched most files file bytes fault n m g))
+unread-line most file bytes (Some files) fault n m g t = ap (λ o. line_of (words_of_file o))
+    (none-of (fetch most files file) (unfetched most files file bytes fault n m g))
   where
     none-of : (o : Option (List ℕ)) → is_none o ≡ true → o ≡ None
     none-of None h = refl
     none-of (Some b) h = absurd (let clash : false ≡ true = h in cc)
 
-module _ {E : Type 0} (most : ℕ) (file bytes : List ℕ) (told now_told : Option Files) (f now_f : ℕ) (sink now_sink : Taken) (v c : ℕ) (reply : Result Told E) (result : Result Answer Stop) where
+module _ {E : Type 0} (most : ℕ) (file bytes : List ℕ) (told now_told : Option Files) (f now_f : ℕ)
+    (sink now_sink : Taken) (v c : ℕ) (reply : Result Told E) (result : Result Answer Stop) where
   error-line : (reply : Result Told E) (fault : FetchFault) → TellsUnfetched fault reply → IsReplyTo (reply_text Reply.ErrorFile) reply
   error-line (Ok r) fault h = ap reply_text (sym h.1)
   error-line (Err error) fault h = tt
 
-  starved-told : (reply : Result Told E) (result : Result Answer Stop) → TellsUnfetched unread.NoMemory reply → ToldOr sink now_sink reply result → now_f ≡ f → Stays told now_told → CheckDone most file (beside_sink sink told f v c) (beside_sink now_sink now_told now_f v c) (status_of result)
+  starved-told : (reply : Result Told E) (result : Result Answer Stop) → TellsUnfetched unread.NoMemory reply →
+      ToldOr sink now_sink reply result → now_f ≡ f → Stays told now_told →
+      CheckDone most file (beside_sink sink told f v c) (beside_sink now_sink now_told now_f v c) (status_of result)
   starved-told (Ok r) result h t n k = absurd (h.0 refl)
   starved-told (Err error) (Ok answer) h t n k = absurd t
   starved-told (Err error) (Err stop.WriteFault) h t n k = absurd (let clash : stop.WriteFault ≡ stop.NoMemory = t.0 in cc)
   starved-told (Err error) (Err stop.NoMemory) h t n k = starved-by most file told now_told f now_f sink now_sink v c n k t.1
 
   -- no file was read
-  pub unfetched-done : (fault : FetchFault) → TellsUnfetched fault reply → Fetches told file most bytes (Err fault) → FetchCounts f now_f (Err fault) → Stays told now_told → ToldOr sink now_sink reply result → CheckDone most file (beside_sink sink told f v c) (beside_sink now_sink now_told now_f v c) (status_of result)
+  pub unfetched-done : (fault : FetchFault) → TellsUnfetched fault reply → Fetches told file most bytes (Err fault) →
+      FetchCounts f now_f (Err fault) → Stays told now_told → ToldOr sink now_sink reply result →
+      CheckDone most file (beside_sink sink told f v c) (beside_sink now_sink now_told now_f v c) (status_of result)
   unfetched-done unread.Failed h g n k t =
       unread-by most file told now_told f now_f sink now_sink v c true reply result (failed-once f now_f n.0 n.1) k (λ _. refl) (error-line reply unread.Failed h) t
   unfetched-done unread.Absent h g n k t =
-      unread-by most file told now_told f now_f sink now_sink v c false reply result (failed-never f now_f (omega (arith, n))) k (unread-line most file bytes told unread.Absent (λ e. cc) (λ e. cc) g) (error-line reply unread.Absent h) t
+      unread-by most file told now_told f now_f sink now_sink v c false reply result
+      (failed-never f now_f (omega (arith, n))) k
+      (unread-line most file bytes told unread.Absent (λ e. cc) (λ e. cc) g) (error-line reply unread.Absent h) t
   unfetched-done unread.Over h g n k t =
-      unread-by most file told now_told f now_f sink now_sink v c false reply result (failed-never f now_f (omega (arith, n))) k (unread-line most file bytes told unread.Over (λ e. cc) (λ e. cc) g) (error-line reply unread.Over h) t
+      unread-by most file told now_told f now_f sink now_sink v c false reply result
+      (failed-never f now_f (omega (arith, n))) k
+      (unread-line most file bytes told unread.Over (λ e. cc) (λ e. cc) g) (error-line reply unread.Over h) t
   unfetched-done unread.NoMemory h g n k t = starved-told reply result h t n k
 
 -- where the files were told, the bytes that were fetched are those of the file
@@ -291,7 +328,14 @@ module _ (most : ℕ) (file bytes : List ℕ) where
   read-found (Some files) g t = g
 
 -- a file was read, and its bytes were checked
-pub fetched-done : (most : ℕ) (file bytes : List ℕ) (told now_told : Option Files) (f now_f : ℕ) (sink now_sink : Taken) (v now_v c now_c : ℕ) (result : Result Answer Stop) → Fetches told file most bytes (Ok tt) → length bytes ≤ most → now_f ≡ f → Stays told now_told → LineGiven sink now_sink (line_of (words_of_snapshot bytes)) result → (result ≡ Ok answer.Good → HasSizes bytes (line_of (words_of_snapshot bytes))) → v ≤ now_v → now_v ≤ v + nodes_saved bytes → 16 * now_v ≤ 16 * v + length bytes → c ≤ now_c → 16 * now_c ≤ 16 * c + length bytes → (result ≡ Ok answer.Good → now_c ≤ c + nodes_saved bytes) → CheckDone most file (beside_sink sink told f v c) (beside_sink now_sink now_told now_f now_v now_c) (status_of result)
+pub fetched-done : (most : ℕ) (file bytes : List ℕ) (told now_told : Option Files) (f now_f : ℕ)
+    (sink now_sink : Taken) (v now_v c now_c : ℕ) (result : Result Answer Stop) →
+    Fetches told file most bytes (Ok tt) → length bytes ≤ most → now_f ≡ f → Stays told now_told →
+    LineGiven sink now_sink (line_of (words_of_snapshot bytes)) result →
+    (result ≡ Ok answer.Good → HasSizes bytes (line_of (words_of_snapshot bytes))) → v ≤ now_v →
+    now_v ≤ v + nodes_saved bytes → 16 * now_v ≤ 16 * v + length bytes → c ≤ now_c →
+    16 * now_c ≤ 16 * c + length bytes → (result ≡ Ok answer.Good → now_c ≤ c + nodes_saved bytes) →
+    CheckDone most file (beside_sink sink told f v c) (beside_sink now_sink now_told now_f now_v now_c) (status_of result)
 fetched-done most file bytes told now_told f now_f sink now_sink v now_v c now_c result g short n k line sizes kept_v most_v few_v kept_c few_c nodes =
     let is : AreTold told → fetch most (told_files told) file ≡ Some bytes = read-fetched most file bytes told g short in
     done-by most file told now_told f now_f sink now_sink v now_v c now_c false (line_of (words_of_snapshot bytes)) result

@@ -43,21 +43,39 @@ decided false true P h f g = h.1 (f refl)
 decided false false P h f g = refl
 
 row-test : (result : Bool) (rs ss : List Row) → IsTrue result ↔ (rs ≡ ss) → result ≡ pointwise same_row rs ss
-row-test result rs ss h = decided result (pointwise same_row rs ss) (rs ≡ ss) h (rows-are rs ss) (λ e. subst (λ xs. pointwise same_row rs xs ≡ true) e (rows-themselves rs))
+row-test result rs ss h = decided result (pointwise same_row rs ss) (rs ≡ ss) h (rows-are rs ss)
+    (λ e. subst (λ xs. pointwise same_row rs xs ≡ true) e (rows-themselves rs))
 
 same-frame-test : (d v w : ℕ) (test : Bool) → v ≡ w → test ≡ (true && (d == d) && (v == w) && test)
 same-frame-test d v w test e = rw (eq-eqb d d refl, eq-eqb v w e) refl
 
 -- trees of as many dimensions and one width
-pub trees-compared : (d : ℕ) (t u : Past) (visits now_visits : ℕ) (result : Bool) → t.width ≡ u.width → IsTrue result ↔ (t.table ≡ u.table) → visits ≤ now_visits → now_visits ≤ visits + (length (all_nodes t.width d t.table) + length (all_nodes u.width d u.table)) → (IsTrue result → now_visits ≡ visits + (length (all_nodes t.width d t.table) + length (all_nodes u.width d u.table))) → IsCompared (slot_of Points (table_at d t) []) (slot_of Points (table_at d u) []) visits now_visits result
+pub trees-compared : (d : ℕ) (t u : Past) (visits now_visits : ℕ) (result : Bool) → t.width ≡ u.width →
+    IsTrue result ↔ (t.table ≡ u.table) → visits ≤ now_visits →
+    now_visits ≤ visits + (length (all_nodes t.width d t.table) + length (all_nodes u.width d u.table)) →
+    (IsTrue result → now_visits ≡ visits +
+    (length (all_nodes t.width d t.table) + length (all_nodes u.width d u.table))) →
+    IsCompared (slot_of Points (table_at d t) []) (slot_of Points (table_at d u) []) visits now_visits result
 trees-compared d t u visits now_visits result e h later few all =
-    let same : result ≡ same_slots (slot_of Points (table_at d t) []) (slot_of Points (table_at d u) []) = row-test result t.table u.table h ∙ same-frame-test d t.width u.width (pointwise same_row t.table u.table) e in
+    let same : result ≡ same_slots (slot_of Points (table_at d t) []) (slot_of Points (table_at d u) []) =
+    row-test result t.table u.table h ∙ same-frame-test d t.width u.width (pointwise same_row t.table u.table) e in
     record { same = same; later = later; few = few; all = λ k. all (same ∙ k) }
 
 -- the same by the trees of both
-pub kept-compared : (d : ℕ) (t u : Past) (x y : TreeTable) → x ≡ tree_of t → y ≡ tree_of u → (visits now_visits : ℕ) (result : Bool) → x.width ≡ y.width → IsTrue result ↔ (x.table ≡ y.table) → visits ≤ now_visits → now_visits ≤ visits + (length (all_nodes x.width d x.table) + length (all_nodes y.width d y.table)) → (IsTrue result → now_visits ≡ visits + (length (all_nodes x.width d x.table) + length (all_nodes y.width d y.table))) → IsCompared (slot_of Points (table_at d t) []) (slot_of Points (table_at d u) []) visits now_visits result
+pub kept-compared : (d : ℕ) (t u : Past) (x y : TreeTable) → x ≡ tree_of t → y ≡ tree_of u →
+    (visits now_visits : ℕ) (result : Bool) → x.width ≡ y.width → IsTrue result ↔ (x.table ≡ y.table) →
+    visits ≤ now_visits → now_visits ≤ visits +
+    (length (all_nodes x.width d x.table) + length (all_nodes y.width d y.table)) →
+    (IsTrue result → now_visits ≡ visits +
+    (length (all_nodes x.width d x.table) + length (all_nodes y.width d y.table))) →
+    IsCompared (slot_of Points (table_at d t) []) (slot_of Points (table_at d u) []) visits now_visits result
 kept-compared d t u x y ex ey visits now_visits result =
-    subst {A = TreeTable × TreeTable} (λ p. p.0.width ≡ p.1.width → IsTrue result ↔ (p.0.table ≡ p.1.table) → visits ≤ now_visits → now_visits ≤ visits + (length (all_nodes p.0.width d p.0.table) + length (all_nodes p.1.width d p.1.table)) → (IsTrue result → now_visits ≡ visits + (length (all_nodes p.0.width d p.0.table) + length (all_nodes p.1.width d p.1.table))) → IsCompared (slot_of Points (table_at d t) []) (slot_of Points (table_at d u) []) visits now_visits result)
+    subst {A = TreeTable × TreeTable} (λ p. p.0.width ≡ p.1.width → IsTrue result ↔ (p.0.table ≡ p.1.table) →
+    visits ≤ now_visits → now_visits ≤ visits +
+    (length (all_nodes p.0.width d p.0.table) + length (all_nodes p.1.width d p.1.table)) →
+    (IsTrue result → now_visits ≡ visits +
+    (length (all_nodes p.0.width d p.0.table) + length (all_nodes p.1.width d p.1.table))) →
+    IsCompared (slot_of Points (table_at d t) []) (slot_of Points (table_at d u) []) visits now_visits result)
     (λ i. (sym ex i, sym ey i)) (trees-compared d t u visits now_visits result)
 
 not-equal : (v w : ℕ) → (v ≡ w → ⊥) → (v == w) ≡ false
@@ -68,7 +86,8 @@ not-equal v w n = found (v == w) refl
     found false e = e
 
 -- trees of two widths, of which nothing is visited
-pub widths-differ : (d : ℕ) (t u : Past) (visits : ℕ) → (t.width ≡ u.width → ⊥) → IsCompared (slot_of Points (table_at d t) []) (slot_of Points (table_at d u) []) visits visits false
+pub widths-differ : (d : ℕ) (t u : Past) (visits : ℕ) → (t.width ≡ u.width → ⊥) →
+    IsCompared (slot_of Points (table_at d t) []) (slot_of Points (table_at d u) []) visits visits false
 widths-differ d t u visits n =
     let same : false ≡ same_slots (slot_of Points (table_at d t) []) (slot_of Points (table_at d u) []) = rw (eq-eqb d d refl, not-equal t.width u.width n) refl in
     record { same = same; later = omega arith; few = omega arith; all = λ k. absurd (let clash : false ≡ true = same ∙ k in cc) }

@@ -27,11 +27,16 @@ answers-run most e files (t ∷ ts) =
     let rest : answers (script_machine most) (whole o.engine (Some o.files)) ts ≡ written (run_of most o.engine o.files ts) = answers-run most o.engine o.files ts in
     ap (λ x. replies_text o.replies ++ x) rest ∙ sym (texts-append o.replies (run_of most o.engine o.files ts).replies)
 
-after-run : (most : ℕ) (e : Engine) (files : Files) (ts : List Turn) → after (script_machine most) (whole e (Some files)) ts ≡ whole (run_of most e files ts).engine (Some (run_of most e files ts).files)
+after-run : (most : ℕ) (e : Engine) (files : Files) (ts : List Turn) →
+    after (script_machine most) (whole e (Some files)) ts ≡ whole (run_of most e files ts).engine
+    (Some (run_of most e files ts).files)
 after-run most e files [] = refl
 after-run most e files (t ∷ ts) = let o = script_step most (whole e (Some files)) t in after-run most o.engine o.files ts
 
-pub as-defined : (file_bytes most : ℕ) (left now_left : Option (List ℕ)) (b now_b : Beside) (e : Engine) (files : Files) (now : Whole) (status : Status) → Answered (script_machine file_bytes) most left now_left b now_b (whole e (Some files)) now status → RunsAsDefined file_bytes left now_left b now_b (whole e (Some files)) now
+pub as-defined : (file_bytes most : ℕ) (left now_left : Option (List ℕ)) (b now_b : Beside) (e : Engine)
+    (files : Files) (now : Whole) (status : Status) →
+    Answered (script_machine file_bytes) most left now_left b now_b (whole e (Some files)) now status →
+    RunsAsDefined file_bytes left now_left b now_b (whole e (Some files)) now
 as-defined file_bytes most left now_left b now_b e files now status h =
     let a = h.answered in
     let faults = map (λ t. t.met.fault) a.turns in
@@ -47,11 +52,17 @@ as-defined file_bytes most left now_left b now_b e files now status h =
       filings = a.worked.spent.filings.told;
     }
 
-read-defined : (file_bytes most : ℕ) (left now_left : Option (List ℕ)) (b now_b : Beside) (e : Engine) (files : Option Files) (now : Whole) (status : Status) → AreTold files → Answered (script_machine file_bytes) most left now_left b now_b (whole e files) now status → RunsAsDefined file_bytes left now_left b now_b (whole e files) now
+read-defined : (file_bytes most : ℕ) (left now_left : Option (List ℕ)) (b now_b : Beside) (e : Engine)
+    (files : Option Files) (now : Whole) (status : Status) → AreTold files →
+    Answered (script_machine file_bytes) most left now_left b now_b (whole e files) now status →
+    RunsAsDefined file_bytes left now_left b now_b (whole e files) now
 read-defined file_bytes most left now_left b now_b e None now status told h = absurd told
 read-defined file_bytes most left now_left b now_b e (Some files) now status told h = as-defined file_bytes most left now_left b now_b e files now status h
 
-pub outcome-defined : (file_bytes most : ℕ) (left now_left : Option (List ℕ)) (b now_b : Beside) (e : Engine) (files : Option Files) (now : Whole) (status : Status) → AreTold files → IsRead status → Left (script_machine file_bytes) most left now_left b now_b (whole e files) now status → RunsAsDefined file_bytes left now_left b now_b (whole e files) now
+pub outcome-defined : (file_bytes most : ℕ) (left now_left : Option (List ℕ)) (b now_b : Beside) (e : Engine)
+    (files : Option Files) (now : Whole) (status : Status) → AreTold files → IsRead status →
+    Left (script_machine file_bytes) most left now_left b now_b (whole e files) now status →
+    RunsAsDefined file_bytes left now_left b now_b (whole e files) now
 outcome-defined file_bytes most left now_left b now_b e files now Clean told read h = read-defined file_bytes most left now_left b now_b e files now Clean told h
 outcome-defined file_bytes most left now_left b now_b e files now Refused told read h = read-defined file_bytes most left now_left b now_b e files now Refused told h
 outcome-defined file_bytes most left now_left b now_b e files now Usage told read h = absurd h

@@ -18,7 +18,8 @@ use Rattle.ph_engine.proofs.Machines.{answers-append, after-append, refused-appe
 use Rattle.ph_engine.proofs.Sums.{spent_both, worked_both, worked_none}
 
 -- nothing is fed
-pub fed-none : {S : Type 0} (m : Machine S) (s : S) (unended kept : List ℕ) (b : Beside) → kept ≡ take KEPT unended → is_unbroken unended ≡ true → Fed m s unended [] b b s kept false
+pub fed-none : {S : Type 0} (m : Machine S) (s : S) (unended kept : List ℕ) (b : Beside) → kept ≡ take KEPT unended →
+    is_unbroken unended ≡ true → Fed m s unended [] b b s kept false
 fed-none m s unended kept b k u = record {
   done = [];
   rest = unended;
@@ -33,7 +34,9 @@ fed-none m s unended kept b k u = record {
 }
 
 -- a part without line feeds is fed behind
-pub fed-part : {S : Type 0} (m : Machine S) (s : S) (unended piece part kept : List ℕ) (b now_b : Beside) (now : S) (refused : Bool) → is_unbroken part ≡ true → Fed m s unended piece b now_b now kept refused → Fed m s unended (piece ++ part) b now_b now (take KEPT (kept ++ part)) refused
+pub fed-part : {S : Type 0} (m : Machine S) (s : S) (unended piece part kept : List ℕ) (b now_b : Beside) (now : S)
+    (refused : Bool) → is_unbroken part ≡ true → Fed m s unended piece b now_b now kept refused →
+    Fed m s unended (piece ++ part) b now_b now (take KEPT (kept ++ part)) refused
 fed-part m s unended piece part kept b now_b now refused u h = record {
   done = h.done;
   rest = h.rest ++ part;
@@ -48,26 +51,34 @@ fed-part m s unended piece part kept b now_b now refused u h = record {
 }
 
 -- two pieces after another
-joined : (unended piece next : List ℕ) (done more : List (List ℕ)) (rest last : List ℕ) → unended ++ piece ≡ ended done ++ rest → rest ++ next ≡ ended more ++ last → unended ++ (piece ++ next) ≡ ended (done ++ more) ++ last
+joined : (unended piece next : List ℕ) (done more : List (List ℕ)) (rest last : List ℕ) →
+    unended ++ piece ≡ ended done ++ rest → rest ++ next ≡ ended more ++ last →
+    unended ++ (piece ++ next) ≡ ended (done ++ more) ++ last
 joined unended piece next done more rest last h k =
     sym (append_assoc unended piece next) ∙ ap (λ t. t ++ next) h ∙ append_assoc (ended done) rest next ∙ ap (λ t. ended done ++ t) k
     ∙ sym (append_assoc (ended done) (ended more) last) ∙ ap (λ t. t ++ last) (sym (ended-append done more))
 
-pub fed-fed : {S : Type 0} (m : Machine S) (s : S) (unended piece next kept last : List ℕ) (b middle now_b : Beside) (between now : S) (refused more : Bool) → (h : Fed m s unended piece b middle between kept refused) → Fed m between h.rest next middle now_b now last more → Fed m s unended (piece ++ next) b now_b now last (refused || more)
+pub fed-fed : {S : Type 0} (m : Machine S) (s : S) (unended piece next kept last : List ℕ) (b middle now_b : Beside)
+    (between now : S) (refused more : Bool) → (h : Fed m s unended piece b middle between kept refused) →
+    Fed m between h.rest next middle now_b now last more → Fed m s unended (piece ++ next) b now_b now last (refused || more)
 fed-fed m s unended piece next kept last b middle now_b between now refused more h k = record {
   done = h.done ++ k.done;
   rest = k.rest;
   split = rw (lines-append h.done k.done) (joined unended piece next (lines_of h.done) (lines_of k.done) h.rest k.rest h.split k.split);
   unbroken_done = rw (lines-append h.done k.done) (all-append _ (lines_of h.done) (lines_of k.done) h.unbroken_done k.unbroken_done);
   unbroken_rest = k.unbroken_rest;
-  told = rw answers-append (given_both b.sink middle.sink now_b.sink _ _ h.told (let t : Given middle.sink now_b.sink (answers m (after m s h.done) k.done) = rw h.state at k.told in t));
+  told = rw answers-append (given_both b.sink middle.sink now_b.sink _ _ h.told
+      (let t : Given middle.sink now_b.sink (answers m (after m s h.done) k.done) = rw h.state at k.told in t));
   state = k.state ∙ ap (λ t. after m t k.done) h.state ∙ sym (after-append m s h.done k.done);
-  refusals = ap (λ t. t || more) h.refusals ∙ ap (λ t. some_refused m s h.done || t) (k.refusals ∙ ap (λ t. some_refused m t k.done) h.state) ∙ sym (refused-append m s h.done k.done);
+  refusals = ap (λ t. t || more) h.refusals ∙ ap (λ t. some_refused m s h.done || t)
+      (k.refusals ∙ ap (λ t. some_refused m t k.done) h.state) ∙ sym (refused-append m s h.done k.done);
   front = k.front;
   worked = worked_both m s between h.done k.done b middle now_b h.state h.worked k.worked;
 }
 
-pub fed-cut : {S : Type 0} (m : Machine S) (s : S) (unended piece next kept : List ℕ) (b middle now_b : Beside) (between now : S) (refused : Bool) → (h : Fed m s unended piece b middle between kept refused) → Cut m between h.rest next middle now_b now → Cut m s unended (piece ++ next) b now_b now
+pub fed-cut : {S : Type 0} (m : Machine S) (s : S) (unended piece next kept : List ℕ) (b middle now_b : Beside)
+    (between now : S) (refused : Bool) → (h : Fed m s unended piece b middle between kept refused) →
+    Cut m between h.rest next middle now_b now → Cut m s unended (piece ++ next) b now_b now
 fed-cut m s unended piece next kept b middle now_b between now refused h k =
     let e : after m s (h.done ++ k.done) ≡ after m between k.done = after-append m s h.done k.done ∙ ap (λ t. after m t k.done) (sym h.state) in
     record {
@@ -75,7 +86,8 @@ fed-cut m s unended piece next kept b middle now_b between now refused h k =
       last = k.last;
       more = k.more;
       count = k.count;
-      split = rw (lines-append h.done k.done, append_assoc) (joined unended piece next (lines_of h.done) (lines_of k.done ++ k.last.line ∷ []) h.rest k.more h.split k.split);
+      split = rw (lines-append h.done k.done, append_assoc)
+          (joined unended piece next (lines_of h.done) (lines_of k.done ++ k.last.line ∷ []) h.rest k.more h.split k.split);
       unbroken_done = rw (lines-append h.done k.done) (all-append _ (lines_of h.done) (lines_of k.done) h.unbroken_done k.unbroken_done);
       unbroken_line = k.unbroken_line;
       short = rw e k.short;
@@ -84,7 +96,9 @@ fed-cut m s unended piece next kept b middle now_b between now refused h k =
       spent = rw (append_assoc h.done k.done (k.last ∷ [])) (spent_both m s between h.done (k.done ++ k.last ∷ []) b middle now_b h.state h.worked.spent k.spent);
     }
 
-pub fed-starved : {S : Type 0} (m : Machine S) (s : S) (unended piece next kept : List ℕ) (b middle now_b : Beside) (between now : S) (refused : Bool) → (h : Fed m s unended piece b middle between kept refused) → Starved m between h.rest next middle now_b now → Starved m s unended (piece ++ next) b now_b now
+pub fed-starved : {S : Type 0} (m : Machine S) (s : S) (unended piece next kept : List ℕ) (b middle now_b : Beside)
+    (between now : S) (refused : Bool) → (h : Fed m s unended piece b middle between kept refused) →
+    Starved m between h.rest next middle now_b now → Starved m s unended (piece ++ next) b now_b now
 fed-starved m s unended piece next kept b middle now_b between now refused h k =
     let e : after m s (h.done ++ k.done) ≡ after m between k.done = after-append m s h.done k.done ∙ ap (λ t. after m t k.done) (sym h.state) in
     record {
@@ -92,7 +106,8 @@ fed-starved m s unended piece next kept b middle now_b between now refused h k =
       last = k.last;
       more = k.more;
       part = k.part;
-      split = rw (lines-append h.done k.done, append_assoc) (joined unended piece next (lines_of h.done) (lines_of k.done ++ k.last.line ∷ []) h.rest k.more h.split k.split);
+      split = rw (lines-append h.done k.done, append_assoc)
+          (joined unended piece next (lines_of h.done) (lines_of k.done ++ k.last.line ∷ []) h.rest k.more h.split k.split);
       unbroken_done = rw (lines-append h.done k.done) (all-append _ (lines_of h.done) (lines_of k.done) h.unbroken_done k.unbroken_done);
       unbroken_line = k.unbroken_line;
       told = rw (answers-append m s h.done k.done, ← h.state) (given_both b.sink middle.sink now_b.sink _ _ h.told k.told);
@@ -102,9 +117,14 @@ fed-starved m s unended piece next kept b middle now_b between now refused h k =
     }
 
 -- a fed piece, and what a stop in the next one leaves
-pub fed-stopped : {S : Type 0} (m : Machine S) (s : S) (unended piece next kept last : List ℕ) (b middle now_b : Beside) (between now : S) (refused : Bool) (stop : Stop) → (h : Fed m s unended piece b middle between kept refused) → FedOr m between h.rest next middle now_b now last (Err stop) → FedOr m s unended (piece ++ next) b now_b now last (Err stop)
-fed-stopped m s unended piece next kept last b middle now_b between now refused WriteFault h k = fed-cut m s unended piece next kept b middle now_b between now refused h k
-fed-stopped m s unended piece next kept last b middle now_b between now refused NoMemory h k = fed-starved m s unended piece next kept b middle now_b between now refused h k
+pub fed-stopped : {S : Type 0} (m : Machine S) (s : S) (unended piece next kept last : List ℕ)
+    (b middle now_b : Beside) (between now : S) (refused : Bool) (stop : Stop) →
+    (h : Fed m s unended piece b middle between kept refused) →
+    FedOr m between h.rest next middle now_b now last (Err stop) → FedOr m s unended (piece ++ next) b now_b now last (Err stop)
+fed-stopped m s unended piece next kept last b middle now_b between now refused WriteFault h k =
+    fed-cut m s unended piece next kept b middle now_b between now refused h k
+fed-stopped m s unended piece next kept last b middle now_b between now refused NoMemory h k =
+    fed-starved m s unended piece next kept b middle now_b between now refused h k
 
 -- ---- a line
 
@@ -112,7 +132,9 @@ line-split : (unended part : List ℕ) → unended ++ (part ++ LF ∷ []) ≡ en
 line-split unended part = sym (append_assoc unended part (LF ∷ [])) ∙ sym (append-nil ((unended ++ part) ++ LF ∷ []))
 
 -- a part and a line feed end a line, which is answered
-pub line-said : {S : Type 0} (m : Machine S) (s : S) (unended part : List ℕ) (met : Met) (b now_b : Beside) (now : S) (refused : Bool) → is_unbroken unended ≡ true → is_unbroken part ≡ true → Said m s (turn (unended ++ part) met) b now_b now refused → Fed m s unended (part ++ LF ∷ []) b now_b now [] refused
+pub line-said : {S : Type 0} (m : Machine S) (s : S) (unended part : List ℕ) (met : Met) (b now_b : Beside) (now : S)
+    (refused : Bool) → is_unbroken unended ≡ true → is_unbroken part ≡ true →
+    Said m s (turn (unended ++ part) met) b now_b now refused → Fed m s unended (part ++ LF ∷ []) b now_b now [] refused
 line-said m s unended part met b now_b now refused u v h = record {
   done = turn (unended ++ part) met ∷ [];
   rest = [];
@@ -127,7 +149,10 @@ line-said m s unended part met b now_b now refused u v h = record {
 }
 
 -- the answer to it fails
-pub line-stopped : {S : Type 0} (m : Machine S) (s : S) (unended part last : List ℕ) (met : Met) (b now_b : Beside) (now : S) (stop : Stop) → is_unbroken unended ≡ true → is_unbroken part ≡ true → SaidOr m s (turn (unended ++ part) met) b now_b now (Err stop) → FedOr m s unended (part ++ LF ∷ []) b now_b now last (Err stop)
+pub line-stopped : {S : Type 0} (m : Machine S) (s : S) (unended part last : List ℕ) (met : Met) (b now_b : Beside)
+    (now : S) (stop : Stop) → is_unbroken unended ≡ true → is_unbroken part ≡ true →
+    SaidOr m s (turn (unended ++ part) met) b now_b now (Err stop) →
+    FedOr m s unended (part ++ LF ∷ []) b now_b now last (Err stop)
 line-stopped m s unended part last met b now_b now WriteFault u v h = record {
   done = [];
   last = turn (unended ++ part) met;
@@ -164,7 +189,8 @@ kept-none : (unended kept : List ℕ) → kept ≡ take KEPT unended → kept �
 kept-none unended kept k e = take-none KEPT unended (omega (arith, KEPT-is)) (sym k ∙ e)
 
 -- there is no unended line
-pub end-none : {S : Type 0} (m : Machine S) (s : S) (unended kept : List ℕ) (refused : Bool) (b : Beside) → kept ≡ take KEPT unended → kept ≡ [] → AtEnd m s unended refused b b s (read_status refused)
+pub end-none : {S : Type 0} (m : Machine S) (s : S) (unended kept : List ℕ) (refused : Bool) (b : Beside) →
+    kept ≡ take KEPT unended → kept ≡ [] → AtEnd m s unended refused b b s (read_status refused)
 end-none m s unended kept refused b k e =
     let n : unended ≡ [] = kept-none unended kept k e in
     record {
@@ -173,7 +199,9 @@ end-none m s unended kept refused b k e =
     }
 
 -- the unended line is answered
-pub end-said : {S : Type 0} (m : Machine S) (s : S) (unended kept : List ℕ) (refused last : Bool) (met : Met) (b now_b : Beside) (now : S) → kept ≡ take KEPT unended → is_unbroken unended ≡ true → 0 < length kept → Said m s (turn unended met) b now_b now last → AtEnd m s unended refused b now_b now (read_status (refused || last))
+pub end-said : {S : Type 0} (m : Machine S) (s : S) (unended kept : List ℕ) (refused last : Bool) (met : Met)
+    (b now_b : Beside) (now : S) → kept ≡ take KEPT unended → is_unbroken unended ≡ true → 0 < length kept →
+    Said m s (turn unended met) b now_b now last → AtEnd m s unended refused b now_b now (read_status (refused || last))
 end-said m s unended kept refused last met b now_b now k u some h =
     let l : lines unended ≡ unended ∷ [] = lines-unbroken unended u (kept-some unended kept k some) in
     record {
@@ -182,18 +210,25 @@ end-said m s unended kept refused last met b now_b now k u some h =
     }
 
 -- the answer to it fails
-pub end-stopped : {S : Type 0} (m : Machine S) (s : S) (unended kept : List ℕ) (refused : Bool) (met : Met) (b now_b : Beside) (now : S) (stop : Stop) → kept ≡ take KEPT unended → is_unbroken unended ≡ true → 0 < length kept → SaidOr m s (turn unended met) b now_b now (Err stop) → EndsOr m s unended refused b now_b now (stop_status stop)
-end-stopped m s unended kept refused met b now_b now WriteFault k u some h = record { some = lines-unbroken unended u (kept-some unended kept k some); met = met; said = h }
-end-stopped m s unended kept refused met b now_b now NoMemory k u some h = record { some = lines-unbroken unended u (kept-some unended kept k some); met = met; unsaid = h }
+pub end-stopped : {S : Type 0} (m : Machine S) (s : S) (unended kept : List ℕ) (refused : Bool) (met : Met)
+    (b now_b : Beside) (now : S) (stop : Stop) → kept ≡ take KEPT unended → is_unbroken unended ≡ true →
+    0 < length kept → SaidOr m s (turn unended met) b now_b now (Err stop) →
+    EndsOr m s unended refused b now_b now (stop_status stop)
+end-stopped m s unended kept refused met b now_b now WriteFault k u some h =
+    record { some = lines-unbroken unended u (kept-some unended kept k some); met = met; said = h }
+end-stopped m s unended kept refused met b now_b now NoMemory k u some h =
+    record { some = lines-unbroken unended u (kept-some unended kept k some); met = met; unsaid = h }
 
 -- a status that the end of a script gives
-pub ends-read : {S : Type 0} (m : Machine S) (s : S) (unended : List ℕ) (refused : Bool) (b now_b : Beside) (now : S) (r : Bool) → AtEnd m s unended refused b now_b now (read_status r) → EndsOr m s unended refused b now_b now (read_status r)
+pub ends-read : {S : Type 0} (m : Machine S) (s : S) (unended : List ℕ) (refused : Bool) (b now_b : Beside) (now : S)
+    (r : Bool) → AtEnd m s unended refused b now_b now (read_status r) → EndsOr m s unended refused b now_b now (read_status r)
 ends-read m s unended refused b now_b now true h = h
 ends-read m s unended refused b now_b now false h = h
 
 -- ---- a stop within a piece
 
-pub cut-within : {S : Type 0} (m : Machine S) (s : S) (unended piece more : List ℕ) (b now_b : Beside) (now : S) → Cut m s unended piece b now_b now → Cut m s unended (piece ++ more) b now_b now
+pub cut-within : {S : Type 0} (m : Machine S) (s : S) (unended piece more : List ℕ) (b now_b : Beside) (now : S) →
+    Cut m s unended piece b now_b now → Cut m s unended (piece ++ more) b now_b now
 cut-within m s unended piece more b now_b now h = record {
   done = h.done;
   last = h.last;
@@ -208,7 +243,8 @@ cut-within m s unended piece more b now_b now h = record {
   spent = h.spent;
 }
 
-pub starved-within : {S : Type 0} (m : Machine S) (s : S) (unended piece more : List ℕ) (b now_b : Beside) (now : S) → Starved m s unended piece b now_b now → Starved m s unended (piece ++ more) b now_b now
+pub starved-within : {S : Type 0} (m : Machine S) (s : S) (unended piece more : List ℕ) (b now_b : Beside) (now : S) →
+    Starved m s unended piece b now_b now → Starved m s unended (piece ++ more) b now_b now
 starved-within m s unended piece more b now_b now h = record {
   done = h.done;
   last = h.last;
@@ -223,21 +259,33 @@ starved-within m s unended piece more b now_b now h = record {
   spent = h.spent;
 }
 
-pub stopped-within : {S : Type 0} (m : Machine S) (s : S) (unended piece more last : List ℕ) (b now_b : Beside) (now : S) (stop : Stop) → FedOr m s unended piece b now_b now last (Err stop) → FedOr m s unended (piece ++ more) b now_b now last (Err stop)
+pub stopped-within : {S : Type 0} (m : Machine S) (s : S) (unended piece more last : List ℕ) (b now_b : Beside)
+    (now : S) (stop : Stop) → FedOr m s unended piece b now_b now last (Err stop) →
+    FedOr m s unended (piece ++ more) b now_b now last (Err stop)
 stopped-within m s unended piece more last b now_b now WriteFault h = cut-within m s unended piece more b now_b now h
 stopped-within m s unended piece more last b now_b now NoMemory h = starved-within m s unended piece more b now_b now h
 
 -- ---- as code feeds: the two pieces as one, by an equation
 
-pub then-fed : {S : Type 0} (m : Machine S) (s : S) (unended piece next whole kept last : List ℕ) (b middle now_b : Beside) (between now : S) (refused more all : Bool) → Fed m s unended piece b middle between kept refused → Feeds m between kept next middle now_b now last (Ok more) → piece ++ next ≡ whole → all ≡ (refused || more) → Fed m s unended whole b now_b now last all
+pub then-fed : {S : Type 0} (m : Machine S) (s : S) (unended piece next whole kept last : List ℕ)
+    (b middle now_b : Beside) (between now : S) (refused more all : Bool) →
+    Fed m s unended piece b middle between kept refused → Feeds m between kept next middle now_b now last (Ok more) →
+    piece ++ next ≡ whole → all ≡ (refused || more) → Fed m s unended whole b now_b now last all
 then-fed m s unended piece next whole kept last b middle now_b between now refused more all h k e a =
     rw (← e, a) (fed-fed m s unended piece next kept last b middle now_b between now refused more h (k h.rest h.front h.unbroken_rest))
 
-pub then-stopped : {S : Type 0} (m : Machine S) (s : S) (unended piece next rest whole kept last : List ℕ) (b middle now_b : Beside) (between now : S) (refused : Bool) (stop : Stop) → Fed m s unended piece b middle between kept refused → Feeds m between kept next middle now_b now last (Err stop) → (piece ++ next) ++ rest ≡ whole → FedOr m s unended whole b now_b now last (Err stop)
+pub then-stopped : {S : Type 0} (m : Machine S) (s : S) (unended piece next rest whole kept last : List ℕ)
+    (b middle now_b : Beside) (between now : S) (refused : Bool) (stop : Stop) →
+    Fed m s unended piece b middle between kept refused → Feeds m between kept next middle now_b now last (Err stop) →
+    (piece ++ next) ++ rest ≡ whole → FedOr m s unended whole b now_b now last (Err stop)
 then-stopped m s unended piece next rest whole kept last b middle now_b between now refused stop h k e =
     let P : List ℕ → Type 0 = λ t. FedOr m s unended t b now_b now last (Err stop) in
-    subst P e (stopped-within m s unended (piece ++ next) rest last b now_b now stop (fed-stopped m s unended piece next kept last b middle now_b between now refused stop h (k h.rest h.front h.unbroken_rest)))
+    subst P e (stopped-within m s unended (piece ++ next) rest last b now_b now stop
+    (fed-stopped m s unended piece next kept last b middle now_b between now refused stop h
+    (k h.rest h.front h.unbroken_rest)))
 
-pub then-part : {S : Type 0} (m : Machine S) (s : S) (unended piece next whole kept last : List ℕ) (b now_b : Beside) (now : S) (refused : Bool) → Fed m s unended piece b now_b now kept refused → is_unbroken next ≡ true → last ≡ take KEPT (kept ++ next) → piece ++ next ≡ whole → Fed m s unended whole b now_b now last refused
+pub then-part : {S : Type 0} (m : Machine S) (s : S) (unended piece next whole kept last : List ℕ) (b now_b : Beside)
+    (now : S) (refused : Bool) → Fed m s unended piece b now_b now kept refused → is_unbroken next ≡ true →
+    last ≡ take KEPT (kept ++ next) → piece ++ next ≡ whole → Fed m s unended whole b now_b now last refused
 then-part m s unended piece next whole kept last b now_b now refused h u l e =
     rw (← e, l) (fed-part m s unended piece next kept b now_b now refused u h)

@@ -31,17 +31,25 @@ pub hits-left : (hits : List TableHit) (i : ℕ) (h : TableHit) → i < length h
 hits-left hits i h short is = drop_more hits i h short ∙ ap (λ x. x ∷ drop (i + 1) hits) (sym is)
 
 -- the nearest rows were listed
-pub near-said : (t : AnyTable) (p q : List ℤ) (n : ℕ) (hits : List TableHit) (sink now_sink : Taken) (v now_v : ℕ) (result : Result Answer Stop) → p ≡ q → hits ≡ hits_of p (near p n t.tree.table) → v ≤ now_v → now_v ≤ v + reached t p n → Lists (hit_replies hits) 0 0 sink now_sink 0 0 result → ListsNear t q n sink now_sink v now_v result
+pub near-said : (t : AnyTable) (p q : List ℤ) (n : ℕ) (hits : List TableHit) (sink now_sink : Taken) (v now_v : ℕ)
+    (result : Result Answer Stop) → p ≡ q → hits ≡ hits_of p (near p n t.tree.table) → v ≤ now_v →
+    now_v ≤ v + reached t p n → Lists (hit_replies hits) 0 0 sink now_sink 0 0 result →
+    ListsNear t q n sink now_sink v now_v result
 near-said t p q n hits sink now_sink v now_v (Ok answer) is e later few listed =
-    let all : hit_replies hits ≡ hit_listing q (near q n t.tree.table) = ap hit_replies e ∙ replies-of p (near p n t.tree.table) ∙ ap (λ x. hit_listing x (near x n t.tree.table)) is in
+    let all : hit_replies hits ≡ hit_listing q (near q n t.tree.table) = ap hit_replies e ∙
+    replies-of p (near p n t.tree.table) ∙ ap (λ x. hit_listing x (near x n t.tree.table)) is in
     record { told = rw (← all) listed.told; good = listed.good; enough = omega (arith, later); few = rw (← is) few }
 near-said t p q n hits sink now_sink v now_v (Err WriteFault) is e later few listed =
-    let all : hit_replies hits ≡ hit_listing q (near q n t.tree.table) = ap hit_replies e ∙ replies-of p (near p n t.tree.table) ∙ ap (λ x. hit_listing x (near x n t.tree.table)) is in
+    let all : hit_replies hits ≡ hit_listing q (near q n t.tree.table) = ap hit_replies e ∙
+    replies-of p (near p n t.tree.table) ∙ ap (λ x. hit_listing x (near x n t.tree.table)) is in
     record { front = rw (← all) listed.front; fault = refl; visited = rw (← is) few }
 near-said t p q n hits sink now_sink v now_v (Err NoMemory) is e later few listed = absurd (let clash : NoMemory ≡ WriteFault = listed.fault in cc)
 
 -- the rows within a radius were listed
-pub ball-said : (t : AnyTable) (p q : List ℤ) (r : ℕ) (hits : List TableHit) (n : ℕ) (sink now_sink : Taken) (v now_v : ℕ) (result : Result Answer Stop) → p ≡ q → hits ≡ hits_of p (within p r t.tree.table) → n ≡ length (ball t.tree.width t.dims t.tree.table p r) → Lists (hit_replies hits) n n sink now_sink v now_v result → ListsBall t q r sink now_sink v now_v result
+pub ball-said : (t : AnyTable) (p q : List ℤ) (r : ℕ) (hits : List TableHit) (n : ℕ) (sink now_sink : Taken)
+    (v now_v : ℕ) (result : Result Answer Stop) → p ≡ q → hits ≡ hits_of p (within p r t.tree.table) →
+    n ≡ length (ball t.tree.width t.dims t.tree.table p r) →
+    Lists (hit_replies hits) n n sink now_sink v now_v result → ListsBall t q r sink now_sink v now_v result
 ball-said t p q r hits n sink now_sink v now_v result is e m listed =
     let w = t.tree.width in
     let d = t.dims in

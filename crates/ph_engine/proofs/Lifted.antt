@@ -38,7 +38,8 @@ same e = put-same e.current e
 stays : (e : Engine) (files : Files) (replies : List Reply) → outcome e files replies ≡ lift e (outcome (engine_of (current e)) files replies)
 stays e files replies = ap (λ x. outcome x files replies) (sym (same e))
 
-page-lifted : (e : Engine) (files : Files) (name : List ℕ) (n : ℕ) (c : Option Cursor) → page_outcome e files name n c ≡ lift e (page_outcome (engine_of (current e)) files name n c)
+page-lifted : (e : Engine) (files : Files) (name : List ℕ) (n : ℕ) (c : Option Cursor) →
+    page_outcome e files name n c ≡ lift e (page_outcome (engine_of (current e)) files name n c)
 page-lifted e files name n None = stays e files []
 page-lifted e files name n (Some c) = refl
 
@@ -78,15 +79,18 @@ effect-lifted e files (Command.Combine operation) h = absurd cc
 effect-lifted e files (Command.Keep n) h = refl
 effect-lifted e files (Command.Back n) h = refl
 
-unless-lifted : (r : Option Reply) (e : Engine) (files : Files) (cmd : Command) → is_on_slot cmd ≡ true → unless_refused r e files cmd ≡ lift e (unless_refused r (engine_of (current e)) files cmd)
+unless-lifted : (r : Option Reply) (e : Engine) (files : Files) (cmd : Command) → is_on_slot cmd ≡ true →
+    unless_refused r e files cmd ≡ lift e (unless_refused r (engine_of (current e)) files cmd)
 unless-lifted (Some r) e files cmd h = stays e files (r ∷ [])
 unless-lifted None e files cmd h = effect-lifted e files cmd h
 
-refusal-lifted : (most : ℕ) (e : Engine) (files : Files) (fault : Bool) (cmd : Command) → is_on_slot cmd ≡ true → refusal most e files fault cmd ≡ refusal most (engine_of (current e)) files fault cmd
+refusal-lifted : (most : ℕ) (e : Engine) (files : Files) (fault : Bool) (cmd : Command) → is_on_slot cmd ≡ true →
+    refusal most e files fault cmd ≡ refusal most (engine_of (current e)) files fault cmd
 refusal-lifted most e files fault cmd h =
     ap (λ r. or_else r (slot_refusal most (current e) files fault cmd)) ((alone e cmd h).0 ∙ sym (alone (engine_of (current e)) cmd h).0)
 
-pub act-lifted : (most : ℕ) (e : Engine) (files : Files) (fault : Bool) (cmd : Command) → is_on_slot cmd ≡ true → act most e files fault cmd ≡ lift e (act most (engine_of (current e)) files fault cmd)
+pub act-lifted : (most : ℕ) (e : Engine) (files : Files) (fault : Bool) (cmd : Command) → is_on_slot cmd ≡ true →
+    act most e files fault cmd ≡ lift e (act most (engine_of (current e)) files fault cmd)
 act-lifted most e files fault cmd h =
     ap (λ r. unless_refused r e files cmd) (refusal-lifted most e files fault cmd h) ∙ unless-lifted (refusal most (engine_of (current e)) files fault cmd) e files cmd h
 
@@ -120,7 +124,8 @@ bounds-lifted e files (Command.Combine operation) h = absurd cc
 bounds-lifted e files (Command.Keep n) h = refl
 bounds-lifted e files (Command.Back n) h = refl
 
-work-lifted : (most : ℕ) (e : Engine) (files : Files) (fault : Bool) (cmd : Command) → is_on_slot cmd ≡ true → work_of most e files fault cmd ≡ work_of most (engine_of (current e)) files fault cmd
+work-lifted : (most : ℕ) (e : Engine) (files : Files) (fault : Bool) (cmd : Command) → is_on_slot cmd ≡ true →
+    work_of most e files fault cmd ≡ work_of most (engine_of (current e)) files fault cmd
 work-lifted most e files fault cmd h =
     (λ i.
     let r = refusal-lifted most e files fault cmd h i in
@@ -129,14 +134,18 @@ work-lifted most e files fault cmd h =
 
 -- ---- what a command of the code answers
 
-leads-lifted : (most : ℕ) (e after : Engine) (files : Files) (fault : Bool) (cmd : Command) (told now_told : Option Files) (replies : List Reply) → is_on_slot cmd ≡ true → Leads (act most (engine_of (current e)) files fault cmd) after files told now_told replies → Leads (act most e files fault cmd) (with_slot e (current after)) files told now_told replies
+leads-lifted : (most : ℕ) (e after : Engine) (files : Files) (fault : Bool) (cmd : Command)
+    (told now_told : Option Files) (replies : List Reply) → is_on_slot cmd ≡ true →
+    Leads (act most (engine_of (current e)) files fault cmd) after files told now_told replies →
+    Leads (act most e files fault cmd) (with_slot e (current after)) files told now_told replies
 leads-lifted most e after files fault cmd told now_told replies h l = record {
   after = l.after;
   is = act-lifted most e files fault cmd h ∙ ap (lift e) l.is;
   told_files = l.told_files;
 }
 
-cut-or : (e after : Engine) (s : Slot) (page : Bool) → engine_of s ≡ (if page then engine_of (current e) else after) → with_slot e s ≡ (if page then e else with_slot e (current after))
+cut-or : (e after : Engine) (s : Slot) (page : Bool) → engine_of s ≡ (if page then engine_of (current e) else after) →
+    with_slot e s ≡ (if page then e else with_slot e (current after))
 cut-or e after s true h = ap (λ x. with_slot e (current x)) h ∙ same e
 cut-or e after s false h = ap (λ x. with_slot e (current x)) h
 
@@ -144,11 +153,14 @@ first-lifted : (e : Engine) (n : ℕ) (rows : Option (List Row)) → with_slot e
 first-lifted e n (Some rows) = refl
 first-lifted e n None = same e
 
-starved-lifted : (e : Engine) (files : Files) (cmd : Command) (n : ℕ) → with_slot e (current (starved_engine (engine_of (current e)) files cmd n)) ≡ starved_engine e files cmd n
+starved-lifted : (e : Engine) (files : Files) (cmd : Command) (n : ℕ) →
+    with_slot e (current (starved_engine (engine_of (current e)) files cmd n)) ≡ starved_engine e files cmd n
 starved-lifted e files (Command.Back asked) n = refl
 starved-lifted e files cmd n = first-lifted e n (imported (current e) files cmd)
 
-pub done-lifted : (most : ℕ) (e : Engine) (s : Slot) (cmd : Command) (b now_b : Beside) (result : Result Answer Stop) → is_on_slot cmd ≡ true → DoneOr most (engine_of (current e)) cmd b now_b (engine_of s) result → DoneOr most e cmd b now_b (with_slot e s) result
+pub done-lifted : (most : ℕ) (e : Engine) (s : Slot) (cmd : Command) (b now_b : Beside)
+    (result : Result Answer Stop) → is_on_slot cmd ≡ true →
+    DoneOr most (engine_of (current e)) cmd b now_b (engine_of s) result → DoneOr most e cmd b now_b (with_slot e s) result
 done-lifted most e s cmd b now_b (Ok answer) h d = record {
   fault = d.fault;
   found = d.found;
@@ -187,7 +199,8 @@ done-lifted most e s cmd b now_b (Err NoMemory) h d = record {
 }
 
 -- the commands of the code but four are on a slot
-pub on-slot : (c : Written) → ((which : Which) → c ≡ by.Select which → ⊥) → (c ≡ by.Same → ⊥) → (c ≡ by.Join → ⊥) → ((operation : SetOperation) → c ≡ by.Combine operation → ⊥) → is_on_slot (command_of c) ≡ true
+pub on-slot : (c : Written) → ((which : Which) → c ≡ by.Select which → ⊥) → (c ≡ by.Same → ⊥) → (c ≡ by.Join → ⊥) →
+    ((operation : SetOperation) → c ≡ by.Combine operation → ⊥) → is_on_slot (command_of c) ≡ true
 on-slot (by.Begin kind k width max) n m o p = refl
 on-slot (by.Put at value) n m o p = refl
 on-slot (by.Get at) n m o p = refl
@@ -216,13 +229,19 @@ on-slot (by.Keep count) n m o p = refl
 on-slot (by.Back count) n m o p = refl
 
 -- the same by the fields of the code's engine
-pub done-at-a : (most : ℕ) (e : Engine) (a b s : Slot) (which : Which) (cmd : Command) (d now_d : Beside) (result : Result Answer Stop) → record { a = a; b = b; current = which } ≡ e → which ≡ A → is_on_slot cmd ≡ true → DoneOr most (engine_of a) cmd d now_d (engine_of s) result → DoneOr most e cmd d now_d (record { a = s; b = b; current = which }) result
+pub done-at-a : (most : ℕ) (e : Engine) (a b s : Slot) (which : Which) (cmd : Command) (d now_d : Beside)
+    (result : Result Answer Stop) → record { a = a; b = b; current = which } ≡ e → which ≡ A → is_on_slot cmd ≡ true →
+    DoneOr most (engine_of a) cmd d now_d (engine_of s) result →
+    DoneOr most e cmd d now_d (record { a = s; b = b; current = which }) result
 done-at-a most e a b s which cmd d now_d result v w h k =
     let at : Engine = record { a = a; b = b; current = A } in
     let is : at ≡ e = ap (λ x. record { a = a; b = b; current = x }) (sym w) ∙ v in
     rw (← is, w) (done-lifted most at s cmd d now_d result h k)
 
-pub done-at-b : (most : ℕ) (e : Engine) (a b s : Slot) (which : Which) (cmd : Command) (d now_d : Beside) (result : Result Answer Stop) → record { a = a; b = b; current = which } ≡ e → which ≡ B → is_on_slot cmd ≡ true → DoneOr most (engine_of b) cmd d now_d (engine_of s) result → DoneOr most e cmd d now_d (record { a = a; b = s; current = which }) result
+pub done-at-b : (most : ℕ) (e : Engine) (a b s : Slot) (which : Which) (cmd : Command) (d now_d : Beside)
+    (result : Result Answer Stop) → record { a = a; b = b; current = which } ≡ e → which ≡ B → is_on_slot cmd ≡ true →
+    DoneOr most (engine_of b) cmd d now_d (engine_of s) result →
+    DoneOr most e cmd d now_d (record { a = a; b = s; current = which }) result
 done-at-b most e a b s which cmd d now_d result v w h k =
     let at : Engine = record { a = a; b = b; current = B } in
     let is : at ≡ e = ap (λ x. record { a = a; b = b; current = x }) (sym w) ∙ v in

@@ -28,18 +28,22 @@ use Rattle.ph_engine.proofs.Replies.{IsGiven, one_given, all_given, front_given}
 -- replies of one kind, one for each item, and further ones behind them
 module _ {X : Type 0} (f : X → Reply) where
   -- one was written, or a front of it
-  pub item-given : (all tail : List Reply) (xs next : List X) (x : X) (a b c : Taken) → IsGiven all (map f xs ++ tail) a b → xs ≡ x ∷ next → Given b c (reply_text (f x)) → IsGiven all (map f next ++ tail) a c
+  pub item-given : (all tail : List Reply) (xs next : List X) (x : X) (a b c : Taken) →
+      IsGiven all (map f xs ++ tail) a b → xs ≡ x ∷ next → Given b c (reply_text (f x)) → IsGiven all (map f next ++ tail) a c
   item-given all tail xs next x a b c h e k = one_given all (map f xs ++ tail) (map f next ++ tail) (f x) a b c h (ap (λ ys. map f ys ++ tail) e) k
 
-  pub item-front : (all tail : List Reply) (xs next : List X) (x : X) (a b c : Taken) → IsGiven all (map f xs ++ tail) a b → xs ≡ x ∷ next → WritesFront b c (reply_text (f x)) → WritesFront a c (replies_text all)
+  pub item-front : (all tail : List Reply) (xs next : List X) (x : X) (a b c : Taken) →
+      IsGiven all (map f xs ++ tail) a b → xs ≡ x ∷ next → WritesFront b c (reply_text (f x)) → WritesFront a c (replies_text all)
   item-front all tail xs next x a b c h e k = front_given all (map f xs ++ tail) (map f next ++ tail) (f x) a b c h (ap (λ ys. map f ys ++ tail) e) k
 
   -- the last reply was written, or a front of it
-  pub last-given : (all : List Reply) (xs : List X) (r : Reply) (a b c : Taken) → IsGiven all (map f xs ++ r ∷ []) a b → xs ≡ [] → Given b c (reply_text r) → Given a c (replies_text all)
+  pub last-given : (all : List Reply) (xs : List X) (r : Reply) (a b c : Taken) →
+      IsGiven all (map f xs ++ r ∷ []) a b → xs ≡ [] → Given b c (reply_text r) → Given a c (replies_text all)
   last-given all xs r a b c h e k =
       all_given all [] a c (one_given all (map f xs ++ r ∷ []) [] r a b c h (ap (λ ys. map f ys ++ r ∷ []) e) k) refl
 
-  pub last-front : (all : List Reply) (xs : List X) (r : Reply) (a b c : Taken) → IsGiven all (map f xs ++ r ∷ []) a b → xs ≡ [] → WritesFront b c (reply_text r) → WritesFront a c (replies_text all)
+  pub last-front : (all : List Reply) (xs : List X) (r : Reply) (a b c : Taken) →
+      IsGiven all (map f xs ++ r ∷ []) a b → xs ≡ [] → WritesFront b c (reply_text r) → WritesFront a c (replies_text all)
   last-front all xs r a b c h e k = front_given all (map f xs ++ r ∷ []) [] r a b c h (ap (λ ys. map f ys ++ r ∷ []) e) k
 
 is-good : (a : Answer) → refuses a ≡ false → a ≡ Good
@@ -54,7 +58,12 @@ none-left (x ∷ xs) h = cc
 -- ---- listings that go to their end
 
 -- All items were listed, and what comes behind them was said.
-pub items-said : {X : Type 0} (f : X → Reply) (all xs : List X) (n count least most v0 v : ℕ) (a b c : Taken) (result : Result Answer Stop) → IsGiven (map f all ++ Reply.End n ∷ []) (map f xs ++ Reply.End n ∷ []) a b → xs ≡ [] → count ≡ n → IfOk result (λ answer. refuses answer ≡ is_refusal (reply_text (Reply.End count))) → OnOk result (Given b c (reply_text (Reply.End count))) → IfErr result (λ stop. stop ≡ WriteFault) → OnErr result (WritesFront b c (reply_text (Reply.End count))) → v0 + least ≤ v → v ≤ v0 + most → Lists (map f all ++ Reply.End n ∷ []) least most a c v0 v result
+pub items-said : {X : Type 0} (f : X → Reply) (all xs : List X) (n count least most v0 v : ℕ) (a b c : Taken)
+    (result : Result Answer Stop) → IsGiven (map f all ++ Reply.End n ∷ []) (map f xs ++ Reply.End n ∷ []) a b →
+    xs ≡ [] → count ≡ n → IfOk result (λ answer. refuses answer ≡ is_refusal (reply_text (Reply.End count))) →
+    OnOk result (Given b c (reply_text (Reply.End count))) → IfErr result (λ stop. stop ≡ WriteFault) →
+    OnErr result (WritesFront b c (reply_text (Reply.End count))) → v0 + least ≤ v → v ≤ v0 + most →
+    Lists (map f all ++ Reply.End n ∷ []) least most a c v0 v result
 items-said f all xs n count least most v0 v a b c (Ok answer) h none counted good told fault front enough few =
     let k : Given b c (reply_text (Reply.End n)) = rw counted at told in
     record { told = last-given f (map f all ++ Reply.End n ∷ []) xs (Reply.End n) a b c h none k; good = is-good answer good; enough = enough; few = few }
@@ -83,13 +92,16 @@ same-test false false P h k = refl
 same-test true false P h k = sym (k.1 (h.0 refl))
 same-test false true P h k = h.1 (k.0 refl)
 
-pub more-is : (w : ℕ) (c : Cursor) (n : ℕ) (table : List Row) (rows0 rows : List Row) (left : ℕ) (more : Bool) → rows0 ≡ rest w c table → drop left rows ≡ drop n rows0 → take left rows ≡ [] → (more ≡ true) ↔ (rows ≡ [] → ⊥) → more ≡ has_more w c n table
+pub more-is : (w : ℕ) (c : Cursor) (n : ℕ) (table : List Row) (rows0 rows : List Row) (left : ℕ) (more : Bool) →
+    rows0 ≡ rest w c table → drop left rows ≡ drop n rows0 → take left rows ≡ [] → (more ≡ true) ↔ (rows ≡ [] → ⊥) →
+    more ≡ has_more w c n table
 more-is w c n table rows0 rows left more e d none h =
     let same : rows ≡ drop n (rest w c table) = sym (left-over rows left none) ∙ d ∙ ap (drop n) e in
     same-test more (has_more w c n table) (rows ≡ [] → ⊥) h (rw same (more-left w c n table))
 
 -- the points that are listed are points of the table
-pub last-point : (w d : ℕ) (last : Option (List ℤ)) (rows : List Row) → IsLast w d last → list_all (λ r. is_point w d r.point) rows ≡ true → IsLast w d (last_listed last rows)
+pub last-point : (w d : ℕ) (last : Option (List ℤ)) (rows : List Row) → IsLast w d last →
+    list_all (λ r. is_point w d r.point) rows ≡ true → IsLast w d (last_listed last rows)
 last-point w d last [] h k = h
 last-point w d last (r ∷ rows) h k = last-point w d (Some r.point) rows (and_parts _ _ k).0 (and_parts _ _ k).1
 
@@ -109,7 +121,10 @@ same-cursor : (b c : Cursor) → b.lo ≡ c.lo → b.hi ≡ c.hi → b.last ≡ 
 same-cursor b c lo hi last = λ i. record { lo = lo i; hi = hi i; last = last i }
 
 -- the replies of a page are its rows and then its end
-pub page-ended : (t : AnyTable) (c : Cursor) (n : ℕ) (rows0 rows : List Row) (left count : ℕ) (more : Bool) → rows0 ≡ rest t.tree.width c t.tree.table → take left rows ≡ [] → drop left rows ≡ drop n rows0 → count ≡ length (take n rows0) → (more ≡ true) ↔ (rows ≡ [] → ⊥) → row_replies (take n rows0) ++ page_end more count ∷ [] ≡ page_replies t c n
+pub page-ended : (t : AnyTable) (c : Cursor) (n : ℕ) (rows0 rows : List Row) (left count : ℕ) (more : Bool) →
+    rows0 ≡ rest t.tree.width c t.tree.table → take left rows ≡ [] → drop left rows ≡ drop n rows0 →
+    count ≡ length (take n rows0) → (more ≡ true) ↔ (rows ≡ [] → ⊥) →
+    row_replies (take n rows0) ++ page_end more count ∷ [] ≡ page_replies t c n
 page-ended t c n rows0 rows left count more e none d counted m =
     let w = t.tree.width in
     let listed : take n rows0 ≡ page w c n t.tree.table = ap (take n) e in
@@ -118,17 +133,30 @@ page-ended t c n rows0 rows left count more e none d counted m =
     ∙ ap (λ rs. row_replies rs ++ page_end (has_more w c n t.tree.table) (length rs) ∷ []) listed
 
 -- the whole page was given, and then its end
-pub page-said : (t : AnyTable) (c : Cursor) (n : ℕ) (rows0 rows : List Row) (left count v0 v : ℕ) (more : Bool) (behind : Cursor) (x y z : Taken) → rows0 ≡ rest t.tree.width c t.tree.table → ((tail : List Reply) → IsGiven (row_replies (take n rows0) ++ tail) (row_replies (take left rows) ++ tail) x y) → take left rows ≡ [] → drop left rows ≡ drop n rows0 → count ≡ length (take n rows0) → (more ≡ true) ↔ (rows ≡ [] → ⊥) → behind.lo ≡ c.lo → behind.hi ≡ c.hi → last_listed behind.last (take left rows) ≡ last_listed c.last (take n rows0) → IsLast t.tree.width t.dims c.last → IsTable t.tree.width t.dims t.tree.table → v0 + least_to_resume t.tree.table c.last ≤ v → v ≤ v0 + (most_to_resume t.tree.width c.last + met t c.lo c.hi) → Given y z (reply_text (page_end more count)) → PageListed t c n x z v0 v behind
+pub page-said : (t : AnyTable) (c : Cursor) (n : ℕ) (rows0 rows : List Row) (left count v0 v : ℕ) (more : Bool)
+    (behind : Cursor) (x y z : Taken) → rows0 ≡ rest t.tree.width c t.tree.table →
+    ((tail : List Reply) → IsGiven (row_replies (take n rows0) ++ tail) (row_replies (take left rows) ++ tail) x y) →
+    take left rows ≡ [] → drop left rows ≡ drop n rows0 → count ≡ length (take n rows0) →
+    (more ≡ true) ↔ (rows ≡ [] → ⊥) → behind.lo ≡ c.lo → behind.hi ≡ c.hi →
+    last_listed behind.last (take left rows) ≡ last_listed c.last (take n rows0) → IsLast t.tree.width t.dims c.last →
+    IsTable t.tree.width t.dims t.tree.table → v0 + least_to_resume t.tree.table c.last ≤ v →
+    v ≤ v0 + (most_to_resume t.tree.width c.last + met t c.lo c.hi) → Given y z (reply_text (page_end more count)) →
+    PageListed t c n x z v0 v behind
 page-said t c n rows0 rows left count v0 v more behind x y z e given none d counted m lo hi last start whole grows cost told =
     let w = t.tree.width in
     let points = (and_parts _ _ (and_parts _ _ whole).1).0 in
     let ended = page-ended t c n rows0 rows left count more e none d counted m in
-    let next : behind ≡ next_cursor w c n t.tree.table = same-cursor behind (next_cursor w c n t.tree.table) lo hi (ap (last_listed behind.last) (sym none) ∙ last ∙ ap (λ rs. last_listed c.last (take n rs)) e) in
+    let next : behind ≡ next_cursor w c n t.tree.table = same-cursor behind (next_cursor w c n t.tree.table) lo hi
+    (ap (last_listed behind.last) (sym none) ∙ last ∙ ap (λ rs. last_listed c.last (take n rs)) e) in
     let stands : behind.last ≡ last_listed c.last (take n rows0) = ap (last_listed behind.last) (sym none) ∙ last in
     let inside : list_all (λ r. is_point w t.dims r.point) (take n rows0) ≡ true =
-    all-taken (λ r. is_point w t.dims r.point) n rows0 (rw e (all-filtered (λ r. is_point w t.dims r.point) (λ r. is_after w c.last r.point) (window c.lo c.hi t.tree.table) (all-filtered (λ r. is_point w t.dims r.point) (λ r. is_between c.lo c.hi r.point) t.tree.table points))) in
+    all-taken (λ r. is_point w t.dims r.point) n rows0
+    (rw e (all-filtered (λ r. is_point w t.dims r.point) (λ r. is_after w c.last r.point)
+    (window c.lo c.hi t.tree.table)
+    (all-filtered (λ r. is_point w t.dims r.point) (λ r. is_between c.lo c.hi r.point) t.tree.table points))) in
     record {
-      told = subst (λ rs. Given x z (replies_text rs)) ended (last-given Reply.RowIs _ (take left rows) (page_end more count) x y z (given (page_end more count ∷ [])) none told);
+      told = subst (λ rs. Given x z (replies_text rs)) ended
+          (last-given Reply.RowIs _ (take left rows) (page_end more count) x y z (given (page_end more count ∷ [])) none told);
       next = next;
       rest_behind = ap (λ x. rest w x t.tree.table) next ∙ rest-behind-page w t.dims c n t.tree.table whole;
       last = rw stands (last-point w t.dims c.last (take n rows0) start inside);
@@ -147,9 +175,15 @@ some-to-resume [] v now_v (Some last) k h = omega (arith, k)
 some-to-resume (r ∷ rows) v now_v (Some last) k h = let less : v < now_v = h refl (λ e. cc) in omega (arith, less)
 
 -- the rows of the page were given, and a front of its end
-pub page-cut : (t : AnyTable) (c : Cursor) (n : ℕ) (rows0 rows : List Row) (left count : ℕ) (more : Bool) (x y z : Taken) → rows0 ≡ rest t.tree.width c t.tree.table → ((tail : List Reply) → IsGiven (row_replies (take n rows0) ++ tail) (row_replies (take left rows) ++ tail) x y) → take left rows ≡ [] → drop left rows ≡ drop n rows0 → count ≡ length (take n rows0) → (more ≡ true) ↔ (rows ≡ [] → ⊥) → WritesFront y z (reply_text (page_end more count)) → WritesFront x z (replies_text (page_replies t c n))
+pub page-cut : (t : AnyTable) (c : Cursor) (n : ℕ) (rows0 rows : List Row) (left count : ℕ) (more : Bool)
+    (x y z : Taken) → rows0 ≡ rest t.tree.width c t.tree.table →
+    ((tail : List Reply) → IsGiven (row_replies (take n rows0) ++ tail) (row_replies (take left rows) ++ tail) x y) →
+    take left rows ≡ [] → drop left rows ≡ drop n rows0 → count ≡ length (take n rows0) →
+    (more ≡ true) ↔ (rows ≡ [] → ⊥) → WritesFront y z (reply_text (page_end more count)) →
+    WritesFront x z (replies_text (page_replies t c n))
 page-cut t c n rows0 rows left count more x y z e given none d counted m told =
-    subst (λ rs. WritesFront x z (replies_text rs)) (page-ended t c n rows0 rows left count more e none d counted m) (last-front Reply.RowIs _ (take left rows) (page_end more count) x y z (given (page_end more count ∷ [])) none told)
+    subst (λ rs. WritesFront x z (replies_text rs)) (page-ended t c n rows0 rows left count more e none d counted m)
+    (last-front Reply.RowIs _ (take left rows) (page_end more count) x y z (given (page_end more count ∷ [])) none told)
 
 -- whether more is left, by what the walk tells
 pub more-by : (tail : Tail) (P : Type 0) → (tail ≡ More) ↔ P → (is_more tail ≡ true) ↔ P

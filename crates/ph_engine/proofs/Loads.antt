@@ -44,25 +44,43 @@ told-fault None dims width bytes r h = absurd (let no : None ≡ Some r = h in c
 told-fault (Some fault) dims width bytes r h = let same : fault_reply fault ≡ r = cc in ap Err same
 
 -- bytes that are none
-pub loads-none : {E : Type 0} (kind : Kind) (t : AnyTable) (dims w : ℕ) (bytes : List ℕ) (fault : LoadFault) (result : Result Told E) → dims ≡ t.dims → w ≡ t.tree.width → IsLoadFault (load_fault kind dims w bytes) fault → TellsFault fault result → LoadsOr kind t bytes t result
+pub loads-none : {E : Type 0} (kind : Kind) (t : AnyTable) (dims w : ℕ) (bytes : List ℕ) (fault : LoadFault)
+    (result : Result Told E) → dims ≡ t.dims → w ≡ t.tree.width → IsLoadFault (load_fault kind dims w bytes) fault →
+    TellsFault fault result → LoadsOr kind t bytes t result
 loads-none kind t dims w bytes fault (Ok reply) d e f h =
-    let read : read_snapshot kind t.dims t.tree.width bytes ≡ Err (reply_of reply) = ap (λ k. read_snapshot kind k t.tree.width bytes) (sym d) ∙ ap (λ v. read_snapshot kind dims v bytes) (sym e) ∙ told-fault (load_fault kind dims w bytes) dims w bytes (reply_of reply) (h (load_fault kind dims w bytes) f) in
+    let read : read_snapshot kind t.dims t.tree.width bytes ≡ Err (reply_of reply) =
+    ap (λ k. read_snapshot kind k t.tree.width bytes) (sym d) ∙ ap (λ v. read_snapshot kind dims v bytes)
+    (sym e) ∙ told-fault (load_fault kind dims w bytes) dims w bytes (reply_of reply) (h (load_fault kind dims w bytes) f) in
     (ap (read_table t) (sym read), ap (read_reply t.tree.max) (sym read))
 loads-none kind t dims w bytes fault (Err error) d e f h = refl
 
 -- the nodes of rows that were read
-pub nodes-loaded : (kind : Kind) (t : AnyTable) (dims w : ℕ) (bytes : List ℕ) (read rows : List Row) (c now_c : ℕ) → dims ≡ t.dims → w ≡ t.tree.width → read_snapshot kind dims w bytes ≡ Ok read → read_snapshot kind t.dims t.tree.width bytes ≡ Ok rows → now_c ≡ c + length (all_nodes w dims read) → now_c ≤ c + length (all_nodes t.tree.width t.dims rows)
+pub nodes-loaded : (kind : Kind) (t : AnyTable) (dims w : ℕ) (bytes : List ℕ) (read rows : List Row) (c now_c : ℕ) →
+    dims ≡ t.dims → w ≡ t.tree.width → read_snapshot kind dims w bytes ≡ Ok read →
+    read_snapshot kind t.dims t.tree.width bytes ≡ Ok rows → now_c ≡ c + length (all_nodes w dims read) →
+    now_c ≤ c + length (all_nodes t.tree.width t.dims rows)
 nodes-loaded kind t dims w bytes read rows c now_c d e r is n =
     let first : Result (List Row) Reply = Ok read in
     let second : Result (List Row) Reply = Ok rows in
     let same : first ≡ second = sym r ∙ ap (λ k. read_snapshot kind k w bytes) d ∙ ap (λ v. read_snapshot kind t.dims v bytes) e ∙ is in
     let rows-same : read ≡ rows = cc in
-    omega (arith, n, ap (λ k. length (all_nodes w k read)) d, ap (λ v. length (all_nodes v t.dims read)) e, ap (λ xs. length (all_nodes t.tree.width t.dims xs)) rows-same)
+    omega (
+      arith,
+      n,
+      ap (λ k. length (all_nodes w k read)) d,
+      ap (λ v. length (all_nodes v t.dims read)) e,
+      ap (λ xs. length (all_nodes t.tree.width t.dims xs)) rows-same,
+    )
 
 -- bytes that are none have no rows
-pub nodes-none : {E : Type 0} (kind : Kind) (t : AnyTable) (dims w : ℕ) (bytes : List ℕ) (fault : LoadFault) (result : Result Told E) (rows : List Row) (c now_c : ℕ) → dims ≡ t.dims → w ≡ t.tree.width → IsLoadFault (load_fault kind dims w bytes) fault → TellsFault fault result → read_snapshot kind t.dims t.tree.width bytes ≡ Ok rows → OnOk result (now_c ≤ c + length (all_nodes t.tree.width t.dims rows))
+pub nodes-none : {E : Type 0} (kind : Kind) (t : AnyTable) (dims w : ℕ) (bytes : List ℕ) (fault : LoadFault)
+    (result : Result Told E) (rows : List Row) (c now_c : ℕ) → dims ≡ t.dims → w ≡ t.tree.width →
+    IsLoadFault (load_fault kind dims w bytes) fault → TellsFault fault result →
+    read_snapshot kind t.dims t.tree.width bytes ≡ Ok rows → OnOk result (now_c ≤ c + length (all_nodes t.tree.width t.dims rows))
 nodes-none kind t dims w bytes fault (Err error) rows c now_c d e f h is = tt
 nodes-none kind t dims w bytes fault (Ok reply) rows c now_c d e f h is =
-    let read : read_snapshot kind t.dims t.tree.width bytes ≡ Err (reply_of reply) = ap (λ k. read_snapshot kind k t.tree.width bytes) (sym d) ∙ ap (λ v. read_snapshot kind dims v bytes) (sym e) ∙ told-fault (load_fault kind dims w bytes) dims w bytes (reply_of reply) (h (load_fault kind dims w bytes) f) in
+    let read : read_snapshot kind t.dims t.tree.width bytes ≡ Err (reply_of reply) =
+    ap (λ k. read_snapshot kind k t.tree.width bytes) (sym d) ∙ ap (λ v. read_snapshot kind dims v bytes)
+    (sym e) ∙ told-fault (load_fault kind dims w bytes) dims w bytes (reply_of reply) (h (load_fault kind dims w bytes) f) in
     let loaded : Result (List Row) Reply = Ok rows in
     absurd (let no : loaded ≡ Err (reply_of reply) = sym is ∙ read in cc)

@@ -6,7 +6,8 @@ use Rattle.ph_engine.specs.Machine.{Machine, Turn, Work, answers, after, is_refu
 pub answers-append : {S : Type 0} (m : Machine S) (s : S) (xs ys : List Turn) → answers m s (xs ++ ys) ≡ answers m s xs ++ answers m (after m s xs) ys
 answers-append m s [] ys = refl
 answers-append m s (t ∷ xs) ys =
-    ap (λ r. m.answer s t ++ r) (answers-append m (m.next s t) xs ys) ∙ sym (append_assoc (m.answer s t) (answers m (m.next s t) xs) (answers m (after m (m.next s t) xs) ys))
+    ap (λ r. m.answer s t ++ r) (answers-append m (m.next s t) xs ys) ∙
+    sym (append_assoc (m.answer s t) (answers m (m.next s t) xs) (answers m (after m (m.next s t) xs) ys))
 
 pub after-append : {S : Type 0} (m : Machine S) (s : S) (xs ys : List Turn) → after m s (xs ++ ys) ≡ after m (after m s xs) ys
 after-append m s [] ys = refl
@@ -24,9 +25,11 @@ refused-append m s (t ∷ xs) ys =
 
 pub uses-append : {S : Type 0} (m : Machine S) (s : S) (xs ys : List Turn) → some_uses m s (xs ++ ys) ≡ (some_uses m s xs || some_uses m (after m s xs) ys)
 uses-append m s [] ys = refl
-uses-append m s (t ∷ xs) ys = ap (λ r. m.uses s t || r) (uses-append m (m.next s t) xs ys) ∙ or_assoc (m.uses s t) (some_uses m (m.next s t) xs) (some_uses m (after m (m.next s t) xs) ys)
+uses-append m s (t ∷ xs) ys = ap (λ r. m.uses s t || r) (uses-append m (m.next s t) xs ys) ∙
+    or_assoc (m.uses s t) (some_uses m (m.next s t) xs) (some_uses m (after m (m.next s t) xs) ys)
 
-pub total-append : {S : Type 0} (bound : Work → ℕ) (m : Machine S) (s : S) (xs ys : List Turn) → total bound m s (xs ++ ys) ≡ total bound m s xs + total bound m (after m s xs) ys
+pub total-append : {S : Type 0} (bound : Work → ℕ) (m : Machine S) (s : S) (xs ys : List Turn) →
+    total bound m s (xs ++ ys) ≡ total bound m s xs + total bound m (after m s xs) ys
 total-append bound m s [] ys = omega arith
 total-append bound m s (t ∷ xs) ys = omega (arith, total-append bound m (m.next s t) xs ys)
 

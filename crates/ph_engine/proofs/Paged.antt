@@ -42,7 +42,8 @@ both-true true false h = absurd cc
 both-true false b h = absurd cc
 
 -- the corners of a cursor that is not refused are in range
-pub corners-in : (s : Slot) (name : List ℕ) (lo hi : List ℤ) → early_refusal s (Command.Cursor name lo hi) ≡ None → (list_all (fits s.width) lo ≡ true) × (list_all (fits s.width) hi ≡ true)
+pub corners-in : (s : Slot) (name : List ℕ) (lo hi : List ℤ) → early_refusal s (Command.Cursor name lo hi) ≡ None →
+    (list_all (fits s.width) lo ≡ true) × (list_all (fits s.width) hi ≡ true)
 corners-in s name lo hi h = both-true (list_all (fits s.width) lo) (list_all (fits s.width) hi) (in-range s (Command.Cursor name lo hi) h)
 
 pub point-in : (w d : ℕ) (p : List ℤ) → length p ≡ d → list_all (fits w) p ≡ true → IsPoint w d p
@@ -56,13 +57,19 @@ room-or false n h k = absurd (let f : nat_le 16 16 ≡ false = ap (nat_le 16) (s
 pub room-in : (s : Slot) (name : List ℕ) (lo hi : List ℤ) → early_refusal s (Command.Cursor name lo hi) ≡ None → length s.cursors ≡ 16 → has_name name s.cursors ≡ true
 room-in s name lo hi h k = room-or (has_name name s.cursors) (length s.cursors) (has-room s (Command.Cursor name lo hi) h) k
 
-pub cursor-begun : (s : Slot) (name : List ℕ) (lo hi : List ℤ) (cursors : Named Cursor) → early_refusal s (Command.Cursor name lo hi) ≡ None → cursors ≡ enter name (record { lo = lo; hi = hi; last = None }) s.cursors → Begun s (Command.Cursor name lo hi) (record s { cursors = cursors }) Reply.Ready
+pub cursor-begun : (s : Slot) (name : List ℕ) (lo hi : List ℤ) (cursors : Named Cursor) →
+    early_refusal s (Command.Cursor name lo hi) ≡ None →
+    cursors ≡ enter name (record { lo = lo; hi = hi; last = None }) s.cursors →
+    Begun s (Command.Cursor name lo hi) (record s { cursors = cursors }) Reply.Ready
 cursor-begun s name lo hi cursors h e =
     let command = Command.Cursor name lo hi in
     record {
-      does = λ most files fault. ap (λ r. unless_refused r (engine_of s) files command) (unrefused most s files fault command refl h refl) ∙ ap (λ x. outcome (engine_of (record s { cursors = x })) files (Reply.Ready ∷ [])) (sym e);
+      does = λ most files fault. ap (λ r. unless_refused r (engine_of s) files command)
+          (unrefused most s files fault command refl h refl) ∙
+          ap (λ x. outcome (engine_of (record s { cursors = x })) files (Reply.Ready ∷ [])) (sym e);
       most = λ visits changes most files fault. record { few_visits = omega arith; few_changes = omega arith };
-      least = λ visits changes most files fault. rw (unrefused most s files fault command refl h refl) (record { enough_visits = omega arith; enough_changes = omega arith });
+      least = λ visits changes most files fault. rw (unrefused most s files fault command refl h refl)
+          (record { enough_visits = omega arith; enough_changes = omega arith });
     }
 
 -- ---- a page
@@ -76,7 +83,10 @@ pub cursor-there : (s : Slot) (name : List ℕ) (n : ℕ) → early_refusal s (C
 cursor-there s name n h = is-there (has_name name s.cursors) (has-cursor s (Command.Page name n) h)
 
 -- the cursor at its place is the one that is found under the name
-pub found-there : (name : List ℕ) (items first second : List Held) (r : Result ℕ ℕ) (i : ℕ) (d : Held) → first ≡ items → second ≡ items → r ≡ place name (named first) → r ≡ Ok i → MatchResult r (λ j. j < length first) (λ j. j ≤ length first) → lookup name (named items) ≡ Some (cursor_of (get_or second i d).cursor)
+pub found-there : (name : List ℕ) (items first second : List Held) (r : Result ℕ ℕ) (i : ℕ) (d : Held) →
+    first ≡ items → second ≡ items → r ≡ place name (named first) → r ≡ Ok i →
+    MatchResult r (λ j. j < length first) (λ j. j ≤ length first) →
+    lookup name (named items) ≡ Some (cursor_of (get_or second i d).cursor)
 found-there name items first second r i d e f p is within =
     let at : place name (named second) ≡ Ok i = ap (λ xs. place name (named xs)) (f ∙ sym e) ∙ sym p ∙ is in
     let short : i < length second = omega (arith, rw is at within, ap (λ xs. length xs) (e ∙ sym f)) in
@@ -93,7 +103,10 @@ good-rows : (rows : List Row) (b : Bool) (n : ℕ) → is_refusal (replies_text 
 good-rows [] b n = good-end b n
 good-rows (r ∷ rows) b n = good-row r (replies_text (row_replies rows ++ page_end b n ∷ []))
 
-page-does : (kind : Kind) (t : AnyTable) (cursors after : Named Cursor) (name : List ℕ) (n : ℕ) (c : Cursor) → early_refusal (slot_of kind t cursors) (Command.Page name n) ≡ None → lookup name cursors ≡ Some c → after ≡ enter name (next_cursor t.tree.width c n t.tree.table) cursors → Does (engine_of (slot_of kind t cursors)) (Command.Page name n) (engine_of (slot_of kind t after)) (page_replies t c n)
+page-does : (kind : Kind) (t : AnyTable) (cursors after : Named Cursor) (name : List ℕ) (n : ℕ) (c : Cursor) →
+    early_refusal (slot_of kind t cursors) (Command.Page name n) ≡ None → lookup name cursors ≡ Some c →
+    after ≡ enter name (next_cursor t.tree.width c n t.tree.table) cursors →
+    Does (engine_of (slot_of kind t cursors)) (Command.Page name n) (engine_of (slot_of kind t after)) (page_replies t c n)
 page-does kind t cursors after name n c h there e most files fault =
     let s = slot_of kind t cursors in
     let command = Command.Page name n in
@@ -102,47 +115,87 @@ page-does kind t cursors after name n c h there e most files fault =
     ∙ ap (λ x. outcome (engine_of (slot_of kind t x)) files (page_replies t c n)) (sym e)
 
 -- a page that was listed, whose cursor was moved
-pub page-done : (kind : Kind) (t : AnyTable) (cursors after : Named Cursor) (name : List ℕ) (n : ℕ) (c behind : Cursor) (sink now_sink : Taken) (v now_v : ℕ) → early_refusal (slot_of kind t cursors) (Command.Page name n) ≡ None → lookup name cursors ≡ Some c → after ≡ enter name behind cursors → PageListed t c n sink now_sink v now_v behind → DoneWith (slot_of kind t cursors) (Command.Page name n) sink now_sink v now_v (slot_of kind t after) (Ok Good)
+pub page-done : (kind : Kind) (t : AnyTable) (cursors after : Named Cursor) (name : List ℕ) (n : ℕ)
+    (c behind : Cursor) (sink now_sink : Taken) (v now_v : ℕ) →
+    early_refusal (slot_of kind t cursors) (Command.Page name n) ≡ None → lookup name cursors ≡ Some c →
+    after ≡ enter name behind cursors → PageListed t c n sink now_sink v now_v behind →
+    DoneWith (slot_of kind t cursors) (Command.Page name n) sink now_sink v now_v (slot_of kind t after) (Ok Good)
 page-done kind t cursors after name n c behind sink now_sink v now_v h there e listed =
     let s = slot_of kind t cursors in
     let command = Command.Page name n in
     let rows = page t.tree.width c n t.tree.table in
     record {
-      done = λ most files filings changes. done-all most (engine_of s) (engine_of (slot_of kind t after)) (engine_of (slot_of kind t after)) command (page_replies t c n) (beside_sink sink files filings v changes) (beside_sink now_sink files filings now_v changes) (Ok Good) (record { files = refl; filings = refl }) refl refl tt (page-does kind t cursors after name n c h there (e ∙ ap (λ x. enter name x cursors) listed.next)) (λ most files fault. rw there (record { few_visits = listed.visited; few_changes = omega arith })) (λ most files fault. rw (unrefused most s files fault command refl h refl, there) (record { enough_visits = omega (arith, listed.grows); enough_changes = omega arith })) (sym (good-rows rows (has_more t.tree.width c n t.tree.table) (length rows))) listed.told tt tt;
+      done = λ most files filings changes. done-all most (engine_of s) (engine_of (slot_of kind t after))
+          (engine_of (slot_of kind t after)) command (page_replies t c n) (beside_sink sink files filings v changes)
+          (beside_sink now_sink files filings now_v changes) (Ok Good) (record { files = refl; filings = refl }) refl
+          refl tt (page-does kind t cursors after name n c h there (e ∙ ap (λ x. enter name x cursors) listed.next))
+          (λ most files fault. rw there (record { few_visits = listed.visited; few_changes = omega arith }))
+          (λ most files fault. rw (unrefused most s files fault command refl h refl, there)
+          (record { enough_visits = omega (arith, listed.grows); enough_changes = omega arith }))
+          (sym (good-rows rows (has_more t.tree.width c n t.tree.table) (length rows))) listed.told tt tt;
     }
 
 -- a page in which a write failed
-pub page-stopped : (kind : Kind) (t : AnyTable) (cursors : Named Cursor) (name : List ℕ) (n : ℕ) (c : Cursor) (sink now_sink : Taken) (v now_v : ℕ) (stop : Stop) → early_refusal (slot_of kind t cursors) (Command.Page name n) ≡ None → lookup name cursors ≡ Some c → FrontListed (page_replies t c n) (most_to_resume t.tree.width c.last + met t c.lo c.hi) sink now_sink v now_v stop → DoneWith (slot_of kind t cursors) (Command.Page name n) sink now_sink v now_v (slot_of kind t cursors) (Err stop)
+pub page-stopped : (kind : Kind) (t : AnyTable) (cursors : Named Cursor) (name : List ℕ) (n : ℕ) (c : Cursor)
+    (sink now_sink : Taken) (v now_v : ℕ) (stop : Stop) →
+    early_refusal (slot_of kind t cursors) (Command.Page name n) ≡ None → lookup name cursors ≡ Some c →
+    FrontListed (page_replies t c n) (most_to_resume t.tree.width c.last + met t c.lo c.hi) sink now_sink v now_v
+    stop → DoneWith (slot_of kind t cursors) (Command.Page name n) sink now_sink v now_v (slot_of kind t cursors) (Err stop)
 page-stopped kind t cursors name n c sink now_sink v now_v stop h there listed =
     let s = slot_of kind t cursors in
     let after = enter name (next_cursor t.tree.width c n t.tree.table) cursors in
     record {
-      done = λ most files filings changes. done-all most (engine_of s) (engine_of (slot_of kind t after)) (engine_of s) (Command.Page name n) (page_replies t c n) (beside_sink sink files filings v changes) (beside_sink now_sink files filings now_v changes) (Err stop) (record { files = refl; filings = refl }) refl tt refl (page-does kind t cursors after name n c h there refl) (λ most files fault. rw there (record { few_visits = listed.visited; few_changes = omega arith })) tt tt tt listed.fault listed.front;
+      done = λ most files filings changes. done-all most (engine_of s) (engine_of (slot_of kind t after))
+          (engine_of s) (Command.Page name n) (page_replies t c n) (beside_sink sink files filings v changes)
+          (beside_sink now_sink files filings now_v changes) (Err stop) (record { files = refl; filings = refl }) refl
+          tt refl (page-does kind t cursors after name n c h there refl)
+          (λ most files fault. rw there (record { few_visits = listed.visited; few_changes = omega arith })) tt tt tt
+          listed.fault listed.front;
     }
 
 -- ---- listings
 
 -- a command that lists what it found in an engine, and is not refused
-module _ (e : Engine) (command : Command) (replies : List Reply) (least most_visits : ℕ) (sink now_sink : Taken) (files : Option Files) (filings v now_v changes : ℕ) (h : (most : ℕ) (files : Files) (fault : Bool) → refusal most e files fault command ≡ None) (is : (files : Files) → effect e files command ≡ outcome e files replies) (w : (files : Files) → engine_bounds e files command ≡ work most_visits least 0 0) where
+module _ (e : Engine) (command : Command) (replies : List Reply) (least most_visits : ℕ) (sink now_sink : Taken)
+    (files : Option Files) (filings v now_v changes : ℕ) (h : (most : ℕ) (files : Files) (fault : Bool) →
+    refusal most e files fault command ≡ None) (is : (files : Files) →
+    effect e files command ≡ outcome e files replies) (w : (files : Files) →
+    engine_bounds e files command ≡ work most_visits least 0 0) where
   does : Does e command e replies
   does most files fault = ap (λ r. unless_refused r e files command) (h most files fault) ∙ is files
 
   most-of : now_v ≤ v + most_visits → Most e command (beside_sink sink files filings v changes) (beside_sink now_sink files filings now_v changes)
   most-of few most files fault = rw (w files) (record { few_visits = few; few_changes = omega arith })
 
-  pub listing-beside : (most : ℕ) (result : Result Answer Stop) → is_page command ≡ false → is_refusal (replies_text replies) ≡ false → Lists replies least most_visits sink now_sink v now_v result → DoneOr most e command (beside_sink sink files filings v changes) (beside_sink now_sink files filings now_v changes) e result
+  pub listing-beside : (most : ℕ) (result : Result Answer Stop) → is_page command ≡ false →
+      is_refusal (replies_text replies) ≡ false → Lists replies least most_visits sink now_sink v now_v result →
+      DoneOr most e command (beside_sink sink files filings v changes) (beside_sink now_sink files filings now_v changes) e result
   listing-beside most (Ok answer) page good listed =
-      done-all most e e e command replies (beside_sink sink files filings v changes) (beside_sink now_sink files filings now_v changes) (Ok answer) (record { files = refl; filings = refl }) refl refl tt does (most-of listed.few)
+      done-all most e e e command replies (beside_sink sink files filings v changes)
+      (beside_sink now_sink files filings now_v changes) (Ok answer) (record { files = refl; filings = refl })
+      refl refl tt does (most-of listed.few)
       (λ most files fault. rw (h most files fault, w files) (record { enough_visits = listed.enough; enough_changes = omega arith }))
       (rw listed.good (sym good)) listed.told tt tt
   listing-beside most (Err stop) page good listed =
-      done-all most e e e command replies (beside_sink sink files filings v changes) (beside_sink now_sink files filings now_v changes) (Err stop) (record { files = refl; filings = refl }) refl tt (rw page refl) does (most-of listed.visited)
+      done-all most e e e command replies (beside_sink sink files filings v changes)
+      (beside_sink now_sink files filings now_v changes) (Err stop) (record { files = refl; filings = refl }) refl
+      tt (rw page refl) does (most-of listed.visited)
       tt tt tt listed.fault listed.front
 
 -- the same on a slot
-pub listing-done : (s : Slot) (command : Command) (replies : List Reply) (least most_visits : ℕ) (sink now_sink : Taken) (files : Option Files) (filings v now_v changes : ℕ) → early_refusal s command ≡ None → is_on_slot command ≡ true → ((most : ℕ) (files : Files) (fault : Bool) → late_refusal most s files fault command ≡ None) → ((files : Files) → effect (engine_of s) files command ≡ outcome (engine_of s) files replies) → ((files : Files) → engine_bounds (engine_of s) files command ≡ work most_visits least 0 0) → (most : ℕ) (result : Result Answer Stop) → is_page command ≡ false → is_refusal (replies_text replies) ≡ false → Lists replies least most_visits sink now_sink v now_v result → DoneOr most (engine_of s) command (beside_sink sink files filings v changes) (beside_sink now_sink files filings now_v changes) (engine_of s) result
+pub listing-done : (s : Slot) (command : Command) (replies : List Reply) (least most_visits : ℕ)
+    (sink now_sink : Taken) (files : Option Files) (filings v now_v changes : ℕ) → early_refusal s command ≡ None →
+    is_on_slot command ≡ true → ((most : ℕ) (files : Files) (fault : Bool) →
+    late_refusal most s files fault command ≡ None) →
+    ((files : Files) → effect (engine_of s) files command ≡ outcome (engine_of s) files replies) →
+    ((files : Files) → engine_bounds (engine_of s) files command ≡ work most_visits least 0 0) →
+    (most : ℕ) (result : Result Answer Stop) → is_page command ≡ false → is_refusal (replies_text replies) ≡ false →
+    Lists replies least most_visits sink now_sink v now_v result →
+    DoneOr most (engine_of s) command (beside_sink sink files filings v changes)
+    (beside_sink now_sink files filings now_v changes) (engine_of s) result
 listing-done s command replies least most_visits sink now_sink files filings v now_v changes h on late is w most result page good listed =
-    listing-beside (engine_of s) command replies least most_visits sink now_sink files filings v now_v changes (λ most files fault. unrefused most s files fault command on h (late most files fault)) is w most result page good listed
+    listing-beside (engine_of s) command replies least most_visits sink now_sink files filings v now_v changes
+    (λ most files fault. unrefused most s files fault command on h (late most files fault)) is w most result page good listed
 
 pub rows-good : (rows : List Row) → is_refusal (replies_text (listing rows)) ≡ false
 rows-good rows = good-rows rows false (length rows)
@@ -157,15 +210,24 @@ hits-good q [] = refl
 hits-good q (r ∷ rows) = good-hit (distance r.point q) r (replies_text (hit_listing q rows))
 
 -- the nearest rows, or where memory was missing for them
-pub near-done : (most : ℕ) (kind : Kind) (t : AnyTable) (cursors : Named Cursor) (q : List ℤ) (n : ℕ) (sink now_sink : Taken) (files : Option Files) (filings v now_v changes : ℕ) (result : Result Answer Stop) → early_refusal (slot_of kind t cursors) (Command.Near q n) ≡ None → ListsNear t q n sink now_sink v now_v result → DoneOr most (engine_of (slot_of kind t cursors)) (Command.Near q n) (beside_sink sink files filings v changes) (beside_sink now_sink files filings now_v changes) (engine_of (slot_of kind t cursors)) result
+pub near-done : (most : ℕ) (kind : Kind) (t : AnyTable) (cursors : Named Cursor) (q : List ℤ) (n : ℕ)
+    (sink now_sink : Taken) (files : Option Files) (filings v now_v changes : ℕ) (result : Result Answer Stop) →
+    early_refusal (slot_of kind t cursors) (Command.Near q n) ≡ None → ListsNear t q n sink now_sink v now_v result →
+    DoneOr most (engine_of (slot_of kind t cursors)) (Command.Near q n) (beside_sink sink files filings v changes)
+    (beside_sink now_sink files filings now_v changes) (engine_of (slot_of kind t cursors)) result
 near-done most kind t cursors q n sink now_sink files filings v now_v changes (Ok answer) h listed =
-    listing-done (slot_of kind t cursors) (Command.Near q n) (hit_listing q (near q n t.tree.table)) 0 (reached t q n) sink now_sink files filings v now_v changes h refl (λ most files fault. refl) (λ files. refl) (λ files. refl) most (Ok answer) refl (hits-good q (near q n t.tree.table)) listed
+    listing-done (slot_of kind t cursors) (Command.Near q n) (hit_listing q (near q n t.tree.table)) 0 (reached t q n)
+    sink now_sink files filings v now_v changes h refl (λ most files fault. refl) (λ files. refl) (λ files. refl)
+    most (Ok answer) refl (hits-good q (near q n t.tree.table)) listed
 near-done most kind t cursors q n sink now_sink files filings v now_v changes (Err WriteFault) h listed =
-    listing-done (slot_of kind t cursors) (Command.Near q n) (hit_listing q (near q n t.tree.table)) 0 (reached t q n) sink now_sink files filings v now_v changes h refl (λ most files fault. refl) (λ files. refl) (λ files. refl) most (Err WriteFault) refl (hits-good q (near q n t.tree.table)) listed
+    listing-done (slot_of kind t cursors) (Command.Near q n) (hit_listing q (near q n t.tree.table)) 0 (reached t q n)
+    sink now_sink files filings v now_v changes h refl (λ most files fault. refl) (λ files. refl) (λ files. refl)
+    most (Err WriteFault) refl (hits-good q (near q n t.tree.table)) listed
 near-done most kind t cursors q n sink now_sink files filings v now_v changes (Err NoMemory) h listed = record {
   fault = false;
   found = None;
-  filings = no-faults (Command.Near q n) (beside_sink sink files filings v changes) (beside_sink now_sink files filings now_v changes) (record { files = refl; filings = refl });
+  filings = no-faults (Command.Near q n) (beside_sink sink files filings v changes)
+      (beside_sink now_sink files filings now_v changes) (record { files = refl; filings = refl });
   part = 0;
   state = λ files k. refl;
   files = λ known k. told-told files files known refl k;

@@ -46,7 +46,9 @@ use Rattle.ph_engine.proofs.Slotted.{of-kind-still}
 -- ---- pairs that are listed
 
 good-pair : (p : Row × Row) (text : List ℕ) → is_refusal (reply_text (pair_said p) ++ text) ≡ false
-good-pair p text = elim p.0.point as (λ q. is_refusal (reply_text (Reply.PairIs (record { point = q; value = p.0.value }) p.1) ++ text) ≡ false) [ [] ↦ refl | x ∷ q ↦ refl ]
+good-pair p text = elim p.0.point
+    as (λ q. is_refusal (reply_text (Reply.PairIs (record { point = q; value = p.0.value }) p.1) ++ text) ≡ false)
+    [ [] ↦ refl | x ∷ q ↦ refl ]
 
 good-pairs : (ps : List (Row × Row)) (n : ℕ) → is_refusal (replies_text (map pair_said ps ++ Reply.End n ∷ [])) ≡ false
 good-pairs [] n = refl
@@ -66,19 +68,24 @@ module _ (e : Engine) (sink now_sink : Taken) (result : Result Answer Stop) wher
   abbrev by_slots : ℕ → Files → Bool → Option Reply → Option Reply
   by_slots most files fault r = or_else r (slot_refusal most (current e) files fault Command.Join)
 
-  pub join-done : (visits now_visits : ℕ) → join_refusal e.a e.b ≡ None → JoinsSlots e.a e.b sink now_sink visits now_visits result → DoneBeside e Command.Join sink now_sink visits now_visits result
+  pub join-done : (visits now_visits : ℕ) → join_refusal e.a e.b ≡ None →
+      JoinsSlots e.a e.b sink now_sink visits now_visits result → DoneBeside e Command.Join sink now_sink visits now_visits result
   join-done visits now_visits h l =
       let n = join_visits e.a.width e.a.dims e.a.table e.b.table in
       let ps = pairs e.a.table e.b.table in
       record {
         done = λ most files filings changes. listing-beside e Command.Join (pair_listing ps) n n sink now_sink files filings visits now_visits changes
-            (λ most files fault. ap (by_slots most files fault) h ∙ join-on-slot most (current e) files fault) (λ files. refl) (λ files. refl) most result refl (pairs-good ps) l;
+            (λ most files fault. ap (by_slots most files fault) h ∙ join-on-slot most (current e) files fault)
+            (λ files. refl) (λ files. refl) most result refl (pairs-good ps) l;
       }
 
-  pub join-refused : (visits : ℕ) (reply : Told) → join_refusal e.a e.b ≡ Some (reply_of reply) → Tells sink now_sink reply result → DoneBeside e Command.Join sink now_sink visits visits result
+  pub join-refused : (visits : ℕ) (reply : Told) → join_refusal e.a e.b ≡ Some (reply_of reply) →
+      Tells sink now_sink reply result → DoneBeside e Command.Join sink now_sink visits visits result
   join-refused visits reply h t =
       record {
-        done = λ most files filings changes. done-said most e e Command.Join reply (beside_sink sink files filings visits changes) (beside_sink now_sink files filings visits changes) result (record { files = refl; filings = refl }) refl refl
+        done = λ most files filings changes. done-said most e e Command.Join reply
+            (beside_sink sink files filings visits changes) (beside_sink now_sink files filings visits changes) result
+            (record { files = refl; filings = refl }) refl refl
             (λ most files fault. ap (λ r. unless_refused (by_slots most files fault r) e files Command.Join) h)
             (λ most files fault. record { few_visits = omega arith; few_changes = omega arith })
             (λ most files fault. rw h (record { enough_visits = omega arith; enough_changes = omega arith })) t;
@@ -109,7 +116,8 @@ module _ (operation : SetOperation) where
     refused-by (Some r) most files fault h = ap (λ x. or_else x (slot_refusal most (current e) files fault asked)) h
     refused-by None most files fault h = ap (λ x. or_else x (slot_refusal most (current e) files fault asked)) h ∙ combine-on-slot most (current e) files fault
 
-    does-by : (r : Option Reply) (reply : Reply) → reason ≡ r → s ≡ combined_slot r operation (current e) (other e) → reply ≡ combined_reply r operation (current e) (other e) → Does e asked (with_slot e s) (reply ∷ [])
+    does-by : (r : Option Reply) (reply : Reply) → reason ≡ r → s ≡ combined_slot r operation (current e) (other e) →
+        reply ≡ combined_reply r operation (current e) (other e) → Does e asked (with_slot e s) (reply ∷ [])
     does-by (Some r) reply h is said most files fault =
         ap (λ x. unless_refused x e files asked) (refused-by (Some r) most files fault h)
         ∙ (λ i. outcome (sym (ap (with_slot e) is ∙ same e) i) files (sym said i ∷ []))
@@ -117,15 +125,23 @@ module _ (operation : SetOperation) where
         ap (λ x. unless_refused x e files asked) (refused-by None most files fault h)
         ∙ (λ i. outcome (with_slot e (sym is i)) files (sym said i ∷ []))
 
-    few-by : (r : Option Reply) → now_changes ≡ changes + combined_changes r operation (current e) (other e) → (most : ℕ) (files : Files) (fault : Bool) → IsAtMost (work_of most e files fault asked) visits now_visits changes now_changes
+    few-by : (r : Option Reply) → now_changes ≡ changes + combined_changes r operation (current e) (other e) →
+        (most : ℕ) (files : Files) (fault : Bool) →
+        IsAtMost (work_of most e files fault asked) visits now_visits changes now_changes
     few-by (Some r) c most files fault = record { few_visits = k.few; few_changes = omega (arith, c) }
     few-by None c most files fault = record { few_visits = k.few; few_changes = omega (arith, c) }
 
-    enough-by : (r : Option Reply) → reason ≡ r → now_changes ≡ changes + combined_changes r operation (current e) (other e) → (most : ℕ) (files : Files) (fault : Bool) → IsAtLeast (work_of most e files fault asked) visits now_visits changes now_changes
-    enough-by (Some r) h c most files fault = rw (refused-by (Some r) most files fault h) (record { enough_visits = omega (arith, k.later); enough_changes = omega (arith, c) })
+    enough-by : (r : Option Reply) → reason ≡ r →
+        now_changes ≡ changes + combined_changes r operation (current e) (other e) →
+        (most : ℕ) (files : Files) (fault : Bool) →
+        IsAtLeast (work_of most e files fault asked) visits now_visits changes now_changes
+    enough-by (Some r) h c most files fault = rw (refused-by (Some r) most files fault h)
+        (record { enough_visits = omega (arith, k.later); enough_changes = omega (arith, c) })
     enough-by None h c most files fault = rw (refused-by None most files fault h) (record { enough_visits = omega (arith, k.later); enough_changes = omega (arith, c) })
 
-    pub combine-quiet : {E : Type 0} (result : Result Told E) → CombinesSlots operation (current e) (other e) s changes now_changes result → QuietOr e asked visits now_visits changes now_changes (with_slot e s) result
+    pub combine-quiet : {E : Type 0} (result : Result Told E) →
+        CombinesSlots operation (current e) (other e) s changes now_changes result →
+        QuietOr e asked visits now_visits changes now_changes (with_slot e s) result
     combine-quiet (Ok reply) h = record {
       filed = λ most files filings. filed-quietly most e (with_slot e s) asked (reply_of reply) files filings visits now_visits changes now_changes
           (does-by reason (reply_of reply) refl h.slot h.said) (few-by reason h.nodes) (enough-by reason refl h.nodes)
@@ -145,13 +161,21 @@ module _ (operation : SetOperation) where
     }
 
 -- the same by the fields of the code's engine
-pub combine-at-a : {E : Type 0} (operation : SetOperation) (e : Engine) (a b s : Slot) (which : Which) (visits now_visits changes now_changes : ℕ) (result : Result Told E) → record { a = a; b = b; current = which } ≡ e → which ≡ A → VisitsSlots operation a b visits now_visits → CombinesSlots operation a b s changes now_changes result → QuietOr e (Command.Combine operation) visits now_visits changes now_changes (record { a = s; b = b; current = which }) result
+pub combine-at-a : {E : Type 0} (operation : SetOperation) (e : Engine) (a b s : Slot) (which : Which)
+    (visits now_visits changes now_changes : ℕ) (result : Result Told E) →
+    record { a = a; b = b; current = which } ≡ e → which ≡ A → VisitsSlots operation a b visits now_visits →
+    CombinesSlots operation a b s changes now_changes result →
+    QuietOr e (Command.Combine operation) visits now_visits changes now_changes (record { a = s; b = b; current = which }) result
 combine-at-a operation e a b s which visits now_visits changes now_changes result v w k h =
     let at : Engine = record { a = a; b = b; current = A } in
     let is : at ≡ e = ap (λ x. record { a = a; b = b; current = x }) (sym w) ∙ v in
     rw (← is, w) (combine-quiet operation at s visits now_visits changes now_changes k result h)
 
-pub combine-at-b : {E : Type 0} (operation : SetOperation) (e : Engine) (a b s : Slot) (which : Which) (visits now_visits changes now_changes : ℕ) (result : Result Told E) → record { a = a; b = b; current = which } ≡ e → which ≡ B → VisitsSlots operation b a visits now_visits → CombinesSlots operation b a s changes now_changes result → QuietOr e (Command.Combine operation) visits now_visits changes now_changes (record { a = a; b = s; current = which }) result
+pub combine-at-b : {E : Type 0} (operation : SetOperation) (e : Engine) (a b s : Slot) (which : Which)
+    (visits now_visits changes now_changes : ℕ) (result : Result Told E) →
+    record { a = a; b = b; current = which } ≡ e → which ≡ B → VisitsSlots operation b a visits now_visits →
+    CombinesSlots operation b a s changes now_changes result →
+    QuietOr e (Command.Combine operation) visits now_visits changes now_changes (record { a = a; b = s; current = which }) result
 combine-at-b operation e a b s which visits now_visits changes now_changes result v w k h =
     let at : Engine = record { a = a; b = b; current = B } in
     let is : at ≡ e = ap (λ x. record { a = a; b = b; current = x }) (sym w) ∙ v in
@@ -179,9 +203,13 @@ same-kind Boxes Boxes h = refl
 same-kind Points Boxes h = absurd cc
 same-kind Boxes Points h = absurd cc
 
-pub made-frame : (operation : SetOperation) (kind other_kind : Kind) (t u now : AnyTable) (cursors others : Named Cursor) → frame_refusal (slot_of kind t cursors) (slot_of other_kind u others) ≡ None → IsOfKind kind t → IsOfKind other_kind u → now ≡ combined_table operation t u → SameFrame kind t now
+pub made-frame : (operation : SetOperation) (kind other_kind : Kind) (t u now : AnyTable)
+    (cursors others : Named Cursor) → frame_refusal (slot_of kind t cursors) (slot_of other_kind u others) ≡ None →
+    IsOfKind kind t → IsOfKind other_kind u → now ≡ combined_table operation t u → SameFrame kind t now
 made-frame operation kind other_kind t u now cursors others h of_kind other_of_kind is =
-    let same : other_kind ≡ kind = same-kind kind other_kind (right-kind (points_differ (slot_of kind t cursors) (slot_of other_kind u others)) (same_kind kind other_kind) h) in
+    let same : other_kind ≡ kind =
+    same-kind kind other_kind (right-kind (points_differ (slot_of kind t cursors) (slot_of other_kind u others))
+    (same_kind kind other_kind) h) in
     rw is
     (record {
       width = refl;
@@ -193,7 +221,11 @@ made-frame operation kind other_kind t u now cursors others h of_kind other_of_k
 pub kept-frame : (kind : Kind) (t now : AnyTable) → now ≡ t → SameFrame kind t now
 kept-frame kind t now is = rw is (record { width = refl; dims = refl; of_kind = λ h. h })
 
-pub combined-frame : (operation : SetOperation) (kind other_kind : Kind) (t u now : AnyTable) (cursors others : Named Cursor) (changes now_changes : ℕ) (result : Result ℕ SetFault) → frame_refusal (slot_of kind t cursors) (slot_of other_kind u others) ≡ None → IsOfKind kind t → IsOfKind other_kind u → MadeOr operation t u now changes now_changes result → SameFrame kind t now
-combined-frame operation kind other_kind t u now cursors others changes now_changes (Ok count) h k l m = made-frame operation kind other_kind t u now cursors others h k l m.table
+pub combined-frame : (operation : SetOperation) (kind other_kind : Kind) (t u now : AnyTable)
+    (cursors others : Named Cursor) (changes now_changes : ℕ) (result : Result ℕ SetFault) →
+    frame_refusal (slot_of kind t cursors) (slot_of other_kind u others) ≡ None → IsOfKind kind t →
+    IsOfKind other_kind u → MadeOr operation t u now changes now_changes result → SameFrame kind t now
+combined-frame operation kind other_kind t u now cursors others changes now_changes (Ok count) h k l m =
+    made-frame operation kind other_kind t u now cursors others h k l m.table
 combined-frame operation kind other_kind t u now cursors others changes now_changes (Err Full) h k l m = kept-frame kind t now m.stays
 combined-frame operation kind other_kind t u now cursors others changes now_changes (Err NoMemory) h k l m = kept-frame kind t now m.stays

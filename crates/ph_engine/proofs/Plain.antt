@@ -23,10 +23,17 @@ boxed o = record o { engine = engine_of (record (current o.engine) { kind = Boxe
 -- a command of one reply that knows of a slot no more than its rows
 pub record IsPlain (command : Command) : Type 0 where
   pub on_slot : is_on_slot command ≡ true
-  pub unrefused : (t : AnyTable) (cursors : Named Cursor) → early_refusal (slot_of Boxes t cursors) command ≡ None → early_refusal (slot_of Points t cursors) command ≡ None
-  pub late : (most : ℕ) (t : AnyTable) (cursors : Named Cursor) (files : Files) (fault : Bool) → late_refusal most (slot_of Boxes t cursors) files fault command ≡ late_refusal most (slot_of Points t cursors) files fault command
-  pub effect : (t : AnyTable) (cursors : Named Cursor) (files : Files) → effect (engine_of (slot_of Boxes t cursors)) files command ≡ boxed (effect (engine_of (slot_of Points t cursors)) files command)
-  pub bounds : (t : AnyTable) (cursors : Named Cursor) (files : Files) → engine_bounds (engine_of (slot_of Boxes t cursors)) files command ≡ engine_bounds (engine_of (slot_of Points t cursors)) files command
+  pub unrefused : (t : AnyTable) (cursors : Named Cursor) → early_refusal (slot_of Boxes t cursors) command ≡ None →
+      early_refusal (slot_of Points t cursors) command ≡ None
+  pub late : (most : ℕ) (t : AnyTable) (cursors : Named Cursor) (files : Files) (fault : Bool) →
+      late_refusal most (slot_of Boxes t cursors) files fault command ≡ late_refusal most (slot_of Points t cursors)
+      files fault command
+  pub effect : (t : AnyTable) (cursors : Named Cursor) (files : Files) →
+      effect (engine_of (slot_of Boxes t cursors)) files command ≡
+      boxed (effect (engine_of (slot_of Points t cursors)) files command)
+  pub bounds : (t : AnyTable) (cursors : Named Cursor) (files : Files) →
+      engine_bounds (engine_of (slot_of Boxes t cursors)) files command ≡
+      engine_bounds (engine_of (slot_of Points t cursors)) files command
   pub takes : (t : AnyTable) (cursors : Named Cursor) → takes_memory (slot_of Boxes t cursors) command ≡ takes_memory (slot_of Points t cursors) command
   pub no_page : is_page command ≡ false
   pub no_part : (e : Engine) (files : Files) → starved_engine e files command 0 ≡ e
@@ -117,12 +124,16 @@ plain-clear = record {
   no_load = λ s files. refl;
 }
 
-unless-boxed : (r : Option Reply) (t : AnyTable) (cursors : Named Cursor) (files : Files) (command : Command) → IsPlain command → unless_refused r (engine_of (slot_of Boxes t cursors)) files command ≡ boxed (unless_refused r (engine_of (slot_of Points t cursors)) files command)
+unless-boxed : (r : Option Reply) (t : AnyTable) (cursors : Named Cursor) (files : Files) (command : Command) →
+    IsPlain command → unless_refused r (engine_of (slot_of Boxes t cursors)) files command ≡
+    boxed (unless_refused r (engine_of (slot_of Points t cursors)) files command)
 unless-boxed (Some r) t cursors files command p = refl
 unless-boxed None t cursors files command p = p.effect t cursors files
 
 module _ (t : AnyTable) (cursors : Named Cursor) (command : Command) (p : IsPlain command) (h : early_refusal (slot_of Boxes t cursors) command ≡ None) where
-  same-refusal : (most : ℕ) (files : Files) (fault : Bool) → refusal most (engine_of (slot_of Boxes t cursors)) files fault command ≡ refusal most (engine_of (slot_of Points t cursors)) files fault command
+  same-refusal : (most : ℕ) (files : Files) (fault : Bool) →
+      refusal most (engine_of (slot_of Boxes t cursors)) files fault command ≡
+      refusal most (engine_of (slot_of Points t cursors)) files fault command
   same-refusal most files fault =
       let boxes = slot_of Boxes t cursors in
       let points = slot_of Points t cursors in
@@ -132,12 +143,16 @@ module _ (t : AnyTable) (cursors : Named Cursor) (command : Command) (p : IsPlai
       ∙ ap (λ r. or_else r (late_refusal most points files fault command)) (sym (p.unrefused t cursors h))
       ∙ sym (refusal-parts most (engine_of points) files fault command p.on_slot)
 
-  same-act : (most : ℕ) (files : Files) (fault : Bool) → act most (engine_of (slot_of Boxes t cursors)) files fault command ≡ boxed (act most (engine_of (slot_of Points t cursors)) files fault command)
+  same-act : (most : ℕ) (files : Files) (fault : Bool) →
+      act most (engine_of (slot_of Boxes t cursors)) files fault command ≡
+      boxed (act most (engine_of (slot_of Points t cursors)) files fault command)
   same-act most files fault =
       ap (λ r. unless_refused r (engine_of (slot_of Boxes t cursors)) files command) (same-refusal most files fault)
       ∙ unless-boxed (refusal most (engine_of (slot_of Points t cursors)) files fault command) t cursors files command p
 
-  same-work : (most : ℕ) (files : Files) (fault : Bool) → work_of most (engine_of (slot_of Boxes t cursors)) files fault command ≡ work_of most (engine_of (slot_of Points t cursors)) files fault command
+  same-work : (most : ℕ) (files : Files) (fault : Bool) →
+      work_of most (engine_of (slot_of Boxes t cursors)) files fault command ≡
+      work_of most (engine_of (slot_of Points t cursors)) files fault command
   same-work most files fault i =
       let w = p.bounds t cursors files i in
       let r = same-refusal most files fault i in
@@ -145,21 +160,33 @@ module _ (t : AnyTable) (cursors : Named Cursor) (command : Command) (p : IsPlai
 
 -- ---- by the kind of a slot
 
-pub does-at : (kind : Kind) (t now : AnyTable) (cursors : Named Cursor) (command : Command) (reply : Reply) → IsPlain command → early_refusal (slot_of kind t cursors) command ≡ None → DoesAt (slot_of Points t cursors) command (slot_of Points now cursors) (reply ∷ []) → DoesAt (slot_of kind t cursors) command (slot_of kind now cursors) (reply ∷ [])
+pub does-at : (kind : Kind) (t now : AnyTable) (cursors : Named Cursor) (command : Command) (reply : Reply) →
+    IsPlain command → early_refusal (slot_of kind t cursors) command ≡ None →
+    DoesAt (slot_of Points t cursors) command (slot_of Points now cursors) (reply ∷ []) →
+    DoesAt (slot_of kind t cursors) command (slot_of kind now cursors) (reply ∷ [])
 does-at Points t now cursors command reply p h d = d
 does-at Boxes t now cursors command reply p h d = λ most files fault. same-act t cursors command p h most files fault ∙ ap boxed (d most files fault)
 
-pub most-at : (kind : Kind) (t : AnyTable) (cursors : Named Cursor) (command : Command) (v now_v c now_c : ℕ) → IsPlain command → early_refusal (slot_of kind t cursors) command ≡ None → MostAt (slot_of Points t cursors) command v now_v c now_c → MostAt (slot_of kind t cursors) command v now_v c now_c
+pub most-at : (kind : Kind) (t : AnyTable) (cursors : Named Cursor) (command : Command) (v now_v c now_c : ℕ) →
+    IsPlain command → early_refusal (slot_of kind t cursors) command ≡ None →
+    MostAt (slot_of Points t cursors) command v now_v c now_c → MostAt (slot_of kind t cursors) command v now_v c now_c
 most-at Points t cursors command v now_v c now_c p h w = w
-most-at Boxes t cursors command v now_v c now_c p h w = λ most files fault. subst (λ x. IsAtMost x v now_v c now_c) (sym (same-work t cursors command p h most files fault)) (w most files fault)
+most-at Boxes t cursors command v now_v c now_c p h w = λ most files fault. subst (λ x. IsAtMost x v now_v c now_c)
+    (sym (same-work t cursors command p h most files fault)) (w most files fault)
 
-pub least-at : (kind : Kind) (t : AnyTable) (cursors : Named Cursor) (command : Command) (v now_v c now_c : ℕ) → IsPlain command → early_refusal (slot_of kind t cursors) command ≡ None → LeastAt (slot_of Points t cursors) command v now_v c now_c → LeastAt (slot_of kind t cursors) command v now_v c now_c
+pub least-at : (kind : Kind) (t : AnyTable) (cursors : Named Cursor) (command : Command) (v now_v c now_c : ℕ) →
+    IsPlain command → early_refusal (slot_of kind t cursors) command ≡ None →
+    LeastAt (slot_of Points t cursors) command v now_v c now_c → LeastAt (slot_of kind t cursors) command v now_v c now_c
 least-at Points t cursors command v now_v c now_c p h w = w
-least-at Boxes t cursors command v now_v c now_c p h w = λ most files fault. subst (λ x. IsAtLeast x v now_v c now_c) (sym (same-work t cursors command p h most files fault)) (w most files fault)
+least-at Boxes t cursors command v now_v c now_c p h w = λ most files fault. subst (λ x. IsAtLeast x v now_v c now_c)
+    (sym (same-work t cursors command p h most files fault)) (w most files fault)
 
-takes-at : (kind : Kind) (t : AnyTable) (cursors : Named Cursor) (command : Command) → IsPlain command → takes_memory (slot_of kind t cursors) command ≡ takes_memory (slot_of Points t cursors) command
+takes-at : (kind : Kind) (t : AnyTable) (cursors : Named Cursor) (command : Command) → IsPlain command →
+    takes_memory (slot_of kind t cursors) command ≡ takes_memory (slot_of Points t cursors) command
 takes-at Points t cursors command p = refl
 takes-at Boxes t cursors command p = p.takes t cursors
 
-pub wants-at : (kind : Kind) (t : AnyTable) (cursors : Named Cursor) (command : Command) → IsPlain command → early_refusal (slot_of kind t cursors) command ≡ None → takes_memory (slot_of Points t cursors) command ≡ true → wants_memory (engine_of (slot_of kind t cursors)) command ≡ true
+pub wants-at : (kind : Kind) (t : AnyTable) (cursors : Named Cursor) (command : Command) → IsPlain command →
+    early_refusal (slot_of kind t cursors) command ≡ None → takes_memory (slot_of Points t cursors) command ≡ true →
+    wants_memory (engine_of (slot_of kind t cursors)) command ≡ true
 wants-at kind t cursors command p h w = rw ((alone (engine_of (slot_of kind t cursors)) command p.on_slot).1, h) (takes-at kind t cursors command p ∙ w)

@@ -26,12 +26,14 @@ take-within : (xs ys : List ℕ) (n : ℕ) → n ≤ length xs → take n (xs ++
 take-within xs ys n h = grind (arith, common_steps)
 
 -- whole replies, and a front of one more: a front of all replies
-pub front_more : (a b c : Taken) (rs ss : List Reply) (r : Reply) → Given a b (replies_text rs) → WritesFront b c (reply_text r) → WritesFront a c (replies_text (rs ++ r ∷ ss))
+pub front_more : (a b c : Taken) (rs ss : List Reply) (r : Reply) → Given a b (replies_text rs) →
+    WritesFront b c (reply_text r) → WritesFront a c (replies_text (rs ++ r ∷ ss))
 front_more a b c rs ss r h k =
     let e : replies_text (rs ++ r ∷ ss) ≡ replies_text rs ++ (reply_text r ++ replies_text ss) = texts-append rs (r ∷ ss) in
     let g : Given a c (replies_text rs ++ take k.count (reply_text r)) = given_both a b c (replies_text rs) (take k.count (reply_text r)) h k.told in
     let t : take (length (replies_text rs) + k.count) (replies_text rs ++ (reply_text r ++ replies_text ss)) ≡ replies_text rs ++ take k.count (reply_text r) =
-    take-behind (replies_text rs) (reply_text r ++ replies_text ss) k.count ∙ ap (λ x. replies_text rs ++ x) (take-within (reply_text r) (replies_text ss) k.count (omega (arith, k.short))) in
+    take-behind (replies_text rs) (reply_text r ++ replies_text ss) k.count ∙ ap (λ x. replies_text rs ++ x)
+    (take-within (reply_text r) (replies_text ss) k.count (omega (arith, k.short))) in
     record {
       count = length (replies_text rs) + k.count;
       short = rw e (omega (arith, k.short, length-append (replies_text rs) (reply_text r ++ replies_text ss), length-append (reply_text r) (replies_text ss)));
@@ -59,7 +61,8 @@ one_given all rest next r a b c h e k = record {
 pub all_given : (all rest : List Reply) (a b : Taken) → IsGiven all rest a b → rest ≡ [] → Given a b (replies_text all)
 all_given all rest a b h e = let s : all ≡ h.gone = h.split ∙ ap (λ x. h.gone ++ x) e ∙ append-nil h.gone in rw s h.told
 
-pub front_given : (all rest next : List Reply) (r : Reply) (a b c : Taken) → IsGiven all rest a b → rest ≡ r ∷ next → WritesFront b c (reply_text r) → WritesFront a c (replies_text all)
+pub front_given : (all rest next : List Reply) (r : Reply) (a b c : Taken) → IsGiven all rest a b → rest ≡ r ∷ next →
+    WritesFront b c (reply_text r) → WritesFront a c (replies_text all)
 front_given all rest next r a b c h e k =
     let s : all ≡ h.gone ++ r ∷ next = h.split ∙ ap (λ x. h.gone ++ x) e in rw s (front_more a b c h.gone next r h.told k)
 

@@ -1,5 +1,6 @@
 -- A run over the pieces of a source, from what one piece leads to.
-use Rattle.std.proofs.Common.{◌≡◌, ℕ, ◌+◌, ◌≤◌, inl, inr, Bool, true, false, ◌||◌, List, [], ◌∷◌, ◌++◌, length, take, drop, refl, ap, sym, ◌∙◌, append_assoc, append-nil, arith}
+use Rattle.std.proofs.Common.{◌≡◌, ℕ, ◌+◌, ◌≤◌, inl, inr, Bool, true, false, ◌||◌, List, [], ◌∷◌, ◌++◌, length}
+use Rattle.std.proofs.Common.{take, drop, refl, ap, sym, ◌∙◌, append_assoc, append-nil, arith}
 use Rattle.std.specs.Prelude.{Ok, Err}
 use Rattle.std.specs.declared.option.Option.{Option}
 use Rattle.std.proofs.lemmas.List.{take-take, take-append-drop}
@@ -25,7 +26,8 @@ use Rattle.ph_engine.proofs.Sums.{spent_both, worked_both, worked_none}
 use Rattle.ph_engine.proofs.Feeds.{fed-none, then-fed, then-stopped}
 
 -- The run has taken `taken` bytes, has answered the lines that they end, and has the front of an unended line.
-pub record Reached {S : Type 0} (m : Machine S) (left now_left : Option (List ℕ)) (b now_b : Beside) (s now : S) (kept : List ℕ) (refused : Bool) (taken : ℕ) : Type 0 where
+pub record Reached {S : Type 0} (m : Machine S) (left now_left : Option (List ℕ)) (b now_b : Beside) (s now : S)
+    (kept : List ℕ) (refused : Bool) (taken : ℕ) : Type 0 where
   pub bytes : List ℕ
   pub consumed : Consumes left now_left bytes
   pub count : length bytes ≡ taken
@@ -41,31 +43,42 @@ reached-none m left b s kept e = record {
 
 -- ---- lines of bytes that were fed
 
-fed-lines : {S : Type 0} (m : Machine S) (s now : S) (bytes kept : List ℕ) (b now_b : Beside) (refused : Bool) → (h : Fed m s [] bytes b now_b now kept refused) → lines bytes ≡ lines_of h.done ++ lines h.rest
+fed-lines : {S : Type 0} (m : Machine S) (s now : S) (bytes kept : List ℕ) (b now_b : Beside) (refused : Bool) →
+    (h : Fed m s [] bytes b now_b now kept refused) → lines bytes ≡ lines_of h.done ++ lines h.rest
 fed-lines m s now bytes kept b now_b refused h = ap lines h.split ∙ lines-ended (lines_of h.done) h.rest h.unbroken_done
 
-fed-whole : {S : Type 0} (m : Machine S) (s now : S) (bytes kept : List ℕ) (b now_b : Beside) (refused : Bool) → (h : Fed m s [] bytes b now_b now kept refused) → whole_lines bytes ≡ lines_of h.done
+fed-whole : {S : Type 0} (m : Machine S) (s now : S) (bytes kept : List ℕ) (b now_b : Beside) (refused : Bool) →
+    (h : Fed m s [] bytes b now_b now kept refused) → whole_lines bytes ≡ lines_of h.done
 fed-whole m s now bytes kept b now_b refused h =
-    ap whole_lines h.split ∙ whole-ended (lines_of h.done) h.rest h.unbroken_done ∙ ap (λ t. lines_of h.done ++ t) (whole-unbroken h.rest h.unbroken_rest) ∙ append-nil (lines_of h.done)
+    ap whole_lines h.split ∙ whole-ended (lines_of h.done) h.rest h.unbroken_done ∙ ap (λ t. lines_of h.done ++ t)
+    (whole-unbroken h.rest h.unbroken_rest) ∙ append-nil (lines_of h.done)
 
-fed-answers : {S : Type 0} (m : Machine S) (s now : S) (bytes kept : List ℕ) (b now_b : Beside) (refused : Bool) → (h : Fed m s [] bytes b now_b now kept refused) → (ls : List (List ℕ)) → ls ≡ lines_of h.done → Answers m ls b now_b s now
+fed-answers : {S : Type 0} (m : Machine S) (s now : S) (bytes kept : List ℕ) (b now_b : Beside) (refused : Bool) →
+    (h : Fed m s [] bytes b now_b now kept refused) → (ls : List (List ℕ)) → ls ≡ lines_of h.done → Answers m ls b now_b s now
 fed-answers m s now bytes kept b now_b refused h ls e = record { turns = h.done; all = sym e; told = h.told; state = h.state; worked = h.worked }
 
 -- ---- a read fails
 
-pub interrupted : {S : Type 0} (m : Machine S) (most : ℕ) (left middle now_left : Option (List ℕ)) (b now_b : Beside) (s now : S) (kept : List ℕ) (refused : Bool) (taken : ℕ) → Reached m left middle b now_b s now kept refused taken → taken ≤ most → Keeps middle now_left → Interrupted m most left now_left b now_b s now
+pub interrupted : {S : Type 0} (m : Machine S) (most : ℕ) (left middle now_left : Option (List ℕ)) (b now_b : Beside)
+    (s now : S) (kept : List ℕ) (refused : Bool) (taken : ℕ) →
+    Reached m left middle b now_b s now kept refused taken → taken ≤ most → Keeps middle now_left →
+    Interrupted m most left now_left b now_b s now
 interrupted m most left middle now_left b now_b s now kept refused taken h w k =
     let e = fed-whole m s now h.bytes kept b now_b refused h.fed in
     record {
       bytes = h.bytes;
-      consumed = let c : Consumes left now_left (h.bytes ++ []) = consumes_both left middle now_left h.bytes [] h.consumed (consumes_kept middle now_left k) in rw append-nil at c;
+      consumed = let c : Consumes left now_left (h.bytes ++ []) = consumes_both left middle now_left h.bytes []
+          h.consumed (consumes_kept middle now_left k) in rw append-nil at c;
       within = omega (arith, h.count);
       answered = fed-answers m s now h.bytes kept b now_b refused h.fed (whole_lines h.bytes) e;
     }
 
 -- ---- the source is at its end
 
-end-read : {S : Type 0} (m : Machine S) (most : ℕ) (left now_left : Option (List ℕ)) (b now_b last_b : Beside) (s now last : S) (kept : List ℕ) (refused : Bool) (taken : ℕ) (status : Status) → (h : Reached m left now_left b now_b s now kept refused taken) → taken ≤ most → IsAtEnd now_left → AtEnd m now h.fed.rest refused now_b last_b last status → Answered m most left now_left b last_b s last status
+end-read : {S : Type 0} (m : Machine S) (most : ℕ) (left now_left : Option (List ℕ)) (b now_b last_b : Beside)
+    (s now last : S) (kept : List ℕ) (refused : Bool) (taken : ℕ) (status : Status) →
+    (h : Reached m left now_left b now_b s now kept refused taken) → taken ≤ most → IsAtEnd now_left →
+    AtEnd m now h.fed.rest refused now_b last_b last status → Answered m most left now_left b last_b s last status
 end-read m most left now_left b now_b last_b s now last kept refused taken status h w a k =
     let turns = k.answered.turns in
     record {
@@ -80,12 +93,20 @@ end-read m most left now_left b now_b last_b s now last kept refused taken statu
         state = k.answered.state ∙ ap (λ t. after m t turns) h.fed.state ∙ sym (after-append m s h.fed.done turns);
         worked = worked_both m s now h.fed.done turns b now_b last_b h.fed.state h.fed.worked k.answered.worked;
       };
-      refusals = k.refusals ∙ ap read_status (ap (λ t. t || some_refused m now turns) h.fed.refusals ∙ ap (λ t. some_refused m s h.fed.done || some_refused m t turns) h.fed.state ∙ sym (refused-append m s h.fed.done turns));
+      refusals = k.refusals ∙ ap read_status
+          (ap (λ t. t || some_refused m now turns) h.fed.refusals ∙
+          ap (λ t. some_refused m s h.fed.done || some_refused m t turns) h.fed.state ∙
+          sym (refused-append m s h.fed.done turns));
     }
 
-end-or : {S : Type 0} (m : Machine S) (most : ℕ) (left now_left : Option (List ℕ)) (b now_b last_b : Beside) (s now last : S) (kept : List ℕ) (refused : Bool) (taken : ℕ) (status : Status) → (h : Reached m left now_left b now_b s now kept refused taken) → taken ≤ most → IsAtEnd now_left → EndsOr m now h.fed.rest refused now_b last_b last status → Outcome m most left now_left b last_b s last status
-end-or m most left now_left b now_b last_b s now last kept refused taken Clean h w a k = end-read m most left now_left b now_b last_b s now last kept refused taken Clean h w a k
-end-or m most left now_left b now_b last_b s now last kept refused taken Refused h w a k = end-read m most left now_left b now_b last_b s now last kept refused taken Refused h w a k
+end-or : {S : Type 0} (m : Machine S) (most : ℕ) (left now_left : Option (List ℕ)) (b now_b last_b : Beside)
+    (s now last : S) (kept : List ℕ) (refused : Bool) (taken : ℕ) (status : Status) →
+    (h : Reached m left now_left b now_b s now kept refused taken) → taken ≤ most → IsAtEnd now_left →
+    EndsOr m now h.fed.rest refused now_b last_b last status → Outcome m most left now_left b last_b s last status
+end-or m most left now_left b now_b last_b s now last kept refused taken Clean h w a k = end-read m most left now_left
+    b now_b last_b s now last kept refused taken Clean h w a k
+end-or m most left now_left b now_b last_b s now last kept refused taken Refused h w a k =
+    end-read m most left now_left b now_b last_b s now last kept refused taken Refused h w a k
 end-or m most left now_left b now_b last_b s now last kept refused taken by.WriteFault h w a k = record {
   bytes = h.bytes;
   consumed = h.consumed;
@@ -118,7 +139,11 @@ end-or m most left now_left b now_b last_b s now last kept refused taken Usage h
 end-or m most left now_left b now_b last_b s now last kept refused taken ReadFault h w a k = absurd k
 end-or m most left now_left b now_b last_b s now last kept refused taken TooLong h w a k = absurd k
 
-pub at-end : {S : Type 0} (m : Machine S) (most : ℕ) (left middle now_left : Option (List ℕ)) (b now_b last_b : Beside) (s now last : S) (kept none : List ℕ) (refused : Bool) (taken : ℕ) (status : Status) → Reached m left middle b now_b s now kept refused taken → taken ≤ most → Consumes middle now_left none → none ≡ [] → IsAtEnd now_left → Ends m now kept refused now_b last_b last status → Outcome m most left now_left b last_b s last status
+pub at-end : {S : Type 0} (m : Machine S) (most : ℕ) (left middle now_left : Option (List ℕ))
+    (b now_b last_b : Beside) (s now last : S) (kept none : List ℕ) (refused : Bool) (taken : ℕ) (status : Status) →
+    Reached m left middle b now_b s now kept refused taken → taken ≤ most → Consumes middle now_left none →
+    none ≡ [] → IsAtEnd now_left → Ends m now kept refused now_b last_b last status →
+    Outcome m most left now_left b last_b s last status
 at-end m most left middle now_left b now_b last_b s now last kept none refused taken status h w c e a k =
     let d : Consumes left now_left (h.bytes ++ none) = consumes_both left middle now_left h.bytes none h.consumed c in
     let r : Reached m left now_left b now_b s now kept refused taken = record { bytes = h.bytes; consumed = rw (e, append-nil) at d; count = h.count; fed = h.fed } in
@@ -127,7 +152,11 @@ at-end m most left middle now_left b now_b last_b s now last kept none refused t
 -- ---- a piece
 
 -- the piece is fed whole
-pub reached-more : {S : Type 0} (m : Machine S) (left middle now_left : Option (List ℕ)) (b now_b last_b : Beside) (s now last : S) (kept next piece fresh : List ℕ) (refused some all : Bool) (taken count : ℕ) → Reached m left middle b now_b s now kept refused taken → Consumes middle now_left (take count piece) → count ≤ length piece → fresh ≡ take count piece → Feeds m now kept fresh now_b last_b last next (Ok some) → all ≡ (refused || some) → Reached m left now_left b last_b s last next all (taken + count)
+pub reached-more : {S : Type 0} (m : Machine S) (left middle now_left : Option (List ℕ)) (b now_b last_b : Beside)
+    (s now last : S) (kept next piece fresh : List ℕ) (refused some all : Bool) (taken count : ℕ) →
+    Reached m left middle b now_b s now kept refused taken → Consumes middle now_left (take count piece) →
+    count ≤ length piece → fresh ≡ take count piece → Feeds m now kept fresh now_b last_b last next (Ok some) →
+    all ≡ (refused || some) → Reached m left now_left b last_b s last next all (taken + count)
 reached-more m left middle now_left b now_b last_b s now last kept next piece fresh refused some all taken count h c w e k a = record {
   bytes = h.bytes ++ take count piece;
   consumed = consumes_both left middle now_left h.bytes (take count piece) h.consumed c;
@@ -136,12 +165,19 @@ reached-more m left middle now_left b now_b last_b s now last kept next piece fr
 }
 
 -- one byte too many is read
-pub exceeded : {S : Type 0} (m : Machine S) (most : ℕ) (left middle now_left : Option (List ℕ)) (b now_b last_b : Beside) (s now last : S) (kept next piece fresh : List ℕ) (refused some : Bool) (taken count front : ℕ) → Reached m left middle b now_b s now kept refused taken → Consumes middle now_left (take count piece) → count ≤ length piece → front ≤ count → fresh ≡ take front piece → taken + front ≡ most → taken + count ≡ most + 1 → Feeds m now kept fresh now_b last_b last next (Ok some) → Exceeded m most left now_left b last_b s last
+pub exceeded : {S : Type 0} (m : Machine S) (most : ℕ) (left middle now_left : Option (List ℕ))
+    (b now_b last_b : Beside) (s now last : S) (kept next piece fresh : List ℕ) (refused some : Bool)
+    (taken count front : ℕ) → Reached m left middle b now_b s now kept refused taken →
+    Consumes middle now_left (take count piece) → count ≤ length piece → front ≤ count → fresh ≡ take front piece →
+    taken + front ≡ most → taken + count ≡ most + 1 → Feeds m now kept fresh now_b last_b last next (Ok some) →
+    Exceeded m most left now_left b last_b s last
 exceeded m most left middle now_left b now_b last_b s now last kept next piece fresh refused some taken count front h c w f e t o k =
     let fed : Fed m s [] (h.bytes ++ take front piece) b last_b last next (refused || some) =
-    then-fed m s [] h.bytes fresh (h.bytes ++ take front piece) kept next b now_b last_b now last refused some (refused || some) h.fed k (ap (λ x. h.bytes ++ x) e) refl in
+    then-fed m s [] h.bytes fresh (h.bytes ++ take front piece) kept next b now_b last_b now last refused some
+    (refused || some) h.fed k (ap (λ x. h.bytes ++ x) e) refl in
     let early : take most (h.bytes ++ take count piece) ≡ h.bytes ++ take front piece = take_within h.bytes piece most front count f w (omega (arith, h.count)) in
-    let l : whole_lines (take most (h.bytes ++ take count piece)) ≡ lines_of fed.done = ap whole_lines early ∙ fed-whole m s last (h.bytes ++ take front piece) next b last_b (refused || some) fed in
+    let l : whole_lines (take most (h.bytes ++ take count piece)) ≡ lines_of fed.done = ap whole_lines early ∙
+    fed-whole m s last (h.bytes ++ take front piece) next b last_b (refused || some) fed in
     record {
       bytes = h.bytes ++ take count piece;
       consumed = consumes_both left middle now_left h.bytes (take count piece) h.consumed c;
@@ -149,11 +185,15 @@ exceeded m most left middle now_left b now_b last_b s now last kept next piece f
       answered = fed-answers m s last (h.bytes ++ take front piece) next b last_b (refused || some) fed (whole_lines (take most (h.bytes ++ take count piece))) l;
     }
 
-stop-lines : (bytes : List ℕ) (done : List (List ℕ)) (line more : List ℕ) → bytes ≡ ended (done ++ line ∷ []) ++ more → are_unbroken done ≡ true → is_unbroken line ≡ true → whole_lines bytes ≡ done ++ line ∷ whole_lines more
+stop-lines : (bytes : List ℕ) (done : List (List ℕ)) (line more : List ℕ) →
+    bytes ≡ ended (done ++ line ∷ []) ++ more → are_unbroken done ≡ true → is_unbroken line ≡ true →
+    whole_lines bytes ≡ done ++ line ∷ whole_lines more
 stop-lines bytes done line more e u v =
     ap whole_lines e ∙ whole-ended (done ++ line ∷ []) more (all-append _ done (line ∷ []) u (rw v refl)) ∙ append_assoc done (line ∷ []) (whole_lines more)
 
-stop-or : {S : Type 0} (m : Machine S) (most : ℕ) (left now_left : Option (List ℕ)) (b now_b : Beside) (s now : S) (kept bytes : List ℕ) (stop : Stop) → Consumes left now_left bytes → length bytes ≤ most + 1 → FedOr m s [] bytes b now_b now kept (Err stop) → Outcome m most left now_left b now_b s now (stop_status stop)
+stop-or : {S : Type 0} (m : Machine S) (most : ℕ) (left now_left : Option (List ℕ)) (b now_b : Beside) (s now : S)
+    (kept bytes : List ℕ) (stop : Stop) → Consumes left now_left bytes → length bytes ≤ most + 1 →
+    FedOr m s [] bytes b now_b now kept (Err stop) → Outcome m most left now_left b now_b s now (stop_status stop)
 stop-or m most left now_left b now_b s now kept bytes WriteFault c w h = record {
   bytes = bytes;
   consumed = c;
@@ -187,13 +227,19 @@ front-rest : (piece : List ℕ) (front count : ℕ) → front ≤ count → take
 front-rest piece front count h = ap (λ t. t ++ drop front (take count piece)) (sym (take-take front count piece h)) ∙ take-append-drop front (take count piece)
 
 -- a line of the piece ends the run
-pub stopped : {S : Type 0} (m : Machine S) (most : ℕ) (left middle now_left : Option (List ℕ)) (b now_b last_b : Beside) (s now last : S) (kept next piece fresh : List ℕ) (refused : Bool) (taken count front : ℕ) (stop : Stop) → Reached m left middle b now_b s now kept refused taken → Consumes middle now_left (take count piece) → count ≤ length piece → front ≤ count → fresh ≡ take front piece → taken + count ≤ most + 1 → Feeds m now kept fresh now_b last_b last next (Err stop) → Outcome m most left now_left b last_b s last (stop_status stop)
+pub stopped : {S : Type 0} (m : Machine S) (most : ℕ) (left middle now_left : Option (List ℕ))
+    (b now_b last_b : Beside) (s now last : S) (kept next piece fresh : List ℕ) (refused : Bool)
+    (taken count front : ℕ) (stop : Stop) → Reached m left middle b now_b s now kept refused taken →
+    Consumes middle now_left (take count piece) → count ≤ length piece → front ≤ count → fresh ≡ take front piece →
+    taken + count ≤ most + 1 → Feeds m now kept fresh now_b last_b last next (Err stop) →
+    Outcome m most left now_left b last_b s last (stop_status stop)
 stopped m most left middle now_left b now_b last_b s now last kept next piece fresh refused taken count front stop h c w f e o k =
     stop-or m most left now_left b last_b s last next (h.bytes ++ take count piece) stop
     (consumes_both left middle now_left h.bytes (take count piece) h.consumed c)
     (omega (arith, length_more h.bytes piece count taken h.count w))
     (then-stopped m s [] h.bytes fresh (drop front (take count piece)) (h.bytes ++ take count piece) kept next b now_b last_b now last refused stop h.fed k
-    (append_assoc h.bytes fresh (drop front (take count piece)) ∙ ap (λ t. h.bytes ++ t) (ap (λ t. t ++ drop front (take count piece)) e ∙ front-rest piece front count f)))
+    (append_assoc h.bytes fresh (drop front (take count piece)) ∙
+    ap (λ t. h.bytes ++ t) (ap (λ t. t ++ drop front (take count piece)) e ∙ front-rest piece front count f)))
 
 -- ---- memory is missing before the first read
 

@@ -1,5 +1,6 @@
 -- What a search for a line feed tells of a piece.
-use Rattle.std.proofs.Common.{◌≡◌, ℕ, zero, suc, ◌+◌, ◌<◌, ◌≤◌, Bool, true, false, not, List, [], ◌∷◌, ◌++◌, length, take, drop, get_or, refl, ap, sym, ◌∙◌, arith, length-drop}
+use Rattle.std.proofs.Common.{◌≡◌, ℕ, zero, suc, ◌+◌, ◌<◌, ◌≤◌, Bool, true, false, not, List, [], ◌∷◌, ◌++◌}
+use Rattle.std.proofs.Common.{length, take, drop, get_or, refl, ap, sym, ◌∙◌, arith, length-drop}
 use Rattle.std.specs.Prelude.{◌==◌, nat_lt}
 use Rattle.std.proofs.lemmas.List.Sums.{fails_before_first, passes_at_first}
 use Rattle.ph_script.specs.Shown.{is_feed, feed_at, before_feed, unended}
@@ -53,12 +54,15 @@ feed-unbroken bytes l = front-unbroken bytes (feed_at bytes) (omega (arith, l)) 
 pub none-unbroken : (bytes : List ℕ) → feed_at bytes ≡ length bytes → is_unbroken bytes ≡ true
 none-unbroken bytes e = all-unbroken bytes (λ k l. fails bytes k (omega (arith, e, l)))
 
-pub feed-next : (piece : List ℕ) (at next : ℕ) → feed_at (drop at piece) < length (drop at piece) → next ≡ at + feed_at (drop at piece) + 1 → take at piece ++ (before_feed (drop at piece) ++ LF ∷ []) ≡ take next piece
+pub feed-next : (piece : List ℕ) (at next : ℕ) → feed_at (drop at piece) < length (drop at piece) →
+    next ≡ at + feed_at (drop at piece) + 1 → take at piece ++ (before_feed (drop at piece) ++ LF ∷ []) ≡ take next piece
 feed-next piece at next l e =
     let n : next ≡ at + suc (feed_at (drop at piece)) = omega (arith, e) in
-    ap (λ t. take at piece ++ t) (parted (drop at piece) (feed_at (drop at piece)) l (passes (drop at piece) l)) ∙ rw n (take_plus piece at (suc (feed_at (drop at piece))))
+    ap (λ t. take at piece ++ t) (parted (drop at piece) (feed_at (drop at piece)) l (passes (drop at piece) l)) ∙
+    rw n (take_plus piece at (suc (feed_at (drop at piece))))
 
-pub feed-within : (piece : List ℕ) (at next : ℕ) → at ≤ length piece → feed_at (drop at piece) < length (drop at piece) → next ≡ at + feed_at (drop at piece) + 1 → next ≤ length piece
+pub feed-within : (piece : List ℕ) (at next : ℕ) → at ≤ length piece →
+    feed_at (drop at piece) < length (drop at piece) → next ≡ at + feed_at (drop at piece) + 1 → next ≤ length piece
 feed-within piece at next w l e = omega (arith, e, l, length-drop at piece)
 
 pub whole : (piece : List ℕ) (at : ℕ) → take at piece ++ drop at piece ≡ piece

@@ -1,5 +1,6 @@
 -- A run of generated commands, one more at a time, from what each of them answers.
-use Rattle.std.proofs.Common.{◌≡◌, ◌≤◌, ◌<◌, ◌+◌, ◌-◌, ◌%◌, ◌^◌, ℕ, zero, suc, inl, inr, arith, Bool, true, false, List, [], ◌∷◌, ◌++◌, length, take, refl, ap, sym, ◌∙◌, append_assoc, append-nil}
+use Rattle.std.proofs.Common.{◌≡◌, ◌≤◌, ◌<◌, ◌+◌, ◌-◌, ◌%◌, ◌^◌, ℕ, zero, suc, inl, inr, arith, Bool, true, false, List}
+use Rattle.std.proofs.Common.{[], ◌∷◌, ◌++◌, length, take, refl, ap, sym, ◌∙◌, append_assoc, append-nil}
 use Rattle.std.proofs.lemmas.Grind.{common_steps}
 use Rattle.std.specs.Prelude.{Option, Some, None, nat_le, ◌&&◌, slice_index_or, codes, decimal, pos, ◌+ℤ◌}
 use Rattle.std.specs.List.{list_all}
@@ -53,7 +54,8 @@ draws-drawn t u v r =
     let y = small_coordinate v in
     let p = x ∷ y ∷ [] in
     let put = Command.Put p r in
-    some-drawn (put ∷ put ∷ put ∷ Command.Get p ∷ Command.Del p ∷ Command.Relocate p (y ∷ x ∷ []) ∷ Command.Window p ((x +ℤ pos 7) ∷ (y +ℤ pos 7) ∷ []) ∷ Command.Near p 4 ∷ []) (t % 8) put refl refl
+    some-drawn (put ∷ put ∷ put ∷ Command.Get p ∷ Command.Del p ∷ Command.Relocate p (y ∷ x ∷ []) ∷
+    Command.Window p ((x +ℤ pos 7) ∷ (y +ℤ pos 7) ∷ []) ∷ Command.Near p 4 ∷ []) (t % 8) put refl refl
 
 pub all_drawn : (n state : ℕ) → AreDrawn (generate_from n state)
 all_drawn zero state = refl
@@ -62,7 +64,8 @@ all_drawn (suc n) state =
     let u = next_state t in
     let v = next_state u in
     let r = next_state v in
-    both (is_drawn (command_of_draws (draw_of t) (draw_of u) (draw_of v) (draw_of r))) (list_all is_drawn (generate_from n r)) (draws-drawn (draw_of t) (draw_of u) (draw_of v) (draw_of r)) (all_drawn n r)
+    both (is_drawn (command_of_draws (draw_of t) (draw_of u) (draw_of v) (draw_of r)))
+    (list_all is_drawn (generate_from n r)) (draws-drawn (draw_of t) (draw_of u) (draw_of v) (draw_of r)) (all_drawn n r)
 
 -- they read no file
 drawn-reads : (command : Command) → is_drawn command ≡ true → file_read command ≡ None
@@ -85,7 +88,8 @@ effect-files e files (Command.Window lo hi) h = refl
 effect-files e files (Command.Near q n) h = refl
 effect-files e files command h = absurd cc
 
-unless-files : (r : Option Reply) (e : Engine) (files : Files) (command : Command) → (effect e files command).files ≡ files → (unless_refused r e files command).files ≡ files
+unless-files : (r : Option Reply) (e : Engine) (files : Files) (command : Command) →
+    (effect e files command).files ≡ files → (unless_refused r e files command).files ≡ files
 unless-files (Some r) e files command h = refl
 unless-files None e files command h = h
 
@@ -93,7 +97,8 @@ drawn-files : (most : ℕ) (e : Engine) (files : Files) (command : Command) → 
 drawn-files most e files command h = unless-files (refusal most e files false command) e files command (effect-files e files command h)
 
 -- and the number of dimensions
-past-dims : (which : Which) (a b : Slot) (k : Past) → let e : Engine = record { a = a; b = b; current = which } in (current (with_slot e (with_past (current e) k))).dims ≡ (current e).dims
+past-dims : (which : Which) (a b : Slot) (k : Past) → let e : Engine = record { a = a; b = b; current = which } in
+    (current (with_slot e (with_past (current e) k))).dims ≡ (current e).dims
 past-dims A a b k = refl
 past-dims B a b k = refl
 
@@ -106,16 +111,21 @@ effect-dims e files (Command.Window lo hi) h = refl
 effect-dims e files (Command.Near q n) h = refl
 effect-dims e files command h = absurd cc
 
-unless-dims : (r : Option Reply) (e : Engine) (files : Files) (command : Command) → (current (effect e files command).engine).dims ≡ (current e).dims → (current (unless_refused r e files command).engine).dims ≡ (current e).dims
+unless-dims : (r : Option Reply) (e : Engine) (files : Files) (command : Command) →
+    (current (effect e files command).engine).dims ≡ (current e).dims →
+    (current (unless_refused r e files command).engine).dims ≡ (current e).dims
 unless-dims (Some r) e files command h = refl
 unless-dims None e files command h = h
 
-drawn-dims : (most : ℕ) (e : Engine) (files : Files) (command : Command) → is_drawn command ≡ true → (current (act most e files false command).engine).dims ≡ (current e).dims
+drawn-dims : (most : ℕ) (e : Engine) (files : Files) (command : Command) → is_drawn command ≡ true →
+    (current (act most e files false command).engine).dims ≡ (current e).dims
 drawn-dims most e files command h = unless-dims (refusal most e files false command) e files command (effect-dims e files command h)
 
 -- ---- the fold over commands
 
-act_all-append : (most : ℕ) (e : Engine) (files : Files) (xs ys : List Command) → act_all most e files (xs ++ ys) ≡ after (act_all most e files xs).replies (act_all most (act_all most e files xs).engine (act_all most e files xs).files ys)
+act_all-append : (most : ℕ) (e : Engine) (files : Files) (xs ys : List Command) →
+    act_all most e files (xs ++ ys) ≡ after (act_all most e files xs).replies
+    (act_all most (act_all most e files xs).engine (act_all most e files xs).files ys)
 act_all-append most e files [] ys = refl
 act_all-append most e files (c ∷ xs) ys =
     let o = act most e files false c in
@@ -123,19 +133,25 @@ act_all-append most e files (c ∷ xs) ys =
     let last = act_all most rest.engine rest.files ys in
     ap (after o.replies) (act_all-append most o.engine o.files xs ys) ∙ ap (outcome last.engine last.files) (sym (append_assoc o.replies rest.replies last.replies))
 
-sum-append : (bound : Work → ℕ) (most : ℕ) (e : Engine) (files : Files) (xs ys : List Command) → sum_work bound most e files (xs ++ ys) ≡ sum_work bound most e files xs + sum_work bound most (act_all most e files xs).engine (act_all most e files xs).files ys
+sum-append : (bound : Work → ℕ) (most : ℕ) (e : Engine) (files : Files) (xs ys : List Command) →
+    sum_work bound most e files (xs ++ ys) ≡ sum_work bound most e files xs + sum_work bound most
+    (act_all most e files xs).engine (act_all most e files xs).files ys
 sum-append bound most e files [] ys = omega arith
 sum-append bound most e files (c ∷ xs) ys = let o = act most e files false c in omega (arith, sum-append bound most o.engine o.files xs ys)
 
 -- the same of a command and those behind it, in the state that the first commands lead to
-sum-behind : (bound : Work → ℕ) (most : ℕ) (e now : Engine) (files : Files) (xs : List Command) (c : Command) (ys : List Command) → now ≡ (act_all most e files xs).engine → files ≡ (act_all most e files xs).files → sum_work bound most e files xs + bound (work_of most now files false c) ≤ sum_work bound most e files (xs ++ c ∷ ys)
+sum-behind : (bound : Work → ℕ) (most : ℕ) (e now : Engine) (files : Files) (xs : List Command) (c : Command)
+    (ys : List Command) → now ≡ (act_all most e files xs).engine → files ≡ (act_all most e files xs).files →
+    sum_work bound most e files xs + bound (work_of most now files false c) ≤ sum_work bound most e files (xs ++ c ∷ ys)
 sum-behind bound most e now files xs c ys l k =
     let before = act_all most e files xs in
     let s : bound (work_of most now files false c) ≡ bound (work_of most before.engine before.files false c) =
     ap (λ x. bound (work_of most x files false c)) l ∙ ap (λ x. bound (work_of most before.engine x false c)) k in
     omega (arith, sum-append bound most e files xs (c ∷ ys), s)
 
-sum-more : (bound : Work → ℕ) (most : ℕ) (e now : Engine) (files : Files) (xs : List Command) (c : Command) → now ≡ (act_all most e files xs).engine → files ≡ (act_all most e files xs).files → sum_work bound most e files (xs ++ c ∷ []) ≡ sum_work bound most e files xs + bound (work_of most now files false c)
+sum-more : (bound : Work → ℕ) (most : ℕ) (e now : Engine) (files : Files) (xs : List Command) (c : Command) →
+    now ≡ (act_all most e files xs).engine → files ≡ (act_all most e files xs).files →
+    sum_work bound most e files (xs ++ c ∷ []) ≡ sum_work bound most e files xs + bound (work_of most now files false c)
 sum-more bound most e now files xs c l k =
     let before = act_all most e files xs in
     let s : bound (work_of most now files false c) ≡ bound (work_of most before.engine before.files false c) =
@@ -164,7 +180,10 @@ no-fault true (inr h) = absurd (omega (arith, h))
 drawn-knows : (command : Command) (told : Option Files) (found : Option (List ℕ)) (files : Files) → is_drawn command ≡ true → Knows command told found files
 drawn-knows command told found files h = inr (let at : HoldsFound None files found = tt in rw (drawn-reads command h) at)
 
-soaked-more : (most : ℕ) (e now next : Engine) (files : Files) (commands : List Command) (command : Command) (start b now_b : Beside) (answer : Answer) → is_drawn command ≡ true → b.files ≡ None → b.filings ≡ 0 → now_b.filings ≡ 0 → Soaked most e files commands start b now → Done most now command b now_b next answer → Soaked most e files (commands ++ command ∷ []) start now_b next
+soaked-more : (most : ℕ) (e now next : Engine) (files : Files) (commands : List Command) (command : Command)
+    (start b now_b : Beside) (answer : Answer) → is_drawn command ≡ true → b.files ≡ None → b.filings ≡ 0 →
+    now_b.filings ≡ 0 → Soaked most e files commands start b now → Done most now command b now_b next answer →
+    Soaked most e files (commands ++ command ∷ []) start now_b next
 soaked-more most e now next files commands command start b now_b answer drawn untold none stand h d =
     let knows = drawn-knows command b.files d.found files drawn in
     let f : d.fault ≡ false = no-fault d.fault (let t : Tells b.filings now_b.filings (one_if d.fault) = d.filings.told in rw (none, stand) at t) in
@@ -173,7 +192,8 @@ soaked-more most e now next files commands command start b now_b answer drawn un
     let same : files ≡ l.after = sym (drawn-files most now files command drawn) ∙ ap (λ x. x.files) led in
     let before = act_all most e files commands in
     let o : act most before.engine before.files false command ≡ outcome next files d.replies =
-    ap (λ x. act most x before.files false command) (sym h.led) ∙ ap (λ x. act most now x false command) (sym h.kept) ∙ led ∙ ap (λ x. outcome next x d.replies) (sym same) in
+    ap (λ x. act most x before.files false command) (sym h.led) ∙ ap (λ x. act most now x false command)
+    (sym h.kept) ∙ led ∙ ap (λ x. outcome next x d.replies) (sym same) in
     let all : act_all most e files (commands ++ command ∷ []) ≡ outcome next files (before.replies ++ (d.replies ++ [])) =
     act_all-append most e files commands (command ∷ []) ∙ ap (λ x. after before.replies (after x.replies (outcome x.engine x.files []))) o in
     let most_done : IsAtMost (work_of most now files false command) b.visits now_b.visits b.changes now_b.changes = (let w = d.most_work files knows in rw f at w) in
@@ -183,7 +203,8 @@ soaked-more most e now next files commands command start b now_b answer drawn un
       kept = ap (λ x. x.files) (sym all);
       told = let g : Given start.sink now_b.sink (replies_text before.replies ++ replies_text d.replies) = given_both start.sink b.sink now_b.sink _ _ h.told d.told in
           let t : replies_text (act_all most e files (commands ++ command ∷ [])).replies ≡ replies_text before.replies ++ replies_text d.replies =
-          ap (λ x. replies_text x.replies) all ∙ texts-append before.replies (d.replies ++ []) ∙ ap (λ x. replies_text before.replies ++ replies_text x) (append-nil d.replies) in
+          ap (λ x. replies_text x.replies) all ∙ texts-append before.replies (d.replies ++ []) ∙
+          ap (λ x. replies_text before.replies ++ replies_text x) (append-nil d.replies) in
           rw t g;
       most_visits = omega (arith, h.most_visits, most_done.few_visits, sum-more (λ w. w.most_visits) most e now files commands command h.led h.kept);
       most_changes = omega (arith, h.most_changes, most_done.few_changes, sum-more (λ w. w.most_changes) most e now files commands command h.led h.kept);
@@ -204,7 +225,10 @@ pub record SoakedSoFar (most : ℕ) (e : Engine) (all : List Command) (b now_b :
 pub soak_begun : (most : ℕ) (e : Engine) (all : List Command) (b : Beside) → AreDrawn all → (current e).dims ≡ 2 → SoakedSoFar most e all b b e all
 soak_begun most e all b drawn dims = record { finished = []; cut = refl; drawn = drawn; dims = dims; soaked = λ files. soaked-none most e files b }
 
-pub soak_next : (most : ℕ) (e now next : Engine) (all : List Command) (command : Command) (rest : List Command) (start b now_b : Beside) (answer : Answer) → b.files ≡ None → b.filings ≡ 0 → now_b.filings ≡ 0 → SoakedSoFar most e all start b now (command ∷ rest) → Done most now command b now_b next answer → SoakedSoFar most e all start now_b next rest
+pub soak_next : (most : ℕ) (e now next : Engine) (all : List Command) (command : Command) (rest : List Command)
+    (start b now_b : Beside) (answer : Answer) → b.files ≡ None → b.filings ≡ 0 → now_b.filings ≡ 0 →
+    SoakedSoFar most e all start b now (command ∷ rest) → Done most now command b now_b next answer →
+    SoakedSoFar most e all start now_b next rest
 soak_next most e now next all command rest start b now_b answer untold none stand h d =
     let drawn = both-first (is_drawn command) (list_all is_drawn rest) h.drawn in
     let soaked = λ (files : Files). soaked-more most e now next files h.finished command start b now_b answer drawn untold none stand (h.soaked files) d in
@@ -218,7 +242,9 @@ soak_next most e now next all command rest start b now_b answer untold none stan
       soaked = soaked;
     }
 
-pub soak_starved : (most : ℕ) (e now next : Engine) (all : List Command) (command : Command) (rest : List Command) (start b now_b : Beside) → b.files ≡ None → SoakedSoFar most e all start b now (command ∷ rest) → Undone most now command b now_b next → SoakedInPart most e all start now_b next
+pub soak_starved : (most : ℕ) (e now next : Engine) (all : List Command) (command : Command) (rest : List Command)
+    (start b now_b : Beside) → b.files ≡ None → SoakedSoFar most e all start b now (command ∷ rest) →
+    Undone most now command b now_b next → SoakedInPart most e all start now_b next
 soak_starved most e now next all command rest start b now_b untold h d =
     let drawn = both-first (is_drawn command) (list_all is_drawn rest) h.drawn in
     let knows = λ (files : Files). drawn-knows command b.files d.found files drawn in
@@ -259,23 +285,31 @@ sizes_line n sizes bytes = line_of (codes "soak" ∷ decimal n ∷ stats_words s
 abbrev slot_line : ℕ → Slot → ℕ → List ℕ
 slot_line n s bytes = sizes_line n (stats s.width s.dims s.table) bytes
 
-pub sizes_line_is : (n : ℕ) (sizes : Stats) (s slot : Slot) (taken bytes : ℕ) → sizes ≡ stats s.width s.dims s.table → s ≡ slot → taken ≡ bytes → sizes_line n sizes taken ≡ slot_line n slot bytes
-sizes_line_is n sizes s slot taken bytes sized same counted = ap (λ x. sizes_line n x taken) (sized ∙ ap (λ x. stats x.width x.dims x.table) same) ∙ ap (slot_line n slot) counted
+pub sizes_line_is : (n : ℕ) (sizes : Stats) (s slot : Slot) (taken bytes : ℕ) → sizes ≡ stats s.width s.dims s.table →
+    s ≡ slot → taken ≡ bytes → sizes_line n sizes taken ≡ slot_line n slot bytes
+sizes_line_is n sizes s slot taken bytes sized same counted = ap (λ x. sizes_line n x taken)
+    (sized ∙ ap (λ x. stats x.width x.dims x.table) same) ∙ ap (slot_line n slot) counted
 
 -- ---- how a soak ends
 
 -- all commands were done, and the sizes were counted
-module _ (most n start : ℕ) (e now : Engine) (visits counted_visits now_visits changes now_changes bytes : ℕ) (soaked : (files : Files) → Soaked most (opened e []) files (generate n start) (beside None (Some 0) None 0 visits changes) (beside None (Some bytes) None 0 counted_visits now_changes) now) (fits : bytes ≤ 2 ^ 64 - 1) (sized : now_visits ≡ counted_visits + nodes_of now.a) where
+module _ (most n start : ℕ) (e now : Engine) (visits counted_visits now_visits changes now_changes bytes : ℕ)
+    (soaked : (files : Files) → Soaked most (opened e []) files (generate n start)
+    (beside None (Some 0) None 0 visits changes) (beside None (Some bytes) None 0 counted_visits now_changes) now)
+    (fits : bytes ≤ 2 ^ 64 - 1) (sized : now_visits ≡ counted_visits + nodes_of now.a) where
   line-is : (files : Files) → slot_line n now.a bytes ≡ soak_line most e files n start
   line-is files =
       let s = soaked files in
       let all = act_all most (opened e []) files (generate n start) in
       ap (λ x. slot_line n x.a bytes) s.led ∙ ap (slot_line n all.engine.a) (counted-is bytes (length (replies_text all.replies)) fits s.told.amount)
 
-  few-visits : (files : Files) → now_visits ≤ visits + visits_most most (opened e []) files (generate n start) + nodes_of (act_all most (opened e []) files (generate n start)).engine.a
+  few-visits : (files : Files) →
+      now_visits ≤ visits + visits_most most (opened e []) files (generate n start) + nodes_of
+      (act_all most (opened e []) files (generate n start)).engine.a
   few-visits files = let s = soaked files in omega (arith, s.most_visits, sized, ap (λ x. nodes_of x.a) s.led)
 
-  pub soak_clean : (sink now_sink : Taken) → Given sink now_sink (slot_line n now.a bytes) → SoakDone most n start e now (alone sink visits changes) (alone now_sink now_visits now_changes) Clean
+  pub soak_clean : (sink now_sink : Taken) → Given sink now_sink (slot_line n now.a bytes) →
+      SoakDone most n start e now (alone sink visits changes) (alone now_sink now_visits now_changes) Clean
   soak_clean sink now_sink given = record {
     ends = inl refl;
     told = λ files s. rw (sym (line-is files)) given;
@@ -289,7 +323,8 @@ module _ (most n start : ℕ) (e now : Engine) (visits counted_visits now_visits
     least_changes = λ files s. (soaked files).least_changes;
   }
 
-  pub soak_cut : (sink now_sink : Taken) → WritesFront sink now_sink (slot_line n now.a bytes) → SoakDone most n start e now (alone sink visits changes) (alone now_sink now_visits now_changes) WriteFault
+  pub soak_cut : (sink now_sink : Taken) → WritesFront sink now_sink (slot_line n now.a bytes) →
+      SoakDone most n start e now (alone sink visits changes) (alone now_sink now_visits now_changes) WriteFault
   soak_cut sink now_sink front = record {
     ends = inr (inl refl);
     told = λ files s. absurd cc;

@@ -25,16 +25,20 @@ filings_both p q m n a b c h k = record {
 pub no-filings : (n : ℕ) → Filings false 0 n n
 no-filings n = record { told = inr (omega arith); later = omega arith; quiet = λ _. refl }
 
-pub spent_both : {S : Type 0} (m : Machine S) (s between : S) (xs ys : List Turn) (b middle now_b : Beside) → between ≡ after m s xs → Spent m s xs b middle → Spent m between ys middle now_b → Spent m s (xs ++ ys) b now_b
+pub spent_both : {S : Type 0} (m : Machine S) (s between : S) (xs ys : List Turn) (b middle now_b : Beside) →
+    between ≡ after m s xs → Spent m s xs b middle → Spent m between ys middle now_b → Spent m s (xs ++ ys) b now_b
 spent_both m s between xs ys b middle now_b e h l =
     let k : Spent m (after m s xs) ys middle now_b = rw e at l in
     record {
-      filings = rw (faults-append xs ys, uses-append m s xs ys) (filings_both (some_uses m s xs) (some_uses m (after m s xs) ys) (faults_in xs) (faults_in ys) b.filings middle.filings now_b.filings h.filings k.filings);
+      filings = rw (faults-append xs ys, uses-append m s xs ys)
+          (filings_both (some_uses m s xs) (some_uses m (after m s xs) ys) (faults_in xs) (faults_in ys) b.filings
+          middle.filings now_b.filings h.filings k.filings);
       most_visits = omega (arith, h.most_visits, k.most_visits, total-append (λ w. w.most_visits) m s xs ys);
       most_changes = omega (arith, h.most_changes, k.most_changes, total-append (λ w. w.most_changes) m s xs ys);
     }
 
-pub worked_both : {S : Type 0} (m : Machine S) (s between : S) (xs ys : List Turn) (b middle now_b : Beside) → between ≡ after m s xs → Worked m s xs b middle → Worked m between ys middle now_b → Worked m s (xs ++ ys) b now_b
+pub worked_both : {S : Type 0} (m : Machine S) (s between : S) (xs ys : List Turn) (b middle now_b : Beside) →
+    between ≡ after m s xs → Worked m s xs b middle → Worked m between ys middle now_b → Worked m s (xs ++ ys) b now_b
 worked_both m s between xs ys b middle now_b e h l =
     let k : Worked m (after m s xs) ys middle now_b = rw e at l in
     record {

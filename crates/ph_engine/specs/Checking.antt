@@ -1,5 +1,6 @@
 -- What a check of a file does.
-use Rattle.std.specs.Prelude.{◌≡◌, ◌≤◌, ◌⊎◌, ℕ, ◌+◌, ◌/◌, Bool, true, false, List, [], ◌∷◌, ◌++◌, length, slice_index, codes, decimal, Option, Some, None, Result, Ok, Err}
+use Rattle.std.specs.Prelude.{◌≡◌, ◌≤◌, ◌⊎◌, ℕ, ◌+◌, ◌/◌, Bool, true, false, List, [], ◌∷◌, ◌++◌, length}
+use Rattle.std.specs.Prelude.{slice_index, codes, decimal, Option, Some, None, Result, Ok, Err}
 use Rattle.ph_io.specs.Causes.{Rose}
 use Rattle.ph_io.specs.Giving.{Taken, Given}
 use Rattle.ph_io.specs.Shelf.{Stays}

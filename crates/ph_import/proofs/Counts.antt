@@ -1,5 +1,6 @@
 -- The set of the new points among those of some rows.
-use Rattle.std.proofs.Common.{◌≡◌, ℕ, ◌+◌, ◌<◌, ◌≤◌, Bool, true, false, ◌&&◌, cond, List, [], ◌∷◌, length, take, get_or, refl, sym, ◌∙◌, ap, arith, Ordering, Less, Equal, Greater}
+use Rattle.std.proofs.Common.{◌≡◌, ℕ, ◌+◌, ◌<◌, ◌≤◌, Bool, true, false, ◌&&◌, cond, List, [], ◌∷◌, length, take}
+use Rattle.std.proofs.Common.{get_or, refl, sym, ◌∙◌, ap, arith, Ordering, Less, Equal, Greater}
 use Rattle.std.specs.Prelude.{ℤ, ◌||◌, not}
 use Rattle.std.specs.List.{AllByRecursion as Each}
 use Rattle.std.specs.Ordering.{is_eq, int_cmp, ordering_then}
@@ -36,15 +37,23 @@ pub record IsCounted (width : ℕ) (table rows : List Row) (points : PointSet) :
   pub count : length (put_all width table rows) ≡ length table + btree_set_len points
 
 -- a row at a point of the table
-pub counted-old : (w d : ℕ) (table rows : List Row) (i : ℕ) (e : Row) (points : PointSet) → 1 ≤ w → Each (λ r. IsPoint w d r.point) rows → IsRisen w d table → i < length rows → has table (get_or rows i e).point ≡ true → IsCounted w table (take i rows) points → (p : Bor (List ℤ)) → p.now ≡ (get_or rows i e).point → IsCounted w table (take (i + 1) rows) points
+pub counted-old : (w d : ℕ) (table rows : List Row) (i : ℕ) (e : Row) (points : PointSet) → 1 ≤ w →
+    Each (λ r. IsPoint w d r.point) rows → IsRisen w d table → i < length rows →
+    has table (get_or rows i e).point ≡ true → IsCounted w table (take i rows) points → (p : Bor (List ℤ)) →
+    p.now ≡ (get_or rows i e).point → IsCounted w table (take (i + 1) rows) points
 counted-old w d table rows i e points positive h k l old c p at =
     let r : Row = get_or rows i e in
     let so_far : List Row = put_all w table (take i rows) in
-    let there : has so_far r.point ≡ true = ap (has so_far) (sym at) ∙ c.members p ∙ ap (λ q. has table q || contains by_coords points p) at ∙ ap (λ b. b || contains by_coords points p) old in
+    let there : has so_far r.point ≡ true = ap (has so_far) (sym at) ∙ c.members p ∙
+    ap (λ q. has table q || contains by_coords points p) at ∙ ap (λ b. b || contains by_coords points p) old in
     let next : put_all w table (take (i + 1) rows) ≡ put w so_far r.point r.value = put-next w table rows i e l in
     record {
-      members = λ q. ap (λ t. has t q.now) next ∙ has-put w so_far r.point q.now r.value ∙ stays (same_point r.point q.now) (has so_far q.now) (λ s. ap (has so_far) (sym (same_from_test r.point q.now s)) ∙ there) ∙ c.members q;
-      count = ap (λ t. length t) next ∙ length-put w so_far r.point r.value (risen-part w d table rows i positive h k).rising ∙ ap (λ b. length so_far + cond b 0 1) there ∙ nothing (length so_far) ∙ c.count;
+      members = λ q. ap (λ t. has t q.now) next ∙ has-put w so_far r.point q.now r.value ∙
+          stays (same_point r.point q.now) (has so_far q.now)
+          (λ s. ap (has so_far) (sym (same_from_test r.point q.now s)) ∙ there) ∙ c.members q;
+      count = ap (λ t. length t) next ∙ length-put w so_far r.point r.value
+          (risen-part w d table rows i positive h k).rising ∙ ap (λ b. length so_far + cond b 0 1) there ∙
+          nothing (length so_far) ∙ c.count;
     }
   where
     stays : (s b : Bool) → (s ≡ true → b ≡ true) → cond s true b ≡ b
@@ -55,11 +64,17 @@ counted-old w d table rows i e points positive h k l old c p at =
     nothing n = omega arith
 
 -- a row at another point, which the set may have already
-pub counted-new : (w d : ℕ) (table rows : List Row) (i : ℕ) (e : Row) (points after : PointSet) (added : Bool) → 1 ≤ w → Each (λ r. IsPoint w d r.point) rows → IsRisen w d table → i < length rows → has table (get_or rows i e).point ≡ false → IsCounted w table (take i rows) points → (p : Bor (List ℤ)) → p.now ≡ (get_or rows i e).point → Updates by_coords points after p true → added ≡ not (contains by_coords points p) → btree_set_len after ≡ btree_set_len points + cond added 1 0 → IsCounted w table (take (i + 1) rows) after
+pub counted-new : (w d : ℕ) (table rows : List Row) (i : ℕ) (e : Row) (points after : PointSet) (added : Bool) →
+    1 ≤ w → Each (λ r. IsPoint w d r.point) rows → IsRisen w d table → i < length rows →
+    has table (get_or rows i e).point ≡ false → IsCounted w table (take i rows) points → (p : Bor (List ℤ)) →
+    p.now ≡ (get_or rows i e).point → Updates by_coords points after p true →
+    added ≡ not (contains by_coords points p) → btree_set_len after ≡ btree_set_len points + cond added 1 0 →
+    IsCounted w table (take (i + 1) rows) after
 counted-new w d table rows i e points after added positive h k l new c p at updates is more =
     let r : Row = get_or rows i e in
     let so_far : List Row = put_all w table (take i rows) in
-    let there : has so_far r.point ≡ contains by_coords points p = ap (has so_far) (sym at) ∙ c.members p ∙ ap (λ q. has table q || contains by_coords points p) at ∙ ap (λ b. b || contains by_coords points p) new in
+    let there : has so_far r.point ≡ contains by_coords points p = ap (has so_far) (sym at) ∙ c.members p ∙
+    ap (λ q. has table q || contains by_coords points p) at ∙ ap (λ b. b || contains by_coords points p) new in
     let next : put_all w table (take (i + 1) rows) ≡ put w so_far r.point r.value = put-next w table rows i e l in
     record {
       members = λ q. ap (λ t. has t q.now) next ∙ has-put w so_far r.point q.now r.value ∙ ap (λ b. cond (same_point r.point q.now) true b) (c.members q)
@@ -67,7 +82,8 @@ counted-new w d table rows i e points after added positive h k l new c p at upda
           ∙ ap (λ s. has table q.now || cond s true (contains by_coords points q)) (ap (λ t. same_point t q.now) (sym at) ∙ sym (same-by-order p.now q.now))
           ∙ ap (λ b. has table q.now || b) (sym (updates.0 q));
       count = ap (λ t. length t) next ∙ length-put w so_far r.point r.value (risen-part w d table rows i positive h k).rising ∙ ap (λ b. length so_far + cond b 0 1) there
-          ∙ one (length so_far) (length table) (btree_set_len points) (btree_set_len after) (contains by_coords points p) c.count (more ∙ ap (λ b. btree_set_len points + cond b 1 0) is);
+          ∙ one (length so_far) (length table) (btree_set_len points) (btree_set_len after)
+          (contains by_coords points p) c.count (more ∙ ap (λ b. btree_set_len points + cond b 1 0) is);
     }
   where
     moved : (s a b : Bool) → cond s true (a || b) ≡ (a || cond s true b)

@@ -54,7 +54,8 @@ pub length_more : (bytes piece : List ℕ) (n taken : ℕ) → length bytes ≡ 
 length_more bytes piece n taken e h = grind (arith, common_steps)
 
 -- the front of bytes and of a piece behind them that ends within the piece
-pub take_within : (bytes piece : List ℕ) (most fresh count : ℕ) → fresh ≤ count → count ≤ length piece → length bytes + fresh ≡ most → take most (bytes ++ take count piece) ≡ bytes ++ take fresh piece
+pub take_within : (bytes piece : List ℕ) (most fresh count : ℕ) → fresh ≤ count → count ≤ length piece →
+    length bytes + fresh ≡ most → take most (bytes ++ take count piece) ≡ bytes ++ take fresh piece
 take_within [] piece most fresh count h k e = let f : fresh ≡ most = omega arith in rw f (take-take most count piece (omega arith))
 take_within (b ∷ bs) piece zero fresh count h k e = absurd (omega arith)
 take_within (b ∷ bs) piece (suc most) fresh count h k e = ap (λ t. b ∷ t) (take_within bs piece most fresh count h k (omega arith))
@@ -86,7 +87,8 @@ given_both a b c xs ys h k = record {
 }
 
 -- what one write gives
-pub given_write : (a b : Taken) (piece : List ℕ) (n : ℕ) → n ≤ length piece → Appends a.written b.written (take n piece) → Adds a.amount b.amount n → Given a b (take n piece)
+pub given_write : (a b : Taken) (piece : List ℕ) (n : ℕ) → n ≤ length piece →
+    Appends a.written b.written (take n piece) → Adds a.amount b.amount n → Given a b (take n piece)
 given_write a b piece n l h k = record {
   written = h;
   amount = let e : length (take n piece) ≡ n = grind (arith, common_steps) in rw e (grew_added a.amount b.amount n k);

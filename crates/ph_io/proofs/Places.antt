@@ -21,29 +21,37 @@ split files i e h is = drop-cons files i e h ∙ ap (λ x. x ∷ drop (suc i) fi
 take-next : (files : Map) (i : ℕ) (e : Draft) → i < length files → e ≡ get_or files i e → take (suc i) files ≡ take i files ++ e ∷ []
 take-next files i e h is = take-suc files i e h ∙ ap (λ x. take i files ++ x ∷ []) (sym is)
 
-pub place-less : (files : Map) (name : List ℕ) (i : ℕ) (e : Draft) → i < length files → e ≡ get_or files i e → slice_cmp nat_cmp name e.0 ≡ Less → IsPast files name i → IsPlace files name (Err i)
+pub place-less : (files : Map) (name : List ℕ) (i : ℕ) (e : Draft) → i < length files → e ≡ get_or files i e →
+    slice_cmp nat_cmp name e.0 ≡ Less → IsPast files name i → IsPlace files name (Err i)
 place-less files name i e h is less past = (
   omega arith,
   λ bytes.
       past bytes ∙ ap (λ t. take i files ++ t) (rw (split files i e h is, less) refl),
 )
 
-pub place-equal : (files : Map) (name : List ℕ) (i : ℕ) (e : Draft) → i < length files → e ≡ get_or files i e → slice_cmp nat_cmp name e.0 ≡ Equal → IsPast files name i → IsPlace files name (Ok i)
+pub place-equal : (files : Map) (name : List ℕ) (i : ℕ) (e : Draft) → i < length files → e ≡ get_or files i e →
+    slice_cmp nat_cmp name e.0 ≡ Equal → IsPast files name i → IsPlace files name (Ok i)
 place-equal files name i e h is equal past = (
   h,
   λ bytes.
       past bytes ∙ ap (λ t. take i files ++ t) (rw (split files i e h is, equal, exact_bytes name e.0 equal) refl) ∙ sym (set_split files i (name, bytes) h),
 )
 
-pub place-greater : (files : Map) (name : List ℕ) (i : ℕ) (e : Draft) → i < length files → e ≡ get_or files i e → slice_cmp nat_cmp name e.0 ≡ Greater → IsPast files name i → IsPast files name (i + 1)
+pub place-greater : (files : Map) (name : List ℕ) (i : ℕ) (e : Draft) → i < length files → e ≡ get_or files i e →
+    slice_cmp nat_cmp name e.0 ≡ Greater → IsPast files name i → IsPast files name (i + 1)
 place-greater files name i e h is greater past bytes =
     rw (add-one, take-next files i e h is)
-    (past bytes ∙ ap (λ t. take i files ++ enter name bytes t) (split files i e h is) ∙ ap (λ t. take i files ++ t) (rw greater refl) ∙ sym (append_assoc (take i files) (e ∷ []) (enter name bytes (drop (suc i) files))))
+    (past bytes ∙ ap (λ t. take i files ++ enter name bytes t) (split files i e h is) ∙
+    ap (λ t. take i files ++ t) (rw greater refl) ∙
+    sym (append_assoc (take i files) (e ∷ []) (enter name bytes (drop (suc i) files))))
 
 -- ---- what stands under a name
 
-pub found : (files : Map) (name : List ℕ) (i : ℕ) (e : Draft) → i < length files → e ≡ get_or files i e → is_eq (slice_cmp nat_cmp name e.0) ≡ true → lookup name files ≡ lookup name (drop i files) → Some e.1 ≡ lookup name files
+pub found : (files : Map) (name : List ℕ) (i : ℕ) (e : Draft) → i < length files → e ≡ get_or files i e →
+    is_eq (slice_cmp nat_cmp name e.0) ≡ true → lookup name files ≡ lookup name (drop i files) → Some e.1 ≡ lookup name files
 found files name i e h is same left = rw (left, split files i e h is, same) refl
 
-pub not-found : (files : Map) (name : List ℕ) (i : ℕ) (e : Draft) → i < length files → e ≡ get_or files i e → is_eq (slice_cmp nat_cmp name e.0) ≡ false → lookup name files ≡ lookup name (drop i files) → lookup name files ≡ lookup name (drop (i + 1) files)
+pub not-found : (files : Map) (name : List ℕ) (i : ℕ) (e : Draft) → i < length files → e ≡ get_or files i e →
+    is_eq (slice_cmp nat_cmp name e.0) ≡ false → lookup name files ≡ lookup name (drop i files) →
+    lookup name files ≡ lookup name (drop (i + 1) files)
 not-found files name i e h is other left = left ∙ rw (split files i e h is, other, add-one) refl

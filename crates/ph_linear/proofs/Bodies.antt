@@ -44,11 +44,14 @@ module _ (d : ℕ) (words : List ℕ) (i : ℕ) (r : IsRecord false d words) (h 
   abbrev b : ℕ
   b = (first_in words).level
 
-  pub body-digits : get_or (bodies d words) i [] ≡ digits_row words (64 + ((first_in words).entries + (first_in words).entries * d) + i * d * (first_in words).level) (first_in words).level d
+  pub body-digits : get_or (bodies d words) i [] ≡
+      digits_row words (64 + ((first_in words).entries + (first_in words).entries * d) + i * d *
+      (first_in words).level) (first_in words).level d
   body-digits =
       parts-at n d (drop (n + n) (fields_as false d words)) i l ∙ body-row d words (i * d) d r h (within i n d l)
 
-  pub begins : IsBodyAt d (first_in words).level words (entries_as false d words) i (64 + ((first_in words).entries + (first_in words).entries * d) + i * d * (first_in words).level)
+  pub begins : IsBodyAt d (first_in words).level words (entries_as false d words) i
+      (64 + ((first_in words).entries + (first_in words).entries * d) + i * d * (first_in words).level)
   begins = record {
     body =
         slice_get-map read_body (entries_as false d words) i ∙ ap (option_map read_body) (entry-is d words i l)

@@ -66,7 +66,9 @@ ordered-at old cs p h l =
 start-number : (n x : ℕ) → 0 * n + x ≡ x
 start-number n x = omega arith
 
-module _ (old w1 w2 w3 new : List ℕ) (cs : Columns) (p : ℕ) (cols : AreColumns old cs) (within : p < cs.kinds.count) (small : Each (λ x. x < 2 ^ 64) old) (fits : Each (λ x. x < 2 ^ 64) new) (e1 : length w1 ≡ length old) (e2 : length w2 ≡ length old) (e3 : length w3 ≡ length old) (e4 : length new ≡ length old) where
+module _ (old w1 w2 w3 new : List ℕ) (cs : Columns) (p : ℕ) (cols : AreColumns old cs) (within : p < cs.kinds.count)
+    (small : Each (λ x. x < 2 ^ 64) old) (fits : Each (λ x. x < 2 ^ 64) new) (e1 : length w1 ≡ length old)
+    (e2 : length w2 ≡ length old) (e3 : length w3 ≡ length old) (e4 : length new ≡ length old) where
   abbrev k0 : ℕ
   k0 = start cs.kinds p
 
@@ -90,12 +92,15 @@ module _ (old w1 w2 w3 new : List ℕ) (cs : Columns) (p : ℕ) (cols : AreColum
 
   -- how many digits there are then
   abbrev many : ℕ
-  many = start cs.kinds p - 64 + (start cs.addresses p - start cs.kinds (p + 1)) + (start cs.bodies p - start cs.addresses (p + 1)) + (start cs.bodies cs.bodies.count - start cs.bodies (p + 1))
+  many = start cs.kinds p - 64 + (start cs.addresses p - start cs.kinds (p + 1)) +
+      (start cs.bodies p - start cs.addresses (p + 1)) + (start cs.bodies cs.bodies.count - start cs.bodies (p + 1))
 
   many-digits : digits_of (runs_without old cs p) ≡ many
   many-digits = omega arith
 
-  pub close-columns : (t1 t2 t3 : ℕ) → t1 ≡ start cs.kinds p + (start cs.addresses p - start cs.kinds (p + 1)) → t2 ≡ t1 + (start cs.bodies p - start cs.addresses (p + 1)) → t3 ≡ t2 + (start cs.bodies cs.bodies.count - start cs.bodies (p + 1))
+  pub close-columns : (t1 t2 t3 : ℕ) → t1 ≡ start cs.kinds p + (start cs.addresses p - start cs.kinds (p + 1)) →
+      t2 ≡ t1 + (start cs.bodies p - start cs.addresses (p + 1)) →
+      t3 ≡ t2 + (start cs.bodies cs.bodies.count - start cs.bodies (p + 1))
       → IsMoved old (start cs.kinds (p + 1)) (start cs.kinds p) (start cs.addresses p - start cs.kinds (p + 1)) w1
       → IsMoved w1 (start cs.addresses (p + 1)) t1 (start cs.bodies p - start cs.addresses (p + 1)) w2
       → IsMoved w2 (start cs.bodies (p + 1)) t2 (start cs.bodies cs.bodies.count - start cs.bodies (p + 1)) w3
@@ -110,7 +115,8 @@ module _ (old w1 w2 w3 new : List ℕ) (cs : Columns) (p : ℕ) (cols : AreColum
       let m3 : ℕ = b2 - b1 in
       let z0 : start cs.kinds p ≡ 64 + (start cs.kinds p - 64) = omega (arith, o.kinds) in
       let z1 : t1 ≡ 64 + (start cs.kinds p - 64 + (start cs.addresses p - start cs.kinds (p + 1))) = omega (arith, s1, z0) in
-      let z2 : t2 ≡ 64 + (start cs.kinds p - 64 + (start cs.addresses p - start cs.kinds (p + 1)) + (start cs.bodies p - start cs.addresses (p + 1))) = omega (arith, s2, z1) in
+      let z2 : t2 ≡ 64 + (start cs.kinds p - 64 + (start cs.addresses p - start cs.kinds (p + 1)) +
+      (start cs.bodies p - start cs.addresses (p + 1))) = omega (arith, s2, z1) in
       let z3 : t3 ≡ 64 + many = omega (arith, s3, z2) in
       let pad : 64 * ((t3 + 63) / 64) - t3 ≡ 64 * words_for many - many = round t3 many z3 in
       let place : (t3 + 63) / 64 ≡ 1 + words_for many = omega (arith, z3) in
@@ -124,8 +130,11 @@ module _ (old w1 w2 w3 new : List ℕ) (cs : Columns) (p : ℕ) (cols : AreColum
       closed old w1 w2 w3 new f k1 m1 a1 m2 b1 m3 (64 * words_for many - many) e1 e2 e3 e4 (omega (arith, z0, u.kinds)) c1 c2 c3 (omega (arith, words, whole))
       (subst (λ t. IsMoved old k1 t m1 w1) z0 q1) (subst (λ t. IsMoved w1 a1 t m2 w2) z1 q2) (subst (λ t. IsMoved w2 b1 t m3 w3) z2 q3)
       (subst (λ t. IsOver w3 (64 + many) t 0 new) pad (subst (λ t. IsOver w3 t (64 * ((t3 + 63) / 64) - t3) 0 new) z3 q4)) in
-      let value : (((digits_at old 64 f * 2 ^ m1 + digits_at old k1 m1) * 2 ^ m2 + digits_at old a1 m2) * 2 ^ m3 + digits_at old b1 m3) * 2 ^ (64 * words_for many - many) + 0 ≡ number_of (runs_without old cs p) * 2 ^ (64 * words_for many - many) =
-      right _ ∙ ap (λ t. (((t * 2 ^ m1 + digits_at old k1 m1) * 2 ^ m2 + digits_at old a1 m2) * 2 ^ m3 + digits_at old b1 m3) * 2 ^ (64 * words_for many - many)) (sym (start-number (2 ^ f) (digits_at old 64 f))) in
+      let value : (((digits_at old 64 f * 2 ^ m1 + digits_at old k1 m1) * 2 ^ m2 + digits_at old a1 m2) * 2 ^ m3 +
+      digits_at old b1 m3) * 2 ^ (64 * words_for many - many) + 0 ≡ number_of (runs_without old cs p) * 2 ^
+      (64 * words_for many - many) =
+      right _ ∙ ap (λ t. (((t * 2 ^ m1 + digits_at old k1 m1) * 2 ^ m2 + digits_at old a1 m2) * 2 ^ m3 + digits_at old
+      b1 m3) * 2 ^ (64 * words_for many - many)) (sym (start-number (2 ^ f) (digits_at old 64 f))) in
       let put : IsOver old 64 (64 * words_for many) (number_of (runs_without old cs p) * 2 ^ (64 * words_for many - many)) new =
       over-equal old new 64 64 _ (64 * words_for many) _ (number_of (runs_without old cs p) * 2 ^ (64 * words_for many - many)) refl whole value all in (
         over-fields old new (runs_without old cs p) small fits (subst (λ t. 1 + words_for t ≤ length old) (sym many-digits) words) e4

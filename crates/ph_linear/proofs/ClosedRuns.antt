@@ -13,10 +13,13 @@ over-moved old new from to len v m e = record { value = m.value ∙ sym e; front
 pub closed : (old w1 w2 w3 new : List ℕ) (f k m1 a m2 b m3 pad : ℕ) → length w1 ≡ length old → length w2 ≡ length old → length w3 ≡ length old → length new ≡ length old
     → 64 + f ≤ k → k + m1 ≤ a → a + m2 ≤ b → b + m3 ≤ 64 * length old → 64 + (f + m1 + m2 + m3) + pad ≤ 64 * length old
     → IsMoved old k (64 + f) m1 w1 → IsMoved w1 a (64 + (f + m1)) m2 w2 → IsMoved w2 b (64 + (f + m1 + m2)) m3 w3 → IsOver w3 (64 + (f + m1 + m2 + m3)) pad 0 new
-    → IsOver old 64 (f + m1 + m2 + m3 + pad) ((((digits_at old 64 f * 2 ^ m1 + digits_at old k m1) * 2 ^ m2 + digits_at old a m2) * 2 ^ m3 + digits_at old b m3) * 2 ^ pad + 0) new
+    → IsOver old 64 (f + m1 + m2 + m3 + pad)
+    ((((digits_at old 64 f * 2 ^ m1 + digits_at old k m1) * 2 ^ m2 + digits_at old a m2) * 2 ^ m3 + digits_at old
+    b m3) * 2 ^ pad + 0) new
 closed old w1 w2 w3 new f k m1 a m2 b m3 pad e1 e2 e3 e4 l1 l2 l3 l4 l5 p1 p2 p3 p4 =
     let o1 : IsOver old 64 (f + m1) (digits_at old 64 f * 2 ^ m1 + digits_at old k m1) w1 =
-    over-next old old w1 64 f m1 (digits_at old 64 f) (digits_at old k m1) refl e1 (omega (arith, l5)) (over-same old 64 f (digits_at old 64 f) refl) (over-moved old w1 k (64 + f) m1 (digits_at old k m1) p1 refl) in
+    over-next old old w1 64 f m1 (digits_at old 64 f) (digits_at old k m1) refl e1 (omega (arith, l5))
+    (over-same old 64 f (digits_at old 64 f) refl) (over-moved old w1 k (64 + f) m1 (digits_at old k m1) p1 refl) in
     let s2 : digits_at old a m2 ≡ digits_at w1 a m2 = sym (o1.behind a m2 (omega (arith, l1, l2)) (omega (arith, l3, l4))) in
     let o2 : IsOver old 64 (f + m1 + m2) ((digits_at old 64 f * 2 ^ m1 + digits_at old k m1) * 2 ^ m2 + digits_at old a m2) w2 =
     over-next old w1 w2 64 (f + m1) m2 _ (digits_at old a m2) e1 e2 (omega (arith, l5)) o1 (over-moved w1 w2 a (64 + (f + m1)) m2 (digits_at old a m2) p2 s2) in
@@ -39,6 +42,7 @@ over-before old mid new at m w x y e f l p q = record {
 }
 
 -- the same run by equal numbers
-pub moved-equal : (old new : List ℕ) (from from2 to to2 len len2 : ℕ) → from ≡ from2 → to ≡ to2 → len ≡ len2 → IsMoved old from to len new → IsMoved old from2 to2 len2 new
+pub moved-equal : (old new : List ℕ) (from from2 to to2 len len2 : ℕ) → from ≡ from2 → to ≡ to2 → len ≡ len2 →
+    IsMoved old from to len new → IsMoved old from2 to2 len2 new
 moved-equal old new from from2 to to2 len len2 e f g o =
     subst (λ t. IsMoved old from2 to2 t new) g (subst (λ t. IsMoved old from2 t len new) f (subst (λ t. IsMoved old t to len new) e o))

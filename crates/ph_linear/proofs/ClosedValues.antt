@@ -58,4 +58,11 @@ pub closed-length : (ws : List ℕ) (v ov f u first : ℕ) → f ≤ u → v ≤
 closed-length ws v ov f u first o l m =
     sym
     (length-set (take v ws ++ (take f (drop ov ws) ++ drop (ov + u) ws)) 0 first
-    ∙ omega (arith, length-append (take v ws) (take f (drop ov ws) ++ drop (ov + u) ws), length-append (take f (drop ov ws)) (drop (ov + u) ws), length-take-le v ws (omega (arith, l, m)), length-take-le f (drop ov ws) (omega (arith, o, m, length-drop ov ws)), length-drop (ov + u) ws))
+    ∙ omega (
+      arith,
+      length-append (take v ws) (take f (drop ov ws) ++ drop (ov + u) ws),
+      length-append (take f (drop ov ws)) (drop (ov + u) ws),
+      length-take-le v ws (omega (arith, l, m)),
+      length-take-le f (drop ov ws) (omega (arith, o, m, length-drop ov ws)),
+      length-drop (ov + u) ws,
+    ))

@@ -1,5 +1,6 @@
 -- The columns of a linear record as digits of its words.
-use Rattle.std.proofs.Common.{◌≡◌, ℕ, zero, suc, ◌+◌, ◌-◌, ◌*◌, ◌^◌, ◌<◌, ◌≤◌, refl, sym, ◌∙◌, ap, subst, arith, List, [], ◌∷◌, ◌++◌, length, length-append, length-take, length-drop, min, take, drop, replicate, slice_index_or, false}
+use Rattle.std.proofs.Common.{◌≡◌, ℕ, zero, suc, ◌+◌, ◌-◌, ◌*◌, ◌^◌, ◌<◌, ◌≤◌, refl, sym, ◌∙◌, ap, subst, arith, List, [], ◌∷◌, ◌++◌}
+use Rattle.std.proofs.Common.{length, length-append, length-take, length-drop, min, take, drop, replicate, slice_index_or, false}
 use Rattle.std.specs.List.{AllByRecursion as Each}
 use Rattle.std.proofs.lemmas.List.{get_or-take, get_or-drop, length-replicate, get_or-replicate, append_assoc}
 use Rattle.std.proofs.Math.Nat.{mul-le-mul_left}
@@ -15,10 +16,13 @@ use Rattle.ph_linear.specs.Linear.{kinds, addresses}
 below : (i n k : ℕ) → i < n → n ≤ k → i < k
 below i n k a b = omega (arith, a, b)
 
-order : (dims : ℕ) (words : List ℕ) → widths false dims (first_in words) ≡ replicate (first_in words).entries 1 ++ (replicate (first_in words).entries dims ++ replicate ((first_in words).entries * dims) (first_in words).level)
-order dims words = append_assoc (replicate (first_in words).entries 1) (replicate (first_in words).entries dims) (replicate ((first_in words).entries * dims) (first_in words).level)
+order : (dims : ℕ) (words : List ℕ) → widths false dims (first_in words) ≡ replicate (first_in words).entries 1 ++
+    (replicate (first_in words).entries dims ++ replicate ((first_in words).entries * dims) (first_in words).level)
+order dims words = append_assoc (replicate (first_in words).entries 1) (replicate (first_in words).entries dims)
+    (replicate ((first_in words).entries * dims) (first_in words).level)
 
-pub length-all : (dims : ℕ) (words : List ℕ) → length (fields_as false dims words) ≡ (first_in words).entries + ((first_in words).entries + (first_in words).entries * dims)
+pub length-all : (dims : ℕ) (words : List ℕ) →
+    length (fields_as false dims words) ≡ (first_in words).entries + ((first_in words).entries + (first_in words).entries * dims)
 length-all dims words =
     let n : ℕ = (first_in words).entries in
     let bs : List ℕ = replicate (n * dims) (first_in words).level in
@@ -39,7 +43,9 @@ length-kinds dims words =
 pub length-addresses : (dims : ℕ) (words : List ℕ) → length (addresses dims words) ≡ (first_in words).entries
 length-addresses dims words =
     let n : ℕ = (first_in words).entries in
-    length-take n (drop n (fields_as false dims words)) ∙ least n (length (fields_as false dims words)) (length (drop n (fields_as false dims words))) (n * dims) (length-drop n (fields_as false dims words)) (length-all dims words)
+    length-take n (drop n (fields_as false dims words)) ∙ least n (length (fields_as false dims words))
+    (length (drop n (fields_as false dims words))) (n * dims) (length-drop n (fields_as false dims words))
+    (length-all dims words)
   where
     least : (n k j m : ℕ) → j ≡ k - n → k ≡ n + (n + m) → min n j ≡ n
     least n k j m e f = omega (arith, e, f)
@@ -52,7 +58,8 @@ kind-digits dims words i r h l =
     let rest : List ℕ = replicate n dims ++ replicate (n * dims) b in
     let k : i < length (replicate n 1 ++ rest) = below i n (length (replicate n 1 ++ rest)) l (long n 1 rest) in
     get_or-take n (fields_as false dims words) i 0 l
-    ∙ field-digits false dims words i 1 i r h (subst (λ t. i < length t) (sym (order dims words)) k) (ap (λ t. slice_index_or t i 0) (order dims words) ∙ at-replicate n 1 rest i l)
+    ∙ field-digits false dims words i 1 i r h (subst (λ t. i < length t) (sym (order dims words)) k)
+    (ap (λ t. slice_index_or t i 0) (order dims words) ∙ at-replicate n 1 rest i l)
     (ap (λ t. total (take i t)) (order dims words) ∙ total-replicate n 1 rest i (omega (arith, l)) ∙ omega arith) (fits n i dims b l)
   where
     fits : (n i d b : ℕ) → i < n → i + 1 ≤ n * (1 + d + d * b)
@@ -64,7 +71,8 @@ address-digits dims words i r h l =
     let n : ℕ = (first_in words).entries in
     let b : ℕ = (first_in words).level in
     let bs : List ℕ = replicate (n * dims) b in
-    let k : n + i < length (replicate n 1 ++ (replicate n dims ++ bs)) = long-behind n 1 (replicate n dims ++ bs) i (below i n (length (replicate n dims ++ bs)) l (long n dims bs)) in
+    let k : n + i < length (replicate n 1 ++ (replicate n dims ++ bs)) = long-behind n 1 (replicate n dims ++ bs) i
+    (below i n (length (replicate n dims ++ bs)) l (long n dims bs)) in
     let q : 64 + (n + i * dims) ≡ 64 + n + i * dims = omega arith in
     get_or-take n (drop n (fields_as false dims words)) i 0 l
     ∙ get_or-drop n (fields_as false dims words) i 0
@@ -96,7 +104,8 @@ body-digits dims words t r h l =
     let b : ℕ = (first_in words).level in
     let bs : List ℕ = replicate (n * dims) b in
     let rest : List ℕ = replicate n dims ++ bs in
-    let k : n + (n + t) < length (replicate n 1 ++ rest) = long-behind n 1 rest (n + t) (long-behind n dims bs t (subst (λ s. t < s) (sym (length-replicate (n * dims) b)) l)) in
+    let k : n + (n + t) < length (replicate n 1 ++ rest) =
+    long-behind n 1 rest (n + t) (long-behind n dims bs t (subst (λ s. t < s) (sym (length-replicate (n * dims) b)) l)) in
     let before : total (take (n + (n + t)) (replicate n 1 ++ rest)) ≡ n * 1 + (n * dims + t * b) =
     total-behind n 1 rest (n + t) ∙ ap (λ s. n * 1 + s) (total-behind n dims bs t ∙ ap (λ s. n * dims + s) (total-all (n * dims) b t (omega (arith, l)))) in
     let a : n + n + t ≡ n + (n + t) = omega arith in

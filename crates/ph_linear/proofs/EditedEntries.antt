@@ -1,5 +1,6 @@
 -- The entries of a record with one edit: how many they are, and their values.
-use Rattle.std.proofs.Common.{◌≡◌, ℕ, zero, suc, ◌+◌, ◌-◌, ◌^◌, ◌≤◌, ◌<◌, refl, sym, ◌∙◌, ap, arith, List, [], ◌∷◌, ◌++◌, length, take, drop, replicate, Bool, true, false}
+use Rattle.std.proofs.Common.{◌≡◌, ℕ, zero, suc, ◌+◌, ◌-◌, ◌^◌, ◌≤◌, ◌<◌, refl, sym, ◌∙◌, ap, arith, List}
+use Rattle.std.proofs.Common.{[], ◌∷◌, ◌++◌, length, take, drop, replicate, Bool, true, false}
 use Rattle.std.specs.Prelude.{Some, None, if◌then◌else◌}
 use Rattle.std.specs.List.{AllByRecursion as Each}
 use Rattle.std.proofs.lemmas.List.{length-append, length-drop, length-replicate, length-take-le}
@@ -15,13 +16,16 @@ use Rattle.ph_linear.proofs.EditedLists.{edited-parts, values-append, values-fro
 use Rattle.ph_linear.proofs.OldTables.{IsTable, table-of}
 
 -- the values of so many copies of a new entry
-values-new : (child : Bool) (dims addr : ℕ) (body : List ℕ) (v more : ℕ) → values (replicate more (record { addr = addr; body = take dims body; value = if child then None else Some v })) ≡ (if child then [] else replicate more v)
+values-new : (child : Bool) (dims addr : ℕ) (body : List ℕ) (v more : ℕ) →
+    values (replicate more (record { addr = addr; body = take dims body; value = if child then None else Some v })) ≡
+    (if child then [] else replicate more v)
 values-new true dims addr body v zero = refl
 values-new true dims addr body v (suc more) = values-new true dims addr body v more
 values-new false dims addr body v zero = refl
 values-new false dims addr body v (suc more) = ap {B = List ℕ} (λ t. v ∷ t) (values-new false dims addr body v more)
 
-module _ (cube : Bool) (dims : ℕ) (words : List ℕ) (e : Edit) (r : IsRecord cube dims words) (h : Each (λ x. x < 2 ^ 64) words) (l : e.place + e.less ≤ (first_in words).entries) where
+module _ (cube : Bool) (dims : ℕ) (words : List ℕ) (e : Edit) (r : IsRecord cube dims words)
+    (h : Each (λ x. x < 2 ^ 64) words) (l : e.place + e.less ≤ (first_in words).entries) where
   abbrev n : ℕ
   n = (first_in words).entries
 
@@ -46,7 +50,10 @@ module _ (cube : Bool) (dims : ℕ) (words : List ℕ) (e : Edit) (r : IsRecord 
   pub place-low : e.place ≤ length (flats (entries_as cube dims words) (values_as cube dims words))
   place-low = omega (arith, l, table-old.many)
 
-  pub parts-new : edited_as cube dims words e ≡ take e.place (flats (entries_as cube dims words) (values_as cube dims words)) ++ (replicate e.more (new_flat dims e.entry e.value) ++ drop (e.place + e.less) (flats (entries_as cube dims words) (values_as cube dims words)))
+  pub parts-new : edited_as cube dims words e ≡
+      take e.place (flats (entries_as cube dims words) (values_as cube dims words)) ++
+      (replicate e.more (new_flat dims e.entry e.value) ++
+      drop (e.place + e.less) (flats (entries_as cube dims words) (values_as cube dims words)))
   parts-new = edited-parts e.place e.less e.more (new_flat dims e.entry e.value) es place-low
 
   pub long-front : length front ≡ e.place
@@ -61,25 +68,32 @@ module _ (cube : Bool) (dims : ℕ) (words : List ℕ) (e : Edit) (r : IsRecord 
   pub length-new : length (edited_as cube dims words e) ≡ count_edited (first_in words).entries e
   length-new =
       ap length parts-new ∙ length-append front (new ++ back) ∙ ap (λ t. length front + t) (length-append new back)
-      ∙ sum (length front) (length new) (length back) e.place e.more (n - (e.place + e.less)) long-front (length-replicate e.more (new_flat dims e.entry e.value)) long-back
+      ∙ sum (length front) (length new) (length back) e.place e.more (n - (e.place + e.less)) long-front
+      (length-replicate e.more (new_flat dims e.entry e.value)) long-back
     where
       sum : (a b c p m k : ℕ) → a ≡ p → b ≡ m → c ≡ k → a + (b + c) ≡ p + m + k
       sum a b c p m k x y z = omega (arith, x, y, z)
 
   -- ---- the values
 
-  pub values-edited : values (edited_as cube dims words e) ≡ take (points_in (take e.place (entries_as cube dims words))) (values_as cube dims words) ++ (new_values e ++ drop (points_in (take (e.place + e.less) (entries_as cube dims words))) (values_as cube dims words))
+  pub values-edited : values (edited_as cube dims words e) ≡
+      take (points_in (take e.place (entries_as cube dims words))) (values_as cube dims words) ++
+      (new_values e ++ drop (points_in (take (e.place + e.less) (entries_as cube dims words))) (values_as cube dims words))
   values-edited =
       ap values parts-new ∙ values-append front (new ++ back) ∙ ap (λ t. values front ++ t) (values-append new back)
       ∙ ap (λ t. values front ++ (t ++ values back)) (values-new e.entry.child dims e.entry.addr e.entry.body e.value e.more)
       ∙ ap (λ t. t ++ (new_values e ++ values back)) (values-front (entries_as cube dims words) (values_as cube dims words) e.place table-old.points)
-      ∙ ap (λ t. take (points_in (take e.place (entries_as cube dims words))) (values_as cube dims words) ++ (new_values e ++ t)) (values-back (entries_as cube dims words) (values_as cube dims words) (e.place + e.less) table-old.points)
+      ∙ ap (λ t. take (points_in (take e.place (entries_as cube dims words))) (values_as cube dims words) ++
+      (new_values e ++ t)) (values-back (entries_as cube dims words) (values_as cube dims words)
+      (e.place + e.less) table-old.points)
 
   pub points-within : (i : ℕ) → points_in (take i (entries_as cube dims words)) ≤ length (values_as cube dims words)
   points-within i = omega (arith, points-low (entries_as cube dims words) i, table-old.points)
 
   -- the same with words and numbers that were worked out
-  pub values-put : (all : List ℕ) (front behind : ℕ) → all ≡ values_as cube dims words → front ≡ points_in (take e.place (entries_as cube dims words)) → behind ≡ points_in (take (e.place + e.less) (entries_as cube dims words))
+  pub values-put : (all : List ℕ) (front behind : ℕ) → all ≡ values_as cube dims words →
+      front ≡ points_in (take e.place (entries_as cube dims words)) →
+      behind ≡ points_in (take (e.place + e.less) (entries_as cube dims words))
       → take front all ++ (new_values e ++ drop behind all) ≡ values (edited_as cube dims words e)
   values-put all front behind p q k =
       ap (λ t. take front t ++ (new_values e ++ drop behind t)) p
@@ -87,7 +101,9 @@ module _ (cube : Bool) (dims : ℕ) (words : List ℕ) (e : Edit) (r : IsRecord 
       ∙ ap (λ t. take (points_in (take e.place (entries_as cube dims words))) (values_as cube dims words) ++ (new_values e ++ drop t (values_as cube dims words))) k
       ∙ sym values-edited
 
-  pub values-long : (all : List ℕ) (front behind : ℕ) → all ≡ values_as cube dims words → front ≡ points_in (take e.place (entries_as cube dims words)) → behind ≡ points_in (take (e.place + e.less) (entries_as cube dims words))
+  pub values-long : (all : List ℕ) (front behind : ℕ) → all ≡ values_as cube dims words →
+      front ≡ points_in (take e.place (entries_as cube dims words)) →
+      behind ≡ points_in (take (e.place + e.less) (entries_as cube dims words))
       → length (values (edited_as cube dims words e)) ≡ front + length (new_values e) + (length all - behind)
   values-long all front behind p q k =
       ap length (sym (values-put all front behind p q k)) ∙ length-append (take front all) (new_values e ++ drop behind all)

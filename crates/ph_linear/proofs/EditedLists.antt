@@ -15,7 +15,8 @@ use Rattle.ph_linear.specs.Written.{kind_fields, address_fields, body_list}
 
 -- ---- parts
 
-pub edited-parts : {A : Type 0} (place less more : ℕ) (x : A) (xs : List A) → place ≤ length xs → edited place less more x xs ≡ take place xs ++ (replicate more x ++ drop (place + less) xs)
+pub edited-parts : {A : Type 0} (place less more : ℕ) (x : A) (xs : List A) → place ≤ length xs →
+    edited place less more x xs ≡ take place xs ++ (replicate more x ++ drop (place + less) xs)
 edited-parts zero less more x xs l =
     let e : less ≡ 0 + less = omega arith in ap (λ t. replicate more x ++ drop t xs) e
 edited-parts (suc place) less more x [] l = absurd (omega (arith, l))
@@ -50,7 +51,8 @@ digits-body : (level : ℕ) (b : List ℕ) → digits_of (body_fields level b) �
 digits-body level [] = omega arith
 digits-body level (x ∷ b) = omega (arith, digits-body level b)
 
-pub digits-bodies : (dims level : ℕ) (es : List Flat) → Each (λ (e : Flat). length e.body ≡ dims) es → digits_of (bodies level (body_list es)) ≡ length es * (dims * level)
+pub digits-bodies : (dims level : ℕ) (es : List Flat) → Each (λ (e : Flat). length e.body ≡ dims) es →
+    digits_of (bodies level (body_list es)) ≡ length es * (dims * level)
 digits-bodies dims level [] h = omega arith
 digits-bodies dims level (e ∷ es) h =
     let b : digits_of (body_fields level e.body) ≡ dims * level = digits-body level e.body ∙ ap (λ t. t * level) h.0 in

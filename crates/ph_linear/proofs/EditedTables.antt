@@ -1,5 +1,6 @@
 -- The columns of a record with one edit are those of its entries then.
-use Rattle.std.proofs.Common.{◌≡◌, ℕ, zero, suc, ◌+◌, ◌-◌, ◌*◌, ◌^◌, ◌≤◌, ◌<◌, refl, sym, ◌∙◌, ap, arith, List, [], ◌∷◌, ◌++◌, length, take, drop, replicate, Bool, true, false}
+use Rattle.std.proofs.Common.{◌≡◌, ℕ, zero, suc, ◌+◌, ◌-◌, ◌*◌, ◌^◌, ◌≤◌, ◌<◌, refl, sym, ◌∙◌, ap, arith, List}
+use Rattle.std.proofs.Common.{[], ◌∷◌, ◌++◌, length, take, drop, replicate, Bool, true, false}
 use Rattle.std.specs.Prelude.{Some, None, if◌then◌else◌}
 use Rattle.std.specs.List.{AllByRecursion as Each}
 use Rattle.std.proofs.lemmas.List.{append_assoc, append-nil, map-append}
@@ -47,7 +48,8 @@ bodies-new zero dims p v = refl
 bodies-new (suc more) dims p v = ap {B = List (List ℕ)} (λ t. take dims p.body ∷ t) (bodies-new more dims p v)
 
 -- it is lawful, where the entries with it are
-pub rising-new : (dims level least place less more : ℕ) (x : Flat) (xs : List Flat) → place ≤ length xs → AreRising dims level least (edited place less more x xs) → 0 < more → (x.addr < 2 ^ dims) × IsBody dims level x.body
+pub rising-new : (dims level least place less more : ℕ) (x : Flat) (xs : List Flat) → place ≤ length xs →
+    AreRising dims level least (edited place less more x xs) → 0 < more → (x.addr < 2 ^ dims) × IsBody dims level x.body
 rising-new dims level least zero less zero x xs l h k = absurd (omega (arith, k))
 rising-new dims level least zero less (suc more) x xs l h k = (h.1, h.2)
 rising-new dims level least (suc place) less more x [] l h k = absurd (omega (arith, l))
@@ -84,35 +86,53 @@ module _ (dims : ℕ) (words : List ℕ) (e : Edit) (r : IsRecord false dims wor
       → number_after s (column_edited words c e (g new)) ≡ number_after s (g (edited_as false dims words e))
   column g w fs hs c s q d1 d2 d3 t a cw cn =
       let whole : g es ≡ g front ++ (g gone ++ g back) = ap g (whole-parts e.place e.less es) ∙ q front (gone ++ back) ∙ ap (λ u. g front ++ u) (q gone back) in
-      column-number words _ (linear_table dims b es) (values_as false dims words) (table-old false dims words e r h l).is (table-old false dims words e r h l).fit (table-old false dims words e r h l).small c e fs (g front) (g gone) (g back) hs (g new) s
+      column-number words _ (linear_table dims b es) (values_as false dims words)
+      (table-old false dims words e r h l).is (table-old false dims words e r h l).fit
+      (table-old false dims words e r h l).small c e fs (g front) (g gone) (g back) hs (g new) s
       (t ∙ ap (λ u. fs ++ (u ++ hs)) whole) a
       (d1 ∙ ap (λ u. u * w) (long-front false dims words e r h l) ∙ ap (λ u. e.place * u) (sym cw))
       (d2 ∙ ap (λ u. u * w) (long-gone false dims words e r h l) ∙ ap (λ u. e.less * u) (sym cw))
-      (d3 ∙ ap (λ u. u * w) (long-back false dims words e r h l) ∙ ap (λ u. (n - (e.place + e.less)) * u) (sym cw) ∙ ap (λ u. (u - (e.place + e.less)) * c.width) (sym cn))
+      (d3 ∙ ap (λ u. u * w) (long-back false dims words e r h l) ∙ ap (λ u. (n - (e.place + e.less)) * u) (sym cw) ∙
+      ap (λ u. (u - (e.place + e.less)) * c.width) (sym cn))
       ∙ ap (number_after s) (sym (ap g (parts-new false dims words e r h l) ∙ q front (new ++ back) ∙ ap (λ u. g front ++ u) (q new back)))
 
   pub kinds-edited : (c : Column) (s : ℕ) → c.at ≡ 64 → c.width ≡ 1 → c.count ≡ (first_in words).entries
-      → number_after s (column_edited words c e (replicate e.more (field c.width (if e.entry.child then 1 else 0)))) ≡ number_after s (kind_fields (edited_as false dims words e))
+      → number_after s (column_edited words c e (replicate e.more (field c.width (if e.entry.child then 1 else 0)))) ≡
+      number_after s (kind_fields (edited_as false dims words e))
   kinds-edited c s a cw cn =
-      ap (λ t. number_after s (column_edited words c e t)) (ap (λ t. replicate e.more (field t (if e.entry.child then 1 else 0))) cw ∙ kinds-new e.more dims e.entry e.value)
-      ∙ column kind_fields 1 [] (address_fields dims es ++ bodies b (body_list es)) c s (map-append (λ (t : Flat). field 1 (child_mark t.value))) (digits-kinds front) (digits-kinds gone) (digits-kinds back)
+      ap (λ t. number_after s (column_edited words c e t))
+      (ap (λ t. replicate e.more (field t (if e.entry.child then 1 else 0))) cw ∙ kinds-new e.more dims e.entry e.value)
+      ∙ column kind_fields 1 [] (address_fields dims es ++ bodies b (body_list es)) c s
+      (map-append (λ (t : Flat). field 1 (child_mark t.value))) (digits-kinds front) (digits-kinds gone) (digits-kinds back)
       (append_assoc (kind_fields es) (address_fields dims es) (bodies b (body_list es))) (omega (arith, a)) cw cn
 
   pub addresses-edited : (c : Column) (s : ℕ) → c.at ≡ 64 + (first_in words).entries → c.width ≡ dims → c.count ≡ (first_in words).entries
       → number_after s (column_edited words c e (replicate e.more (field c.width e.entry.addr))) ≡ number_after s (address_fields dims (edited_as false dims words e))
   addresses-edited c s a cw cn =
       ap (λ t. number_after s (column_edited words c e t)) (ap (λ t. replicate e.more (field t e.entry.addr)) cw ∙ addresses-new e.more dims e.entry e.value)
-      ∙ column (address_fields dims) dims (kind_fields es) (bodies b (body_list es)) c s (map-append (λ (t : Flat). field dims t.addr)) (digits-addresses dims front) (digits-addresses dims gone) (digits-addresses dims back)
-      (append_assoc (kind_fields es) (address_fields dims es) (bodies b (body_list es))) (omega (arith, a, digits-kinds es, (table-old false dims words e r h l).many)) cw cn
+      ∙ column (address_fields dims) dims (kind_fields es) (bodies b (body_list es)) c s
+      (map-append (λ (t : Flat). field dims t.addr)) (digits-addresses dims front) (digits-addresses dims gone)
+      (digits-addresses dims back)
+      (append_assoc (kind_fields es) (address_fields dims es) (bodies b (body_list es)))
+      (omega (arith, a, digits-kinds es, (table-old false dims words e r h l).many)) cw cn
 
-  pub bodies-edited : (c : Column) (s : ℕ) → c.at ≡ 64 + (first_in words).entries + (first_in words).entries * dims → c.width ≡ dims * (first_in words).level → c.count ≡ (first_in words).entries
-      → number_after s (column_edited words c e (bodies (first_in words).level (replicate e.more (take dims e.entry.body)))) ≡ number_after s (bodies (first_in words).level (body_list (edited_as false dims words e)))
+  pub bodies-edited : (c : Column) (s : ℕ) → c.at ≡ 64 + (first_in words).entries + (first_in words).entries * dims →
+      c.width ≡ dims * (first_in words).level → c.count ≡ (first_in words).entries
+      → number_after s (column_edited words c e
+      (bodies (first_in words).level (replicate e.more (take dims e.entry.body)))) ≡
+      number_after s (bodies (first_in words).level (body_list (edited_as false dims words e)))
   bodies-edited c s a cw cn =
       let long = long-bodies dims words in
-      let d : digits_of (kind_fields es ++ address_fields dims es) ≡ n + n * dims = fill _ _ _ (length es) n dims (digits_of-append (kind_fields es) (address_fields dims es)) (digits-kinds es) (digits-addresses dims es) (table-old false dims words e r h l).many in
+      let d : digits_of (kind_fields es ++ address_fields dims es) ≡ n + n * dims = fill _ _ _ (length es) n dims
+      (digits_of-append (kind_fields es) (address_fields dims es)) (digits-kinds es) (digits-addresses dims es)
+      (table-old false dims words e r h l).many in
       ap (λ t. number_after s (column_edited words c e (bodies b t))) (bodies-new e.more dims e.entry e.value)
-      ∙ column (λ u. bodies b (body_list u)) (dims * b) (kind_fields es ++ address_fields dims es) [] c s (λ xs ys. ap (bodies b) (map-append (λ (t : Flat). t.body) xs ys) ∙ bodies-append b (body_list xs) (body_list ys))
-      (digits-bodies dims b front (each-take (λ t. length t.body ≡ dims) e.place es long)) (digits-bodies dims b gone (each-take (λ t. length t.body ≡ dims) e.less (drop e.place es) (each-drop (λ t. length t.body ≡ dims) e.place es long))) (digits-bodies dims b back (each-drop (λ t. length t.body ≡ dims) (e.place + e.less) es long))
+      ∙ column (λ u. bodies b (body_list u)) (dims * b) (kind_fields es ++ address_fields dims es) [] c s
+      (λ xs ys. ap (bodies b) (map-append (λ (t : Flat). t.body) xs ys) ∙ bodies-append b (body_list xs) (body_list ys))
+      (digits-bodies dims b front (each-take (λ t. length t.body ≡ dims) e.place es long))
+      (digits-bodies dims b gone (each-take (λ t. length t.body ≡ dims) e.less (drop e.place es)
+      (each-drop (λ t. length t.body ≡ dims) e.place es long)))
+      (digits-bodies dims b back (each-drop (λ t. length t.body ≡ dims) (e.place + e.less) es long))
       (ap (λ t. (kind_fields es ++ address_fields dims es) ++ t) (sym (append-nil (bodies b (body_list es))))) (omega (arith, a, d)) cw cn
     where
       fill : (x y z m n d : ℕ) → x ≡ y + z → y ≡ m * 1 → z ≡ m * d → m ≡ n → x ≡ n + n * d

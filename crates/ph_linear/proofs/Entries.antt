@@ -1,5 +1,6 @@
 -- The entries of a linear record, by its columns.
-use Rattle.std.proofs.Common.{◌≡◌, ℕ, zero, suc, ◌+◌, ◌<◌, ◌≤◌, refl, sym, ◌∙◌, ap, arith, List, [], ◌∷◌, length, take, Bool, true, false, not, cond, get_or, slice_index_or, ◌⊎◌, inl, inr}
+use Rattle.std.proofs.Common.{◌≡◌, ℕ, zero, suc, ◌+◌, ◌<◌, ◌≤◌, refl, sym, ◌∙◌, ap, arith, List, [], ◌∷◌, length}
+use Rattle.std.proofs.Common.{take, Bool, true, false, not, cond, get_or, slice_index_or, ◌⊎◌, inl, inr}
 use Rattle.std.specs.Prelude.{position, ◌==◌, nat_le, if◌then◌else◌}
 use Rattle.std.specs.List.{position_or_len}
 use Rattle.std.proofs.lemmas.List.Sums.{position_or_len_is}
@@ -38,7 +39,8 @@ pub kind-read : (t : Bool) (a : ℕ) (b : List ℕ) → is_child (read t a b) �
 kind-read true a b = refl
 kind-read false a b = refl
 
-pub place-read : (p : ℕ → Bool) (ks ads : List ℕ) (bs : List (List ℕ)) → length ads ≡ length ks → length bs ≡ length ks → position_or_len (λ r. p (read_address r)) (read_linear ks ads bs) ≡ position_or_len p ads
+pub place-read : (p : ℕ → Bool) (ks ads : List ℕ) (bs : List (List ℕ)) → length ads ≡ length ks →
+    length bs ≡ length ks → position_or_len (λ r. p (read_address r)) (read_linear ks ads bs) ≡ position_or_len p ads
 place-read p [] [] bs f g = refl
 place-read p [] (a ∷ ads) bs f g = absurd (omega (arith, f))
 place-read p (k ∷ ks) [] bs f g = absurd (omega (arith, f))
@@ -47,7 +49,8 @@ place-read p (k ∷ ks) (a ∷ ads) (c ∷ bs) f g =
     ap (λ t. cond (not (p t)) (1 + position_or_len (λ r. p (read_address r)) (read_linear ks ads bs)) 0) (address-read (k == 1) a c)
     ∙ ap (λ t. cond (not (p a)) (1 + t) 0) (place-read p ks ads bs (omega (arith, f)) (omega (arith, g)))
 
-pub position-read : (p : ℕ → Bool) (ks ads : List ℕ) (bs : List (List ℕ)) → length ads ≡ length ks → length bs ≡ length ks → position (λ r. p (read_address r)) (read_linear ks ads bs) ≡ position p ads
+pub position-read : (p : ℕ → Bool) (ks ads : List ℕ) (bs : List (List ℕ)) → length ads ≡ length ks →
+    length bs ≡ length ks → position (λ r. p (read_address r)) (read_linear ks ads bs) ≡ position p ads
 position-read p ks ads bs f g =
     rw (place-read p ks ads bs f g, length-read ks ads bs (length ks) refl f g, f) refl
 
@@ -87,7 +90,8 @@ rises-most xs i j e l m =
     ]
 
 -- the place where addresses are no more below another
-pub first-at : (xs : List ℕ) (a i : ℕ) → i ≤ length xs → ((k : ℕ) → k < i → slice_index_or xs k 0 < a) → (i < length xs → a ≤ slice_index_or xs i 0) → i ≡ position_or_len (λ x. nat_le a x) xs
+pub first-at : (xs : List ℕ) (a i : ℕ) → i ≤ length xs → ((k : ℕ) → k < i → slice_index_or xs k 0 < a) →
+    (i < length xs → a ≤ slice_index_or xs i 0) → i ≡ position_or_len (λ x. nat_le a x) xs
 first-at xs a i l f g =
     sym (position_or_len_is (λ x. nat_le a x) xs i 0 l (λ k b. not_le a (slice_index_or xs k 0) (f k b)) (λ b. is_le a (slice_index_or xs i 0) (g b)))
   where
@@ -113,8 +117,10 @@ count-more (k ∷ ks) (a ∷ ads) (c ∷ bs) n zero e f g l = one (k == 1) a c
     one true a c = refl
     one false a c = refl
 count-more (k ∷ ks) (a ∷ ads) (c ∷ bs) n (suc i) e f g l =
-    two (k == 1) a c (take (suc i) (read_linear ks ads bs)) (take i (read_linear ks ads bs)) _ (count-more ks ads bs (length ks) i refl (omega (arith, e, f)) (omega (arith, e, g)) (omega (arith, e, l)))
+    two (k == 1) a c (take (suc i) (read_linear ks ads bs)) (take i (read_linear ks ads bs)) _
+    (count-more ks ads bs (length ks) i refl (omega (arith, e, f)) (omega (arith, e, g)) (omega (arith, e, l)))
   where
-    two : (t : Bool) (a : ℕ) (c : List ℕ) (rs qs : List Read) (m : ℕ) → children_in rs ≡ children_in qs + m → children_in (read t a c ∷ rs) ≡ children_in (read t a c ∷ qs) + m
+    two : (t : Bool) (a : ℕ) (c : List ℕ) (rs qs : List Read) (m : ℕ) → children_in rs ≡ children_in qs + m →
+        children_in (read t a c ∷ rs) ≡ children_in (read t a c ∷ qs) + m
     two true a c rs qs m h = omega (arith, h)
     two false a c rs qs m h = h

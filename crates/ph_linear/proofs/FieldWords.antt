@@ -48,7 +48,8 @@ words-equal fs gs d n =
     ap (λ t. pieces 64 (words_for t) (number_of fs * 2 ^ (64 * words_for t - t))) d
     ∙ ap (λ t. pieces 64 (words_for (digits_of gs)) (t * 2 ^ (64 * words_for (digits_of gs) - digits_of gs))) n
 
-made : (w x : ℕ) (os ns : List ℕ) (t v : ℕ) → Each (λ y. y < 2 ^ 64) (w ∷ os) → Each (λ y. y < 2 ^ 64) (x ∷ ns) → t ≤ length os → length ns ≡ length os → IsOver (w ∷ os) 64 (64 * t) v (x ∷ ns)
+made : (w x : ℕ) (os ns : List ℕ) (t v : ℕ) → Each (λ y. y < 2 ^ 64) (w ∷ os) → Each (λ y. y < 2 ^ 64) (x ∷ ns) →
+    t ≤ length os → length ns ≡ length os → IsOver (w ∷ os) 64 (64 * t) v (x ∷ ns)
     → x ∷ ns ≡ w ∷ pieces 64 t v ++ drop t os
 made w x os ns t v h k l e o =
     let r : ℕ = length os - t in
@@ -56,18 +57,23 @@ made w x os ns t v h k l e o =
     let many2 : t + (length os - t) ≡ length ns = omega (arith, l, e) in
     let first : x ≡ w = first-word x w ns os k h (o.front 0 64 (omega arith)) in
     let number : number_in (take t ns) ≡ v =
-    sym (front-words t ns (omega (arith, l, e)) k.1) ∙ sym (digits-behind x ns 0 (64 * t) (omega (arith, l, e))) ∙ ap (λ a. digits_at (x ∷ ns) a (64 * t)) (omega arith) ∙ o.value in
+    sym (front-words t ns (omega (arith, l, e)) k.1) ∙ sym (digits-behind x ns 0 (64 * t) (omega (arith, l, e))) ∙
+    ap (λ a. digits_at (x ∷ ns) a (64 * t)) (omega arith) ∙ o.value in
     let long : length (take t ns) ≡ t = length-take-le t ns (omega (arith, l, e)) in
     let table : take t ns ≡ pieces 64 t v =
     sym (pieces-number 64 (take t ns) (each-front t ns k.1)) ∙ ap (λ n. pieces 64 n (number_in (take t ns))) long ∙ ap (pieces 64 t) number in
-    let stay : digits_at (x ∷ ns) (64 + 64 * t) (64 * r) ≡ digits_at (w ∷ os) (64 + 64 * t) (64 * r) = o.behind (64 + 64 * t) (64 * r) (omega arith) (omega (arith, many)) in
+    let stay : digits_at (x ∷ ns) (64 + 64 * t) (64 * r) ≡ digits_at (w ∷ os) (64 + 64 * t) (64 * r) =
+    o.behind (64 + 64 * t) (64 * r) (omega arith) (omega (arith, many)) in
     let back : number_in (drop t ns) ≡ number_in (drop t os) =
-    sym (back-words t r ns many2 k.1) ∙ sym (digits-behind x ns (64 * t) (64 * r) (omega (arith, many2))) ∙ stay ∙ digits-behind w os (64 * t) (64 * r) (omega (arith, many)) ∙ back-words t r os many h.1 in
-    let same : drop t ns ≡ drop t os = same-number (drop t ns) (drop t os) (each-back t ns k.1) (each-back t os h.1) (length-drop t ns ∙ ap (λ n. n - t) e ∙ sym (length-drop t os)) back in
+    sym (back-words t r ns many2 k.1) ∙ sym (digits-behind x ns (64 * t) (64 * r) (omega (arith, many2))) ∙ stay ∙
+    digits-behind w os (64 * t) (64 * r) (omega (arith, many)) ∙ back-words t r os many h.1 in
+    let same : drop t ns ≡ drop t os = same-number (drop t ns) (drop t os) (each-back t ns k.1) (each-back t os h.1)
+    (length-drop t ns ∙ ap (λ n. n - t) e ∙ sym (length-drop t os)) back in
     ap (λ y. y ∷ ns) first
     ∙ ap {B = List ℕ} (λ ys. w ∷ ys) (sym (take-append-drop t ns) ∙ ap (λ ys. ys ++ drop t ns) table ∙ ap (λ ys. pieces 64 t v ++ ys) same)
   where
-    first-word : (x w : ℕ) (ns os : List ℕ) → Each (λ y. y < 2 ^ 64) (x ∷ ns) → Each (λ y. y < 2 ^ 64) (w ∷ os) → digits_at (x ∷ ns) 0 64 ≡ digits_at (w ∷ os) 0 64 → x ≡ w
+    first-word : (x w : ℕ) (ns os : List ℕ) → Each (λ y. y < 2 ^ 64) (x ∷ ns) → Each (λ y. y < 2 ^ 64) (w ∷ os) →
+        digits_at (x ∷ ns) 0 64 ≡ digits_at (w ∷ os) 0 64 → x ≡ w
     first-word x w ns os h k e = word x ns h ∙ e ∙ sym (word w os k)
       where
         word : (y : ℕ) (ys : List ℕ) → Each (λ z. z < 2 ^ 64) (y ∷ ys) → y ≡ digits_at (y ∷ ys) 0 64
@@ -76,7 +82,8 @@ made w x os ns t v h k l e o =
             sym (digits-first y ys 0 64 0 (omega arith) h.1 ∙ ap (λ t. t % 2 ^ 64) z ∙ mod-eq_of_lt h.0)
 
 -- words with fields put over the digits behind the first word, and zeros behind them up to the end of a word
-pub over-fields : (old new : List ℕ) (fs : List Field) → Each (λ x. x < 2 ^ 64) old → Each (λ x. x < 2 ^ 64) new → 1 + words_for (digits_of fs) ≤ length old → length new ≡ length old
+pub over-fields : (old new : List ℕ) (fs : List Field) → Each (λ x. x < 2 ^ 64) old → Each (λ x. x < 2 ^ 64) new →
+    1 + words_for (digits_of fs) ≤ length old → length new ≡ length old
     → IsOver old 64 (64 * words_for (digits_of fs)) (number_of fs * 2 ^ (64 * words_for (digits_of fs) - digits_of fs)) new → new ≡ with_fields fs old
 over-fields [] new fs h k l e o = absurd (none (words_for (digits_of fs)) l)
   where
@@ -88,7 +95,8 @@ over-fields (w ∷ os) [] fs h k l e o = absurd (none (length os) e)
     none t l = omega (arith, l)
 over-fields (w ∷ os) (x ∷ ns) fs h k l e o =
     let s : suc (words_for (digits_of fs)) ≡ 1 + words_for (digits_of fs) = omega arith in
-    made w x os ns (words_for (digits_of fs)) (number_of fs * 2 ^ (64 * words_for (digits_of fs) - digits_of fs)) h k (less (words_for (digits_of fs)) (length os) l) (more (length ns) (length os) e) o
+    made w x os ns (words_for (digits_of fs)) (number_of fs * 2 ^ (64 * words_for (digits_of fs) - digits_of fs)) h k
+    (less (words_for (digits_of fs)) (length os) l) (more (length ns) (length os) e) o
     ∙ ap {B = List ℕ} (λ t. w ∷ words_of fs ++ drop t (w ∷ os)) s
   where
     less : (t n : ℕ) → 1 + t ≤ suc n → t ≤ n

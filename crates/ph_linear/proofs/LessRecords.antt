@@ -1,5 +1,6 @@
 -- A record without one of its entries: its columns and its values are moved together.
-use Rattle.std.proofs.Common.{◌≡◌, ℕ, ◌+◌, ◌-◌, ◌*◌, ◌/◌, ◌^◌, ◌≤◌, ◌<◌, refl, sym, ◌∙◌, ap, arith, List, [], ◌∷◌, ◌++◌, length, length-append, take, drop, replicate, slice_set, slice_index_or, Bool, true, false}
+use Rattle.std.proofs.Common.{◌≡◌, ℕ, ◌+◌, ◌-◌, ◌*◌, ◌/◌, ◌^◌, ◌≤◌, ◌<◌, refl, sym, ◌∙◌, ap, arith, List, [], ◌∷◌, ◌++◌, length}
+use Rattle.std.proofs.Common.{length-append, take, drop, replicate, slice_set, slice_index_or, Bool, true, false}
 use Rattle.std.specs.Prelude.{if◌then◌else◌}
 use Rattle.std.specs.List.{AllByRecursion as Each}
 use Rattle.std.proofs.Math.Nat.{mul-le-mul_left, pow-le-pow_right}
@@ -45,7 +46,10 @@ sizes k kw a aw b bw n p e1 e2 e3 e4 l =
     let x6 : (n - 1) * (1 + aw + bw) ≡ (p + (n - (p + 1))) * (1 + aw + bw) = ap (λ t. t * (1 + aw + bw)) less in
     omega (arith, e1, e3, e4, x1, x2, x3, x4, x5, x6, m, less)
 
-module _ (dims : ℕ) (words : List ℕ) (e : Edit) (r : IsRecord false dims words) (h : Each (λ x. x < 2 ^ 64) words) (l : e.place + e.less ≤ (first_in words).entries) (less : e.less ≡ 1) (more : e.more ≡ 0) (up : AreRising dims (first_in words).level 0 (edited_as false dims words e)) (cs : Columns) (cols : AreColumnsOf dims words cs) where
+module _ (dims : ℕ) (words : List ℕ) (e : Edit) (r : IsRecord false dims words) (h : Each (λ x. x < 2 ^ 64) words)
+    (l : e.place + e.less ≤ (first_in words).entries) (less : e.less ≡ 1) (more : e.more ≡ 0)
+    (up : AreRising dims (first_in words).level 0 (edited_as false dims words e)) (cs : Columns)
+    (cols : AreColumnsOf dims words cs) where
   abbrev n : ℕ
   n = (first_in words).entries
 
@@ -74,9 +78,12 @@ module _ (dims : ℕ) (words : List ℕ) (e : Edit) (r : IsRecord false dims wor
       let c = cols.columns in
       let m : cs.bodies.count ≡ cs.kinds.count = c.bodies_many in
       let p : e.place < cs.kinds.count = omega (arith, place-low, cols.many) in
-      let s = sizes cs.kinds.at cs.kinds.width cs.addresses.at cs.addresses.width cs.bodies.at cs.bodies.width cs.kinds.count e.place c.begin c.one c.addresses c.bodies p in
+      let s = sizes cs.kinds.at cs.kinds.width cs.addresses.at cs.addresses.width cs.bodies.at cs.bodies.width
+      cs.kinds.count e.place c.begin c.one c.addresses c.bodies p in
       let t : digits_of gs ≡ (n - 1) * (1 + dims + dims * b) = table-digits false dims b 0 es up ∙ ap (linear_digits dims b) many-less in
-      ap (λ k. digits_of (run words 64 (start cs.kinds e.place) ∷ run words (start cs.kinds (e.place + 1)) (start cs.addresses e.place) ∷ run words (start cs.addresses (e.place + 1)) (start cs.bodies e.place) ∷ run words (start cs.bodies (e.place + 1)) (start cs.bodies k) ∷ [])) m
+      ap (λ k. digits_of (run words 64 (start cs.kinds e.place) ∷ run words (start cs.kinds (e.place + 1))
+      (start cs.addresses e.place) ∷ run words (start cs.addresses (e.place + 1)) (start cs.bodies e.place) ∷
+      run words (start cs.bodies (e.place + 1)) (start cs.bodies k) ∷ [])) m
       ∙ flat _ _ _ _ _ s
       ∙ ap (λ k. (k - 1) * (1 + cs.addresses.width + cs.bodies.width)) cols.many
       ∙ ap (λ k. (n - 1) * (1 + k + cs.bodies.width)) cols.addresses_wide
@@ -90,7 +97,9 @@ module _ (dims : ℕ) (words : List ℕ) (e : Edit) (r : IsRecord false dims wor
   none A x = ap (λ t. replicate t x) more
 
   -- a column without the entry, as two runs
-  two-runs : (c : Column) → c.count ≡ cs.kinds.count → column_edited words c e [] ≡ run words (start c 0) (start c e.place) ∷ run words (start c (e.place + 1)) (start c cs.kinds.count) ∷ []
+  two-runs : (c : Column) → c.count ≡ cs.kinds.count →
+      column_edited words c e [] ≡ run words (start c 0) (start c e.place) ∷ run words (start c (e.place + 1))
+      (start c cs.kinds.count) ∷ []
   two-runs c m =
       column-runs words c e [] (omega (arith, l, m, cols.many))
       ∙ ap {B = List Field} (λ t. run words (start c 0) (start c e.place) ∷ run words (start c (e.place + t)) (start c c.count) ∷ []) less
@@ -117,14 +126,22 @@ module _ (dims : ℕ) (words : List ℕ) (e : Edit) (r : IsRecord false dims wor
       let a-runs : column_edited words cs.addresses e [] ≡ run words a (start cs.addresses p) ∷ run words (start cs.addresses (p + 1)) d ∷ [] =
       two-runs cs.addresses c.addresses_many ∙ ap {B = List Field} (λ t. run words a (start cs.addresses p) ∷ run words (start cs.addresses (p + 1)) t ∷ []) a-end in
       let b-runs : column_edited words cs.bodies e [] ≡ run words d (start cs.bodies p) ∷ run words (start cs.bodies (p + 1)) (start cs.bodies cs.bodies.count) ∷ [] =
-      two-runs cs.bodies c.bodies_many ∙ ap {B = List Field} (λ t. run words d (start cs.bodies p) ∷ run words (start cs.bodies (p + 1)) (start cs.bodies t) ∷ []) (sym c.bodies_many) in
+      two-runs cs.bodies c.bodies_many ∙
+      ap {B = List Field} (λ t. run words d (start cs.bodies p) ∷ run words (start cs.bodies (p + 1))
+      (start cs.bodies t) ∷ []) (sym c.bodies_many) in
       let table : number_after (number_after (number_after 0 ks) addrs) bs ≡ number_of gs =
-      ap (λ t. number_after (number_after (number_after 0 (column_edited words cs.kinds e t)) addrs) bs) (sym (none Field (field cs.kinds.width (if e.entry.child then 1 else 0))))
+      ap (λ t. number_after (number_after (number_after 0 (column_edited words cs.kinds e t)) addrs) bs)
+      (sym (none Field (field cs.kinds.width (if e.entry.child then 1 else 0))))
       ∙ ap (λ t. number_after (number_after t addrs) bs) (kinds-edited dims words e r h l cs.kinds 0 c.begin c.one cols.many)
-      ∙ ap (λ t. number_after (number_after (number_after 0 (kind_fields es)) (column_edited words cs.addresses e t)) bs) (sym (none Field (field cs.addresses.width e.entry.addr)))
-      ∙ ap (λ t. number_after t bs) (addresses-edited dims words e r h l cs.addresses (number_after 0 (kind_fields es)) (at-addresses c) cols.addresses_wide (c.addresses_many ∙ cols.many))
-      ∙ ap (λ t. number_after (number_after (number_after 0 (kind_fields es)) (address_fields dims es)) (column_edited words cs.bodies e (bodies b t))) (sym (none (List ℕ) (take dims e.entry.body)))
-      ∙ bodies-edited dims words e r h l cs.bodies (number_after (number_after 0 (kind_fields es)) (address_fields dims es)) (at-bodies c) cols.bodies_wide (c.bodies_many ∙ cols.many)
+      ∙ ap (λ t. number_after (number_after (number_after 0 (kind_fields es)) (column_edited words cs.addresses e t))
+      bs) (sym (none Field (field cs.addresses.width e.entry.addr)))
+      ∙ ap (λ t. number_after t bs) (addresses-edited dims words e r h l cs.addresses
+      (number_after 0 (kind_fields es)) (at-addresses c) cols.addresses_wide (c.addresses_many ∙ cols.many))
+      ∙ ap (λ t. number_after (number_after (number_after 0 (kind_fields es)) (address_fields dims es))
+      (column_edited words cs.bodies e (bodies b t))) (sym (none (List ℕ) (take dims e.entry.body)))
+      ∙ bodies-edited dims words e r h l cs.bodies
+      (number_after (number_after 0 (kind_fields es)) (address_fields dims es)) (at-bodies c) cols.bodies_wide
+      (c.bodies_many ∙ cols.many)
       ∙ table-number dims b 0 es in
       let r0 = run words 64 (start cs.kinds p) in
       let r1 = run words (start cs.kinds (p + 1)) (start cs.addresses p) in
@@ -136,12 +153,14 @@ module _ (dims : ℕ) (words : List ℕ) (e : Edit) (r : IsRecord false dims wor
       let i5 : start cs.bodies 0 ≤ start cs.bodies p = low cs.bodies p in
       let i6 : start cs.bodies p ≤ 64 * length words = omega (arith, o.until, o.inside) in
       sym
-      (runs-meet words (number_after 0 (r0 ∷ [])) (start cs.kinds (p + 1)) a (start cs.addresses p) (run words (start cs.addresses (p + 1)) d ∷ run words d (start cs.bodies p) ∷ r3 ∷ []) i1 i2 i3
+      (runs-meet words (number_after 0 (r0 ∷ [])) (start cs.kinds (p + 1)) a (start cs.addresses p)
+      (run words (start cs.addresses (p + 1)) d ∷ run words d (start cs.bodies p) ∷ r3 ∷ []) i1 i2 i3
       ∙ runs-meet words (number_after 0 (r0 ∷ r1 ∷ [])) (start cs.addresses (p + 1)) d (start cs.bodies p) (r3 ∷ []) i4 i5 i6)
       ∙ sym
       (ap (λ t. number_after (number_after (number_after 0 t) addrs) bs) k-runs
       ∙ ap (λ t. number_after (number_after (number_after 0 (r0 ∷ run words (start cs.kinds (p + 1)) a ∷ [])) t) bs) a-runs
-      ∙ ap (λ t. number_after (number_after (number_after 0 (r0 ∷ run words (start cs.kinds (p + 1)) a ∷ [])) (run words a (start cs.addresses p) ∷ run words (start cs.addresses (p + 1)) d ∷ [])) t) b-runs)
+      ∙ ap (λ t. number_after (number_after (number_after 0 (r0 ∷ run words (start cs.kinds (p + 1)) a ∷ []))
+      (run words a (start cs.addresses p) ∷ run words (start cs.addresses (p + 1)) d ∷ [])) t) b-runs)
       ∙ table
     where
       low : (c : Column) (i : ℕ) → start c 0 ≤ start c i
@@ -158,10 +177,12 @@ module _ (dims : ℕ) (words : List ℕ) (e : Edit) (r : IsRecord false dims wor
           omega (arith, m)
 
       at-addresses : AreColumns words cs → cs.addresses.at ≡ 64 + (first_in words).entries
-      at-addresses c = c.addresses ∙ ap (λ t. cs.kinds.at + cs.kinds.count * t) c.one ∙ ap (λ t. cs.kinds.at + t * 1) cols.many ∙ ap (λ t. t + n * 1) c.begin ∙ omega arith
+      at-addresses c = c.addresses ∙ ap (λ t. cs.kinds.at + cs.kinds.count * t) c.one ∙ ap (λ t. cs.kinds.at + t * 1)
+          cols.many ∙ ap (λ t. t + n * 1) c.begin ∙ omega arith
 
       at-bodies : AreColumns words cs → cs.bodies.at ≡ 64 + (first_in words).entries + (first_in words).entries * dims
-      at-bodies c = c.bodies ∙ ap (λ t. t + cs.kinds.count * cs.addresses.width) (at-addresses c) ∙ ap (λ t. 64 + n + cs.kinds.count * t) cols.addresses_wide ∙ ap (λ t. 64 + n + t * dims) cols.many
+      at-bodies c = c.bodies ∙ ap (λ t. t + cs.kinds.count * cs.addresses.width) (at-addresses c) ∙
+          ap (λ t. 64 + n + cs.kinds.count * t) cols.addresses_wide ∙ ap (λ t. 64 + n + t * dims) cols.many
 
   -- ---- the values
 
@@ -181,7 +202,9 @@ module _ (dims : ℕ) (words : List ℕ) (e : Edit) (r : IsRecord false dims wor
       fewer : (x y : ℕ) → x ≤ y → (x + 63) / 64 ≤ (y + 63) / 64
       fewer x y l = omega (arith, l)
 
-  pub closed-record : (o : Outline) (v : ℕ) (ws : List ℕ) → IsOutline false dims words e o → v ≡ 1 + words_for (digits_of (runs_without words cs e.place)) → ws ≡ with_fields (runs_without words cs e.place) words → length ws ≡ length words
+  pub closed-record : (o : Outline) (v : ℕ) (ws : List ℕ) → IsOutline false dims words e o →
+      v ≡ 1 + words_for (digits_of (runs_without words cs e.place)) →
+      ws ≡ with_fields (runs_without words cs e.place) words → length ws ≡ length words
       → IsClosable v o ws × (with_less v o ws ≡ record_in false dims (first_in words).level (edited_as false dims words e))
   closed-record o v ws k q is long =
       let many : length front ≡ v = omega (arith, q, length-words_of fs) in
@@ -192,7 +215,8 @@ module _ (dims : ℕ) (words : List ℕ) (e : Edit) (r : IsRecord false dims wor
       let behind : (i : ℕ) → v ≤ i → drop i ws ≡ drop i words =
       λ i m. ap (drop i) known ∙ drop-append-drop t words front i (omega (arith, m, q)) (many ∙ q) in
       let f2 : drop o.values ws ≡ vs = behind o.values low ∙ ap (λ i. drop i words) k.values in
-      let f3 : drop (o.values + o.until) ws ≡ drop o.until vs = behind (o.values + o.until) (omega (arith, low)) ∙ sym (drop-drop o.until o.values words) ∙ ap (λ i. drop o.until (drop i words)) k.values in
+      let f3 : drop (o.values + o.until) ws ≡ drop o.until vs = behind (o.values + o.until) (omega (arith, low)) ∙
+      sym (drop-drop o.until o.values words) ∙ ap (λ i. drop o.until (drop i words)) k.values in
       let gone : new_values e ≡ [] = no-values e.entry.child in
       let put : take o.front vs ++ drop o.until vs ≡ values es =
       ap (λ xs. take o.front vs ++ (xs ++ drop o.until vs)) (sym gone) ∙ values-put false dims words e r h l vs o.front o.until refl k.front k.until in
@@ -204,9 +228,19 @@ module _ (dims : ℕ) (words : List ℕ) (e : Edit) (r : IsRecord false dims wor
       let kept : o.until ≤ length vs = omega (arith, k.until, points-within false dims words e r h l (e.place + e.less)) in
       let size : length vs ≡ length words - o.values = length-drop _ words ∙ ap (λ i. length words - i) (sym k.values) in
       let inside : o.values + o.until ≤ length ws = inner o.values o.until (length vs) (length words) (length ws) kept size long (omega (arith, k.values, first-words)) in
-      let order : o.front ≤ o.until = omega (arith, points-more (entries_as false dims words) e.place, ap (λ i. points_in (take (e.place + i) (entries_as false dims words))) less, k.front, k.until) in
+      let order : o.front ≤ o.until =
+      omega (
+        arith,
+        points-more (entries_as false dims words) e.place,
+        ap (λ i. points_in (take (e.place + i) (entries_as false dims words))) less,
+        k.front,
+        k.until,
+      ) in
       let points : points_less o ws ≡ length (values es) =
-      count o.front o.until o.values (length vs) (length words) (length ws) (length (take o.front vs)) (length (drop o.until vs)) (length (values es)) order kept size long inside (length-take-le o.front vs (omega (arith, order, kept))) (length-drop o.until vs) (sym (length-append (take o.front vs) (drop o.until vs)) ∙ ap length put) in
+      count o.front o.until o.values (length vs) (length words) (length ws) (length (take o.front vs))
+      (length (drop o.until vs)) (length (values es)) order kept size long inside
+      (length-take-le o.front vs (omega (arith, order, kept))) (length-drop o.until vs)
+      (sym (length-append (take o.front vs) (drop o.until vs)) ∙ ap length put) in
       let c : o.count - 1 ≡ length es = ap (λ i. i - 1) k.count ∙ sym many-less in
       let f = children-few es in
       let kids : o.count - 1 - points_less o ws ≡ children es = omega (arith, points, c, f) in (

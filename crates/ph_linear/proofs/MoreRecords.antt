@@ -1,5 +1,6 @@
 -- A record with a new point entry: its columns and its values are moved apart.
-use Rattle.std.proofs.Common.{◌≡◌, ℕ, suc, ◌+◌, ◌-◌, ◌*◌, ◌/◌, ◌^◌, ◌≤◌, ◌<◌, refl, sym, ◌∙◌, ap, arith, List, [], ◌∷◌, ◌++◌, length, length-append, take, drop, replicate, slice_set, slice_index_or, false}
+use Rattle.std.proofs.Common.{◌≡◌, ℕ, suc, ◌+◌, ◌-◌, ◌*◌, ◌/◌, ◌^◌, ◌≤◌, ◌<◌, refl, sym, ◌∙◌, ap, arith, List, [], ◌∷◌, ◌++◌}
+use Rattle.std.proofs.Common.{length, length-append, take, drop, replicate, slice_set, slice_index_or, false}
 use Rattle.std.specs.Prelude.{if◌then◌else◌}
 use Rattle.std.specs.List.{AllByRecursion as Each}
 use Rattle.std.proofs.Math.Nat.{mul-le-mul_left}
@@ -35,7 +36,10 @@ sizes-more k kw a aw b bw n e1 e2 e3 e4 =
     let x1 : n * kw ≡ n = ap (λ t. n * t) e2 ∙ omega arith in
     omega (arith, e1, e3, e4, x1)
 
-module _ (dims : ℕ) (words : List ℕ) (e : Edit) (r : IsRecord false dims words) (h : Each (λ x. x < 2 ^ 64) words) (l : e.place + e.less ≤ (first_in words).entries) (less : e.less ≡ 0) (more : e.more ≡ 1) (point : e.entry.child ≡ false) (up : AreRising dims (first_in words).level 0 (edited_as false dims words e)) (cs : Columns) (cols : AreColumnsOf dims words cs) where
+module _ (dims : ℕ) (words : List ℕ) (e : Edit) (r : IsRecord false dims words) (h : Each (λ x. x < 2 ^ 64) words)
+    (l : e.place + e.less ≤ (first_in words).entries) (less : e.less ≡ 0) (more : e.more ≡ 1)
+    (point : e.entry.child ≡ false) (up : AreRising dims (first_in words).level 0 (edited_as false dims words e))
+    (cs : Columns) (cols : AreColumnsOf dims words cs) where
   abbrev n : ℕ
   n = (first_in words).entries
 
@@ -75,7 +79,9 @@ module _ (dims : ℕ) (words : List ℕ) (e : Edit) (r : IsRecord false dims wor
   one-of A x = ap (λ t. replicate t x) more
 
   -- a column with new fields, as two runs and these between them
-  two-runs : (c : Column) (new : List Field) → c.count ≡ cs.kinds.count → column_edited words c e new ≡ run words (start c 0) (start c e.place) ∷ (new ++ run words (start c e.place) (start c cs.kinds.count) ∷ [])
+  two-runs : (c : Column) (new : List Field) → c.count ≡ cs.kinds.count →
+      column_edited words c e new ≡ run words (start c 0) (start c e.place) ∷
+      (new ++ run words (start c e.place) (start c cs.kinds.count) ∷ [])
   two-runs c new m =
       let z : e.place + e.less ≡ e.place = omega (arith, less) in
       column-runs words c e new (omega (arith, l, m, cols.many))
@@ -107,16 +113,23 @@ module _ (dims : ℕ) (words : List ℕ) (e : Edit) (r : IsRecord false dims wor
       ∙ ap {B = List Field} (λ t. run words t (start cs.kinds p) ∷ fk ∷ run words (start cs.kinds p) (start cs.kinds cs.kinds.count) ∷ []) begin
       ∙ ap {B = List Field} (λ t. run words 64 (start cs.kinds p) ∷ fk ∷ run words (start cs.kinds p) t ∷ []) k-end in
       let a-runs : column_edited words cs.addresses e (fa ∷ []) ≡ run words a (start cs.addresses p) ∷ fa ∷ run words (start cs.addresses p) d ∷ [] =
-      two-runs cs.addresses (fa ∷ []) c.addresses_many ∙ ap {B = List Field} (λ t. run words a (start cs.addresses p) ∷ fa ∷ run words (start cs.addresses p) t ∷ []) a-end in
+      two-runs cs.addresses (fa ∷ []) c.addresses_many ∙
+      ap {B = List Field} (λ t. run words a (start cs.addresses p) ∷ fa ∷ run words (start cs.addresses p) t ∷ []) a-end in
       let b-runs : column_edited words cs.bodies e row ≡ run words d (start cs.bodies p) ∷ (row ++ run words (start cs.bodies p) (start cs.bodies cs.bodies.count) ∷ []) =
-      two-runs cs.bodies row c.bodies_many ∙ ap {B = List Field} (λ t. run words d (start cs.bodies p) ∷ (row ++ run words (start cs.bodies p) (start cs.bodies t) ∷ [])) (sym c.bodies_many) in
+      two-runs cs.bodies row c.bodies_many ∙
+      ap {B = List Field} (λ t. run words d (start cs.bodies p) ∷
+      (row ++ run words (start cs.bodies p) (start cs.bodies t) ∷ [])) (sym c.bodies_many) in
       let table : number_after (number_after (number_after 0 ks) addrs) bs ≡ number_of gs =
       ap (λ t. number_after (number_after (number_after 0 (column_edited words cs.kinds e t)) addrs) bs) (sym new-kind)
       ∙ ap (λ t. number_after (number_after t addrs) bs) (kinds-edited dims words e r h l cs.kinds 0 c.begin c.one cols.many)
       ∙ ap (λ t. number_after (number_after (number_after 0 (kind_fields es)) (column_edited words cs.addresses e t)) bs) (sym (one-of Field fa))
-      ∙ ap (λ t. number_after t bs) (addresses-edited dims words e r h l cs.addresses (number_after 0 (kind_fields es)) (at-addresses c) cols.addresses_wide (c.addresses_many ∙ cols.many))
-      ∙ ap (λ t. number_after (number_after (number_after 0 (kind_fields es)) (address_fields dims es)) (column_edited words cs.bodies e t)) (sym (ap (bodies b) (one-of (List ℕ) (take dims e.entry.body)) ∙ append-nil row))
-      ∙ bodies-edited dims words e r h l cs.bodies (number_after (number_after 0 (kind_fields es)) (address_fields dims es)) (at-bodies c) cols.bodies_wide (c.bodies_many ∙ cols.many)
+      ∙ ap (λ t. number_after t bs) (addresses-edited dims words e r h l cs.addresses
+      (number_after 0 (kind_fields es)) (at-addresses c) cols.addresses_wide (c.addresses_many ∙ cols.many))
+      ∙ ap (λ t. number_after (number_after (number_after 0 (kind_fields es)) (address_fields dims es))
+      (column_edited words cs.bodies e t)) (sym (ap (bodies b) (one-of (List ℕ) (take dims e.entry.body)) ∙ append-nil row))
+      ∙ bodies-edited dims words e r h l cs.bodies
+      (number_after (number_after 0 (kind_fields es)) (address_fields dims es)) (at-bodies c) cols.bodies_wide
+      (c.bodies_many ∙ cols.many)
       ∙ table-number dims b 0 es in
       let i1 : start cs.kinds p ≤ start cs.addresses 0 = omega (arith, k-end, starts cs.kinds p cs.kinds.count place-low) in
       let i2 : start cs.addresses 0 ≤ start cs.addresses p = low cs.addresses p in
@@ -125,12 +138,14 @@ module _ (dims : ℕ) (words : List ℕ) (e : Edit) (r : IsRecord false dims wor
       let i5 : start cs.bodies 0 ≤ start cs.bodies p = low cs.bodies p in
       let i6 : start cs.bodies p ≤ 64 * length words = omega (arith, o.until, o.inside) in
       sym
-      (runs-meet words (number_after 0 (r0 ∷ fk ∷ [])) (start cs.kinds p) a (start cs.addresses p) (fa ∷ run words (start cs.addresses p) d ∷ run words d (start cs.bodies p) ∷ row ++ r3 ∷ []) i1 i2 i3
+      (runs-meet words (number_after 0 (r0 ∷ fk ∷ [])) (start cs.kinds p) a (start cs.addresses p)
+      (fa ∷ run words (start cs.addresses p) d ∷ run words d (start cs.bodies p) ∷ row ++ r3 ∷ []) i1 i2 i3
       ∙ runs-meet words (number_after 0 (r0 ∷ fk ∷ r1 ∷ fa ∷ [])) (start cs.addresses p) d (start cs.bodies p) (row ++ r3 ∷ []) i4 i5 i6)
       ∙ sym
       (ap (λ t. number_after (number_after (number_after 0 t) addrs) bs) k-runs
       ∙ ap (λ t. number_after (number_after (number_after 0 (r0 ∷ fk ∷ run words (start cs.kinds p) a ∷ [])) t) bs) a-runs
-      ∙ ap (λ t. number_after (number_after (number_after 0 (r0 ∷ fk ∷ run words (start cs.kinds p) a ∷ [])) (run words a (start cs.addresses p) ∷ fa ∷ run words (start cs.addresses p) d ∷ [])) t) b-runs)
+      ∙ ap (λ t. number_after (number_after (number_after 0 (r0 ∷ fk ∷ run words (start cs.kinds p) a ∷ []))
+      (run words a (start cs.addresses p) ∷ fa ∷ run words (start cs.addresses p) d ∷ [])) t) b-runs)
       ∙ table
     where
       low : (c : Column) (i : ℕ) → start c 0 ≤ start c i
@@ -143,10 +158,12 @@ module _ (dims : ℕ) (words : List ℕ) (e : Edit) (r : IsRecord false dims wor
           ∙ ap {B = List Field} (λ t. field t 0 ∷ []) cols.columns.one
 
       at-addresses : AreColumns words cs → cs.addresses.at ≡ 64 + (first_in words).entries
-      at-addresses c = c.addresses ∙ ap (λ t. cs.kinds.at + cs.kinds.count * t) c.one ∙ ap (λ t. cs.kinds.at + t * 1) cols.many ∙ ap (λ t. t + n * 1) c.begin ∙ omega arith
+      at-addresses c = c.addresses ∙ ap (λ t. cs.kinds.at + cs.kinds.count * t) c.one ∙ ap (λ t. cs.kinds.at + t * 1)
+          cols.many ∙ ap (λ t. t + n * 1) c.begin ∙ omega arith
 
       at-bodies : AreColumns words cs → cs.bodies.at ≡ 64 + (first_in words).entries + (first_in words).entries * dims
-      at-bodies c = c.bodies ∙ ap (λ t. t + cs.kinds.count * cs.addresses.width) (at-addresses c) ∙ ap (λ t. 64 + n + cs.kinds.count * t) cols.addresses_wide ∙ ap (λ t. 64 + n + t * dims) cols.many
+      at-bodies c = c.bodies ∙ ap (λ t. t + cs.kinds.count * cs.addresses.width) (at-addresses c) ∙
+          ap (λ t. 64 + n + cs.kinds.count * t) cols.addresses_wide ∙ ap (λ t. 64 + n + t * dims) cols.many
 
   -- ---- words that begin as the record does
 
@@ -157,24 +174,31 @@ module _ (dims : ℕ) (words : List ℕ) (e : Edit) (r : IsRecord false dims wor
       let s = sizes-more cs.kinds.at cs.kinds.width cs.addresses.at cs.addresses.width cs.bodies.at cs.bodies.width cs.kinds.count c.begin c.one c.addresses c.bodies in
       let m : start cs.bodies cs.bodies.count ≡ start cs.bodies cs.kinds.count = ap (start cs.bodies) c.bodies_many in
       let w : (cs.kinds.count + 1) * (1 + cs.addresses.width + cs.bodies.width) ≡ (n + 1) * (1 + dims + dims * b) =
-      ap (λ t. (t + 1) * (1 + cs.addresses.width + cs.bodies.width)) cols.many ∙ ap (λ t. (n + 1) * (1 + t + cs.bodies.width)) cols.addresses_wide ∙ ap (λ t. (n + 1) * (1 + dims + t)) cols.bodies_wide in
+      ap (λ t. (t + 1) * (1 + cs.addresses.width + cs.bodies.width)) cols.many ∙
+      ap (λ t. (n + 1) * (1 + t + cs.bodies.width)) cols.addresses_wide ∙ ap (λ t. (n + 1) * (1 + dims + t))
+      cols.bodies_wide in
       let z : start cs.bodies cs.bodies.count ≤ 64 + linear_digits dims b n = omega (arith, s, m, w, cols.addresses_wide, cols.bodies_wide) in
       under (start cs.bodies cs.bodies.count) (linear_digits dims b n) o.values z k.values
     where
       under : (s d v : ℕ) → s ≤ 64 + d → v ≡ 1 + (d + 63) / 64 → s ≤ 64 * v
       under s d v l e = omega (arith, l, e)
 
-  same-digits : (mid : List ℕ) (v a k : ℕ) → Each (λ x. x < 2 ^ 64) mid → v ≤ length words → v ≤ length mid → take v mid ≡ take v words → a + k ≤ 64 * v → digits_at mid a k ≡ digits_at words a k
+  same-digits : (mid : List ℕ) (v a k : ℕ) → Each (λ x. x < 2 ^ 64) mid → v ≤ length words → v ≤ length mid →
+      take v mid ≡ take v words → a + k ≤ 64 * v → digits_at mid a k ≡ digits_at words a k
   same-digits mid v a k f m1 m2 t i = first mid f m2 ∙ ap (λ xs. digits_at xs a k) t ∙ sym (first words h m1)
     where
       first : (xs : List ℕ) → Each (λ x. x < 2 ^ 64) xs → v ≤ length xs → digits_at xs a k ≡ digits_at (take v xs) a k
       first xs f m =
-          ap (λ ys. digits_at ys a k) (sym (take-append-drop v xs)) ∙ digits-front (take v xs) (drop v xs) a k (omega (arith, i, length-take-le v xs m)) (each-back v xs f)
+          ap (λ ys. digits_at ys a k) (sym (take-append-drop v xs)) ∙ digits-front (take v xs) (drop v xs) a k
+          (omega (arith, i, length-take-le v xs m)) (each-back v xs f)
 
-  same-run : (mid : List ℕ) (v x y : ℕ) → Each (λ x. x < 2 ^ 64) mid → v ≤ length words → v ≤ length mid → take v mid ≡ take v words → x ≤ y → y ≤ 64 * v → run mid x y ≡ run words x y
+  same-run : (mid : List ℕ) (v x y : ℕ) → Each (λ x. x < 2 ^ 64) mid → v ≤ length words → v ≤ length mid →
+      take v mid ≡ take v words → x ≤ y → y ≤ 64 * v → run mid x y ≡ run words x y
   same-run mid v x y f m1 m2 t i j = ap (λ z. field (y - x) z) (same-digits mid v x (y - x) f m1 m2 t (omega (arith, i, j)))
 
-  same-runs : (o : Outline) (mid : List ℕ) → IsOutline false dims words e o → Each (λ x. x < 2 ^ 64) mid → o.values ≤ length words → o.values ≤ length mid → take o.values mid ≡ take o.values words → runs_with mid cs (first_in words).level dims e ≡ fs
+  same-runs : (o : Outline) (mid : List ℕ) → IsOutline false dims words e o → Each (λ x. x < 2 ^ 64) mid →
+      o.values ≤ length words → o.values ≤ length mid → take o.values mid ≡ take o.values words →
+      runs_with mid cs (first_in words).level dims e ≡ fs
   same-runs o mid k f m1 m2 t =
       let p = e.place in
       let u = ordered words cs p cols.columns place-low in
@@ -187,9 +211,12 @@ module _ (dims : ℕ) (words : List ℕ) (e : Edit) (r : IsRecord false dims wor
       let a0 : ℕ = start cs.addresses p in
       let b0 : ℕ = start cs.bodies p in
       let b2 : ℕ = start cs.bodies cs.bodies.count in
-      ap {B = List Field} (λ x. x ∷ fk ∷ run mid k0 a0 ∷ fa ∷ run mid a0 b0 ∷ row ++ run mid b0 b2 ∷ []) (same-run mid v 64 k0 f m1 m2 t u.kinds (omega (arith, u.addresses, u.bodies, u.until, low)))
-      ∙ ap {B = List Field} (λ x. run words 64 k0 ∷ fk ∷ x ∷ fa ∷ run mid a0 b0 ∷ row ++ run mid b0 b2 ∷ []) (same-run mid v k0 a0 f m1 m2 t u.addresses (omega (arith, u.bodies, u.until, low)))
-      ∙ ap {B = List Field} (λ x. run words 64 k0 ∷ fk ∷ run words k0 a0 ∷ fa ∷ x ∷ row ++ run mid b0 b2 ∷ []) (same-run mid v a0 b0 f m1 m2 t u.bodies (omega (arith, u.until, low)))
+      ap {B = List Field} (λ x. x ∷ fk ∷ run mid k0 a0 ∷ fa ∷ run mid a0 b0 ∷ row ++ run mid b0 b2 ∷ [])
+      (same-run mid v 64 k0 f m1 m2 t u.kinds (omega (arith, u.addresses, u.bodies, u.until, low)))
+      ∙ ap {B = List Field} (λ x. run words 64 k0 ∷ fk ∷ x ∷ fa ∷ run mid a0 b0 ∷ row ++ run mid b0 b2 ∷ [])
+      (same-run mid v k0 a0 f m1 m2 t u.addresses (omega (arith, u.bodies, u.until, low)))
+      ∙ ap {B = List Field} (λ x. run words 64 k0 ∷ fk ∷ run words k0 a0 ∷ fa ∷ x ∷ row ++ run mid b0 b2 ∷ [])
+      (same-run mid v a0 b0 f m1 m2 t u.bodies (omega (arith, u.until, low)))
       ∙ ap {B = List Field} (λ x. run words 64 k0 ∷ fk ∷ run words k0 a0 ∷ fa ∷ run words a0 b0 ∷ row ++ x ∷ []) (same-run mid v b0 b2 f m1 m2 t u.until low)
 
   -- ---- the values
@@ -200,7 +227,8 @@ module _ (dims : ℕ) (words : List ℕ) (e : Edit) (r : IsRecord false dims wor
   kept : (o : Outline) → IsOutline false dims words e o → o.front ≤ length (values_as false dims words)
   kept o k = omega (arith, k.front, points-within false dims words e r h l e.place)
 
-  put : (o : Outline) → IsOutline false dims words e o → take o.front (values_as false dims words) ++ e.value ∷ drop o.front (values_as false dims words) ≡ values (edited_as false dims words e)
+  put : (o : Outline) → IsOutline false dims words e o → take o.front (values_as false dims words) ++ e.value ∷
+      drop o.front (values_as false dims words) ≡ values (edited_as false dims words e)
   put o k =
       let z : e.place + e.less ≡ e.place = omega (arith, less) in
       let same : o.until ≡ o.front = k.until ∙ ap (λ t. points_in (take t (entries_as false dims words))) z ∙ sym k.front in
@@ -233,7 +261,8 @@ module _ (dims : ℕ) (words : List ℕ) (e : Edit) (r : IsRecord false dims wor
       let x : n ≤ n + 1 = omega arith in
       let y : (1 + dims + dims * b) * n ≤ (1 + dims + dims * b) * (n + 1) = mul-le-mul_left (1 + dims + dims * b) x in
       let low : words_for (linear_digits dims b n) ≤ words_for (digits_of gs) = fewer (linear_digits dims b n) (digits_of gs) (omega (arith, s, y)) in
-      let p : length (words_of gs ++ values es) ≡ words_for (digits_of gs) + length (values es) = length-append (words_of gs) (values es) ∙ ap (λ i. i + length (values es)) (length-words_of gs) in
+      let p : length (words_of gs ++ values es) ≡ words_for (digits_of gs) + length (values es) =
+      length-append (words_of gs) (values es) ∙ ap (λ i. i + length (values es)) (length-words_of gs) in
       (omega (arith, q, p, t, points-are o k, values-long o k), omega (arith, k.values, low, t), omega (arith, kept o k, values-long o k))
     where
       fewer : (x y : ℕ) → x ≤ y → (x + 63) / 64 ≤ (y + 63) / 64
@@ -241,7 +270,9 @@ module _ (dims : ℕ) (words : List ℕ) (e : Edit) (r : IsRecord false dims wor
 
   -- the first word, and what it needs
   pub counts : (o : Outline) → IsOutline false dims words e o → let points = length words - o.values + 1 in
-      (o.level ≤ 61) × (o.count + 1 ≤ 2 ^ 16) × (points ≤ o.count + 1) × (first_word o.level 0 (o.count + 1) (o.count + 1 - (length words - o.values + 1)) ≡ first_word (first_in words).level 0 (length (edited_as false dims words e)) (children (edited_as false dims words e)))
+      (o.level ≤ 61) × (o.count + 1 ≤ 2 ^ 16) × (points ≤ o.count + 1) ×
+      (first_word o.level 0 (o.count + 1) (o.count + 1 - (length words - o.values + 1)) ≡
+      first_word (first_in words).level 0 (length (edited_as false dims words e)) (children (edited_as false dims words e)))
   counts o k =
       let c : o.count + 1 ≡ length es = ap (λ i. i + 1) k.count ∙ sym many-more in
       let f = children-few es in
@@ -254,8 +285,11 @@ module _ (dims : ℕ) (words : List ℕ) (e : Edit) (r : IsRecord false dims wor
         ap (first_word o.level 0 (o.count + 1)) kids ∙ ap (λ i. first_word o.level 0 i (children es)) c ∙ ap (λ i. first_word i 0 (length es) (children es)) k.level,
       )
 
-  pub opened-record : (o : Outline) (mid new : List ℕ) (first : ℕ) → IsOutline false dims words e o → Each (λ x. x < 2 ^ 64) mid → o.values ≤ length mid → length (take dims e.entry.body) ≡ dims
-      → take o.values mid ≡ take o.values words → drop (1 + words_for (digits_more cs)) mid ≡ take o.front (values_as false dims words) ++ e.value ∷ drop o.front (values_as false dims words)
+  pub opened-record : (o : Outline) (mid new : List ℕ) (first : ℕ) → IsOutline false dims words e o →
+      Each (λ x. x < 2 ^ 64) mid → o.values ≤ length mid → length (take dims e.entry.body) ≡ dims
+      → take o.values mid ≡ take o.values words →
+      drop (1 + words_for (digits_more cs)) mid ≡ take o.front (values_as false dims words) ++ e.value ∷
+      drop o.front (values_as false dims words)
       → new ≡ with_fields (runs_with mid cs (first_in words).level dims e) mid
       → first ≡ first_word (first_in words).level 0 (length (edited_as false dims words e)) (children (edited_as false dims words e))
       → slice_set new 0 first ≡ record_in false dims (first_in words).level (edited_as false dims words e)

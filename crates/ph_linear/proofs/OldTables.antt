@@ -1,5 +1,6 @@
 -- A record is its first word, the table of its entries and their values.
-use Rattle.std.proofs.Common.{◌≡◌, ℕ, suc, ◌+◌, ◌-◌, ◌*◌, ◌/◌, ◌%◌, ◌^◌, ◌≤◌, ◌<◌, refl, sym, ◌∙◌, ap, subst, arith, List, [], ◌∷◌, ◌++◌, length, map, take, drop, replicate, Bool, true, false, slice_index_or}
+use Rattle.std.proofs.Common.{◌≡◌, ℕ, suc, ◌+◌, ◌-◌, ◌*◌, ◌/◌, ◌%◌, ◌^◌, ◌≤◌, ◌<◌, refl, sym, ◌∙◌, ap, subst, arith, List, []}
+use Rattle.std.proofs.Common.{◌∷◌, ◌++◌, length, map, take, drop, replicate, Bool, true, false, slice_index_or}
 use Rattle.std.specs.Prelude.{Some, None, ◌==◌}
 use Rattle.std.specs.List.{AllByRecursion as Each}
 use Rattle.std.proofs.lemmas.List.{length-drop, length-take-le, length-replicate, take-append-drop}
@@ -24,7 +25,8 @@ use Rattle.ph_bits.specs.Edits.{flats}
 flat-filled : (rs : List Read) (vs : List ℕ) (cs : List PlainNode) → spots rs ≡ length vs → kids rs ≡ length cs → flat (filled rs vs cs) ≡ flats rs vs
 flat-filled [] vs cs h k = refl
 flat-filled (read_point a b ∷ rs) [] cs h k = absurd (omega (arith, h))
-flat-filled (read_point a b ∷ rs) (v ∷ vs) cs h k = ap {B = List Flat} (λ t. record { addr = a; body = b; value = Some v } ∷ t) (flat-filled rs vs cs (omega (arith, h)) k)
+flat-filled (read_point a b ∷ rs) (v ∷ vs) cs h k =
+    ap {B = List Flat} (λ t. record { addr = a; body = b; value = Some v } ∷ t) (flat-filled rs vs cs (omega (arith, h)) k)
 flat-filled (read_child a b ∷ rs) vs [] h k = absurd (omega (arith, k))
 flat-filled (read_child a b ∷ rs) vs (c ∷ cs) h k = ap {B = List Flat} (λ t. record { addr = a; body = b; value = None } ∷ t) (flat-filled rs vs cs h (omega (arith, k)))
 
@@ -85,7 +87,8 @@ module _ (cube : Bool) (dims w : ℕ) (rest : List ℕ) (r : IsRecord cube dims 
 
   values-many : spots (entries_as cube dims (w ∷ rest)) ≡ length (values_as cube dims (w ∷ rest))
   values-many =
-      count (spots rs) (kids rs) (length rs) f.entries f.children (words_for digits) (length rest) (length vs) (spots-kids rs) counts.0 counts.1 r.kids r.long (ap length values-are ∙ length-drop (words_for digits) rest)
+      count (spots rs) (kids rs) (length rs) f.entries f.children (words_for digits) (length rest) (length vs)
+      (spots-kids rs) counts.0 counts.1 r.kids r.long (ap length values-are ∙ length-drop (words_for digits) rest)
     where
       count : (s k l n c t m v : ℕ) → s + k ≡ l → l ≡ n → k ≡ c → c ≤ n → suc m ≡ 1 + t + (n - c) → v ≡ m - t → s ≡ v
       count s k l n c t m v a b d e g i = omega (arith, a, b, d, e, g, i)
@@ -99,7 +102,8 @@ module _ (cube : Bool) (dims w : ℕ) (rest : List ℕ) (r : IsRecord cube dims 
 
   table-are : table cube dims f.level es ≡ fields_of ws xs
   table-are =
-      ap (table cube dims f.level) (sym flat-are) ∙ tables-again cube dims f xs (filled rs vs cs) (length-fields cube dims words ∙ length-widths cube dims f) numbers-fit r.tables again.0
+      ap (table cube dims f.level) (sym flat-are) ∙ tables-again cube dims f xs (filled rs vs cs)
+      (length-fields cube dims words ∙ length-widths cube dims f) numbers-fit r.tables again.0
 
   enough : words_for digits ≤ length rest
   enough = long (words_for digits) (length rest) (f.entries - f.children) r.long
@@ -112,7 +116,10 @@ module _ (cube : Bool) (dims w : ℕ) (rest : List ℕ) (r : IsRecord cube dims 
 
   words-are : words_of (fields_of ws xs) ≡ ts
   words-are =
-      subst (λ d. length ts ≡ words_for d → number_of (map (field 64) ts) % 2 ^ padding d ≡ 0 → words_of (fields_of ws (read_fields d ws (number_of (map (field 64) ts) / 2 ^ padding d))) ≡ ts) (total-widths cube dims f) (λ m z. words-again ts ws m words-fit z) (length-take-le (words_for digits) rest enough) r.padded
+      subst (λ d. length ts ≡ words_for d → number_of (map (field 64) ts) % 2 ^ padding d ≡ 0 →
+      words_of (fields_of ws (read_fields d ws (number_of (map (field 64) ts) / 2 ^ padding d))) ≡ ts)
+      (total-widths cube dims f) (λ m z. words-again ts ws m words-fit z)
+      (length-take-le (words_for digits) rest enough) r.padded
 
   pub table-made : IsTable cube dims (w ∷ rest) (flats (entries_as cube dims (w ∷ rest)) (values_as cube dims (w ∷ rest)))
   table-made = record {
@@ -129,7 +136,8 @@ module _ (cube : Bool) (dims w : ℕ) (rest : List ℕ) (r : IsRecord cube dims 
   }
 
 -- the table of any record
-pub table-of : (cube : Bool) (dims : ℕ) (words : List ℕ) → IsRecord cube dims words → Each (λ x. x < 2 ^ 64) words → IsTable cube dims words (flats (entries_as cube dims words) (values_as cube dims words))
+pub table-of : (cube : Bool) (dims : ℕ) (words : List ℕ) → IsRecord cube dims words → Each (λ x. x < 2 ^ 64) words →
+    IsTable cube dims words (flats (entries_as cube dims words) (values_as cube dims words))
 table-of cube dims [] r h = absurd (none (words_for (digits_as cube dims (first_in []))) _ r.long)
   where
     none : (t k : ℕ) → 0 ≡ 1 + t + k → ⊥
@@ -138,13 +146,16 @@ table-of cube dims (w ∷ rest) r h = table-made cube dims w rest r h
 
 -- ---- bodies
 
-long-flats : (d : ℕ) (ks ads : List ℕ) (bs : List (List ℕ)) (us : List ℕ) → Each (λ b. length b ≡ d) bs → Each (λ (e : Flat). length e.body ≡ d) (flats (read_linear ks ads bs) us)
+long-flats : (d : ℕ) (ks ads : List ℕ) (bs : List (List ℕ)) (us : List ℕ) → Each (λ b. length b ≡ d) bs →
+    Each (λ (e : Flat). length e.body ≡ d) (flats (read_linear ks ads bs) us)
 long-flats d [] ads bs us h = tt
 long-flats d (k ∷ ks) [] bs us h = tt
 long-flats d (k ∷ ks) (a ∷ ads) [] us h = tt
 long-flats d (k ∷ ks) (a ∷ ads) (b ∷ bs) us h = one (k == 1) us (λ qs. long-flats d ks ads bs qs h.1)
   where
-    one : (t : Bool) (us : List ℕ) → ((us : List ℕ) → Each (λ (e : Flat). length e.body ≡ d) (flats (read_linear ks ads bs) us)) → Each (λ (e : Flat). length e.body ≡ d) (flats (read t a b ∷ read_linear ks ads bs) us)
+    one : (t : Bool) (us : List ℕ) →
+        ((us : List ℕ) → Each (λ (e : Flat). length e.body ≡ d) (flats (read_linear ks ads bs) us)) →
+        Each (λ (e : Flat). length e.body ≡ d) (flats (read t a b ∷ read_linear ks ads bs) us)
     one true us i = (h.0, i us)
     one false [] i = tt
     one false (u ∷ us) i = (h.0, i us)
@@ -153,6 +164,10 @@ pub long-bodies : (dims : ℕ) (words : List ℕ) → Each (λ (e : Flat). lengt
 long-bodies dims words =
     let f : First = first_in words in
     let xs : List ℕ = fields_as false dims words in
-    let l : length (fields_as false dims words) ≡ (first_in words).entries + ((first_in words).entries + (first_in words).entries * dims) = length-fields false dims words ∙ length-widths false dims f in
+    let l : length (fields_as false dims words) ≡
+    (first_in words).entries + ((first_in words).entries + (first_in words).entries * dims) =
+    length-fields false dims words ∙ length-widths false dims f in
     long-flats dims _ _ (parts f.entries dims (drop (f.entries + f.entries) xs)) (values_as false dims words)
-    (Each-each (parts f.entries dims (drop (f.entries + f.entries) xs)) (λ b p. p.0) (linear-bodies dims f xs l (fit-read (digits_as false dims f) (widths false dims f) (number_as false dims words / 2 ^ padding (digits_as false dims f)))))
+    (Each-each (parts f.entries dims (drop (f.entries + f.entries) xs)) (λ b p. p.0)
+    (linear-bodies dims f xs l (fit-read (digits_as false dims f) (widths false dims f)
+    (number_as false dims words / 2 ^ padding (digits_as false dims f)))))

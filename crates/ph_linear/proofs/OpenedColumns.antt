@@ -21,7 +21,9 @@ abbrev AreBehind : List ℕ → ℕ → ℕ → List Field → List ℕ → Type
 AreBehind old at pad fs new = IsOver old at (digits_of fs + pad) (number_of fs * 2 ^ pad) new
 
 -- fields in front of them
-fields-before : (old mid new : List ℕ) (at next w v pad : ℕ) (xs fs : List Field) → digits_of xs ≡ w → number_of xs ≡ v → next ≡ at + w → length mid ≡ length old → length new ≡ length old → next + (digits_of fs + pad) ≤ 64 * length old
+fields-before : (old mid new : List ℕ) (at next w v pad : ℕ) (xs fs : List Field) → digits_of xs ≡ w →
+    number_of xs ≡ v → next ≡ at + w → length mid ≡ length old → length new ≡ length old →
+    next + (digits_of fs + pad) ≤ 64 * length old
     → AreBehind old next pad fs mid → IsOver mid at w v new → AreBehind old at pad (xs ++ fs) new
 fields-before old mid new at next w v pad xs fs d n e l m inside p q =
     let k : ℕ = digits_of fs + pad in
@@ -36,7 +38,8 @@ fields-before old mid new at next w v pad xs fs d n e l m inside p q =
     apart : (v F P K n : ℕ) → K ≡ F * P → v * K + n * P ≡ (v * F + n) * P
     apart v F P K n f = let g : v * K ≡ v * (F * P) = ap (λ t. v * t) f in omega (arith, g)
 
-field-before : (old mid new : List ℕ) (at next w v pad : ℕ) (fs : List Field) → next ≡ at + w → length mid ≡ length old → length new ≡ length old → next + (digits_of fs + pad) ≤ 64 * length old
+field-before : (old mid new : List ℕ) (at next w v pad : ℕ) (fs : List Field) → next ≡ at + w →
+    length mid ≡ length old → length new ≡ length old → next + (digits_of fs + pad) ≤ 64 * length old
     → AreBehind old next pad fs mid → IsOver mid at w v new → AreBehind old at pad (field w v ∷ fs) new
 field-before old mid new at next w v pad fs =
     fields-before old mid new at next w v pad (field w v ∷ []) fs (right w) (alone (2 ^ w) v)
@@ -48,28 +51,40 @@ field-before old mid new at next w v pad fs =
     alone n v = omega arith
 
 -- a run in front of them
-run-before : (old mid new : List ℕ) (from until at next pad : ℕ) (fs : List Field) → from ≤ until → until ≤ next → next ≡ at + (until - from) → length mid ≡ length old → length new ≡ length old → next + (digits_of fs + pad) ≤ 64 * length old
+run-before : (old mid new : List ℕ) (from until at next pad : ℕ) (fs : List Field) → from ≤ until → until ≤ next →
+    next ≡ at + (until - from) → length mid ≡ length old → length new ≡ length old → next + (digits_of fs + pad) ≤ 64 * length old
     → AreBehind old next pad fs mid → IsMoved mid from at (until - from) new → AreBehind old at pad (run old from until ∷ fs) new
 run-before old mid new from until at next pad fs l k e m n inside p q =
     field-before old mid new at next (until - from) (digits_at old from (until - from)) pad fs e m n inside p
     (over-moved mid new from at (until - from) (digits_at old from (until - from)) q (sym (p.front from (until - from) (omega (arith, l, k)))))
 
-module _ (old : List ℕ) (cs : Columns) (level dims : ℕ) (e : Edit) (cols : AreColumns old cs) (within : e.place ≤ cs.kinds.count) (wide : cs.bodies.width ≡ dims * level) (long : length (take dims e.entry.body) ≡ dims) where
+module _ (old : List ℕ) (cs : Columns) (level dims : ℕ) (e : Edit) (cols : AreColumns old cs)
+    (within : e.place ≤ cs.kinds.count) (wide : cs.bodies.width ≡ dims * level)
+    (long : length (take dims e.entry.body) ≡ dims) where
   row-digits : digits_of (body_fields level (take dims e.entry.body)) ≡ cs.bodies.width
   row-digits = digits-row level (take dims e.entry.body) ∙ ap (λ t. t * level) long ∙ sym wide
 
-  row-more : digits_of (body_fields level (take dims e.entry.body) ++ run old (start cs.bodies e.place) (start cs.bodies cs.bodies.count) ∷ []) ≡ cs.bodies.width + (start cs.bodies cs.bodies.count - start cs.bodies e.place)
-  row-more = digits_of-append (body_fields level (take dims e.entry.body)) (run old (start cs.bodies e.place) (start cs.bodies cs.bodies.count) ∷ []) ∙ ap (λ t. t + digits_of (run old (start cs.bodies e.place) (start cs.bodies cs.bodies.count) ∷ [])) row-digits ∙ omega arith
+  row-more : digits_of (body_fields level (take dims e.entry.body) ++ run old (start cs.bodies e.place)
+      (start cs.bodies cs.bodies.count) ∷ []) ≡ cs.bodies.width + (start cs.bodies cs.bodies.count - start cs.bodies e.place)
+  row-more = digits_of-append (body_fields level (take dims e.entry.body))
+      (run old (start cs.bodies e.place) (start cs.bodies cs.bodies.count) ∷ []) ∙
+      ap (λ t. t + digits_of (run old (start cs.bodies e.place) (start cs.bodies cs.bodies.count) ∷ [])) row-digits ∙ omega arith
 
   pub with-digits : digits_of (runs_with old cs level dims e) ≡ digits_more cs
   with-digits =
       let o = ordered old cs e.place cols within in
-      sum (start cs.kinds e.place) (start cs.addresses e.place) (start cs.bodies e.place) (start cs.bodies cs.bodies.count) cs.addresses.width cs.bodies.width _ o.kinds o.addresses o.bodies o.until row-more
+      sum (start cs.kinds e.place) (start cs.addresses e.place) (start cs.bodies e.place)
+      (start cs.bodies cs.bodies.count) cs.addresses.width cs.bodies.width _ o.kinds o.addresses o.bodies o.until row-more
     where
       sum : (k a b c w v x : ℕ) → 64 ≤ k → k ≤ a → a ≤ b → b ≤ c → x ≡ v + (c - b) → k - 64 + (1 + (a - k + (w + (b - a + x)))) ≡ c - 64 + 1 + w + v
       sum k a b c w v x l m n o e = omega (arith, l, m, n, o, e)
 
-module _ (old w0 w1 w2 w3 w4 w5 new : List ℕ) (cs : Columns) (level dims : ℕ) (e : Edit) (cols : AreColumns old cs) (within : e.place ≤ cs.kinds.count) (small : Each (λ x. x < 2 ^ 64) old) (fits : Each (λ x. x < 2 ^ 64) new) (e0 : length w0 ≡ length old) (e1 : length w1 ≡ length old) (e2 : length w2 ≡ length old) (e3 : length w3 ≡ length old) (e4 : length w4 ≡ length old) (e5 : length w5 ≡ length old) (e6 : length new ≡ length old) (wide : cs.bodies.width ≡ dims * level) (long : length (take dims e.entry.body) ≡ dims) (room : 1 + words_for (digits_more cs) ≤ length old) where
+module _ (old w0 w1 w2 w3 w4 w5 new : List ℕ) (cs : Columns) (level dims : ℕ) (e : Edit) (cols : AreColumns old cs)
+    (within : e.place ≤ cs.kinds.count) (small : Each (λ x. x < 2 ^ 64) old) (fits : Each (λ x. x < 2 ^ 64) new)
+    (e0 : length w0 ≡ length old) (e1 : length w1 ≡ length old) (e2 : length w2 ≡ length old)
+    (e3 : length w3 ≡ length old) (e4 : length w4 ≡ length old) (e5 : length w5 ≡ length old)
+    (e6 : length new ≡ length old) (wide : cs.bodies.width ≡ dims * level)
+    (long : length (take dims e.entry.body) ≡ dims) (room : 1 + words_for (digits_more cs) ≤ length old) where
   abbrev k0 : ℕ
   k0 = start cs.kinds e.place
 
@@ -93,17 +108,22 @@ module _ (old w0 w1 w2 w3 w4 w5 new : List ℕ) (cs : Columns) (level dims : ℕ
   f2 = body_fields level (take dims e.entry.body) ++ run old (start cs.bodies e.place) (start cs.bodies cs.bodies.count) ∷ []
 
   abbrev f3 : List Field
-  f3 = run old (start cs.addresses e.place) (start cs.bodies e.place) ∷ body_fields level (take dims e.entry.body) ++ run old (start cs.bodies e.place) (start cs.bodies cs.bodies.count) ∷ []
+  f3 = run old (start cs.addresses e.place) (start cs.bodies e.place) ∷ body_fields level (take dims e.entry.body) ++
+      run old (start cs.bodies e.place) (start cs.bodies cs.bodies.count) ∷ []
 
   abbrev f4 : List Field
-  f4 = field cs.addresses.width e.entry.addr ∷ run old (start cs.addresses e.place) (start cs.bodies e.place) ∷ body_fields level (take dims e.entry.body) ++ run old (start cs.bodies e.place) (start cs.bodies cs.bodies.count) ∷ []
+  f4 = field cs.addresses.width e.entry.addr ∷ run old (start cs.addresses e.place) (start cs.bodies e.place) ∷
+      body_fields level (take dims e.entry.body) ++ run old (start cs.bodies e.place) (start cs.bodies cs.bodies.count) ∷ []
 
   abbrev f5 : List Field
-  f5 = run old (start cs.kinds e.place) (start cs.addresses e.place) ∷ field cs.addresses.width e.entry.addr ∷ run old (start cs.addresses e.place) (start cs.bodies e.place) ∷ body_fields level (take dims e.entry.body) ++ run old (start cs.bodies e.place) (start cs.bodies cs.bodies.count) ∷ []
+  f5 = run old (start cs.kinds e.place) (start cs.addresses e.place) ∷ field cs.addresses.width e.entry.addr ∷
+      run old (start cs.addresses e.place) (start cs.bodies e.place) ∷ body_fields level (take dims e.entry.body) ++
+      run old (start cs.bodies e.place) (start cs.bodies cs.bodies.count) ∷ []
 
   -- the places at which the parts begin then, from the last to the first
   pub open-columns : (t tb ta t3 t2 t1 tk : ℕ) → t ≡ start cs.bodies cs.bodies.count + 1 + cs.addresses.width + cs.bodies.width
-      → t3 ≡ t - (start cs.bodies cs.bodies.count - start cs.bodies e.place) → tb ≡ t3 - cs.bodies.width → t2 ≡ tb - (start cs.bodies e.place - start cs.addresses e.place)
+      → t3 ≡ t - (start cs.bodies cs.bodies.count - start cs.bodies e.place) → tb ≡ t3 - cs.bodies.width →
+      t2 ≡ tb - (start cs.bodies e.place - start cs.addresses e.place)
       → ta ≡ t2 - cs.addresses.width → t1 ≡ ta - (start cs.addresses e.place - start cs.kinds e.place) → tk ≡ t1 - 1
       → IsOver old t (64 * ((t + 63) / 64) - t) 0 w0
       → IsMoved w0 (start cs.bodies e.place) t3 (start cs.bodies cs.bodies.count - start cs.bodies e.place) w1
@@ -119,7 +139,8 @@ module _ (old w0 w1 w2 w3 w4 w5 new : List ℕ) (cs : Columns) (level dims : ℕ
       let more = row-more old cs level dims e cols within wide long in
       let digits = with-digits old cs level dims e cols within wide long in
       let pad : ℕ = 64 * words_for d - d in
-      let z : t ≡ 64 + digits_more cs = total (start cs.bodies cs.bodies.count) cs.addresses.width cs.bodies.width t s0 (omega (arith, o.kinds, o.addresses, o.bodies, o.until)) in
+      let z : t ≡ 64 + digits_more cs = total (start cs.bodies cs.bodies.count) cs.addresses.width cs.bodies.width t
+      s0 (omega (arith, o.kinds, o.addresses, o.bodies, o.until)) in
       let y : 64 * ((t + 63) / 64) - t ≡ 64 * words_for (digits_more cs) - digits_more cs = round t (digits_more cs) z in
       let n3 : t ≡ t3 + (start cs.bodies cs.bodies.count - start cs.bodies e.place) = omega (arith, s0, s1, o.until) in
       let n3b : t3 ≡ start cs.bodies e.place + 1 + cs.addresses.width + cs.bodies.width = omega (arith, s0, s1, o.until) in
@@ -143,7 +164,8 @@ module _ (old w0 w1 w2 w3 w4 w5 new : List ℕ) (cs : Columns) (level dims : ℕ
       let p0 : AreBehind old t pad [] w0 = nothing old w0 t pad _ y q0 in
       let p1 : AreBehind old t3 pad f1 w1 = run-before old w0 w1 b0 b2 t3 t pad [] o.until (omega (arith, s0)) n3 e0 e1 i0 p0 q1 in
       let p2 : AreBehind old tb pad f2 w2 =
-      fields-before old w1 w2 tb t3 (dims * level) (number_of row) pad row f1 (row-digits old cs level dims e cols within wide long ∙ wide) refl (nb ∙ ap (λ k. tb + k) wide) e1 e2 i1 p1 q2 in
+      fields-before old w1 w2 tb t3 (dims * level) (number_of row) pad row f1
+      (row-digits old cs level dims e cols within wide long ∙ wide) refl (nb ∙ ap (λ k. tb + k) wide) e1 e2 i1 p1 q2 in
       let p3 : AreBehind old t2 pad f3 w3 = run-before old w2 w3 a0 b0 t2 tb pad f2 o.bodies (omega (arith, nbb)) n2 e2 e3 i2 p2 q3 in
       let p4 : AreBehind old ta pad f4 w4 = field-before old w3 w4 ta t2 cs.addresses.width e.entry.addr pad f3 na e3 e4 i3 p3 q4 in
       let p5 : AreBehind old t1 pad f5 w5 = run-before old w4 w5 k0 a0 t1 ta pad f4 o.addresses (omega (arith, nab)) n1 e4 e5 i4 p4 q5 in

@@ -1,7 +1,8 @@
 -- Values that are moved up behind longer tables, with a new one among them.
 use Rattle.std.proofs.Common.{◌≡◌, ℕ, suc, ◌+◌, ◌-◌, ◌≤◌, sym, ◌∙◌, ap, arith, List, [], ◌∷◌, ◌++◌, length, take, drop, slice_set}
 use Rattle.std.specs.List.{copy_within}
-use Rattle.std.proofs.lemmas.List.{append_assoc, take-take, drop_at, drop-take, drop-drop, drop_all, append-nil, length-drop, length-take-le, take-set-le, take-append-le, set_split, length-set}
+use Rattle.std.proofs.lemmas.List.{append_assoc, take-take, drop_at, drop-take, drop-drop, drop_all, append-nil}
+use Rattle.std.proofs.lemmas.List.{length-drop, length-take-le, take-set-le, take-append-le, set_split, length-set}
 use Rattle.std.proofs.lemmas.List.Edits.{take-paste, drop-paste, length-paste}
 
 -- words that are copied from a place on leave those in front of it

@@ -1,5 +1,6 @@
 -- Digits that are put in place of others.
-use Rattle.std.proofs.Common.{◌≡◌, ℕ, zero, suc, ◌+◌, ◌-◌, ◌*◌, ◌/◌, ◌%◌, ◌^◌, ◌≤◌, ◌<◌, refl, sym, ◌∙◌, ap, subst, arith, List, [], ◌∷◌, ◌++◌, length, length-append, map, take, slice_index_or}
+use Rattle.std.proofs.Common.{◌≡◌, ℕ, zero, suc, ◌+◌, ◌-◌, ◌*◌, ◌/◌, ◌%◌, ◌^◌, ◌≤◌, ◌<◌, refl, sym, ◌∙◌, ap, subst}
+use Rattle.std.proofs.Common.{arith, List, [], ◌∷◌, ◌++◌, length, length-append, map, take, slice_index_or}
 use Rattle.std.specs.List.{AllByRecursion as Each}
 use Rattle.std.proofs.lemmas.List.{append-nil}
 use Rattle.std.proofs.lemmas.Nat.{mod-mul-add, pow-add}
@@ -38,7 +39,8 @@ over-next old mid new at m w x y e f l p q = record {
 }
 
 -- the field, or the fields, of an entry within a column
-pub over-column : (old new : List ℕ) (c : Column) (e : Edit) (fs : List Field) → length new ≡ length old → c.at + c.count * c.width ≤ 64 * length old → e.place < c.count → e.less ≡ 1
+pub over-column : (old new : List ℕ) (c : Column) (e : Edit) (fs : List Field) → length new ≡ length old →
+    c.at + c.count * c.width ≤ 64 * length old → e.place < c.count → e.less ≡ 1
     → digits_of fs ≡ c.width → IsOver old (c.at + e.place * c.width) c.width (number_of fs) new → IsColumnOver old c e fs new
 over-column old new c e fs f l p less d o = record {
   value =
@@ -48,9 +50,12 @@ over-column old new c e fs f l p less d o = record {
       ap (λ t. digits_at new c.at t) z.0
       ∙ digits-parts new c.at (e.place * w) (w + k * w) z.1
       ∙ ap (λ t. digits_at new c.at (e.place * w) * 2 ^ (w + k * w) + t) (digits-parts new (c.at + e.place * w) w (k * w) z.2)
-      ∙ ap (λ t. t * 2 ^ (w + k * w) + (digits_at new (c.at + e.place * w) w * 2 ^ (k * w) + digits_at new (c.at + e.place * w + w) (k * w))) (o.front c.at (e.place * w) (omega arith))
+      ∙ ap (λ t. t * 2 ^ (w + k * w) +
+      (digits_at new (c.at + e.place * w) w * 2 ^ (k * w) + digits_at new (c.at + e.place * w + w) (k * w)))
+      (o.front c.at (e.place * w) (omega arith))
       ∙ ap (λ t. digits_at old c.at (e.place * w) * 2 ^ (w + k * w) + (t * 2 ^ (k * w) + digits_at new (c.at + e.place * w + w) (k * w))) o.value
-      ∙ ap (λ t. digits_at old c.at (e.place * w) * 2 ^ (w + k * w) + (number_of fs * 2 ^ (k * w) + t)) (o.behind (c.at + e.place * w + w) (k * w) (omega arith) (omega (arith, z.2, f)))
+      ∙ ap (λ t. digits_at old c.at (e.place * w) * 2 ^ (w + k * w) + (number_of fs * 2 ^ (k * w) + t))
+      (o.behind (c.at + e.place * w + w) (k * w) (omega arith) (omega (arith, z.2, f)))
       ∙ sym (made old c e fs less d);
   front = λ a k h. o.front a k (omega (arith, h));
   behind = λ a k h i.
@@ -66,7 +71,10 @@ over-column old new c e fs f l p less d o = record {
         (omega (arith, m), omega (arith, m, b, f), omega (arith, m, b, f))
 
     made : (old : List ℕ) (c : Column) (e : Edit) (fs : List Field) → e.less ≡ 1 → digits_of fs ≡ c.width
-        → number_of (column_edited old c e fs) ≡ digits_at old c.at (e.place * c.width) * 2 ^ (c.width + (c.count - (e.place + e.less)) * c.width) + (number_of fs * 2 ^ ((c.count - (e.place + e.less)) * c.width) + digits_at old (c.at + e.place * c.width + c.width) ((c.count - (e.place + e.less)) * c.width))
+        → number_of (column_edited old c e fs) ≡ digits_at old c.at (e.place * c.width) * 2 ^
+        (c.width + (c.count - (e.place + e.less)) * c.width) +
+        (number_of fs * 2 ^ ((c.count - (e.place + e.less)) * c.width) + digits_at old
+        (c.at + e.place * c.width + c.width) ((c.count - (e.place + e.less)) * c.width))
     made old c e fs less d =
         let w : ℕ = c.width in
         let k : ℕ = c.count - (e.place + e.less) in
@@ -74,11 +82,13 @@ over-column old new c e fs f l p less d o = record {
         let s : ℕ = 0 * 2 ^ ((e.place - 0) * w) + digits_at old (c.at + 0 * w) ((e.place - 0) * w) in
         let z1 : e.place - 0 ≡ e.place = omega arith in
         let z2 : c.at + 0 * c.width ≡ c.at = omega arith in
-        let z3 : 0 * 2 ^ ((e.place - 0) * c.width) + digits_at old (c.at + 0 * c.width) ((e.place - 0) * c.width) ≡ digits_at old (c.at + 0 * c.width) ((e.place - 0) * c.width) = omega arith in
+        let z3 : 0 * 2 ^ ((e.place - 0) * c.width) + digits_at old (c.at + 0 * c.width) ((e.place - 0) * c.width) ≡
+        digits_at old (c.at + 0 * c.width) ((e.place - 0) * c.width) = omega arith in
         let z4 : c.at + (e.place + e.less) * c.width ≡ c.at + e.place * c.width + c.width = ap (λ t. c.at + (e.place + t) * c.width) less ∙ omega arith in
         let first : s ≡ digits_at old c.at (e.place * w) = z3 ∙ ap (λ t. digits_at old t ((e.place - 0) * w)) z2 ∙ ap (λ t. digits_at old c.at (t * w)) z1 in
         number_after-append s fs behind
-        ∙ ap (λ t. t * 2 ^ (k * w) + digits_at old (c.at + (e.place + e.less) * w) (k * w)) (number_after-start s fs ∙ ap (λ t. s * 2 ^ t + number_of fs) d ∙ ap (λ t. t * 2 ^ w + number_of fs) first)
+        ∙ ap (λ t. t * 2 ^ (k * w) + digits_at old (c.at + (e.place + e.less) * w) (k * w))
+        (number_after-start s fs ∙ ap (λ t. s * 2 ^ t + number_of fs) d ∙ ap (λ t. t * 2 ^ w + number_of fs) first)
         ∙ ap (λ t. (digits_at old c.at (e.place * w) * 2 ^ w + number_of fs) * 2 ^ (k * w) + digits_at old t (k * w)) z4
         ∙ apart (digits_at old c.at (e.place * w)) (number_of fs) (2 ^ w) (2 ^ (k * w)) (2 ^ (w + k * w)) _ (pow-add 2 w (k * w))
       where
@@ -87,7 +97,8 @@ over-column old new c e fs f l p less d o = record {
 
 -- ---- rows
 
-pub row-more : (r w : ℕ) (xs : List ℕ) (i : ℕ) → i < length xs → number_after r (map (field w) (take (i + 1) xs)) ≡ number_after r (map (field w) (take i xs)) * 2 ^ w + slice_index_or xs i 0
+pub row-more : (r w : ℕ) (xs : List ℕ) (i : ℕ) → i < length xs → number_after r (map (field w) (take (i + 1) xs)) ≡
+    number_after r (map (field w) (take i xs)) * 2 ^ w + slice_index_or xs i 0
 row-more r w [] i l = absurd (omega (arith, l))
 row-more r w (x ∷ xs) zero l = refl
 row-more r w (x ∷ xs) (suc i) l =
@@ -114,7 +125,8 @@ all-digits ws h =
     ∙ mod-eq_of_lt (number-small ws h)
 
 -- the number of the digits of words, in three parts
-three : (ws : List ℕ) (a b c : ℕ) → Each (λ x. x < 2 ^ 64) ws → a + (b + c) ≡ 64 * length ws → number_in ws ≡ digits_at ws 0 a * 2 ^ (b + c) + (digits_at ws a b * 2 ^ c + digits_at ws (a + b) c)
+three : (ws : List ℕ) (a b c : ℕ) → Each (λ x. x < 2 ^ 64) ws → a + (b + c) ≡ 64 * length ws →
+    number_in ws ≡ digits_at ws 0 a * 2 ^ (b + c) + (digits_at ws a b * 2 ^ c + digits_at ws (a + b) c)
 three ws a b c h e =
     let l1 : 0 + a + (b + c) ≤ 64 * length ws = omega (arith, e) in
     let l2 : a + b + c ≤ 64 * length ws = omega (arith, e) in
@@ -126,7 +138,9 @@ three ws a b c h e =
     ∙ ap (λ t. digits_at ws 0 a * 2 ^ (b + c) + t) (digits-parts ws a b c l2)
 
 -- what lies behind the fields of a table is made of the values
-behind-table : (w : ℕ) (fs : List Field) (vs : List ℕ) (d r : ℕ) → Fit fs → Each (λ x. x < 2 ^ 64) vs → d ≡ digits_of fs → d + r ≡ 64 * (words_for (digits_of fs) + length vs) → digits_at (w ∷ words_of fs ++ vs) (64 + d) r ≡ number_in vs
+behind-table : (w : ℕ) (fs : List Field) (vs : List ℕ) (d r : ℕ) → Fit fs → Each (λ x. x < 2 ^ 64) vs →
+    d ≡ digits_of fs → d + r ≡ 64 * (words_for (digits_of fs) + length vs) →
+    digits_at (w ∷ words_of fs ++ vs) (64 + d) r ≡ number_in vs
 behind-table w fs vs d r h k a e =
     let t : ℕ = words_for (digits_of fs) in
     let pad : ℕ = 64 * words_for (digits_of fs) - digits_of fs in
@@ -156,7 +170,8 @@ pub same-number : (xs ys : List ℕ) → Each (λ x. x < 2 ^ 64) xs → Each (λ
 same-number xs ys h k l e =
     sym (pieces-number 64 xs h) ∙ ap (λ n. pieces 64 n (number_in xs)) l ∙ ap (pieces 64 (length ys)) e ∙ pieces-number 64 ys k
 
-pub over-table : (w : ℕ) (fs gs : List Field) (vs new : List ℕ) → w < 2 ^ 64 → digits_of gs ≡ digits_of fs → Fit fs → Fit gs → Each (λ x. x < 2 ^ 64) vs → Each (λ x. x < 2 ^ 64) new
+pub over-table : (w : ℕ) (fs gs : List Field) (vs new : List ℕ) → w < 2 ^ 64 → digits_of gs ≡ digits_of fs → Fit fs →
+    Fit gs → Each (λ x. x < 2 ^ 64) vs → Each (λ x. x < 2 ^ 64) new
     → length new ≡ length (w ∷ words_of fs ++ vs) → IsOver (w ∷ words_of fs ++ vs) 64 (digits_of fs) (number_of gs) new → new ≡ w ∷ words_of gs ++ vs
 over-table w fs gs vs new u d f g h k l o =
     let old : List ℕ = w ∷ words_of fs ++ vs in
@@ -169,10 +184,12 @@ over-table w fs gs vs new u d f g h k l o =
     let ws : Each (λ x. x < 2 ^ 64) (words_of gs ++ vs) = Each-append (λ x. x < 2 ^ 64) (words_of gs) vs (pieces-small 64 (words_for (digits_of gs)) _) h in
     let os : Each (λ x. x < 2 ^ 64) (words_of fs ++ vs) = Each-append (λ x. x < 2 ^ 64) (words_of fs) vs (pieces-small 64 (words_for (digits_of fs)) _) h in
     let lold : length (w ∷ words_of fs ++ vs) ≡ 1 + (words_for (digits_of fs) + length vs) = omega (arith, length-append (words_of fs) vs, length-words_of fs) in
-    let ltar : length (w ∷ words_of gs ++ vs) ≡ 1 + (words_for (digits_of fs) + length vs) = omega (arith, length-append (words_of gs) vs, length-words_of gs ∙ ap words_for d) in
+    let ltar : length (w ∷ words_of gs ++ vs) ≡ 1 + (words_for (digits_of fs) + length vs) =
+    omega (arith, length-append (words_of gs) vs, length-words_of gs ∙ ap words_for d) in
     let anew : 64 + (digits_of fs + (64 * (words_for (digits_of fs) + length vs) - digits_of fs)) ≡ 64 * length new = omega (arith, sum, lold, l) in
     let atar : 64 + (digits_of fs + (64 * (words_for (digits_of fs) + length vs) - digits_of fs)) ≡ 64 * length (w ∷ words_of gs ++ vs) = omega (arith, sum, ltar) in
-    let first : digits_at old 0 64 ≡ digits_at target 0 64 = digits-first w (words_of fs ++ vs) 0 64 0 (omega arith) os ∙ sym (digits-first w (words_of gs ++ vs) 0 64 0 (omega arith) ws) in
+    let first : digits_at old 0 64 ≡ digits_at target 0 64 = digits-first w (words_of fs ++ vs) 0 64 0 (omega arith)
+    os ∙ sym (digits-first w (words_of gs ++ vs) 0 64 0 (omega arith) ws) in
     let middle : digits_at target 64 n ≡ number_of gs = middle-table w gs vs n g h (sym d) in
     let last : digits_at old (64 + n) r ≡ digits_at target (64 + n) r =
     behind-table w fs vs n r f h refl sum
@@ -186,7 +203,8 @@ over-table w fs gs vs new u d f g h k l o =
     ∙ sym (three target 64 n r (u, ws) atar) in
     same-number new target k (u, ws) (l ∙ lold ∙ sym ltar) same
   where
-    middle-table : (w : ℕ) (gs : List Field) (vs : List ℕ) (n : ℕ) → Fit gs → Each (λ x. x < 2 ^ 64) vs → n ≡ digits_of gs → digits_at (w ∷ words_of gs ++ vs) 64 n ≡ number_of gs
+    middle-table : (w : ℕ) (gs : List Field) (vs : List ℕ) (n : ℕ) → Fit gs → Each (λ x. x < 2 ^ 64) vs →
+        n ≡ digits_of gs → digits_at (w ∷ words_of gs ++ vs) 64 n ≡ number_of gs
     middle-table w gs vs n g h e =
         ap (λ t. digits_at (w ∷ words_of gs ++ vs) 64 t) e
         ∙ ap (λ t. digits_at (w ∷ words_of t ++ vs) 64 (digits_of gs)) (sym (append-nil gs))
@@ -198,7 +216,8 @@ pub over-equal : (old new : List ℕ) (at at2 w w2 v v2 : ℕ) → at ≡ at2 �
 over-equal old new at at2 w w2 v v2 e f g o = subst (λ t. IsOver old at2 w2 t new) g (subst (λ t. IsOver old at2 t v new) f (subst (λ t. IsOver old t w v new) e o))
 
 -- a column whose digits are those of other words has the same fields with an edit
-pub column-same : (old mid : List ℕ) (c : Column) (e : Edit) (fs : List Field) → e.place + e.less ≤ c.count → ((a k : ℕ) → c.at ≤ a → a + k ≤ c.at + c.count * c.width → digits_at mid a k ≡ digits_at old a k)
+pub column-same : (old mid : List ℕ) (c : Column) (e : Edit) (fs : List Field) → e.place + e.less ≤ c.count →
+    ((a k : ℕ) → c.at ≤ a → a + k ≤ c.at + c.count * c.width → digits_at mid a k ≡ digits_at old a k)
     → column_edited mid c e fs ≡ column_edited old c e fs
 column-same old mid c e fs l h =
     let p : ℕ = e.place + e.less in

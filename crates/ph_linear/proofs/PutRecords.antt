@@ -1,6 +1,7 @@
 -- A record that an entry comes into or goes out of, or in which one became a child or a point, where the record lies: its table is
 -- made, and a value goes or comes.
-use Rattle.std.proofs.Common.{◌≡◌, ℕ, zero, suc, ◌+◌, ◌-◌, ◌^◌, ◌≤◌, ◌<◌, refl, sym, ◌∙◌, ap, subst, arith, List, [], ◌∷◌, ◌++◌, length, length-append, map, take, drop, replicate, slice_set, slice_index_or, Bool, true, false}
+use Rattle.std.proofs.Common.{◌≡◌, ℕ, zero, suc, ◌+◌, ◌-◌, ◌^◌, ◌≤◌, ◌<◌, refl, sym, ◌∙◌, ap, subst, arith, List, [], ◌∷◌, ◌++◌, length}
+use Rattle.std.proofs.Common.{length-append, map, take, drop, replicate, slice_set, slice_index_or, Bool, true, false}
 use Rattle.std.specs.Prelude.{Some, slice_get, if◌then◌else◌}
 use Rattle.std.specs.List.{AllByRecursion as Each}
 use Rattle.std.proofs.lemmas.List.{length-drop, length-take-le, take_at}
@@ -60,7 +61,9 @@ length-put a b vs ws l =
     omega (arith, length-append (take a ws) (vs ++ drop b ws), length-append vs (drop b ws), length-take-le a ws l, length-drop b ws)
 
 -- words put in place of others behind a front
-behind : (front new vs : List ℕ) (f b : ℕ) → take (length front + f) (front ++ vs) ++ (new ++ drop (length front + b) (front ++ vs)) ≡ front ++ (take f vs ++ (new ++ drop b vs))
+behind : (front new vs : List ℕ) (f b : ℕ) →
+    take (length front + f) (front ++ vs) ++ (new ++ drop (length front + b) (front ++ vs)) ≡ front ++
+    (take f vs ++ (new ++ drop b vs))
 behind [] new vs f b =
     let y : 0 + f ≡ f = omega arith in
     let z : 0 + b ≡ b = omega arith in
@@ -78,10 +81,20 @@ part_lent new ws = take (length (new ++ drop (length ws - 1) ws) - 1) (new ++ dr
 
 part-new : (new ws : List ℕ) → 1 ≤ length ws → length new ≡ length (take (length ws - 1) ws) → part_lent new ws ≡ new
 part-new new ws l e =
-    take_at new (drop (length ws - 1) ws) _ (omega (arith, l, e, length-take-le (length ws - 1) ws (omega arith), length-append new (drop (length ws - 1) ws), length-drop (length ws - 1) ws))
+    take_at new (drop (length ws - 1) ws) _
+    (omega (
+      arith,
+      l,
+      e,
+      length-take-le (length ws - 1) ws (omega arith),
+      length-append new (drop (length ws - 1) ws),
+      length-drop (length ws - 1) ws,
+    ))
 
 -- a change of the record, of which the outline was known before
-module _ (cube : Bool) (dims : ℕ) (words : List ℕ) (e : Edit) (r : IsRecord cube dims words) (h : Each (λ x. x < 2 ^ 64) words) (l : e.place + e.less ≤ (first_in words).entries) (o : Outline) (k : IsOutline cube dims words e o) where
+module _ (cube : Bool) (dims : ℕ) (words : List ℕ) (e : Edit) (r : IsRecord cube dims words)
+    (h : Each (λ x. x < 2 ^ 64) words) (l : e.place + e.less ≤ (first_in words).entries) (o : Outline)
+    (k : IsOutline cube dims words e o) where
   abbrev es : List Flat
   es = edited_as cube dims words e
 
@@ -105,7 +118,8 @@ module _ (cube : Bool) (dims : ℕ) (words : List ℕ) (e : Edit) (r : IsRecord 
   many : length (edited_as cube dims words e) ≡ count_edited (first_in words).entries e
   many = length-new cube dims words e r h l
 
-  long-front : AreRising dims (first_in words).level 0 (edited_as cube dims words e) → digits_then (length (edited_as cube dims words e)) ≡ digits_as cube dims (first_in words) → length front ≡ o.values
+  long-front : AreRising dims (first_in words).level 0 (edited_as cube dims words e) →
+      digits_then (length (edited_as cube dims words e)) ≡ digits_as cube dims (first_in words) → length front ≡ o.values
   long-front up same =
       ap suc (length-words_of (table cube dims (first_in words).level es) ∙ ap words_for (table-digits cube dims (first_in words).level 0 es up ∙ same))
       ∙ omega (arith, k.values)
@@ -131,7 +145,9 @@ module _ (cube : Bool) (dims : ℕ) (words : List ℕ) (e : Edit) (r : IsRecord 
       ∙ ap (λ t. front ++ t) (values-put cube dims words e r h l vs o.front o.until refl k.front k.until)
 
   -- the words with the new table fit the outline with as many entries as there are then, and with the new values they are the new record
-  entries-changed : (new ws : List ℕ) (n : ℕ) → AreRising dims (first_in words).level 0 (edited_as cube dims words e) → digits_then (length (edited_as cube dims words e)) ≡ digits_as cube dims (first_in words)
+  entries-changed : (new ws : List ℕ) (n : ℕ) →
+      AreRising dims (first_in words).level 0 (edited_as cube dims words e) →
+      digits_then (length (edited_as cube dims words e)) ≡ digits_as cube dims (first_in words)
       → length (edited_as cube dims words e) ≡ n → new_values e ≡ new → ws ≡ with_table cube dims words e
       → IsOutlined (counted n) new ws × (with_values (layout cube) (counted n) new ws ≡ record_in cube dims (first_in words).level (edited_as cube dims words e))
   entries-changed new ws n up same m v p =
@@ -141,7 +157,9 @@ module _ (cube : Bool) (dims : ℕ) (words : List ℕ) (e : Edit) (r : IsRecord 
       let long : length ws ≡ length front + length vs = ap length p ∙ length-append front vs in
       let w : o.until ≤ length vs = omega (arith, k.until, points-within cube dims words e r h l (e.place + e.less)) in
       let all : length (values_put o new ws) ≡ length front + length (values es) = ap length q ∙ length-append front (values es) in
-      let sum : length (values_put o new ws) ≡ o.values + o.front + (length new + (length ws - (o.values + o.until))) = length-put (o.values + o.front) (o.values + o.until) new ws (omega (arith, long, g, w, order)) in
+      let sum : length (values_put o new ws) ≡
+      o.values + o.front + (length new + (length ws - (o.values + o.until))) = length-put (o.values + o.front)
+      (o.values + o.until) new ws (omega (arith, long, g, w, order)) in
       let points : points_then o new ws ≡ length (values es) = omega (arith, all, sum, g) in
       let kids : n - points_then o new ws ≡ children es = omega (arith, points, f, m) in (
         record {
@@ -154,7 +172,8 @@ module _ (cube : Bool) (dims : ℕ) (words : List ℕ) (e : Edit) (r : IsRecord 
         },
         ap (λ t. slice_set t 0 (first_word o.level (layout cube) n (n - points_then o new ws))) q
             ∙ ap {B = List ℕ} (λ t. t ∷ words_of (table cube dims (first_in words).level es) ++ values es)
-            (ap (first_word o.level (layout cube) n) kids ∙ ap (λ t. first_word o.level (layout cube) t (children es)) (sym m) ∙ ap (λ t. first_word t (layout cube) (length es) (children es)) k.level),
+            (ap (first_word o.level (layout cube) n) kids ∙ ap (λ t. first_word o.level (layout cube) t (children es))
+            (sym m) ∙ ap (λ t. first_word t (layout cube) (length es) (children es)) k.level),
       )
 
   -- ---- an entry that stays
@@ -162,19 +181,25 @@ module _ (cube : Bool) (dims : ℕ) (words : List ℕ) (e : Edit) (r : IsRecord 
   same-many : e.less ≡ 1 → e.more ≡ 1 → length (edited_as cube dims words e) ≡ o.count
   same-many less more = many ∙ omega (arith, l, less, more, k.count)
 
-  values-changed : (new ws : List ℕ) → AreRising dims (first_in words).level 0 (edited_as cube dims words e) → e.less ≡ 1 → e.more ≡ 1 → new_values e ≡ new → ws ≡ with_table cube dims words e
+  values-changed : (new ws : List ℕ) → AreRising dims (first_in words).level 0 (edited_as cube dims words e) →
+      e.less ≡ 1 → e.more ≡ 1 → new_values e ≡ new → ws ≡ with_table cube dims words e
       → IsOutlined o new ws × (with_values (layout cube) o new ws ≡ record_in cube dims (first_in words).level (edited_as cube dims words e))
   values-changed new ws up less more n p =
       entries-changed new ws o.count up (ap digits_then (same-many less more ∙ k.count)) (same-many less more) n p
 
-  pub child-changed : (ws : List ℕ) → AreRising dims (first_in words).level 0 (edited_as cube dims words e) → e.less ≡ 1 → e.more ≡ 1 → e.entry.child ≡ true → ws ≡ with_table cube dims words e
+  pub child-changed : (ws : List ℕ) → AreRising dims (first_in words).level 0 (edited_as cube dims words e) →
+      e.less ≡ 1 → e.more ≡ 1 → e.entry.child ≡ true → ws ≡ with_table cube dims words e
       → IsOutlined o [] ws × (with_values (layout cube) o [] ws ≡ record_in cube dims (first_in words).level (edited_as cube dims words e))
   child-changed ws up less more child p =
       values-changed [] ws up less more (ap (λ t. if t then [] else replicate e.more e.value) child) p
 
   -- the same where the words are all but the last of those that there are
-  pub point-changed : (new ws : List ℕ) → AreRising dims (first_in words).level 0 (edited_as cube dims words e) → e.less ≡ 1 → e.more ≡ 1 → e.entry.child ≡ false → 1 ≤ length ws → length new ≡ length (take (length ws - 1) ws) → new ≡ with_table cube dims words e
-      → IsOutlined o (e.value ∷ []) (part_lent new ws) × (with_values (layout cube) o (e.value ∷ []) (part_lent new ws) ≡ record_in cube dims (first_in words).level (edited_as cube dims words e))
+  pub point-changed : (new ws : List ℕ) → AreRising dims (first_in words).level 0 (edited_as cube dims words e) →
+      e.less ≡ 1 → e.more ≡ 1 → e.entry.child ≡ false → 1 ≤ length ws →
+      length new ≡ length (take (length ws - 1) ws) → new ≡ with_table cube dims words e
+      → IsOutlined o (e.value ∷ []) (part_lent new ws) ×
+      (with_values (layout cube) o (e.value ∷ []) (part_lent new ws) ≡ record_in cube dims (first_in words).level
+      (edited_as cube dims words e))
   point-changed new ws up less more point some long p =
       values-changed (e.value ∷ []) (part_lent new ws) up less more (one-value more point) (part-new new ws some long ∙ p)
 
@@ -184,15 +209,22 @@ module _ (cube : Bool) (dims : ℕ) (words : List ℕ) (e : Edit) (r : IsRecord 
   no-values true m v z = refl
   no-values false m v z = ap (λ t. replicate t v) z
 
-  pub entry-gone : (ws : List ℕ) → AreRising dims (first_in words).level 0 (edited_as cube dims words e) → digits_then (length (edited_as cube dims words e)) ≡ digits_as cube dims (first_in words)
+  pub entry-gone : (ws : List ℕ) → AreRising dims (first_in words).level 0 (edited_as cube dims words e) →
+      digits_then (length (edited_as cube dims words e)) ≡ digits_as cube dims (first_in words)
       → e.less ≡ 1 → e.more ≡ 0 → ws ≡ with_table cube dims words e
-      → IsOutlined (counted (o.count - 1)) [] ws × (with_values (layout cube) (counted (o.count - 1)) [] ws ≡ record_in cube dims (first_in words).level (edited_as cube dims words e))
+      → IsOutlined (counted (o.count - 1)) [] ws ×
+      (with_values (layout cube) (counted (o.count - 1)) [] ws ≡ record_in cube dims (first_in words).level
+      (edited_as cube dims words e))
   entry-gone ws up same less more p =
       entries-changed [] ws (o.count - 1) up same (many ∙ omega (arith, l, less, more, k.count)) (no-values e.entry.child e.more e.value more) p
 
   -- the same where the words are all but the last of those that there are
-  pub point-come : (new ws : List ℕ) → AreRising dims (first_in words).level 0 (edited_as cube dims words e) → digits_then (length (edited_as cube dims words e)) ≡ digits_as cube dims (first_in words)
+  pub point-come : (new ws : List ℕ) → AreRising dims (first_in words).level 0 (edited_as cube dims words e) →
+      digits_then (length (edited_as cube dims words e)) ≡ digits_as cube dims (first_in words)
       → e.less ≡ 0 → e.more ≡ 1 → e.entry.child ≡ false → 1 ≤ length ws → length new ≡ length (take (length ws - 1) ws) → new ≡ with_table cube dims words e
-      → IsOutlined (counted (o.count + 1)) (e.value ∷ []) (part_lent new ws) × (with_values (layout cube) (counted (o.count + 1)) (e.value ∷ []) (part_lent new ws) ≡ record_in cube dims (first_in words).level (edited_as cube dims words e))
+      → IsOutlined (counted (o.count + 1)) (e.value ∷ []) (part_lent new ws) ×
+      (with_values (layout cube) (counted (o.count + 1)) (e.value ∷ []) (part_lent new ws) ≡
+      record_in cube dims (first_in words).level (edited_as cube dims words e))
   point-come new ws up same less more point some long p =
-      entries-changed (e.value ∷ []) (part_lent new ws) (o.count + 1) up same (many ∙ omega (arith, l, less, more, k.count)) (one-value more point) (part-new new ws some long ∙ p)
+      entries-changed (e.value ∷ []) (part_lent new ws) (o.count + 1) up same
+      (many ∙ omega (arith, l, less, more, k.count)) (one-value more point) (part-new new ws some long ∙ p)

@@ -1,5 +1,6 @@
 -- How many of the first kinds are children, as ones among their digits.
-use Rattle.std.proofs.Common.{◌≡◌, ℕ, zero, suc, ◌+◌, ◌-◌, ◌*◌, ◌^◌, ◌<◌, ◌≤◌, refl, sym, ◌∙◌, ap, arith, List, [], length, map, take, Bool, true, false, slice_index_or, get_or}
+use Rattle.std.proofs.Common.{◌≡◌, ℕ, zero, suc, ◌+◌, ◌-◌, ◌*◌, ◌^◌, ◌<◌, ◌≤◌, refl, sym, ◌∙◌, ap, arith, List}
+use Rattle.std.proofs.Common.{[], length, map, take, Bool, true, false, slice_index_or, get_or}
 use Rattle.std.specs.Prelude.{◌==◌, if◌then◌else◌, Some, slice_get}
 use Rattle.std.specs.Option.{option_map}
 use Rattle.std.proofs.lemmas.Option.{slice_get-get_or, slice_get-map}
@@ -42,7 +43,9 @@ children-ones dims words (suc i) r h l =
     ∙ ap (λ t. t + (if k == 1 then 1 else 0)) (children-ones dims words i r h (omega (arith, l)))
     ∙ ap (λ t. ones_in words 64 i + (if t == 1 then 1 else 0)) e
     ∙ ap (λ t. ones_in words 64 i + t) (sym (one-digit (digits_at words (64 + i) 1) (digits-below words (64 + i) 1)))
-    ∙ sym (ap count_ones (digits-parts words 64 i 1 (inside n dims (first_in words).level (length words) i l (omega (arith, r.long)))) ∙ ones_cat 1 (digits_at words 64 i) (digits_at words (64 + i) 1) (digits-below words (64 + i) 1))
+    ∙ sym (ap count_ones (digits-parts words 64 i 1
+    (inside n dims (first_in words).level (length words) i l (omega (arith, r.long)))) ∙
+    ones_cat 1 (digits_at words 64 i) (digits_at words (64 + i) 1) (digits-below words (64 + i) 1))
     ∙ ap (λ t. ones_in words 64 t) (sym s)
   where
     inside : (n d b len i : ℕ) → i < n → 1 + words_for (linear_digits d b n) ≤ len → 64 + i + 1 ≤ 64 * len
@@ -51,7 +54,8 @@ children-ones dims words (suc i) r h l =
 -- there are as many entries as the first word says
 pub many : (dims : ℕ) (words : List ℕ) → length (entries_as false dims words) ≡ (first_in words).entries
 many dims words =
-    length-read (kinds dims words) (addresses dims words) (bodies dims words) (first_in words).entries (length-kinds dims words) (length-addresses dims words) (length-parts (first_in words).entries dims _)
+    length-read (kinds dims words) (addresses dims words) (bodies dims words) (first_in words).entries
+    (length-kinds dims words) (length-addresses dims words) (length-parts (first_in words).entries dims _)
 
 -- the place of an entry among those of its kind, by the children in front of it
 pub ranked : (t : Bool) (rs : List Read) (i k r : ℕ) → i ≤ length rs → children_in (take i rs) ≡ k → r ≡ (if t then k else i - k) → r ≡ rank_at t rs i
@@ -59,15 +63,21 @@ ranked true rs i k r l e f = f ∙ sym e
 ranked false rs i k r l e f = omega (arith, f, e, both-counts rs i l)
 
 -- entry i by the columns
-pub entry-is : (dims : ℕ) (words : List ℕ) (i : ℕ) → i < (first_in words).entries → slice_get (entries_as false dims words) i ≡ Some (read (slice_index_or (kinds dims words) i 0 == 1) (slice_index_or (addresses dims words) i 0) (get_or (bodies dims words) i []))
+pub entry-is : (dims : ℕ) (words : List ℕ) (i : ℕ) → i < (first_in words).entries →
+    slice_get (entries_as false dims words) i ≡
+    Some (read (slice_index_or (kinds dims words) i 0 == 1) (slice_index_or (addresses dims words) i 0)
+    (get_or (bodies dims words) i []))
 entry-is dims words i l =
     slice_get-get_or (entries_as false dims words) i no_read (omega (arith, many dims words, l))
-    ∙ ap Some (read-at (kinds dims words) (addresses dims words) (bodies dims words) (first_in words).entries i (length-kinds dims words) (length-addresses dims words) (length-parts (first_in words).entries dims _) l)
+    ∙ ap Some (read-at (kinds dims words) (addresses dims words) (bodies dims words) (first_in words).entries i
+    (length-kinds dims words) (length-addresses dims words) (length-parts (first_in words).entries dims _) l)
 
-pub address-is : (dims : ℕ) (words : List ℕ) (i : ℕ) → i < (first_in words).entries → slice_get (map read_address (entries_as false dims words)) i ≡ Some (slice_index_or (addresses dims words) i 0)
+pub address-is : (dims : ℕ) (words : List ℕ) (i : ℕ) → i < (first_in words).entries →
+    slice_get (map read_address (entries_as false dims words)) i ≡ Some (slice_index_or (addresses dims words) i 0)
 address-is dims words i l =
     slice_get-map read_address (entries_as false dims words) i ∙ ap (option_map read_address) (entry-is dims words i l) ∙ ap Some (address-read _ _ _)
 
-pub kind-is : (dims : ℕ) (words : List ℕ) (i : ℕ) → i < (first_in words).entries → slice_get (map is_child (entries_as false dims words)) i ≡ Some (slice_index_or (kinds dims words) i 0 == 1)
+pub kind-is : (dims : ℕ) (words : List ℕ) (i : ℕ) → i < (first_in words).entries →
+    slice_get (map is_child (entries_as false dims words)) i ≡ Some (slice_index_or (kinds dims words) i 0 == 1)
 kind-is dims words i l =
     slice_get-map is_child (entries_as false dims words) i ∙ ap (option_map is_child) (entry-is dims words i l) ∙ ap Some (kind-read _ _ _)

@@ -32,7 +32,8 @@ stretch-run ws c i j l = run-equal ws (c.at + i * c.width) (start c i) ((j - i) 
         omega (arith, m)
 
 -- two runs that meet are one
-pub runs-meet : (ws : List ℕ) (s a b c : ℕ) (fs : List Field) → a ≤ b → b ≤ c → c ≤ 64 * length ws → number_after s (run ws a b ∷ run ws b c ∷ fs) ≡ number_after s (run ws a c ∷ fs)
+pub runs-meet : (ws : List ℕ) (s a b c : ℕ) (fs : List Field) → a ≤ b → b ≤ c → c ≤ 64 * length ws →
+    number_after s (run ws a b ∷ run ws b c ∷ fs) ≡ number_after s (run ws a c ∷ fs)
 runs-meet ws s a b c fs l m n =
     let x : ℕ = b - a in
     let y : ℕ = c - b in
@@ -50,7 +51,9 @@ runs-meet ws s a b c fs l m n =
     apart s P Q R x y f = let g : s * R ≡ s * (P * Q) = ap (λ t. s * t) f in omega (arith, g)
 
 -- an edited column as runs
-pub column-runs : (ws : List ℕ) (c : Column) (e : Edit) (new : List Field) → e.place + e.less ≤ c.count → column_edited ws c e new ≡ run ws (start c 0) (start c e.place) ∷ (new ++ run ws (start c (e.place + e.less)) (start c c.count) ∷ [])
+pub column-runs : (ws : List ℕ) (c : Column) (e : Edit) (new : List Field) → e.place + e.less ≤ c.count →
+    column_edited ws c e new ≡ run ws (start c 0) (start c e.place) ∷
+    (new ++ run ws (start c (e.place + e.less)) (start c c.count) ∷ [])
 column-runs ws c e new l =
     ap {B = List Field} (λ t. t ∷ (new ++ stretch ws c (e.place + e.less) c.count ∷ [])) (stretch-run ws c 0 e.place (omega arith))
     ∙ ap {B = List Field} (λ t. run ws (start c 0) (start c e.place) ∷ (new ++ t ∷ [])) (stretch-run ws c (e.place + e.less) c.count l)

@@ -1,5 +1,6 @@
 -- The columns of a table, an entry more at a time.
-use Rattle.std.proofs.Common.{slice_set, ◌≤◌, ◌≡◌, ℕ, zero, suc, ◌+◌, ◌*◌, ◌^◌, ◌<◌, ◌≤◌, refl, sym, ◌∙◌, ap, arith, List, [], ◌∷◌, ◌++◌, length, map, take, Bool, true, false, get_or, length-append}
+use Rattle.std.proofs.Common.{slice_set, ◌≤◌, ◌≡◌, ℕ, zero, suc, ◌+◌, ◌*◌, ◌^◌, ◌<◌, ◌≤◌, refl, sym, ◌∙◌, ap, arith, List}
+use Rattle.std.proofs.Common.{[], ◌∷◌, ◌++◌, length, map, take, Bool, true, false, get_or, length-append}
 use Rattle.std.specs.Prelude.{Option, Some, None, slice_get, if◌then◌else◌}
 use Rattle.std.proofs.lemmas.List.{map-append, get_or-map}
 use Rattle.std.proofs.lemmas.Option.{get_or_from_slice_get}
@@ -36,7 +37,8 @@ pub record Given (e : Flat) (t : Bool) (a : ℕ) (b : List ℕ) : Type 0 where
   pub same_body : e.body ≡ b
   pub same_kind : child_mark e.value ≡ (if t then 1 else 0)
 
-parts-given : (w : Option ℕ) (x : ℕ) (y : List ℕ) (t : Bool) (a : ℕ) (b : List ℕ) → read_kept w x y ≡ read t a b → (x ≡ a) × (y ≡ b) × (child_mark w ≡ (if t then 1 else 0))
+parts-given : (w : Option ℕ) (x : ℕ) (y : List ℕ) (t : Bool) (a : ℕ) (b : List ℕ) → read_kept w x y ≡ read t a b →
+    (x ≡ a) × (y ≡ b) × (child_mark w ≡ (if t then 1 else 0))
 unfolding num addr body
 parts-given (Some v) x y true a b e = absurd (let h : 0 ≡ 1 = ap num e in omega (arith, h))
 parts-given (Some v) x y false a b e = (ap addr e, ap body e, refl)
@@ -50,10 +52,12 @@ given-of e t a b f =
 pub read-at : (es : List Flat) (i : ℕ) (r : Read) → i < length es → slice_get (map unvalued es) i ≡ Some r → unvalued (get_or es i no_flat) ≡ r
 read-at es i r l e = sym (get_or-map unvalued es i no_flat r l) ∙ get_or_from_slice_get (map unvalued es) i r r e
 
-pub given : (es : List Flat) (i : ℕ) (t : Bool) (a : ℕ) (b : List ℕ) → i < length es → slice_get (map unvalued es) i ≡ Some (read t a b) → Given (get_or es i no_flat) t a b
+pub given : (es : List Flat) (i : ℕ) (t : Bool) (a : ℕ) (b : List ℕ) → i < length es →
+    slice_get (map unvalued es) i ≡ Some (read t a b) → Given (get_or es i no_flat) t a b
 given es i t a b l e = given-of (get_or es i no_flat) t a b (read-at es i (read t a b) l e)
 
-pub rising-at : (dims level least : ℕ) (es : List Flat) (i : ℕ) → AreRising dims level least es → i < length es → ((get_or es i no_flat).addr < 2 ^ dims) × IsBody dims level (get_or es i no_flat).body
+pub rising-at : (dims level least : ℕ) (es : List Flat) (i : ℕ) → AreRising dims level least es → i < length es →
+    ((get_or es i no_flat).addr < 2 ^ dims) × IsBody dims level (get_or es i no_flat).body
 rising-at dims level least [] i h l = absurd (omega (arith, l))
 rising-at dims level least (e ∷ es) zero h l = (h.1, h.2)
 rising-at dims level least (e ∷ es) (suc i) h l = rising-at dims level (e.addr + 1) es i h.3 (omega (arith, l))
@@ -73,26 +77,33 @@ whole [] (suc n) e = refl
 whole (x ∷ xs) zero e = absurd (omega (arith, e))
 whole (x ∷ xs) (suc n) e = ap {B = List Flat} (λ t. x ∷ t) (whole xs n (omega (arith, e)))
 
-pub kinds-more : (r : ℕ) (es : List Flat) (i : ℕ) → i < length es → number_after r (kind_fields (take (i + 1) es)) ≡ number_after r (kind_fields (take i es)) * 2 ^ 1 + child_mark (get_or es i no_flat).value
+pub kinds-more : (r : ℕ) (es : List Flat) (i : ℕ) → i < length es →
+    number_after r (kind_fields (take (i + 1) es)) ≡ number_after r (kind_fields (take i es)) * 2 ^ 1 + child_mark
+    (get_or es i no_flat).value
 kinds-more r es i l =
     ap (λ t. number_after r (kind_fields t)) (more es i l)
     ∙ ap (number_after r) (map-append (λ e. field 1 (child_mark e.value)) (take i es) (get_or es i no_flat ∷ []))
     ∙ number_after-append r (kind_fields (take i es)) _
 
-pub addresses-more : (dims r : ℕ) (es : List Flat) (i : ℕ) → i < length es → number_after r (address_fields dims (take (i + 1) es)) ≡ number_after r (address_fields dims (take i es)) * 2 ^ dims + (get_or es i no_flat).addr
+pub addresses-more : (dims r : ℕ) (es : List Flat) (i : ℕ) → i < length es →
+    number_after r (address_fields dims (take (i + 1) es)) ≡ number_after r (address_fields dims (take i es)) * 2 ^
+    dims + (get_or es i no_flat).addr
 addresses-more dims r es i l =
     ap (λ t. number_after r (address_fields dims t)) (more es i l)
     ∙ ap (number_after r) (map-append (λ e. field dims e.addr) (take i es) (get_or es i no_flat ∷ []))
     ∙ number_after-append r (address_fields dims (take i es)) _
 
-bodies-last : (level r : ℕ) (es : List Flat) (e : Flat) → number_after r (bodies level (body_list (es ++ e ∷ []))) ≡ number_after (number_after r (bodies level (body_list es))) (body_fields level e.body)
+bodies-last : (level r : ℕ) (es : List Flat) (e : Flat) → number_after r (bodies level (body_list (es ++ e ∷ []))) ≡
+    number_after (number_after r (bodies level (body_list es))) (body_fields level e.body)
 bodies-last level r [] e = number_after-append r (body_fields level e.body) []
 bodies-last level r (x ∷ es) e =
     number_after-append r (body_fields level x.body) (bodies level (body_list (es ++ e ∷ [])))
     ∙ bodies-last level (number_after r (body_fields level x.body)) es e
     ∙ ap (λ t. number_after t (body_fields level e.body)) (sym (number_after-append r (body_fields level x.body) (bodies level (body_list es))))
 
-pub bodies-more : (level r : ℕ) (es : List Flat) (i : ℕ) → i < length es → number_after r (bodies level (body_list (take (i + 1) es))) ≡ number_after (number_after r (bodies level (body_list (take i es)))) (body_fields level (get_or es i no_flat).body)
+pub bodies-more : (level r : ℕ) (es : List Flat) (i : ℕ) → i < length es →
+    number_after r (bodies level (body_list (take (i + 1) es))) ≡
+    number_after (number_after r (bodies level (body_list (take i es)))) (body_fields level (get_or es i no_flat).body)
 bodies-more level r es i l =
     ap (λ t. number_after r (bodies level (body_list t))) (more es i l) ∙ bodies-last level r (take i es) (get_or es i no_flat)
 
@@ -127,7 +138,8 @@ values-front (x ∷ es) (suc i) = front x.value (values (take i es)) (values es)
 pub values-room : (es : List Flat) (i v : ℕ) → i < length es → (get_or es i no_flat).value ≡ Some v → length (values (take i es)) + 1 ≤ length (values es)
 values-room es i v l e =
     let h : length (values (take (i + 1) es)) ≤ length (values es) = values-front es (i + 1) in
-    let m : length (values (take (i + 1) es)) ≡ length (values (take i es) ++ v ∷ []) = ap length (values-more es i l ∙ ap (λ t. values (take i es) ++ value_in_front t []) e) in
+    let m : length (values (take (i + 1) es)) ≡ length (values (take i es) ++ v ∷ []) =
+    ap length (values-more es i l ∙ ap (λ t. values (take i es) ++ value_in_front t []) e) in
     let a : length (values (take i es) ++ v ∷ []) ≡ length (values (take i es)) + 1 = length-append (values (take i es)) (v ∷ []) in
     omega (arith, h, m, a)
 
@@ -142,7 +154,9 @@ no-value None e = refl
 
 -- ---- the whole
 
-pub table-number : (dims level x : ℕ) (es : List Flat) → number_after (number_after (number_after x (kind_fields es)) (address_fields dims es)) (bodies level (body_list es)) ≡ number_after x (linear_table dims level es)
+pub table-number : (dims level x : ℕ) (es : List Flat) →
+    number_after (number_after (number_after x (kind_fields es)) (address_fields dims es))
+    (bodies level (body_list es)) ≡ number_after x (linear_table dims level es)
 table-number dims level x es =
     ap (λ t. number_after t (bodies level (body_list es))) (sym (number_after-append x (kind_fields es) (address_fields dims es)))
     ∙ sym (number_after-append x (kind_fields es ++ address_fields dims es) (bodies level (body_list es)))
@@ -155,7 +169,11 @@ few dims level es l h =
     omega (arith, m, entries-few dims level 0 es (omega arith) h)
 
 -- words that are begun by a place for the first word, then have a table and values, and then a first word
-pub finished : (cube : Bool) (dims level : ℕ) (es : List Flat) (begun valued : List ℕ) (n kids w : ℕ) → begun ≡ 0 ∷ words_of (table cube dims level es) → valued ≡ begun ++ values es → w ≡ first_word level (layout cube) n kids → n ≡ length es → kids ≡ children es → slice_set valued 0 w ≡ record_in cube dims level es
+pub finished : (cube : Bool) (dims level : ℕ) (es : List Flat) (begun valued : List ℕ) (n kids w : ℕ) →
+    begun ≡ 0 ∷ words_of (table cube dims level es) → valued ≡ begun ++ values es →
+    w ≡ first_word level (layout cube) n kids → n ≡ length es → kids ≡ children es →
+    slice_set valued 0 w ≡ record_in cube dims level es
 finished cube dims level es begun valued n kids w b v f e k =
     ap (λ t. slice_set t 0 w) (v ∙ ap (λ t. t ++ values es) b)
-    ∙ ap (λ t. t ∷ words_of (table cube dims level es) ++ values es) (f ∙ ap (λ t. first_word level (layout cube) t kids) e ∙ ap (λ t. first_word level (layout cube) (length es) t) k)
+    ∙ ap (λ t. t ∷ words_of (table cube dims level es) ++ values es)
+    (f ∙ ap (λ t. first_word level (layout cube) t kids) e ∙ ap (λ t. first_word level (layout cube) (length es) t) k)

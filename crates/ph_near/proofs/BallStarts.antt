@@ -23,7 +23,8 @@ use Rattle.ph_walk.specs.Area.{IsArea, kept, touched, TouchesRoot}
 use Rattle.ph_near.specs.BallSphere.{Sphere, sphere_at, IsSphere, center_of, within_of, points_of}
 
 -- the sphere as the code makes it
-pub made-sphere : (d w r : ℕ) (q : List ℤ) (center : List ℕ) → IsPoint w d q → take (length q) center ≡ map (offset w) q → sphere_at w (take d center) r ≡ sphere_at w (offsets w q) r
+pub made-sphere : (d w r : ℕ) (q : List ℤ) (center : List ℕ) → IsPoint w d q →
+    take (length q) center ≡ map (offset w) q → sphere_at w (take d center) r ≡ sphere_at w (offsets w q) r
 made-sphere d w r q center h f = ap (λ t. sphere_at w t r) (offsets-point w d q center h f)
 
 pub start-sphere : (d w r : ℕ) (q : List ℤ) → d ≤ 16 → 1 ≤ w → w ≤ 62 → IsPoint w d q → IsSphere d (sphere_at w (offsets w q) r)
@@ -52,7 +53,8 @@ root-within d w r q l h =
     let whole : Region = record { corner = map (coordinate w) (replicate d 0); level = w - 1 } in
     let top : body_above (w - 1) (offsets w q) ≡ replicate d 0 = above-top d (w - 1) w (offsets w q) (omega (arith, l)) (is_body-point w d q l h) in
     let same : from_place (w - 1 + 1) (replicate d 0) ≡ from_place (w - 1 + 1) (offsets w q) = ap (from_place (w - 1 + 1)) (sym top) ∙ above-from (w - 1) (offsets w q) in
-    let in_it : is_in w whole q ≡ true = same-in w (w - 1) (map (coordinate w) (replicate d 0)) q (ap (from_place (w - 1 + 1)) (offsets-coordinate w (replicate d 0)) ∙ same) in
+    let in_it : is_in w whole q ≡ true = same-in w (w - 1) (map (coordinate w) (replicate d 0)) q
+    (ap (from_place (w - 1 + 1)) (offsets-coordinate w (replicate d 0)) ∙ same) in
     let near : least_distance w whole q ≤ distance q q = least_distance-point w d whole q q h in_it in
     le-leb (least_distance w whole q) r (omega (arith, near, distance-self q))
 
@@ -62,7 +64,8 @@ root-within d w r q l h =
 pub sphere-points : (d w r : ℕ) (q : List ℤ) (s : Sphere) → IsPoint w d q → s ≡ sphere_at w (map (offset w) q) r → points_of s ≡ within_of w q r
 sphere-points d w r q s h e = ap points_of e ∙ ap (λ p. within_of w p r) (point-whole w d q h).back
 
-module _ (d w u r : ℕ) (o : Option PlainNode) (table : List Row) (q p : List ℤ) (s : Sphere) (l : 1 ≤ w) (e : w ≡ u) (h : IsTable u d table) (f : o ≡ shape u table) (a : p ≡ q) (is : points_of s ≡ within_of w p r) where
+module _ (d w u r : ℕ) (o : Option PlainNode) (table : List Row) (q p : List ℤ) (s : Sphere) (l : 1 ≤ w) (e : w ≡ u)
+    (h : IsTable u d table) (f : o ≡ shape u table) (a : p ≡ q) (is : points_of s ≡ within_of w p r) where
   pub table-rows : kept (points_of s) (rows w d o) ≡ within q r table
   table-rows =
       ap (λ t. kept t (rows w d o)) is ∙ (λ i. within (a i) r (rows (e i) d (f i))) ∙ ap (within q r) (table-shape u d table (omega (arith, l, e)) h).1

@@ -18,16 +18,21 @@ holds-none : (s : Sphere) (level : ℕ) (joined : List ℕ) (o : What) → IsOut
 holds-none s level joined (value v) out = lt-leb (distance (point_at s.width joined) (center_of s)) s.radius out
 holds-none s level joined (node n) out = lt-leb (least_distance s.width (record { corner = point_at s.width joined; level = level - 1 }) (center_of s)) s.radius out
 
-may-hold : (s : Sphere) (level : ℕ) (joined : List ℕ) (o : What) → ((n : PlainNode) → o ≡ node n → 1 ≤ level) → (is_node o ≡ true → 1 ≤ level → reaches s (level - 1) joined ≡ true) → MayHold (points_of s) level joined o
+may-hold : (s : Sphere) (level : ℕ) (joined : List ℕ) (o : What) → ((n : PlainNode) → o ≡ node n → 1 ≤ level) →
+    (is_node o ≡ true → 1 ≤ level → reaches s (level - 1) joined ≡ true) → MayHold (points_of s) level joined o
 may-hold s level joined (value v) some near = tt
 may-hold s level joined (node n) some near = near refl (some n refl)
 
-module _ (s : Sphere) (level : ℕ) (above : List ℕ) (es : List Entry) (p i : ℕ) (h : AreOut (points_of s) level above es p i) (x : Entry) (at : slice_get es i ≡ Some x) where
+module _ (s : Sphere) (level : ℕ) (above : List ℕ) (es : List Entry) (p i : ℕ)
+    (h : AreOut (points_of s) level above es p i) (x : Entry) (at : slice_get es i ≡ Some x) where
   pub out-behind : IsOut s level (put_together level x.addr above x.body) x.what → AreOut (points_of s) level above es p (i + 1)
   out-behind out =
-      out-then (points_of s) level above es p i (i + 1) h (out-one (points_of s) level above es i x at (holds-none s level (put_together level x.addr above x.body) x.what out))
+      out-then (points_of s) level above es p i (i + 1) h
+      (out-one (points_of s) level above es i x at (holds-none s level (put_together level x.addr above x.body) x.what out))
 
-  pub next-here : (d least : ℕ) (n : PlainNode) → es ≡ entries n → IsLawfulFrom d level least n.chain → p ≤ i → (is_node x.what ≡ true → 1 ≤ level → reaches s (level - 1) (put_together level x.addr above x.body) ≡ true) → IsNext (points_of s) level above es p i
+  pub next-here : (d least : ℕ) (n : PlainNode) → es ≡ entries n → IsLawfulFrom d level least n.chain → p ≤ i →
+      (is_node x.what ≡ true → 1 ≤ level → reaches s (level - 1) (put_together level x.addr above x.body) ≡ true) →
+      IsNext (points_of s) level above es p i
   next-here d least n e lawful l near =
       let k : IsLawfulEntry d level x = entry-lawful d level least i n.chain x lawful (subst (λ es. slice_get es i ≡ Some x) e at) in
       record {
@@ -42,7 +47,10 @@ module _ (s : Sphere) (level : ℕ) (above : List ℕ) (es : List Entry) (p i : 
       lower (node n) q m e = omega (arith, q.0)
 
 -- behind entries that are outside
-pub found-on : (a : Area) (level : ℕ) (above : List ℕ) (es : List Entry) (p q : ℕ) → p ≤ q → AreOut a level above es p q → (o : Option Spot) → MatchOption o (AreOut a level above es q (length es)) (λ s. IsNext a level above es q s.place) → MatchOption o (AreOut a level above es p (length es)) (λ s. IsNext a level above es p s.place)
+pub found-on : (a : Area) (level : ℕ) (above : List ℕ) (es : List Entry) (p q : ℕ) → p ≤ q →
+    AreOut a level above es p q → (o : Option Spot) →
+    MatchOption o (AreOut a level above es q (length es)) (λ s. IsNext a level above es q s.place) →
+    MatchOption o (AreOut a level above es p (length es)) (λ s. IsNext a level above es p s.place)
 found-on a level above es p q l h None k = out-then a level above es p q (length es) h k
 found-on a level above es p q l h (Some s) k = record { behind = omega (arith, l, k.behind); may = k.may; out = out-then a level above es p q s.place h k.out }
 

@@ -75,12 +75,17 @@ zeros-long level [] = refl
 zeros-long level (x ∷ xs) = ap suc (zeros-long level xs)
 
 -- the number of the corner as the code makes it
-pub corner-at : (level a i p q : ℕ) (known : List ℕ) → i < length known → p ≡ get_or known i 0 / 2 ^ (level + 1) * 2 ^ (level + 1) → q ≡ a / 2 ^ (length known - 1 - i) % 2 * 2 ^ level → p + q ≡ get_or (corner_of level a known) i 0
+pub corner-at : (level a i p q : ℕ) (known : List ℕ) → i < length known →
+    p ≡ get_or known i 0 / 2 ^ (level + 1) * 2 ^ (level + 1) → q ≡ a / 2 ^ (length known - 1 - i) % 2 * 2 ^ level →
+    p + q ≡ get_or (corner_of level a known) i 0
 corner-at level a i p q known l e f =
     let none : get_or (zeros known) i 0 ≡ 0 = get_or-map (λ x. 0) known i 0 0 l in
-    let there : get_or (body_above level known) i 0 ≡ get_or known i 0 / 2 ^ (level + 1) * 2 ^ (level + 1) = get_or-map (λ x. x / 2 ^ (level + 1) * 2 ^ (level + 1)) known i 0 0 l in
-    let digit : a / 2 ^ (length (body_above level known) - 1 - i) % 2 * 2 ^ level ≡ a / 2 ^ (length known - 1 - i) % 2 * 2 ^ level = ap (λ t. a / 2 ^ (t - 1 - i) % 2 * 2 ^ level) (above-long level known) in
-    let made : get_or (corner_of level a known) i 0 ≡ get_or (body_above level known) i 0 + a / 2 ^ (length (body_above level known) - 1 - i) % 2 * 2 ^ level + get_or (zeros known) i 0 =
+    let there : get_or (body_above level known) i 0 ≡ get_or known i 0 / 2 ^ (level + 1) * 2 ^ (level + 1) =
+    get_or-map (λ x. x / 2 ^ (level + 1) * 2 ^ (level + 1)) known i 0 0 l in
+    let digit : a / 2 ^ (length (body_above level known) - 1 - i) % 2 * 2 ^ level ≡ a / 2 ^ (length known - 1 - i) %
+    2 * 2 ^ level = ap (λ t. a / 2 ^ (t - 1 - i) % 2 * 2 ^ level) (above-long level known) in
+    let made : get_or (corner_of level a known) i 0 ≡ get_or (body_above level known) i 0 + a / 2 ^
+    (length (body_above level known) - 1 - i) % 2 * 2 ^ level + get_or (zeros known) i 0 =
     get-put_together level a i (body_above level known) (zeros known) (zeros-long level known) (subst (λ t. i < t) (sym (above-long level known)) l) in
     omega (arith, e, f, none, there, digit, made)
 
@@ -104,20 +109,29 @@ room-on sum n k j m e l h =
     omega (arith, h, p, l)
 
 -- the digits below the level do not count
-pub gaps-corner : (level a : ℕ) (known body center : List ℕ) → 1 ≤ level → length body ≡ length known → Each (λ y. y < 2 ^ level) body → gaps_squared (level - 1) (corner_of level a known) center ≡ gaps_squared (level - 1) (put_together level a (body_above level known) body) center
+pub gaps-corner : (level a : ℕ) (known body center : List ℕ) → 1 ≤ level → length body ≡ length known →
+    Each (λ y. y < 2 ^ level) body → gaps_squared (level - 1) (corner_of level a known) center ≡
+    gaps_squared (level - 1) (put_together level a (body_above level known) body) center
 gaps-corner level a [] [] center l e h = refl
 gaps-corner level a [] (y ∷ body) center l e h = absurd (omega (arith, e))
 gaps-corner level a (x ∷ known) [] center l e h = absurd (omega (arith, e))
 gaps-corner level a (x ∷ known) (y ∷ body) [] l e h = refl
 gaps-corner level a (x ∷ known) (y ∷ body) (c ∷ center) l e h =
     let d : ℕ = a / 2 ^ length (body_above level known) % 2 in
-    let same : gap (level - 1) (x / 2 ^ (level + 1) * 2 ^ (level + 1) + a / 2 ^ length (body_above level known) % 2 * 2 ^ level + 0) c ≡ gap (level - 1) (x / 2 ^ (level + 1) * 2 ^ (level + 1) + a / 2 ^ length (body_above level known) % 2 * 2 ^ level + y) c =
-    gap-by level _ _ c l (whole-from level x (a / 2 ^ length (body_above level known) % 2) 0 (pow_pos level) ∙ sym (whole-from level x (a / 2 ^ length (body_above level known) % 2) y h.0)) in
+    let same : gap (level - 1) (x / 2 ^ (level + 1) * 2 ^ (level + 1) + a / 2 ^ length (body_above level known) % 2 *
+    2 ^ level + 0) c ≡ gap (level - 1)
+    (x / 2 ^ (level + 1) * 2 ^ (level + 1) + a / 2 ^ length (body_above level known) % 2 * 2 ^ level + y) c =
+    gap-by level _ _ c l (whole-from level x (a / 2 ^ length (body_above level known) % 2) 0 (pow_pos level) ∙
+    sym (whole-from level x (a / 2 ^ length (body_above level known) % 2) y h.0)) in
     ap (λ t. t * t + gaps_squared (level - 1) (corner_of level a known) center) same
-    ∙ ap (λ t. gap (level - 1) (x / 2 ^ (level + 1) * 2 ^ (level + 1) + a / 2 ^ length (body_above level known) % 2 * 2 ^ level + y) c * gap (level - 1) (x / 2 ^ (level + 1) * 2 ^ (level + 1) + a / 2 ^ length (body_above level known) % 2 * 2 ^ level + y) c + t) (gaps-corner level a known body center l (omega (arith, e)) h.1)
+    ∙ ap (λ t. gap (level - 1) (x / 2 ^ (level + 1) * 2 ^ (level + 1) + a / 2 ^ length (body_above level known) % 2 *
+    2 ^ level + y) c * gap (level - 1)
+    (x / 2 ^ (level + 1) * 2 ^ (level + 1) + a / 2 ^ length (body_above level known) % 2 * 2 ^ level + y) c + t)
+    (gaps-corner level a known body center l (omega (arith, e)) h.1)
 
 -- they are the least distance of the region
-pub gaps-distance : (w l : ℕ) (xs ys : List ℕ) → 1 ≤ w → Each (λ y. y < 2 ^ w) ys → gaps_squared l xs ys ≡ least_distance w (record { corner = map (coordinate w) xs; level = l }) (map (coordinate w) ys)
+pub gaps-distance : (w l : ℕ) (xs ys : List ℕ) → 1 ≤ w → Each (λ y. y < 2 ^ w) ys →
+    gaps_squared l xs ys ≡ least_distance w (record { corner = map (coordinate w) xs; level = l }) (map (coordinate w) ys)
 gaps-distance w l [] ys o h = refl
 gaps-distance w l (x ∷ xs) [] o h = refl
 gaps-distance w l (x ∷ xs) (y ∷ ys) o h =
@@ -137,16 +151,19 @@ gaps-small l (x ∷ xs) (y ∷ ys) h k =
 
 -- ---- an entry
 
-pub child-gap : (limit level : ℕ) (joined center : List ℕ) (o : What) → is_node o ≡ true → limit < gaps_squared (level - 1) joined center → limit < entry_gap level joined center o
+pub child-gap : (limit level : ℕ) (joined center : List ℕ) (o : What) → is_node o ≡ true →
+    limit < gaps_squared (level - 1) joined center → limit < entry_gap level joined center o
 child-gap limit level joined center (value v) e h = absurd cc
 child-gap limit level joined center (node n) e h = h
 
 -- the gap of an entry is the distance of its item
-pub entry-distance : (w level : ℕ) (joined center : List ℕ) (o : What) → 1 ≤ w → Each (λ y. y < 2 ^ w) center → entry_gap level joined center o ≡ item_distance w (map (coordinate w) center) (what_item w (level - 1) joined o)
+pub entry-distance : (w level : ℕ) (joined center : List ℕ) (o : What) → 1 ≤ w → Each (λ y. y < 2 ^ w) center →
+    entry_gap level joined center o ≡ item_distance w (map (coordinate w) center) (what_item w (level - 1) joined o)
 entry-distance w level joined center (value v) o h = apart-distance w joined center
 entry-distance w level joined center (node n) o h = gaps-distance w (level - 1) joined center o h
 
-pub entry-small : (level : ℕ) (joined center : List ℕ) (o : What) → length joined ≤ 16 → Each (λ x. x < 2 ^ 62) joined → Each (λ y. y < 2 ^ 62) center → entry_gap level joined center o < 2 ^ 128
+pub entry-small : (level : ℕ) (joined center : List ℕ) (o : What) → length joined ≤ 16 →
+    Each (λ x. x < 2 ^ 62) joined → Each (λ y. y < 2 ^ 62) center → entry_gap level joined center o < 2 ^ 128
 entry-small level joined center o few h k =
     let long : length joined * greatest_square ≤ 16 * greatest_square = mul-le-mul_right greatest_square few in
     by_kind o long

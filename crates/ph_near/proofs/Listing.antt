@@ -6,7 +6,8 @@ use Rattle.std.specs.List.Sorted.{IsPermutation}
 use Rattle.std.specs.BinaryHeap.{IsUpperBound, lt_by_cmp}
 use Rattle.std.proofs.lemmas.Bool.{and_parts}
 use Rattle.std.proofs.lemmas.List.{map-append}
-use Rattle.std.proofs.lemmas.List.Sorted.{IsPermutation-trans, IsPermutation-append_comm, IsPermutation-append_left, IsPermutation-append_right, IsPermutation-map, length_permutation}
+use Rattle.std.proofs.lemmas.List.Sorted.{IsPermutation-trans, IsPermutation-append_comm, IsPermutation-append_left}
+use Rattle.std.proofs.lemmas.List.Sorted.{IsPermutation-append_right, IsPermutation-map, length_permutation}
 use Rattle.ph_specs.specs.Coordinate.{is_point}
 use Rattle.ph_specs.specs.Table.{Row, is_rising}
 use Rattle.ph_specs.specs.Distance.{distance, near}
@@ -38,7 +39,9 @@ hits-are : {d : ℕ} (w : ℕ) (q : List ℤ) (fs : List (Found d)) → Each (Is
 hits-are w q [] h = refl
 hits-are w q (f ∷ fs) h = λ i. record { row = row_of w f; distance = h.0.far i } ∷ hits-are w q fs h.1 i
 
-module _ {w d n : ℕ} {q : List ℤ} {table : List Row} {rows : List (Found d)} {line : List Item} {before now : ℕ} (h : IsNearing w n q table rows line before now) (end : IsEnded w n q rows line) {hits : List TableHit} (l : IsListed w rows hits) where
+module _ {w d n : ℕ} {q : List ℤ} {table : List Row} {rows : List (Found d)} {line : List Item} {before now : ℕ}
+    (h : IsNearing w n q table rows line before now) (end : IsEnded w n q rows line) {hits : List TableHit}
+    (l : IsListed w rows hits) where
   abbrev queue : List Item
   queue = all_items w line h.far rows h.over
 
@@ -51,8 +54,10 @@ module _ {w d n : ℕ} {q : List ℤ} {table : List Row} {rows : List (Found d)}
   moved : IsPermutation (all_items w line h.far rows h.over) (map (found_item w) (l.sorted ++ h.over) ++ (line ++ h.far))
   moved =
       subst (λ xs. IsPermutation xs (map (found_item w) (l.sorted ++ h.over) ++ (line ++ h.far))) (append_assoc line h.far (map (found_item w) (rows ++ h.over)))
-      (IsPermutation-trans ((line ++ h.far) ++ map (found_item w) (rows ++ h.over)) ((line ++ h.far) ++ map (found_item w) kept) (map (found_item w) kept ++ (line ++ h.far))
-      (IsPermutation-append_right (line ++ h.far) (map (found_item w) (rows ++ h.over)) (map (found_item w) kept) (IsPermutation-map (found_item w) (rows ++ h.over) kept (IsPermutation-append_left h.over rows l.sorted l.moved)))
+      (IsPermutation-trans ((line ++ h.far) ++ map (found_item w) (rows ++ h.over))
+      ((line ++ h.far) ++ map (found_item w) kept) (map (found_item w) kept ++ (line ++ h.far))
+      (IsPermutation-append_right (line ++ h.far) (map (found_item w) (rows ++ h.over)) (map (found_item w) kept)
+      (IsPermutation-map (found_item w) (rows ++ h.over) kept (IsPermutation-append_left h.over rows l.sorted l.moved)))
       (IsPermutation-append_comm (line ++ h.far) (map (found_item w) kept)))
 
   rows-are : rows_in w (map (found_item w) (l.sorted ++ h.over) ++ (line ++ h.far)) ≡ rows_of w l.sorted ++ (rows_of w h.over ++ rows_in w (line ++ h.far))
@@ -64,7 +69,8 @@ module _ {w d n : ℕ} {q : List ℤ} {table : List Row} {rows : List (Found d)}
   all-rows : IsPermutation table (rows_of w l.sorted ++ (rows_of w h.over ++ rows_in w (line ++ h.far)))
   all-rows =
       subst (IsPermutation table) rows-are
-      (IsPermutation-trans table (rows_in w queue) (rows_in w (map (found_item w) kept ++ behind)) h.searching.rows_left (gathered-permutation (rows_held w) queue (map (found_item w) kept ++ behind) moved))
+      (IsPermutation-trans table (rows_in w queue) (rows_in w (map (found_item w) kept ++ behind))
+      h.searching.rows_left (gathered-permutation (rows_held w) queue (map (found_item w) kept ++ behind) moved))
 
   rises : is_rising w table ≡ true
   rises = (and_parts (is_rising w table) _ h.lawful).0
@@ -80,7 +86,8 @@ module _ {w d n : ℕ} {q : List ℤ} {table : List Row} {rows : List (Found d)}
 
   ranked : IsRanked w q (rows_of w l.sorted) × Each (λ r. IsNearerThan w q r (rows_of w h.over)) (rows_of w l.sorted)
   ranked =
-      sorted-ranked q h.narrow table h.wide (rising-of w table rises) (table-points w d table h.lawful) [] l.sorted h.over (rows_in w (line ++ h.far)) all-rows found-sorted found-all.1 l.order last-sorted
+      sorted-ranked q h.narrow table h.wide (rising-of w table rises) (table-points w d table h.lawful) [] l.sorted
+      h.over (rows_in w (line ++ h.far)) all-rows found-sorted found-all.1 l.order last-sorted
 
   -- all else is beyond n rows
   beyond-all : Each (λ i. IsBeyond n rows (item_distance w q i)) (line ++ h.far)
@@ -97,13 +104,19 @@ module _ {w d n : ℕ} {q : List ℤ} {table : List Row} {rows : List (Found d)}
 
   points-behind : ArePoints w d (rows_in w (line ++ h.far))
   points-behind =
-      let a = Each-parts (λ x. is_point w d x.point ≡ true) (rows_of w l.sorted) (rows_of w h.over ++ rows_in w behind) (Each-permutation (λ x. is_point w d x.point ≡ true) table (rows_of w l.sorted ++ (rows_of w h.over ++ rows_in w behind)) all-rows (table-points w d table h.lawful)) in
+      let a = Each-parts (λ x. is_point w d x.point ≡ true) (rows_of w l.sorted)
+      (rows_of w h.over ++ rows_in w behind)
+      (Each-permutation (λ x. is_point w d x.point ≡ true) table
+      (rows_of w l.sorted ++ (rows_of w h.over ++ rows_in w behind)) all-rows (table-points w d table h.lawful)) in
       (Each-parts (λ x. is_point w d x.point ≡ true) (rows_of w h.over) (rows_in w behind) a.1).1
 
   one-nearer : (f : Found d) → IsFound w d q f → In f rows → IsNearerThan w q (row_of w f) (rows_in w (line ++ h.far))
   one-nearer f k i =
-      let far : Each (λ j. suc f.distance ≤ item_distance w q j) (line ++ h.far) = Each-each (line ++ h.far) (λ j b. omega (arith, Each-in (λ (g : Found d). g.distance < item_distance w q j) f rows b.nearer i)) beyond-all in
-      Each-each (rows_in w behind) (λ r m. nearer-less w q (row_of w f) r (omega (arith, m, k.far))) (rows-far w d (suc f.distance) q behind far lawful-behind points-behind)
+      let far : Each (λ j. suc f.distance ≤ item_distance w q j) (line ++ h.far) =
+      Each-each (line ++ h.far) (λ j b. omega
+      (arith, Each-in (λ (g : Found d). g.distance < item_distance w q j) f rows b.nearer i)) beyond-all in
+      Each-each (rows_in w behind) (λ r m. nearer-less w q (row_of w f) r (omega (arith, m, k.far)))
+      (rows-far w d (suc f.distance) q behind far lawful-behind points-behind)
 
   all-nearer : Each (λ r. IsNearerThan w q r (rows_in w (line ++ h.far))) (rows_of w l.sorted)
   all-nearer = by_list l.sorted found-sorted (Each-from_in (λ f. In f rows) l.sorted (λ f i. (members-permutation rows l.sorted l.moved).1 f i))
@@ -118,7 +131,9 @@ module _ {w d n : ℕ} {q : List ℤ} {table : List Row} {rows : List (Found d)}
   nearer-rest : Each (λ r. IsNearerThan w q r (rows_of w h.over ++ rows_in w (line ++ h.far))) (rows_of w l.sorted)
   nearer-rest = by_list (rows_of w l.sorted) ranked.1 all-nearer
     where
-      by_list : (rs : List Row) → Each (λ r. IsNearerThan w q r (rows_of w h.over)) rs → Each (λ r. IsNearerThan w q r (rows_in w (line ++ h.far))) rs → Each (λ r. IsNearerThan w q r (rows_of w h.over ++ rows_in w (line ++ h.far))) rs
+      by_list : (rs : List Row) → Each (λ r. IsNearerThan w q r (rows_of w h.over)) rs →
+          Each (λ r. IsNearerThan w q r (rows_in w (line ++ h.far))) rs →
+          Each (λ r. IsNearerThan w q r (rows_of w h.over ++ rows_in w (line ++ h.far))) rs
       by_list [] f g = tt
       by_list (r ∷ rs) f g = (Each-append (λ s. is_nearer w q r s ≡ true) (rows_of w h.over) (rows_in w behind) f.0 g.0, by_list rs f.1 g.1)
 
@@ -132,7 +147,9 @@ module _ {w d n : ℕ} {q : List ℤ} {table : List Row} {rows : List (Found d)}
   enough : (length (rows_of w l.sorted) ≡ n) ⊎ ((length (rows_of w l.sorted) ≤ n) × ((rows_of w h.over ++ rows_in w (line ++ h.far)) ≡ []))
   enough = by_end end h.full
     where
-      by_end : IsEnded w n q rows line → ((h.far ≡ []) × (h.over ≡ [])) ⊎ (n ≤ length rows) → (length (rows_of w l.sorted) ≡ n) ⊎ ((length (rows_of w l.sorted) ≤ n) × ((rows_of w h.over ++ rows_in w (line ++ h.far)) ≡ []))
+      by_end : IsEnded w n q rows line → ((h.far ≡ []) × (h.over ≡ [])) ⊎ (n ≤ length rows) →
+          (length (rows_of w l.sorted) ≡ n) ⊎
+          ((length (rows_of w l.sorted) ≤ n) × ((rows_of w h.over ++ rows_in w (line ++ h.far)) ≡ []))
       by_end e (inr m) = inl (omega (arith, long, m, h.few))
       by_end (inr k) (inl f) = inl (omega (arith, long, k.0, h.few))
       by_end (inl e) (inl f) = inr (
@@ -143,4 +160,5 @@ module _ {w d n : ℕ} {q : List ℤ} {table : List Row} {rows : List (Found d)}
   pub nearing-listed : hits ≡ hits_of q (near q n table)
   nearing-listed =
       l.listed ∙ hits-are w q l.sorted found-sorted
-      ∙ ap (hits_of q) (nearest-near w q n table (rows_of w l.sorted) rises (record { rest = rest; same_rows = all-rows; ranked = ranked.0; nearer = nearer-rest; enough = enough }))
+      ∙ ap (hits_of q) (nearest-near w q n table (rows_of w l.sorted) rises
+      (record { rest = rest; same_rows = all-rows; ranked = ranked.0; nearer = nearer-rest; enough = enough }))

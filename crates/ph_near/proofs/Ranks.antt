@@ -1,5 +1,6 @@
 -- Heaps of rows that were found, and of what waits.
-use Rattle.std.proofs.Common.{◌≡◌, inl, inr, ℕ, zero, suc, ◌+◌, ◌<◌, ◌≤◌, refl, sym, ◌∙◌, ap, subst, arith, Bool, true, false, List, [], ◌∷◌, ◌++◌, length, get_or, append-nil, ltb-false}
+use Rattle.std.proofs.Common.{◌≡◌, inl, inr, ℕ, zero, suc, ◌+◌, ◌<◌, ◌≤◌, refl, sym, ◌∙◌, ap, subst, arith, Bool}
+use Rattle.std.proofs.Common.{true, false, List, [], ◌∷◌, ◌++◌, length, get_or, append-nil, ltb-false}
 use Rattle.std.specs.Prelude.{nat_lt, Result, Ok, Err, OnOk}
 use Rattle.std.specs.Ordering.{is_lt}
 use Rattle.std.specs.Cmp.{nat_cmp_is}
@@ -82,7 +83,8 @@ module _ {d : ℕ} where
     still_beyond = λ t b. absurd (omega (arith, b.full, l));
   }
 
-  module _ (n : ℕ) (x last : Found d) {old mid : List (Found d)} (l : n ≤ length old) (m : length old ≤ n) (p : IsPermutation old (last ∷ mid)) (u : IsUpperBound found_cmp last old) where
+  module _ (n : ℕ) (x last : Found d) {old mid : List (Found d)} (l : n ≤ length old) (m : length old ≤ n)
+      (p : IsPermutation old (last ∷ mid)) (u : IsUpperBound found_cmp last old) where
     behind : IsUpperBound found_cmp last (last ∷ mid)
     behind = Each-permutation (λ (z : Found d). lt_by_cmp found_cmp last z ≡ false) old (last ∷ mid) p u
 

@@ -43,7 +43,9 @@ module _ (w d n : ℕ) (q : List ℤ) (r : PlainNode) (before : ℕ) (wide : 1 �
         opened = [];
         far = [];
         over = [];
-        searching = subst (λ u. IsSearching w d n q (rows w d (Some r)) (record { listed = []; opened = []; queue = root_queue w d u })) (shape-rows w d (Some r) h) (searching-start w d n q (rows w d (Some r)) wide t);
+        searching = subst (λ u. IsSearching w d n q (rows w d (Some r))
+            (record { listed = []; opened = []; queue = root_queue w d u })) (shape-rows w d (Some r) h)
+            (searching-start w d n q (rows w d (Some r)) wide t);
         found = tt;
         few = omega arith;
         full = inl (refl, refl);
@@ -63,7 +65,8 @@ module _ (w d n : ℕ) (q : List ℤ) (r : PlainNode) (before : ℕ) (wide : 1 �
 
     pub top-nearing : {later : ℕ} → 1 ≤ n → later ≡ before + 1 → IsNearing {d = d} w n q (rows w d (Some r)) [] (opened_items w top ++ []) before later
     top-nearing {later} l t =
-        subst (λ is. IsNearing {d = d} w n q (rows w d (Some r)) [] (is ++ []) before later) ((λ i. items_of w (placed_at w (w - 1) (sym k i) (sym s i))) ∙ entered-items w top (w - 1))
+        subst (λ is. IsNearing {d = d} w n q (rows w d (Some r)) [] (is ++ []) before later)
+        ((λ i. items_of w (placed_at w (w - 1) (sym k i) (sym s i))) ∙ entered-items w top (w - 1))
         (nearing-opened {rows = []} nearing-start (inl (omega (arith, l))) tt t)
 
 -- ---- the nearest child that waits
@@ -81,7 +84,8 @@ opened-there [] k l h = absurd (omega (arith, l))
 opened-there (y ∷ ys) zero l h = h.0
 opened-there (y ∷ ys) (suc k) l h = opened-there ys k (omega (arith, l)) h.1
 
-module _ {d : ℕ} (w : ℕ) (q : List ℤ) (os : List (OpenedOf PlainNode d)) {limit : ℕ} {old new : List Waiting} {item : Waiting} (next : IsNext limit old item new) (waits : AreWaiting w q os old) where
+module _ {d : ℕ} (w : ℕ) (q : List ℤ) (os : List (OpenedOf PlainNode d)) {limit : ℕ} {old new : List Waiting}
+    {item : Waiting} (next : IsNext limit old item new) (waits : AreWaiting w q os old) where
   pub next-waits : IsWaiting w q os item × AreWaiting w q os new
   next-waits = Each-permutation (IsWaiting w q os) old (item ∷ new) next.moved waits
 
@@ -98,26 +102,47 @@ module _ {d : ℕ} (w : ℕ) (q : List ℤ) (os : List (OpenedOf PlainNode d)) {
     first : Each (λ j. least_distance w (placed_at w ((shown from.node).level - 1) o.known (shown o.node)).region q ≤ item_distance w q j) (line_of w os new)
     first = by_list new next.first next-waits.1
       where
-        by_list : (is : List Waiting) → Each (λ i. item.distance ≤ i.distance) is → AreWaiting w q os is → Each (λ j. least_distance w (placed_at w ((shown from.node).level - 1) o.known (shown o.node)).region q ≤ item_distance w q j) (line_of w os is)
+        by_list : (is : List Waiting) → Each (λ i. item.distance ≤ i.distance) is → AreWaiting w q os is →
+            Each (λ j. least_distance w (placed_at w ((shown from.node).level - 1) o.known (shown o.node)).region q ≤
+            item_distance w q j) (line_of w os is)
         by_list [] f k = tt
         by_list (i ∷ is) f k = (omega (arith, f.0, far, k.0.child.far), by_list is f.1 k.1)
 
     moved : IsPermutation (line_of w os old) (node (placed_at w ((shown from.node).level - 1) o.known (shown o.node)) ∷ line_of w os new)
     moved = subst (λ i. IsPermutation (line_of w os old) (i ∷ line_of w os new)) item-is line-moved
 
-    pub next-nearing : {n : ℕ} {table : List Row} {rows : List (Found d)} {before now later : ℕ} → IsNearing w n q table rows (line_of w os old) before now → ((t : ℕ) → t ≤ limit → IsWanted n rows t) → later ≡ now + 1 → IsNearing w n q table rows (opened_items w o ++ line_of w os new) before later
+    pub next-nearing : {n : ℕ} {table : List Row} {rows : List (Found d)} {before now later : ℕ} →
+        IsNearing w n q table rows (line_of w os old) before now → ((t : ℕ) → t ≤ limit → IsWanted n rows t) →
+        later ≡ now + 1 → IsNearing w n q table rows (opened_items w o ++ line_of w os new) before later
     next-nearing {n} {table} {rows} {before} {now} {later} h want t =
         subst (λ is. IsNearing w n q table rows (is ++ line_of w os new) before later) (entered-items w o ((shown from.node).level - 1))
-        (nearing-opened ((kept-moved (line_of w os old) (node (placed_at w ((shown from.node).level - 1) o.known (shown o.node)) ∷ line_of w os new) moved).nearing table before now h) (want (least_distance w (placed_at w ((shown from.node).level - 1) o.known (shown o.node)).region q) (omega (arith, far, next.within))) first t)
+        (nearing-opened ((kept-moved (line_of w os old)
+        (node (placed_at w ((shown from.node).level - 1) o.known (shown o.node)) ∷ line_of w os new)
+        moved).nearing table before now h)
+        (want (least_distance w (placed_at w ((shown from.node).level - 1) o.known (shown o.node)).region q)
+        (omega (arith, far, next.within))) first t)
 
     pub next-fewer : length (nodes_in w (opened_items w o ++ line_of w os new)) < length (nodes_in w (line_of w os old))
     next-fewer =
-        let same : length (nodes_in w (items_of w (placed_at w ((shown from.node).level - 1) o.known (shown o.node)) ++ line_of w os new)) ≡ length (nodes_in w (opened_items w o ++ line_of w os new)) = ap (λ is. length (nodes_in w (is ++ line_of w os new))) (entered-items w o ((shown from.node).level - 1)) in
-        omega (arith, same, fewer-nodes w (placed_at w ((shown from.node).level - 1) o.known (shown o.node)) (line_of w os new), length_permutation (nodes_in w (line_of w os old)) (nodes_in w (node (placed_at w ((shown from.node).level - 1) o.known (shown o.node)) ∷ line_of w os new)) (gathered-permutation (nodes_of w) (line_of w os old) (node (placed_at w ((shown from.node).level - 1) o.known (shown o.node)) ∷ line_of w os new) moved))
+        let same : length (nodes_in w (items_of w (placed_at w ((shown from.node).level - 1) o.known (shown o.node))
+        ++ line_of w os new)) ≡ length (nodes_in w (opened_items w o ++ line_of w os new)) =
+        ap (λ is. length (nodes_in w (is ++ line_of w os new))) (entered-items w o ((shown from.node).level - 1)) in
+        omega (
+          arith,
+          same,
+          fewer-nodes w (placed_at w ((shown from.node).level - 1) o.known (shown o.node))
+              (line_of w os new),
+          length_permutation (nodes_in w (line_of w os old))
+              (nodes_in w (node (placed_at w ((shown from.node).level - 1) o.known (shown o.node)) ∷ line_of w os new))
+              (gathered-permutation (nodes_of w) (line_of w os old)
+              (node (placed_at w ((shown from.node).level - 1) o.known (shown o.node)) ∷ line_of w os new) moved),
+        )
 
 -- ---- the end
 
-pub ended : {d n : ℕ} (w : ℕ) (q : List ℤ) (rows : List (Found d)) (os : List (OpenedOf PlainNode d)) (limit : ℕ) (items : List Waiting) → ((t : ℕ) → limit < t → t < 2 ^ 128 → IsBeyond n rows t) → AreWaiting w q os items → Each (λ i. limit < i.distance) items → IsEnded w n q rows (line_of w os items)
+pub ended : {d n : ℕ} (w : ℕ) (q : List ℤ) (rows : List (Found d)) (os : List (OpenedOf PlainNode d)) (limit : ℕ)
+    (items : List Waiting) → ((t : ℕ) → limit < t → t < 2 ^ 128 → IsBeyond n rows t) → AreWaiting w q os items →
+    Each (λ i. limit < i.distance) items → IsEnded w n q rows (line_of w os items)
 ended w q rows os limit [] b h f = inl refl
 ended {d} {n} w q rows os limit (x ∷ items) b h f = inr ((b x.distance f.0 h.0.child.small).full, all (x ∷ items) h f)
   where

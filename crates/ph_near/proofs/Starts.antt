@@ -13,7 +13,8 @@ use Rattle.ph_specs.proofs.laws.TableShape.{table-shape}
 use Rattle.ph_zorder.proofs.Decided.{is_body-point}
 use Rattle.ph_table.specs.Hits.{TableHit, hits_of}
 
-module _ (w u d n : ℕ) (root : Option PlainNode) (table : List Row) (q : List ℤ) (os : List ℕ) (l : 1 ≤ w) (e : w ≡ u) (s : root ≡ shape u table) (t : IsTable u d table) (p : IsPoint u d q) (o : os ≡ map (offset w) q) where
+module _ (w u d n : ℕ) (root : Option PlainNode) (table : List Row) (q : List ℤ) (os : List ℕ) (l : 1 ≤ w) (e : w ≡ u)
+    (s : root ≡ shape u table) (t : IsTable u d table) (p : IsPoint u d q) (o : os ≡ map (offset w) q) where
   wide : 1 ≤ u
   wide = omega (arith, l, e)
 

@@ -1,5 +1,6 @@
 -- A node with a point more.
-use Rattle.std.proofs.Common.{◌≡◌, ◌≢◌, ℕ, suc, ◌+◌, ◌^◌, ◌<◌, ◌≤◌, List, [], ◌∷◌, ◌++◌, length, map, refl, ap, sym, ◌∙◌, arith, true, false, not, cond, lt-ltb, le-ltb, inl, inr}
+use Rattle.std.proofs.Common.{◌≡◌, ◌≢◌, ℕ, suc, ◌+◌, ◌^◌, ◌<◌, ◌≤◌, List, [], ◌∷◌, ◌++◌, length, map, refl, ap}
+use Rattle.std.proofs.Common.{sym, ◌∙◌, arith, true, false, not, cond, lt-ltb, le-ltb, inl, inr}
 use Rattle.std.specs.Prelude.{None, nat_le, nat_lt, position}
 use Rattle.std.proofs.lemmas.Bool.{lt-leb, le-leb, eqb-false}
 use Rattle.ph_specs.specs.EntryEdits.{has_address, point_entry, inserted}
@@ -17,7 +18,8 @@ use Rattle.ph_node.proofs.Places.{place-le}
 
 module _ (a : ℕ) (b : List ℕ) (v : ℕ) where
   -- as the record has it
-  flats-more : (es : List Entry) → IsAbsent a es → edited (place_for a es) 0 1 (flat_of (point_entry a b v)) (map flat_of es) ≡ map flat_of (inserted (point_entry a b v) es)
+  flats-more : (es : List Entry) → IsAbsent a es →
+      edited (place_for a es) 0 1 (flat_of (point_entry a b v)) (map flat_of es) ≡ map flat_of (inserted (point_entry a b v) es)
   flats-more [] n = refl
   flats-more (e ∷ es) n =
       elim (split a e.addr) [
@@ -46,7 +48,9 @@ module _ (a : ℕ) (b : List ℕ) (v : ℕ) where
   some-more (e ∷ es) =
       elim (nat_lt a e.addr) as (λ s. 1 ≤ length (cond s (point_entry a b v ∷ e ∷ es) (e ∷ inserted (point_entry a b v) es))) [ true ↦ omega arith | false ↦ omega arith ]
 
-  module _ (d : ℕ) (ws : List ℕ) (ns : List PlainNode) (t : PlainNode) (o : IsOld d ws ns t) (i : ℕ) (absent : position (has_address a) (entries t) ≡ None) (p : i ≡ place_for a (entries t)) (l : a < 2 ^ d) (h : IsBody d t.level b) where
+  module _ (d : ℕ) (ws : List ℕ) (ns : List PlainNode) (t : PlainNode) (o : IsOld d ws ns t) (i : ℕ)
+      (absent : position (has_address a) (entries t) ≡ None) (p : i ≡ place_for a (entries t)) (l : a < 2 ^ d)
+      (h : IsBody d t.level b) where
     pub added : Renewed d t.level (edited i 0 1 (flat_of (point_entry a b v)) (flats_of t)) ns (inserted (point_entry a b v) (entries t))
     added =
         let n = absent-by a (entries t) absent in

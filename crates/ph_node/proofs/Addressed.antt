@@ -36,15 +36,21 @@ place-low d level a least (e ∷ es) k l = place-first a e es (omega (arith, k.0
 at-entry : (d level least : ℕ) (es : List Entry) (i : ℕ) → AreKept d level least es → i < length es
     → (least ≤ addr_at es i) × (addr_at es i < 2 ^ d) × (i ≡ place_for (addr_at es i) es) × (i + 1 ≡ place_for (addr_at es i + 1) es)
 at-entry d level least [] i k l = absurd (omega (arith, l))
-at-entry d level least (e ∷ es) zero k l =
-    (k.0, k.1, sym (place-first e.addr e es (omega arith)), sym (place-later (e.addr + 1) e es (omega arith) ∙ ap (λ n. 1 + n) (place-low d level (e.addr + 1) (e.addr + 1) es k.3 (omega arith))))
+at-entry d level least (e ∷ es) zero k l = (
+  k.0,
+  k.1,
+  sym (place-first e.addr e es (omega arith)),
+  sym (place-later (e.addr + 1) e es (omega arith) ∙
+      ap (λ n. 1 + n) (place-low d level (e.addr + 1) (e.addr + 1) es k.3 (omega arith))),
+)
 at-entry d level least (e ∷ es) (suc i) k l =
     let r = at-entry d level (e.addr + 1) es i k.3 (omega (arith, l)) in
     let a : place_for (addr_at es i) (e ∷ es) ≡ 1 + place_for (addr_at es i) es = place-later (addr_at es i) e es (omega (arith, r.0)) in
     let b : place_for (addr_at es i + 1) (e ∷ es) ≡ 1 + place_for (addr_at es i + 1) es = place-later (addr_at es i + 1) e es (omega (arith, r.0)) in
     (omega (arith, r.0, k.0), r.1, omega (arith, a, r.2), omega (arith, b, r.3))
 
-module _ (d : ℕ) (ws : List ℕ) (ns : List PlainNode) (t : PlainNode) (o : IsOld d ws ns t) (i : ℕ) (l : i < length (entries t)) (a : ℕ) (e : addr_at (entries t) i ≡ a) where
+module _ (d : ℕ) (ws : List ℕ) (ns : List PlainNode) (t : PlainNode) (o : IsOld d ws ns t) (i : ℕ)
+    (l : i < length (entries t)) (a : ℕ) (e : addr_at (entries t) i ≡ a) where
   pub address_low : a < 2 ^ d
   address_low = subst (λ x. x < 2 ^ d) e (at-entry d t.level 0 (entries t) i o.kept.rise l).1
 

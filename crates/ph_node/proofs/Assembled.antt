@@ -29,7 +29,8 @@ no-digits place (suc n) =
     let z : 0 % 2 ^ (place + 1) ≡ 0 = grind arith in
     ap (λ t. t && has_zeros_from place (replicate n 0)) (eq-eqb (0 % 2 ^ (place + 1)) 0 z) ∙ no-digits place n
 
-rising : (d level least : ℕ) (rs : List Read) (vs : List ℕ) (ns : List PlainNode) → children_in rs ≡ length ns → points_in rs ≡ length vs → AreReads d level least rs → AreKept d level least (listed (filled rs vs ns))
+rising : (d level least : ℕ) (rs : List Read) (vs : List ℕ) (ns : List PlainNode) → children_in rs ≡ length ns →
+    points_in rs ≡ length vs → AreReads d level least rs → AreKept d level least (listed (filled rs vs ns))
 rising d level least [] vs ns h k r = tt
 rising d level least (read_point a b ∷ rs) [] ns h k r = absurd (omega (arith, k))
 rising d level least (read_point a b ∷ rs) (v ∷ vs) ns h k r = (r.0, r.1, r.2, rising d level (a + 1) rs vs ns h (omega (arith, k)) r.3)
@@ -57,7 +58,10 @@ module _ (d w : ℕ) (rest : List ℕ) (laid : IsLaidOut d (w ∷ rest)) (small 
 
   reads-of : AreReads d (first_of w).level 0 (entries_in d (w ∷ rest))
   reads-of =
-      tables-reads _ d (first_of w) (xs Points ((first_of w).level + 1) d root w rest laid.tables.long small as-first as-rest) (numbers-many Points ((first_of w).level + 1) d root w rest laid.tables.long small as-first as-rest) (numbers-fit Points ((first_of w).level + 1) d root w rest laid.tables.long small as-first as-rest) laid.tables.tables
+      tables-reads _ d (first_of w) (xs Points ((first_of w).level + 1) d root w rest laid.tables.long small as-first
+      as-rest) (numbers-many Points ((first_of w).level + 1) d root w rest laid.tables.long small as-first
+      as-rest) (numbers-fit Points ((first_of w).level + 1) d root w rest laid.tables.long small as-first as-rest)
+      laid.tables.tables
 
   module _ (ns : List PlainNode) (many : length ns ≡ (first_of w).children) where
     all-kids : children_in (entries_in d (w ∷ rest)) ≡ length ns

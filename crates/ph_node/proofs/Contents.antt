@@ -27,7 +27,9 @@ merged-content (x ∷ xs) (suc i) j body = ap {B = List Entry} (λ t. x ∷ t) (
 
 -- ---- as a record keeps it, and its children
 
-flats-content : (es : List Entry) (i : ℕ) (body : List ℕ) (w : What) → i < length es → edited i 1 1 (record { addr = addr_at es i; body = body; value = value_of w }) (map flat_of es) ≡ map flat_of (with_content es i body w)
+flats-content : (es : List Entry) (i : ℕ) (body : List ℕ) (w : What) → i < length es →
+    edited i 1 1 (record { addr = addr_at es i; body = body; value = value_of w }) (map flat_of es) ≡
+    map flat_of (with_content es i body w)
 flats-content [] i body w l = absurd (omega (arith, l))
 flats-content (e ∷ es) zero body w l = refl
 flats-content (e ∷ es) (suc i) body w l = ap {B = List Flat} (λ u. flat_of e ∷ u) (flats-content es i body w (omega (arith, l)))
@@ -43,24 +45,28 @@ edit-here (value u) (node n) ns = refl
 edit-here (node m) (value v) ns = refl
 edit-here (node m) (node n) ns = refl
 
-edit-front : (o : What) (k less more : ℕ) (x : PlainNode) (ns : List PlainNode) → held_nodes o ++ edited k less more x ns ≡ edited (ones_of o + k) less more x (held_nodes o ++ ns)
+edit-front : (o : What) (k less more : ℕ) (x : PlainNode) (ns : List PlainNode) →
+    held_nodes o ++ edited k less more x ns ≡ edited (ones_of o + k) less more x (held_nodes o ++ ns)
 edit-front (value v) k less more x ns = ap (λ j. edited j less more x ns) (omega arith)
 edit-front (node n) k less more x ns =
     let e : suc k ≡ 1 + k = omega arith in
     ap (λ j. edited j less more x (n ∷ ns)) e
 
-nodes-content : (es : List Entry) (i : ℕ) (body : List ℕ) (w : What) → i < length es → nodes_held (with_content es i body w) ≡ edited (before es i) (ones_of (what_at es i)) (ones_of w) (node_in w) (nodes_held es)
+nodes-content : (es : List Entry) (i : ℕ) (body : List ℕ) (w : What) → i < length es →
+    nodes_held (with_content es i body w) ≡ edited (before es i) (ones_of (what_at es i)) (ones_of w) (node_in w) (nodes_held es)
 nodes-content [] i body w l = absurd (omega (arith, l))
 nodes-content (e ∷ es) zero body w l = edit-here e.what w (nodes_held es)
 nodes-content (e ∷ es) (suc i) body w l =
-    ap (λ u. held_nodes e.what ++ u) (nodes-content es i body w (omega (arith, l))) ∙ edit-front e.what (before es i) (ones_of (what_at es i)) (ones_of w) (node_in w) (nodes_held es)
+    ap (λ u. held_nodes e.what ++ u) (nodes-content es i body w (omega (arith, l))) ∙ edit-front e.what (before es i)
+    (ones_of (what_at es i)) (ones_of w) (node_in w) (nodes_held es)
 
 length-content : (es : List Entry) (i : ℕ) (body : List ℕ) (w : What) → length (with_content es i body w) ≡ length es
 length-content [] i body w = refl
 length-content (e ∷ es) zero body w = refl
 length-content (e ∷ es) (suc i) body w = ap suc (length-content es i body w)
 
-kept-content : (d level least : ℕ) (es : List Entry) (i : ℕ) (body : List ℕ) (w : What) → IsBody d level body → AreKept d level least es → AreKept d level least (with_content es i body w)
+kept-content : (d level least : ℕ) (es : List Entry) (i : ℕ) (body : List ℕ) (w : What) → IsBody d level body →
+    AreKept d level least es → AreKept d level least (with_content es i body w)
 kept-content d level least [] i body w b k = k
 kept-content d level least (e ∷ es) zero body w b k = (k.0, k.1, b, k.3)
 kept-content d level least (e ∷ es) (suc i) body w b k = (k.0, k.1, k.2, kept-content d level (e.addr + 1) es i body w b k.3)
@@ -98,7 +104,9 @@ module _ (d : ℕ) (ws : List ℕ) (ns : List PlainNode) (t : PlainNode) (o : Is
   own_nodes = ap (λ u. take (ones_of (what_at (entries t) i)) (drop (before (entries t) i) u)) (sym o.nodes) ∙ own-nodes (entries t) i
 
   pub changed : (body : List ℕ) (w : What) → IsBody d t.level body → 1 ≤ t.level
-      → Renewed d t.level (edited i 1 1 (record { addr = addr_at (entries t) i; body = body; value = value_of w }) (flats_of t)) (edited (before (entries t) i) (ones_of (what_at (entries t) i)) (ones_of w) (node_in w) ns) (with_content (entries t) i body w)
+      → Renewed d t.level (edited i 1 1 (record { addr = addr_at (entries t) i; body = body; value = value_of w })
+      (flats_of t)) (edited (before (entries t) i) (ones_of (what_at (entries t) i)) (ones_of w) (node_in w) ns)
+      (with_content (entries t) i body w)
   changed body w b low = record {
     flats = flats-content (entries t) i body w l;
     nodes = nodes-content (entries t) i body w l ∙ ap (λ u. edited (before (entries t) i) (ones_of (what_at (entries t) i)) (ones_of w) (node_in w) u) o.nodes;

@@ -27,7 +27,8 @@ module _ (d : ℕ) (ws : List ℕ) (place less more : ℕ) (p : Packed) (v : ℕ
     -- a new one
     module _ (h : (place ≤ i) × (i < place + more)) where
       pub new_entry : slice_get (map unvalued (edit_of d ws place less more p v)) i ≡ Some (read_of d p)
-      new_entry = read-new (entries_in d ws) (values_in d ws) place less more (new_flat d p v) s.points within i (read_of d p) h.0 h.1 l (new-reads p.child p.addr v (take d p.body))
+      new_entry = read-new (entries_in d ws) (values_in d ws) place less more (new_flat d p v) s.points within i
+          (read_of d p) h.0 h.1 l (new-reads p.child p.addr v (take d p.body))
 
       pub new_value : (u : ℕ) → slice_get (map (λ e. e.value) (edit_of d ws place less more p v)) i ≡ Some (Some u) → v ≡ u
       new_value u g = new-value p.child v u (value-new (entries_in d ws) (values_in d ws) place less more (new_flat d p v) s.points within i u h.0 h.1 l g)
@@ -35,7 +36,12 @@ module _ (d : ℕ) (ws : List ℕ) (place less more : ℕ) (p : Packed) (v : ℕ
     -- one that was there, at place k
     module _ (k : ℕ) (n : place ≤ i → place + more ≤ i) (f : i < place → k ≡ i) (b : place ≤ i → k + more ≡ i + less) where
       pub old_within : k < (first_in ws).entries
-      old_within = omega (arith, (kept (entries_in d ws) (values_in d ws) place less more (new_flat d p v) s.points within i k n f b l).0, many_entries d ws s.laid.tables)
+      old_within = omega (
+        arith,
+        (kept (entries_in d ws) (values_in d ws) place less more (new_flat d p v) s.points
+            within i k n f b l).0,
+        many_entries d ws s.laid.tables,
+      )
 
       module _ (e : ℕ) (q : Packed) (same : e ≡ d) (g : slice_get (entries_in e ws) k ≡ Some (read_of e q)) where
         got : slice_get (entries_in d ws) k ≡ Some (read_of d q)
@@ -45,8 +51,10 @@ module _ (d : ℕ) (ws : List ℕ) (place less more : ℕ) (p : Packed) (v : ℕ
         old_entry = read-old (entries_in d ws) (values_in d ws) place less more (new_flat d p v) s.points within i k (read_of d q) n f b l got
 
         -- its value, by its rank
-        module _ (r : q.rank ≡ rank_at q.child (entries_in e ws) k) (u : ℕ) (h : slice_get (map (λ e. e.value) (edit_of d ws place less more p v)) i ≡ Some (Some u)) where
-          there : (q.child ≡ false) × (points_in (take k (entries_in d ws)) < length (values_in d ws)) × (slice_index_or (values_in d ws) (points_in (take k (entries_in d ws))) 0 ≡ u)
+        module _ (r : q.rank ≡ rank_at q.child (entries_in e ws) k) (u : ℕ)
+            (h : slice_get (map (λ e. e.value) (edit_of d ws place less more p v)) i ≡ Some (Some u)) where
+          there : (q.child ≡ false) × (points_in (take k (entries_in d ws)) < length (values_in d ws)) ×
+              (slice_index_or (values_in d ws) (points_in (take k (entries_in d ws))) 0 ≡ u)
           there = value-old (entries_in d ws) (values_in d ws) place less more (new_flat d p v) s.points within i k u q.addr (take d q.body) q.child n f b l h got
 
           rank : q.rank ≡ points_in (take k (entries_in d ws))

@@ -1,5 +1,6 @@
 -- Records with an entry at each address, and those whose entries are of one kind.
-use Rattle.std.proofs.Common.{◌≡◌, ℕ, zero, suc, ◌+◌, ◌^◌, ◌<◌, ◌≤◌, List, [], ◌∷◌, map, take, length, true, false, not, cond, refl, arith, ap, sym, ◌∙◌, subst, zero-add, eq-eqb, ne_eqb, lt-ltb, le-ltb, le-leb}
+use Rattle.std.proofs.Common.{◌≡◌, ℕ, zero, suc, ◌+◌, ◌^◌, ◌<◌, ◌≤◌, List, [], ◌∷◌, map, take, length, true, false, not, cond}
+use Rattle.std.proofs.Common.{refl, arith, ap, sym, ◌∙◌, subst, zero-add, eq-eqb, ne_eqb, lt-ltb, le-ltb, le-leb}
 use Rattle.std.specs.Prelude.{◌==◌, nat_le, Some, None, position, slice_get}
 use Rattle.std.specs.List.{position_or_len, AllByRecursion as Each}
 use Rattle.std.proofs.lemmas.Bool.{lt-leb}
@@ -15,7 +16,8 @@ use Rattle.ph_node.proofs.Listings.{many}
 -- ---- an entry at each address
 
 -- the first entry, and the others
-front : (d level least : ℕ) (r : Read) (rs : List Read) → AreReads d level least (r ∷ rs) → (least ≤ read_address r) × (read_address r < 2 ^ d) × AreReads d level (read_address r + 1) rs
+front : (d level least : ℕ) (r : Read) (rs : List Read) → AreReads d level least (r ∷ rs) →
+    (least ≤ read_address r) × (read_address r < 2 ^ d) × AreReads d level (read_address r + 1) rs
 front d level least (read_point a b) rs h = (h.0, h.1, h.3)
 front d level least (read_child a b) rs h = (h.0, h.1, h.3)
 
@@ -29,7 +31,8 @@ first-is d level least r rs h e =
     let f = front d level least r rs h in
     omega (arith, f.0, e, room d level (read_address r + 1) rs (omega (arith, f.1)) f.2)
 
-place-is : (d level least k : ℕ) (rs : List Read) → AreReads d level least rs → least + length rs ≡ 2 ^ d → k < length rs → position_or_len (λ r. read_address r == least + k) rs ≡ k
+place-is : (d level least k : ℕ) (rs : List Read) → AreReads d level least rs → least + length rs ≡ 2 ^ d →
+    k < length rs → position_or_len (λ r. read_address r == least + k) rs ≡ k
 place-is d level least k [] h e l = absurd (omega (arith, l))
 place-is d level least zero (r ∷ rs) h e l =
     let a : read_address r ≡ least + zero = first-is d level least r rs h (omega (arith, e)) ∙ omega arith in
@@ -37,28 +40,38 @@ place-is d level least zero (r ∷ rs) h e l =
 place-is d level least (suc k) (r ∷ rs) h e l =
     let a : read_address r ≡ least = first-is d level least r rs h (omega (arith, e)) in
     let n : read_address r + 1 + k ≡ least + suc k = omega (arith, a) in
-    let ih : position_or_len (λ r. read_address r == least + suc k) rs ≡ k = subst (λ m. position_or_len (λ r. read_address r == m) rs ≡ k) n (place-is d level (read_address r + 1) k rs (front d level least r rs h).2 (omega (arith, a, e)) (omega (arith, l))) in
-    ap (λ t. cond (not t) (1 + position_or_len (λ r. read_address r == least + suc k) rs) 0) (ne_eqb (read_address r) (least + suc k) (λ q. omega (arith, q, a))) ∙ omega (arith, ih)
+    let ih : position_or_len (λ r. read_address r == least + suc k) rs ≡ k =
+    subst (λ m. position_or_len (λ r. read_address r == m) rs ≡ k) n
+    (place-is d level (read_address r + 1) k rs (front d level least r rs h).2 (omega (arith, a, e)) (omega (arith, l))) in
+    ap (λ t. cond (not t) (1 + position_or_len (λ r. read_address r == least + suc k) rs) 0)
+    (ne_eqb (read_address r) (least + suc k) (λ q. omega (arith, q, a))) ∙ omega (arith, ih)
 
 -- the first entry that is not before an address, and none behind the last one
-next-is : (d level least k : ℕ) (rs : List Read) → AreReads d level least rs → least + length rs ≡ 2 ^ d → k ≤ length rs → position_or_len (λ r. nat_le (least + k) (read_address r)) rs ≡ k
+next-is : (d level least k : ℕ) (rs : List Read) → AreReads d level least rs → least + length rs ≡ 2 ^ d →
+    k ≤ length rs → position_or_len (λ r. nat_le (least + k) (read_address r)) rs ≡ k
 next-is d level least zero [] h e l = refl
 next-is d level least (suc k) [] h e l = absurd (omega (arith, l))
 next-is d level least zero (r ∷ rs) h e l =
-    ap (λ t. cond (not t) (1 + position_or_len (λ r. nat_le (least + zero) (read_address r)) rs) 0) (le-leb (least + zero) (read_address r) (omega (arith, (front d level least r rs h).0)))
+    ap (λ t. cond (not t) (1 + position_or_len (λ r. nat_le (least + zero) (read_address r)) rs) 0)
+    (le-leb (least + zero) (read_address r) (omega (arith, (front d level least r rs h).0)))
 next-is d level least (suc k) (r ∷ rs) h e l =
     let a : read_address r ≡ least = first-is d level least r rs h (omega (arith, e)) in
     let n : read_address r + 1 + k ≡ least + suc k = omega (arith, a) in
-    let ih : position_or_len (λ r. nat_le (least + suc k) (read_address r)) rs ≡ k = subst (λ m. position_or_len (λ r. nat_le m (read_address r)) rs ≡ k) n (next-is d level (read_address r + 1) k rs (front d level least r rs h).2 (omega (arith, a, e)) (omega (arith, l))) in
-    ap (λ t. cond (not t) (1 + position_or_len (λ r. nat_le (least + suc k) (read_address r)) rs) 0) (lt-leb (least + suc k) (read_address r) (omega (arith, a))) ∙ omega (arith, ih)
+    let ih : position_or_len (λ r. nat_le (least + suc k) (read_address r)) rs ≡ k =
+    subst (λ m. position_or_len (λ r. nat_le m (read_address r)) rs ≡ k) n
+    (next-is d level (read_address r + 1) k rs (front d level least r rs h).2 (omega (arith, a, e)) (omega (arith, l))) in
+    ap (λ t. cond (not t) (1 + position_or_len (λ r. nat_le (least + suc k) (read_address r)) rs) 0)
+    (lt-leb (least + suc k) (read_address r) (omega (arith, a))) ∙ omega (arith, ih)
 
 past : (d level least a : ℕ) (rs : List Read) → AreReads d level least rs → 2 ^ d ≤ a → position_or_len (λ r. nat_le a (read_address r)) rs ≡ length rs
 past d level least a [] h l = refl
 past d level least a (r ∷ rs) h l =
     let f = front d level least r rs h in
-    ap (λ t. cond (not t) (1 + position_or_len (λ r. nat_le a (read_address r)) rs) 0) (lt-leb a (read_address r) (omega (arith, f.1, l))) ∙ omega (arith, past d level (read_address r + 1) a rs f.2 l)
+    ap (λ t. cond (not t) (1 + position_or_len (λ r. nat_le a (read_address r)) rs) 0)
+    (lt-leb a (read_address r) (omega (arith, f.1, l))) ∙ omega (arith, past d level (read_address r + 1) a rs f.2 l)
 
-address-at : (d level least i : ℕ) (rs : List Read) → AreReads d level least rs → least + length rs ≡ 2 ^ d → i < length rs → slice_get (map read_address rs) i ≡ Some (least + i)
+address-at : (d level least i : ℕ) (rs : List Read) → AreReads d level least rs → least + length rs ≡ 2 ^ d →
+    i < length rs → slice_get (map read_address rs) i ≡ Some (least + i)
 address-at d level least i [] h e l = absurd (omega (arith, l))
 address-at d level least zero (r ∷ rs) h e l = ap Some (first-is d level least r rs h (omega (arith, e)) ∙ omega arith)
 address-at d level least (suc i) (r ∷ rs) h e l =
@@ -115,13 +128,17 @@ module _ (d : ℕ) (ws : List ℕ) (laid : IsLaidOut d ws) (small : Each (λ x. 
     pub full-place : (a : ℕ) → a < 2 ^ d → position (λ r. read_address r == a) (entries_in d ws) ≡ Some a
     full-place a l =
         let m : a < length (entries_in d ws) = omega (arith, l, whole) in
-        let p : position_or_len (λ r. read_address r == a) (entries_in d ws) ≡ a = subst (λ t. position_or_len (λ r. read_address r == t) rs ≡ a) (zero-add a) (place-is d (first_in ws).level 0 a rs rise whole m) in
+        let p : position_or_len (λ r. read_address r == a) (entries_in d ws) ≡ a =
+        subst (λ t. position_or_len (λ r. read_address r == t) rs ≡ a) (zero-add a)
+        (place-is d (first_in ws).level 0 a rs rise whole m) in
         rw (p, lt-ltb a (length (entries_in d ws)) m) refl
 
     pub full-next : (a : ℕ) → a < 2 ^ d → position (λ r. nat_le a (read_address r)) (entries_in d ws) ≡ Some a
     full-next a l =
         let m : a < length (entries_in d ws) = omega (arith, l, whole) in
-        let p : position_or_len (λ r. nat_le a (read_address r)) (entries_in d ws) ≡ a = subst (λ t. position_or_len (λ r. nat_le t (read_address r)) rs ≡ a) (zero-add a) (next-is d (first_in ws).level 0 a rs rise whole (omega (arith, m))) in
+        let p : position_or_len (λ r. nat_le a (read_address r)) (entries_in d ws) ≡ a =
+        subst (λ t. position_or_len (λ r. nat_le t (read_address r)) rs ≡ a) (zero-add a)
+        (next-is d (first_in ws).level 0 a rs rise whole (omega (arith, m))) in
         rw (p, lt-ltb a (length (entries_in d ws)) m) refl
 
     pub full-end : (a : ℕ) → 2 ^ d ≤ a → position (λ r. nat_le a (read_address r)) (entries_in d ws) ≡ None

@@ -7,7 +7,8 @@ use Rattle.ph_specs.specs.Record.{first_in, has_cube}
 use Rattle.ph_specs.proofs.laws.Layouts.{IsMade, made}
 use Rattle.ph_node.specs.Recorded.{IsLaidOut}
 
-module _ (dims level : ℕ) (es : List Flat) (some : 1 ≤ dims) (few : dims ≤ 16) (low : level ≤ 61) (many : 1 ≤ length es) (bottom : level ≡ 0 → children es ≡ 0) (rise : AreRising dims level 0 es) where
+module _ (dims level : ℕ) (es : List Flat) (some : 1 ≤ dims) (few : dims ≤ 16) (low : level ≤ 61)
+    (many : 1 ≤ length es) (bottom : level ≡ 0 → children es ≡ 0) (rise : AreRising dims level 0 es) where
   abbrev cube : Bool
   cube = is_cube dims level (length es)
 

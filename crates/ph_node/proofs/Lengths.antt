@@ -16,11 +16,14 @@ pub record-long : (d level : ℕ) (fs : List Flat) → AreRising d level 0 fs �
 record-long d level fs h =
     let a = length-append (words_of (table (is_cube d level (length fs)) d level fs)) (values fs) in
     let b = length-words_of (table (is_cube d level (length fs)) d level fs) in
-    let c : words_for (digits_of (table (is_cube d level (length fs)) d level fs)) ≡ words_for (least_digits d level (length fs)) = ap words_for (table-digits (is_cube d level (length fs)) d level 0 fs h) in
+    let c : words_for (digits_of (table (is_cube d level (length fs)) d level fs)) ≡
+    words_for (least_digits d level (length fs)) = ap words_for (table-digits (is_cube d level (length fs)) d level 0 fs h) in
     omega (arith, a, b, c)
 
 -- of equally many entries they differ as the numbers of points do
-pub length-by_points : (d level : ℕ) (fs gs : List Flat) → AreRising d level 0 fs → AreRising d level 0 gs → length fs ≡ length gs → length (record_of d level fs) + length (values gs) ≡ length (record_of d level gs) + length (values fs)
+pub length-by_points : (d level : ℕ) (fs gs : List Flat) → AreRising d level 0 fs → AreRising d level 0 gs →
+    length fs ≡ length gs → length (record_of d level fs) + length (values gs) ≡ length (record_of d level gs) +
+    length (values fs)
 length-by_points d level fs gs h k e =
     let a : words_for (least_digits d level (length fs)) ≡ words_for (least_digits d level (length gs)) = ap (λ n. words_for (least_digits d level n)) e in
     omega (arith, record-long d level fs h, record-long d level gs k, a)

@@ -81,13 +81,15 @@ nodes-set [] (suc k) w = refl
 nodes-set (s ∷ ss) zero w = refl
 nodes-set (s ∷ ss) (suc k) w = ap (λ ts. s.node ∷ ts) (nodes-set ss k w)
 
-pub lent : {P : Type 0} (d : ℕ) (ws : List ℕ) (ss : List (SlotOf P)) (t : PlainNode) (o : IsOld d ws (nodes_of ss) t) (i k : ℕ) (w : SlotOf P) → i < length (entries t) → IsNode (what_at (entries t) i) → k ≡ before (entries t) i
+pub lent : {P : Type 0} (d : ℕ) (ws : List ℕ) (ss : List (SlotOf P)) (t : PlainNode) (o : IsOld d ws (nodes_of ss) t)
+    (i k : ℕ) (w : SlotOf P) → i < length (entries t) → IsNode (what_at (entries t) i) → k ≡ before (entries t) i
     → Renewed d t.level (flats_of t) (nodes_of (slice_set ss k w)) (with_what (entries t) i (node w.node))
 lent d ws ss t o i k w l n q =
     let e : nodes_of (slice_set ss k w) ≡ slice_set (nodes_of ss) k w.node = nodes-set ss k w in
     record {
       flats = flats-lent (entries t) i w.node n;
-      nodes = nodes-lent (entries t) i w.node n ∙ ap (λ u. slice_set u (before (entries t) i) w.node) o.nodes ∙ ap (λ j. slice_set (nodes_of ss) j w.node) (sym q) ∙ sym e;
+      nodes = nodes-lent (entries t) i w.node n ∙ ap (λ u. slice_set u (before (entries t) i) w.node) o.nodes ∙
+          ap (λ j. slice_set (nodes_of ss) j w.node) (sym q) ∙ sym e;
       kept = still-what d t.level (entries t) i (node w.node) o.kept;
       some = omega (arith, l, length-what (entries t) i (node w.node));
       bottom = λ z. omega (arith, o.bottom z, ap (λ (u : List PlainNode). length u) e, length-set (nodes_of ss) k w.node);

@@ -49,7 +49,9 @@ held-first (node n) = refl
 
 -- ---- the child
 
-module _ {P : Type 0} (d : ℕ) (ws : List ℕ) (ss : List (SlotOf P)) (t : PlainNode) (o : IsOld d ws (nodes_of ss) t) (i : ℕ) (old : OldEntry) (r : IsOldEntry d t i old) (l : i < length (entries t)) (p : IsPair t.level (body_at (entries t) i) (what_at (entries t) i)) where
+module _ {P : Type 0} (d : ℕ) (ws : List ℕ) (ss : List (SlotOf P)) (t : PlainNode) (o : IsOld d ws (nodes_of ss) t)
+    (i : ℕ) (old : OldEntry) (r : IsOldEntry d t i old) (l : i < length (entries t))
+    (p : IsPair t.level (body_at (entries t) i) (what_at (entries t) i)) where
   one-child : ones_of (what_at (entries t) i) ≡ 1
   one-child = node-one (what_at (entries t) i) (pair-node (what_at (entries t) i) p.two)
 
@@ -66,7 +68,8 @@ module _ {P : Type 0} (d : ℕ) (ws : List ℕ) (ss : List (SlotOf P)) (t : Plai
 
 -- ---- the entry beside the point
 
-module _ (t : PlainNode) (i j : ℕ) (p : IsPair t.level (body_at (entries t) i) (what_at (entries t) i)) (one : j < 2) (v : IsValue (what_at (entries_held (what_at (entries t) i)) j)) (x : PlainNode) (is : node x ≡ what_at (entries t) i) where
+module _ (t : PlainNode) (i j : ℕ) (p : IsPair t.level (body_at (entries t) i) (what_at (entries t) i)) (one : j < 2)
+    (v : IsValue (what_at (entries_held (what_at (entries t) i)) j)) (x : PlainNode) (is : node x ≡ what_at (entries t) i) where
   pub two : length (entries x) ≡ 2
   two = subst (λ (w : What). length (entries_held w) ≡ 2) (sym is) p.two
 
@@ -82,7 +85,8 @@ module _ (t : PlainNode) (i j : ℕ) (p : IsPair t.level (body_at (entries t) i)
   same-what : other_what (what_at (entries t) i) j ≡ what_at (entries x) (1 - j)
   same-what = ap (λ w. other_what w j) (sym is)
 
-  module _ (d : ℕ) (ws : List ℕ) (ns : List PlainNode) (o : IsOld d ws ns t) (old other : OldEntry) (r : IsOldEntry d t i old) (q : IsOldEntry d x (1 - j) other) (l : i < length (entries t)) where
+  module _ (d : ℕ) (ws : List ℕ) (ns : List PlainNode) (o : IsOld d ws ns t) (old other : OldEntry)
+      (r : IsOldEntry d t i old) (q : IsOldEntry d x (1 - j) other) (l : i < length (entries t)) where
     -- its child, where it is one
     pub kids_one : other.child ≡ true → length (nodes_held (entries x)) ≡ 1
     kids_one h =
@@ -90,17 +94,21 @@ module _ (t : PlainNode) (i j : ℕ) (p : IsPair t.level (body_at (entries t) i)
         omega (arith, ap (λ (u : List PlainNode). length u) kids, held-length (what_at (entries x) (1 - j)), q.kind, k)
 
     pub lifted : (vs : List PlainNode) → vs ≡ edited old.front 1 (if other.child then 1 else 0) (node_at (nodes_held (entries x)) 0) ns
-        → vs ≡ edited (before (entries t) i) (ones_of (what_at (entries t) i)) (ones_of (other_what (what_at (entries t) i) j)) (node_in (other_what (what_at (entries t) i) j)) ns
+        → vs ≡ edited (before (entries t) i) (ones_of (what_at (entries t) i))
+        (ones_of (other_what (what_at (entries t) i) j)) (node_in (other_what (what_at (entries t) i) j)) ns
     lifted vs e =
         e
         ∙ ap (λ k. edited k 1 (if other.child then 1 else 0) (node_at (nodes_held (entries x)) 0) ns) r.front
-        ∙ ap (λ k. edited (before (entries t) i) k (if other.child then 1 else 0) (node_at (nodes_held (entries x)) 0) ns) (sym (node-one (what_at (entries t) i) (pair-node (what_at (entries t) i) p.two)))
+        ∙ ap (λ k. edited (before (entries t) i) k (if other.child then 1 else 0) (node_at (nodes_held (entries x)) 0)
+        ns) (sym (node-one (what_at (entries t) i) (pair-node (what_at (entries t) i) p.two)))
         ∙ ap (λ k. edited (before (entries t) i) (ones_of (what_at (entries t) i)) k (node_at (nodes_held (entries x)) 0) ns) (sym q.kind)
-        ∙ ap (λ n. edited (before (entries t) i) (ones_of (what_at (entries t) i)) (ones_of (what_at (entries x) (1 - j))) n ns) (ap (λ u. node_at u 0) kids ∙ held-first (what_at (entries x) (1 - j)))
+        ∙ ap (λ n. edited (before (entries t) i) (ones_of (what_at (entries t) i))
+        (ones_of (what_at (entries x) (1 - j))) n ns) (ap (λ u. node_at u 0) kids ∙ held-first (what_at (entries x) (1 - j)))
         ∙ ap (λ w. edited (before (entries t) i) (ones_of (what_at (entries t) i)) (ones_of w) (node_in w) ns) (sym same-what)
 
     -- the array that is put together
-    module _ (n m k : ℕ) (known : List ℕ) (e : n ≡ d) (f : m ≡ d) (h : k ≡ x.level) (join : known ≡ put_together k other.addr (body_above k (take n old.body)) (take m other.body)) where
+    module _ (n m k : ℕ) (known : List ℕ) (e : n ≡ d) (f : m ≡ d) (h : k ≡ x.level)
+        (join : known ≡ put_together k other.addr (body_above k (take n old.body)) (take m other.body)) where
       abbrev body : List ℕ
       body = known ++ drop n old.body
 
@@ -129,13 +137,15 @@ module _ (t : PlainNode) (i j : ℕ) (p : IsPair t.level (body_at (entries t) i)
           (body-joined d t.level x.level other.addr (take d old.body) (take d other.body) child_low (subst (HasZerosFrom x.level) r.body child_zeros) r.fields q.fields)
 
       pub merged_new : Renewed d t.level (edited i 1 1 (record { addr = old.addr; body = take d (known ++ drop n old.body); value = held_by other }) (flats_of t))
-          (edited (before (entries t) i) (ones_of (what_at (entries t) i)) (ones_of (other_what (what_at (entries t) i) j)) (node_in (other_what (what_at (entries t) i) j)) ns)
+          (edited (before (entries t) i) (ones_of (what_at (entries t) i))
+          (ones_of (other_what (what_at (entries t) i) j)) (node_in (other_what (what_at (entries t) i) j)) ns)
           (entries (merge_node t i j))
       merged_new =
           let w : What = other_what (what_at (entries t) i) j in
           let ks : List PlainNode = edited (before (entries t) i) (ones_of (what_at (entries t) i)) (ones_of w) (node_in w) ns in
           let b : List ℕ = body_beside (body_at (entries t) i) (what_at (entries t) i) j in
-          let f : record { addr = addr_at (entries t) i; body = take d body; value = value_of w } ≡ record { addr = old.addr; body = take d body; value = held_by other } =
+          let f : record { addr = addr_at (entries t) i; body = take d body; value = value_of w } ≡
+          record { addr = old.addr; body = take d body; value = held_by other } =
           ap {B = Flat} (λ (a : ℕ). record { addr = a; body = take d body; value = value_of w }) r.addr
           ∙ ap {B = Flat} (λ (u : Option ℕ). record { addr = old.addr; body = take d body; value = u }) (ap value_of same-what ∙ q.value) in
           subst (λ x. Renewed d t.level (edited i 1 1 x (flats_of t)) ks (entries (merge_node t i j))) f
@@ -144,7 +154,9 @@ module _ (t : PlainNode) (i j : ℕ) (p : IsPair t.level (body_at (entries t) i)
           (changed d ws ns t o i l (take d body) w whole (omega (arith, child_low))))
 
       -- the record of the node is longer by a word where it is a point
-      pub merged_long : length (record_of d t.level (edited i 1 1 (record { addr = old.addr; body = take d (known ++ drop n old.body); value = held_by other }) (flats_of t))) + (if other.child then 1 else 0) ≡ length ws + 1
+      pub merged_long : length (record_of d t.level
+          (edited i 1 1 (record { addr = old.addr; body = take d (known ++ drop n old.body); value = held_by other })
+          (flats_of t))) + (if other.child then 1 else 0) ≡ length ws + 1
       merged_long =
           let w : What = other_what (what_at (entries t) i) j in
           let a = length-changed d ws ns t o i _ _ _ l merged_new in

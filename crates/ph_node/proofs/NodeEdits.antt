@@ -37,7 +37,9 @@ module _ (d : ℕ) (ws : List ℕ) (ns : List PlainNode) (t : PlainNode) (is : u
       sym (moved d ws ws ns t (old d ws ns t is kept) refl e (first_in ws).level refl (λ l fs. record_of d t.level (edit_flats d t e) ≡ record_of d l fs) refl)
 
 -- where one entry is changed, the record is shorter by as many words as there are children more
-module _ (d : ℕ) (ws : List ℕ) (ns : List PlainNode) (t : PlainNode) (o : IsOld d ws ns t) (i : ℕ) (x : Flat) (ms : List PlainNode) (es : List Entry) (l : i < length (entries t)) (r : Renewed d t.level (edited i 1 1 x (flats_of t)) ms es) where
+module _ (d : ℕ) (ws : List ℕ) (ns : List PlainNode) (t : PlainNode) (o : IsOld d ws ns t) (i : ℕ) (x : Flat)
+    (ms : List PlainNode) (es : List Entry) (l : i < length (entries t))
+    (r : Renewed d t.level (edited i 1 1 x (flats_of t)) ms es) where
   pub length-changed : length (record_of d t.level (edited i 1 1 x (flats_of t))) + length ms ≡ length ws + length ns
   length-changed =
       let fs : List Flat = edited i 1 1 x (flats_of t) in

@@ -1,5 +1,6 @@
 -- What is known of a node by its words and its children.
-use Rattle.std.proofs.Common.{◌≡◌, ℕ, zero, suc, ◌+◌, ◌-◌, ◌<◌, ◌≤◌, List, [], ◌∷◌, length, map, take, refl, ap, sym, ◌∙◌, subst, arith, Bool, true, false, slice_index_or, get_or}
+use Rattle.std.proofs.Common.{◌≡◌, ℕ, zero, suc, ◌+◌, ◌-◌, ◌<◌, ◌≤◌, List, [], ◌∷◌, length, map, take, refl, ap}
+use Rattle.std.proofs.Common.{sym, ◌∙◌, subst, arith, Bool, true, false, slice_index_or, get_or}
 use Rattle.std.specs.Prelude.{Some, None, slice_get, if◌then◌else◌}
 use Rattle.std.proofs.lemmas.List.{length-drop}
 use Rattle.ph_specs.specs.Digits.{words_for}
@@ -22,12 +23,15 @@ use Rattle.ph_node.proofs.Reading.{point-told, child-told}
 
 -- ---- by what was read of its record
 
-flats-filled : (es : List Read) (vs : List ℕ) (ns : List PlainNode) → children_in es ≡ length ns → points_in es ≡ length vs → flats es vs ≡ map flat_of (listed (filled es vs ns))
+flats-filled : (es : List Read) (vs : List ℕ) (ns : List PlainNode) → children_in es ≡ length ns →
+    points_in es ≡ length vs → flats es vs ≡ map flat_of (listed (filled es vs ns))
 flats-filled [] vs ns h k = refl
 flats-filled (read_point a b ∷ es) [] ns h k = absurd (omega (arith, k))
-flats-filled (read_point a b ∷ es) (v ∷ vs) ns h k = ap {B = List Flat} (λ t. record { addr = a; body = b; value = Some v } ∷ t) (flats-filled es vs ns h (omega (arith, k)))
+flats-filled (read_point a b ∷ es) (v ∷ vs) ns h k =
+    ap {B = List Flat} (λ t. record { addr = a; body = b; value = Some v } ∷ t) (flats-filled es vs ns h (omega (arith, k)))
 flats-filled (read_child a b ∷ es) vs [] h k = absurd (omega (arith, h))
-flats-filled (read_child a b ∷ es) vs (n ∷ ns) h k = ap {B = List Flat} (λ t. record { addr = a; body = b; value = None } ∷ t) (flats-filled es vs ns (omega (arith, h)) k)
+flats-filled (read_child a b ∷ es) vs (n ∷ ns) h k =
+    ap {B = List Flat} (λ t. record { addr = a; body = b; value = None } ∷ t) (flats-filled es vs ns (omega (arith, h)) k)
 
 nodes-filled : (es : List Read) (vs : List ℕ) (ns : List PlainNode) → children_in es ≡ length ns → points_in es ≡ length vs → nodes_held (listed (filled es vs ns)) ≡ ns
 nodes-filled [] vs [] h k = refl
@@ -42,7 +46,8 @@ both-in [] = refl
 both-in (read_point a b ∷ es) = omega (arith, both-in es)
 both-in (read_child a b ∷ es) = omega (arith, both-in es)
 
-before-filled : (es : List Read) (vs : List ℕ) (ns : List PlainNode) (i : ℕ) → children_in es ≡ length ns → points_in es ≡ length vs → before (listed (filled es vs ns)) i ≡ children_in (take i es)
+before-filled : (es : List Read) (vs : List ℕ) (ns : List PlainNode) (i : ℕ) → children_in es ≡ length ns →
+    points_in es ≡ length vs → before (listed (filled es vs ns)) i ≡ children_in (take i es)
 before-filled [] vs ns zero h k = refl
 before-filled [] vs ns (suc i) h k = refl
 before-filled (read_point a b ∷ es) [] ns i h k = absurd (omega (arith, k))
@@ -136,13 +141,15 @@ module _ (d : ℕ) (ws : List ℕ) (ns : List PlainNode) (t : PlainNode) (is : u
   points-are i = points-before (entries_in d ws) (values_in d ws) i whole.1 ∙ ap (λ (u : List Flat). length (values (take i u))) flats-are
 
   -- how many children, or points, stand in front of it
-  pub ranked : (e : ℕ) (us : List ℕ) → e ≡ d → us ≡ ws → (c : Bool) (i r : ℕ) → r ≡ rank_at c (entries_in e us) i → r ≡ (if c then before (entries t) i else length (values (take i (flats_of t))))
+  pub ranked : (e : ℕ) (us : List ℕ) → e ≡ d → us ≡ ws → (c : Bool) (i r : ℕ) → r ≡ rank_at c (entries_in e us) i →
+      r ≡ (if c then before (entries t) i else length (values (take i (flats_of t))))
   ranked e us f h true i r q =
       q ∙ ap (λ n. rank_at true (entries_in n us) i) f ∙ ap (λ u. rank_at true (entries_in d u) i) h ∙ sym (front-is i)
   ranked e us f h false i r q =
       q ∙ ap (λ n. rank_at false (entries_in n us) i) f ∙ ap (λ u. rank_at false (entries_in d u) i) h ∙ points-are i
 
-  module _ (e : ℕ) (us : List ℕ) (f : us ≡ ws) (h : e ≡ d) (i : ℕ) (l : i < length (entries t)) (c : Bool) (k : slice_get (map is_child (entries_in e us)) i ≡ Some c) (r : ℕ) (q : r ≡ rank_at c (entries_in e us) i) where
+  module _ (e : ℕ) (us : List ℕ) (f : us ≡ ws) (h : e ≡ d) (i : ℕ) (l : i < length (entries t)) (c : Bool)
+      (k : slice_get (map is_child (entries_in e us)) i ≡ Some c) (r : ℕ) (q : r ≡ rank_at c (entries_in e us) i) where
     both : children_in (take i (entries_in d ws)) + points_in (take i (entries_in d ws)) ≡ i
     both = both-before (entries_in d ws) i (omega (arith, l, length_is d ws ns t is kept))
 

@@ -31,7 +31,8 @@ below-kept : (dims level place : ℕ) (body : List ℕ) (what : What) → IsBody
 below-kept dims level place body what b =
     record { address = address-below dims place body b.0; body = is_body-below dims place body b.0 }
 
-pub child-kept : (dims level place : ℕ) (es : List Entry) (old new : List ℕ) (w u : What) → IsKept dims level es → AreApart dims level place old new → IsKept dims place (inserted (entry_below place new u) (entry_below place old w ∷ []))
+pub child-kept : (dims level place : ℕ) (es : List Entry) (old new : List ℕ) (w u : What) → IsKept dims level es →
+    AreApart dims level place old new → IsKept dims place (inserted (entry_below place new u) (entry_below place old w ∷ []))
 child-kept dims level place es old new w u k a =
     record {
       some = k.some;

@@ -49,7 +49,8 @@ module _ (d : ℕ) (ws : List ℕ) (ns : List PlainNode) (t : PlainNode) (is : u
   o : IsOld d ws ns t
   o = old d ws ns t is kept
 
-  module _ (i a v : ℕ) (body : List ℕ) (absent : position (has_address a) (entries t) ≡ None) (p : i ≡ place_for a (entries t)) (l : a < 2 ^ d) (b : IsBodyArray d t.level body) where
+  module _ (i a v : ℕ) (body : List ℕ) (absent : position (has_address a) (entries t) ≡ None)
+      (p : i ≡ place_for a (entries t)) (l : a < 2 ^ d) (b : IsBodyArray d t.level body) where
     more-edit : IsEdit d t (more_edit i a body v)
     more-edit = record {
       within = omega (arith, place_within a (take d body) v d ws ns t o i absent p l b.fields);
@@ -69,7 +70,8 @@ module _ (d : ℕ) (ws : List ℕ) (ns : List PlainNode) (t : PlainNode) (is : u
     more_kept us e =
         kept_new _ _ _ _ _ (added a (take d body) v d ws ns t o i absent p l b.fields) us (e ∙ record_is d ws ns t is kept (more_edit i a body v))
 
-    pub more_seen : (us : List ℕ) → us ≡ record_with d ws (more_edit i a body v) → unpacked d us ns ≡ node_of t.level (inserted (point_entry a (take d body) v) (entries t))
+    pub more_seen : (us : List ℕ) → us ≡ record_with d ws (more_edit i a body v) →
+        unpacked d us ns ≡ node_of t.level (inserted (point_entry a (take d body) v) (entries t))
     more_seen us e =
         seen_new _ _ _ _ _ (added a (take d body) v d ws ns t o i absent p l b.fields) us (e ∙ record_is d ws ns t is kept (more_edit i a body v))
 
@@ -104,10 +106,13 @@ module _ (d : ℕ) (ws : List ℕ) (ns : List PlainNode) (t : PlainNode) (is : u
     less_was = kind-there d d ws ws ns t is kept refl refl s.place h.within ∙ ap Some (not-node (what_at (entries t) s.place) point)
 
   -- the room that a removal is handed, by the words and the children of the block
-  pub less_room : (spare : Option Block) (k : ℕ) → k ≡ length ns → (is_relaid d t.level (length (entries t)) ≡ true → MatchOption spare ⊥ (λ w. length (pack d t) + length (child_nodes t.chain) ≤ room_of w))
+  pub less_room : (spare : Option Block) (k : ℕ) → k ≡ length ns →
+      (is_relaid d t.level (length (entries t)) ≡ true →
+      MatchOption spare ⊥ (λ w. length (pack d t) + length (child_nodes t.chain) ≤ room_of w))
       → is_relaid d (first_in ws).level (first_in ws).entries ≡ true → MatchOption spare ⊥ (λ w. length ws + k ≤ room_of w)
   less_room spare k e h r =
-      let told : is_relaid d t.level (length (entries t)) ≡ true = ap (λ l. is_relaid d l (length (entries t))) (level_is d ws ns t is kept) ∙ ap (λ n. is_relaid d (first_in ws).level n) (count_is d ws ns t is kept) ∙ r in
+      let told : is_relaid d t.level (length (entries t)) ≡ true = ap (λ l. is_relaid d l (length (entries t)))
+      (level_is d ws ns t is kept) ∙ ap (λ n. is_relaid d (first_in ws).level n) (count_is d ws ns t is kept) ∙ r in
       let long : length ws ≡ length (pack d t) = ap (λ (u : List ℕ). length u) (kept.packed.packed ∙ ap (λ u. pack d u) is) in
       let kids : length (child_nodes t.chain) ≡ length ns = ap (λ (u : List PlainNode). length u) (nodes_are d ws ns t is kept) in
       let same : length (pack d t) + length (child_nodes t.chain) ≡ length ws + k = omega (arith, long, kids, e) in

@@ -1,5 +1,6 @@
 -- What reads of a record tell of the entries of its node.
-use Rattle.std.proofs.Common.{◌≡◌, ℕ, zero, suc, ◌+◌, ◌*◌, ◌/◌, ◌%◌, ◌^◌, ◌<◌, List, [], ◌∷◌, map, take, length, Bool, true, false, refl, arith, ap, sym, ◌∙◌, get_or, subst, slice_index_or}
+use Rattle.std.proofs.Common.{◌≡◌, ℕ, zero, suc, ◌+◌, ◌*◌, ◌/◌, ◌%◌, ◌^◌, ◌<◌, List, [], ◌∷◌, map, take, length, Bool}
+use Rattle.std.proofs.Common.{true, false, refl, arith, ap, sym, ◌∙◌, get_or, subst, slice_index_or}
 use Rattle.std.specs.Prelude.{Some, slice_get, position, nat_le}
 use Rattle.std.specs.Option.{option_map, unwrap_or}
 use Rattle.std.specs.List.{position_or_len}
@@ -84,7 +85,8 @@ module _ (d e : ℕ) (ws us : List ℕ) (ns : List PlainNode) (t : PlainNode) (i
 
     pub address-is : slice_get (map read_address (entries_in e us)) i ≡ Some (addr_at (entries t) i)
     address-is =
-        ap (λ rs. slice_get (map read_address rs) i) same ∙ slice_get-map read_address (entries_in d ws) i ∙ ap (option_map read_address) is-here ∙ ap Some (sym addr-here)
+        ap (λ rs. slice_get (map read_address rs) i) same ∙ slice_get-map read_address (entries_in d ws) i ∙
+        ap (option_map read_address) is-here ∙ ap Some (sym addr-here)
 
     -- whether it is a child
     pub kind-here : slice_get (map is_child (entries_in e us)) i ≡ Some (is_child (get_or (entries_in d ws) i no_read))
@@ -95,13 +97,18 @@ module _ (d e : ℕ) (ws us : List ℕ) (ns : List PlainNode) (t : PlainNode) (i
 
     pub body-told : (b : List ℕ) → slice_get (map read_body (entries_in e us)) i ≡ Some b → b ≡ body_at (entries t) i
     body-told b h =
-        ap (λ o. unwrap_or o []) (sym h ∙ ap (λ rs. slice_get (map read_body rs) i) same ∙ slice_get-map read_body (entries_in d ws) i ∙ ap (option_map read_body) is-here) ∙ sym body-here
+        ap (λ o. unwrap_or o []) (sym h ∙ ap (λ rs. slice_get (map read_body rs) i) same ∙
+        slice_get-map read_body (entries_in d ws) i ∙ ap (option_map read_body) is-here) ∙ sym body-here
 
     kind-told : (c : Bool) → slice_get (map is_child (entries_in e us)) i ≡ Some c → is_child (get_or (entries_in d ws) i no_read) ≡ c
     kind-told c h =
-        ap (λ o. unwrap_or o false) (sym (ap (λ rs. slice_get (map is_child rs) i) same ∙ slice_get-map is_child (entries_in d ws) i ∙ ap (option_map is_child) is-here) ∙ h)
+        ap (λ o. unwrap_or o false) (sym
+        (ap (λ rs. slice_get (map is_child rs) i) same ∙ slice_get-map is_child (entries_in d ws) i ∙
+        ap (option_map is_child) is-here) ∙ h)
 
-    whole-here : slice_get (entries_in d ws) i ≡ Some (read (is_child (get_or (entries_in d ws) i no_read)) (read_address (get_or (entries_in d ws) i no_read)) (read_body (get_or (entries_in d ws) i no_read)))
+    whole-here : slice_get (entries_in d ws) i ≡
+        Some (read (is_child (get_or (entries_in d ws) i no_read)) (read_address (get_or (entries_in d ws) i no_read))
+        (read_body (get_or (entries_in d ws) i no_read)))
     whole-here = is-here ∙ ap Some (parts here)
 
     -- an entry that is read as a child, and one that is read as a point

@@ -16,7 +16,8 @@ module _ (d : ℕ) (ws : List ℕ) (e : Edit) (h : IsRecordEdit d ws e) where
   few_with = few d (first_in ws).level (with_edit d ws e) h.rise
 
 -- the layout stays, where an entry is put in place of another
-pub record-there : (d : ℕ) (ws : List ℕ) (e : Edit) (cube : Bool) → IsRecordEdit d ws e → e.less ≡ 1 → e.more ≡ 1 → has_cube d (first_in ws) ≡ cube → record_in cube d (first_in ws).level (edited_as cube d ws e) ≡ record_with d ws e
+pub record-there : (d : ℕ) (ws : List ℕ) (e : Edit) (cube : Bool) → IsRecordEdit d ws e → e.less ≡ 1 → e.more ≡ 1 →
+    has_cube d (first_in ws) ≡ cube → record_in cube d (first_in ws).level (edited_as cube d ws e) ≡ record_with d ws e
 record-there d ws e cube h less more hc =
     let level : ℕ = (first_in ws).level in
     let same : (first_in ws).entries ≡ length (with_edit d ws e) = omega (arith, count_with d ws e h (first_in ws).entries refl, h.within, less, more) in

@@ -48,7 +48,8 @@ shorter d level n p m q e f =
 
 -- ---- the node
 
-module _ (d : ℕ) (ws : List ℕ) (ns : List PlainNode) (t : PlainNode) (o : IsOld d ws ns t) (i : ℕ) (x : Flat) (l : i < length (entries t)) (h : IsValue (what_at (entries t) i)) (m : 2 ≤ length (entries t)) where
+module _ (d : ℕ) (ws : List ℕ) (ns : List PlainNode) (t : PlainNode) (o : IsOld d ws ns t) (i : ℕ) (x : Flat)
+    (l : i < length (entries t)) (h : IsValue (what_at (entries t) i)) (m : 2 ≤ length (entries t)) where
   pub removed : Renewed d t.level (edited i 1 0 x (flats_of t)) ns (without (entries t) i)
   removed = record {
     flats = flats-without (entries t) i x l;

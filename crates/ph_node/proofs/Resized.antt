@@ -63,7 +63,12 @@ same-layout false false h = refl
 module _ (d : ℕ) (ws : List ℕ) (e : Edit) (h : IsRecordEdit d ws e) where
   old-points : length (values (flats_in d ws)) ≡ (first_in ws).entries - (first_in ws).children
   old-points =
-      omega (arith, values-flats (entries_in d ws) (values_in d ws) h.source.points, length-drop (1 + words_for (table_digits d (first_in ws))) ws, h.source.laid.tables.long)
+      omega (
+        arith,
+        values-flats (entries_in d ws) (values_in d ws) h.source.points,
+        length-drop (1 + words_for (table_digits d (first_in ws))) ws,
+        h.source.laid.tables.long,
+      )
 
   old-long : length ws ≡ words_wanted d (first_in ws).level (first_in ws).entries ((first_in ws).entries - (first_in ws).children)
   old-long = h.source.laid.tables.long
@@ -75,7 +80,9 @@ module _ (d : ℕ) (ws : List ℕ) (e : Edit) (h : IsRecordEdit d ws e) where
   long_with = record-long d (first_in ws).level (with_edit d ws e) h.rise
 
   -- the record in the layout that stays
-  pub record_kept : (cube : Bool) → is_cube d (first_in ws).level (length (with_edit d ws e)) ≡ has_cube d (first_in ws) → has_cube d (first_in ws) ≡ cube → record_in cube d (first_in ws).level (edited_as cube d ws e) ≡ record_with d ws e
+  pub record_kept : (cube : Bool) → is_cube d (first_in ws).level (length (with_edit d ws e)) ≡
+      has_cube d (first_in ws) → has_cube d (first_in ws) ≡ cube →
+      record_in cube d (first_in ws).level (edited_as cube d ws e) ≡ record_with d ws e
   record_kept cube same hc =
       ap (λ t. record_in t d (first_in ws).level (edited_as t d ws e)) (sym hc) ∙ ap (λ t. record_in t d (first_in ws).level (with_edit d ws e)) (sym same)
 
@@ -102,11 +109,13 @@ module _ (d : ℕ) (ws : List ℕ) (e : Edit) (h : IsRecordEdit d ws e) where
     pub longer_with : length ws < words_with d ws e
     longer_with =
         let n : (first_in ws).entries + 1 ≡ length (with_edit d ws e) = omega (arith, count_more) in
-        let s = shorter d (first_in ws).level (first_in ws).entries ((first_in ws).entries - (first_in ws).children) (length (with_edit d ws e)) ((first_in ws).entries - (first_in ws).children) n (omega arith) in
+        let s = shorter d (first_in ws).level (first_in ws).entries ((first_in ws).entries - (first_in ws).children)
+        (length (with_edit d ws e)) ((first_in ws).entries - (first_in ws).children) n (omega arith) in
         omega (arith, s, old-long, points-more)
 
     -- in a cube the value alone
-    pub cube_longer : is_cube d (first_in ws).level (length (with_edit d ws e)) ≡ has_cube d (first_in ws) → has_cube d (first_in ws) ≡ true → words_with d ws e ≡ length ws + 1
+    pub cube_longer : is_cube d (first_in ws).level (length (with_edit d ws e)) ≡ has_cube d (first_in ws) →
+        has_cube d (first_in ws) ≡ true → words_with d ws e ≡ length ws + 1
     cube_longer same hc =
         let a : least_digits d (first_in ws).level (length (with_edit d ws e)) ≡ least_digits d (first_in ws).level (first_in ws).entries =
         ap (λ b. if b then cube_digits d (first_in ws).level else linear_digits d (first_in ws).level (length (with_edit d ws e))) (same ∙ hc)
@@ -115,7 +124,8 @@ module _ (d : ℕ) (ws : List ℕ) (e : Edit) (h : IsRecordEdit d ws e) where
         omega (arith, ap words_for a, old-long, points-more)
 
     -- the layout, by numbers that were read
-    pub stays_more : (k n : ℕ) (us : List ℕ) (b : Bool) → k ≡ d → us ≡ ws → n ≡ (first_in us).entries → b ≡ differ (is_cube k (first_in us).level (n + 1)) (has_cube k (first_in us)) → b ≡ false
+    pub stays_more : (k n : ℕ) (us : List ℕ) (b : Bool) → k ≡ d → us ≡ ws → n ≡ (first_in us).entries →
+        b ≡ differ (is_cube k (first_in us).level (n + 1)) (has_cube k (first_in us)) → b ≡ false
         → is_cube d (first_in ws).level (length (with_edit d ws e)) ≡ has_cube d (first_in ws)
     stays_more k n us b p q r x f =
         let same : is_cube k (first_in us).level (n + 1) ≡ has_cube k (first_in us) = same-layout _ _ (sym x ∙ f) in
@@ -138,9 +148,15 @@ module _ (d : ℕ) (ws : List ℕ) (e : Edit) (h : IsRecordEdit d ws e) where
 
     pub shorter_with : words_with d ws e ≤ length ws
     shorter_with =
-        omega (arith, shorter d (first_in ws).level (length (with_edit d ws e)) (length (values (with_edit d ws e))) (first_in ws).entries ((first_in ws).entries - (first_in ws).children) count_less points-less, old-long)
+        omega (
+          arith,
+          shorter d (first_in ws).level (length (with_edit d ws e)) (length (values (with_edit d ws e)))
+              (first_in ws).entries ((first_in ws).entries - (first_in ws).children) count_less points-less,
+          old-long,
+        )
 
-    pub stays_less : (k n : ℕ) (us : List ℕ) (b : Bool) → k ≡ d → us ≡ ws → n ≡ (first_in us).entries → b ≡ differ (is_cube k (first_in us).level (n - 1)) (has_cube k (first_in us)) → b ≡ false
+    pub stays_less : (k n : ℕ) (us : List ℕ) (b : Bool) → k ≡ d → us ≡ ws → n ≡ (first_in us).entries →
+        b ≡ differ (is_cube k (first_in us).level (n - 1)) (has_cube k (first_in us)) → b ≡ false
         → is_cube d (first_in ws).level (length (with_edit d ws e)) ≡ has_cube d (first_in ws)
     stays_less k n us b p q r x f =
         let same : is_cube k (first_in us).level (n - 1) ≡ has_cube k (first_in us) = same-layout _ _ (sym x ∙ f) in
@@ -150,7 +166,8 @@ module _ (d : ℕ) (ws : List ℕ) (e : Edit) (h : IsRecordEdit d ws e) where
         ∙ same ∙ ap (λ j. has_cube j (first_in us)) p ∙ ap (λ u. has_cube d (first_in u)) q
 
 -- and whether it is another once an entry goes
-pub relaid : (d k n : ℕ) (ws us : List ℕ) (b : Bool) → k ≡ d → us ≡ ws → n ≡ (first_in us).entries → b ≡ differ (is_cube k (first_in us).level (n - 1)) (has_cube k (first_in us))
+pub relaid : (d k n : ℕ) (ws us : List ℕ) (b : Bool) → k ≡ d → us ≡ ws → n ≡ (first_in us).entries →
+    b ≡ differ (is_cube k (first_in us).level (n - 1)) (has_cube k (first_in us))
     → b ≡ is_relaid d (first_in ws).level (first_in ws).entries
 relaid d k n ws us b p q r x =
     x ∙ ap (λ j. differ (is_cube j (first_in us).level (n - 1)) (has_cube j (first_in us))) p

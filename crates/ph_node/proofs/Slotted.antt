@@ -50,7 +50,8 @@ pub nodes-gone : {P : Type 0} (ss : List (SlotOf P)) (k : ℕ) (s : SlotOf P) (n
 nodes-gone ss k s n l = ap nodes_of (gone-edited ss k s l) ∙ nodes-edited k 1 0 s ss ∙ any-edited k s.node n (nodes_of ss)
 
 -- and the one that was there
-pub nodes-taken : {P : Type 0} (c : Bool) (ss : List (SlotOf P)) (k : ℕ) → nodes_of (if c then take 1 (drop k ss) else []) ≡ take (if c then 1 else 0) (drop k (nodes_of ss))
+pub nodes-taken : {P : Type 0} (c : Bool) (ss : List (SlotOf P)) (k : ℕ) →
+    nodes_of (if c then take 1 (drop k ss) else []) ≡ take (if c then 1 else 0) (drop k (nodes_of ss))
 nodes-taken false ss k = zero-of (drop k (nodes_of ss))
   where
     zero-of : (ns : List PlainNode) → [] ≡ take 0 ns

@@ -1,5 +1,6 @@
 -- Lists with elements from a place on replaced, and the entries of a record so edited.
-use Rattle.std.proofs.Common.{◌≡◌, ℕ, zero, suc, ◌+◌, ◌<◌, ◌≤◌, List, [], ◌∷◌, ◌++◌, take, drop, replicate, map, length, Bool, true, false, refl, arith, ap, sym, ◌∙◌, get_or, slice_index_or, inl, inr}
+use Rattle.std.proofs.Common.{◌≡◌, ℕ, zero, suc, ◌+◌, ◌<◌, ◌≤◌, List, [], ◌∷◌, ◌++◌, take, drop, replicate, map, length}
+use Rattle.std.proofs.Common.{Bool, true, false, refl, arith, ap, sym, ◌∙◌, get_or, slice_index_or, inl, inr}
 use Rattle.std.specs.Prelude.{Option, None, Some, slice_get, if◌then◌else◌}
 use Rattle.std.proofs.lemmas.List.{get_or-map, length-map}
 use Rattle.std.proofs.lemmas.Option.{get_or_from_slice_get, slice_get-get_or}
@@ -29,19 +30,22 @@ get-more less zero x xs k d l = absurd (omega (arith, l))
 get-more less (suc more) x xs zero d l = refl
 get-more less (suc more) x xs (suc k) d l = get-more less more x xs k d (omega (arith, l))
 
-get-new : {A : Type 0} (place less more : ℕ) (x : A) (xs : List A) (i : ℕ) (d : A) → place ≤ length xs → place ≤ i → i < place + more → get_or (edited place less more x xs) i d ≡ x
+get-new : {A : Type 0} (place less more : ℕ) (x : A) (xs : List A) (i : ℕ) (d : A) → place ≤ length xs → place ≤ i →
+    i < place + more → get_or (edited place less more x xs) i d ≡ x
 get-new zero less more x xs i d m l n = get-more less more x xs i d (omega (arith, n))
 get-new (suc place) less more x [] i d m l n = absurd (omega (arith, m))
 get-new (suc place) less more x (y ∷ ys) zero d m l n = absurd (omega (arith, l))
 get-new (suc place) less more x (y ∷ ys) (suc i) d m l n = get-new place less more x ys i d (omega (arith, m)) (omega (arith, l)) (omega (arith, n))
 
-get-front : {A : Type 0} (place less more : ℕ) (x : A) (xs : List A) (k : ℕ) (d : A) → k < place → k < length xs → get_or (edited place less more x xs) k d ≡ get_or xs k d
+get-front : {A : Type 0} (place less more : ℕ) (x : A) (xs : List A) (k : ℕ) (d : A) → k < place → k < length xs →
+    get_or (edited place less more x xs) k d ≡ get_or xs k d
 get-front zero less more x xs k d m l = absurd (omega (arith, m))
 get-front (suc place) less more x [] k d m l = absurd (omega (arith, l))
 get-front (suc place) less more x (y ∷ ys) zero d m l = refl
 get-front (suc place) less more x (y ∷ ys) (suc k) d m l = get-front place less more x ys k d (omega (arith, m)) (omega (arith, l))
 
-get-behind : {A : Type 0} (less more : ℕ) (x : A) (xs : List A) (j k : ℕ) (d : A) → j + less ≡ k + more → less ≤ k → k < length xs → get_or (replicate more x ++ drop less xs) j d ≡ get_or xs k d
+get-behind : {A : Type 0} (less more : ℕ) (x : A) (xs : List A) (j k : ℕ) (d : A) → j + less ≡ k + more → less ≤ k →
+    k < length xs → get_or (replicate more x ++ drop less xs) j d ≡ get_or xs k d
 get-behind zero zero x xs j k d e m l = ap (λ t. get_or xs t d) (omega (arith, e))
 get-behind (suc less) zero x [] j k d e m l = absurd (omega (arith, l))
 get-behind (suc less) zero x (y ∷ ys) j zero d e m l = absurd (omega (arith, m))
@@ -49,7 +53,8 @@ get-behind (suc less) zero x (y ∷ ys) j (suc k) d e m l = get-behind less zero
 get-behind less (suc more) x xs zero k d e m l = absurd (omega (arith, e, m))
 get-behind less (suc more) x xs (suc j) k d e m l = get-behind less more x xs j k d (omega (arith, e)) m l
 
-get-back : {A : Type 0} (place less more : ℕ) (x : A) (xs : List A) (j k : ℕ) (d : A) → j + less ≡ k + more → place + less ≤ k → k < length xs → get_or (edited place less more x xs) j d ≡ get_or xs k d
+get-back : {A : Type 0} (place less more : ℕ) (x : A) (xs : List A) (j k : ℕ) (d : A) → j + less ≡ k + more →
+    place + less ≤ k → k < length xs → get_or (edited place less more x xs) j d ≡ get_or xs k d
 get-back zero less more x xs j k d e m l = get-behind less more x xs j k d e (omega (arith, m)) l
 get-back (suc place) less more x [] j k d e m l = absurd (omega (arith, l))
 get-back (suc place) less more x (y ∷ ys) j zero d e m l = absurd (omega (arith, m))
@@ -72,7 +77,9 @@ flats-read (read_point a b ∷ rs) (v ∷ vs) (suc k) h l = flats-read rs vs k (
 flats-read (read_child a b ∷ rs) vs zero h l = refl
 flats-read (read_child a b ∷ rs) vs (suc k) h l = flats-read rs vs k h (omega (arith, l))
 
-flats-value : (rs : List Read) (vs : List ℕ) (k v : ℕ) → points_in rs ≡ length vs → k < length rs → (get_or (flats rs vs) k no_flat).value ≡ Some v → (points_in (take k rs) < length vs) × (slice_index_or vs (points_in (take k rs)) 0 ≡ v)
+flats-value : (rs : List Read) (vs : List ℕ) (k v : ℕ) → points_in rs ≡ length vs → k < length rs →
+    (get_or (flats rs vs) k no_flat).value ≡ Some v → (points_in (take k rs) < length vs) ×
+    (slice_index_or vs (points_in (take k rs)) 0 ≡ v)
 flats-value [] vs k v h l e = absurd (omega (arith, l))
 flats-value (read_point a b ∷ rs) [] k v h l e = absurd (omega (arith, h))
 flats-value (read_point a b ∷ rs) (w ∷ vs) zero v h l e = (omega arith, cc)
@@ -111,35 +118,50 @@ module _ (rs : List Read) (vs : List ℕ) (place less more : ℕ) (x : Flat) (h 
   kept i k n f b l =
       elim (split i place) [
         | inl p ↦
-            let e : k ≡ i = f p in
-            (omega (arith, e, p, m), get-front place less more x (flats rs vs) i no_flat p (omega (arith, p, m, length-flats rs vs h)) ∙ ap (λ t. get_or (flats rs vs) t no_flat) (sym e))
+            let e : k ≡ i = f p in (
+              omega (arith, e, p, m),
+              get-front place less more x (flats rs vs) i no_flat p
+                  (omega (arith, p, m, length-flats rs vs h)) ∙ ap (λ t. get_or (flats rs vs) t no_flat) (sym e),
+            )
         | inr p ↦
             let e : k + more ≡ i + less = b p in
-            let q : place + more ≤ i = n p in
-            (omega (arith, e, l, many), get-back place less more x (flats rs vs) i k no_flat (omega (arith, e)) (omega (arith, e, q)) (omega (arith, e, l, many, length-flats rs vs h)))
+            let q : place + more ≤ i = n p in (
+              omega (arith, e, l, many),
+              get-back place less more x (flats rs vs) i k no_flat (omega (arith, e))
+                  (omega (arith, e, q)) (omega (arith, e, l, many, length-flats rs vs h)),
+            )
       ]
 
-  pub read-new : (i : ℕ) (r : Read) → place ≤ i → i < place + more → i < length (edited place less more x (flats rs vs)) → unvalued x ≡ r → slice_get (map unvalued (edited place less more x (flats rs vs))) i ≡ Some r
+  pub read-new : (i : ℕ) (r : Read) → place ≤ i → i < place + more →
+      i < length (edited place less more x (flats rs vs)) → unvalued x ≡ r →
+      slice_get (map unvalued (edited place less more x (flats rs vs))) i ≡ Some r
   read-new i r p q l u =
       slice_get-get_or (map unvalued new_list) i no_read (omega (arith, length-map new_list unvalued, l))
       ∙ ap Some (get_or-map unvalued new_list i no_flat no_read l
       ∙ ap unvalued (get-new place less more x (flats rs vs) i no_flat (omega (arith, m, length-flats rs vs h)) p q) ∙ u)
 
-  pub read-old : (i k : ℕ) (r : Read) → (place ≤ i → place + more ≤ i) → (i < place → k ≡ i) → (place ≤ i → k + more ≡ i + less) → i < length (edited place less more x (flats rs vs)) → slice_get rs k ≡ Some r → slice_get (map unvalued (edited place less more x (flats rs vs))) i ≡ Some r
+  pub read-old : (i k : ℕ) (r : Read) → (place ≤ i → place + more ≤ i) → (i < place → k ≡ i) →
+      (place ≤ i → k + more ≡ i + less) → i < length (edited place less more x (flats rs vs)) →
+      slice_get rs k ≡ Some r → slice_get (map unvalued (edited place less more x (flats rs vs))) i ≡ Some r
   read-old i k r n f b l e =
       let q : (k < length rs) × (get_or new_list i no_flat ≡ get_or (flats rs vs) k no_flat) = kept i k n f b l in
       slice_get-get_or (map unvalued new_list) i no_read (omega (arith, length-map new_list unvalued, l))
       ∙ ap Some (get_or-map unvalued new_list i no_flat no_read l ∙ ap unvalued q.1 ∙ flats-read rs vs k h q.0 ∙ get_or_from_slice_get rs k r no_read e)
 
-  value-at : (i v : ℕ) → i < length (edited place less more x (flats rs vs)) → slice_get (map (λ e. e.value) (edited place less more x (flats rs vs))) i ≡ Some (Some v) → (get_or (edited place less more x (flats rs vs)) i no_flat).value ≡ Some v
+  value-at : (i v : ℕ) → i < length (edited place less more x (flats rs vs)) →
+      slice_get (map (λ e. e.value) (edited place less more x (flats rs vs))) i ≡ Some (Some v) →
+      (get_or (edited place less more x (flats rs vs)) i no_flat).value ≡ Some v
   value-at i v l g = sym (get_or-map (λ e. e.value) new_list i no_flat None l) ∙ get_or_from_slice_get (map (λ e. e.value) new_list) i (Some v) None g
 
-  pub value-new : (i v : ℕ) → place ≤ i → i < place + more → i < length (edited place less more x (flats rs vs)) → slice_get (map (λ e. e.value) (edited place less more x (flats rs vs))) i ≡ Some (Some v) → x.value ≡ Some v
+  pub value-new : (i v : ℕ) → place ≤ i → i < place + more → i < length (edited place less more x (flats rs vs)) →
+      slice_get (map (λ e. e.value) (edited place less more x (flats rs vs))) i ≡ Some (Some v) → x.value ≡ Some v
   value-new i v p q l g =
       ap (λ (t : Flat). t.value) (sym (get-new place less more x (flats rs vs) i no_flat (omega (arith, m, length-flats rs vs h)) p q)) ∙ value-at i v l g
 
   -- where an entry with a value stood, and how it is read
-  pub value-old : (i k v a : ℕ) (b : List ℕ) (c : Bool) → (place ≤ i → place + more ≤ i) → (i < place → k ≡ i) → (place ≤ i → k + more ≡ i + less) → i < length (edited place less more x (flats rs vs)) → slice_get (map (λ e. e.value) (edited place less more x (flats rs vs))) i ≡ Some (Some v)
+  pub value-old : (i k v a : ℕ) (b : List ℕ) (c : Bool) → (place ≤ i → place + more ≤ i) → (i < place → k ≡ i) →
+      (place ≤ i → k + more ≡ i + less) → i < length (edited place less more x (flats rs vs)) →
+      slice_get (map (λ e. e.value) (edited place less more x (flats rs vs))) i ≡ Some (Some v)
       → slice_get rs k ≡ Some (read c a b) → (c ≡ false) × (points_in (take k rs) < length vs) × (slice_index_or vs (points_in (take k rs)) 0 ≡ v)
   value-old i k v a b c n f u l g r =
       let q : (k < length rs) × (get_or new_list i no_flat ≡ get_or (flats rs vs) k no_flat) = kept i k n f u l in

@@ -5,7 +5,8 @@ use Rattle.std.proofs.lemmas.List.{length-append}
 use Rattle.ph_specs.specs.Digits.{Field, field, words_of}
 use Rattle.ph_specs.specs.EntryEdits.{what_at, with_what}
 use Rattle.ph_specs.specs.Node.{Entry, What, value, node, PlainNode, entries, Flat}
-use Rattle.ph_specs.specs.Pack.{children, child_mark, value_in_front, first_word, layout, values, record_of, record_in, table, linear_table, cube_table, bodies, at_address, places, place_kind, place_body, is_cube}
+use Rattle.ph_specs.specs.Pack.{children, child_mark, value_in_front, first_word, layout, values, record_of, record_in, table}
+use Rattle.ph_specs.specs.Pack.{linear_table, cube_table, bodies, at_address, places, place_kind, place_body, is_cube}
 use Rattle.ph_node.specs.OneEdit.{value_of, held_nodes, nodes_held, flat_of, flats_of}
 use Rattle.ph_node.specs.Split.{IsValue}
 use Rattle.ph_node.proofs.Keeps.{still-what}
@@ -53,7 +54,8 @@ children-valued (f ∷ fs) (suc i) v h = ap (λ n. child_mark f.value + n) (chil
 
 linear-valued : (d level : ℕ) (fs : List Flat) (i v : ℕ) → IsPointAt fs i → linear_table d level (valued fs i v) ≡ linear_table d level fs
 linear-valued d level fs i v h =
-    let a : map (λ e. field 1 (child_mark e.value)) (valued fs i v) ≡ map (λ e. field 1 (child_mark e.value)) fs = map-valued (λ e. field 1 (child_mark e.value)) (λ f v h. ap (λ n. field 1 n) (mark-same f.value v h)) fs i v h in
+    let a : map (λ e. field 1 (child_mark e.value)) (valued fs i v) ≡ map (λ e. field 1 (child_mark e.value)) fs =
+    map-valued (λ e. field 1 (child_mark e.value)) (λ f v h. ap (λ n. field 1 n) (mark-same f.value v h)) fs i v h in
     let b : map (λ e. field d e.addr) (valued fs i v) ≡ map (λ e. field d e.addr) fs = map-valued (λ e. field d e.addr) (λ f v h. refl) fs i v h in
     let c : map (λ e. e.body) (valued fs i v) ≡ map (λ e. e.body) fs = map-valued (λ e. e.body) (λ f v h. refl) fs i v h in
     ap {B = List Field} (λ u. u ++ map (λ e. field d e.addr) (valued fs i v) ++ bodies level (map (λ e. e.body) (valued fs i v))) a
@@ -61,11 +63,13 @@ linear-valued d level fs i v h =
     ∙ ap {B = List Field} (λ u. map (λ e. field 1 (child_mark e.value)) fs ++ map (λ e. field d e.addr) fs ++ bodies level u) c
 
 -- a function of what stands at an address that does not see its value
-module _ {A : Type 0} (s : Option Flat → A) (blind : (f : Flat) (v : ℕ) → HasValue f.value → s (Some (record { addr = f.addr; body = f.body; value = Some v })) ≡ s (Some f)) where
+module _ {A : Type 0} (s : Option Flat → A) (blind : (f : Flat) (v : ℕ) → HasValue f.value →
+    s (Some (record { addr = f.addr; body = f.body; value = Some v })) ≡ s (Some f)) where
   at-valued : (a : ℕ) (fs : List Flat) (i v : ℕ) → IsPointAt fs i → s (at_address a (valued fs i v)) ≡ s (at_address a fs)
   at-valued a [] i v h = absurd h
   at-valued a (f ∷ fs) zero v h =
-      elim (f.addr == a) as (λ b. s (if b then Some (record { addr = f.addr; body = f.body; value = Some v }) else at_address a fs) ≡ s (if b then Some f else at_address a fs)) [
+      elim (f.addr == a) as (λ b. s (if b then Some (record { addr = f.addr; body = f.body; value = Some v }) else
+      at_address a fs) ≡ s (if b then Some f else at_address a fs)) [
         | true ↦ blind f v h
         | false ↦ refl
       ]
@@ -84,8 +88,10 @@ module _ {A : Type 0} (s : Option Flat → A) (blind : (f : Flat) (v : ℕ) → 
 
 cube-valued : (d level : ℕ) (fs : List Flat) (i v : ℕ) → IsPointAt fs i → cube_table d level (valued fs i v) ≡ cube_table d level fs
 cube-valued d level fs i v h =
-    let a : map place_kind (places (2 ^ d) 0 (valued fs i v)) ≡ map place_kind (places (2 ^ d) 0 fs) = places-valued place_kind (λ f v h. ap (λ n. field 2 (1 + n)) (mark-same f.value v h)) (2 ^ d) 0 fs i v h in
-    let b : map (place_body d) (places (2 ^ d) 0 (valued fs i v)) ≡ map (place_body d) (places (2 ^ d) 0 fs) = places-valued (place_body d) (λ f v h. refl) (2 ^ d) 0 fs i v h in
+    let a : map place_kind (places (2 ^ d) 0 (valued fs i v)) ≡ map place_kind (places (2 ^ d) 0 fs) =
+    places-valued place_kind (λ f v h. ap (λ n. field 2 (1 + n)) (mark-same f.value v h)) (2 ^ d) 0 fs i v h in
+    let b : map (place_body d) (places (2 ^ d) 0 (valued fs i v)) ≡ map (place_body d) (places (2 ^ d) 0 fs) =
+    places-valued (place_body d) (λ f v h. refl) (2 ^ d) 0 fs i v h in
     ap {B = List Field} (λ u. u ++ bodies level (map (place_body d) (places (2 ^ d) 0 (valued fs i v)))) a
     ∙ ap {B = List Field} (λ u. map place_kind (places (2 ^ d) 0 fs) ++ bodies level u) b
 
@@ -93,7 +99,8 @@ table-valued : (cube : Bool) (d level : ℕ) (fs : List Flat) (i v : ℕ) → Is
 table-valued true d level fs i v h = cube-valued d level fs i v h
 table-valued false d level fs i v h = linear-valued d level fs i v h
 
-front-set : (o : Option ℕ) (xs ys zs : List ℕ) (v : ℕ) → xs ≡ slice_set ys (length zs) v → value_in_front o xs ≡ slice_set (value_in_front o ys) (length (value_in_front o zs)) v
+front-set : (o : Option ℕ) (xs ys zs : List ℕ) (v : ℕ) → xs ≡ slice_set ys (length zs) v →
+    value_in_front o xs ≡ slice_set (value_in_front o ys) (length (value_in_front o zs)) v
 front-set (Some w) xs ys zs v e = ap {B = List ℕ} (λ u. w ∷ u) e
 front-set None xs ys zs v e = e
 
@@ -111,17 +118,22 @@ set-behind [] ys j k v e = ap (λ m. slice_set ys m v) (omega (arith, e))
 set-behind (x ∷ xs) ys zero k v e = absurd (omega (arith, e))
 set-behind (x ∷ xs) ys (suc j) k v e = ap {B = List ℕ} (λ u. x ∷ u) (set-behind xs ys j k v (omega (arith, e)))
 
-record-valued : (cube : Bool) (d level : ℕ) (fs : List Flat) (i v place : ℕ) → IsPointAt fs i → place + length (values fs) ≡ length (record_in cube d level fs) + length (values (take i fs))
+record-valued : (cube : Bool) (d level : ℕ) (fs : List Flat) (i v place : ℕ) → IsPointAt fs i →
+    place + length (values fs) ≡ length (record_in cube d level fs) + length (values (take i fs))
     → slice_set (record_in cube d level fs) place v ≡ record_in cube d level (valued fs i v)
 record-valued cube d level fs i v zero h e =
     absurd (omega (arith, e, length-append (words_of (table cube d level fs)) (values fs)))
 record-valued cube d level fs i v (suc place) h e =
-    let l : length (words_of (table cube d level fs) ++ values fs) ≡ length (words_of (table cube d level fs)) + length (values fs) = length-append (words_of (table cube d level fs)) (values fs) in
-    ap {B = List ℕ} (λ u. first_word level (layout cube) (length fs) (children fs) ∷ u) (set-behind (words_of (table cube d level fs)) (values fs) place (length (values (take i fs))) v (omega (arith, e, l)))
+    let l : length (words_of (table cube d level fs) ++ values fs) ≡ length (words_of (table cube d level fs)) +
+    length (values fs) = length-append (words_of (table cube d level fs)) (values fs) in
+    ap {B = List ℕ} (λ u. first_word level (layout cube) (length fs) (children fs) ∷ u)
+    (set-behind (words_of (table cube d level fs)) (values fs) place (length (values (take i fs))) v (omega (arith, e, l)))
     ∙ ap {B = List ℕ} (λ u. first_word level (layout cube) (length fs) (children fs) ∷ words_of (table cube d level fs) ++ u) (sym (values-valued fs i v h))
     ∙ ap {B = List ℕ} (λ u. first_word level (layout cube) (length fs) (children fs) ∷ words_of u ++ values (valued fs i v)) (sym (table-valued cube d level fs i v h))
-    ∙ ap {B = List ℕ} (λ u. first_word level (layout cube) (length fs) u ∷ words_of (table cube d level (valued fs i v)) ++ values (valued fs i v)) (sym (children-valued fs i v h))
-    ∙ ap {B = List ℕ} (λ u. first_word level (layout cube) u (children (valued fs i v)) ∷ words_of (table cube d level (valued fs i v)) ++ values (valued fs i v)) (sym (length-valued fs i v))
+    ∙ ap {B = List ℕ} (λ u. first_word level (layout cube) (length fs) u ∷
+    words_of (table cube d level (valued fs i v)) ++ values (valued fs i v)) (sym (children-valued fs i v h))
+    ∙ ap {B = List ℕ} (λ u. first_word level (layout cube) u (children (valued fs i v)) ∷
+    words_of (table cube d level (valued fs i v)) ++ values (valued fs i v)) (sym (length-valued fs i v))
 
 -- ---- the node
 
@@ -148,7 +160,8 @@ nodes-what [] i v h = refl
 nodes-what (e ∷ es) zero v h = sym (ap (λ u. u ++ nodes_held es) (none-held e.what h))
 nodes-what (e ∷ es) (suc i) v h = ap (λ u. held_nodes e.what ++ u) (nodes-what es i v h)
 
-module _ (d : ℕ) (ws : List ℕ) (ns : List PlainNode) (t : PlainNode) (o : IsOld d ws ns t) (i v : ℕ) (l : i < length (entries t)) (h : IsValue (what_at (entries t) i)) where
+module _ (d : ℕ) (ws : List ℕ) (ns : List PlainNode) (t : PlainNode) (o : IsOld d ws ns t) (i v : ℕ)
+    (l : i < length (entries t)) (h : IsValue (what_at (entries t) i)) where
   pub renewed : Renewed d t.level (valued (flats_of t) i v) ns (with_what (entries t) i (value v))
   renewed = record {
     flats = flats-what (entries t) i v;
@@ -158,7 +171,8 @@ module _ (d : ℕ) (ws : List ℕ) (ns : List PlainNode) (t : PlainNode) (o : Is
     bottom = o.bottom;
   }
 
-  pub set_is : (place : ℕ) → place + length (values (flats_of t)) ≡ length (record_of d t.level (flats_of t)) + length (values (take i (flats_of t))) → slice_set ws place v ≡ record_of d t.level (valued (flats_of t) i v)
+  pub set_is : (place : ℕ) → place + length (values (flats_of t)) ≡ length (record_of d t.level (flats_of t)) + length
+      (values (take i (flats_of t))) → slice_set ws place v ≡ record_of d t.level (valued (flats_of t) i v)
   set_is place e =
       let f : List Flat = flats_of t in
       ap (λ u. slice_set u place v) o.words

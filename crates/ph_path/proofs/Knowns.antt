@@ -30,7 +30,8 @@ above-zeros b (x ∷ xs) = (block-zero (x / 2 ^ (b + 1)) (2 ^ (b + 1)) (pow_pos 
 pub above-from : (b : ℕ) (xs : List ℕ) → from_place (b + 1) (body_above b xs) ≡ from_place (b + 1) xs
 above-from b [] = refl
 above-from b (x ∷ xs) =
-    ap (λ t. t ∷ from_place (b + 1) (body_above b xs)) (block-whole (x / 2 ^ (b + 1)) (2 ^ (b + 1)) (pow_pos (b + 1))) ∙ ap {B = List ℕ} (λ t. x / 2 ^ (b + 1) ∷ t) (above-from b xs)
+    ap (λ t. t ∷ from_place (b + 1) (body_above b xs)) (block-whole (x / 2 ^ (b + 1)) (2 ^ (b + 1)) (pow_pos (b + 1)))
+    ∙ ap {B = List ℕ} (λ t. x / 2 ^ (b + 1) ∷ t) (above-from b xs)
 
 above-by : (b : ℕ) (xs : List ℕ) → body_above b xs ≡ map (λ q. q * 2 ^ (b + 1)) (from_place (b + 1) xs)
 above-by b [] = refl
@@ -84,7 +85,8 @@ module _ (d w b a : ℕ) (xs body : List ℕ) (l : b < w) (h : IsBody d w xs) (k
   -- the digits above the level stay
   pub joined-above : (c : ℕ) → b ≤ c → body_above c (put_together b a (body_above b xs) body) ≡ body_above c xs
   joined-above c m =
-      above-same b c (put_together b a (body_above b xs) body) xs m (from_place-put_together b a (body_above b xs) body (above.long ∙ sym k.0) above.zeros k.1 ∙ above-from b xs)
+      above-same b c (put_together b a (body_above b xs) body) xs m
+      (from_place-put_together b a (body_above b xs) body (above.long ∙ sym k.0) above.zeros k.1 ∙ above-from b xs)
 
   -- for a child all of them are known
   pub joined-child : (c : ℕ) → c < b → HasZerosFrom c body → body_above c (put_together b a (body_above b xs) body) ≡ put_together b a (body_above b xs) body
@@ -134,10 +136,14 @@ module _ (d n w : ℕ) (digits : List ℕ) (e : n ≡ d) (h : AreKnown d (known_
   pub body-seen : IsBody d 62 (take n digits)
   body-seen = subst (λ k. IsBody d 62 (take k digits)) (sym e) (wider d w 62 (take d digits) h.narrow h.digits)
 
-  pub joined-seen : (seen : Known) (level a : ℕ) (body new others : List ℕ) → known_at w (take d digits) ≡ seen → level < seen.width → IsBody d level body → new ≡ put_together level a (body_above level (take n digits)) body → AreKnown d (known_at w (take d (new ++ others))) × (known_at w (take d (new ++ others)) ≡ known_at seen.width (put_together level a (body_above level seen.digits) body))
+  pub joined-seen : (seen : Known) (level a : ℕ) (body new others : List ℕ) → known_at w (take d digits) ≡ seen →
+      level < seen.width → IsBody d level body → new ≡ put_together level a (body_above level (take n digits)) body →
+      AreKnown d (known_at w (take d (new ++ others))) ×
+      (known_at w (take d (new ++ others)) ≡ known_at seen.width (put_together level a (body_above level seen.digits) body))
   joined-seen seen level a body new others v l k f =
       let s : new ≡ put_together level a (body_above level (take d digits)) body = subst (λ m. new ≡ put_together level a (body_above level (take m digits)) body) e f in
-      let b : IsBody d w (put_together level a (body_above level (take d digits)) body) = joined-body d w level a (take d digits) body (subst (λ s. level < s.width) (sym v) l) h.digits k in
+      let b : IsBody d w (put_together level a (body_above level (take d digits)) body) =
+      joined-body d w level a (take d digits) body (subst (λ s. level < s.width) (sym v) l) h.digits k in
       let t : take d (new ++ others) ≡ put_together level a (body_above level (take d digits)) body = taken d new others (ap (λ xs. length xs) s ∙ b.0) ∙ s in (
         record { some = h.some; few = h.few; wide = h.wide; narrow = h.narrow; digits = subst (IsBody d w) (sym t) b },
         ap (known_at w) t ∙ ap (λ s. known_at s.width (put_together level a (body_above level s.digits) body)) v,

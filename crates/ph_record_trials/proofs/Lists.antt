@@ -20,7 +20,8 @@ flat-at : (dims : ℕ) (es : List Item) (i : ℕ) → i < length es → slice_ge
 flat-at dims es i l =
     slice_get-map (flat_of dims) es i ∙ ap (option_map (flat_of dims)) (slice_get-get_or es i no_item l)
 
-pub read-at : (dims : ℕ) (es : List Item) (i : ℕ) → i < length es → slice_get (map unvalued (flats dims es)) i ≡ Some (unvalued (flat_of dims (slice_index_or es i no_item)))
+pub read-at : (dims : ℕ) (es : List Item) (i : ℕ) → i < length es →
+    slice_get (map unvalued (flats dims es)) i ≡ Some (unvalued (flat_of dims (slice_index_or es i no_item)))
 read-at dims es i l = slice_get-map unvalued (flats dims es) i ∙ ap (option_map unvalued) (flat-at dims es i l)
 
 abbrev value_in : Flat → Option ℕ

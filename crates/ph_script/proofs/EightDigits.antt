@@ -121,7 +121,8 @@ all-digits (b ∷ bs) l h =
     let d : is_ascii_digit b ≡ true = grind (arith, nat_tests) in
     rw d (all-digits bs l.1 h.1)
 
-fold-digits : (n : ℕ) (bs : List ℕ) → AreBelow 256 bs → AreBelow 10 (map (λ b. bit_xor b 48) bs) → fold (λ n b. n * 10 + (b - 48)) n bs ≡ fold (λ n d. n * 10 + d) n (map (λ b. bit_xor b 48) bs)
+fold-digits : (n : ℕ) (bs : List ℕ) → AreBelow 256 bs → AreBelow 10 (map (λ b. bit_xor b 48) bs) →
+    fold (λ n b. n * 10 + (b - 48)) n bs ≡ fold (λ n d. n * 10 + d) n (map (λ b. bit_xor b 48) bs)
 unfolding AreBelow
 fold-digits n [] l h = refl
 fold-digits n (b ∷ bs) l h =
@@ -132,7 +133,8 @@ fold-digits n (b ∷ bs) l h =
 
 -- the lower byte of each of four pairs of bytes
 low-bytes : (v w p a m : ℕ) → v ≡ w * 2 ^ 8 + p → p < 2 ^ 8 → w < 2 ^ 8 → bit_and (a * 2 ^ 16 + v) (m * 2 ^ 16 + 255) ≡ bit_and a m * 2 ^ 16 + p
-low-bytes v w p a m e l k = and_block 16 a m v 255 (omega (arith, e, l, k)) (omega arith) ∙ ap (λ n. bit_and a m * 2 ^ 16 + n) (and_mask v 8 ∙ ap (λ n. n % 2 ^ 8) e ∙ mod_low w 8 p l)
+low-bytes v w p a m e l k = and_block 16 a m v 255 (omega (arith, e, l, k)) (omega arith) ∙
+    ap (λ n. bit_and a m * 2 ^ 16 + n) (and_mask v 8 ∙ ap (λ n. n % 2 ^ 8) e ∙ mod_low w 8 p l)
 
 -- each digit of a word times ten and the next one, and the number that four such pairs make
 abbrev with-next : ℕ → ℕ
@@ -168,7 +170,8 @@ last-step : (a b c d : ℕ) → a < 100 → b < 100 → c < 100 → d < 100
 unfolding quads
 last-step a b c d al bl cl dl =
     let high : quads a b c d / 2 ^ 16 ≡ (d * 2 ^ 16 + c) * 2 ^ 16 + b = shr_high ((d * 2 ^ 16 + c) * 2 ^ 16 + b) 16 a (omega (arith, al)) in
-    let fours : quads a b c d * 100 + quads a b c d / 2 ^ 16 ≡ (d * 100 * 2 ^ 16 + (c * 100 + d)) * 2 ^ 32 + ((b * 100 + c) * 2 ^ 16 + (a * 100 + b)) = omega (arith, high) in
+    let fours : quads a b c d * 100 + quads a b c d / 2 ^ 16 ≡ (d * 100 * 2 ^ 16 + (c * 100 + d)) * 2 ^ 32 +
+    ((b * 100 + c) * 2 ^ 16 + (a * 100 + b)) = omega (arith, high) in
     let front : bit_and (quads a b c d * 100 + quads a b c d / 2 ^ 16) 65535 ≡ a * 100 + b =
     and_mask (quads a b c d * 100 + quads a b c d / 2 ^ 16) 16
     ∙ ap (λ n. n % 2 ^ 16) (the-same fours)
@@ -179,19 +182,25 @@ last-step a b c d al bl cl dl =
     ap (λ n. bit_and n 65535) shifted ∙ and_mask (d * 100 * 2 ^ 16 + (c * 100 + d)) 16 ∙ mod_low (d * 100) 16 (c * 100 + d) (omega (arith, cl, dl)) in
     omega (arith, front, back)
   where
-    the-same : {x : ℕ} → x ≡ (d * 100 * 2 ^ 16 + (c * 100 + d)) * 2 ^ 32 + ((b * 100 + c) * 2 ^ 16 + (a * 100 + b)) → x ≡ ((d * 100 * 2 ^ 16 + (c * 100 + d)) * 2 ^ 16 + (b * 100 + c)) * 2 ^ 16 + (a * 100 + b)
+    the-same : {x : ℕ} → x ≡ (d * 100 * 2 ^ 16 + (c * 100 + d)) * 2 ^ 32 + ((b * 100 + c) * 2 ^ 16 + (a * 100 + b)) →
+        x ≡ ((d * 100 * 2 ^ 16 + (c * 100 + d)) * 2 ^ 16 + (b * 100 + c)) * 2 ^ 16 + (a * 100 + b)
     the-same e = omega (arith, e)
 
-joined : (a b c d e f g h : ℕ) → AreBelow 10 (a ∷ b ∷ c ∷ d ∷ e ∷ f ∷ g ∷ h ∷ []) → Joined (lanes (a ∷ b ∷ c ∷ d ∷ e ∷ f ∷ g ∷ h ∷ [])) (fold (λ n d. n * 10 + d) 0 (a ∷ b ∷ c ∷ d ∷ e ∷ f ∷ g ∷ h ∷ []))
+joined : (a b c d e f g h : ℕ) → AreBelow 10 (a ∷ b ∷ c ∷ d ∷ e ∷ f ∷ g ∷ h ∷ []) →
+    Joined (lanes (a ∷ b ∷ c ∷ d ∷ e ∷ f ∷ g ∷ h ∷ [])) (fold (λ n d. n * 10 + d) 0 (a ∷ b ∷ c ∷ d ∷ e ∷ f ∷ g ∷ h ∷ []))
 unfolding lanes AreBelow quads
 joined a b c d e f g h (al, (bl, (cl, (dl, (el, (fl, (gl, (hl, end)))))))) =
     let digits : ℕ = lanes (a ∷ b ∷ c ∷ d ∷ e ∷ f ∷ g ∷ h ∷ []) in
     let shifted : digits / 2 ^ 8 ≡ lanes (b ∷ c ∷ d ∷ e ∷ f ∷ g ∷ h ∷ []) = shr_high (lanes (b ∷ c ∷ d ∷ e ∷ f ∷ g ∷ h ∷ [])) 8 a (omega (arith, al)) in
-    let sum : digits * 10 + digits / 2 ^ 8 ≡ quads ((b * 10 + c) * 2 ^ 8 + (a * 10 + b)) ((d * 10 + e) * 2 ^ 8 + (c * 10 + d)) ((f * 10 + g) * 2 ^ 8 + (e * 10 + f)) (h * 10 * 2 ^ 8 + (g * 10 + h)) = omega (arith, shifted) in
+    let sum : digits * 10 + digits / 2 ^ 8 ≡ quads ((b * 10 + c) * 2 ^ 8 + (a * 10 + b))
+    ((d * 10 + e) * 2 ^ 8 + (c * 10 + d)) ((f * 10 + g) * 2 ^ 8 + (e * 10 + f)) (h * 10 * 2 ^ 8 + (g * 10 + h)) =
+    omega (arith, shifted) in
     let pairs : ℕ = quads (a * 10 + b) (c * 10 + d) (e * 10 + f) (g * 10 + h) in
-    let last = last-step (a * 10 + b) (c * 10 + d) (e * 10 + f) (g * 10 + h) (omega (arith, al, bl)) (omega (arith, cl, dl)) (omega (arith, el, fl)) (omega (arith, gl, hl)) in
+    let last = last-step (a * 10 + b) (c * 10 + d) (e * 10 + f) (g * 10 + h) (omega (arith, al, bl))
+    (omega (arith, cl, dl)) (omega (arith, el, fl)) (omega (arith, gl, hl)) in
     let low = low-quads (a * 10 + b) (c * 10 + d) (e * 10 + f) (g * 10 + h) (b * 10 + c) (d * 10 + e) (f * 10 + g) (h * 10)
-    (omega (arith, al, bl)) (omega (arith, cl, dl)) (omega (arith, el, fl)) (omega (arith, gl, hl)) (omega (arith, bl, cl)) (omega (arith, dl, el)) (omega (arith, fl, gl)) (omega (arith, hl)) in
+    (omega (arith, al, bl)) (omega (arith, cl, dl)) (omega (arith, el, fl)) (omega (arith, gl, hl))
+    (omega (arith, bl, cl)) (omega (arith, dl, el)) (omega (arith, fl, gl)) (omega (arith, hl)) in
     record {
       ten = omega (arith, al, bl, cl, dl, el, fl, gl, hl);
       both = omega (arith, sum, al, bl, cl, dl, el, fl, gl, hl);
@@ -217,7 +226,9 @@ eight-of a b c d e f g h word below is test =
     let bs : List ℕ = a ∷ b ∷ c ∷ d ∷ e ∷ f ∷ g ∷ h ∷ [] in
     let ts : List ℕ = map (λ b. bit_xor b 48) bs in
     let x : bit_xor word zeros ≡ lanes ts = ap (λ n. bit_xor n zeros) is ∙ xor-lanes 48 bs (omega arith) below in
-    let digits = tested ts (xor-below bs below) (lanes-fit (bit_xor a 48 + 6) (bit_xor b 48 + 6) (bit_xor c 48 + 6) (bit_xor d 48 + 6) (bit_xor e 48 + 6) (bit_xor f 48 + 6) (bit_xor g 48 + 6) (bit_xor h 48 + 6))
+    let digits = tested ts (xor-below bs below)
+    (lanes-fit (bit_xor a 48 + 6) (bit_xor b 48 + 6) (bit_xor c 48 + 6) (bit_xor d 48 + 6) (bit_xor e 48 + 6)
+    (bit_xor f 48 + 6) (bit_xor g 48 + 6) (bit_xor h 48 + 6))
     (ap (λ n. bit_and (bit_or n ((n + sixes) % 2 ^ 64)) highs) (sym x) ∙ test) in
     let join = joined (bit_xor a 48) (bit_xor b 48) (bit_xor c 48) (bit_xor d 48) (bit_xor e 48) (bit_xor f 48) (bit_xor g 48) (bit_xor h 48) digits in
     record {

@@ -3,5 +3,6 @@ use Rattle.std.proofs.Common.{◌≡◌, ℕ, List, [], ◌∷◌, ◌++◌, app
 use Rattle.std.specs.Prelude.{codes}
 use Rattle.ph_specs.specs.Reply.{line_of}
 
-pub fault-line : (number fault : List ℕ) → (((codes "bad record" ++ (32 ∷ number)) ++ codes " ") ++ fault) ++ 10 ∷ [] ≡ line_of (codes "bad" ∷ codes "record" ∷ number ∷ fault ∷ [])
+pub fault-line : (number fault : List ℕ) → (((codes "bad record" ++ (32 ∷ number)) ++ codes " ") ++ fault) ++ 10 ∷
+    [] ≡ line_of (codes "bad" ∷ codes "record" ∷ number ∷ fault ∷ [])
 fault-line number fault = simp append_assoc

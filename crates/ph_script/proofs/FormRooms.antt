@@ -14,7 +14,9 @@ use Rattle.ph_script.specs.declared.command.Bad.{Bad}
 use Rattle.ph_script.specs.declared.coords.Coord.{Coord}
 use Rattle.ph_script.specs.declared.forms.Form.{Form}
 use Rattle.ph_script.specs.declared.forms.Verb.{Verb}
-use Rattle.ph_script.specs.declared.forms.Verb.TheVariants.{Open, OpenBits, OpenMax, OpenBitsMax, Put, Get, Del, Relocate, Count, Clear, Window, Cursor, Page, Near, Within, Overlap, Inside, Covers, Save, Load, Import, ImportHeader, Export, Stats, Select, Same, Join, Combine, Keep, Back}
+use Rattle.ph_script.specs.declared.forms.Verb.TheVariants.{Open, OpenBits, OpenMax, OpenBitsMax, Put, Get, Del, Relocate, Count, Clear, Window}
+use Rattle.ph_script.specs.declared.forms.Verb.TheVariants.{Cursor, Page, Near, Within, Overlap, Inside, Covers, Save, Load, Import}
+use Rattle.ph_script.specs.declared.forms.Verb.TheVariants.{ImportHeader, Export, Stats, Select, Same, Join, Combine, Keep, Back}
 use Rattle.ph_script.specs.Forms.{places_of, places_by, command_by, form_of, read_among, IsRow}
 use Rattle.ph_script.specs.Parts.{coords_room, counts_room}
 
@@ -113,10 +115,16 @@ module _ (fs : List Form) (i : ℕ) (d : Form) (i_in : i < length fs) (rows : Al
   pub counts-at : sum_by counts_room (places_of dims (get_or fs i d).places.now) ≤ 3
   counts-at = rw (row-at dims) (few-counts (get_or fs i d).verb dims)
 
-  pub read-at : (places : List Place) (ws : List (List ℕ)) (cs : List Coord) (ns : List ℕ) (name file : Option (List ℕ)) (second : Bool) → places ≡ places_of dims (get_or fs i d).places.now → IsRead places ws cs ns name file second → IsRead (places_by (get_or fs i d).verb dims) ws cs ns name file second
+  pub read-at : (places : List Place) (ws : List (List ℕ)) (cs : List Coord) (ns : List ℕ)
+      (name file : Option (List ℕ)) (second : Bool) → places ≡ places_of dims (get_or fs i d).places.now →
+      IsRead places ws cs ns name file second → IsRead (places_by (get_or fs i d).verb dims) ws cs ns name file second
   read-at places ws cs ns name file second e h = subst (λ ps. IsRead ps ws cs ns name file second) (e ∙ row-at dims) h
 
-  pub form-at : (bad : Bad) (word : List ℕ) (ws : List (List ℕ)) (places : List Place) → bytes_eq (get_or fs i d).word.now word ≡ true → places ≡ places_of dims (get_or fs i d).places.now → (length places == length ws) ≡ true → pointwise fixed_fits places ws ≡ true → read_among bad word ws (map (form_of dims) (drop i fs)) ≡ read_form (form word (places_by (get_or fs i d).verb dims) (command_by (get_or fs i d).verb dims)) ws
+  pub form-at : (bad : Bad) (word : List ℕ) (ws : List (List ℕ)) (places : List Place) →
+      bytes_eq (get_or fs i d).word.now word ≡ true → places ≡ places_of dims (get_or fs i d).places.now →
+      (length places == length ws) ≡ true → pointwise fixed_fits places ws ≡ true →
+      read_among bad word ws (map (form_of dims) (drop i fs)) ≡
+      read_form (form word (places_by (get_or fs i d).verb dims) (command_by (get_or fs i d).verb dims)) ws
   unfolding read_among
   form-at bad word ws places is e sized own =
       let fits : (length (places_of dims (get_or fs i d).places.now) == length ws) ≡ true = rw e at sized in
@@ -124,11 +132,14 @@ module _ (fs : List Form) (i : ℕ) (d : Form) (i_in : i < length fs) (rows : Al
       ap (λ l. read_among bad word ws (map (form_of dims) l)) (drop_more fs i d i_in) ∙ rw (is, fits, owns) (rw (row-at dims) refl)
 
   -- one of another word
-  pub form-other : (bad : Bad) (word : List ℕ) (ws : List (List ℕ)) → bytes_eq (get_or fs i d).word.now word ≡ false → read_among bad word ws (map (form_of dims) (drop i fs)) ≡ read_among bad word ws (map (form_of dims) (drop (i + 1) fs))
+  pub form-other : (bad : Bad) (word : List ℕ) (ws : List (List ℕ)) → bytes_eq (get_or fs i d).word.now word ≡ false →
+      read_among bad word ws (map (form_of dims) (drop i fs)) ≡ read_among bad word ws (map (form_of dims) (drop (i + 1) fs))
   unfolding read_among
   form-other bad word ws is = ap (λ l. read_among bad word ws (map (form_of dims) l)) (drop_more fs i d i_in) ∙ rw is refl
 
-  pub forms-left : (bad : Bad) (word : List ℕ) (ws : List (List ℕ)) → read_among bad word ws (map (form_of dims) (drop i fs)) ≡ read_among bad word ws (form_of dims (get_or fs i d) ∷ map (form_of dims) (drop (i + 1) fs))
+  pub forms-left : (bad : Bad) (word : List ℕ) (ws : List (List ℕ)) →
+      read_among bad word ws (map (form_of dims) (drop i fs)) ≡
+      read_among bad word ws (form_of dims (get_or fs i d) ∷ map (form_of dims) (drop (i + 1) fs))
   forms-left bad word ws = ap (λ l. read_among bad word ws (map (form_of dims) l)) (drop_more fs i d i_in)
 
 -- the forms behind one are rows
@@ -140,6 +151,7 @@ rows-left (f ∷ fs) (suc i) h =
     subst (λ n. AllByRecursion IsRow (drop n (f ∷ fs))) e (rows-left fs i h)
 
 -- no form is left
-pub none-left : (fs : List Form) (i dims : ℕ) (bad : Bad) (word : List ℕ) (ws : List (List ℕ)) → length fs ≤ i → read_among bad word ws (map (form_of dims) (drop i fs)) ≡ Reading.Refused (bad_reply bad)
+pub none-left : (fs : List Form) (i dims : ℕ) (bad : Bad) (word : List ℕ) (ws : List (List ℕ)) → length fs ≤ i →
+    read_among bad word ws (map (form_of dims) (drop i fs)) ≡ Reading.Refused (bad_reply bad)
 unfolding read_among
 none-left fs i dims bad word ws h = ap (λ l. read_among bad word ws (map (form_of dims) l)) (drop_all i fs h)

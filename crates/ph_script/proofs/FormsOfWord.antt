@@ -76,7 +76,8 @@ sized-own (f ∷ fs) ws = behind f fs
         ap (λ r. if pointwise fixed_fits f.places ws then read_form f ws else r) (behind g fs)
 
 -- a form of the word was seen
-seen-among : (bad : Bad) (word : List ℕ) (ws : List (List ℕ)) (fs : List Form) → counted bad ≡ bad → read_among bad word ws fs ≡ own_or (Reading.Refused (bad_reply bad)) (filter (of_size ws) (filter (of_word word) fs)) ws
+seen-among : (bad : Bad) (word : List ℕ) (ws : List (List ℕ)) (fs : List Form) → counted bad ≡ bad →
+    read_among bad word ws fs ≡ own_or (Reading.Refused (bad_reply bad)) (filter (of_size ws) (filter (of_word word) fs)) ws
 unfolding read_among
 seen-among bad word ws [] k = refl
 seen-among bad word ws (f ∷ fs) k =
@@ -84,7 +85,9 @@ seen-among bad word ws (f ∷ fs) k =
       | inl is ↦ elim (either (length f.places == length ws)) [
         | inl fits ↦ elim (either (pointwise fixed_fits f.places ws)) [
           | inl own ↦ rw (is, fits, own) refl
-          | inr not ↦ rw (is, fits, not) (seen-among (bad_in f ws) word ws fs (counted-in f) ∙ ap (λ r. own_or r (filter (of_size ws) (filter (of_word word) fs)) ws) (sym (not-own f ws not)))
+          | inr not ↦ rw (is, fits, not)
+              (seen-among (bad_in f ws) word ws fs (counted-in f) ∙
+              ap (λ r. own_or r (filter (of_size ws) (filter (of_word word) fs)) ws) (sym (not-own f ws not)))
         ]
         | inr other ↦ rw (is, other, k) (seen-among bad word ws fs k)
       ]
@@ -115,7 +118,9 @@ unfolding read_among
 passed-count bad places ws sized f word fs e is = rw (is, e, sized) refl
 
 -- its own words are not there
-pub passed-own : (bad wrong : Bad) (places : List Place) (ws : List (List ℕ)) → (wrong ≡ Count → ⊥) → IsFault wrong (length places == length ws) (pointwise number_fits places ws) (pointwise name_fits places ws) → pointwise fixed_fits places ws ≡ false → IsPassed bad wrong places ws
+pub passed-own : (bad wrong : Bad) (places : List Place) (ws : List (List ℕ)) → (wrong ≡ Count → ⊥) →
+    IsFault wrong (length places == length ws) (pointwise number_fits places ws) (pointwise name_fits places ws) →
+    pointwise fixed_fits places ws ≡ false → IsPassed bad wrong places ws
 unfolding read_among
 passed-own bad Word places ws m h own f word fs e is = absurd h
 passed-own bad Count places ws m h own f word fs e is = absurd (m refl)
@@ -123,7 +128,9 @@ passed-own bad Number places ws m h own f word fs e is = rw (is, e, h.0, own, h.
 passed-own bad Name places ws m h own f word fs e is = rw (is, e, h.0, own, h.1) refl
 
 -- its own words are there
-pub refusing-own : (bad wrong : Bad) (places : List Place) (ws : List (List ℕ)) → (wrong ≡ Count → ⊥) → IsFault wrong (length places == length ws) (pointwise number_fits places ws) (pointwise name_fits places ws) → pointwise fixed_fits places ws ≡ true → IsRefusing bad wrong places ws
+pub refusing-own : (bad wrong : Bad) (places : List Place) (ws : List (List ℕ)) → (wrong ≡ Count → ⊥) →
+    IsFault wrong (length places == length ws) (pointwise number_fits places ws) (pointwise name_fits places ws) →
+    pointwise fixed_fits places ws ≡ true → IsRefusing bad wrong places ws
 unfolding read_among
 refusing-own bad Word places ws m h own f word fs e is = absurd h
 refusing-own bad Count places ws m h own f word fs e is = absurd (m refl)
@@ -131,7 +138,8 @@ refusing-own bad Number places ws m h own f word fs e is = rw (is, e, h.0, own, 
 refusing-own bad Name places ws m h own f word fs e is = rw (is, e, h.0, own, h.1, h.2) refl
 
 -- what the words of a line are, by the forms of its first word
-pub line-reads : (all : List (List ℕ)) (word : List ℕ) (ws : List (List ℕ)) (fs : List Form) → all ≡ word ∷ ws → is_comment word ≡ false → read_words_by fs all ≡ read_among Word word ws fs
+pub line-reads : (all : List (List ℕ)) (word : List ℕ) (ws : List (List ℕ)) (fs : List Form) → all ≡ word ∷ ws →
+    is_comment word ≡ false → read_words_by fs all ≡ read_among Word word ws fs
 line-reads all word ws fs e c = rw (e, c) (sym (among-reads word ws fs))
 
 pub not_comment : (word : List ℕ) → ¬ (get_or word 0 0 ≡ 35) → is_comment word ≡ false

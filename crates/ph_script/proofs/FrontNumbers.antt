@@ -1,5 +1,6 @@
 -- A number of few digits at a place of a text.
-use Rattle.std.proofs.Common.{◌≡◌, ℕ, zero, suc, ◌+◌, ◌*◌, ◌-◌, ◌%◌, ◌^◌, ◌<◌, ◌≤◌, List, [], ◌∷◌, length, take, drop, get_or, ◌++◌, Bool, true, false, refl, sym, ap, ◌∙◌, subst, add-one, lit<, arith, inl, inr}
+use Rattle.std.proofs.Common.{◌≡◌, ℕ, zero, suc, ◌+◌, ◌*◌, ◌-◌, ◌%◌, ◌^◌, ◌<◌, ◌≤◌, List, [], ◌∷◌, length, take, drop, get_or}
+use Rattle.std.proofs.Common.{◌++◌, Bool, true, false, refl, sym, ap, ◌∙◌, subst, add-one, lit<, arith, inl, inr}
 use Rattle.std.specs.Prelude.{ℤ, pos, neg_ℤ, Option, Some, None, IfSome, ◌⊎◌, ◌==◌, ◌||◌, ◌&&◌, not, nat_lt, fold, if◌then◌else◌}
 use Rattle.std.specs.Array.{IsFirstChunk}
 use Rattle.std.specs.Char.{is_ascii_digit}
@@ -35,10 +36,12 @@ short-whole true (suc size) h =
 
 -- what may stand before digits: a minus, a plus or nothing
 abbrev pub IsSign : List ℕ → Bool → ℕ → Type 0
-IsSign text minus start = ((minus ≡ true) × (start ≡ 1) × (0 < length text) × (get_or text 0 0 ≡ 45)) ⊎ (((minus ≡ false) × (start ≡ 1) × (0 < length text) × (get_or text 0 0 ≡ 43)) ⊎ ((minus ≡ false) × (start ≡ 0)))
+IsSign text minus start = ((minus ≡ true) × (start ≡ 1) × (0 < length text) × (get_or text 0 0 ≡ 45)) ⊎
+    (((minus ≡ false) × (start ≡ 1) × (0 < length text) × (get_or text 0 0 ≡ 43)) ⊎ ((minus ≡ false) × (start ≡ 0)))
 
 -- digits have no blank before the one that ends them
-digits-end : (ds : List ℕ) (count : ℕ) → count ≤ length ds → list_all is_ascii_digit (take count ds) ≡ true → (count < length ds → is_blank (get_or ds count 0) ≡ true) → position_or_len is_blank ds ≡ count
+digits-end : (ds : List ℕ) (count : ℕ) → count ≤ length ds → list_all is_ascii_digit (take count ds) ≡ true →
+    (count < length ds → is_blank (get_or ds count 0) ≡ true) → position_or_len is_blank ds ≡ count
 digits-end [] zero l h e = refl
 digits-end (d ∷ ds) zero l h e = rw (e (omega arith)) refl
 digits-end [] (suc count) l h e = absurd (omega (arith, l))
@@ -62,7 +65,10 @@ pub record Ends (text : List ℕ) (end : ℕ) (z : ℤ) : Type 0 where
   pub blank : position_or_len is_blank text ≡ end
   pub same : number (take end text) ≡ Some z
 
-signed-ends : (b : ℕ) (ds : List ℕ) (minus : Bool) (count size : ℕ) → (minus ≡ true) × (b ≡ 45) ⊎ (minus ≡ false) × (b ≡ 43) → 0 < count → count ≤ length ds → list_all is_ascii_digit (take count ds) ≡ true → size ≡ size_of (take count ds) → (count < length ds → is_blank (get_or ds count 0) ≡ true) → Ends (b ∷ ds) (suc count) (if minus then neg_ℤ (pos size) else pos size)
+signed-ends : (b : ℕ) (ds : List ℕ) (minus : Bool) (count size : ℕ) → (minus ≡ true) × (b ≡ 45) ⊎ (minus ≡ false) ×
+    (b ≡ 43) → 0 < count → count ≤ length ds → list_all is_ascii_digit (take count ds) ≡ true →
+    size ≡ size_of (take count ds) → (count < length ds → is_blank (get_or ds count 0) ≡ true) →
+    Ends (b ∷ ds) (suc count) (if minus then neg_ℤ (pos size) else pos size)
 signed-ends b ds minus count size s some l h e k =
     let more : 0 < length (take count ds) = omega (arith, length-take count ds) in
     let n = natural-digits (take count ds) more h in
@@ -72,12 +78,18 @@ signed-ends b ds minus count size s some l h e k =
       | inr p ↦ record { blank = rw (p.1, i) (omega arith); same = rw (p.0, p.1, n, e) refl }
     ]
 
-plain-ends : (ds : List ℕ) (count size : ℕ) → 0 < count → count ≤ length ds → list_all is_ascii_digit (take count ds) ≡ true → size ≡ size_of (take count ds) → (count < length ds → is_blank (get_or ds count 0) ≡ true) → Ends ds count (pos size)
+plain-ends : (ds : List ℕ) (count size : ℕ) → 0 < count → count ≤ length ds →
+    list_all is_ascii_digit (take count ds) ≡ true → size ≡ size_of (take count ds) →
+    (count < length ds → is_blank (get_or ds count 0) ≡ true) → Ends ds count (pos size)
 plain-ends ds count size some l h e k =
     let more : 0 < length (take count ds) = omega (arith, length-take count ds) in
     record { blank = digits-end ds count l h k; same = plain-number (take count ds) more h ∙ ap (λ n. Some (pos n)) (sym e) }
 
-pub front-ends : (text : List ℕ) (minus : Bool) (start count size : ℕ) → IsSign text minus start → 0 < count → count ≤ length (drop start text) → list_all is_ascii_digit (take count (drop start text)) ≡ true → size ≡ size_of (take count (drop start text)) → (start + count < length text → is_blank (get_or text (start + count) 0) ≡ true) → Ends text (start + count) (if minus then neg_ℤ (pos size) else pos size)
+pub front-ends : (text : List ℕ) (minus : Bool) (start count size : ℕ) → IsSign text minus start → 0 < count →
+    count ≤ length (drop start text) → list_all is_ascii_digit (take count (drop start text)) ≡ true →
+    size ≡ size_of (take count (drop start text)) →
+    (start + count < length text → is_blank (get_or text (start + count) 0) ≡ true) →
+    Ends text (start + count) (if minus then neg_ℤ (pos size) else pos size)
 front-ends [] minus start count size s some l h e k = absurd (elim s [
   | inl m ↦ omega (arith, m.2)
   | inr r ↦ elim r [
@@ -87,16 +99,19 @@ front-ends [] minus start count size s some l h e k = absurd (elim s [
 ])
 front-ends (b ∷ ds) minus start count size s some l h e k = elim s [
   | inl m ↦ (let one : 1 + count ≡ suc count = omega arith in
-      rw (m.1, one) (signed-ends b ds minus count size (inl (m.0, m.3)) some (rw m.1 at l) (rw m.1 at h) (rw m.1 at e) (λ j. rw (m.1, one) at (k (rw (m.1, one) (omega (arith, j)))))))
+      rw (m.1, one) (signed-ends b ds minus count size (inl (m.0, m.3)) some (rw m.1 at l) (rw m.1 at h) (rw m.1 at e)
+      (λ j. rw (m.1, one) at (k (rw (m.1, one) (omega (arith, j)))))))
   | inr r ↦ elim r [
     | inl p ↦ (let one : 1 + count ≡ suc count = omega arith in
-        rw (p.1, one) (signed-ends b ds minus count size (inr (p.0, p.3)) some (rw p.1 at l) (rw p.1 at h) (rw p.1 at e) (λ j. rw (p.1, one) at (k (rw (p.1, one) (omega (arith, j)))))))
+        rw (p.1, one) (signed-ends b ds minus count size (inr (p.0, p.3)) some (rw p.1 at l) (rw p.1 at h)
+        (rw p.1 at e) (λ j. rw (p.1, one) at (k (rw (p.1, one) (omega (arith, j)))))))
     | inr n ↦ (let none : 0 + count ≡ count = omega arith in
         rw (n.1, n.0, none) (plain-ends (b ∷ ds) count size some (rw n.1 at l) (rw n.1 at h) (rw n.1 at e) (λ j. rw (n.1, none) at (k (rw (n.1, none) j)))))
   ]
 ]
 
-pub sign-of : (text : List ℕ) (minus : Bool) (start : ℕ) → 0 < length text → minus ≡ (get_or text 0 0 == 45) → start ≡ (if (get_or text 0 0 == 45) || (get_or text 0 0 == 43) then 1 else 0) → IsSign text minus start
+pub sign-of : (text : List ℕ) (minus : Bool) (start : ℕ) → 0 < length text → minus ≡ (get_or text 0 0 == 45) →
+    start ≡ (if (get_or text 0 0 == 45) || (get_or text 0 0 == 43) then 1 else 0) → IsSign text minus start
 sign-of text minus start l m s =
     elim (either (get_or text 0 0 == 45)) [
       | inl is ↦ inl (m ∙ is, rw is at s, l, grind (arith, nat_tests))
@@ -116,7 +131,9 @@ short-number text s h = rw h.same (short-whole s.minus s.size h.limit)
 power-more : (k size digit : ℕ) → size < 10 ^ k → digit ≤ 9 → size * 10 + digit < 10 ^ (k + 1)
 power-more k size digit l d = rw (add-one k, pow-succ' 10 k) (omega (arith, l, d))
 
-pub digits-more : (text : List ℕ) (from before at size digit next : ℕ) → IsDigits text from before at size → at < length text → is_ascii_digit (get_or text at 0) ≡ true → digit ≤ 9 → digit ≡ get_or text at 0 - 48 → next ≡ ((size * 10) % 2 ^ 64 + digit) % 2 ^ 64 → IsDigits text from before (at + 1) next
+pub digits-more : (text : List ℕ) (from before at size digit next : ℕ) → IsDigits text from before at size →
+    at < length text → is_ascii_digit (get_or text at 0) ≡ true → digit ≤ 9 → digit ≡ get_or text at 0 - 48 →
+    next ≡ ((size * 10) % 2 ^ 64 + digit) % 2 ^ 64 → IsDigits text from before (at + 1) next
 digits-more text from before at size digit next h l is few d e =
     let ds = drop from text in
     let here : get_or ds h.count 0 ≡ get_or text at 0 = get_or-drop from text h.count 0 ∙ ap (λ i. get_or text i 0) h.reaches in
@@ -134,7 +151,8 @@ digits-more text from before at size digit next h l is few d e =
           let all : (size * 10 + digit) % 2 ^ 64 ≡ size * 10 + digit = mod-eq_of_lt (omega (arith, below, few)) in
           let is : next ≡ size * 10 + digit = e ∙ rw ten all in
           let sum : k + h.count + 1 ≡ k + (h.count + 1) = omega arith in (
-            is ∙ rw (d, v.0) (sym (ap (fold (λ n b. n * 10 + (b - 48)) before) taken ∙ fold-append (λ n b. n * 10 + (b - 48)) before (take h.count ds) (get_or text at 0 ∷ []))),
+            is ∙ rw (d, v.0) (sym (ap (fold (λ n b. n * 10 + (b - 48)) before) taken ∙
+                fold-append (λ n b. n * 10 + (b - 48)) before (take h.count ds) (get_or text at 0 ∷ []))),
             rw is (subst (λ j. size * 10 + digit < 10 ^ j) sum (power-more (k + h.count) size digit v.1 few)),
           );
     }
@@ -175,7 +193,8 @@ pub digits-both : (text : List ℕ) (from at end front size : ℕ) → IsDigits 
 digits-both text from at end front size f h =
     let ds = drop from text in
     let behind : drop at text ≡ drop f.count ds = sym (drop-drop f.count from text ∙ ap (λ i. drop i text) f.reaches) in
-    let taken : take (f.count + h.count) ds ≡ take f.count ds ++ take h.count (drop at text) = take-both f.count h.count ds ∙ ap (λ l. take f.count ds ++ take h.count l) (sym behind) in
+    let taken : take (f.count + h.count) ds ≡ take f.count ds ++ take h.count (drop at text) =
+    take-both f.count h.count ds ∙ ap (λ l. take f.count ds ++ take h.count l) (sym behind) in
     record {
       count = f.count + h.count;
       reaches = omega (arith, f.reaches, h.reaches);
@@ -192,7 +211,11 @@ digits-both text from at end front size f h =
     }
 
 -- the number of a word at a place of a text
-pub number-at : (text : List ℕ) (from : ℕ) (minus : Bool) (sign end size : ℕ) → from < length text → minus ≡ (get_or text from 0 == 45) → sign ≡ (if (get_or text from 0 == 45) || (get_or text from 0 == 43) then 1 else 0) → IsDigits text (from + sign) 0 end size → 0 < end - (from + sign) → end - (from + sign) ≤ 18 → (end < length text → is_blank (get_or text end 0) ≡ true) → IsNumberAt text from end (record { minus = minus; size = size })
+pub number-at : (text : List ℕ) (from : ℕ) (minus : Bool) (sign end size : ℕ) → from < length text →
+    minus ≡ (get_or text from 0 == 45) →
+    sign ≡ (if (get_or text from 0 == 45) || (get_or text from 0 == 43) then 1 else 0) →
+    IsDigits text (from + sign) 0 end size → 0 < end - (from + sign) → end - (from + sign) ≤ 18 →
+    (end < length text → is_blank (get_or text end 0) ≡ true) → IsNumberAt text from end (record { minus = minus; size = size })
 number-at text from minus sign end size l m s h some few blank =
     let word = drop from text in
     let count = h.count in
@@ -204,7 +227,9 @@ number-at text from minus sign end size l m s h some few blank =
     let any : 0 < count = omega (arith, some, h.reaches) in
     let v = h.value 0 (lit< tt) (omega (arith, few, h.reaches)) in
     let inside : count ≤ length (drop (from + sign) text) = omega (arith, h.within, h.reaches, length-drop (from + sign) text) in
-    let ends = front-ends word minus sign count size signed any (rw behind at inside) (rw behind at h.digits) (rw behind at v.0) (λ k. rw (get_or-drop from text (sign + count) 0, total) (blank (omega (arith, k, total, length-drop from text)))) in
+    let ends = front-ends word minus sign count size signed any (rw behind at inside) (rw behind at h.digits)
+    (rw behind at v.0) (λ k. rw (get_or-drop from text (sign + count) 0, total)
+    (blank (omega (arith, k, total, length-drop from text)))) in
     record {
       count = sign + count;
       reaches = total;

@@ -1,5 +1,6 @@
 -- What is kept of a line, and how it is shown.
-use Rattle.std.proofs.Common.{◌≡◌, ℕ, zero, suc, ◌+◌, ◌-◌, ◌<◌, ◌≤◌, min, List, [], ◌∷◌, ◌++◌, length, take, Bool, true, false, refl, sym, ap, ◌∙◌, subst, get_or, inl, inr, arith}
+use Rattle.std.proofs.Common.{◌≡◌, ℕ, zero, suc, ◌+◌, ◌-◌, ◌<◌, ◌≤◌, min, List, [], ◌∷◌, ◌++◌, length, take}
+use Rattle.std.proofs.Common.{Bool, true, false, refl, sym, ap, ◌∙◌, subst, get_or, inl, inr, arith}
 use Rattle.std.specs.Prelude.{◌==◌, nat_lt, if◌then◌else◌, Option, Some, None, slice_index}
 use Rattle.std.specs.List.{position, position_or_len}
 use Rattle.std.proofs.lemmas.List.Sums.{position_or_len_is}
@@ -66,12 +67,15 @@ pub feed-none : (bytes : List ℕ) → position is_feed bytes ≡ None → feed_
 feed-none bytes h = position-none is_feed bytes h
 
 -- the line that a line feed ends, and what is kept of one that has not ended, from what the buffer held
-pub line-shown : (over : Bool) (old line begun rest back held now : List ℕ) (end : ℕ) (shown : Line) → begun ≡ (if over then [] else old) → (if over then [] else old) ≡ line → back ≡ rest → feed_at rest ≡ end → held ≡ kept (begun ++ take end back) → now ≡ held → IsLine now shown → IsLine (line ++ before_feed rest) shown
+pub line-shown : (over : Bool) (old line begun rest back held now : List ℕ) (end : ℕ) (shown : Line) →
+    begun ≡ (if over then [] else old) → (if over then [] else old) ≡ line → back ≡ rest → feed_at rest ≡ end →
+    held ≡ kept (begun ++ take end back) → now ≡ held → IsLine now shown → IsLine (line ++ before_feed rest) shown
 line-shown over old line begun rest back held now end shown b v r f h n is =
     let whole : now ≡ kept (line ++ before_feed rest) = n ∙ h ∙ rw (b, v, r, f) refl in
     line-kept (line ++ before_feed rest) shown (subst (λ xs. IsLine xs shown) whole is)
 
-pub line-goes_on : (over : Bool) (old line begun rest back held : List ℕ) → begun ≡ (if over then [] else old) → (if over then [] else old) ≡ line → back ≡ rest → held ≡ kept (begun ++ back) → held ≡ kept (line ++ rest)
+pub line-goes_on : (over : Bool) (old line begun rest back held : List ℕ) → begun ≡ (if over then [] else old) →
+    (if over then [] else old) ≡ line → back ≡ rest → held ≡ kept (begun ++ back) → held ≡ kept (line ++ rest)
 line-goes_on over old line begun rest back held b v r h = h ∙ rw (b, v, r) refl
 
 pub no-byte : (xs : List ℕ) (n : ℕ) → (n == 0) ≡ true → n ≡ length xs → xs ≡ []
@@ -81,7 +85,9 @@ no-byte (x ∷ xs) n e l =
     absurd (omega (arith, k, l))
 
 -- the same of a line that no held byte begins
-pub line-whole : (over : Bool) (old line begun rest back front : List ℕ) (end : ℕ) (shown : Line) → begun ≡ (if over then [] else old) → (if over then [] else old) ≡ line → begun ≡ [] → back ≡ rest → feed_at rest ≡ end → front ≡ take end back → IsLine front shown → IsLine (line ++ before_feed rest) shown
+pub line-whole : (over : Bool) (old line begun rest back front : List ℕ) (end : ℕ) (shown : Line) →
+    begun ≡ (if over then [] else old) → (if over then [] else old) ≡ line → begun ≡ [] → back ≡ rest →
+    feed_at rest ≡ end → front ≡ take end back → IsLine front shown → IsLine (line ++ before_feed rest) shown
 line-whole over old line begun rest back front end shown b v empty r f t is =
     let none : line ≡ [] = sym v ∙ sym b ∙ empty in
     let whole : front ≡ line ++ before_feed rest = t ∙ rw (none, r, f) refl in

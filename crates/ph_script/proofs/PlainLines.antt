@@ -1,5 +1,6 @@
 -- The words of a plain line, and what they spell in the places of their command.
-use Rattle.std.proofs.Common.{◌≡◌, ℕ, zero, suc, ◌+◌, ◌-◌, ◌^◌, ◌<◌, ◌≤◌, List, [], ◌∷◌, ◌++◌, length, map, Bool, true, false, refl, sym, ap, ◌∙◌, arith, append_assoc, length-append, eq-eqb}
+use Rattle.std.proofs.Common.{◌≡◌, ℕ, zero, suc, ◌+◌, ◌-◌, ◌^◌, ◌<◌, ◌≤◌, List, [], ◌∷◌, ◌++◌, length, map, Bool}
+use Rattle.std.proofs.Common.{true, false, refl, sym, ap, ◌∙◌, arith, append_assoc, length-append, eq-eqb}
 use Rattle.std.specs.Prelude.{ℤ, pos, neg_ℤ, Option, Some, None, is_some, nat_lt, nat_le, ◌==◌, if◌then◌else◌}
 use Rattle.std.specs.Cmp.Lexicographic.{pointwise}
 use Rattle.std.proofs.lemmas.Bool.{lt-ltb}
@@ -24,7 +25,9 @@ use Rattle.ph_script.proofs.ReadPlaces.{fit-of, does}
 
 -- ---- numbers
 
-signed-coord : (minus : Bool) (size : ℕ) → size < 10 ^ 18 → coord_of (of_whole (Some (if minus then neg_ℤ (pos size) else pos size))) ≡ Some (Whole (if minus then neg_ℤ (pos size) else pos size))
+signed-coord : (minus : Bool) (size : ℕ) → size < 10 ^ 18 →
+    coord_of (of_whole (Some (if minus then neg_ℤ (pos size) else pos size))) ≡
+    Some (Whole (if minus then neg_ℤ (pos size) else pos size))
 signed-coord false size h = rw (lt-ltb size (2 ^ 128) (omega (arith, h)), lt-ltb size (2 ^ 63) (omega (arith, h))) refl
 signed-coord true zero h = refl
 signed-coord true (suc size) h =
@@ -38,12 +41,20 @@ short-coord word s h = rw h.same (signed-coord s.minus s.size h.limit)
 
 -- ---- coordinates, word by word
 
-pub spelled-more : (text rest behind : List ℕ) (cs more : List Coord) (s : Short) → IsSpelled text cs rest → IsNext rest s behind → more ≡ cs ++ Whole (if s.minus then neg_ℤ (pos s.size) else pos s.size) ∷ [] → IsSpelled text more behind
+pub spelled-more : (text rest behind : List ℕ) (cs more : List Coord) (s : Short) → IsSpelled text cs rest →
+    IsNext rest s behind → more ≡ cs ++ Whole (if s.minus then neg_ℤ (pos s.size) else pos s.size) ∷ [] →
+    IsSpelled text more behind
 spelled-more text rest behind cs more s h n e =
     record {
       front = h.front ++ n.word ∷ [];
       before = h.before ∙ rw (n.first, append_assoc h.front (n.word ∷ []) (words behind)) refl;
-      spelled = rw (e, map-append (λ w. coord_of (number_of w)) h.front (n.word ∷ []), map-append (λ (c : Coord). Some c) cs (Whole (if s.minus then neg_ℤ (pos s.size) else pos s.size) ∷ []), h.spelled, short-coord n.word s n.number) refl;
+      spelled = rw (
+        e,
+        map-append (λ w. coord_of (number_of w)) h.front (n.word ∷ []),
+        map-append (λ (c : Coord). Some c) cs (Whole (if s.minus then neg_ℤ (pos s.size) else pos s.size) ∷ []),
+        h.spelled,
+        short-coord n.word s n.number,
+      ) refl;
     }
 
 -- words that spell coordinates, in the places of these before others
@@ -58,7 +69,8 @@ coord-some : (z : Option ℤ) (c : Coord) → coord_of (of_whole z) ≡ Some c �
 coord-some None c h = cc
 coord-some (Some z) c h = refl
 
-spells : (ws : List (List ℕ)) (cs : List Coord) (places : List Place) (tail : List (List ℕ)) → map (λ w. coord_of (number_of w)) ws ≡ map Some cs → Spells ws cs places tail
+spells : (ws : List (List ℕ)) (cs : List Coord) (places : List Place) (tail : List (List ℕ)) →
+    map (λ w. coord_of (number_of w)) ws ≡ map Some cs → Spells ws cs places tail
 spells [] [] places tail h = record { size = refl; numbers = refl; names = refl; coords = refl; counts = refl }
 spells [] (c ∷ cs) places tail h = absurd (cc)
 spells (w ∷ ws) [] places tail h = absurd (cc)
@@ -87,7 +99,8 @@ counts-short word s limit h plus below =
     let fit : nat_lt s.size limit ≡ true = lt-ltb s.size limit below in
     record { fits = rw (same, fit) refl; counts = rw (same, wide, fit) refl }
 
-pub last-some : (plain : Plain) (text rest : List ℕ) (most : ℕ) (s : Short) → most_of plain ≡ Some most → IsNext text s rest → s.minus ≡ false → s.size ≤ most → IsLast plain text s.size rest
+pub last-some : (plain : Plain) (text rest : List ℕ) (most : ℕ) (s : Short) → most_of plain ≡ Some most →
+    IsNext text s rest → s.minus ≡ false → s.size ≤ most → IsLast plain text s.size rest
 last-some Put text rest most s e n plus l =
     let k = counts-short n.word s (2 ^ 64) n.number plus (let m : most ≡ 2 ^ 64 - 1 = cc in omega (arith, m, l)) in
     record { front = n.word ∷ []; before = n.first; size = refl; numbers = rw k.fits refl; names = refl; counts = rw k.counts refl }
@@ -151,7 +164,9 @@ last-coords Overlap ws = refl
 last-coords Inside ws = refl
 last-coords Covers ws = refl
 
-pub plain-line : (plain : Plain) (dims : ℕ) (line text rest over : List ℕ) (cs : List Coord) (n : ℕ) → line ≡ word_of plain ++ 32 ∷ text → IsSpelled text cs rest → length cs ≡ coords_of plain dims → IsLast plain rest n over → words over ≡ [] → IsPlain plain dims (words line) cs n
+pub plain-line : (plain : Plain) (dims : ℕ) (line text rest over : List ℕ) (cs : List Coord) (n : ℕ) →
+    line ≡ word_of plain ++ 32 ∷ text → IsSpelled text cs rest → length cs ≡ coords_of plain dims →
+    IsLast plain rest n over → words over ≡ [] → IsPlain plain dims (words line) cs n
 plain-line plain dims line text rest over cs n e s size l none =
     let p : places_by (verb_of plain) dims ≡ coordinates (length cs) ++ last_of plain = places-plain plain dims ∙ ap (λ k. coordinates k ++ last_of plain) (sym size) in
     let k = spells s.front cs (last_of plain) l.front s.spelled in
@@ -159,7 +174,15 @@ plain-line plain dims line text rest over cs n e s size l none =
     record {
       behind = s.front ++ l.front;
       line = ap words e ∙ front-word plain text ∙ ap (λ ws. word_of plain ∷ ws) behind;
-      size = omega (arith, ap length p, length-append (coordinates (length cs)) (last_of plain), length-replicate (length cs) Coordinate, length-append s.front l.front, k.size, l.size);
+      size = omega (
+        arith,
+        ap length p,
+        length-append (coordinates (length cs)) (last_of plain),
+        length-replicate (length cs) Coordinate,
+        length-append s.front l.front,
+        k.size,
+        l.size,
+      );
       numbers = rw p (k.numbers ∙ l.numbers);
       names = rw p (k.names ∙ l.names);
       coords_are = rw p (sym (k.coords ∙ ap (λ ds. cs ++ ds) (last-coords plain l.front) ∙ append-nil cs));
@@ -168,7 +191,8 @@ plain-line plain dims line text rest over cs n e s size l none =
 
 -- ---- its meaning
 
-fit-plain : (plain : Plain) (dims : ℕ) (cs : List Coord) (ns : List ℕ) (name file : Option (List ℕ)) → IsFit (verb_of plain) dims cs ns name file → IsFit (verb_of plain) dims cs ns None None
+fit-plain : (plain : Plain) (dims : ℕ) (cs : List Coord) (ns : List ℕ) (name file : Option (List ℕ)) →
+    IsFit (verb_of plain) dims cs ns name file → IsFit (verb_of plain) dims cs ns None None
 fit-plain Put dims cs ns name file h = h
 fit-plain Get dims cs ns name file h = h
 fit-plain Del dims cs ns name file h = h
@@ -180,10 +204,13 @@ fit-plain Overlap dims cs ns name file h = h
 fit-plain Inside dims cs ns name file h = h
 fit-plain Covers dims cs ns name file h = h
 
-pub plain-fit : (plain : Plain) (dims : ℕ) (ws : List (List ℕ)) (cs : List Coord) (n : ℕ) → IsPlain plain dims ws cs n → IsFit (verb_of plain) dims cs (number_by plain n) None None
+pub plain-fit : (plain : Plain) (dims : ℕ) (ws : List (List ℕ)) (cs : List Coord) (n : ℕ) →
+    IsPlain plain dims ws cs n → IsFit (verb_of plain) dims cs (number_by plain n) None None
 plain-fit plain dims ws cs n h =
     let places = places_by (verb_of plain) dims in
-    fit-plain plain dims cs (number_by plain n) _ _ (fit-of (verb_of plain) dims places h.behind cs (number_by plain n) (name_from None places h.behind) (file_from None places h.behind) refl h.numbers h.coords_are h.counts_are refl refl)
+    fit-plain plain dims cs (number_by plain n) _ _
+    (fit-of (verb_of plain) dims places h.behind cs (number_by plain n) (name_from None places h.behind)
+    (file_from None places h.behind) refl h.numbers h.coords_are h.counts_are refl refl)
 
 -- the command's form is the only one of its word
 one-form : (f : Form) (ws : List (List ℕ)) → (length f.places == length ws) ≡ true → read_forms (f ∷ []) ws ≡ read_form f ws
@@ -192,7 +219,9 @@ one-form f ws h = rw h refl
 abbrev form-plain : Plain → ℕ → Form
 form-plain plain dims = form (word_of plain) (places_by (verb_of plain) dims) (command_by (verb_of plain) dims)
 
-reads-plain : (plain : Plain) (dims : ℕ) (ws : List (List ℕ)) → (length (places_by (verb_of plain) dims) == length ws) ≡ true → read_words dims (word_of plain ∷ ws) ≡ read_form (form-plain plain dims) ws
+reads-plain : (plain : Plain) (dims : ℕ) (ws : List (List ℕ)) →
+    (length (places_by (verb_of plain) dims) == length ws) ≡ true →
+    read_words dims (word_of plain ∷ ws) ≡ read_form (form-plain plain dims) ws
 reads-plain Put dims ws h = one-form (form-plain Put dims) ws h
 reads-plain Get dims ws h = one-form (form-plain Get dims) ws h
 reads-plain Del dims ws h = one-form (form-plain Del dims) ws h
@@ -204,8 +233,13 @@ reads-plain Overlap dims ws h = one-form (form-plain Overlap dims) ws h
 reads-plain Inside dims ws h = one-form (form-plain Inside dims) ws h
 reads-plain Covers dims ws h = one-form (form-plain Covers dims) ws h
 
-pub plain-does : (plain : Plain) (dims : ℕ) (ws : List (List ℕ)) (cs : List Coord) (n : ℕ) (made : Command) → IsPlain plain dims ws cs n → ((t : List (List ℕ)) → made ≡ command_by (verb_of plain) dims (numbers_of cs ++ map pos (number_by plain n)) t) → read_words dims ws ≡ Reading.Do made
+pub plain-does : (plain : Plain) (dims : ℕ) (ws : List (List ℕ)) (cs : List Coord) (n : ℕ) (made : Command) →
+    IsPlain plain dims ws cs n → ((t : List (List ℕ)) →
+    made ≡ command_by (verb_of plain) dims (numbers_of cs ++ map pos (number_by plain n)) t) →
+    read_words dims ws ≡ Reading.Do made
 plain-does plain dims ws cs n made h makes =
     let places = places_by (verb_of plain) dims in
     ap (λ l. read_words dims l) h.line ∙ reads-plain plain dims h.behind (eq-eqb (length places) (length h.behind) h.size)
-    ∙ does (word_of plain) (verb_of plain) dims places places h.behind cs (number_by plain n) (name_from None places h.behind) (file_from None places h.behind) (second_from false places h.behind) made refl refl h.numbers h.names h.coords_are h.counts_are refl refl refl (λ t _. makes t)
+    ∙ does (word_of plain) (verb_of plain) dims places places h.behind cs (number_by plain n)
+    (name_from None places h.behind) (file_from None places h.behind) (second_from false places h.behind) made
+    refl refl h.numbers h.names h.coords_are h.counts_are refl refl refl (λ t _. makes t)

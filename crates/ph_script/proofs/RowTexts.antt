@@ -29,7 +29,8 @@ row-line word r =
 
 -- behind a word and a number
 pub hit-line : (word number : List ℕ) (r : Row) → (word ++ (32 ∷ number)) ++ numbers_line r ≡ line_of (word ∷ number ∷ row_words r)
-hit-line word number r = append_assoc word (32 ∷ number) (numbers_line r) ∙ ap (λ bytes. word ++ (32 ∷ bytes)) (row-line number r) ∙ sym (append_assoc word (32 ∷ join_with_byte 32 (number ∷ row_words r)) (10 ∷ []))
+hit-line word number r = append_assoc word (32 ∷ number) (numbers_line r) ∙ ap (λ bytes. word ++ (32 ∷ bytes))
+    (row-line number r) ∙ sym (append_assoc word (32 ∷ join_with_byte 32 (number ∷ row_words r)) (10 ∷ []))
 
 -- two rows behind a word
 spaced-append : (xs ys : List (List ℕ)) → flat_map (λ w. 32 ∷ w) (xs ++ ys) ≡ flat_map (λ w. 32 ∷ w) xs ++ flat_map (λ w. 32 ∷ w) ys
@@ -39,5 +40,6 @@ pub pair-line : (word : List ℕ) (r s : Row) → ((word ++ row_numbers r) ++ ro
 pair-line word r s =
     ap (λ bytes. bytes ++ 10 ∷ [])
     (append_assoc word (row_numbers r) (row_numbers s)
-    ∙ ap (λ bytes. word ++ bytes) ((λ i. sym (numbers-spaced r.point (decimal r.value)) i ++ sym (numbers-spaced s.point (decimal s.value)) i) ∙ sym (spaced-append (row_words r) (row_words s)))
+    ∙ ap (λ bytes. word ++ bytes) ((λ i. sym (numbers-spaced r.point (decimal r.value)) i ++
+    sym (numbers-spaced s.point (decimal s.value)) i) ∙ sym (spaced-append (row_words r) (row_words s)))
     ∙ sym (joined word (row_words r ++ row_words s)))

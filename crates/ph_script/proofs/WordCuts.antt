@@ -82,7 +82,8 @@ pub no_word : (text : List ℕ) → position is_other text ≡ None → words te
 no_word text h = sym (words-blanks text) ∙ rw (position-none is_other text h, drop_length text) refl
 
 -- what stands behind the blanks in front
-behind_blanks : (text rest : List ℕ) (start : ℕ) → position is_other text ≡ Some start → rest ≡ drop start text → (words text ≡ words rest) × (0 < position_or_len is_blank rest)
+behind_blanks : (text rest : List ℕ) (start : ℕ) → position is_other text ≡ Some start → rest ≡ drop start text →
+    (words text ≡ words rest) × (0 < position_or_len is_blank rest)
 behind_blanks text rest start h e =
     let p = position-some is_other text start h in
     let r : drop (position_or_len is_other text) text ≡ rest = rw p.0 (sym e) in
@@ -90,7 +91,8 @@ behind_blanks text rest start h e =
     (sym (words-blanks text) ∙ ap words r, subst (λ x. 0 < position_or_len is_blank x) r (first-other text below))
 
 -- the word there, and what stands behind it
-pub word_front : (text rest : List ℕ) (start end : ℕ) → position is_other text ≡ Some start → rest ≡ drop start text → position_or_len is_blank rest ≡ end → (words text ≡ take end rest ∷ words (drop end rest)) × (0 < end) × (end ≤ length rest)
+pub word_front : (text rest : List ℕ) (start end : ℕ) → position is_other text ≡ Some start → rest ≡ drop start text →
+    position_or_len is_blank rest ≡ end → (words text ≡ take end rest ∷ words (drop end rest)) × (0 < end) × (end ≤ length rest)
 word_front text rest start end h e k =
     let b = behind_blanks text rest start h e in
     let some : 0 < end = omega (arith, b.1, k) in
@@ -117,7 +119,8 @@ words-blank : (text : List ℕ) (at : ℕ) → at < length text → is_blank (ge
 words-blank text at l blank = sym (ap words (drop_more text at 0 l) ∙ rw blank refl)
 
 -- a number at the front of a text
-pub number_front : (text : List ℕ) (end : ℕ) (s : Short) → IsNumberAt text 0 end s → (end ≡ position_or_len is_blank text) × (end ≤ length text) × IsShort (take end text) s
+pub number_front : (text : List ℕ) (end : ℕ) (s : Short) → IsNumberAt text 0 end s →
+    (end ≡ position_or_len is_blank text) × (end ≤ length text) × IsShort (take end text) s
 number_front text end s h =
     let e : h.count ≡ end = omega (arith, h.reaches) in
     (sym (h.ends ∙ e), h.within, subst (λ n. IsShort (take n text) s) e h.number)
@@ -134,7 +137,8 @@ next_number text from end next s h e =
     ] in
     record {
       word = word;
-      first = words-word (drop from text) h.count h.ends h.some ∙ ap (λ rest. word ∷ words rest) (drop-drop h.count from text ∙ ap (λ i. drop i text) h.reaches) ∙ ap (λ ws. word ∷ ws) (sym left);
+      first = words-word (drop from text) h.count h.ends h.some ∙ ap (λ rest. word ∷ words rest)
+          (drop-drop h.count from text ∙ ap (λ i. drop i text) h.reaches) ∙ ap (λ ws. word ∷ ws) (sym left);
       number = h.number;
     }
 

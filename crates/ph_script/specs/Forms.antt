@@ -1,16 +1,24 @@
 -- The forms of the code's table in the definitions, and the search among forms.
 use Rattle.std.specs.Prelude.{◌≡◌, ℕ, ◌+◌, ◌-◌, ◌^◌, ◌==◌, true, false, if◌then◌else◌, List, [], ◌∷◌, ◌++◌, length, replicate, take, drop, codes, bytes_eq, ℤ}
 use Rattle.std.specs.Cmp.Lexicographic.{pointwise}
-use Rattle.ph_specs.specs.Command.{Command as Asked, Place as Asks, Form as Spelling, Reading, form, read_form, number_fits, fixed_fits, count, value, radius, kinds, fixed, coordinates, number_at, first_word, kind_of, slot_of}
-use Rattle.ph_specs.specs.Command.Command.{Begin as AskBegin, Put as AskPut, Get as AskGet, Del as AskDel, Relocate as AskRelocate, Count as AskCount, Clear as AskClear, Window as AskWindow, Cursor as AskCursor, Page as AskPage, Near as AskNear, Within as AskWithin, Overlap as AskOverlap, Inside as AskInside, Covers as AskCovers, Save as AskSave, Load as AskLoad, Import as AskImport, Export as AskExport, Statistics as AskStatistics, Select as AskSelect, Compare as AskCompare, Join as AskJoin, Combine as AskCombine, Keep as AskKeep, Back as AskBack}
+use Rattle.ph_specs.specs.Command.{Command as Asked, Place as Asks, Form as Spelling, Reading, form, read_form, number_fits, fixed_fits}
+use Rattle.ph_specs.specs.Command.{count, value, radius, kinds, fixed, coordinates, number_at, first_word, kind_of, slot_of}
+use Rattle.ph_specs.specs.Command.Command.{Begin as AskBegin, Put as AskPut, Get as AskGet, Del as AskDel, Relocate as AskRelocate, Count as AskCount}
+use Rattle.ph_specs.specs.Command.Command.{Clear as AskClear, Window as AskWindow, Cursor as AskCursor, Page as AskPage, Near as AskNear}
+use Rattle.ph_specs.specs.Command.Command.{Within as AskWithin, Overlap as AskOverlap, Inside as AskInside, Covers as AskCovers, Save as AskSave}
+use Rattle.ph_specs.specs.Command.Command.{Load as AskLoad, Import as AskImport, Export as AskExport, Statistics as AskStatistics, Select as AskSelect}
+use Rattle.ph_specs.specs.Command.Command.{Compare as AskCompare, Join as AskJoin, Combine as AskCombine, Keep as AskKeep, Back as AskBack}
 use Rattle.ph_specs.specs.Command.Place.{Coordinate as AsksCoordinate, Below, CursorName, FileName as AsksFileName, OneOf}
 use Rattle.ph_script.specs.declared.command.Bad.{Bad}
 use Rattle.ph_script.specs.declared.command.Bad.TheVariants.{Word as BadWord, Count as BadCount, Number as BadNumber, Name as BadName}
 use Rattle.ph_script.specs.Meaning.{bad_reply}
 use Rattle.ph_script.specs.declared.forms.Verb.{Verb}
-use Rattle.ph_script.specs.declared.forms.Verb.TheVariants.{Open, OpenBits, OpenMax, OpenBitsMax, Put, Get, Del, Relocate, Count, Clear, Window, Cursor, Page, Near, Within, Overlap, Inside, Covers, Save, Load, Import, ImportHeader, Export, Stats, Select, Same, Join, Combine, Keep, Back}
+use Rattle.ph_script.specs.declared.forms.Verb.TheVariants.{Open, OpenBits, OpenMax, OpenBitsMax, Put, Get, Del, Relocate, Count, Clear, Window}
+use Rattle.ph_script.specs.declared.forms.Verb.TheVariants.{Cursor, Page, Near, Within, Overlap, Inside, Covers, Save, Load, Import}
+use Rattle.ph_script.specs.declared.forms.Verb.TheVariants.{ImportHeader, Export, Stats, Select, Same, Join, Combine, Keep, Back}
 use Rattle.ph_script.specs.declared.forms.Places.{Places}
-use Rattle.ph_script.specs.declared.forms.Places.TheVariants.{Coordinates, UpTo as AllUpTo, Name as AllName, FileName as AllFileName, Fixed as AllFixed, Either as AllEither}
+use Rattle.ph_script.specs.declared.forms.Places.TheVariants.{Coordinates, UpTo as AllUpTo, Name as AllName}
+use Rattle.ph_script.specs.declared.forms.Places.TheVariants.{FileName as AllFileName, Fixed as AllFixed, Either as AllEither}
 use Rattle.ph_script.specs.declared.forms.Place.{Place}
 use Rattle.ph_script.specs.declared.forms.Place.TheVariants.{Coordinate, UpTo, Name, FileName, Fixed, Either}
 use Rattle.ph_script.specs.declared.forms.Form.{Form}

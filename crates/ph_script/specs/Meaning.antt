@@ -1,16 +1,26 @@
 -- What the commands and replies of the code are in the definitions.
 use Rattle.std.specs.Prelude.{◌^◌, List, map, ℤ, pos, Option, Some, None, Result, Ok, Err}
 use Rattle.ph_specs.specs.Command.{Command as Asked, Reading}
-use Rattle.ph_specs.specs.Command.Command.{Begin as AskBegin, Put as AskPut, Get as AskGet, Del as AskDel, Relocate as AskRelocate, Count as AskCount, Clear as AskClear, Window as AskWindow, Cursor as AskCursor, Page as AskPage, Near as AskNear, Within as AskWithin, Overlap as AskOverlap, Inside as AskInside, Covers as AskCovers, Save as AskSave, Load as AskLoad, Import as AskImport, Export as AskExport, Statistics as AskStatistics, Select as AskSelect, Compare as AskCompare, Join as AskJoin, Combine as AskCombine, Keep as AskKeep, Back as AskBack}
+use Rattle.ph_specs.specs.Command.Command.{Begin as AskBegin, Put as AskPut, Get as AskGet, Del as AskDel, Relocate as AskRelocate, Count as AskCount}
+use Rattle.ph_specs.specs.Command.Command.{Clear as AskClear, Window as AskWindow, Cursor as AskCursor, Page as AskPage, Near as AskNear}
+use Rattle.ph_specs.specs.Command.Command.{Within as AskWithin, Overlap as AskOverlap, Inside as AskInside, Covers as AskCovers, Save as AskSave}
+use Rattle.ph_specs.specs.Command.Command.{Load as AskLoad, Import as AskImport, Export as AskExport, Statistics as AskStatistics, Select as AskSelect}
+use Rattle.ph_specs.specs.Command.Command.{Compare as AskCompare, Join as AskJoin, Combine as AskCombine, Keep as AskKeep, Back as AskBack}
 use Rattle.ph_specs.specs.Reply.{Reply as Answer}
 use Rattle.ph_script.specs.declared.coords.Coord.{Coord}
 use Rattle.ph_script.specs.declared.coords.Coord.TheVariants.{Whole, Far}
 use Rattle.ph_script.specs.declared.command.Command.{Command}
-use Rattle.ph_script.specs.declared.command.Command.TheVariants.{Begin, Put, Get, Del, Relocate, Count, Clear, Window, Cursor, Page, Near, Within, Overlap, Inside, Covers, Save, Load, Import, Export, Stats, Select, Same as SameSlots, Join, Combine, Keep, Back}
+use Rattle.ph_script.specs.declared.command.Command.TheVariants.{Begin, Put, Get, Del, Relocate, Count, Clear, Window, Cursor, Page, Near}
+use Rattle.ph_script.specs.declared.command.Command.TheVariants.{Within, Overlap, Inside, Covers, Save, Load, Import, Export, Stats}
+use Rattle.ph_script.specs.declared.command.Command.TheVariants.{Select, Same as SameSlots, Join, Combine, Keep, Back}
 use Rattle.ph_script.specs.declared.command.Bad.{Bad}
 use Rattle.ph_script.specs.declared.command.Bad.TheVariants.{Word, Count as BadCount, Number, Name}
 use Rattle.ph_script.specs.declared.reply.Reply.{Reply}
-use Rattle.ph_script.specs.declared.reply.Reply.TheVariants.{Opened, New, Old, Value, Absent, Gone, Moved, Taken, Rows, Cleared, End, More, Ready, Saved, Loaded, Imported, Exported, Using, Same, Differ, Combined, Keeping, WentBack, ErrorLong, ErrorWord, ErrorCount, ErrorNumber, ErrorName, ErrorDims, ErrorKind, ErrorRange, ErrorReversed, ErrorCursor, ErrorCursors, ErrorFile, ErrorFull, ErrorPast, BadMagic, BadHeader, BadDims, BadShort, BadNode, BadExtra, BadFields, BadNumber, BadRange, BadReversed}
+use Rattle.ph_script.specs.declared.reply.Reply.TheVariants.{Opened, New, Old, Value, Absent, Gone, Moved, Taken, Rows, Cleared, End, More, Ready, Saved}
+use Rattle.ph_script.specs.declared.reply.Reply.TheVariants.{Loaded, Imported, Exported, Using, Same, Differ, Combined, Keeping, WentBack, ErrorLong}
+use Rattle.ph_script.specs.declared.reply.Reply.TheVariants.{ErrorWord, ErrorCount, ErrorNumber, ErrorName, ErrorDims, ErrorKind, ErrorRange, ErrorReversed}
+use Rattle.ph_script.specs.declared.reply.Reply.TheVariants.{ErrorCursor, ErrorCursors, ErrorFile, ErrorFull, ErrorPast, BadMagic, BadHeader, BadDims}
+use Rattle.ph_script.specs.declared.reply.Reply.TheVariants.{BadShort, BadNode, BadExtra, BadFields, BadNumber, BadRange, BadReversed}
 
 -- a coordinate; one that is far stands for each number outside of 64 bits
 abbrev pub number_of_coord : Coord → ℤ

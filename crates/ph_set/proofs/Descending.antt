@@ -16,9 +16,11 @@ use Rattle.ph_node.specs.Merge.{addr_at}
 use Rattle.ph_specs.specs.WorkSets.{seen_nodes}
 use Rattle.ph_set.specs.Parts.{IsPart, openings, part_rows, part_nodes, rows_in, nodes_in, rows_on, nodes_on, behind, stretch}
 use Rattle.ph_specs.proofs.laws.Combined.{AreParted}
-use Rattle.ph_set.proofs.Parting.{IsRowAt, entry_nodes, part-some, rows-first, rows-append, nodes-first, nodes-append, behind-rows, rows-below, rows-from, entry-holds, parted-by, behind-part}
+use Rattle.ph_set.proofs.Parting.{IsRowAt, entry_nodes, part-some, rows-first, rows-append, nodes-first, nodes-append}
+use Rattle.ph_set.proofs.Parting.{behind-rows, rows-below, rows-from, entry-holds, parted-by, behind-part}
 use Rattle.ph_set.proofs.Sights.{seen-append, seen-first, seen-front, seen-back}
-use Rattle.ph_set.proofs.Walking.{entry_at, entry-there, whole-rows, whole-nodes, Rising, lawful-rising, IsNext, rising-behind, rising-front, IsCut, cut-entry, cut-between, stretch-step, stretch-front, stretch-rest}
+use Rattle.ph_set.proofs.Walking.{entry_at, entry-there, whole-rows, whole-nodes, Rising, lawful-rising, IsNext, rising-behind}
+use Rattle.ph_set.proofs.Walking.{rising-front, IsCut, cut-entry, cut-between, stretch-step, stretch-front, stretch-rest}
 
 Each-take : {X : Type 0} (P : X → Type 0) (k : ℕ) (xs : List X) → Each P xs → Each P (take k xs)
 Each-take P k [] h = nothing k
@@ -60,10 +62,14 @@ module _ (w d : ℕ) (ds : List ℕ) (n : PlainNode) (h : IsPart w d ds (node n)
   rising = lawful-rising d n.level 0 n.chain h.held.2
 
   -- an entry, of which some of the rows have the address
-  pub entry-seen : (all : Bool) (e : Entry) (rs : List Row) → IsLawfulEntry d n.level e → 1 ≤ length rs → Each (IsRowAt w n.level e.addr ds) rs → seen_nodes w all rs (entry_nodes w n.level (behind n.level ds e) e.what) ≡ openings e.what + seen_nodes w all rs (part_nodes w (behind n.level ds e) e.what)
+  pub entry-seen : (all : Bool) (e : Entry) (rs : List Row) → IsLawfulEntry d n.level e → 1 ≤ length rs →
+      Each (IsRowAt w n.level e.addr ds) rs →
+      seen_nodes w all rs (entry_nodes w n.level (behind n.level ds e) e.what) ≡ openings e.what + seen_nodes w all rs
+      (part_nodes w (behind n.level ds e) e.what)
   entry-seen all e rs k some at = by_what e.what refl
     where
-      by_what : (o : What) → e.what ≡ o → seen_nodes w all rs (entry_nodes w n.level (behind n.level ds e) o) ≡ openings o + seen_nodes w all rs (part_nodes w (behind n.level ds e) o)
+      by_what : (o : What) → e.what ≡ o → seen_nodes w all rs (entry_nodes w n.level (behind n.level ds e) o) ≡
+          openings o + seen_nodes w all rs (part_nodes w (behind n.level ds e) o)
       by_what (value v) q = omega arith
       by_what (node m) q =
           let low : m.level < n.level = (subst (IsLawfulWhat d n.level e.body) q k.held).0 in
@@ -71,11 +77,13 @@ module _ (w d : ℕ) (ds : List ℕ) (n : PlainNode) (h : IsPart w d ds (node n)
           (entry-holds w d n.level ds h.held.0 above h.small e m k q (omega (arith, low)) rs some at)
 
   -- the rows below a number of the addresses, and from one on
-  below : (a : ℕ) (p : List Entry) → Each (IsLawfulEntry d n.level) p → Each (λ f. f.addr < a) p → Each (λ r. IsUnder w (n.level + 1) ds r × (row_address w n.level r < a)) (rows_in w n.level ds p)
+  below : (a : ℕ) (p : List Entry) → Each (IsLawfulEntry d n.level) p → Each (λ f. f.addr < a) p →
+      Each (λ r. IsUnder w (n.level + 1) ds r × (row_address w n.level r < a)) (rows_in w n.level ds p)
   below a p k m =
       Each-each (rows_in w n.level ds p) (λ r q. (q.under, q.address)) (rows-below w d n.level ds h.held.0 above h.small a p k m)
 
-  from : (a : ℕ) (p : List Entry) → Each (IsLawfulEntry d n.level) p → Each (λ f. a ≤ f.addr) p → Each (λ r. IsUnder w (n.level + 1) ds r × (a ≤ row_address w n.level r)) (rows_in w n.level ds p)
+  from : (a : ℕ) (p : List Entry) → Each (IsLawfulEntry d n.level) p → Each (λ f. a ≤ f.addr) p →
+      Each (λ r. IsUnder w (n.level + 1) ds r × (a ≤ row_address w n.level r)) (rows_in w n.level ds p)
   from a p k m =
       Each-each (rows_in w n.level ds p) (λ r q. (q.under, q.address)) (rows-from w d n.level ds h.held.0 above h.small a p k m)
 
@@ -132,25 +140,40 @@ module _ (w d : ℕ) (ds : List ℕ) (n : PlainNode) (h : IsPart w d ds (node n)
       at-here = subst (λ b. Each (IsRowAt w n.level b ds) ys) (sym e) at
 
       -- the nodes that may be opened: those of the entries in front, at the address and behind
-      pub over-seen : (all : Bool) → seen_nodes w all ys (part_nodes w ds (node n)) ≡ seen_nodes w all ys (nodes_in w n.level ds front) + (openings here.what + seen_nodes w all ys (part_nodes w (behind n.level ds here) here.what)) + seen_nodes w all ys (nodes_in w n.level ds back)
+      pub over-seen : (all : Bool) →
+          seen_nodes w all ys (part_nodes w ds (node n)) ≡ seen_nodes w all ys (nodes_in w n.level ds front) +
+          (openings here.what + seen_nodes w all ys (part_nodes w (behind n.level ds here) here.what)) + seen_nodes w
+          all ys (nodes_in w n.level ds back)
       over-seen all =
-          let a1 : seen_nodes w all ys (part_nodes w ds (node n)) ≡ seen_nodes w all ys (nodes_in w n.level ds front) + seen_nodes w all ys (entry_nodes w n.level (behind n.level ds here) here.what ++ nodes_in w n.level ds back) =
-          ap (seen_nodes w all ys) over-nodes ∙ seen-append w all ys (nodes_in w n.level ds front) (entry_nodes w n.level (behind n.level ds here) here.what ++ nodes_in w n.level ds back) in
-          let a2 : seen_nodes w all ys (entry_nodes w n.level (behind n.level ds here) here.what ++ nodes_in w n.level ds back) ≡ seen_nodes w all ys (entry_nodes w n.level (behind n.level ds here) here.what) + seen_nodes w all ys (nodes_in w n.level ds back) =
+          let a1 : seen_nodes w all ys (part_nodes w ds (node n)) ≡
+          seen_nodes w all ys (nodes_in w n.level ds front) + seen_nodes w all ys
+          (entry_nodes w n.level (behind n.level ds here) here.what ++ nodes_in w n.level ds back) =
+          ap (seen_nodes w all ys) over-nodes ∙ seen-append w all ys (nodes_in w n.level ds front)
+          (entry_nodes w n.level (behind n.level ds here) here.what ++ nodes_in w n.level ds back) in
+          let a2 : seen_nodes w all ys (entry_nodes w n.level (behind n.level ds here) here.what ++
+          nodes_in w n.level ds back) ≡ seen_nodes w all ys
+          (entry_nodes w n.level (behind n.level ds here) here.what) + seen_nodes w all ys (nodes_in w n.level ds back) =
           seen-append w all ys (entry_nodes w n.level (behind n.level ds here) here.what) (nodes_in w n.level ds back) in
-          let a3 : seen_nodes w all ys (entry_nodes w n.level (behind n.level ds here) here.what) ≡ openings here.what + seen_nodes w all ys (part_nodes w (behind n.level ds here) here.what) = entry-seen all here ys (lawful-at i l) some at-here in
+          let a3 : seen_nodes w all ys (entry_nodes w n.level (behind n.level ds here) here.what) ≡
+          openings here.what + seen_nodes w all ys (part_nodes w (behind n.level ds here) here.what) =
+          entry-seen all here ys (lawful-at i l) some at-here in
           omega (arith, a1, a2, a3)
 
       -- the work of a descent at the entry, with what lists the entries beside it
       pub over-work : (all other : Bool) (ms : List Placed)
-          → seen_nodes w all [] (nodes_in w n.level ds front) + (openings here.what + (seen_nodes w all ys (part_nodes w (behind n.level ds here) here.what) + seen_nodes w other (part_rows w (behind n.level ds here) here.what) ms)) + seen_nodes w all [] (nodes_in w n.level ds back)
+          → seen_nodes w all [] (nodes_in w n.level ds front) +
+          (openings here.what + (seen_nodes w all ys (part_nodes w (behind n.level ds here) here.what) +
+          seen_nodes w other (part_rows w (behind n.level ds here) here.what) ms)) + seen_nodes w all []
+          (nodes_in w n.level ds back)
           ≤ seen_nodes w all ys (part_nodes w ds (node n)) + seen_nodes w other (part_rows w ds (node n)) ms
       over-work all other ms =
           let b1 : seen_nodes w other (part_rows w (behind n.level ds here) here.what) ms ≤ seen_nodes w other (part_rows w ds (node n)) ms =
           subst (λ t. seen_nodes w other (part_rows w (behind n.level ds here) here.what) ms ≤ seen_nodes w other t ms) (sym over-rows)
           (seen-around w other (rows_in w n.level ds front) (part_rows w (behind n.level ds here) here.what) (rows_in w n.level ds back) ms) in
-          let b2 : seen_nodes w all [] (nodes_in w n.level ds front) ≤ seen_nodes w all ys (nodes_in w n.level ds front) = seen-front w all [] ys (nodes_in w n.level ds front) in
-          let b3 : seen_nodes w all [] (nodes_in w n.level ds back) ≤ seen_nodes w all ys (nodes_in w n.level ds back) = seen-front w all [] ys (nodes_in w n.level ds back) in
+          let b2 : seen_nodes w all [] (nodes_in w n.level ds front) ≤ seen_nodes w all ys
+          (nodes_in w n.level ds front) = seen-front w all [] ys (nodes_in w n.level ds front) in
+          let b3 : seen_nodes w all [] (nodes_in w n.level ds back) ≤ seen_nodes w all ys
+          (nodes_in w n.level ds back) = seen-front w all [] ys (nodes_in w n.level ds back) in
           omega (arith, over-seen all, b1, b2, b3)
 
     -- where no entry has the address
@@ -163,27 +186,37 @@ module _ (w d : ℕ) (ds : List ℕ) (n : PlainNode) (h : IsPart w d ds (node n)
 
       pub none-rows : part_rows w ds (node n) ≡ rows_in w n.level ds before ++ rows_in w n.level ds after
       none-rows =
-          sym (whole-rows w ds n (length (entries n)) refl) ∙ ap (rows_in w n.level ds) (stretch-rest 0 (length (entries n)) (entries n) (omega arith) ∙ cut-between i (entries n)) ∙ rows-append w n.level ds before after
+          sym (whole-rows w ds n (length (entries n)) refl) ∙
+          ap (rows_in w n.level ds) (stretch-rest 0 (length (entries n)) (entries n) (omega arith) ∙
+          cut-between i (entries n)) ∙ rows-append w n.level ds before after
 
       none-nodes : part_nodes w ds (node n) ≡ nodes_in w n.level ds before ++ nodes_in w n.level ds after
       none-nodes =
-          sym (whole-nodes w ds n (length (entries n)) refl) ∙ ap (nodes_in w n.level ds) (stretch-rest 0 (length (entries n)) (entries n) (omega arith) ∙ cut-between i (entries n)) ∙ nodes-append w n.level ds before after
+          sym (whole-nodes w ds n (length (entries n)) refl) ∙
+          ap (nodes_in w n.level ds) (stretch-rest 0 (length (entries n)) (entries n) (omega arith) ∙
+          cut-between i (entries n)) ∙ nodes-append w n.level ds before after
 
       pub none-front : AreParted w (rows_in w n.level ds before) ys
       none-front =
-          front-parted before (Each-stretch (IsLawfulEntry d n.level) 0 i (entries n) lawful) (subst (Each (λ f. f.addr < a)) (sym (stretch-front i (entries n))) cut.front)
+          front-parted before (Each-stretch (IsLawfulEntry d n.level) 0 i (entries n) lawful)
+          (subst (Each (λ f. f.addr < a)) (sym (stretch-front i (entries n))) cut.front)
 
       pub none-back : AreParted w ys (rows_in w n.level ds after)
       none-back =
           back-parted after (Each-stretch (IsLawfulEntry d n.level) i (length (entries n)) (entries n) lawful)
           (subst (Each (λ f. a + 1 ≤ f.addr)) (sym (stretch-rest i (length (entries n)) (entries n) (omega arith))) cut.back)
 
-      pub none-work : (all : Bool) → seen_nodes w all [] (nodes_in w n.level ds before) + seen_nodes w all [] (nodes_in w n.level ds after) ≤ seen_nodes w all ys (part_nodes w ds (node n))
+      pub none-work : (all : Bool) →
+          seen_nodes w all [] (nodes_in w n.level ds before) + seen_nodes w all [] (nodes_in w n.level ds after) ≤
+          seen_nodes w all ys (part_nodes w ds (node n))
       none-work all =
-          let a1 : seen_nodes w all ys (part_nodes w ds (node n)) ≡ seen_nodes w all ys (nodes_in w n.level ds before) + seen_nodes w all ys (nodes_in w n.level ds after) =
+          let a1 : seen_nodes w all ys (part_nodes w ds (node n)) ≡
+          seen_nodes w all ys (nodes_in w n.level ds before) + seen_nodes w all ys (nodes_in w n.level ds after) =
           ap (seen_nodes w all ys) none-nodes ∙ seen-append w all ys (nodes_in w n.level ds before) (nodes_in w n.level ds after) in
-          let b2 : seen_nodes w all [] (nodes_in w n.level ds before) ≤ seen_nodes w all ys (nodes_in w n.level ds before) = seen-front w all [] ys (nodes_in w n.level ds before) in
-          let b3 : seen_nodes w all [] (nodes_in w n.level ds after) ≤ seen_nodes w all ys (nodes_in w n.level ds after) = seen-front w all [] ys (nodes_in w n.level ds after) in
+          let b2 : seen_nodes w all [] (nodes_in w n.level ds before) ≤ seen_nodes w all ys
+          (nodes_in w n.level ds before) = seen-front w all [] ys (nodes_in w n.level ds before) in
+          let b3 : seen_nodes w all [] (nodes_in w n.level ds after) ≤ seen_nodes w all ys
+          (nodes_in w n.level ds after) = seen-front w all [] ys (nodes_in w n.level ds after) in
           omega (arith, a1, b2, b3)
 
 -- ---- entries in stretches
@@ -272,19 +305,23 @@ next-behind a i q es r l b h =
     at-most : (k : ℕ) → q ≤ i → addr_at es q < addr_at es i + 1
     at-most k m =
         elim (cases_lt q i) [
-          | inl o ↦ let p : addr_at es q < addr_at es i = each-at (λ f. f.addr < addr_at es i) i q es (rising-front 0 es i r l) o (omega (arith, o, l)) in omega (arith, p)
+          | inl o ↦ let p : addr_at es q < addr_at es i = each-at (λ f. f.addr < addr_at es i) i q es
+              (rising-front 0 es i r l) o (omega (arith, o, l)) in omega (arith, p)
           | inr o ↦ let e : q ≡ i = omega (arith, m, o) in subst (λ t. addr_at es t < addr_at es i + 1) (sym e) (omega arith)
         ]
 
-module _ (w d : ℕ) (ds dt : List ℕ) (n m : PlainNode) (h : IsPart w d ds (node n)) (k : IsPart w d dt (node m)) (same : m.level ≡ n.level) (agree : from_place (n.level + 1) dt ≡ from_place (n.level + 1) ds) where
+module _ (w d : ℕ) (ds dt : List ℕ) (n m : PlainNode) (h : IsPart w d ds (node n)) (k : IsPart w d dt (node m))
+    (same : m.level ≡ n.level) (agree : from_place (n.level + 1) dt ≡ from_place (n.level + 1) ds) where
   -- entries below an address, beside those of the other node from it on
-  parted : (a : ℕ) (p q : List Entry) → Each (IsLawfulEntry d n.level) p → Each (IsLawfulEntry d m.level) q → Each (λ f. f.addr < a) p → Each (λ f. a ≤ f.addr) q → AreParted w (rows_in w n.level ds p) (rows_in w m.level dt q)
+  parted : (a : ℕ) (p q : List Entry) → Each (IsLawfulEntry d n.level) p → Each (IsLawfulEntry d m.level) q →
+      Each (λ f. f.addr < a) p → Each (λ f. a ≤ f.addr) q → AreParted w (rows_in w n.level ds p) (rows_in w m.level dt q)
   parted a p q lp lq hp hq =
       parted-by w n.level a ds (rows_in w n.level ds p) (rows_in w m.level dt q) h.held.0 (below w d ds n h a p lp hp)
       (Each-each (rows_in w m.level dt q) (λ r u. turn r u) (from w d dt m k a q lq hq))
     where
       turn : (r : Row) → IsUnder w (m.level + 1) dt r × (a ≤ row_address w m.level r) → IsUnder w (n.level + 1) ds r × (a ≤ row_address w n.level r)
-      turn r = subst (λ c. IsUnder w (c + 1) dt r × (a ≤ row_address w c r) → IsUnder w (n.level + 1) ds r × (a ≤ row_address w n.level r)) (sym same) (λ u. (u.0 ∙ agree, u.1))
+      turn r = subst (λ c. IsUnder w (c + 1) dt r × (a ≤ row_address w c r) → IsUnder w (n.level + 1) ds r ×
+          (a ≤ row_address w n.level r)) (sym same) (λ u. (u.0 ∙ agree, u.1))
 
   module _ (i j : ℕ) where
     abbrev lefts : List Row
@@ -301,14 +338,17 @@ module _ (w d : ℕ) (ds dt : List ℕ) (n m : PlainNode) (h : IsPart w d ds (no
       pub passed-first : AreParted w passed rights
       passed-first =
           parted (addr_at (entries m) j) (stretch i q (entries n)) (stretch j (length (entries m)) (entries m))
-          (Each-stretch (IsLawfulEntry d n.level) i q (entries n) (lawful w d ds n h)) (Each-stretch (IsLawfulEntry d m.level) j (length (entries m)) (entries m) (lawful w d dt m k))
+          (Each-stretch (IsLawfulEntry d n.level) i q (entries n) (lawful w d ds n h))
+          (Each-stretch (IsLawfulEntry d m.level) j (length (entries m)) (entries m) (lawful w d dt m k))
           (each-front (λ f. f.addr < addr_at (entries m) j) i q (entries n) next.front l) (rest-from 0 (entries m) j (rising w d dt m k) lj)
 
       pub passed-rows : lefts ≡ passed ++ rows_on w n.level ds (entries n) q
       passed-rows = rows-on w n.level ds (entries n) i q l next.within
 
       -- the work of what is passed, and of the other node's entries beside what is left
-      pub passed-work : (keep : Bool) → seen_nodes w keep [] (nodes_in w n.level ds (stretch i q (entries n))) + seen_nodes w keep rights (nodes_on w n.level ds (entries n) q) ≤ seen_nodes w keep rights (nodes_on w n.level ds (entries n) i)
+      pub passed-work : (keep : Bool) →
+          seen_nodes w keep [] (nodes_in w n.level ds (stretch i q (entries n))) + seen_nodes w keep rights
+          (nodes_on w n.level ds (entries n) q) ≤ seen_nodes w keep rights (nodes_on w n.level ds (entries n) i)
       passed-work keep =
           let mine = nodes_in w n.level ds (stretch i q (entries n)) in
           let rest = nodes_on w n.level ds (entries n) q in
@@ -319,7 +359,8 @@ module _ (w d : ℕ) (ds dt : List ℕ) (n m : PlainNode) (h : IsPart w d ds (no
 
       pub passed-other : (keep : Bool) (ms : List Placed) → seen_nodes w keep (rows_on w n.level ds (entries n) q) ms ≤ seen_nodes w keep lefts ms
       passed-other keep ms =
-          subst (λ t. seen_nodes w keep (rows_on w n.level ds (entries n) q) ms ≤ seen_nodes w keep t ms) (sym passed-rows) (seen-back w keep passed (rows_on w n.level ds (entries n) q) ms)
+          subst (λ t. seen_nodes w keep (rows_on w n.level ds (entries n) q) ms ≤ seen_nodes w keep t ms)
+          (sym passed-rows) (seen-back w keep passed (rows_on w n.level ds (entries n) q) ms)
 
     -- two entries at one address
     module _ (li : i < length (entries n)) (lj : j < length (entries m)) (e : addr_at (entries m) j ≡ addr_at (entries n) i) where
@@ -349,7 +390,8 @@ module _ (w d : ℕ) (ds dt : List ℕ) (n m : PlainNode) (h : IsPart w d ds (no
       one-at = subst (λ b. Each (IsRowAt w n.level b ds) theirs) e (Each-each theirs (turned w other.addr n.level m.level ds dt same agree) other-at)
 
       other-some : 1 ≤ length theirs
-      other-some = part-some w d (behind m.level dt other) other.what (behind-part w d m.level dt k.held.0 (record { long = k.long; zeros = k.held.1 }) k.small other other-lawful)
+      other-some = part-some w d (behind m.level dt other) other.what
+          (behind-part w d m.level dt k.held.0 (record { long = k.long; zeros = k.held.1 }) k.small other other-lawful)
 
       pub theirs-first : AreParted w theirs (rows_on w n.level ds (entries n) (i + 1))
       theirs-first =
@@ -360,13 +402,24 @@ module _ (w d : ℕ) (ds dt : List ℕ) (n m : PlainNode) (h : IsPart w d ds (no
       both-rows = rows-next w m.level dt (entries m) j lj
 
       -- the work of the one entry beside the other, and of what is left beside the other's rest
-      pub both-work : (keep : Bool) → openings one.what + seen_nodes w keep theirs (part_nodes w (behind n.level ds one) one.what) + seen_nodes w keep (rows_on w m.level dt (entries m) (j + 1)) (nodes_on w n.level ds (entries n) (i + 1)) ≤ seen_nodes w keep rights (nodes_on w n.level ds (entries n) i)
+      pub both-work : (keep : Bool) →
+          openings one.what + seen_nodes w keep theirs (part_nodes w (behind n.level ds one) one.what) + seen_nodes w
+          keep (rows_on w m.level dt (entries m) (j + 1)) (nodes_on w n.level ds (entries n) (i + 1)) ≤ seen_nodes w
+          keep rights (nodes_on w n.level ds (entries n) i)
       both-work keep =
           let nodes = entry_nodes w n.level (behind n.level ds one) one.what in
           let rest = nodes_on w n.level ds (entries n) (i + 1) in
           let others = rows_on w m.level dt (entries m) (j + 1) in
-          let a : seen_nodes w keep rights (nodes_on w n.level ds (entries n) i) ≡ seen_nodes w keep rights nodes + seen_nodes w keep rights rest = ap (seen_nodes w keep rights) (nodes-next w n.level ds (entries n) i li) ∙ seen-append w keep rights nodes rest in
-          let b : seen_nodes w keep theirs nodes ≡ openings one.what + seen_nodes w keep theirs (part_nodes w (behind n.level ds one) one.what) = entry-seen w d ds n h keep one theirs (lawful-at w d ds n h i li) other-some one-at in
-          let c : seen_nodes w keep theirs nodes ≤ seen_nodes w keep rights nodes = subst (λ t. seen_nodes w keep theirs nodes ≤ seen_nodes w keep t nodes) (sym both-rows) (seen-front w keep theirs others nodes) in
-          let f : seen_nodes w keep others rest ≤ seen_nodes w keep rights rest = subst (λ t. seen_nodes w keep others rest ≤ seen_nodes w keep t rest) (sym both-rows) (seen-back w keep theirs others rest) in
+          let a : seen_nodes w keep rights (nodes_on w n.level ds (entries n) i) ≡ seen_nodes w keep rights nodes +
+          seen_nodes w keep rights rest = ap (seen_nodes w keep rights)
+          (nodes-next w n.level ds (entries n) i li) ∙ seen-append w keep rights nodes rest in
+          let b : seen_nodes w keep theirs nodes ≡ openings one.what + seen_nodes w keep theirs
+          (part_nodes w (behind n.level ds one) one.what) = entry-seen w d ds n h keep one theirs
+          (lawful-at w d ds n h i li) other-some one-at in
+          let c : seen_nodes w keep theirs nodes ≤ seen_nodes w keep rights nodes =
+          subst (λ t. seen_nodes w keep theirs nodes ≤ seen_nodes w keep t nodes) (sym both-rows)
+          (seen-front w keep theirs others nodes) in
+          let f : seen_nodes w keep others rest ≤ seen_nodes w keep rights rest =
+          subst (λ t. seen_nodes w keep others rest ≤ seen_nodes w keep t rest) (sym both-rows)
+          (seen-back w keep theirs others rest) in
           omega (arith, a, b, c, f)

@@ -17,7 +17,8 @@ use Rattle.ph_set.proofs.Walking.{entry_at, entry-is, whole-rows, whole-nodes}
 pub same-above : (c : ℕ) (xs ys : List ℕ) → from_place (c + 1) xs ≡ from_place (c + 1) ys → body_above c xs ≡ body_above c ys
 same-above c xs ys e = above-same c c xs ys (omega arith) e
 
-module _ (w d : ℕ) (known : List ℕ) (n : PlainNode) (h : IsPart w d (body_above n.level known) (node n)) (s : Spot) (at : IsSpot (entries n) s) (new : List ℕ) (made : new ≡ joined_digits n s known) where
+module _ (w d : ℕ) (known : List ℕ) (n : PlainNode) (h : IsPart w d (body_above n.level known) (node n)) (s : Spot)
+    (at : IsSpot (entries n) s) (new : List ℕ) (made : new ≡ joined_digits n s known) where
   abbrev above : List ℕ
   above = body_above n.level known
 
@@ -58,12 +59,16 @@ module _ (w d : ℕ) (known : List ℕ) (n : PlainNode) (h : IsPart w d (body_ab
     pub child-part : IsPart w d (body_above m.level new) (node m)
     child-part = subst (λ t. IsPart w d t (node m)) (sym child-whole) child-held
 
-    pub child-rows : (k : ℕ) → k ≡ length (entries m) → rows_in w m.level (body_above m.level new) (stretch 0 k (entries m)) ≡ part_rows w (joined_digits n s known) (what_at (entries n) s.place)
+    pub child-rows : (k : ℕ) → k ≡ length (entries m) →
+        rows_in w m.level (body_above m.level new) (stretch 0 k (entries m)) ≡ part_rows w (joined_digits n s known)
+        (what_at (entries n) s.place)
     child-rows k e =
         ap (λ t. rows_in w m.level t (stretch 0 k (entries m))) child-whole ∙ whole-rows w new m k e
         ∙ ap (λ t. part_rows w t (node m)) made ∙ ap (part_rows w (joined_digits n s known)) (sym o)
 
-    pub child-nodes : (k : ℕ) → k ≡ length (entries m) → nodes_in w m.level (body_above m.level new) (stretch 0 k (entries m)) ≡ part_nodes w (joined_digits n s known) (what_at (entries n) s.place)
+    pub child-nodes : (k : ℕ) → k ≡ length (entries m) →
+        nodes_in w m.level (body_above m.level new) (stretch 0 k (entries m)) ≡ part_nodes w (joined_digits n s known)
+        (what_at (entries n) s.place)
     child-nodes k e =
         ap (λ t. nodes_in w m.level t (stretch 0 k (entries m))) child-whole ∙ whole-nodes w new m k e
         ∙ ap (λ t. part_nodes w t (node m)) made ∙ ap (part_nodes w (joined_digits n s known)) (sym o)

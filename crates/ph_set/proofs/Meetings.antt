@@ -1,5 +1,6 @@
 -- What a descent of two trees lists where two parts meet, and how many nodes it may open there.
-use Rattle.std.proofs.Common.{◌≡◌, ◌≢◌, ℕ, ◌+◌, ◌*◌, ◌/◌, ◌%◌, ◌^◌, ◌<◌, ◌≤◌, Bool, true, false, List, [], ◌∷◌, ◌++◌, length, cond, inl, inr, refl, sym, ◌∙◌, ap, subst, arith, append_assoc}
+use Rattle.std.proofs.Common.{◌≡◌, ◌≢◌, ℕ, ◌+◌, ◌*◌, ◌/◌, ◌%◌, ◌^◌, ◌<◌, ◌≤◌, Bool, true, false, List, [], ◌∷◌, ◌++◌}
+use Rattle.std.proofs.Common.{length, cond, inl, inr, refl, sym, ◌∙◌, ap, subst, arith, append_assoc}
 use Rattle.std.specs.Prelude.{ℤ, Some, None, map, is_some, if◌then◌else◌}
 use Rattle.std.specs.List.{AllByRecursion as Each}
 use Rattle.std.proofs.lemmas.Bool.{cases_lt}
@@ -78,7 +79,11 @@ module _ (p : Plan) (d : ℕ) (dx dy : List ℕ) (ox oy : What) (h : IsPart p.wi
     apart-first l =
         combined-left-first p.width p.left p.both p.right xs ys
         (parted-by p.width t (number_at 0 t dy) dx xs ys inside
-        (Each-each xs (λ r u. (u.under, (let e : row_address p.width t r ≡ number_at 0 t dx = u.address in omega (arith, e, l, body-number 0 t dx, body-number 0 t dy)))) xs-at)
+        (Each-each xs (λ r u. (
+          u.under,
+          (let e : row_address p.width t r ≡ number_at 0 t dx = u.address in
+              omega (arith, e, l, body-number 0 t dx, body-number 0 t dy)),
+        )) xs-at)
         (Each-each ys (λ r u. (u.under, (let e : row_address p.width t r ≡ number_at 0 t dy = u.address in omega (arith, e)))) ys-at))
 
     pub apart-second : body_address t dy ≤ body_address t dx → kept_of p dx ox dy oy ≡ chosen p.right ys ++ chosen p.left xs
@@ -86,7 +91,11 @@ module _ (p : Plan) (d : ℕ) (dx dy : List ℕ) (ox oy : What) (h : IsPart p.wi
         let n : body_address t dx ≢ body_address t dy = other_address t dx dy (h.long ∙ sym k.long) q.0.agree q.0.differ in
         combined-right-first p.width p.left p.both p.right xs ys
         (parted-by p.width t (number_at 0 t dx) dx ys xs inside
-        (Each-each ys (λ r u. (u.under, (let e : row_address p.width t r ≡ number_at 0 t dy = u.address in omega (arith, e, l, n, body-number 0 t dx, body-number 0 t dy)))) ys-at)
+        (Each-each ys (λ r u. (
+          u.under,
+          (let e : row_address p.width t r ≡ number_at 0 t dy = u.address in
+              omega (arith, e, l, n, body-number 0 t dx, body-number 0 t dy)),
+        )) ys-at)
         (Each-each xs (λ r u. (u.under, (let e : row_address p.width t r ≡ number_at 0 t dx = u.address in omega (arith, e)))) xs-at))
 
 -- ---- all entries of two nodes at one level
@@ -171,7 +180,8 @@ both-values p dx dy v u q =
     at_point : (x : List ℤ) → kept p (row x v ∷ []) (row x u ∷ []) ≡ chosen p.both (row x v ∷ [])
     at_point x =
         let n : before p.width x x ≡ false = before_irrefl p.width x in
-        ap (λ t. t ++ (chosen (if has (row x u ∷ []) x then p.both else p.left) (row x v ∷ []) ++ chosen p.right (cond (before p.width x x) (row x u ∷ []) []))) (none p.right (before p.width x x) (row x u) n)
+        ap (λ t. t ++ (chosen (if has (row x u ∷ []) x then p.both else p.left) (row x v ∷ []) ++
+        chosen p.right (cond (before p.width x x) (row x u ∷ []) []))) (none p.right (before p.width x x) (row x u) n)
         ∙ ap (λ t. chosen (if has (row x u ∷ []) x then p.both else p.left) (row x v ∷ []) ++ t) (none p.right (before p.width x x) (row x u) n)
         ∙ ap (λ t. chosen (if is_some (if t then Some u else None) then p.both else p.left) (row x v ∷ []) ++ []) (test_from_same x x refl)
         ∙ nothing (chosen p.both (row x v ∷ []))

@@ -128,7 +128,8 @@ module _ (p : Plan) {d : ℕ} {a b : SideOf PlainNode} {i j : ℕ} {s t : Spot} 
         let passed = stretch_rows p.width m dt j q in
         let before : j ≤ q = omega (arith, right-ahead) in
         ap (kept p (lefts i)) (passed-rows p.width d dt ds m n k h (sym same) agreed j i q before li right-next)
-        ∙ combined-split p.width p.left p.both p.right [] (lefts i) passed (rights q) tt (passed-first p.width d dt ds m n k h (sym same) agreed j i q before li right-next)
+        ∙ combined-split p.width p.left p.both p.right [] (lefts i) passed (rights q) tt
+        (passed-first p.width d dt ds m n k h (sym same) agreed j i q before li right-next)
 
     pub right-passed-work : seen_nodes p.width p.right [] (stretch_nodes p.width m dt j q) + work p (lefts i) (ns i) (rights q) (ms q)
         ≤ work p (lefts i) (ns i) (rights j) (ms j)
@@ -193,9 +194,11 @@ module _ (p : Plan) {d : ℕ} {a b : SideOf PlainNode} {i j : ℕ} {s t : Spot} 
         let y = part_rows p.width (behind m.level dt other) other.what in
         let a = both-work p.width d ds dt n m h k same (sym agree) i j li lj at-one p.left in
         let b = both-work p.width d dt ds m n k h (sym same) agreed j i lj li (sym at-one) p.right in
-        let u : seen_nodes p.width p.left (part_rows p.width new2 o2) (part_nodes p.width new1 o1) ≡ seen_nodes p.width p.left y (part_nodes p.width (behind n.level ds one) one.what) =
+        let u : seen_nodes p.width p.left (part_rows p.width new2 o2) (part_nodes p.width new1 o1) ≡
+        seen_nodes p.width p.left y (part_nodes p.width (behind n.level ds one) one.what) =
         ap (λ z. seen_nodes p.width p.left z (part_nodes p.width new1 o1)) rows-other ∙ ap (seen_nodes p.width p.left y) nodes-one in
-        let v : seen_nodes p.width p.right (part_rows p.width new1 o1) (part_nodes p.width new2 o2) ≡ seen_nodes p.width p.right x (part_nodes p.width (behind m.level dt other) other.what) =
+        let v : seen_nodes p.width p.right (part_rows p.width new1 o1) (part_nodes p.width new2 o2) ≡
+        seen_nodes p.width p.right x (part_nodes p.width (behind m.level dt other) other.what) =
         ap (λ z. seen_nodes p.width p.right z (part_nodes p.width new2 o2)) rows-one ∙ ap (seen_nodes p.width p.right x) nodes-other in
         let f : openings (what_at (entries n) s.place) ≡ openings one.what = ap (λ z. openings (what_at (entries n) z)) pair.left-place in
         let g : openings (what_at (entries m) t.place) ≡ openings other.what = ap (λ z. openings (what_at (entries m) z)) pair.right-place in

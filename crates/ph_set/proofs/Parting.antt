@@ -8,7 +8,8 @@ use Rattle.ph_specs.specs.Region.{is_in}
 use Rattle.ph_specs.specs.Shape.{row_address}
 use Rattle.ph_specs.specs.WorkSets.{Placed, placed_below}
 use Rattle.ph_specs.proofs.lemmas.Grouped.{same_place}
-use Rattle.ph_specs.proofs.lemmas.Joined.{offsets, from_place, number_at, offsets-coordinate, address_from-is, same_from, from_place-put_together, above-child, length-put_together}
+use Rattle.ph_specs.proofs.lemmas.Joined.{offsets, from_place, number_at, offsets-coordinate, address_from-is}
+use Rattle.ph_specs.proofs.lemmas.Joined.{same_from, from_place-put_together, above-child, length-put_together}
 use Rattle.ph_specs.proofs.lemmas.RowsBehind.{IsUnder, Each-append, Each-each, rows-under, under-address, address-put_together, count-rows}
 use Rattle.ph_specs.proofs.laws.LawfulRows.{before-at, put_together-small}
 use Rattle.ph_specs.proofs.laws.Paths.{placed_child, holding}
@@ -37,7 +38,8 @@ pub record IsRowAt (w c a : ℕ) (ds : List ℕ) (r : Row) : Type 0 where
   pub address : row_address w c r ≡ a
 
 -- a lower part
-pub part-at : (w d c : ℕ) (ds es : List ℕ) (o : What) → IsPart w d es o → height o ≤ c → from_place (c + 1) es ≡ from_place (c + 1) ds → Each (IsRowAt w c (number_at 0 c es) ds) (part_rows w es o)
+pub part-at : (w d c : ℕ) (ds es : List ℕ) (o : What) → IsPart w d es o → height o ≤ c →
+    from_place (c + 1) es ≡ from_place (c + 1) ds → Each (IsRowAt w c (number_at 0 c es) ds) (part_rows w es o)
 part-at w d c ds es o h l e =
     Each-each (part_rows w es o)
     (λ r u. record { under = same_from (height o) (c + 1) (offsets w r.point) es (omega (arith, l)) u ∙ e; address = under-address w (height o) c es r l u })
@@ -128,7 +130,9 @@ module _ (w d c : ℕ) (ds : List ℕ) (l : c < w) (k : IsAbove d c ds) (s : Eac
   rows-below a (e ∷ es) h m =
       subst (Each (IsRowBelow a)) (sym (rows-first w c ds e es))
       (Each-append (IsRowBelow a) (part_rows w (behind c ds e) e.what) (rows_in w c ds es)
-      (Each-each (part_rows w (behind c ds e) e.what) (λ r q. let g : row_address w c r ≡ e.addr = q.address in let n : e.addr < a = m.0 in record { under = q.under; address = omega (arith, g, n) }) (behind-rows e h.0))
+      (Each-each (part_rows w (behind c ds e) e.what)
+      (λ r q. let g : row_address w c r ≡ e.addr = q.address in let n : e.addr < a = m.0 in
+      record { under = q.under; address = omega (arith, g, n) }) (behind-rows e h.0))
       (rows-below a es h.1 m.1))
 
   pub rows-from : (a : ℕ) (es : List Entry) → Each (IsLawfulEntry d c) es → Each (λ e. a ≤ e.addr) es → Each (IsRowFrom a) (rows_in w c ds es)
@@ -136,23 +140,33 @@ module _ (w d c : ℕ) (ds : List ℕ) (l : c < w) (k : IsAbove d c ds) (s : Eac
   rows-from a (e ∷ es) h m =
       subst (Each (IsRowFrom a)) (sym (rows-first w c ds e es))
       (Each-append (IsRowFrom a) (part_rows w (behind c ds e) e.what) (rows_in w c ds es)
-      (Each-each (part_rows w (behind c ds e) e.what) (λ r q. let g : row_address w c r ≡ e.addr = q.address in let n : a ≤ e.addr = m.0 in record { under = q.under; address = omega (arith, g, n) }) (behind-rows e h.0))
+      (Each-each (part_rows w (behind c ds e) e.what)
+      (λ r q. let g : row_address w c r ≡ e.addr = q.address in let n : a ≤ e.addr = m.0 in
+      record { under = q.under; address = omega (arith, g, n) }) (behind-rows e h.0))
       (rows-from a es h.1 m.1))
 
   -- the region of the child of an entry holds each row at its address
-  pub entry-holds : (e : Entry) (n : PlainNode) → IsLawfulEntry d c e → e.what ≡ node n → 1 ≤ c → (rs : List Row) → 1 ≤ length rs → Each (IsRowAt w c e.addr ds) rs → holds_some w rs (placed_child w c n.level (behind c ds e) n.chain) ≡ true
+  pub entry-holds : (e : Entry) (n : PlainNode) → IsLawfulEntry d c e → e.what ≡ node n → 1 ≤ c → (rs : List Row) →
+      1 ≤ length rs → Each (IsRowAt w c e.addr ds) rs → holds_some w rs (placed_child w c n.level (behind c ds e) n.chain) ≡ true
   entry-holds e n h o p [] some at = absurd (omega (arith, some))
   entry-holds e n h o p (r ∷ rs) some at =
       let number : number_at 0 c (offsets w r.point) ≡ number_at 0 c (behind c ds e) = sym (address_from-is w 0 c r.point) ∙ at.0.address ∙ sym (behind-address e h) in
-      let same : from_place c (offsets w r.point) ≡ from_place c (behind c ds e) = same_place 0 c (offsets w r.point) (behind c ds e) (at.0.under ∙ sym (behind-from e h)) number in
-      ap (λ t. t || list_any (λ s. is_in w (placed_child w c n.level (behind c ds e) n.chain).region s.point) rs) (holding w c n.level (behind c ds e) n.chain r.point p same)
+      let same : from_place c (offsets w r.point) ≡ from_place c (behind c ds e) = same_place 0 c (offsets w r.point)
+      (behind c ds e) (at.0.under ∙ sym (behind-from e h)) number in
+      ap (λ t. t || list_any (λ s. is_in w (placed_child w c n.level (behind c ds e) n.chain).region s.point) rs)
+      (holding w c n.level (behind c ds e) n.chain r.point p same)
 
 -- ---- rows whose digits tell which come first
 
-pub parted-by : (w c a : ℕ) (ds : List ℕ) (rs ss : List Row) → c < w → Each (λ r. IsUnder w (c + 1) ds r × (row_address w c r < a)) rs → Each (λ s. IsUnder w (c + 1) ds s × (a ≤ row_address w c s)) ss → AreParted w rs ss
+pub parted-by : (w c a : ℕ) (ds : List ℕ) (rs ss : List Row) → c < w →
+    Each (λ r. IsUnder w (c + 1) ds r × (row_address w c r < a)) rs →
+    Each (λ s. IsUnder w (c + 1) ds s × (a ≤ row_address w c s)) ss → AreParted w rs ss
 parted-by w c a ds rs ss l h k =
     Each-each rs
     (λ r p. Each-each ss
-    (λ s q. before-at w c w r.point s.point l (λ j i. under-address w (c + 1) j ds r (omega (arith, i)) p.0 ∙ sym (under-address w (c + 1) j ds s (omega (arith, i)) q.0)) (let m : row_address w c r < a = p.1 in let n : a ≤ row_address w c s = q.1 in omega (arith, m, n)))
+    (λ s q. before-at w c w r.point s.point l
+    (λ j i. under-address w (c + 1) j ds r (omega (arith, i)) p.0 ∙
+    sym (under-address w (c + 1) j ds s (omega (arith, i)) q.0))
+    (let m : row_address w c r < a = p.1 in let n : a ≤ row_address w c s = q.1 in omega (arith, m, n)))
     k)
     h

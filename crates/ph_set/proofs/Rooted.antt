@@ -36,31 +36,42 @@ part-is w d n ds o l h e f = subst (λ t. IsPart w d t o) (sym e) (subst (IsPart
 
 -- the region of a root holds each row of a lawful tree
 root-holds : (w d : ℕ) (n m : PlainNode) → 1 ≤ w → IsLawful w d (Some m) → holds_some w (rows w d (Some m)) (placed_child w w n.level (replicate d 0) n.chain) ≡ true
-root-holds w d n m l h = by_rows (part_rows w (replicate d 0) (node m)) (part-some w d (replicate d 0) (node m) (root-part w d m l h)) (part-under w d (replicate d 0) (node m) (root-part w d m l h))
+root-holds w d n m l h = by_rows (part_rows w (replicate d 0) (node m))
+    (part-some w d (replicate d 0) (node m) (root-part w d m l h)) (part-under w d (replicate d 0) (node m) (root-part w d m l h))
   where
-    by_rows : (rs : List Row) → 1 ≤ length rs → Each (IsUnder w (m.level + 1) (replicate d 0)) rs → holds_some w rs (placed_child w w n.level (replicate d 0) n.chain) ≡ true
+    by_rows : (rs : List Row) → 1 ≤ length rs → Each (IsUnder w (m.level + 1) (replicate d 0)) rs →
+        holds_some w rs (placed_child w w n.level (replicate d 0) n.chain) ≡ true
     by_rows [] some u = absurd (omega (arith, some))
     by_rows (r ∷ rs) some u =
         let top : m.level + 1 ≡ w = omega (arith, l, h.0) in
-        let same : from_place w (offsets w r.point) ≡ from_place w (replicate d 0) = subst (λ k. from_place k (offsets w r.point) ≡ from_place k (replicate d 0)) top u.0 in
-        ap (λ t. t || list_any (λ s. is_in w (placed_child w w n.level (replicate d 0) n.chain).region s.point) rs) (holding w w n.level (replicate d 0) n.chain r.point l same)
+        let same : from_place w (offsets w r.point) ≡ from_place w (replicate d 0) =
+        subst (λ k. from_place k (offsets w r.point) ≡ from_place k (replicate d 0)) top u.0 in
+        ap (λ t. t || list_any (λ s. is_in w (placed_child w w n.level (replicate d 0) n.chain).region s.point) rs)
+        (holding w w n.level (replicate d 0) n.chain r.point l same)
 
-pub root-seen : (w d : ℕ) (all : Bool) (n m : PlainNode) → 1 ≤ w → IsLawful w d (Some m) → seen_nodes w all (rows w d (Some m)) (placed w d (Some n)) ≡ 1 + seen_nodes w all (rows w d (Some m)) (part_nodes w (replicate d 0) (node n))
+pub root-seen : (w d : ℕ) (all : Bool) (n m : PlainNode) → 1 ≤ w → IsLawful w d (Some m) →
+    seen_nodes w all (rows w d (Some m)) (placed w d (Some n)) ≡ 1 + seen_nodes w all (rows w d (Some m))
+    (part_nodes w (replicate d 0) (node n))
 root-seen w d all n m l h =
     seen-first w all (rows w d (Some m)) (placed_child w w n.level (replicate d 0) n.chain) (part_nodes w (replicate d 0) (node n)) (root-holds w d n m l h)
 
-module _ (p : Plan) (d : ℕ) (n m : PlainNode) (l : 1 ≤ p.width) (h : IsLawful p.width d (Some n)) (k : IsLawful p.width d (Some m)) (ds dt : List ℕ) (o q : What) (e1 : ds ≡ replicate d 0) (f1 : o ≡ node n) (e2 : dt ≡ replicate d 0) (f2 : q ≡ node m) where
+module _ (p : Plan) (d : ℕ) (n m : PlainNode) (l : 1 ≤ p.width) (h : IsLawful p.width d (Some n))
+    (k : IsLawful p.width d (Some m)) (ds dt : List ℕ) (o q : What) (e1 : ds ≡ replicate d 0) (f1 : o ≡ node n)
+    (e2 : dt ≡ replicate d 0) (f2 : q ≡ node m) where
   pub roots-work : 1 + (1 + work_of p ds o dt q) ≡ work p (rows p.width d (Some n)) (placed p.width d (Some n)) (rows p.width d (Some m)) (placed p.width d (Some m))
   roots-work =
       let a : work_of p ds o dt q ≡ work_of p (replicate d 0) (node n) (replicate d 0) (node m) =
-      ap (λ t. work_of p t o dt q) e1 ∙ ap (λ t. work_of p (replicate d 0) t dt q) f1 ∙ ap (λ t. work_of p (replicate d 0) (node n) t q) e2 ∙ ap (λ t. work_of p (replicate d 0) (node n) (replicate d 0) t) f2 in
+      ap (λ t. work_of p t o dt q) e1 ∙ ap (λ t. work_of p (replicate d 0) t dt q) f1 ∙
+      ap (λ t. work_of p (replicate d 0) (node n) t q) e2 ∙
+      ap (λ t. work_of p (replicate d 0) (node n) (replicate d 0) t) f2 in
       let x = root-seen p.width d p.left n m l k in
       let y = root-seen p.width d p.right m n l h in
       omega (arith, a, x, y)
 
 pub root-length : (w d : ℕ) (n : PlainNode) (ds : List ℕ) (o : What) → ds ≡ replicate d 0 → o ≡ node n → length (placed w d (Some n)) ≡ 1 + length (part_nodes w ds o)
 root-length w d n ds o e f =
-    let a : length (part_nodes w ds o) ≡ length (part_nodes w (replicate d 0) (node n)) = ap (λ t. length (part_nodes w t o)) e ∙ ap (λ t. length (part_nodes w (replicate d 0) t)) f in
+    let a : length (part_nodes w ds o) ≡ length (part_nodes w (replicate d 0) (node n)) =
+    ap (λ t. length (part_nodes w t o)) e ∙ ap (λ t. length (part_nodes w (replicate d 0) t)) f in
     omega (arith, a)
 
 -- ---- trees that are shapes

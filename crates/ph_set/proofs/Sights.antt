@@ -9,7 +9,8 @@ use Rattle.ph_specs.specs.WorkSets.{holds_some, seen_nodes}
 
 pub seen-append : (w : ℕ) (all : Bool) (rows : List Row) (xs ys : List Placed) → seen_nodes w all rows (xs ++ ys) ≡ seen_nodes w all rows xs + seen_nodes w all rows ys
 seen-append w all rows xs ys =
-    ap length (filter-append (λ x. all || holds_some w rows x) xs ys) ∙ length-append (filter (λ x. all || holds_some w rows x) xs) (filter (λ x. all || holds_some w rows x) ys)
+    ap length (filter-append (λ x. all || holds_some w rows x) xs ys) ∙
+    length-append (filter (λ x. all || holds_some w rows x) xs) (filter (λ x. all || holds_some w rows x) ys)
 
 -- all of them
 pub seen-all : (w : ℕ) (rows : List Row) (xs : List Placed) → seen_nodes w true rows xs ≡ length xs
@@ -17,7 +18,8 @@ seen-all w rows [] = refl
 seen-all w rows (x ∷ xs) = ap suc (seen-all w rows xs)
 
 -- a node whose region holds the point of a row
-pub seen-first : (w : ℕ) (all : Bool) (rows : List Row) (x : Placed) (xs : List Placed) → holds_some w rows x ≡ true → seen_nodes w all rows (x ∷ xs) ≡ 1 + seen_nodes w all rows xs
+pub seen-first : (w : ℕ) (all : Bool) (rows : List Row) (x : Placed) (xs : List Placed) → holds_some w rows x ≡ true →
+    seen_nodes w all rows (x ∷ xs) ≡ 1 + seen_nodes w all rows xs
 seen-first w true rows x xs h = omega arith
 seen-first w false rows x xs h = ap (λ t. length (cond t (x ∷ filter (λ y. holds_some w rows y) xs) (filter (λ y. holds_some w rows y) xs))) h ∙ omega arith
 
@@ -28,7 +30,9 @@ module _ (w : ℕ) (few many : List Row) (more : (x : Placed) → holds_some w f
   seen-more true (x ∷ xs) = let ih : seen_nodes w true few xs ≤ seen_nodes w true many xs = seen-more true xs in omega (arith, ih)
   seen-more false (x ∷ xs) = by_bools (holds_some w few x) (holds_some w many x) (more x) (seen-more false xs)
     where
-      by_bools : (s t : Bool) → (s ≡ true → t ≡ true) → seen_nodes w false few xs ≤ seen_nodes w false many xs → length (cond s (x ∷ filter (λ y. holds_some w few y) xs) (filter (λ y. holds_some w few y) xs)) ≤ length (cond t (x ∷ filter (λ y. holds_some w many y) xs) (filter (λ y. holds_some w many y) xs))
+      by_bools : (s t : Bool) → (s ≡ true → t ≡ true) → seen_nodes w false few xs ≤ seen_nodes w false many xs →
+          length (cond s (x ∷ filter (λ y. holds_some w few y) xs) (filter (λ y. holds_some w few y) xs)) ≤ length
+          (cond t (x ∷ filter (λ y. holds_some w many y) xs) (filter (λ y. holds_some w many y) xs))
       by_bools true true f ih = omega (arith, ih)
       by_bools true false f ih = absurd (let no : false ≡ true = f refl in cc)
       by_bools false true f ih = omega (arith, ih)

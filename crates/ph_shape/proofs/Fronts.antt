@@ -33,7 +33,8 @@ drop-first (x ∷ xs) zero d l = (xs, refl)
 drop-first (x ∷ xs) (suc i) d l = drop-first xs i d (omega (arith, l))
 
 -- a cut in front of a row with another address
-pub cut-here : (w place a : ℕ) (rows : List Row) (i : ℕ) (r : Row) → i < length rows → HaveAddress w place a (take i rows) → get_or rows i r ≡ r → row_address w place r ≢ a → IsCut w place a rows i
+pub cut-here : (w place a : ℕ) (rows : List Row) (i : ℕ) (r : Row) → i < length rows →
+    HaveAddress w place a (take i rows) → get_or rows i r ≡ r → row_address w place r ≢ a → IsCut w place a rows i
 cut-here w place a rows i r l h e n =
     let d : (more : List Row) × (drop i rows ≡ get_or rows i r ∷ more) = drop-first rows i r l in
     record {

@@ -1,5 +1,6 @@
 -- One step of a node's making: the rows in front that share an address become an entry.
-use Rattle.std.proofs.Common.{◌≡◌, ℕ, zero, suc, ◌+◌, ◌-◌, ◌<◌, ◌≤◌, refl, sym, ◌∙◌, ap, subst, arith, List, [], ◌∷◌, ◌++◌, length, get_or, take, drop, map, eqb-true, Bool, true}
+use Rattle.std.proofs.Common.{◌≡◌, ℕ, zero, suc, ◌+◌, ◌-◌, ◌<◌, ◌≤◌, refl, sym, ◌∙◌, ap, subst, arith, List, []}
+use Rattle.std.proofs.Common.{◌∷◌, ◌++◌, length, get_or, take, drop, map, eqb-true, Bool, true}
 use Rattle.std.specs.Prelude.{ℤ, Some, None, slice_get}
 use Rattle.std.specs.List.{AllByRecursion as Each, list_all}
 use Rattle.std.proofs.Math.Seq.{take-append_seam}
@@ -39,7 +40,8 @@ map-drop f zero xs = refl
 map-drop f (suc n) [] = refl
 map-drop f (suc n) (x ∷ xs) = map-drop f n xs
 
-some-front : {X : Type 0} (f : X → Row) (w place a n : ℕ) (xs : List X) (x : X) → Some x ≡ slice_get xs 0 → row_address w place (f x) ≡ a → IsCut w place a (map f xs) n → 1 ≤ length (take n xs)
+some-front : {X : Type 0} (f : X → Row) (w place a n : ℕ) (xs : List X) (x : X) → Some x ≡ slice_get xs 0 →
+    row_address w place (f x) ≡ a → IsCut w place a (map f xs) n → 1 ≤ length (take n xs)
 some-front f w place a n [] x e h k = cc
 some-front f w place a zero (y ∷ ys) x e h k =
     let same : x ≡ y = cc in
@@ -51,11 +53,17 @@ pub record IsStep {X : Type 0} (f : X → Row) (w dims place a : ℕ) (below : L
   pub group : IsGroup w dims place (map f front)
   pub addr : HaveAddress w place a (map f front)
   pub behind : IsGroup w dims (place + 1) (map f back)
-  pub next : entries_of w place below (groups w place (map f rest)) ≡ in_front (group_entry w place below (map f front)).addr (group_entry w place below (map f front)).body (group_entry w place below (map f front)).what (entries_of w place below (groups w place (map f back)))
+  pub next : entries_of w place below (groups w place (map f rest)) ≡
+      in_front (group_entry w place below (map f front)).addr (group_entry w place below (map f front)).body
+      (group_entry w place below (map f front)).what (entries_of w place below (groups w place (map f back)))
 
-pub step : {X : Type 0} (f : X → Row) (w dims place a n : ℕ) (below : List Row → PlainNode) (rest front back : List X) (x : X) → IsGroup w dims (place + 1) (map f rest) → Some x ≡ slice_get rest 0 → row_address w place (f x) ≡ a → IsCut w place a (map f rest) n → front ≡ take n rest → back ≡ drop n rest → IsStep f w dims place a below rest front back
+pub step : {X : Type 0} (f : X → Row) (w dims place a n : ℕ) (below : List Row → PlainNode) (rest front back : List X)
+    (x : X) → IsGroup w dims (place + 1) (map f rest) → Some x ≡ slice_get rest 0 → row_address w place (f x) ≡ a →
+    IsCut w place a (map f rest) n → front ≡ take n rest → back ≡ drop n rest → IsStep f w dims place a below rest front back
 step {X} f w dims place a n below rest front back x g e h k p q =
-    let whole : map f rest ≡ map f front ++ map f back = ap (map f) (sym (take-append-drop n rest)) ∙ map-append f (take n rest) (drop n rest) ∙ ap (λ (t : List X). map f t ++ map f (drop n rest)) (sym p) ∙ ap (λ (t : List X). map f front ++ map f t) (sym q) in
+    let whole : map f rest ≡ map f front ++ map f back = ap (map f) (sym (take-append-drop n rest)) ∙
+    map-append f (take n rest) (drop n rest) ∙ ap (λ (t : List X). map f t ++ map f (drop n rest)) (sym p) ∙
+    ap (λ (t : List X). map f front ++ map f t) (sym q) in
     let one : HaveAddress w place a (map f front) = subst (HaveAddress w place a) (sym (ap (map f) p ∙ map-take f n rest)) k.front in
     let other : FirstDiffers w place a (map f back) = subst (FirstDiffers w place a) (sym (ap (map f) q ∙ map-drop f n rest)) k.next in
     let some : 1 ≤ length front = subst (λ (t : List X). 1 ≤ length t) (sym p) (some-front f w place a n rest x e h k) in
@@ -65,7 +73,8 @@ step {X} f w dims place a n below rest front back x g e h k p q =
       group = parts.0;
       addr = one;
       behind = parts.1;
-      next = ap (λ t. entries_of w place below (groups w place t)) whole ∙ entries-of_front w place a below (map f front) (map f back) (omega (arith, some, length-map front f)) one other;
+      next = ap (λ t. entries_of w place below (groups w place t)) whole ∙ entries-of_front w place a below
+          (map f front) (map f back) (omega (arith, some, length-map front f)) one other;
     }
 
 -- ---- the entry of a group
@@ -74,11 +83,17 @@ last-of-map : {X : Type 0} (f : X → Row) (xs : List X) (y : X) → y ≡ get_o
 last-of-map f xs y e =
     sym (item-is f xs (length xs - 1) y e) ∙ ap (λ n. get_or (map f xs) (n - 1) (f y)) (sym (length-map xs f))
 
-pub point-of-map : {X : Type 0} (f : X → Row) (w dims place : ℕ) (below : List Row → PlainNode) (xs : List X) (x y : X) → IsGroup w dims place (map f xs) → 1 ≤ length xs → x ≡ get_or xs 0 x → y ≡ get_or xs (length xs - 1) y → (f x).point ≡ (f y).point → group_entry w place below (map f xs) ≡ record { addr = row_address w place (f x); body = digits_below w place (f x).point; what = value (f x).value }
+pub point-of-map : {X : Type 0} (f : X → Row) (w dims place : ℕ) (below : List Row → PlainNode) (xs : List X)
+    (x y : X) → IsGroup w dims place (map f xs) → 1 ≤ length xs → x ≡ get_or xs 0 x →
+    y ≡ get_or xs (length xs - 1) y → (f x).point ≡ (f y).point →
+    group_entry w place below (map f xs) ≡
+    record { addr = row_address w place (f x); body = digits_below w place (f x).point; what = value (f x).value }
 point-of-map f w dims place below xs x y g l e h same =
     point-entry w dims place below (map f xs) (f x) (f y) g (omega (arith, l, length-map xs f)) (sym (item-is f xs 0 x e)) (last-of-map f xs y h) same
 
-pub child-of-map : {X : Type 0} (f : X → Row) (w dims place t : ℕ) (xs : List X) (x y : X) → place < w → IsGroup w dims place (map f xs) → 1 ≤ length xs → x ≡ get_or xs 0 x → y ≡ get_or xs (length xs - 1) y → IsTopDifference w (f x).point (f y).point t → IsChildEntry w dims place t (map f xs) (f x)
+pub child-of-map : {X : Type 0} (f : X → Row) (w dims place t : ℕ) (xs : List X) (x y : X) → place < w →
+    IsGroup w dims place (map f xs) → 1 ≤ length xs → x ≡ get_or xs 0 x → y ≡ get_or xs (length xs - 1) y →
+    IsTopDifference w (f x).point (f y).point t → IsChildEntry w dims place t (map f xs) (f x)
 child-of-map f w dims place t xs x y p g l e h d =
     child-entry w dims place t (map f xs) (f x) (f y) p g (omega (arith, l, length-map xs f)) (sym (item-is f xs 0 x e)) (last-of-map f xs y h) d
 
@@ -91,9 +106,11 @@ pub filled-is : (dims : ℕ) (ds body : List ℕ) → body ≡ filled ds → len
 filled-is dims ds body e l = e ∙ ap filled (sym (ap (take dims) e ∙ take-filled dims ds l))
 
 -- an entry as it is made
-pub entry-made : (dims a b : ℕ) (body ds : List ℕ) (what : What) → a ≡ b → body ≡ filled ds → length ds ≡ dims → ◌≡◌ {A = Entry} (record { addr = a; body = take dims body; what = what }) (record { addr = b; body = ds; what = what })
+pub entry-made : (dims a b : ℕ) (body ds : List ℕ) (what : What) → a ≡ b → body ≡ filled ds → length ds ≡ dims →
+    ◌≡◌ {A = Entry} (record { addr = a; body = take dims body; what = what }) (record { addr = b; body = ds; what = what })
 entry-made dims a b body ds what e f l =
-    ap {B = Entry} (λ t. record { addr = t; body = take dims body; what = what }) e ∙ ap {B = Entry} (λ t. record { addr = b; body = t; what = what }) (ap (take dims) f ∙ take-filled dims ds l)
+    ap {B = Entry} (λ t. record { addr = t; body = take dims body; what = what }) e ∙
+    ap {B = Entry} (λ t. record { addr = b; body = t; what = what }) (ap (take dims) f ∙ take-filled dims ds l)
 
 long : (w dims : ℕ) (p : List ℤ) → is_point w dims p ≡ true → length p ≡ dims
 long w dims p h = eqb-true (length p) dims (and_parts _ _ h).0

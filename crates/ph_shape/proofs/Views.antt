@@ -8,7 +8,8 @@ use Rattle.ph_shape.specs.Bodies.{IsFilled}
 use Rattle.ph_shape.specs.View.{entry_of, AreFilled}
 use Rattle.ph_shape.specs.declared.plain.EntryOf.{EntryOf}
 
-get-map : {P : Type 0} (d : ℕ) (es : List (EntryOf P)) (i : ℕ) (x : EntryOf P) → i < length es → x ≡ get_or es i x → slice_get (map (entry_of d) es) i ≡ Some (entry_of d x)
+get-map : {P : Type 0} (d : ℕ) (es : List (EntryOf P)) (i : ℕ) (x : EntryOf P) → i < length es → x ≡ get_or es i x →
+    slice_get (map (entry_of d) es) i ≡ Some (entry_of d x)
 get-map d [] i x l e = absurd (let no : ⊥ = omega (arith, l) in no)
 get-map d (y ∷ es) zero x l e = ap {B = Option Entry} (λ t. Some (entry_of d t)) (sym e)
 get-map d (y ∷ es) (suc i) x l e = get-map d es i x (omega (arith, l)) e

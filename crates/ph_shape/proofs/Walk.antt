@@ -1,5 +1,6 @@
 -- A walk over lawful entries gathers their rows.
-use Rattle.std.proofs.Common.{◌≡◌, ℕ, zero, suc, ◌+◌, ◌<◌, ◌≤◌, refl, sym, ◌∙◌, ap, arith, List, [], ◌∷◌, ◌++◌, length, get_or, take, drop, replicate, append_assoc, drop-cons, add-one}
+use Rattle.std.proofs.Common.{◌≡◌, ℕ, zero, suc, ◌+◌, ◌<◌, ◌≤◌, refl, sym, ◌∙◌, ap, arith, List, [], ◌∷◌, ◌++◌}
+use Rattle.std.proofs.Common.{length, get_or, take, drop, replicate, append_assoc, drop-cons, add-one}
 use Rattle.std.specs.Prelude.{Option}
 use Rattle.std.proofs.Math.Pow.{pow_mono}
 use Rattle.std.proofs.Math.Seq.{take-append_seam}
@@ -20,21 +21,28 @@ use Rattle.ph_shape.specs.Known.{IsKnown, what_rows, entry_rows, IsOnly}
 
 -- ---- rows, entry by entry
 
-rows-front : (w level : ℕ) (above : List ℕ) (e : Entry) (rest : Entries) → rows_behind w level above (in_front e.addr e.body e.what rest) ≡ entry_rows w level above e ++ rows_behind w level above rest
+rows-front : (w level : ℕ) (above : List ℕ) (e : Entry) (rest : Entries) →
+    rows_behind w level above (in_front e.addr e.body e.what rest) ≡ entry_rows w level above e ++ rows_behind w level above rest
 rows-front w level above e rest = by_what e.what
   where
-    by_what : (what : What) → rows_behind w level above (in_front e.addr e.body what rest) ≡ what_rows w (put_together level e.addr above e.body) what ++ rows_behind w level above rest
+    by_what : (what : What) → rows_behind w level above (in_front e.addr e.body what rest) ≡
+        what_rows w (put_together level e.addr above e.body) what ++ rows_behind w level above rest
     by_what (value v) = refl
     by_what (node n) = refl
 
 -- the rows from an entry on are its own, and then those of the entries behind it
-rows-from : (w level : ℕ) (above : List ℕ) (es : List Entry) (i : ℕ) (e : Entry) → i < length es → get_or es i e ≡ e → rows_behind w level above (chained (drop i es)) ≡ entry_rows w level above e ++ rows_behind w level above (chained (drop (i + 1) es))
+rows-from : (w level : ℕ) (above : List ℕ) (es : List Entry) (i : ℕ) (e : Entry) → i < length es → get_or es i e ≡ e →
+    rows_behind w level above (chained (drop i es)) ≡ entry_rows w level above e ++
+    rows_behind w level above (chained (drop (i + 1) es))
 rows-from w level above es i e l h =
     let d : drop i es ≡ get_or es i e ∷ drop (i + 1) es = rw add-one (drop-cons es i e l) in
     ap (λ t. rows_behind w level above (chained t)) (d ∙ ap {B = List Entry} (λ t. t ∷ drop (i + 1) es) h) ∙ rows-front w level above e (chained (drop (i + 1) es))
 
 -- one entry more is gathered
-pub gathered-next : (w level : ℕ) (above : List ℕ) (es : List Entry) (i : ℕ) (e : Entry) (old new all : List Row) → i < length es → get_or es i e ≡ e → new ≡ old ++ entry_rows w level above e → old ++ rows_behind w level above (chained (drop i es)) ≡ all → new ++ rows_behind w level above (chained (drop (i + 1) es)) ≡ all
+pub gathered-next : (w level : ℕ) (above : List ℕ) (es : List Entry) (i : ℕ) (e : Entry) (old new all : List Row) →
+    i < length es → get_or es i e ≡ e → new ≡ old ++ entry_rows w level above e →
+    old ++ rows_behind w level above (chained (drop i es)) ≡ all →
+    new ++ rows_behind w level above (chained (drop (i + 1) es)) ≡ all
 gathered-next w level above es i e old new all l h n m =
     ap (λ t. t ++ rows_behind w level above (chained (drop (i + 1) es))) n
     ∙ append_assoc old (entry_rows w level above e) (rows_behind w level above (chained (drop (i + 1) es)))
@@ -48,7 +56,9 @@ drop-all (suc i) [] l = refl
 drop-all (suc i) (x ∷ es) l = drop-all i es (omega (arith, l))
 
 -- all are gathered
-pub gathered-all : (w level c : ℕ) (above : List ℕ) (es : List Entry) (chain : Entries) (i : ℕ) (old new : List Row) → length es ≤ i → level ≡ c → es ≡ listed chain → new ++ rows_behind w level above (chained (drop i es)) ≡ old ++ rows_behind w level above (chained es) → new ≡ old ++ rows_behind w c above chain
+pub gathered-all : (w level c : ℕ) (above : List ℕ) (es : List Entry) (chain : Entries) (i : ℕ) (old new : List Row) →
+    length es ≤ i → level ≡ c → es ≡ listed chain → new ++ rows_behind w level above (chained (drop i es)) ≡ old ++
+    rows_behind w level above (chained es) → new ≡ old ++ rows_behind w c above chain
 gathered-all w level c above es chain i old new l e h m =
     sym (append-nil new)
     ∙ ap (λ t. new ++ rows_behind w level above (chained t)) (sym (drop-all i es l))
@@ -65,11 +75,13 @@ below-more w k (x ∷ xs) l h = (omega (arith, h.0, pow_mono {i = w} {j = k} l),
 pub length-known : (w dims level a : ℕ) (above body : List ℕ) → IsKnown w dims level above → IsBody dims level body → length (put_together level a above body) ≡ dims
 length-known w dims level a above body h k = length-put_together level a above body (h.long ∙ sym k.0) ∙ h.long
 
-pub small-known : (w dims level a : ℕ) (above body : List ℕ) → level < w → IsKnown w dims level above → IsBody dims level body → AreBelow w (put_together level a above body)
+pub small-known : (w dims level a : ℕ) (above body : List ℕ) → level < w → IsKnown w dims level above →
+    IsBody dims level body → AreBelow w (put_together level a above body)
 small-known w dims level a above body l h k = put_together-small w level a above body l h.zeros h.small k.1
 
 -- what is known behind a child entry
-pub known-child : (w dims level c a : ℕ) (above body : List ℕ) → level < w → c < level → IsKnown w dims level above → IsBody dims level body → HasZerosFrom c body → IsKnown w dims c (put_together level a above body)
+pub known-child : (w dims level c a : ℕ) (above body : List ℕ) → level < w → c < level → IsKnown w dims level above →
+    IsBody dims level body → HasZerosFrom c body → IsKnown w dims c (put_together level a above body)
 known-child w dims level c a above body l m h k z = record {
   long = length-known w dims level a above body h k;
   zeros = zeros-put_together level c a above body m h.zeros z;
@@ -77,7 +89,9 @@ known-child w dims level c a above body l m h k z = record {
 }
 
 -- an entry is joined to what is known in the front of an array
-pub joined-front : (d level a : ℕ) (new above body rest : List ℕ) → new ≡ put_together level a (body_above level above) body → HasZerosFrom level above → length above ≡ d → length body ≡ d → take d (new ++ rest) ≡ put_together level a above body
+pub joined-front : (d level a : ℕ) (new above body rest : List ℕ) →
+    new ≡ put_together level a (body_above level above) body → HasZerosFrom level above → length above ≡ d →
+    length body ≡ d → take d (new ++ rest) ≡ put_together level a above body
 joined-front d level a new above body rest e z h k =
     let all : new ≡ put_together level a above body = e ∙ ap (λ t. put_together level a t body) (sym (above-zeros level above z)) in
     let long : length (put_together level a above body) ≡ d = length-put_together level a above body (h ∙ sym k) ∙ h in

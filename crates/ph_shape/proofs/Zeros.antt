@@ -25,12 +25,14 @@ below-filled place xs = map-filled (λ x. x % 2 ^ place) xs (omega (arith, pow_p
 above-filled : (low : ℕ) (xs : List ℕ) → body_above low (filled xs) ≡ filled (body_above low xs)
 above-filled low xs = map-filled (λ x. x / 2 ^ (low + 1) * 2 ^ (low + 1)) xs (omega (arith, pow_pos (low + 1)))
 
-offsets-filled : (w : ℕ) (p : List ℤ) (os : List ℕ) → take (length p) os ≡ map (offset w) p → drop (length p) os ≡ replicate (16 - length p) 0 → os ≡ filled (map (offset w) p)
+offsets-filled : (w : ℕ) (p : List ℤ) (os : List ℕ) → take (length p) os ≡ map (offset w) p →
+    drop (length p) os ≡ replicate (16 - length p) 0 → os ≡ filled (map (offset w) p)
 offsets-filled w p os e f =
     sym (take-append-drop (length p) os) ∙ (λ i. e i ++ f i)
     ∙ ap (λ n. map (offset w) p ++ replicate (16 - n) 0) (sym (length-map p (offset w)))
 
-pub point-body : (w place : ℕ) (p : List ℤ) (os : List ℕ) → take (length p) os ≡ map (offset w) p → drop (length p) os ≡ replicate (16 - length p) 0 → body_below place os ≡ filled (digits_below w place p)
+pub point-body : (w place : ℕ) (p : List ℤ) (os : List ℕ) → take (length p) os ≡ map (offset w) p →
+    drop (length p) os ≡ replicate (16 - length p) 0 → body_below place os ≡ filled (digits_below w place p)
 point-body w place p os e f =
     ap (body_below place) (offsets-filled w p os e f) ∙ below-filled place (map (offset w) p) ∙ ap filled (sym (below-offsets w place p))
 

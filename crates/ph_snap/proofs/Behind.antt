@@ -31,13 +31,19 @@ pub record IsJoined (dims level a : ℕ) (above body known : List ℕ) : Type 0 
   pub is_known : take dims known ≡ put_together level a above body
   pub is_body : IsBody dims 62 (take dims known)
 
-pub joined-is : (dims level a at n : ℕ) (words above old new others : List ℕ) → level ≤ 61 → n ≡ dims → old ≡ above → IsBody dims 62 old → has_zeros_from level above ≡ true → new ≡ put_together level a (body_above level old) (digits_row words at level n) → IsJoined dims level a above (digits_row words at level dims) (new ++ others)
+pub joined-is : (dims level a at n : ℕ) (words above old new others : List ℕ) → level ≤ 61 → n ≡ dims → old ≡ above →
+    IsBody dims 62 old → has_zeros_from level above ≡ true →
+    new ≡ put_together level a (body_above level old) (digits_row words at level n) →
+    IsJoined dims level a above (digits_row words at level dims) (new ++ others)
 joined-is dims level a at n words above old new others l m e b c h =
     let row : List ℕ = digits_row words at level dims in
     let z : HasZerosFrom level above = known-zeros level above c in
     let k : IsBody dims 62 above = subst (IsBody dims 62) e b in
-    let j : IsBody dims 62 (put_together level a above (digits_row words at level dims)) = body-joined dims 62 level a above row (omega arith) z k (is_body-row words at level dims) in
+    let j : IsBody dims 62 (put_together level a above (digits_row words at level dims)) =
+    body-joined dims 62 level a above row (omega arith) z k (is_body-row words at level dims) in
     let q : new ≡ put_together level a above (digits_row words at level dims) =
-    h ∙ ap (λ t. put_together level a (body_above level t) (digits_row words at level n)) e ∙ ap (λ t. put_together level a (body_above level above) (digits_row words at level t)) m ∙ ap (λ t. put_together level a t row) (sym (above-zeros level above z)) in
+    h ∙ ap (λ t. put_together level a (body_above level t) (digits_row words at level n)) e ∙
+    ap (λ t. put_together level a (body_above level above) (digits_row words at level t)) m ∙
+    ap (λ t. put_together level a t row) (sym (above-zeros level above z)) in
     let t : take dims (new ++ others) ≡ put_together level a above (digits_row words at level dims) = take-front dims new others (ap length q ∙ j.0) ∙ q in
     record { is_known = t; is_body = subst (IsBody dims 62) (sym t) j }

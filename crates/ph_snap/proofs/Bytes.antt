@@ -14,9 +14,14 @@ words-more (suc n) bytes =
     let b : 8 + 8 * n ≡ 8 * suc n = omega arith in
     let w : ℕ = number_of (map (field 8) (take 8 bytes)) in
     ap (λ t. words_in t bytes) a
-    ∙ ap {B = List ℕ} (λ t. w ∷ t) (words-more n (drop 8 bytes) ∙ ap (λ t. words_in n (drop 8 bytes) ++ number_of (map (field 8) (take 8 t)) ∷ []) (drop-drop (8 * n) 8 bytes ∙ ap (λ t. drop t bytes) b))
+    ∙ ap {B = List ℕ} (λ t. w ∷ t)
+    (words-more n (drop 8 bytes) ∙
+    ap (λ t. words_in n (drop 8 bytes) ++ number_of (map (field 8) (take 8 t)) ∷ [])
+    (drop-drop (8 * n) 8 bytes ∙ ap (λ t. drop t bytes) b))
 
-pub byte-more : (bytes : List ℕ) (at i : ℕ) → at + i < length bytes → number_of (map (field 8) (take (i + 1) (drop at bytes))) ≡ number_of (map (field 8) (take i (drop at bytes))) * 2 ^ 8 + get_or bytes (at + i) 0
+pub byte-more : (bytes : List ℕ) (at i : ℕ) → at + i < length bytes →
+    number_of (map (field 8) (take (i + 1) (drop at bytes))) ≡ number_of (map (field 8) (take i (drop at bytes))) *
+    2 ^ 8 + get_or bytes (at + i) 0
 byte-more bytes at i l =
     let xs : List ℕ = drop at bytes in
     let m : i < length (drop at bytes) = omega (arith, l, length-drop at bytes) in
@@ -27,7 +32,9 @@ byte-more bytes at i l =
     ∙ ap (λ t. number_of (map (field 8) (take i xs)) * 2 ^ 8 + t) (get_or-drop at bytes i 0)
 
 -- one more byte of a word
-pub word-next : (bytes : List ℕ) (at i word b : ℕ) → i < 8 → at + i < length bytes → ((k : ℕ) → Fits w8 (get_or bytes k 0)) → b ≡ get_or bytes (at + i) 0 → word ≡ number_of (map (field 8) (take i (drop at bytes))) → word < 2 ^ (8 * i)
+pub word-next : (bytes : List ℕ) (at i word b : ℕ) → i < 8 → at + i < length bytes →
+    ((k : ℕ) → Fits w8 (get_or bytes k 0)) → b ≡ get_or bytes (at + i) 0 →
+    word ≡ number_of (map (field 8) (take i (drop at bytes))) → word < 2 ^ (8 * i)
     → (word * 256 % 2 ^ 64 + b ≡ number_of (map (field 8) (take (i + 1) (drop at bytes)))) × (word * 256 % 2 ^ 64 + b < 2 ^ (8 * (i + 1)))
 word-next bytes at i word b l m f e v s =
     let o : 0 < 2 = omega arith in

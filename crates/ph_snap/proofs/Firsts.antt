@@ -24,14 +24,22 @@ module _ (kind : Kind) (width dims : ℕ) (place : Place) (at : ℕ) (bytes : Li
   pub no-first : nat_le 8 (length bytes) ≡ false → record_fault kind width dims place at bytes ≡ Some (bad_short at)
   no-first h = ap (λ t. by t b c d) h
 
-  pub bad-first : nat_le 8 (length bytes) ≡ true → first_fits width dims place (next_first bytes) ≡ false → record_fault kind width dims place at bytes ≡ Some (bad_node at)
+  pub bad-first : nat_le 8 (length bytes) ≡ true → first_fits width dims place (next_first bytes) ≡ false →
+      record_fault kind width dims place at bytes ≡ Some (bad_node at)
   bad-first h k = ap (λ t. by t b c d) h ∙ ap (λ t. by true t c d) k
 
-  pub cut-rest : nat_le 8 (length bytes) ≡ true → first_fits width dims place (next_first bytes) ≡ true → nat_le (8 * record_words dims (next_first bytes)) (length bytes) ≡ false → record_fault kind width dims place at bytes ≡ Some (bad_short at)
+  pub cut-rest : nat_le 8 (length bytes) ≡ true → first_fits width dims place (next_first bytes) ≡ true →
+      nat_le (8 * record_words dims (next_first bytes)) (length bytes) ≡ false →
+      record_fault kind width dims place at bytes ≡ Some (bad_short at)
   cut-rest h k l = ap (λ t. by t b c d) h ∙ ap (λ t. by true t c d) k ∙ ap (λ t. by true true t d) l
 
-  pub bad-rest : nat_le 8 (length bytes) ≡ true → first_fits width dims place (next_first bytes) ≡ true → nat_le (8 * record_words dims (next_first bytes)) (length bytes) ≡ true → rest_fits kind width dims place (next_record dims bytes) ≡ false → record_fault kind width dims place at bytes ≡ Some (bad_node at)
+  pub bad-rest : nat_le 8 (length bytes) ≡ true → first_fits width dims place (next_first bytes) ≡ true →
+      nat_le (8 * record_words dims (next_first bytes)) (length bytes) ≡ true →
+      rest_fits kind width dims place (next_record dims bytes) ≡ false →
+      record_fault kind width dims place at bytes ≡ Some (bad_node at)
   bad-rest h k l m = ap (λ t. by t b c d) h ∙ ap (λ t. by true t c d) k ∙ ap (λ t. by true true t d) l ∙ ap (λ t. by true true true t) m
 
-  pub no-fault : nat_le 8 (length bytes) ≡ true → first_fits width dims place (next_first bytes) ≡ true → nat_le (8 * record_words dims (next_first bytes)) (length bytes) ≡ true → rest_fits kind width dims place (next_record dims bytes) ≡ true → record_fault kind width dims place at bytes ≡ None
+  pub no-fault : nat_le 8 (length bytes) ≡ true → first_fits width dims place (next_first bytes) ≡ true →
+      nat_le (8 * record_words dims (next_first bytes)) (length bytes) ≡ true →
+      rest_fits kind width dims place (next_record dims bytes) ≡ true → record_fault kind width dims place at bytes ≡ None
   no-fault h k l m = ap (λ t. by t b c d) h ∙ ap (λ t. by true t c d) k ∙ ap (λ t. by true true t d) l ∙ ap (λ t. by true true true t) m

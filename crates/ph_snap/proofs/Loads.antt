@@ -23,7 +23,9 @@ entries-many kind width dims p [] h = absurd (omega (arith, h.long))
 entries-many kind width dims p (w ∷ rest) h =
     (entries-count kind width dims p w rest h.long h.small h.first h.rest).0
 
-module _ (kind : Kind) (width dims : ℕ) (bytes : List ℕ) (p : Place) (at : ℕ) (words : List ℕ) (b : IsBytes bytes) (l : at ≤ length bytes) (none : record_fault kind width dims p at (drop at bytes) ≡ None) (w : words ≡ next_record dims (drop at bytes)) where
+module _ (kind : Kind) (width dims : ℕ) (bytes : List ℕ) (p : Place) (at : ℕ) (words : List ℕ) (b : IsBytes bytes)
+    (l : at ≤ length bytes) (none : record_fault kind width dims p at (drop at bytes) ≡ None)
+    (w : words ≡ next_record dims (drop at bytes)) where
   abbrev rest : List ℕ
   rest = drop at bytes
 
@@ -51,12 +53,15 @@ module _ (kind : Kind) (width dims : ℕ) (bytes : List ℕ) (p : Place) (at : �
   all-of : places_of dims p (next_record dims (drop at bytes)) ≡ places_under (first_in words).level (known dims p) (entries_in dims words)
   all-of = ap (places_of dims p) (sym w)
 
-  whole : (i : ℕ) → (first_in words).entries ≤ i → places_under (first_in words).level (known dims p) (take i (entries_in dims words)) ≡ places_of dims p (next_record dims (drop at bytes))
+  whole : (i : ℕ) → (first_in words).entries ≤ i →
+      places_under (first_in words).level (known dims p) (take i (entries_in dims words)) ≡
+      places_of dims p (next_record dims (drop at bytes))
   whole i h =
       ap (places_under (first_in words).level (known dims p)) (take-whole es i (omega (arith, h, many))) ∙ sym all-of
 
   -- as many as there are children
-  pub stands-many : (i : ℕ) → (first_in words).entries ≤ i → length (places_under (first_in words).level (known dims p) (take i (entries_in dims words))) ≡ (first_in words).children
+  pub stands-many : (i : ℕ) → (first_in words).entries ≤ i →
+      length (places_under (first_in words).level (known dims p) (take i (entries_in dims words))) ≡ (first_in words).children
   stands-many i h =
       ap (λ es. length (places_under (first_in words).level (known dims p) es)) (take-whole es i (omega (arith, h, many)))
       ∙ kids-places (first_in words).level (known dims p) es
@@ -66,25 +71,45 @@ module _ (kind : Kind) (width dims : ℕ) (bytes : List ℕ) (p : Place) (at : �
   pub stands-few : (i : ℕ) → length (places_under (first_in words).level (known dims p) (take i (entries_in dims words))) ≤ (first_in words).children
   stands-few i =
       let level : ℕ = (first_in words).level in
-      let e : places_under (first_in words).level (known dims p) (entries_in dims words) ≡ stands i ++ places_under (first_in words).level (known dims p) (drop i (entries_in dims words)) = ap (places_under level (known dims p)) (sym (take-append-drop i es)) ∙ under-append level (known dims p) (take i es) (drop i es) in
-      omega (arith, ap (λ (t : List Place). length t) e, length-append (stands i) (places_under level (known dims p) (drop i es)), kids-places level (known dims p) es, kids-count kind width dims p words is-passed)
+      let e : places_under (first_in words).level (known dims p) (entries_in dims words) ≡ stands i ++
+      places_under (first_in words).level (known dims p) (drop i (entries_in dims words)) =
+      ap (places_under level (known dims p)) (sym (take-append-drop i es)) ∙ under-append level (known dims p)
+      (take i es) (drop i es) in
+      omega (
+        arith,
+        ap (λ (t : List Place). length t) e,
+        length-append (stands i) (places_under level (known dims p) (drop i es)),
+        kids-places level (known dims p) es,
+        kids-count kind width dims p words is-passed,
+      )
 
-  pub all-none : (i end : ℕ) → (first_in words).entries ≤ i → HaveNone kind width dims (places_under (first_in words).level (known dims p) (take i (entries_in dims words))) (at + 8 * length words) bytes end → HaveNone kind width dims (p ∷ []) at bytes end
+  pub all-none : (i end : ℕ) → (first_in words).entries ≤ i →
+      HaveNone kind width dims (places_under (first_in words).level (known dims p) (take i (entries_in dims words)))
+      (at + 8 * length words) bytes end → HaveNone kind width dims (p ∷ []) at bytes end
   all-none i end h k =
       none-node kind width dims bytes p at end none
-      (subst (λ t. HaveNone kind width dims (places_of dims p (next_record dims (drop at bytes))) (at + 8 * t) bytes end) size (subst (λ t. HaveNone kind width dims t (at + 8 * length words) bytes end) (whole i h) k))
+      (subst (λ t. HaveNone kind width dims (places_of dims p (next_record dims (drop at bytes))) (at + 8 * t) bytes
+      end) size (subst (λ t. HaveNone kind width dims t (at + 8 * length words) bytes end) (whole i h) k))
 
-  pub child-fault : (i mid : ℕ) (q : Place) (f : LoadFault) → places_under (first_in words).level (known dims p) (take (i + 1) (entries_in dims words)) ≡ places_under (first_in words).level (known dims p) (take i (entries_in dims words)) ++ q ∷ [] → HaveNone kind width dims (places_under (first_in words).level (known dims p) (take i (entries_in dims words))) (at + 8 * length words) bytes mid → HaveFault kind width dims (q ∷ []) mid bytes f → HaveFault kind width dims (p ∷ []) at bytes f
+  pub child-fault : (i mid : ℕ) (q : Place) (f : LoadFault) →
+      places_under (first_in words).level (known dims p) (take (i + 1) (entries_in dims words)) ≡
+      places_under (first_in words).level (known dims p) (take i (entries_in dims words)) ++ q ∷ [] →
+      HaveNone kind width dims (places_under (first_in words).level (known dims p) (take i (entries_in dims words)))
+      (at + 8 * length words) bytes mid → HaveFault kind width dims (q ∷ []) mid bytes f →
+      HaveFault kind width dims (p ∷ []) at bytes f
   child-fault i mid q f e k h =
       fault-below kind width dims bytes p at mid (stands i) _ q f none
       (all-of ∙ under-split (first_in words).level (known dims p) es i q e)
       (subst (λ t. HaveNone kind width dims (stands i) (at + 8 * t) bytes mid) size k)
       h
 
-  pub read-all : (end : ℕ) (cs : List PlainNode) → length cs ≡ (first_in words).children → at + 8 * length words ≤ end → ReadAs dims (drop (at + 8 * length words) bytes) cs (drop end bytes) → ReadAs dims (drop at bytes) (unpacked dims words cs ∷ []) (drop end bytes)
+  pub read-all : (end : ℕ) (cs : List PlainNode) → length cs ≡ (first_in words).children →
+      at + 8 * length words ≤ end → ReadAs dims (drop (at + 8 * length words) bytes) cs (drop end bytes) →
+      ReadAs dims (drop at bytes) (unpacked dims words cs ∷ []) (drop end bytes)
   read-all end cs m e r =
       let n : ℕ = 8 * record_words dims (next_first (drop at bytes)) in
-      let left : drop (at + 8 * length words) bytes ≡ drop (8 * record_words dims (next_first (drop at bytes))) (drop at bytes) = ap (λ t. drop (at + 8 * t) bytes) size ∙ sym (drop-drop n at bytes) in
+      let left : drop (at + 8 * length words) bytes ≡ drop (8 * record_words dims (next_first (drop at bytes)))
+      (drop at bytes) = ap (λ t. drop (at + 8 * t) bytes) size ∙ sym (drop-drop n at bytes) in
       let c : length cs ≡ (next_first (drop at bytes)).children = m ∙ ap (λ t. (first_in t).children) w ∙ ap (λ (f : First). f.children) (next-first dims rest) in
       subst (λ t. ReadAs dims (drop at bytes) (unpacked dims t cs ∷ []) (drop end bytes)) (sym w)
       (read-node dims rest (drop end bytes) cs

@@ -1,5 +1,6 @@
 -- Bytes that go through a block to a sink, in two steps.
-use Rattle.std.proofs.Common.{◌≡◌, ℕ, zero, suc, ◌+◌, ◌<◌, List, [], ◌∷◌, ◌++◌, length, take, drop, get_or, refl, ap, sym, ◌∙◌, append_assoc, append-nil, length-append, arith}
+use Rattle.std.proofs.Common.{◌≡◌, ℕ, zero, suc, ◌+◌, ◌<◌, List, [], ◌∷◌, ◌++◌, length, take, drop, get_or}
+use Rattle.std.proofs.Common.{refl, ap, sym, ◌∙◌, append_assoc, append-nil, length-append, arith}
 use Rattle.std.proofs.lemmas.List.{take-append-le}
 use Rattle.ph_io.specs.Giving.{Taken, Given}
 use Rattle.ph_io.specs.Writing.{WritesFront}
@@ -17,7 +18,8 @@ take-behind (x ∷ xs) ys n =
 front-on : (a b c : Taken) (whole before piece behind : List ℕ) → whole ≡ before ++ (piece ++ behind) → Given a b before → WritesFront b c piece → WritesFront a c whole
 front-on a b c whole before piece behind e h w =
     let front : take (length before + w.count) whole ≡ before ++ take w.count piece =
-    ap (λ t. take (length before + w.count) t) e ∙ take-behind before (piece ++ behind) w.count ∙ ap (λ t. before ++ t) (take-append-le w.count piece behind (omega (arith, w.short))) in
+    ap (λ t. take (length before + w.count) t) e ∙ take-behind before (piece ++ behind) w.count ∙
+    ap (λ t. before ++ t) (take-append-le w.count piece behind (omega (arith, w.short))) in
     record {
       count = length before + w.count;
       short = rw e (omega (arith, w.short, length-append before (piece ++ behind), length-append piece behind));
@@ -43,7 +45,8 @@ passed-both a b c u v w xs ys h k = record {
 pub passed-front : (a b c : Taken) (u v xs ys zs whole : List ℕ) → whole ≡ xs ++ (ys ++ zs) → Passed a u b v xs → WritesFront b c (v ++ ys) → WritesFront a c (u ++ whole)
 passed-front a b c u v xs ys zs whole e h w =
     let all : u ++ whole ≡ h.gave ++ ((v ++ ys) ++ zs) =
-    ap (λ t. u ++ t) e ∙ sym (append_assoc u xs (ys ++ zs)) ∙ ap (λ t. t ++ (ys ++ zs)) (sym h.all) ∙ append_assoc h.gave v (ys ++ zs) ∙ ap (λ t. h.gave ++ t) (sym (append_assoc v ys zs)) in
+    ap (λ t. u ++ t) e ∙ sym (append_assoc u xs (ys ++ zs)) ∙ ap (λ t. t ++ (ys ++ zs)) (sym h.all) ∙
+    append_assoc h.gave v (ys ++ zs) ∙ ap (λ t. h.gave ++ t) (sym (append_assoc v ys zs)) in
     front-on a b c (u ++ whole) h.gave (v ++ ys) zs all h.given w
 
 -- bytes that passed, and then all that wait
@@ -62,10 +65,12 @@ words-rest : (ws : List ℕ) (i d : ℕ) → i < length ws → bytes_of ws ≡ b
 words-rest [] i d h = absurd (omega arith)
 words-rest (w ∷ ws) zero d h = refl
 words-rest (w ∷ ws) (suc i) d h =
-    ap (λ t. word_bytes w ++ t) (words-rest ws i d (omega arith)) ∙ sym (append_assoc (word_bytes w) (bytes_of (take i ws)) (word_bytes (get_or ws i d) ++ bytes_of (drop (suc i) ws)))
+    ap (λ t. word_bytes w ++ t) (words-rest ws i d (omega arith)) ∙
+    sym (append_assoc (word_bytes w) (bytes_of (take i ws)) (word_bytes (get_or ws i d) ++ bytes_of (drop (suc i) ws)))
 
 -- the first words passed, and then a front of what waits was given
-pub words-front : (a b c : Taken) (u v ws : List ℕ) (i : ℕ) → i < length ws → Passed a u b v (bytes_of (take i ws)) → WritesFront b c v → WritesFront a c (u ++ bytes_of ws)
+pub words-front : (a b c : Taken) (u v ws : List ℕ) (i : ℕ) → i < length ws → Passed a u b v (bytes_of (take i ws)) →
+    WritesFront b c v → WritesFront a c (u ++ bytes_of ws)
 words-front a b c u v ws i l h w =
     let word : List ℕ = word_bytes (get_or ws i 0) in
     passed-front a b c u v (bytes_of (take i ws)) word (bytes_of (drop (suc i) ws)) (bytes_of ws) (words-rest ws i 0 l) h (front-more b c v word w)

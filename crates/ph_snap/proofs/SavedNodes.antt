@@ -1,5 +1,6 @@
 -- The bytes of the nodes of a tree.
-use Rattle.std.proofs.Common.{◌≡◌, ℕ, ◌+◌, ◌*◌, ◌<◌, ◌≤◌, List, [], ◌∷◌, ◌++◌, length, take, drop, get_or, refl, ap, sym, subst, ◌∙◌, append_assoc, append-nil, length-append, take-append-drop, arith}
+use Rattle.std.proofs.Common.{◌≡◌, ℕ, ◌+◌, ◌*◌, ◌<◌, ◌≤◌, List, [], ◌∷◌, ◌++◌, length, take, drop, get_or, refl, ap, sym}
+use Rattle.std.proofs.Common.{subst, ◌∙◌, append_assoc, append-nil, length-append, take-append-drop, arith}
 use Rattle.std.specs.Prelude.{Some}
 use Rattle.std.proofs.lemmas.List.Concat.{flat_map-append}
 use Rattle.ph_io.specs.Giving.{Taken}
@@ -48,35 +49,42 @@ module _ (dims : ℕ) (n : PlainNode) (words : List ℕ) (e : words ≡ pack dim
   node-front a b u h =
       let below : List ℕ = saved dims (nodes_below n.chain) in
       let all : (u ++ bytes_of words) ++ below ≡ u ++ saved dims (nodes (Some n)) =
-      append_assoc u (bytes_of words) below ∙ ap (λ xs. u ++ (xs ++ below)) (saved-one dims n words e) ∙ ap (λ xs. u ++ xs) (sym (saved-append dims (n ∷ []) (nodes_below n.chain))) in
+      append_assoc u (bytes_of words) below ∙ ap (λ xs. u ++ (xs ++ below)) (saved-one dims n words e) ∙
+      ap (λ xs. u ++ xs) (sym (saved-append dims (n ∷ []) (nodes_below n.chain))) in
       subst (λ xs. WritesFront a b xs) all (front-more a b (u ++ bytes_of words) below h)
 
 -- ---- the nodes below a node
 
 module _ (dims : ℕ) (n : PlainNode) {P : Type 0} (ss : List (SlotOf P)) (i : ℕ) where
   module _ (s : SlotOf P) (l : i < length ss) (e : s ≡ get_or ss i s) where
-    pub child-passed : (a b c : Taken) (u v w : List ℕ) → Passed a u b v (saved dims (n ∷ trees (take i ss))) → Passed b v c w (saved dims (nodes (Some s.node))) → Passed a u c w (saved dims (n ∷ trees (take (i + 1) ss)))
+    pub child-passed : (a b c : Taken) (u v w : List ℕ) → Passed a u b v (saved dims (n ∷ trees (take i ss))) →
+        Passed b v c w (saved dims (nodes (Some s.node))) → Passed a u c w (saved dims (n ∷ trees (take (i + 1) ss)))
     child-passed a b c u v w h k =
         let xs : List PlainNode = n ∷ trees (take i ss) in
         let ys : List PlainNode = nodes (Some s.node) in
         let both : Passed a u c w (saved dims (xs ++ ys)) = rw (saved-append dims xs ys) (passed-both a b c u v w (saved dims xs) (saved dims ys) h k) in
         subst (λ ns. Passed a u c w (saved dims (n ∷ ns))) (sym (trees-more ss i s l e)) both
 
-    pub child-size : (x y : ℕ) → x ≡ length (saved dims (n ∷ trees (take i ss))) → y ≡ length (saved dims (nodes (Some s.node))) → x + y ≡ length (saved dims (n ∷ trees (take (i + 1) ss)))
+    pub child-size : (x y : ℕ) → x ≡ length (saved dims (n ∷ trees (take i ss))) →
+        y ≡ length (saved dims (nodes (Some s.node))) → x + y ≡ length (saved dims (n ∷ trees (take (i + 1) ss)))
     child-size x y h k =
         let xs : List PlainNode = n ∷ trees (take i ss) in
         let ys : List PlainNode = nodes (Some s.node) in
-        let both : length (saved dims (xs ++ ys)) ≡ length (saved dims xs) + length (saved dims ys) = ap length (saved-append dims xs ys) ∙ length-append (saved dims xs) (saved dims ys) in
+        let both : length (saved dims (xs ++ ys)) ≡ length (saved dims xs) + length (saved dims ys) =
+        ap length (saved-append dims xs ys) ∙ length-append (saved dims xs) (saved dims ys) in
         let more : length (saved dims (n ∷ trees (take (i + 1) ss))) ≡ length (saved dims (xs ++ ys)) = ap (λ ns. length (saved dims (n ∷ ns))) (trees-more ss i s l e) in
         omega (arith, h, k, both, more)
 
-    pub child-front : (a b c : Taken) (u v : List ℕ) → trees ss ≡ nodes_below n.chain → Passed a u b v (saved dims (n ∷ trees (take i ss))) → WritesFront b c (v ++ saved dims (nodes (Some s.node))) → WritesFront a c (u ++ saved dims (nodes (Some n)))
+    pub child-front : (a b c : Taken) (u v : List ℕ) → trees ss ≡ nodes_below n.chain →
+        Passed a u b v (saved dims (n ∷ trees (take i ss))) →
+        WritesFront b c (v ++ saved dims (nodes (Some s.node))) → WritesFront a c (u ++ saved dims (nodes (Some n)))
     child-front a b c u v below h k =
         let xs : List PlainNode = n ∷ trees (take i ss) in
         let ys : List PlainNode = nodes (Some s.node) in
         let zs : List PlainNode = trees (drop (i + 1) ss) in
         let rest : trees ss ≡ trees (take i ss) ++ (ys ++ zs) =
-        ap trees (sym (take-append-drop (i + 1) ss)) ∙ flat_map-append (λ x. nodes (Some x.node)) (take (i + 1) ss) (drop (i + 1) ss) ∙ ap (λ ns. ns ++ zs) (trees-more ss i s l e) ∙ append_assoc (trees (take i ss)) ys zs in
+        ap trees (sym (take-append-drop (i + 1) ss)) ∙ flat_map-append (λ x. nodes (Some x.node)) (take (i + 1) ss)
+        (drop (i + 1) ss) ∙ ap (λ ns. ns ++ zs) (trees-more ss i s l e) ∙ append_assoc (trees (take i ss)) ys zs in
         let whole : saved dims (nodes (Some n)) ≡ saved dims xs ++ (saved dims ys ++ saved dims zs) =
         ap (λ ns. saved dims (n ∷ ns)) (sym below ∙ rest) ∙ saved-append dims xs (ys ++ zs) ∙ ap (λ t. saved dims xs ++ t) (saved-append dims ys zs) in
         passed-front a b c u v (saved dims xs) (saved dims ys) (saved dims zs) (saved dims (nodes (Some n))) whole h k

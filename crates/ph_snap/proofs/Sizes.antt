@@ -23,7 +23,13 @@ behind : (width level : ℕ) (above : List ℕ) (e : Entries) → length (rows_b
 behind width level above end = refl
 behind width level above (point a body v rest) = omega (arith, behind width level above rest)
 behind width level above (child a body below chain rest) =
-    omega (arith, length-append (rows_behind width below (put_together level a above body) chain) (rows_behind width level above rest), behind width below (put_together level a above body) chain, behind width level above rest)
+    omega (
+      arith,
+      length-append (rows_behind width below (put_together level a above body) chain)
+          (rows_behind width level above rest),
+      behind width below (put_together level a above body) chain,
+      behind width level above rest,
+    )
 
 pub rows-points : (width dims : ℕ) (n : PlainNode) → length (rows width dims (Some n)) ≡ points n
 rows-points width dims n = behind width n.level (replicate dims 0) n.chain
@@ -41,7 +47,8 @@ nodes-size n = omega (arith, below n.chain)
 
 -- ---- a record and its children
 
-filled-counts : (es : List Read) (vs : List ℕ) (ns : List PlainNode) → kids es ≡ length ns → spots es ≡ length vs → (points_below (filled es vs ns) ≡ spots es + all_points ns) × (nodes_in (filled es vs ns) ≡ all_sizes ns)
+filled-counts : (es : List Read) (vs : List ℕ) (ns : List PlainNode) → kids es ≡ length ns → spots es ≡ length vs →
+    (points_below (filled es vs ns) ≡ spots es + all_points ns) × (nodes_in (filled es vs ns) ≡ all_sizes ns)
 filled-counts [] vs [] h k = (refl, refl)
 filled-counts [] vs (n ∷ ns) h k = absurd (omega (arith, h))
 filled-counts (read_point a body ∷ es) [] ns h k = absurd (omega (arith, k))
@@ -74,18 +81,26 @@ some-entries : (p : Place) → 1 ≤ least_entries p
 some-entries root = omega arith
 some-entries (under l d) = omega arith
 
-pub unpacked-counts : (kind : Kind) (width dims : ℕ) (place : Place) (words : List ℕ) (cs : List PlainNode) → Passed kind width dims place words → length cs ≡ (first_in words).children → AreCounted dims words cs
+pub unpacked-counts : (kind : Kind) (width dims : ℕ) (place : Place) (words : List ℕ) (cs : List PlainNode) →
+    Passed kind width dims place words → length cs ≡ (first_in words).children → AreCounted dims words cs
 unpacked-counts kind width dims place [] cs p m = absurd (omega (arith, p.long))
 unpacked-counts kind width dims place (w ∷ rest) cs p m =
     let es : List Read = entries_in dims (w ∷ rest) in
-    let c : (length (entries_in dims (w ∷ rest)) ≡ (first_in (w ∷ rest)).entries) × (kids (entries_in dims (w ∷ rest)) ≡ (first_in (w ∷ rest)).children) = entries-count kind width dims place w rest p.long p.small p.first p.rest in
+    let c : (length (entries_in dims (w ∷ rest)) ≡ (first_in (w ∷ rest)).entries) ×
+    (kids (entries_in dims (w ∷ rest)) ≡ (first_in (w ∷ rest)).children) = entries-count kind width dims place w
+    rest p.long p.small p.first p.rest in
     let size : ℕ = 1 + words_for (table_digits dims (first_in (w ∷ rest))) in
     let v : spots (entries_in dims (w ∷ rest)) ≡ length (values_in dims (w ∷ rest)) = omega (arith, spots-kids es, c.0, c.1, p.long, length-drop size (w ∷ rest)) in
     let r = filled-counts es (values_in dims (w ∷ rest)) cs (c.1 ∙ sym m) v in
     record {
       rows = omega (arith, r.0, spots-kids es, c.0, c.1);
       nodes = omega (arith, r.1);
-      long = omega (arith, p.long, some-digits (has_cube dims (first_in (w ∷ rest))) (first_in (w ∷ rest)).entries dims (first_in (w ∷ rest)).level (omega (arith, p.first.least, some-entries place)));
+      long = omega (
+        arith,
+        p.long,
+        some-digits (has_cube dims (first_in (w ∷ rest))) (first_in (w ∷ rest)).entries
+            dims (first_in (w ∷ rest)).level (omega (arith, p.first.least, some-entries place)),
+      );
     }
 
 -- ---- lists of nodes

@@ -20,7 +20,9 @@ root-flag : (root : Option (Bor PlainNode)) → root_byte (option_copied root) �
 root-flag None = refl
 root-flag (Some n) = refl
 
-module _ (kind : Kind) (dims w : ℕ) (table : List Row) (root : Option (Bor PlainNode)) (flag : Bool) (bits : ℕ) (header : List ℕ) (b : bits ≡ w) (s : option_copied root ≡ shape w table) (f : flag ≡ is_some root) (h : header ≡ magic 2 ++ (kind_byte kind ∷ dims ∷ bits ∷ (if flag then 1 else 0) ∷ [])) where
+module _ (kind : Kind) (dims w : ℕ) (table : List Row) (root : Option (Bor PlainNode)) (flag : Bool) (bits : ℕ)
+    (header : List ℕ) (b : bits ≡ w) (s : option_copied root ≡ shape w table) (f : flag ≡ is_some root)
+    (h : header ≡ magic 2 ++ (kind_byte kind ∷ dims ∷ bits ∷ (if flag then 1 else 0) ∷ [])) where
   pub snap-saved : snap kind dims w table ≡ header ++ saved dims (nodes (option_copied root))
   unfolding saved
   snap-saved =
@@ -37,7 +39,8 @@ module _ (kind : Kind) (dims w : ℕ) (table : List Row) (root : Option (Bor Pla
       omega (arith, k, all, eight)
 
 -- the tree has the nodes of its table
-pub node-count : (dims w : ℕ) (table : List Row) (root : Option (Bor PlainNode)) → option_copied root ≡ shape w table → length (nodes (option_copied root)) ≡ length (all_nodes w dims table)
+pub node-count : (dims w : ℕ) (table : List Row) (root : Option (Bor PlainNode)) →
+    option_copied root ≡ shape w table → length (nodes (option_copied root)) ≡ length (all_nodes w dims table)
 node-count dims w table root s =
     ap (λ t. length (nodes t)) s ∙ sym (length-nodes w dims (shape w table))
 
@@ -55,12 +58,16 @@ module _ (a b c : Taken) (u v header behind whole : List ℕ) (empty : u ≡ [])
     front-whole l =
         let all : header ++ behind ≡ (header ++ behind) ++ ([] ++ []) = sym (append-nil (header ++ behind)) in
         let rest : WritesFront c d (w ++ []) = subst (λ xs. WritesFront c d xs) (sym (append-nil w)) l in
-        subst (λ xs. WritesFront a d xs) whole-is (passed-front a c d u w (header ++ behind) [] [] (header ++ behind) all (passed-both a b c u v w header behind h k) rest)
+        subst (λ xs. WritesFront a d xs) whole-is
+        (passed-front a c d u w (header ++ behind) [] [] (header ++ behind) all
+        (passed-both a b c u v w header behind h k) rest)
 
     pub given-whole : Given c d w → Given a d whole
     given-whole l =
         subst (λ xs. Given a d xs) whole-is (passed-given a c d u w (header ++ behind) (passed-both a b c u v w header behind h k) l)
 
 -- the snapshot is that of no other kind, dimensions, width or table
-pub snap-unique : (kind : Kind) (dims w : ℕ) (table : List Row) → 1 ≤ w → w ≤ 62 → dims ≤ 16 → IsTable w dims table → (m : Kind) (other width : ℕ) (t : List Row) → IsTable width other t → snap kind dims w table ≡ snap m other width t → (kind ≡ m) × (dims ≡ other) × (w ≡ width) × (table ≡ t)
+pub snap-unique : (kind : Kind) (dims w : ℕ) (table : List Row) → 1 ≤ w → w ≤ 62 → dims ≤ 16 → IsTable w dims table →
+    (m : Kind) (other width : ℕ) (t : List Row) → IsTable width other t →
+    snap kind dims w table ≡ snap m other width t → (kind ≡ m) × (dims ≡ other) × (w ≡ width) × (table ≡ t)
 snap-unique kind dims w table p l d h m other width t k q = snap-one kind m dims other w width table t p l d h k q

@@ -25,9 +25,11 @@ use Rattle.ph_snap.proofs.RecordFaults.{same-faults}
 -- ---- behind the header
 
 behind : (kind : Kind) (width dims : ℕ) (bytes : List ℕ) → body_fault kind width dims 1 bytes ≡ faults kind width dims (root ∷ []) 8 (drop 8 bytes)
-behind kind width dims bytes = same-faults (length bytes) (length (drop 8 bytes)) kind width dims (root ∷ []) 8 (drop 8 bytes) (omega (arith, length-drop 8 bytes)) (omega arith)
+behind kind width dims bytes = same-faults (length bytes) (length (drop 8 bytes)) kind width dims (root ∷ []) 8
+    (drop 8 bytes) (omega (arith, length-drop 8 bytes)) (omega arith)
 
-pub root-fault : (kind : Kind) (width dims : ℕ) (bytes : List ℕ) (f : LoadFault) → HaveFault kind width dims (root ∷ []) 8 bytes f → IsLoadFault (body_fault kind width dims 1 bytes) f
+pub root-fault : (kind : Kind) (width dims : ℕ) (bytes : List ℕ) (f : LoadFault) →
+    HaveFault kind width dims (root ∷ []) 8 bytes f → IsLoadFault (body_fault kind width dims 1 bytes) f
 root-fault kind width dims bytes f h = subst (λ o. IsLoadFault o f) (sym (behind kind width dims bytes)) (h [])
 
 no-more : (kind : Kind) (width dims n : ℕ) (rest : List ℕ) → length rest ≡ 0 → faults kind width dims [] n rest ≡ None
@@ -38,10 +40,13 @@ more : (kind : Kind) (width dims n : ℕ) (rest : List ℕ) → 0 < length rest 
 more kind width dims n [] h = absurd (omega arith)
 more kind width dims n (x ∷ rest) h = refl
 
-pub root-none : (kind : Kind) (width dims : ℕ) (bytes : List ℕ) (end : ℕ) → HaveNone kind width dims (root ∷ []) 8 bytes end → length bytes ≤ end → body_fault kind width dims 1 bytes ≡ None
+pub root-none : (kind : Kind) (width dims : ℕ) (bytes : List ℕ) (end : ℕ) →
+    HaveNone kind width dims (root ∷ []) 8 bytes end → length bytes ≤ end → body_fault kind width dims 1 bytes ≡ None
 root-none kind width dims bytes end h l = behind kind width dims bytes ∙ h [] ∙ no-more kind width dims end (drop end bytes) (omega (arith, length-drop end bytes))
 
-pub root-extra : (kind : Kind) (width dims : ℕ) (bytes : List ℕ) (end : ℕ) → HaveNone kind width dims (root ∷ []) 8 bytes end → end < length bytes → body_fault kind width dims 1 bytes ≡ Some (bad_extra end)
+pub root-extra : (kind : Kind) (width dims : ℕ) (bytes : List ℕ) (end : ℕ) →
+    HaveNone kind width dims (root ∷ []) 8 bytes end → end < length bytes →
+    body_fault kind width dims 1 bytes ≡ Some (bad_extra end)
 root-extra kind width dims bytes end h l = behind kind width dims bytes ∙ h [] ∙ more kind width dims end (drop end bytes) (omega (arith, length-drop end bytes))
 
 -- no root, and nothing behind the header
@@ -57,9 +62,11 @@ pub read-zero : (most dims : ℕ) (bytes : List ℕ) → read_nodes most dims 0 
 read-zero zero dims bytes = refl
 read-zero (suc most) dims bytes = refl
 
-pub root-read : (dims : ℕ) (bytes rest : List ℕ) (n : PlainNode) → ReadAs dims (drop 8 bytes) (n ∷ []) rest → Some n ≡ first_node (read_nodes (length bytes) dims 1 (drop 8 bytes)).0
+pub root-read : (dims : ℕ) (bytes rest : List ℕ) (n : PlainNode) → ReadAs dims (drop 8 bytes) (n ∷ []) rest →
+    Some n ≡ first_node (read_nodes (length bytes) dims 1 (drop 8 bytes)).0
 root-read dims bytes rest n h =
-    let whole : read_nodes (length bytes) dims 1 (drop 8 bytes) ≡ (n ∷ [], rest) = h 0 ([], rest) (λ m k. read-zero m dims rest) (length bytes) (omega (arith, length-drop 8 bytes)) in
+    let whole : read_nodes (length bytes) dims 1 (drop 8 bytes) ≡ (n ∷ [], rest) =
+    h 0 ([], rest) (λ m k. read-zero m dims rest) (length bytes) (omega (arith, length-drop 8 bytes)) in
     sym (ap (λ (p : List PlainNode × List ℕ). first_node p.0) whole)
 
 -- ---- the table
@@ -71,7 +78,9 @@ pub record IsRootOf (kind : Kind) (width dims : ℕ) (bytes : List ℕ) (tree : 
   pub read : read_snapshot kind dims width bytes ≡ Ok (rows width dims tree)
   pub nodes_are : length (all_nodes width dims (rows width dims tree)) ≡ length (nodes tree)
 
-pub root-is : (kind : Kind) (width dims : ℕ) (bytes : List ℕ) (tree : Option PlainNode) → 1 ≤ width → IsBytes bytes → load_fault kind dims width bytes ≡ None → tree ≡ first_node (read_nodes (length bytes) dims (root_flag bytes) (drop 8 bytes)).0 → IsRootOf kind width dims bytes tree
+pub root-is : (kind : Kind) (width dims : ℕ) (bytes : List ℕ) (tree : Option PlainNode) → 1 ≤ width → IsBytes bytes →
+    load_fault kind dims width bytes ≡ None →
+    tree ≡ first_node (read_nodes (length bytes) dims (root_flag bytes) (drop 8 bytes)).0 → IsRootOf kind width dims bytes tree
 root-is kind width dims bytes tree low b h e =
     let s : (T : List Row) × IsSnapshotOf kind dims width bytes T = snapshot-from_none kind dims width bytes b h in
     let T : List Row = s.0 in

@@ -32,10 +32,15 @@ migrated_bytes = refl
 -- one byte of it altered
 abbrev altered : Files
 altered =
-    (codes "b5-10", slice_set two_2 5 0x10) ∷ (codes "b5-11", slice_set two_2 5 0x11) ∷ (codes "b6-00", slice_set two_2 6 0) ∷ (codes "b6-1f", slice_set two_2 6 0x1f) ∷ (codes "b6-3f", slice_set two_2 6 0x3f) ∷ (codes "b7-00", slice_set two_2 7 0) ∷ (codes "b7-02", slice_set two_2 7 2) ∷ []
+    (codes "b5-10", slice_set two_2 5 0x10) ∷ (codes "b5-11", slice_set two_2 5 0x11) ∷
+    (codes "b6-00", slice_set two_2 6 0) ∷ (codes "b6-1f", slice_set two_2 6 0x1f) ∷
+    (codes "b6-3f", slice_set two_2 6 0x3f) ∷ (codes "b7-00", slice_set two_2 7 0) ∷ (codes "b7-02", slice_set two_2 7 2) ∷ []
 
-altered_headers : written (run (2 ^ 30) new_engine altered [] (codes "put 9 9 9" ∷ codes "load b5-11" ∷ codes "load b5-10" ∷ codes "load b6-00" ∷ codes "load b6-3f" ∷ codes "load b6-1f" ∷ codes "load b7-02" ∷ codes "load b7-00" ∷ codes "get 9 9" ∷ []))
-    ≡ text (codes "new" ∷ codes "bad header 5" ∷ codes "bad dims" ∷ codes "bad header 6" ∷ codes "bad header 6" ∷ codes "bad dims" ∷ codes "bad header 7" ∷ codes "bad extra 8" ∷ codes "value 9" ∷ [])
+altered_headers : written (run (2 ^ 30) new_engine altered []
+    (codes "put 9 9 9" ∷ codes "load b5-11" ∷ codes "load b5-10" ∷ codes "load b6-00" ∷ codes "load b6-3f" ∷
+    codes "load b6-1f" ∷ codes "load b7-02" ∷ codes "load b7-00" ∷ codes "get 9 9" ∷ []))
+    ≡ text (codes "new" ∷ codes "bad header 5" ∷ codes "bad dims" ∷ codes "bad header 6" ∷ codes "bad header 6" ∷
+    codes "bad dims" ∷ codes "bad header 7" ∷ codes "bad extra 8" ∷ codes "value 9" ∷ [])
 unfolding digits
 altered_headers = refl
 
@@ -52,7 +57,9 @@ abbrev narrow : Outcome
 narrow =
     run (2 ^ 30) new_engine [] [] (codes "open points 1 bits 1" ∷ codes "put 0 5" ∷ codes "put -1 6" ∷ codes "put 1 7" ∷ codes "stats" ∷ codes "save w1.pht" ∷ [])
 
-one_bit_wide : written narrow ≡ text (codes "opened" ∷ codes "new" ∷ codes "new" ∷ codes "error range" ∷ codes "rows 2 nodes 1 linear 1 cube 0 words 4" ∷ codes "saved 40" ∷ [])
+one_bit_wide : written narrow ≡
+    text (codes "opened" ∷ codes "new" ∷ codes "new" ∷ codes "error range" ∷
+    codes "rows 2 nodes 1 linear 1 cube 0 words 4" ∷ codes "saved 40" ∷ [])
 unfolding digits
 one_bit_wide = refl
 
@@ -60,17 +67,26 @@ one_bit_wide_bytes : lookup (codes "w1.pht") narrow.files ≡ Some (bytes_of (0x
 unfolding digits
 one_bit_wide_bytes = refl
 
-widest_distance : output (codes "open points 1 bits 62" ∷ codes "put 2305843009213693951 1" ∷ codes "near -2305843009213693952 1" ∷ []) ≡ text (codes "opened" ∷ codes "new" ∷ codes "hit 21267647932558653957237540927630737409 2305843009213693951 1" ∷ codes "end 1" ∷ [])
+widest_distance : output (codes "open points 1 bits 62" ∷ codes "put 2305843009213693951 1" ∷
+    codes "near -2305843009213693952 1" ∷ []) ≡
+    text (codes "opened" ∷ codes "new" ∷ codes "hit 21267647932558653957237540927630737409 2305843009213693951 1" ∷
+    codes "end 1" ∷ [])
 unfolding digits
 widest_distance = refl
 
-refused_widths : output (codes "open points 2 bits 63" ∷ codes "open points 2 bits" ∷ codes "open points 2 bits x" ∷ codes "open points 2 fit 8" ∷ codes "open points 2 bits 8 max 1" ∷ codes "put 128 0 1" ∷ codes "put 127 0 1" ∷ codes "put 0 0 1" ∷ [])
-    ≡ text (codes "error dims" ∷ codes "error count" ∷ codes "error number" ∷ codes "error name" ∷ codes "opened" ∷ codes "error range" ∷ codes "new" ∷ codes "error full" ∷ [])
+refused_widths : output (codes "open points 2 bits 63" ∷ codes "open points 2 bits" ∷ codes "open points 2 bits x" ∷
+    codes "open points 2 fit 8" ∷ codes "open points 2 bits 8 max 1" ∷ codes "put 128 0 1" ∷ codes "put 127 0 1" ∷
+    codes "put 0 0 1" ∷ [])
+    ≡ text (codes "error dims" ∷ codes "error count" ∷ codes "error number" ∷ codes "error name" ∷ codes "opened" ∷
+    codes "error range" ∷ codes "new" ∷ codes "error full" ∷ [])
 unfolding digits
 refused_widths = refl
 
 -- the range of a number behind `bits` is another than that behind `max`
-numbers_of_open : output (codes "open points 2 bits 4294967296" ∷ codes "open points 2 max 4294967296" ∷ codes "open points 2 fit 4294967296" ∷ codes "open points 2 max 18446744073709551616" ∷ codes "open fit 2 bits 4294967296" ∷ codes "open points 2 bits 8 fit 4294967296" ∷ codes "open points 2 max 8 bits 4294967296" ∷ [])
+numbers_of_open : output (codes "open points 2 bits 4294967296" ∷ codes "open points 2 max 4294967296" ∷
+    codes "open points 2 fit 4294967296" ∷ codes "open points 2 max 18446744073709551616" ∷
+    codes "open fit 2 bits 4294967296" ∷ codes "open points 2 bits 8 fit 4294967296" ∷
+    codes "open points 2 max 8 bits 4294967296" ∷ [])
     ≡ text (codes "error number" ∷ codes "opened" ∷ codes "error name" ∷ codes "error number" ∷ codes "error number" ∷ codes "error name" ∷ codes "error name" ∷ [])
 unfolding digits
 numbers_of_open = refl

@@ -1,5 +1,6 @@
 -- A pass over a table that keeps the nearest rows so far.
-use Rattle.std.proofs.Common.{◌≡◌, ℕ, zero, suc, ◌+◌, ◌-◌, ◌<◌, ◌≤◌, refl, sym, ◌∙◌, ap, subst, arith, true, List, [], ◌∷◌, ◌++◌, length, take, drop, get_or, take-append-drop, pos, negsuc, le-leb, leb-true}
+use Rattle.std.proofs.Common.{◌≡◌, ℕ, zero, suc, ◌+◌, ◌-◌, ◌<◌, ◌≤◌, refl, sym, ◌∙◌, ap, subst, arith, true, List, [], ◌∷◌}
+use Rattle.std.proofs.Common.{◌++◌, length, take, drop, get_or, take-append-drop, pos, negsuc, le-leb, leb-true}
 use Rattle.std.specs.Prelude.{ℤ, nat_le, slice_get, IfSome, ◌==◌}
 use Rattle.std.specs.List.{AllByRecursion as Each, list_all, insert}
 use Rattle.std.proofs.Math.Nat.{min-le_left}
@@ -16,36 +17,45 @@ use Rattle.ph_table.proofs.Search.{all-at}
 
 -- ---- the place of a row
 
-rows-nearer : (q : List ℤ) (rows : List Row) (place d : ℕ) → Each (λ h. h.distance ≤ d) (take place (hits_of q rows)) → Each (λ s. distance s.point q ≤ d) (take place rows)
+rows-nearer : (q : List ℤ) (rows : List Row) (place d : ℕ) →
+    Each (λ h. h.distance ≤ d) (take place (hits_of q rows)) → Each (λ s. distance s.point q ≤ d) (take place rows)
 rows-nearer q rows zero d h = tt
 rows-nearer q [] (suc place) d h = tt
 rows-nearer q (s ∷ rows) (suc place) d h = (h.0, rows-nearer q rows place d h.1)
 
-front-inserted : (q : List ℤ) (rows : List Row) (r : Row) (place : ℕ) → IfSome (slice_get (hits_of q rows) place) (λ h. distance r.point q < h.distance) → insert_by_distance q (drop place rows) r ≡ r ∷ drop place rows
+front-inserted : (q : List ℤ) (rows : List Row) (r : Row) (place : ℕ) →
+    IfSome (slice_get (hits_of q rows) place) (λ h. distance r.point q < h.distance) →
+    insert_by_distance q (drop place rows) r ≡ r ∷ drop place rows
 front-inserted q [] r zero h = refl
 front-inserted q [] r (suc place) h = refl
 front-inserted q (s ∷ rows) r zero h = insert-front q s rows r h
 front-inserted q (s ∷ rows) r (suc place) h = front-inserted q rows r place h
 
 -- a row goes in behind those that are no farther
-inserted-is : (q : List ℤ) (rows : List Row) (r : Row) (place : ℕ) → IsPlaceFor (hits_of q rows) (distance r.point q) place → insert_by_distance q rows r ≡ take place rows ++ r ∷ drop place rows
+inserted-is : (q : List ℤ) (rows : List Row) (r : Row) (place : ℕ) →
+    IsPlaceFor (hits_of q rows) (distance r.point q) place → insert_by_distance q rows r ≡ take place rows ++ r ∷ drop place rows
 inserted-is q rows r place h =
     ap (λ t. insert_by_distance q t r) (sym (take-append-drop place rows))
     ∙ insert-behind q (take place rows) (drop place rows) r (rows-nearer q rows place (distance r.point q) h.nearer)
     ∙ ap {B = List Row} (λ t. take place rows ++ t) (front-inserted q rows r place h.farther)
 
-hits-inserted : (q : List ℤ) (rows : List Row) (r : Row) (place : ℕ) → insert (hits_of q rows) place (record { row = r; distance = distance r.point q }) ≡ hits_of q (take place rows ++ r ∷ drop place rows)
+hits-inserted : (q : List ℤ) (rows : List Row) (r : Row) (place : ℕ) →
+    insert (hits_of q rows) place (record { row = r; distance = distance r.point q }) ≡
+    hits_of q (take place rows ++ r ∷ drop place rows)
 hits-inserted q rows r zero = refl
 hits-inserted q [] r (suc place) = refl
 hits-inserted q (s ∷ rows) r (suc place) = ap {B = List TableHit} (λ t. record { row = s; distance = distance s.point q } ∷ t) (hits-inserted q rows r place)
 
 -- ---- one row more
 
-next-row : (q : List ℤ) (n i : ℕ) (rows : List Row) (r : Row) → i < length rows → r ≡ get_or rows i r → near q n (take (i + 1) rows) ≡ take n (insert_by_distance q (near q n (take i rows)) r)
+next-row : (q : List ℤ) (n i : ℕ) (rows : List Row) (r : Row) → i < length rows → r ≡ get_or rows i r →
+    near q n (take (i + 1) rows) ≡ take n (insert_by_distance q (near q n (take i rows)) r)
 next-row q n i rows r l e =
     ap (near q n) (take_more rows i r l ∙ ap {B = List Row} (λ t. take i rows ++ t ∷ []) (sym e)) ∙ near-append q n (take i rows) r
 
-module _ (q : List ℤ) (n i place : ℕ) (rows : List Row) (r : Row) (hits : List TableHit) (l : i < length rows) (e : r ≡ get_or rows i r) (h : hits ≡ hits_of q (near q n (take i rows))) (b : IsPlaceFor hits (distance r.point q) place) where
+module _ (q : List ℤ) (n i place : ℕ) (rows : List Row) (r : Row) (hits : List TableHit) (l : i < length rows)
+    (e : r ≡ get_or rows i r) (h : hits ≡ hits_of q (near q n (take i rows)))
+    (b : IsPlaceFor hits (distance r.point q) place) where
   abbrev old : List Row
   old = near q n (take i rows)
 

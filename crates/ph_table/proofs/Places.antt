@@ -22,7 +22,8 @@ tail w r rows p i h = record {
 }
 
 -- a row stands at the point
-pub place-there : (w : ℕ) (rows : List Row) (p : List ℤ) (i : ℕ) (r : Row) → IsCut w rows p i → i < length rows → r ≡ get_or rows i r → same_point r.point p ≡ true → IsPlace w rows p (Ok i)
+pub place-there : (w : ℕ) (rows : List Row) (p : List ℤ) (i : ℕ) (r : Row) → IsCut w rows p i → i < length rows →
+    r ≡ get_or rows i r → same_point r.point p ≡ true → IsPlace w rows p (Ok i)
 place-there w [] p i r h l e s = absurd (omega arith)
 place-there w (q ∷ rows) p zero r h l e s = let t : same_point q.point p ≡ true = rw (← e) s in (omega arith, rw t refl, λ v. rw t refl, rw t refl)
 place-there w (q ∷ rows) p (suc i) r h l e s =
@@ -47,7 +48,8 @@ del-none (r ∷ rows) p h = from (same_point r.point p) refl h (del-none rows p)
     from false e k rest = rw e (ap (λ t. r ∷ t) (rest k))
 
 -- no row is at the point, and none comes before it
-front : (w : ℕ) (rows : List Row) (p : List ℤ) → IsCut w rows p 0 → is_rising w rows ≡ true → (0 < length rows → (d : Row) → same_point (get_or rows 0 d).point p ≡ false) → find rows p ≡ None
+front : (w : ℕ) (rows : List Row) (p : List ℤ) → IsCut w rows p 0 → is_rising w rows ≡ true →
+    (0 < length rows → (d : Row) → same_point (get_or rows 0 d).point p ≡ false) → find rows p ≡ None
 front w [] p h i s = refl
 front w (r ∷ rows) p h i s =
     find-none (r ∷ rows) p (λ k d l. apart k d l)
@@ -60,7 +62,9 @@ front w (r ∷ rows) p h i s =
         not_same (get_or rows k d).point p (λ e. let clash : true ≡ false = sym b ∙ ap (before w r.point) e ∙ n in cc)
 
 -- a new row goes in there
-pub place-new : (w dims : ℕ) (rows : List Row) (p : List ℤ) (i : ℕ) → 1 ≤ w → is_point w dims p ≡ true → list_all (λ r. is_point w dims r.point) rows ≡ true → is_rising w rows ≡ true → IsCut w rows p i → (i < length rows → (d : Row) → same_point (get_or rows i d).point p ≡ false) → IsPlace w rows p (Err i)
+pub place-new : (w dims : ℕ) (rows : List Row) (p : List ℤ) (i : ℕ) → 1 ≤ w → is_point w dims p ≡ true →
+    list_all (λ r. is_point w dims r.point) rows ≡ true → is_rising w rows ≡ true → IsCut w rows p i →
+    (i < length rows → (d : Row) → same_point (get_or rows i d).point p ≡ false) → IsPlace w rows p (Err i)
 place-new w dims [] p i o q a u h s = let e : i ≡ 0 = omega (arith, h.within) in (omega (arith, h.within), refl, λ v. rw e refl, refl)
 place-new w dims (r ∷ rows) p zero o q a u h s =
     let n : same_point r.point p ≡ false = s (omega arith) r in
@@ -80,7 +84,8 @@ place-new w dims (r ∷ rows) p (suc i) o q a u h s =
     (omega arith, rw n rest.1, λ v. rw (n, m) (ap (λ t. r ∷ t) (rest.2 v)), rw n (ap (λ t. r ∷ t) rest.3))
 
 -- a row that is at another point, by any default
-pub other-at : (rows : List Row) (p : List ℤ) (i : ℕ) (r d : Row) → i < length rows → r ≡ get_or rows i r → same_point r.point p ≡ false → same_point (get_or rows i d).point p ≡ false
+pub other-at : (rows : List Row) (p : List ℤ) (i : ℕ) (r d : Row) → i < length rows → r ≡ get_or rows i r →
+    same_point r.point p ≡ false → same_point (get_or rows i d).point p ≡ false
 other-at [] p i r d l e s = absurd (omega arith)
 other-at (q ∷ rows) p zero r d l e s = rw (← e) s
 other-at (q ∷ rows) p (suc i) r d l e s = other-at rows p i r d (omega arith) e s

@@ -15,7 +15,8 @@ all-at test (r ∷ rows) zero d h l = (and_parts _ _ h).0
 all-at test (r ∷ rows) (suc k) d h l = all-at test rows k d (and_parts _ _ h).1 (omega arith)
 
 -- of two places the row at the first comes first
-pub rising-at : (w : ℕ) (rows : List Row) (i j : ℕ) (d e : Row) → is_rising w rows ≡ true → i < j → j < length rows → before w (get_or rows i d).point (get_or rows j e).point ≡ true
+pub rising-at : (w : ℕ) (rows : List Row) (i j : ℕ) (d e : Row) → is_rising w rows ≡ true → i < j → j < length rows →
+    before w (get_or rows i d).point (get_or rows j e).point ≡ true
 rising-at w [] i j d e h l m = absurd (omega arith)
 rising-at w (r ∷ rows) i zero d e h l m = absurd (omega arith)
 rising-at w (r ∷ rows) zero (suc j) d e h l m = all-at (λ s. before w r.point s.point) rows j e (and_parts _ _ h).0 (omega arith)
@@ -35,7 +36,8 @@ lower (suc k) zero h = absurd (omega arith)
 lower (suc k) (suc m) h = elim (lower k m (omega arith)) [ inl l ↦ inl (omega arith) | inr e ↦ inr (omega arith) ]
 
 -- a row that comes before the point, and each row in front of it
-pub earlier-up : (w : ℕ) (rows : List Row) (p : List ℤ) (r : Row) (m k : ℕ) (d : Row) → is_rising w rows ≡ true → m < length rows → r ≡ get_or rows m r → before w r.point p ≡ true → k < m + 1 → before w (get_or rows k d).point p ≡ true
+pub earlier-up : (w : ℕ) (rows : List Row) (p : List ℤ) (r : Row) (m k : ℕ) (d : Row) → is_rising w rows ≡ true →
+    m < length rows → r ≡ get_or rows m r → before w r.point p ≡ true → k < m + 1 → before w (get_or rows k d).point p ≡ true
 earlier-up w rows p r m k d h l e b i =
     elim (lower k m (omega arith)) [
       | inl front ↦ before_trans w (get_or rows k d).point r.point p (rw e (rising-at w rows k m d r h front l)) b
@@ -43,7 +45,8 @@ earlier-up w rows p r m k d h l e b i =
     ]
 
 -- a row that does not come before the point, and each row behind it
-pub later-down : (w : ℕ) (rows : List Row) (p : List ℤ) (r : Row) (m k : ℕ) (d : Row) → is_rising w rows ≡ true → r ≡ get_or rows m r → before w r.point p ≡ false → m ≤ k → k < length rows → before w (get_or rows k d).point p ≡ false
+pub later-down : (w : ℕ) (rows : List Row) (p : List ℤ) (r : Row) (m k : ℕ) (d : Row) → is_rising w rows ≡ true →
+    r ≡ get_or rows m r → before w r.point p ≡ false → m ≤ k → k < length rows → before w (get_or rows k d).point p ≡ false
 later-down w rows p r m k d h e b i l =
     elim (lower m k i) [
       | inl behind ↦ elim (either (before w (get_or rows k d).point p)) [

@@ -119,7 +119,9 @@ module _ {w dims : ℕ} {xs : List Row} {root : Option (Bor PlainNode)} (k : IsR
   root-nodes e = length-nodes w dims (shape w xs) ∙ ap (λ t. length (nodes t)) (root-is e)
 
 -- tables are the same where their trees are
-pub tables-same : {w v dims : ℕ} {xs ys : List Row} {left right : Option (Bor PlainNode)} {a b : Bor PlainNode} {r : Bool} → w ≡ v → IsRooted w dims xs left → IsRooted v dims ys right → left ≡ Some a → right ≡ Some b → (IsTrue r ↔ (a.now ≡ b.now)) → IsTrue r ↔ (xs ≡ ys)
+pub tables-same : {w v dims : ℕ} {xs ys : List Row} {left right : Option (Bor PlainNode)} {a b : Bor PlainNode}
+    {r : Bool} → w ≡ v → IsRooted w dims xs left → IsRooted v dims ys right → left ≡ Some a → right ≡ Some b →
+    (IsTrue r ↔ (a.now ≡ b.now)) → IsTrue r ↔ (xs ≡ ys)
 tables-same {w} {v} {dims} {xs} {ys} {left} {right} {a} {b} {r} u k l e f g =
     let x : shape w xs ≡ Some a.now = root-is k e in
     let y : shape w ys ≡ Some b.now = ap (λ z. shape z ys) u ∙ root-is l f in

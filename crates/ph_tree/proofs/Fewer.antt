@@ -30,7 +30,9 @@ pub record IsRemoval (dims w max len : ℕ) (s : TreeTable) (p : List ℤ) (u : 
   pub some_row : (v : ℕ) → a ≡ Some v → 1 ≤ len
   pub fewer : (v : ℕ) → a ≡ Some v → IsTree dims w u max (len - 1)
 
-module _ {dims w max len : ℕ} {t : Option PlainNode} {s : TreeTable} {p : List ℤ} {key : Key} (k : IsKeyed dims w max len t s p key) {u : Option PlainNode} {a : Option ℕ} (made : u ≡ del_tree key.width dims t key.point) (found : a ≡ find_tree key.width dims t key.point) where
+module _ {dims w max len : ℕ} {t : Option PlainNode} {s : TreeTable} {p : List ℤ} {key : Key}
+    (k : IsKeyed dims w max len t s p key) {u : Option PlainNode} {a : Option ℕ}
+    (made : u ≡ del_tree key.width dims t key.point) (found : a ≡ find_tree key.width dims t key.point) where
   made_at : u ≡ del_tree w dims t p
   made_at = made ∙ (λ i. del_tree (k.width i) dims t (k.point i))
 

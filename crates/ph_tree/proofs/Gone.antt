@@ -1,5 +1,6 @@
 -- A removal by the step that it takes at a node.
-use Rattle.std.proofs.Common.{length, ◌≡◌, ◌≢◌, ℕ, zero, suc, ◌+◌, ◌-◌, ◌<◌, ◌≤◌, List, [], ◌∷◌, Bool, true, false, not, cond, refl, arith, ap, sym, ◌∙◌, subst, ne_eqb, eq-eqb, lt-ltb}
+use Rattle.std.proofs.Common.{length, ◌≡◌, ◌≢◌, ℕ, zero, suc, ◌+◌, ◌-◌, ◌<◌, ◌≤◌, List, [], ◌∷◌, Bool, true, false}
+use Rattle.std.proofs.Common.{not, cond, refl, arith, ap, sym, ◌∙◌, subst, ne_eqb, eq-eqb, lt-ltb}
 use Rattle.std.specs.Prelude.{ℤ, Some, None, Option, slice_get, position, unwrap_or, ◌==◌, if◌then◌else◌}
 use Rattle.std.specs.List.{position_or_len}
 use Rattle.ph_specs.specs.ZOrder.{address}
@@ -13,7 +14,9 @@ use Rattle.ph_specs.proofs.lemmas.PointDigits.{same_digits-refl}
 use Rattle.ph_specs.proofs.laws.EntryLists.{listed-chained}
 use Rattle.ph_specs.proofs.laws.Unpacked.{child_nodes}
 use Rattle.ph_specs.proofs.laws.EntryEdits as laws
-use Rattle.ph_specs.proofs.laws.DelEntries.{IsEntryAt, IsLawfulChild, lawful-child, del_node-none, del_node-point, del_node-other_point, del_node-other_child, del_node-child, del_node-pair, length-del_node, length-del_node-child, del_tree-none, del_tree-some}
+use Rattle.ph_specs.proofs.laws.DelEntries.{IsEntryAt, IsLawfulChild, lawful-child, del_node-none, del_node-point}
+use Rattle.ph_specs.proofs.laws.DelEntries.{del_node-other_point, del_node-other_child, del_node-child, del_node-pair}
+use Rattle.ph_specs.proofs.laws.DelEntries.{length-del_node, length-del_node-child, del_tree-none, del_tree-some}
 use Rattle.ph_node.specs.Shown.{shown}
 use Rattle.ph_node.specs.Split.{IsValue, body_at}
 use Rattle.ph_node.specs.Merge.{IsPair, entries_held, addr_at, body_beside, merge_node}
@@ -29,7 +32,8 @@ use Rattle.ph_tree.proofs.Walks.{no_entry, not_same, least-address, IsStepAt, st
 
 -- ---- the place of an entry
 
-place-at : (dims b least : ℕ) (e : Entries) (i : ℕ) (x : Entry) → IsLawfulFrom dims b least e → slice_get (listed e) i ≡ Some x → position_or_len (has_address x.addr) (listed e) ≡ i
+place-at : (dims b least : ℕ) (e : Entries) (i : ℕ) (x : Entry) → IsLawfulFrom dims b least e →
+    slice_get (listed e) i ≡ Some x → position_or_len (has_address x.addr) (listed e) ≡ i
 place-at dims b least end i x h g = cc
 place-at dims b least (point a body v rest) zero x h g =
     let d : a ≡ x.addr = ap (λ o. (unwrap_or o no_entry).addr) g in
@@ -46,16 +50,20 @@ place-at dims b least (child a body c chain rest) (suc i) x h g =
     let ih : position_or_len (has_address x.addr) (listed rest) ≡ i = place-at dims b (a + 1) rest i x h.7 g in
     ap (λ t. cond (not t) (1 + position_or_len (has_address x.addr) (listed rest)) 0) (ne_eqb a x.addr (λ e. omega (arith, l, e))) ∙ omega (arith, ih)
 
-pub entry_at : (w dims : ℕ) (p : List ℤ) (t : PlainNode) (spot : Spot) (x : Entry) → IsLawfulFrom dims t.level 0 t.chain → IsAt w p t spot x → IsEntryAt w t p spot.place x
+pub entry_at : (w dims : ℕ) (p : List ℤ) (t : PlainNode) (spot : Spot) (x : Entry) →
+    IsLawfulFrom dims t.level 0 t.chain → IsAt w p t spot x → IsEntryAt w t p spot.place x
 entry_at w dims p t spot x ok at =
-    let q : position_or_len (has_address (address w p t.level)) (entries t) ≡ spot.place = subst (λ a. position_or_len (has_address a) (entries t) ≡ spot.place) at.1 (place-at dims t.level 0 t.chain spot.place x ok at.0) in
+    let q : position_or_len (has_address (address w p t.level)) (entries t) ≡ spot.place =
+    subst (λ a. position_or_len (has_address a) (entries t) ≡ spot.place) at.1
+    (place-at dims t.level 0 t.chain spot.place x ok at.0) in
     record {
       first = rw (q, lt-ltb spot.place (length (entries t)) (within (entries t) spot.place x at.0)) refl;
       is = at.0;
     }
 
 -- an address that is nowhere
-pub nowhere_is : (w : ℕ) (p : List ℤ) (t : PlainNode) (level a : ℕ) → level ≡ t.level → a ≡ address w p level → None ≡ position (has_address a) (entries t) → position (has_address (address w p t.level)) (entries t) ≡ None
+pub nowhere_is : (w : ℕ) (p : List ℤ) (t : PlainNode) (level a : ℕ) → level ≡ t.level → a ≡ address w p level →
+    None ≡ position (has_address a) (entries t) → position (has_address (address w p t.level)) (entries t) ≡ None
 nowhere_is w p t level a l d n =
     ap (λ u. position (has_address u) (entries t)) (sym (d ∙ ap (address w p) l)) ∙ sym n
 
@@ -90,7 +98,8 @@ module _ (w dims : ℕ) (p : List ℤ) (t : PlainNode) (ok : IsLawfulFrom dims t
 
     pub own_length : length (entries (del_node w t p)) + 1 ≡ length (entries t)
     own_length =
-        let e : length (entries (del_node w t p)) ≡ length (without (entries t) spot.place) = ap (λ u. length (entries u)) (sym own_del) ∙ length-node t.level (without (entries t) spot.place) in
+        let e : length (entries (del_node w t p)) ≡ length (without (entries t) spot.place) =
+        ap (λ u. length (entries u)) (sym own_del) ∙ length-node t.level (without (entries t) spot.place) in
         omega (arith, e, length-without (entries t) spot.place own_inside)
 
     -- where entries are left, there are two
@@ -112,11 +121,13 @@ module _ (w dims : ℕ) (p : List ℤ) (t : PlainNode) (ok : IsLawfulFrom dims t
   none_among many n l =
       let e : length (entries (del_node w t p)) ≡ length (entries t) = ap (λ u. length (entries u)) (del_node-none w t p n) in omega (arith, l, e)
 
-  pub other_among : (spot : Spot) (many : ℕ) (x : Entry) (u : ℕ) → IsAt w p t spot x → x.what ≡ value u → (x.body ≡ digits_below w t.level p → ⊥) → many ≤ length (entries t) → many ≤ length (entries (del_node w t p))
+  pub other_among : (spot : Spot) (many : ℕ) (x : Entry) (u : ℕ) → IsAt w p t spot x → x.what ≡ value u →
+      (x.body ≡ digits_below w t.level p → ⊥) → many ≤ length (entries t) → many ≤ length (entries (del_node w t p))
   other_among spot many x u at q a l =
       let e : length (entries (del_node w t p)) ≡ length (entries t) = ap (λ u. length (entries u)) (other_del_by spot x (value u) at q a) in omega (arith, l, e)
 
-  pub child_among : (spot : Spot) (many : ℕ) (x : Entry) (m : PlainNode) → IsAt w p t spot x → x.what ≡ node m → many ≤ length (entries t) → many ≤ length (entries (del_node w t p))
+  pub child_among : (spot : Spot) (many : ℕ) (x : Entry) (m : PlainNode) → IsAt w p t spot x → x.what ≡ node m →
+      many ≤ length (entries t) → many ≤ length (entries (del_node w t p))
   child_among spot many x m at q l =
       omega (arith, l, length-del_node-child w t p spot.place x m (entry_at w dims p t spot x ok at) q)
 
@@ -153,10 +164,12 @@ kept-children w b p (child a body c chain rest) h =
     (if same_digits body (digits_between w b c p) then merged_child a body c (del_entries w c chain p) rest else child a body c chain rest)
     (child a body c chain (del_entries w b rest p))
     (suc (length (listed rest)))
-    (either-long (same_digits body (digits_between w b c p)) (merged_child a body c (del_entries w c chain p) rest) (child a body c chain rest) (suc (length (listed rest))) (merged-long a c body (del_entries w c chain p) rest) refl)
+    (either-long (same_digits body (digits_between w b c p)) (merged_child a body c (del_entries w c chain p) rest)
+    (child a body c chain rest) (suc (length (listed rest))) (merged-long a c body (del_entries w c chain p) rest) refl)
     (ap suc ih)
 
-pub children_among : (w : ℕ) (p : List ℤ) (t : PlainNode) (many : ℕ) → length (child_nodes t.chain) ≡ length (entries t) → many ≤ length (entries t) → many ≤ length (entries (del_node w t p))
+pub children_among : (w : ℕ) (p : List ℤ) (t : PlainNode) (many : ℕ) →
+    length (child_nodes t.chain) ≡ length (entries t) → many ≤ length (entries t) → many ≤ length (entries (del_node w t p))
 children_among w p t many h l = omega (arith, l, kept-children w t.level p t.chain h)
 
 -- ---- steps
@@ -209,7 +222,9 @@ module _ {dims w o : ℕ} {p : List ℤ} {t : PlainNode} {found : StepOf PlainNo
 
     pub below_del : {n : PlainNode} → shown m ≡ n → IsAmong w p (shown m) 2 None → with_child t spot.place (del_node w n p) ≡ del_node w t p
     below_del e h =
-        subst (λ u. with_child t spot.place (del_node w u p) ≡ del_node w t p) e (sym (del_node-child w t p spot.place nearer.0 (shown m) (entry_at w dims p t spot nearer.0 k.lawful nearer.1) nearer.2 (below_digits k is) (h below_lawful.many)))
+        subst (λ u. with_child t spot.place (del_node w u p) ≡ del_node w t p) e
+        (sym (del_node-child w t p spot.place nearer.0 (shown m)
+        (entry_at w dims p t spot nearer.0 k.lawful nearer.1) nearer.2 (below_digits k is) (h below_lawful.many)))
 
     pub merges : {own : Spot} {v : ℕ} → (length (entries (shown m)) ≡ 2) × IsOwn w p (shown m) own v → Merges w p t spot own.place v
     merges {own = own} {v = v} (two, y) =
@@ -218,10 +233,13 @@ module _ {dims w o : ℕ} {p : List ℤ} {t : PlainNode} {found : StepOf PlainNo
         let z : (z : Entry) × (slice_get (entries (shown m)) (1 - j) ≡ Some z) = pair-other (entries (shown m)) j two one in
         let held : what_at (entries t) spot.place ≡ node (shown m) = what_got (entries t) spot.place nearer.0 nearer.1.0 ∙ nearer.2 in
         let front : body_at (entries t) spot.place ≡ nearer.0.body = body_got (entries t) spot.place nearer.0 nearer.1.0 in
-        let at : (addr_at (entries (shown m)) (1 - j) ≡ z.0.addr) × (body_at (entries (shown m)) (1 - j) ≡ z.0.body) × (what_at (entries (shown m)) (1 - j) ≡ z.0.what) = got (entries (shown m)) (1 - j) z.0 z.1 in
+        let at : (addr_at (entries (shown m)) (1 - j) ≡ z.0.addr) × (body_at (entries (shown m)) (1 - j) ≡ z.0.body) ×
+        (what_at (entries (shown m)) (1 - j) ≡ z.0.what) = got (entries (shown m)) (1 - j) z.0 z.1 in
         record {
           there = spot_at w p t spot nearer.0 nearer.1;
-          pair = subst (λ u. IsPair t.level u (what_at (entries t) spot.place)) (sym front) (subst (IsPair t.level nearer.0.body) (sym held) (record { two = two; lower = below_lawful.lower; zeros = below_lawful.zeros }));
+          pair = subst (λ u. IsPair t.level u (what_at (entries t) spot.place)) (sym front)
+              (subst (IsPair t.level nearer.0.body) (sym held)
+              (record { two = two; lower = below_lawful.lower; zeros = below_lawful.zeros }));
           one = one;
           point = subst (λ u. IsValue (what_at (entries_held u) j)) (sym held) (subst IsValue (sym (what_got (entries (shown m)) j y.0 y.1.0 ∙ y.2)) tt);
           del =
@@ -229,7 +247,10 @@ module _ {dims w o : ℕ} {p : List ℤ} {t : PlainNode} {found : StepOf PlainNo
               ∙ ap (λ u. node_of t.level (merged (entries t) spot.place j (body_beside nearer.0.body u j))) held
               ∙ ap (λ n. node_of t.level (merged (entries t) spot.place j (put_together (shown m).level n nearer.0.body (body_at (entries (shown m)) (1 - j))))) at.0
               ∙ ap (λ u. node_of t.level (merged (entries t) spot.place j (put_together (shown m).level z.0.addr nearer.0.body u))) at.1
-              ∙ sym (del_node-pair w t p spot.place nearer.0 (shown m) j y.0 v z.0 (entry_at w dims p t spot nearer.0 k.lawful nearer.1) nearer.2 (below_digits k is) (entry_at w dims p (shown m) own y.0 below_lawful.lawful y.1) y.2 (same_digits-refl y.0.body (digits_below w (shown m).level p) y.3) two z.1);
+              ∙ sym (del_node-pair w t p spot.place nearer.0 (shown m) j y.0 v z.0
+              (entry_at w dims p t spot nearer.0 k.lawful nearer.1) nearer.2 (below_digits k is)
+              (entry_at w dims p (shown m) own y.0 below_lawful.lawful y.1) y.2
+              (same_digits-refl y.0.body (digits_below w (shown m).level p) y.3) two z.1);
           found = (way_below k is refl).found ∙ own_found w dims p (shown m) below_lawful.lawful own v y;
         }
 
@@ -260,4 +281,5 @@ module _ (w dims : ℕ) (p : List ℤ) (n s : PlainNode) (is : s ≡ n) (t : Opt
 
     pub last_gone : None ≡ del_tree w dims t p
     last_gone =
-        sym (own_last w dims p n ok_root.2 spot v (subst (λ u. IsOwn w p u spot v) is h.1) (subst (λ u. length (entries u) ≡ 1) is h.0)) ∙ ap (λ o. del_tree w dims o p) root
+        sym (own_last w dims p n ok_root.2 spot v (subst (λ u. IsOwn w p u spot v) is h.1)
+        (subst (λ u. length (entries u) ≡ 1) is h.0)) ∙ ap (λ o. del_tree w dims o p) root

@@ -1,5 +1,6 @@
 -- Bodies and addresses, cut from the offsets of a point.
-use Rattle.std.proofs.Common.{◌≡◌, ℕ, suc, ◌+◌, ◌-◌, ◌*◌, ◌/◌, ◌%◌, ◌^◌, ◌≤◌, List, [], ◌∷◌, length, take, drop, replicate, map, refl, ap, sym, ◌∙◌, subst, true, eqb-true}
+use Rattle.std.proofs.Common.{◌≡◌, ℕ, suc, ◌+◌, ◌-◌, ◌*◌, ◌/◌, ◌%◌, ◌^◌, ◌≤◌, List, [], ◌∷◌, length, take}
+use Rattle.std.proofs.Common.{drop, replicate, map, refl, ap, sym, ◌∙◌, subst, true, eqb-true}
 use Rattle.std.specs.Prelude.{ℤ}
 use Rattle.std.specs.List.{list_all}
 use Rattle.std.proofs.lemmas.Bool.{and_parts}
@@ -35,7 +36,9 @@ pub point-fits : (w dims : ℕ) (p : List ℤ) → is_point w dims p ≡ true �
 point-fits w dims p h = (and_parts _ _ h).1
 
 -- the offsets of a point make a key, and the point is given back
-pub made : (w dims : ℕ) (p : List ℤ) (os : List ℕ) → 1 ≤ dims → dims ≤ 16 → 1 ≤ w → w ≤ 62 → is_point w dims p ≡ true → take (length p) os ≡ offsets w p → drop (length p) os ≡ replicate (16 - length p) 0 → IsKey dims w os
+pub made : (w dims : ℕ) (p : List ℤ) (os : List ℕ) → 1 ≤ dims → dims ≤ 16 → 1 ≤ w → w ≤ 62 →
+    is_point w dims p ≡ true → take (length p) os ≡ offsets w p → drop (length p) os ≡ replicate (16 - length p) 0 →
+    IsKey dims w os
 made w dims p os a b l u h e f =
     let long : length p ≡ dims = point-long w dims p h in
     let body : IsBody (length p) w (offsets w p) = is_body-offsets w p l (point-fits w dims p h) in

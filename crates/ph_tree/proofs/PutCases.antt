@@ -28,14 +28,18 @@ module _ {T : Type 0} {was after now : T} {before later : ℕ} where
 
 module _ {T : Type 0} {fresh room : Bool} {was after now : T} {before later : ℕ} {result : Result Put PutError} where
   -- the same by what else was found, and by another name of the tree with the value
-  pub found_as : {found same : Option ℕ} → found ≡ same → IsPut fresh room found was after now before later result → IsPut fresh room same was after now before later result
+  pub found_as : {found same : Option ℕ} → found ≡ same → IsPut fresh room found was after now before later result →
+      IsPut fresh room same was after now before later result
   found_as e p = subst (λ f. IsPut fresh room f was after now before later result) e p
 
-  pub put_as : {found : Option ℕ} {same : T} → after ≡ same → IsPut fresh room found was after now before later result → IsPut fresh room found was same now before later result
+  pub put_as : {found : Option ℕ} {same : T} → after ≡ same →
+      IsPut fresh room found was after now before later result → IsPut fresh room found was same now before later result
   put_as {found = found} e p = subst (λ a. IsPut fresh room found was a now before later result) e p
 
   -- the put below a node, as one of the node
-  pub lifted : {U : Type 0} {below found : Option ℕ} {was_u after_u : U} (over : T → U) → below ≡ found → over was ≡ was_u → over after ≡ after_u → IsPut fresh room below was after now before later result → IsPut fresh room found was_u after_u (over now) before later result
+  pub lifted : {U : Type 0} {below found : Option ℕ} {was_u after_u : U} (over : T → U) → below ≡ found →
+      over was ≡ was_u → over after ≡ after_u → IsPut fresh room below was after now before later result →
+      IsPut fresh room found was_u after_u (over now) before later result
   lifted {was_u = was_u} {after_u = after_u} over same back put p = subst (λ f. IsPut fresh room f was_u after_u (over now) before later result) same (record {
     answer = p.answer;
     put = λ h. on_ok result (λ q. ap over q ∙ put) (p.put h);

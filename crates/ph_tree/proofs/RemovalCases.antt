@@ -6,12 +6,15 @@ use Rattle.ph_tree.proofs.Walks.{on_ok, on_err}
 
 module _ {T : Type 0} {was after now : T} {before later : ℕ} {result : Result (Option ℕ) AllocError} where
   -- the same by what else was found, and by another name of the tree without the point
-  pub removal_as : {found same : Option ℕ} {other : T} → found ≡ same → after ≡ other → IsRemoval found was after now before later result → IsRemoval same was other now before later result
+  pub removal_as : {found same : Option ℕ} {other : T} → found ≡ same → after ≡ other →
+      IsRemoval found was after now before later result → IsRemoval same was other now before later result
   removal_as {found = found} {other = other} e d r =
       subst (λ f. IsRemoval f was other now before later result) e (subst (λ a. IsRemoval found was a now before later result) d r)
 
   -- the removal below a node, as one of the node
-  pub lifted : {U : Type 0} {below found : Option ℕ} {was_u after_u : U} (over : T → U) → below ≡ found → over was ≡ was_u → over after ≡ after_u → IsRemoval below was after now before later result → IsRemoval found was_u after_u (over now) before later result
+  pub lifted : {U : Type 0} {below found : Option ℕ} {was_u after_u : U} (over : T → U) → below ≡ found →
+      over was ≡ was_u → over after ≡ after_u → IsRemoval below was after now before later result →
+      IsRemoval found was_u after_u (over now) before later result
   lifted {was_u = was_u} {after_u = after_u} over same back gone r = subst (λ f. IsRemoval f was_u after_u (over now) before later result) same (record {
     answer = r.answer;
     del = on_ok result (λ q. ap over q ∙ gone) r.del;

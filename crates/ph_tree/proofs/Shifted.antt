@@ -62,7 +62,9 @@ pub record IsMove (dims w max len : ℕ) (s : TreeTable) (from to : List ℤ) (u
   pub tree : IsTree dims w u max len
   pub table : tree_table dims w u max ≡ with_moved s from to
 
-module _ {dims w max len : ℕ} {t : Option PlainNode} {s : TreeTable} {from to : List ℤ} {old new : Key} (f : IsKeyed dims w max len t s from old) (k : IsKeyed dims w max len t s to new) {v : ℕ} (found : find s.table from ≡ Some v) where
+module _ {dims w max len : ℕ} {t : Option PlainNode} {s : TreeTable} {from to : List ℤ} {old new : Key}
+    (f : IsKeyed dims w max len t s from old) (k : IsKeyed dims w max len t s to new) {v : ℕ}
+    (found : find s.table from ≡ Some v) where
   abbrev before_rows : List Row
   before_rows = rows w dims t
 
@@ -82,7 +84,9 @@ module _ {dims w max len : ℕ} {t : Option PlainNode} {s : TreeTable} {from to 
   -- the way to the old point, once the value is at the new one
   pub opened_between : opened_in old.width (put_tree new.width dims t new.point v) old.point ≤ s.width
   opened_between =
-      let e : opened_in old.width (put_tree new.width dims t new.point v) old.point ≡ opened_in w (put_tree w dims t to v) from = λ i. opened_in (f.width i) (put_tree (k.width i) dims t (k.point i) v) (f.point i) in
+      let e : opened_in old.width (put_tree new.width dims t new.point v) old.point ≡
+      opened_in w (put_tree w dims t to v) from =
+      λ i. opened_in (f.width i) (put_tree (k.width i) dims t (k.point i) v) (f.point i) in
       omega (
         arith,
         e,
@@ -91,7 +95,8 @@ module _ {dims w max len : ℕ} {t : Option PlainNode} {s : TreeTable} {from to 
         ap (λ u. u.width) f.seen,
       )
 
-  module _ (other : same_point from to ≡ false) (free : find s.table to ≡ None) {u : Option PlainNode} (made : u ≡ del_tree old.width dims (put_tree new.width dims t new.point v) old.point) where
+  module _ (other : same_point from to ≡ false) (free : find s.table to ≡ None) {u : Option PlainNode}
+      (made : u ≡ del_tree old.width dims (put_tree new.width dims t new.point v) old.point) where
     made_at : u ≡ del_tree w dims (put_tree w dims t to v) from
     made_at = made ∙ (λ i. del_tree (f.width i) dims (put_tree (k.width i) dims t (k.point i) v) (f.point i))
 
@@ -123,7 +128,9 @@ module _ {dims w max len : ℕ} {t : Option PlainNode} {s : TreeTable} {from to 
 
     pub moved : IsMove dims w max len s from to u
     moved = record {
-      tree = tree_of k.tree (subst (IsLawful w dims) (sym made_at) (lawful-del_tree w dims (put_tree w dims t to v) from lawful_between)) (omega (arith, same_number, k.tree.counted)) k.tree.limit;
+      tree = tree_of k.tree (subst (IsLawful w dims) (sym made_at)
+          (lawful-del_tree w dims (put_tree w dims t to v) from lawful_between))
+          (omega (arith, same_number, k.tree.counted)) k.tree.limit;
       table = ap {B = TreeTable} (λ (r : List Row). record { table = r; width = w; max = max }) moved_rows ∙ ap (λ z. with_moved z from to) k.seen;
     }
 
@@ -131,7 +138,9 @@ module _ {dims w max len : ℕ} {t : Option PlainNode} {s : TreeTable} {from to 
 taken_there : (s : TreeTable) (from to : List ℤ) → is_some (find s.table to) ≡ true → s ≡ with_moved s from to
 taken_there s from to taken = ap {B = TreeTable} (λ (r : List Row). record s { table = r }) (sym (move-taken s.width s.table from to taken))
 
-pub taken_moved : {dims w max len : ℕ} {t u : Option PlainNode} {s : TreeTable} {from to : List ℤ} → tree_table dims w t max ≡ s → IsTree dims w t max len → is_some (find s.table to) ≡ true → u ≡ t → IsMove dims w max len s from to u
+pub taken_moved : {dims w max len : ℕ} {t u : Option PlainNode} {s : TreeTable} {from to : List ℤ} →
+    tree_table dims w t max ≡ s → IsTree dims w t max len → is_some (find s.table to) ≡ true → u ≡ t →
+    IsMove dims w max len s from to u
 taken_moved {dims = dims} {w = w} {max = max} {len = len} {s = s} {from = from} {to = to} seen tree taken same = record {
   tree = subst (λ z. IsTree dims w z max len) (sym same) tree;
   table = ap (λ z. tree_table dims w z max) same ∙ seen ∙ taken_there s from to taken;

@@ -23,8 +23,12 @@ use Rattle.ph_tree.specs.Stats.{is_cube_node, counted, no_counts}
 pub counted-append : (dims : ℕ) (c : Counts) (xs ys : List PlainNode) → counted dims (counted dims c xs) ys ≡ counted dims c (xs ++ ys)
 counted-append dims c xs ys =
     let n : (c.nodes + length xs) + length ys ≡ c.nodes + length (xs ++ ys) = omega (arith, length-append xs ys) in
-    let p : (c.cube + count_by (is_cube_node dims) xs) + count_by (is_cube_node dims) ys ≡ c.cube + count_by (is_cube_node dims) (xs ++ ys) = omega (arith, sum_by-append (λ m. if is_cube_node dims m then 1 else 0) xs ys) in
-    let w : (c.words + sum_by (λ m. length (pack dims m)) xs) + sum_by (λ m. length (pack dims m)) ys ≡ c.words + sum_by (λ m. length (pack dims m)) (xs ++ ys) = omega (arith, sum_by-append (λ m. length (pack dims m)) xs ys) in
+    let p : (c.cube + count_by (is_cube_node dims) xs) + count_by (is_cube_node dims) ys ≡
+    c.cube + count_by (is_cube_node dims) (xs ++ ys) =
+    omega (arith, sum_by-append (λ m. if is_cube_node dims m then 1 else 0) xs ys) in
+    let w : (c.words + sum_by (λ m. length (pack dims m)) xs) + sum_by (λ m. length (pack dims m)) ys ≡
+    c.words + sum_by (λ m. length (pack dims m)) (xs ++ ys) =
+    omega (arith, sum_by-append (λ m. length (pack dims m)) xs ys) in
     λ i. record { nodes = n i; cube = p i; words = w i }
 
 -- ---- the nodes below a node
@@ -47,9 +51,11 @@ below-children {P} ss n m h e =
         ap (λ ns. nodes (Some (record { level = level; chain = chain })) ++ ns) (by_children rest)
 
 -- one child more
-pub trees-more : {P : Type 0} (ss : List (SlotOf P)) (i : ℕ) (s : SlotOf P) → i < length ss → s ≡ get_or ss i s → trees (take (i + 1) ss) ≡ trees (take i ss) ++ nodes (Some s.node)
+pub trees-more : {P : Type 0} (ss : List (SlotOf P)) (i : ℕ) (s : SlotOf P) → i < length ss → s ≡ get_or ss i s →
+    trees (take (i + 1) ss) ≡ trees (take i ss) ++ nodes (Some s.node)
 trees-more ss i s l e =
-    ap trees (take_more ss i s l ∙ ap (λ x. take i ss ++ x ∷ []) (sym e)) ∙ flat_map-append (λ x. nodes (Some x.node)) (take i ss) (s ∷ []) ∙ ap (λ ns. trees (take i ss) ++ ns) (append-nil (nodes (Some s.node)))
+    ap trees (take_more ss i s l ∙ ap (λ x. take i ss ++ x ∷ []) (sym e)) ∙ flat_map-append (λ x. nodes (Some x.node))
+    (take i ss) (s ∷ []) ∙ ap (λ ns. trees (take i ss) ++ ns) (append-nil (nodes (Some s.node)))
 
 -- some first children have no more nodes than all
 trees-few : {P : Type 0} (ss : List (SlotOf P)) (i : ℕ) → length (trees (take i ss)) ≤ length (trees ss)
@@ -58,18 +64,27 @@ trees-few ss i =
     omega (arith, e, ap length (flat_map-append (λ s. nodes (Some s.node)) (take i ss) (drop i ss)), length-append (trees (take i ss)) (trees (drop i ss)))
 
 -- the nodes of one child, with those of the children before it
-pub child-room : {P : Type 0} (ss : List (SlotOf P)) (i : ℕ) (s : SlotOf P) → i < length ss → s ≡ get_or ss i s → length (trees (take i ss)) + length (nodes (Some s.node)) ≤ length (trees ss)
+pub child-room : {P : Type 0} (ss : List (SlotOf P)) (i : ℕ) (s : SlotOf P) → i < length ss → s ≡ get_or ss i s →
+    length (trees (take i ss)) + length (nodes (Some s.node)) ≤ length (trees ss)
 child-room ss i s l e =
     omega (arith, ap length (trees-more ss i s l e), length-append (trees (take i ss)) (nodes (Some s.node)), trees-few ss (i + 1))
 
 -- ---- no more nodes than rows
 
 -- nodes and entries together: a child has two entries or more
-below-rows : (w dims level least : ℕ) (above : List ℕ) (e : Entries) → IsLawfulFrom dims level least e → length (nodes_below e) + count e ≤ length (rows_behind w level above e)
+below-rows : (w dims level least : ℕ) (above : List ℕ) (e : Entries) → IsLawfulFrom dims level least e →
+    length (nodes_below e) + count e ≤ length (rows_behind w level above e)
 below-rows w dims level least above end h = omega arith
 below-rows w dims level least above (point a body v rest) h = omega (arith, below-rows w dims level (a + 1) above rest h.3)
 below-rows w dims level least above (child a body below chain rest) h =
-    omega (arith, below-rows w dims below 0 (put_together level a above body) chain h.6, below-rows w dims level (a + 1) above rest h.7, h.5, length-append (nodes_below chain) (nodes_below rest), length-append (rows_behind w below (put_together level a above body) chain) (rows_behind w level above rest))
+    omega (
+      arith,
+      below-rows w dims below 0 (put_together level a above body) chain h.6,
+      below-rows w dims level (a + 1) above rest h.7,
+      h.5,
+      length-append (nodes_below chain) (nodes_below rest),
+      length-append (rows_behind w below (put_together level a above body) chain) (rows_behind w level above rest),
+    )
 
 nodes-rows : (w dims : ℕ) (t : Option PlainNode) → IsLawful w dims t → length (nodes t) ≤ length (rows w dims t)
 nodes-rows w dims None h = omega arith
@@ -84,7 +99,9 @@ nodes-few w dims table t h k e =
     omega (arith, ap (λ u. length (nodes u)) e, nodes-rows w dims (shape w table) s.0, ap (λ (rs : List Row). length rs) s.1)
 
 -- what is counted of a tree are its sizes
-pub sizes-counted : (w dims n : ℕ) (table : List Row) (t : Option PlainNode) (c : Counts) → n ≡ length table → t ≡ shape w table → c ≡ counted dims no_counts (nodes t) → record { rows = n; nodes = c.nodes; linear = c.nodes - c.cube; cube = c.cube; words = c.words } ≡ stats w dims table
+pub sizes-counted : (w dims n : ℕ) (table : List Row) (t : Option PlainNode) (c : Counts) → n ≡ length table →
+    t ≡ shape w table → c ≡ counted dims no_counts (nodes t) →
+    record { rows = n; nodes = c.nodes; linear = c.nodes - c.cube; cube = c.cube; words = c.words } ≡ stats w dims table
 sizes-counted w dims n table t c l e h =
     let k : c ≡ counted dims no_counts (nodes (shape w table)) = h ∙ ap (λ u. counted dims no_counts (nodes u)) e in
     let all : c.nodes ≡ length (nodes (shape w table)) = ap (λ x. x.nodes) k ∙ zero-add _ in

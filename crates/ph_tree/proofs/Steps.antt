@@ -1,5 +1,6 @@
 -- What one node says of a point, and what an edit makes of it, by the laws of the definitions.
-use Rattle.std.proofs.Common.{◌≡◌, ◌≢◌, ℕ, zero, suc, ◌+◌, ◌*◌, ◌/◌, ◌%◌, ◌^◌, ◌<◌, List, [], ◌∷◌, length, map, Bool, true, false, refl, arith, ap, sym, ◌∙◌, subst, inl, inr}
+use Rattle.std.proofs.Common.{◌≡◌, ◌≢◌, ℕ, zero, suc, ◌+◌, ◌*◌, ◌/◌, ◌%◌, ◌^◌, ◌<◌, List, [], ◌∷◌, length}
+use Rattle.std.proofs.Common.{map, Bool, true, false, refl, arith, ap, sym, ◌∙◌, subst, inl, inr}
 use Rattle.std.specs.Prelude.{ℤ, Some, None, slice_get, position, unwrap_or}
 use Rattle.std.proofs.Math.Nat.{mod-lt, mod-eq_of_lt, div-eq_of_lt}
 use Rattle.std.proofs.lemmas.Nat.{pow_pos}
@@ -42,7 +43,9 @@ entry_there (x ∷ xs) zero l = refl
 entry_there (x ∷ xs) (suc i) l = entry_there xs i (omega (arith, l))
 
 -- the entry that a search by the point's address comes to
-pub at_entry : (w : ℕ) (p : List ℤ) (t : PlainNode) (level a : ℕ) (spot : Spot) → level ≡ t.level → a ≡ address w p level → Some spot.place ≡ position (has_address a) (entries t) → IsSpot (entries t) spot → IsAt w p t spot (entry_at (entries t) spot.place)
+pub at_entry : (w : ℕ) (p : List ℤ) (t : PlainNode) (level a : ℕ) (spot : Spot) → level ≡ t.level →
+    a ≡ address w p level → Some spot.place ≡ position (has_address a) (entries t) → IsSpot (entries t) spot →
+    IsAt w p t spot (entry_at (entries t) spot.place)
 at_entry w p t level a spot l d f h =
     let g = entry_there (entries t) spot.place h.within in
     (g, laws.address-found a spot.place (entries t) (entry_at (entries t) spot.place) (sym f) g ∙ d ∙ ap (address w p) l, h.address)
@@ -69,7 +72,8 @@ module _ (w level : ℕ) (p : List ℤ) (xs os : List ℕ) (r : Bool) (given : o
       same_digits-false xs (body_above low (body_below level os)) (sym f ∙ t) (s ∙ sym (between_point low b d))
 
 -- Fields below a level that have zeros from the place under it down are zeros, and so is what numbers have between the two.
-pub gapless : (level low : ℕ) (xs os : List ℕ) → low + 1 ≡ level → Each (λ x. x < 2 ^ level) xs → HasZerosFrom low xs → length os ≡ length xs → xs ≡ body_above low (body_below level os)
+pub gapless : (level low : ℕ) (xs os : List ℕ) → low + 1 ≡ level → Each (λ x. x < 2 ^ level) xs →
+    HasZerosFrom low xs → length os ≡ length xs → xs ≡ body_above low (body_below level os)
 gapless level low [] [] e b z l = refl
 gapless level low [] (o ∷ os) e b z l = absurd (omega (arith, l))
 gapless level low (x ∷ xs) [] e b z l = absurd (omega (arith, l))
@@ -136,7 +140,9 @@ lawful-body dims b least (child a body c chain rest) (suc i) x h g = lawful-body
 
 -- ---- a point joins
 
-pub put_absent : (w : ℕ) (p : List ℤ) (t : PlainNode) (level a : ℕ) (body : List ℕ) (v : ℕ) → level ≡ t.level → a ≡ address w p level → body ≡ digits_below w level p → position (has_address (address w p level)) (entries t) ≡ None → node_of t.level (inserted (point_entry a body v) (entries t)) ≡ put_node w t p v
+pub put_absent : (w : ℕ) (p : List ℤ) (t : PlainNode) (level a : ℕ) (body : List ℕ) (v : ℕ) → level ≡ t.level →
+    a ≡ address w p level → body ≡ digits_below w level p → position (has_address (address w p level)) (entries t) ≡
+    None → node_of t.level (inserted (point_entry a body v) (entries t)) ≡ put_node w t p v
 put_absent w p t level a body v l d b n =
     ap (λ u. node_of t.level (inserted (point_entry u body v) (entries t))) (d ∙ ap (address w p) l)
     ∙ ap (λ u. node_of t.level (inserted (point_entry (address w p t.level) u v) (entries t))) (b ∙ ap (λ k. digits_below w k p) l)
@@ -151,7 +157,8 @@ above-digits l (x ∷ xs) = ap {B = List ℕ} (λ u. x / 2 ^ (l + 1) * 2 ^ (l + 
 above-same : (l : ℕ) (xs ys : List ℕ) → digits_from (l + 1) xs ≡ digits_from (l + 1) ys → body_above l xs ≡ body_above l ys
 above-same l xs ys e = above-digits l xs ∙ ap (λ u. map (λ n. n * 2 ^ (l + 1)) u) e ∙ sym (above-digits l ys)
 
-module _ (w dims : ℕ) (p : List ℤ) (t : PlainNode) (spot : Spot) (x : Entry) (at : IsAt w p t spot x) (ok : IsLawfulFrom dims t.level 0 t.chain) (new_body : IsBody dims t.level (digits_below w t.level p)) where
+module _ (w dims : ℕ) (p : List ℤ) (t : PlainNode) (spot : Spot) (x : Entry) (at : IsAt w p t spot x)
+    (ok : IsLawfulFrom dims t.level 0 t.chain) (new_body : IsBody dims t.level (digits_below w t.level p)) where
   abbrev new : List ℕ
   new = digits_below w t.level p
 
@@ -180,13 +187,17 @@ module _ (w dims : ℕ) (p : List ℤ) (t : PlainNode) (spot : Spot) (x : Entry)
         let c : IsLawfulChild dims t.level x m = lawful-child dims t.level 0 t.chain spot.place x m ok at.0 q in
         elim (cases_lt m.level place) [
           | inl l ↦ l
-          | inr g ↦ absurd (a (above-zeros m.level x.body c.zeros ∙ above-same m.level x.body new (same_from (place + 1) (m.level + 1) x.body new (omega (arith, g)) has.1)))
+          | inr g ↦ absurd (a (above-zeros m.level x.body c.zeros ∙ above-same m.level x.body new
+              (same_from (place + 1) (m.level + 1) x.body new (omega (arith, g)) has.1)))
         ]
 
     pub above : IsBelow place (what_at (entries t) spot.place)
     above = subst (IsBelow place) (sym (what_got (entries t) spot.place x at.0)) (above_by x.what refl apart)
 
-    put_by : (held : What) → x.what ≡ held → IsApart w p t.level x.body held → (v : ℕ) → put_node w t p v ≡ node_of t.level (split_at (entries t) spot.place place (digits_between w t.level place p) (body_address place x.body) (body_below place x.body) (point_entry (address w p place) (digits_below w place p) v))
+    put_by : (held : What) → x.what ≡ held → IsApart w p t.level x.body held → (v : ℕ) →
+        put_node w t p v ≡ node_of t.level
+        (split_at (entries t) spot.place place (digits_between w t.level place p) (body_address place x.body)
+        (body_below place x.body) (point_entry (address w p place) (digits_below w place p) v))
     put_by (value u) q a v = laws.put_node-split_point w dims t spot.place x u place p v ok at.0 at.1 q a refl
     put_by (node m) q a v =
         let c : IsLawfulChild dims t.level x m = lawful-child dims t.level 0 t.chain spot.place x m ok at.0 q in
@@ -195,9 +206,16 @@ module _ (w dims : ℕ) (p : List ℤ) (t : PlainNode) (spot : Spot) (x : Entry)
 
     pub put_split : (v : ℕ) → split_node t spot.place place (digits_below w t.level p) v ≡ put_node w t p v
     put_split v =
-        ap (λ o. node_of t.level (split_at (entries t) spot.place place (digits_between w t.level place p) (body_address place o) (body_below place o) (entry_below place new (value v)))) (body_got (entries t) spot.place x at.0)
-        ∙ ap (λ n. node_of t.level (split_at (entries t) spot.place place (digits_between w t.level place p) (body_address place x.body) (body_below place x.body) (record { addr = n; body = body_below place new; what = value v }))) (address-of-body w t.level place p has.0)
-        ∙ ap (λ (u : List ℕ). node_of t.level (split_at (entries t) spot.place place (digits_between w t.level place p) (body_address place x.body) (body_below place x.body) (record { addr = address w p place; body = u; what = value v }))) (below-of-body w t.level place p (omega (arith, has.0)))
+        ap (λ o. node_of t.level (split_at (entries t) spot.place place (digits_between w t.level place p)
+        (body_address place o) (body_below place o) (entry_below place new (value v))))
+        (body_got (entries t) spot.place x at.0)
+        ∙ ap (λ n. node_of t.level (split_at (entries t) spot.place place (digits_between w t.level place p)
+        (body_address place x.body) (body_below place x.body)
+        (record { addr = n; body = body_below place new; what = value v }))) (address-of-body w t.level place p has.0)
+        ∙ ap (λ (u : List ℕ). node_of t.level
+        (split_at (entries t) spot.place place (digits_between w t.level place p) (body_address place x.body)
+        (body_below place x.body) (record { addr = address w p place; body = u; what = value v })))
+        (below-of-body w t.level place p (omega (arith, has.0)))
         ∙ sym (put_by x.what refl apart v)
 
 -- all that a split asks, and what it makes
@@ -208,17 +226,22 @@ pub record Splits (w dims : ℕ) (p : List ℤ) (t : PlainNode) (spot : Spot) (b
   pub over : IsBelow (part_place t spot.place body) (what_at (entries t) spot.place)
   pub put : (v : ℕ) → split_node t spot.place (part_place t spot.place body) body v ≡ put_node w t p v
 
-pub splits : {w dims level : ℕ} {p : List ℤ} {t : PlainNode} {spot : Spot} {body : List ℕ} → IsLawfulFrom dims t.level 0 t.chain → IsApartAt w p t spot → level ≡ t.level → IsBody dims level body → body ≡ digits_below w level p → Splits w dims p t spot body
+pub splits : {w dims level : ℕ} {p : List ℤ} {t : PlainNode} {spot : Spot} {body : List ℕ} →
+    IsLawfulFrom dims t.level 0 t.chain → IsApartAt w p t spot → level ≡ t.level → IsBody dims level body →
+    body ≡ digits_below w level p → Splits w dims p t spot body
 splits {w = w} {dims = dims} {p = p} {t = t} {spot = spot} {body = body} ok (x, at, a) l body_ok digits =
     let k : IsBody dims t.level body = subst (λ n. IsBody dims n body) l body_ok in
     let e : body ≡ digits_below w t.level p = digits ∙ ap (λ n. digits_below w n p) l in
     let here : body_at (entries t) spot.place ≡ x.body = body_got (entries t) spot.place x at.0 in
     let n : IsBody dims t.level (digits_below w t.level p) = subst (IsBody dims t.level) e k in
-    let there : part_place t spot.place body ≡ split_place t.level x.body (digits_below w t.level p) = ap (λ u. split_place t.level u body) here ∙ ap (split_place t.level x.body) e in
+    let there : part_place t spot.place body ≡ split_place t.level x.body (digits_below w t.level p) =
+    ap (λ u. split_place t.level u body) here ∙ ap (split_place t.level x.body) e in
     record {
       there = spot_at w p t spot x at;
       digits = k;
       apart = λ s. differs w dims p t spot x at ok n a (sym here ∙ s ∙ e);
       over = subst (λ i. IsBelow i (what_at (entries t) spot.place)) (sym there) (above w dims p t spot x at ok n a);
-      put = λ v. ap (λ i. split_node t spot.place i body v) there ∙ ap (λ u. split_node t spot.place (split_place t.level x.body (digits_below w t.level p)) u v) e ∙ put_split w dims p t spot x at ok n a v;
+      put = λ v. ap (λ i. split_node t spot.place i body v) there ∙
+          ap (λ u. split_node t spot.place (split_place t.level x.body (digits_below w t.level p)) u v) e ∙
+          put_split w dims p t spot x at ok n a v;
     }

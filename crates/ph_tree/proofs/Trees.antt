@@ -26,7 +26,8 @@ use Rattle.ph_tree.specs.Tree.{TreeTable, tree_table, with_row, IsTree}
 use Rattle.ph_tree.proofs.Ways.{path-opened}
 
 -- another tree of the same width, within the same limit
-pub tree_of : {dims w max len more : ℕ} {t u : Option PlainNode} → IsTree dims w t max len → IsLawful w dims u → more ≡ length (rows w dims u) → more ≤ max → IsTree dims w u max more
+pub tree_of : {dims w max len more : ℕ} {t u : Option PlainNode} → IsTree dims w t max len → IsLawful w dims u →
+    more ≡ length (rows w dims u) → more ≤ max → IsTree dims w u max more
 tree_of k ok counted limit =
     record { some = k.some; few = k.few; wide = k.wide; lawful = ok; counted = counted; limit = limit }
 
@@ -111,7 +112,9 @@ module _ {dims w max len : ℕ} {t : Option PlainNode} {s : TreeTable} {p : List
       omega (arith, opened_is, path-few s.width dims s.table p (omega (arith, k.tree.wide, width_is k.seen k.tree)) (table_is k.seen k.tree))
 
   -- a put is refused exactly where the point is new and the tree is full
-  pub full_when : {F : Type 0} → (F → find_tree key.width dims t key.point ≡ None) → (F → ltb len max ≡ false) → (find_tree key.width dims t key.point ≡ None → ltb len max ≡ false → F) → F ↔ ((find s.table p ≡ None) × (length s.table ≡ s.max))
+  pub full_when : {F : Type 0} → (F → find_tree key.width dims t key.point ≡ None) → (F → ltb len max ≡ false) →
+      (find_tree key.width dims t key.point ≡ None → ltb len max ≡ false → F) →
+      F ↔ ((find s.table p ≡ None) × (length s.table ≡ s.max))
   full_when absent full refused =
       let count = counted_is k.seen k.tree in
       let most = max_is k.seen k.tree in (
@@ -132,18 +135,21 @@ module _ {dims w max len : ℕ} {t : Option PlainNode} {s : TreeTable} {p : List
     rows_made = ap (rows w dims) made_at ∙ rows-put_tree w dims t p v k.tree.wide at_width k.tree.lawful
 
     -- a row more, where the answer is that the point is new and a full tree would have refused it
-    pub new_tree : New ≡ put_answer (find_tree key.width dims t key.point) → (find_tree key.width dims t key.point ≡ None → ltb len max ≡ false → ⊥) → IsTree dims w u max (len + 1)
+    pub new_tree : New ≡ put_answer (find_tree key.width dims t key.point) →
+        (find_tree key.width dims t key.point ≡ None → ltb len max ≡ false → ⊥) → IsTree dims w u max (len + 1)
     new_tree answer refused =
         let none = new_absent _ answer in
         let room : len < max = elim (cases_lt len max) [ inl l ↦ l | inr l ↦ absurd (refused none (le-ltb len max l)) ] in
-        let more : length (rows w dims u) ≡ length (rows w dims t) + 1 = ap (λ (r : List Row). length r) rows_made ∙ length-put w (rows w dims t) p v (sym found_before ∙ none) in
+        let more : length (rows w dims u) ≡ length (rows w dims t) + 1 = ap (λ (r : List Row). length r) rows_made ∙
+        length-put w (rows w dims t) p v (sym found_before ∙ none) in
         tree_of k.tree lawful_made (omega (arith, more, k.tree.counted)) (omega (arith, room))
 
     -- as many rows, where the answer is the value that stood there
     pub old_tree : (o : ℕ) → Old o ≡ put_answer (find_tree key.width dims t key.point) → IsTree dims w u max len
     old_tree o answer =
         let rising : is_rising w (rows w dims t) ≡ true = (and_parts _ _ (rows-table w dims t k.tree.wide k.tree.lawful)).0 in
-        let same : length (rows w dims u) ≡ length (rows w dims t) = ap (λ (r : List Row). length r) rows_made ∙ length-put_old w (rows w dims t) p o v rising (sym found_before ∙ old_present _ o answer) in
+        let same : length (rows w dims u) ≡ length (rows w dims t) = ap (λ (r : List Row). length r) rows_made ∙
+        length-put_old w (rows w dims t) p o v rising (sym found_before ∙ old_present _ o answer) in
         tree_of k.tree lawful_made (omega (arith, same, k.tree.counted)) k.tree.limit
 
     pub put_table : tree_table dims w u max ≡ with_row s p v

@@ -1,5 +1,6 @@
 -- A look-up and an edit by the step that they take at a node.
-use Rattle.std.proofs.Common.{◌≡◌, ◌≢◌, ℕ, zero, suc, ◌+◌, ◌<◌, ◌≤◌, ◌⊎◌, List, [], true, false, cond, refl, arith, ap, sym, ◌∙◌, subst, inl, inr, ne_eqb, eq-eqb, add-zero, zero-add}
+use Rattle.std.proofs.Common.{◌≡◌, ◌≢◌, ℕ, zero, suc, ◌+◌, ◌<◌, ◌≤◌, ◌⊎◌, List, [], true, false, cond, refl}
+use Rattle.std.proofs.Common.{arith, ap, sym, ◌∙◌, subst, inl, inr, ne_eqb, eq-eqb, add-zero, zero-add}
 use Rattle.std.specs.Prelude.{Result, Ok, Err, IfOk, IsErrOf, OnOk, OnErr, IsSome, ℤ, Some, None, Option, slice_get, unwrap_or}
 use Rattle.ph_specs.specs.ZOrder.{address}
 use Rattle.ph_specs.specs.Node.{Entries, end, point, child, Entry, What, value, node, PlainNode, entries, listed, node_of}
@@ -55,7 +56,8 @@ least-address dims b least (point a body u rest) (suc i) x k h = omega (arith, k
 least-address dims b least (child a body c chain rest) zero x k h = let q : a ≡ x.addr = ap (λ o. (unwrap_or o no_entry).addr) h in omega (arith, q, k.0)
 least-address dims b least (child a body c chain rest) (suc i) x k h = omega (arith, k.0, least-address dims b (a + 1) rest i x k.7 h)
 
-opened-at : (w dims b least : ℕ) (e : Entries) (i : ℕ) (x : Entry) (p : List ℤ) → IsLawfulFrom dims b least e → slice_get (listed e) i ≡ Some x → x.addr ≡ address w p b → opened_below w b e p ≡ opened_by w p b x.body x.what
+opened-at : (w dims b least : ℕ) (e : Entries) (i : ℕ) (x : Entry) (p : List ℤ) → IsLawfulFrom dims b least e →
+    slice_get (listed e) i ≡ Some x → x.addr ≡ address w p b → opened_below w b e p ≡ opened_by w p b x.body x.what
 opened-at w dims b least end i x p h g a = cc
 opened-at w dims b least (point n body u rest) zero x p h g a =
     let q : point_entry n body u ≡ x = ap (λ o. unwrap_or o no_entry) g in
@@ -79,7 +81,8 @@ pub record IsStepAt (dims w : ℕ) (p : List ℤ) (t : PlainNode) (found : StepO
   pub step : IsStep w p t found o
 
 -- the step is told of the node as it is visited
-pub step_at : {dims w o : ℕ} {p : List ℤ} {s t : PlainNode} {found : StepOf PlainNode} → s ≡ t → IsLawfulFrom dims t.level 0 t.chain → IsStep w p s found o → IsStepAt dims w p t found o
+pub step_at : {dims w o : ℕ} {p : List ℤ} {s t : PlainNode} {found : StepOf PlainNode} → s ≡ t →
+    IsLawfulFrom dims t.level 0 t.chain → IsStep w p s found o → IsStepAt dims w p t found o
 step_at {dims = dims} {w = w} {o = o} {p = p} {found = found} e ok h =
     record { lawful = ok; step = subst (λ u. IsStep w p u found o) e h }
 
@@ -110,7 +113,8 @@ module _ {dims w o : ℕ} {p : List ℤ} {t : PlainNode} {found : StepOf PlainNo
 
     pub same_found : find_node w t p ≡ Some v
     same_found =
-        laws.find_node-value w dims t spot.place own.0 v p k.lawful own.1.0 own.1.1 own.2 ∙ ap (λ z. cond z (Some v) None) (same_digits-refl own.0.body (digits_below w t.level p) own.3)
+        laws.find_node-value w dims t spot.place own.0 v p k.lawful own.1.0 own.1.1 own.2 ∙
+        ap (λ z. cond z (Some v) None) (same_digits-refl own.0.body (digits_below w t.level p) own.3)
 
     pub same_opened : opened_below w t.level t.chain p ≡ o
     same_opened =
@@ -150,12 +154,15 @@ module _ {dims w o : ℕ} {p : List ℤ} {t : PlainNode} {found : StepOf PlainNo
 
     pub way_below : {n : PlainNode} → shown m ≡ n → IsWayBelow dims w p t spot.place n o
     way_below e =
-        let held : ((shown m).level < t.level) × (2 ≤ count (shown m).chain) × IsLawfulFrom dims (shown m).level 0 (shown m).chain = laws.lawful-child dims t.level 0 t.chain spot.place nearer.0 (shown m) k.lawful nearer.1.0 nearer.2 in
+        let held : ((shown m).level < t.level) × (2 ≤ count (shown m).chain) ×
+        IsLawfulFrom dims (shown m).level 0 (shown m).chain = laws.lawful-child dims t.level 0 t.chain spot.place
+        nearer.0 (shown m) k.lawful nearer.1.0 nearer.2 in
         subst (λ u. IsWayBelow dims w p t spot.place u o) e
         (record {
           lower = held.0;
           lawful = held.2;
-          found = laws.find_node-child w dims t spot.place nearer.0 (shown m) p k.lawful nearer.1.0 nearer.1.1 nearer.2 ∙ ap (λ z. cond z (find_node w (shown m) p) None) below_digits;
+          found = laws.find_node-child w dims t spot.place nearer.0 (shown m) p k.lawful nearer.1.0 nearer.1.1
+              nearer.2 ∙ ap (λ z. cond z (find_node w (shown m) p) None) below_digits;
           one = nearer.4;
           opened =
               opened-at w dims t.level 0 t.chain spot.place nearer.0 p k.lawful nearer.1.0 nearer.1.1 ∙ ap (opened_by w p t.level nearer.0.body) nearer.2
@@ -171,9 +178,11 @@ module _ {dims w o : ℕ} {p : List ℤ} {t : PlainNode} {found : StepOf PlainNo
 
     found_by : (held : What) → other.0.what ≡ held → IsApart w p t.level other.0.body held → find_node w t p ≡ None
     found_by (value u) q a =
-        laws.find_node-value w dims t spot.place other.0 u p k.lawful other.1.0 other.1.1 q ∙ ap (λ z. cond z (Some u) None) (not_same other.0.body (digits_below w t.level p) a)
+        laws.find_node-value w dims t spot.place other.0 u p k.lawful other.1.0 other.1.1 q ∙
+        ap (λ z. cond z (Some u) None) (not_same other.0.body (digits_below w t.level p) a)
     found_by (node m) q a =
-        laws.find_node-child w dims t spot.place other.0 m p k.lawful other.1.0 other.1.1 q ∙ ap (λ z. cond z (find_node w m p) None) (not_same other.0.body (digits_between w t.level m.level p) a)
+        laws.find_node-child w dims t spot.place other.0 m p k.lawful other.1.0 other.1.1 q ∙
+        ap (λ z. cond z (find_node w m p) None) (not_same other.0.body (digits_between w t.level m.level p) a)
 
     pub other_found : find_node w t p ≡ None
     other_found = found_by other.0.what refl other.2

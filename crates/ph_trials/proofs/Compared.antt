@@ -29,23 +29,29 @@ take-filled dims body h =
     ap (λ n. take n (filled body)) (sym h) ∙ take-append_seam body (replicate (16 - length body) 0)
 
 -- a lawful node has lawful entries
-pub entry-lawful : (dims : ℕ) (n : PlainNode) (i : ℕ) (d : Entry) → IsLawfulFrom dims n.level 0 n.chain → i < length (entries n) → IsLawfulEntry dims n.level (get_or (entries n) i d)
+pub entry-lawful : (dims : ℕ) (n : PlainNode) (i : ℕ) (d : Entry) → IsLawfulFrom dims n.level 0 n.chain →
+    i < length (entries n) → IsLawfulEntry dims n.level (get_or (entries n) i d)
 entry-lawful dims n i d h l =
     each-at (IsLawfulEntry dims n.level) (entries n) i d (entries-lawful dims n.level 0 n.chain h) l
 
 -- its children are lawful, and have lower levels
-pub child-lawful : (dims : ℕ) (n : PlainNode) (i : ℕ) (d : Entry) (below : Bor PlainNode) → IsLawfulFrom dims n.level 0 n.chain → i < length (entries n) → IfSome (slice_get (entries n) i) (λ e. IsChild e.what (Some below)) → (below.now.level < n.level) × IsLawfulFrom dims below.now.level 0 below.now.chain
+pub child-lawful : (dims : ℕ) (n : PlainNode) (i : ℕ) (d : Entry) (below : Bor PlainNode) →
+    IsLawfulFrom dims n.level 0 n.chain → i < length (entries n) →
+    IfSome (slice_get (entries n) i) (λ e. IsChild e.what (Some below)) → (below.now.level < n.level) ×
+    IsLawfulFrom dims below.now.level 0 below.now.chain
 child-lawful dims n i d below h l c =
     by_what (get_or (entries n) i d).body (get_or (entries n) i d).what (entry-lawful dims n i d h l).held
     (subst (λ o. IfSome o (λ e. IsChild e.what (Some below))) (slice_get-get_or (entries n) i d l) c)
   where
-    by_what : (body : List ℕ) (w : What) → IsLawfulWhat dims n.level body w → IsChild w (Some below) → (below.now.level < n.level) × IsLawfulFrom dims below.now.level 0 below.now.chain
+    by_what : (body : List ℕ) (w : What) → IsLawfulWhat dims n.level body w → IsChild w (Some below) →
+        (below.now.level < n.level) × IsLawfulFrom dims below.now.level 0 below.now.chain
     by_what body (value v) k is = absurd is
     by_what body (node m) k is =
         subst (λ (m : PlainNode). (m.level < n.level) × IsLawfulFrom dims m.level 0 m.chain) (sym is) (k.0, k.3)
 
 -- lists that agree so far and in the next entry
-pub taken-next : (xs ys : List Entry) (i : ℕ) (e : Entry) → i < length xs → i < length ys → take i xs ≡ take i ys → slice_get xs i ≡ Some e → IfSome (slice_get ys i) (λ f. IsTrue true ↔ (e ≡ f)) → take (i + 1) xs ≡ take (i + 1) ys
+pub taken-next : (xs ys : List Entry) (i : ℕ) (e : Entry) → i < length xs → i < length ys → take i xs ≡ take i ys →
+    slice_get xs i ≡ Some e → IfSome (slice_get ys i) (λ f. IsTrue true ↔ (e ≡ f)) → take (i + 1) xs ≡ take (i + 1) ys
 taken-next xs ys i e l m t s h =
     let at : IsTrue true ↔ (e ≡ get_or ys i e) = subst (λ o. IfSome o (λ f. IsTrue true ↔ (e ≡ f))) (slice_get-get_or ys i e m) h in
     take_more_same xs ys i e l m t (get_or_from_slice_get xs i e e s ∙ at.0 refl)
@@ -68,7 +74,10 @@ pub record IsFront (n : PlainNode) (i : ℕ) (e : Entry) : Type 0 where
   pub addr : e.addr ≡ (get_or (entries n) i e).addr
   pub body : e.body ≡ (get_or (entries n) i e).body
 
-pub front-same : (dims : ℕ) (n : PlainNode) (i : ℕ) (e : Entry) (addr : ℕ) (body : List ℕ) → IsLawfulFrom dims n.level 0 n.chain → i < length (entries n) → e.addr ≡ addr → IfSome (slice_get (entries n) i) (λ f. addr ≡ f.addr) → e.body ≡ take dims body → IfSome (slice_get (entries n) i) (λ f. body ≡ filled f.body) → IsFront n i e
+pub front-same : (dims : ℕ) (n : PlainNode) (i : ℕ) (e : Entry) (addr : ℕ) (body : List ℕ) →
+    IsLawfulFrom dims n.level 0 n.chain → i < length (entries n) → e.addr ≡ addr →
+    IfSome (slice_get (entries n) i) (λ f. addr ≡ f.addr) → e.body ≡ take dims body →
+    IfSome (slice_get (entries n) i) (λ f. body ≡ filled f.body) → IsFront n i e
 front-same dims n i e addr body h l ea a eb b =
     let s = slice_get-get_or (entries n) i e l in
     record {
@@ -86,7 +95,8 @@ entry-same e f a b w =
     ∙ ap {B = Entry} (λ t. record { addr = f.addr; body = f.body; what = t }) w
 
 -- where address and body are the same, what the entries hold decides
-by-what : (n : PlainNode) (i : ℕ) (e : Entry) (same : Bool) → i < length (entries n) → IsFront n i e → (IsTrue same ↔ (e.what ≡ (get_or (entries n) i e).what)) → IfSome (slice_get (entries n) i) (λ f. IsTrue same ↔ (e ≡ f))
+by-what : (n : PlainNode) (i : ℕ) (e : Entry) (same : Bool) → i < length (entries n) → IsFront n i e →
+    (IsTrue same ↔ (e.what ≡ (get_or (entries n) i e).what)) → IfSome (slice_get (entries n) i) (λ f. IsTrue same ↔ (e ≡ f))
 by-what n i e same l front h =
     let f = get_or (entries n) i e in
     subst (λ o. IfSome o (λ f. IsTrue same ↔ (e ≡ f))) (sym (slice_get-get_or (entries n) i e l))
@@ -101,7 +111,11 @@ node_in other (value v) = other
 node_in other (node n) = n
 
 -- a point entry is decided by the values
-pub value-same : (n : PlainNode) (i : ℕ) (e : Entry) (v : ℕ) (shown : Option ℕ) (same : Bool) → i < length (entries n) → IsFront n i e → e.what ≡ value v → IfSome (slice_get (entries n) i) (λ f. IsChild f.what None) → IfSome (slice_get (entries n) i) (λ f. IsValue f.what shown) → same ≡ option_eq (λ x y. x == y) shown (Some v) → IfSome (slice_get (entries n) i) (λ f. IsTrue same ↔ (e ≡ f))
+pub value-same : (n : PlainNode) (i : ℕ) (e : Entry) (v : ℕ) (shown : Option ℕ) (same : Bool) →
+    i < length (entries n) → IsFront n i e → e.what ≡ value v →
+    IfSome (slice_get (entries n) i) (λ f. IsChild f.what None) →
+    IfSome (slice_get (entries n) i) (λ f. IsValue f.what shown) → same ≡ option_eq (λ x y. x == y) shown (Some v) →
+    IfSome (slice_get (entries n) i) (λ f. IsTrue same ↔ (e ≡ f))
 value-same n i e v shown same l front w c s b =
     let at = slice_get-get_or (entries n) i e l in
     by-what n i e same l front
@@ -114,7 +128,10 @@ value-same n i e v shown same l front w c s b =
         (λ t. w ∙ ap value (sym ((Decides-eqb u v).0 (sym answer ∙ t))), λ q. answer ∙ (Decides-eqb u v).1 (sym (ap value_in (sym w ∙ q))))
 
 -- a child entry is decided by the children
-pub child-same : (n : PlainNode) (i : ℕ) (e : Entry) (a : PlainNode) (below : Bor PlainNode) (same : Bool) → i < length (entries n) → IsFront n i e → e.what ≡ node a → IfSome (slice_get (entries n) i) (λ f. IsChild f.what (Some below)) → (IsTrue same ↔ (a ≡ below.now)) → IfSome (slice_get (entries n) i) (λ f. IsTrue same ↔ (e ≡ f))
+pub child-same : (n : PlainNode) (i : ℕ) (e : Entry) (a : PlainNode) (below : Bor PlainNode) (same : Bool) →
+    i < length (entries n) → IsFront n i e → e.what ≡ node a →
+    IfSome (slice_get (entries n) i) (λ f. IsChild f.what (Some below)) → (IsTrue same ↔ (a ≡ below.now)) →
+    IfSome (slice_get (entries n) i) (λ f. IsTrue same ↔ (e ≡ f))
 child-same n i e a below same l front w c h =
     by-what n i e same l front
     (decided (get_or (entries n) i e).what (subst (λ o. IfSome o (λ f. IsChild f.what (Some below))) (slice_get-get_or (entries n) i e l) c))

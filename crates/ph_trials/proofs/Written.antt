@@ -42,7 +42,8 @@ kept e = by_what e.what
     by_what (value v) = refl
     by_what (node m) = refl
 
-pub read-at : (n : PlainNode) (i : ℕ) (e : Entry) → slice_get (entries n) i ≡ Some e → slice_get (map unvalued (flats_of n)) i ≡ Some (read (holds_child e.what) e.addr e.body)
+pub read-at : (n : PlainNode) (i : ℕ) (e : Entry) → slice_get (entries n) i ≡ Some e →
+    slice_get (map unvalued (flats_of n)) i ≡ Some (read (holds_child e.what) e.addr e.body)
 read-at n i e h = slice_get-map unvalued (flats_of n) i ∙ ap (option_map unvalued) (flat-at n i e h) ∙ ap Some (kept e)
 
 abbrev value_in : Flat → Option ℕ
@@ -58,12 +59,16 @@ none-some : (o : Option ℕ) (v : ℕ) → o ≡ None → Some o ≡ Some (Some 
 none-some o v w h = cc
 
 -- the value of a point that was read
-pub value-read : (n : PlainNode) (i dims : ℕ) (r : EntryOf PlainNode) (x v : ℕ) → slice_get (entries n) i ≡ Some (entry_of dims r) → r.what ≡ Value x → slice_get (map (λ (f : Flat). f.value) (flats_of n)) i ≡ Some (Some v) → x ≡ v
+pub value-read : (n : PlainNode) (i dims : ℕ) (r : EntryOf PlainNode) (x v : ℕ) →
+    slice_get (entries n) i ≡ Some (entry_of dims r) → r.what ≡ Value x →
+    slice_get (map (λ (f : Flat). f.value) (flats_of n)) i ≡ Some (Some v) → x ≡ v
 value-read n i dims r x v h w e =
     some-same (value_of (what_of r.what)) x v (ap (λ (u : WhatOf PlainNode). value_of (what_of u)) w) (sym (value-at n i (entry_of dims r) h) ∙ e)
 
 -- a child that was read has none
-pub child-read : (n : PlainNode) (i dims : ℕ) (r : EntryOf PlainNode) (m : Bor PlainNode) (v : ℕ) → slice_get (entries n) i ≡ Some (entry_of dims r) → r.what ≡ Child m → slice_get (map (λ (f : Flat). f.value) (flats_of n)) i ≡ Some (Some v) → ⊥
+pub child-read : (n : PlainNode) (i dims : ℕ) (r : EntryOf PlainNode) (m : Bor PlainNode) (v : ℕ) →
+    slice_get (entries n) i ≡ Some (entry_of dims r) → r.what ≡ Child m →
+    slice_get (map (λ (f : Flat). f.value) (flats_of n)) i ≡ Some (Some v) → ⊥
 child-read n i dims r m v h w e =
     none-some (value_of (what_of r.what)) v (ap (λ (u : WhatOf PlainNode). value_of (what_of u)) w) (sym (value-at n i (entry_of dims r) h) ∙ e)
 
@@ -115,14 +120,16 @@ module _ (dims : ℕ) (n : PlainNode) (k : IsNodeOf dims n) where
     pub rise : AreRising dims level 0 (flats_of n)
     rise = rw el (rising dims n k)
 
-    pub linear-room : (digits room : ℕ) → digits ≡ linear_digits d level count → room ≡ 1 + words_for digits + count → 1 + words_for (linear_digits dims level (length (flats_of n))) + length (values (flats_of n)) ≤ room
+    pub linear-room : (digits room : ℕ) → digits ≡ linear_digits d level count → room ≡ 1 + words_for digits + count →
+        1 + words_for (linear_digits dims level (length (flats_of n))) + length (values (flats_of n)) ≤ room
     linear-room digits room e r =
         let a : digits ≡ linear_digits dims level count = e ∙ ap (λ x. linear_digits x level count) ed in
         let b : linear_digits dims level (length (flats_of n)) ≡ digits = ap (λ x. linear_digits dims level x) (long ∙ sym ec) ∙ sym a in
         let c : words_for (linear_digits dims level (length (flats_of n))) ≡ words_for digits = ap words_for b in
         omega (arith, c, r, ec, children)
 
-    pub cube-room : (digits room : ℕ) → digits ≡ cube_digits d level → room ≡ 1 + words_for digits + count → 1 + words_for (cube_digits dims level) + length (values (flats_of n)) ≤ room
+    pub cube-room : (digits room : ℕ) → digits ≡ cube_digits d level → room ≡ 1 + words_for digits + count →
+        1 + words_for (cube_digits dims level) + length (values (flats_of n)) ≤ room
     cube-room digits room e r =
         let b : cube_digits dims level ≡ digits = ap (λ x. cube_digits x level) (sym ed) ∙ sym e in
         let c : words_for (cube_digits dims level) ≡ words_for digits = ap words_for b in

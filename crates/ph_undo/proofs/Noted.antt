@@ -80,7 +80,9 @@ module _ {D : ℕ} (t : TreeTable) (table : List Row) (depth : ℕ) (s : Step D)
     within = short;
     points = subst (Each (IsStep t.width)) (sym cut) (each-take (IsStep t.width) depth (s ∷ steps_in ring) (point, k.points));
     fit = subst (Each (λ u. length u ≤ t.max)) (sym past-noted) (each-take (λ u. length u ≤ t.max) depth _ (limit, k.fit));
-    changes = subst (AreChanges t.width table) (sym cut) (changes-take t.width depth table (s ∷ steps_in ring) (change, subst (λ u. AreChanges t.width u (steps_in ring)) (sym before) k.changes));
+    changes = subst (AreChanges t.width table) (sym cut)
+        (changes-take t.width depth table (s ∷ steps_in ring)
+        (change, subst (λ u. AreChanges t.width u (steps_in ring)) (sym before) k.changes));
   }
 
   pub kept-noted : kept_of (with_table t table) depth now ≡ after_edit (kept_of t depth ring) table
@@ -92,7 +94,8 @@ pub record IsNoted (D : ℕ) (t : TreeTable) (table : List Row) (depth : ℕ) (r
   pub view : kept_of (with_table t table) depth now ≡ after_edit (kept_of t depth ring) table
 
 pub noted : {D : ℕ} (t : TreeTable) (table : List Row) (depth : ℕ) (s : Step D) (ring now : Option (Buffer (Step D))) → IsKept D t depth ring
-    → steps_in now ≡ take (room_in ring) (s ∷ steps_in ring) → room_in now ≡ room_in ring → IsStep t.width s → IsChange table s → length t.table ≤ t.max → undone t.width table s ≡ t.table
+    → steps_in now ≡ take (room_in ring) (s ∷ steps_in ring) → room_in now ≡ room_in ring → IsStep t.width s →
+    IsChange table s → length t.table ≤ t.max → undone t.width table s ≡ t.table
     → IsNoted D t table depth ring now
 noted t table depth s ring now k steps room point change limit before = record {
   kept = is_kept-noted t table depth s ring now k steps room point change limit before;
@@ -102,7 +105,8 @@ noted t table depth s ring now k steps room point change limit before = record {
 -- ---- a command that is no edit
 
 -- the same inverses in another ring
-pub is_kept-same : {D : ℕ} (t : TreeTable) (depth : ℕ) (ring now : Option (Buffer (Step D))) → IsKept D t depth ring → steps_in now ≡ steps_in ring → room_in now ≡ room_in ring → IsKept D t depth now
+pub is_kept-same : {D : ℕ} (t : TreeTable) (depth : ℕ) (ring now : Option (Buffer (Step D))) → IsKept D t depth ring →
+    steps_in now ≡ steps_in ring → room_in now ≡ room_in ring → IsKept D t depth now
 is_kept-same t depth ring now k steps room = record {
   few = k.few;
   limit = k.limit;
@@ -119,7 +123,8 @@ kept-same t depth ring now steps =
 
 -- ---- an edit that is taken back
 
-module _ {D : ℕ} (t : TreeTable) (depth : ℕ) (s : Step D) (rest : List (Step D)) (ring : Option (Buffer (Step D))) (k : IsKept D t depth ring) (is : steps_in ring ≡ s ∷ rest) where
+module _ {D : ℕ} (t : TreeTable) (depth : ℕ) (s : Step D) (rest : List (Step D)) (ring : Option (Buffer (Step D)))
+    (k : IsKept D t depth ring) (is : steps_in ring ≡ s ∷ rest) where
   pub first_point : IsStep t.width s
   first_point = (subst (Each (IsStep t.width)) is k.points).0
 
@@ -129,7 +134,8 @@ module _ {D : ℕ} (t : TreeTable) (depth : ℕ) (s : Step D) (rest : List (Step
   pub first_fits : length (undone t.width t.table s) ≤ t.max
   first_fits = (subst (λ ss. Each (λ u. length u ≤ t.max) (past_of t.width t.table ss)) is k.fit).0
 
-  pub is_kept-back : (u : TreeTable) → u ≡ with_table t (undone t.width t.table s) → (now : Option (Buffer (Step D))) → steps_in now ≡ drop 1 (steps_in ring) → room_in now ≡ room_in ring → IsKept D u depth now
+  pub is_kept-back : (u : TreeTable) → u ≡ with_table t (undone t.width t.table s) →
+      (now : Option (Buffer (Step D))) → steps_in now ≡ drop 1 (steps_in ring) → room_in now ≡ room_in ring → IsKept D u depth now
   is_kept-back u at now left room =
       let gone : steps_in now ≡ rest = left ∙ ap {B = List (Step D)} (drop 1) is in
       subst (λ v. IsKept D v depth now) (sym at)
@@ -139,7 +145,8 @@ module _ {D : ℕ} (t : TreeTable) (depth : ℕ) (s : Step D) (rest : List (Step
         room = room ∙ k.room;
         within = omega (arith, k.within, ap (λ (xs : List (Step D)). length xs) is, ap (λ (xs : List (Step D)). length xs) gone);
         points = subst (Each (IsStep t.width)) (sym gone) (subst (Each (IsStep t.width)) is k.points).1;
-        fit = subst (λ ss. Each (λ u. length u ≤ t.max) (past_of t.width (undone t.width t.table s) ss)) (sym gone) (subst (λ ss. Each (λ u. length u ≤ t.max) (past_of t.width t.table ss)) is k.fit).1;
+        fit = subst (λ ss. Each (λ u. length u ≤ t.max) (past_of t.width (undone t.width t.table s) ss)) (sym gone)
+            (subst (λ ss. Each (λ u. length u ≤ t.max) (past_of t.width t.table ss)) is k.fit).1;
         changes = subst (AreChanges t.width (undone t.width t.table s)) (sym gone) (subst (AreChanges t.width t.table) is k.changes).1;
       })
 
@@ -154,7 +161,8 @@ module _ {D : ℕ} (t : TreeTable) (s : Step D) (rest : List (Step D)) (ring : O
       no e = cc
 
 pub kept-back : {D : ℕ} (t : TreeTable) (depth : ℕ) (s : Step D) (rest : List (Step D)) (ring : Option (Buffer (Step D))) → steps_in ring ≡ s ∷ rest
-    → (u : TreeTable) → u ≡ with_table t (undone t.width t.table s) → (now : Option (Buffer (Step D))) → steps_in now ≡ drop 1 (steps_in ring) → kept_of u depth now ≡ back (kept_of t depth ring) 1
+    → (u : TreeTable) → u ≡ with_table t (undone t.width t.table s) → (now : Option (Buffer (Step D))) →
+    steps_in now ≡ drop 1 (steps_in ring) → kept_of u depth now ≡ back (kept_of t depth ring) 1
 kept-back t depth s rest ring is u at now left =
     let gone : steps_in now ≡ rest = left ∙ ap {B = List (Step _)} (drop 1) is in
     let before : past_of t.width t.table (steps_in ring) ≡ undone t.width t.table s ∷ past_of t.width (undone t.width t.table s) (steps_in now) =

@@ -15,5 +15,6 @@ if-some P None p = tt
 if-some P (Some x) p = p
 
 -- at the node's level
-pub noted-at : (a : Area) (IsNoted : ℕ → List ℕ → Masks → Type 0) (digits : List ℕ) (m : Option Masks) {l k : ℕ} → l ≡ k → IsNote a IsNoted l digits m → IsNote a IsNoted k digits m
+pub noted-at : (a : Area) (IsNoted : ℕ → List ℕ → Masks → Type 0) (digits : List ℕ) (m : Option Masks) {l k : ℕ} →
+    l ≡ k → IsNote a IsNoted l digits m → IsNote a IsNoted k digits m
 noted-at a IsNoted digits m e h = subst (λ l. IsNote a IsNoted l digits m) e h

@@ -25,11 +25,16 @@ use Rattle.ph_window.specs.Window.{behind}
 use Rattle.ph_window.proofs.Starts.{start-corners}
 
 -- where the rows of a tree are those of a table
-pub table-rest : (d w u : ℕ) (o : Option PlainNode) (table : List Row) (lo hi last p q r : List ℤ) → 1 ≤ w → w ≡ u → IsTable u d table → o ≡ shape u table → p ≡ lo → q ≡ hi → r ≡ last → rest w (behind p q r) (rows w d o) ≡ rest u (behind lo hi last) table
+pub table-rest : (d w u : ℕ) (o : Option PlainNode) (table : List Row) (lo hi last p q r : List ℤ) → 1 ≤ w → w ≡ u →
+    IsTable u d table → o ≡ shape u table → p ≡ lo → q ≡ hi → r ≡ last →
+    rest w (behind p q r) (rows w d o) ≡ rest u (behind lo hi last) table
 table-rest d w u o table lo hi last p q r l e h f a b c =
     (λ i. rest (e i) (behind (a i) (b i) (c i)) (rows (e i) d (f i))) ∙ ap (rest u (behind lo hi last)) (table-shape u d table (omega (arith, l, e)) h).1
 
-module _ (d w : ℕ) (lo hi last : List ℤ) (n : PlainNode) {c : Corners} {k : Known} {m : Mark} {fs : List Frame} (s : 1 ≤ d) (f : d ≤ 16) (l : 1 ≤ w) (u : w ≤ 62) (p : IsPoint w d lo) (q : IsPoint w d hi) (r : IsPoint w d last) (h : IsLawful w d (Some n)) (made : c ≡ corners_at w (offsets w lo) (offsets w hi)) (none : k ≡ known_at w (replicate d 0)) (marked : m ≡ mark_at w (offsets w last)) (start : fs ≡ []) where
+module _ (d w : ℕ) (lo hi last : List ℤ) (n : PlainNode) {c : Corners} {k : Known} {m : Mark} {fs : List Frame}
+    (s : 1 ≤ d) (f : d ≤ 16) (l : 1 ≤ w) (u : w ≤ 62) (p : IsPoint w d lo) (q : IsPoint w d hi) (r : IsPoint w d last)
+    (h : IsLawful w d (Some n)) (made : c ≡ corners_at w (offsets w lo) (offsets w hi))
+    (none : k ≡ known_at w (replicate d 0)) (marked : m ≡ mark_at w (offsets w last)) (start : fs ≡ []) where
   top : w ≡ n.level + 1
   top = omega (arith, h.0, l)
 
@@ -38,7 +43,11 @@ module _ (d w : ℕ) (lo hi last : List ℤ) (n : PlainNode) {c : Corners} {k : 
 
   pub root-ready : IsReady d m c k fs n
   root-ready =
-      subst (λ c. IsReady d m c k fs n) (sym made) (subst (λ k. IsReady d m (corners_at w (offsets w lo) (offsets w hi)) k fs n) (sym none) (subst (λ m. IsReady d m (corners_at w (offsets w lo) (offsets w hi)) (known_at w (replicate d 0)) fs n) (sym marked) (subst (λ fs. IsReady d (mark_at w (offsets w last)) (corners_at w (offsets w lo) (offsets w hi)) (known_at w (replicate d 0)) fs n) (sym start) (record {
+      subst (λ c. IsReady d m c k fs n) (sym made)
+      (subst (λ k. IsReady d m (corners_at w (offsets w lo) (offsets w hi)) k fs n) (sym none)
+      (subst (λ m. IsReady d m (corners_at w (offsets w lo) (offsets w hi)) (known_at w (replicate d 0)) fs n)
+      (sym marked) (subst (λ fs. IsReady d (mark_at w (offsets w last))
+      (corners_at w (offsets w lo) (offsets w hi)) (known_at w (replicate d 0)) fs n) (sym start) (record {
         mark = record { few = f; wide = l; narrow = u; body = is_body-point w d last l r };
         corners = start-corners d w lo hi f l u p q;
         known = start-known d w s f l u;
@@ -53,7 +62,11 @@ module _ (d w : ℕ) (lo hi last : List ℤ) (n : PlainNode) {c : Corners} {k : 
 
   module _ {j : Known} {new : List Frame} (i : IsResumed d m c n k fs j new) where
     went : IsResumed d (mark_at w (offsets w last)) (corners_at w (offsets w lo) (offsets w hi)) n (known_at w (replicate d 0)) [] j new
-    went = subst (λ fs. IsResumed d (mark_at w (offsets w last)) (corners_at w (offsets w lo) (offsets w hi)) n (known_at w (replicate d 0)) fs j new) start (subst (λ m. IsResumed d m (corners_at w (offsets w lo) (offsets w hi)) n (known_at w (replicate d 0)) fs j new) marked (subst (λ k. IsResumed d m (corners_at w (offsets w lo) (offsets w hi)) n k fs j new) none (subst (λ c. IsResumed d m c n k fs j new) made i)))
+    went = subst (λ fs. IsResumed d (mark_at w (offsets w last)) (corners_at w (offsets w lo) (offsets w hi)) n
+        (known_at w (replicate d 0)) fs j new) start
+        (subst (λ m. IsResumed d m (corners_at w (offsets w lo) (offsets w hi)) n (known_at w (replicate d 0)) fs j
+        new) marked (subst (λ k. IsResumed d m (corners_at w (offsets w lo) (offsets w hi)) n k fs j new) none
+        (subst (λ c. IsResumed d m c n k fs j new) made i)))
 
     pub after-width : j.width ≡ (points_of c).width
     after-width = i.width ∙ ap (λ (k : Known). k.width) none ∙ sym (ap (λ (c : Corners). c.width) made)
@@ -62,12 +75,16 @@ module _ (d w : ℕ) (lo hi last : List ℤ) (n : PlainNode) {c : Corners} {k : 
     after-rows =
         ap (λ c. path_rows (points_of c) j.digits new) made
         ∙ went.rows
-        ∙ append-nil (rest w (behind (point_at w (offsets w lo)) (point_at w (offsets w hi)) (point_at w (offsets w last))) (rows_behind w n.level (body_above n.level (replicate d 0)) n.chain))
-        ∙ (λ i. rest w (behind ((point-whole w d lo p).back i) ((point-whole w d hi q).back i) ((point-whole w d last r).back i)) (rows_behind w n.level (zeros i) n.chain))
+        ∙ append-nil (rest w (behind (point_at w (offsets w lo)) (point_at w (offsets w hi))
+        (point_at w (offsets w last))) (rows_behind w n.level (body_above n.level (replicate d 0)) n.chain))
+        ∙ (λ i. rest w (behind ((point-whole w d lo p).back i) ((point-whole w d hi q).back i)
+        ((point-whole w d last r).back i)) (rows_behind w n.level (zeros i) n.chain))
 
     pub after-nodes : path_nodes (points_of c) j.digits new ≤ length (touched (points_of c) (placed w d (Some n)))
     after-nodes =
         subst (λ c. path_nodes (points_of c) j.digits new ≤ length (touched (points_of c) (placed w d (Some n)))) (sym made)
         (let a = points_of (corners_at w (offsets w lo) (offsets w hi)) in
-        let e : length (touched_below a n.level (body_above n.level (replicate d 0)) n.chain) ≡ length (touched_below a n.level (replicate d 0) n.chain) = ap (λ t. length (touched_below a n.level t n.chain)) zeros in
+        let e : length (touched_below a n.level (body_above n.level (replicate d 0)) n.chain) ≡
+        length (touched_below a n.level (replicate d 0) n.chain) =
+        ap (λ t. length (touched_below a n.level t n.chain)) zeros in
         omega (arith, went.nodes, e, fewer-in-tree d a n))

@@ -22,10 +22,12 @@ body-number s t (x ∷ xs) = body-number (s * 2 + x / 2 ^ t % 2) t xs
 pub address-digits : (w t : ℕ) (xs : List ℕ) → address w (point_at w xs) t ≡ body_address t xs
 address-digits w t xs = sym (address-is t w (point_at w xs)) ∙ ap (body_address t) (offsets-coordinate w xs)
 
-pub parting-order : (d w t : ℕ) (xs ys : List ℕ) → IsBody d w xs → IsBody d w ys → IsTopDifference xs ys t → before w (point_at w xs) (point_at w ys) ≡ nat_lt (body_address t xs) (body_address t ys)
+pub parting-order : (d w t : ℕ) (xs ys : List ℕ) → IsBody d w xs → IsBody d w ys → IsTopDifference xs ys t →
+    before w (point_at w xs) (point_at w ys) ≡ nat_lt (body_address t xs) (body_address t ys)
 parting-order d w t xs ys h k p =
     before-decided w t w (point_at w xs) (point_at w ys) (top-lower d w t xs ys h k p)
-    (λ j i m. address-digits w j xs ∙ body-number 0 j xs ∙ same_number 0 (t + 1) j xs ys (omega (arith, i)) p.agree ∙ sym (body-number 0 j ys) ∙ sym (address-digits w j ys))
+    (λ j i m. address-digits w j xs ∙ body-number 0 j xs ∙ same_number 0 (t + 1) j xs ys (omega (arith, i)) p.agree ∙
+    sym (body-number 0 j ys) ∙ sym (address-digits w j ys))
     (λ e. other_address t xs ys (h.0 ∙ sym k.0) p.agree p.differ (sym (address-digits w t xs) ∙ e ∙ address-digits w t ys))
     ∙ ap (λ a. nat_lt a (address w (point_at w ys) t)) (address-digits w t xs) ∙ ap (λ a. nat_lt (body_address t xs) a) (address-digits w t ys)
 
@@ -43,7 +45,8 @@ above-apart : (level place : ℕ) (xs ys : List ℕ) → level < place → IsTop
 above-apart level place xs ys l p e =
     p.differ (same_from (level + 1) place xs ys (omega (arith, l)) (sym (above-from level xs) ∙ ap (from_place (level + 1)) (sym e) ∙ above-from level ys))
 
-module _ {d u : ℕ} {ks xs os : List ℕ} {m : Mark} {k : Known} (e : xs ≡ os) (h : IsMark d (mark_at u os)) (v : mark_at u os ≡ m) (b : IsBody d k.width ks) (s : ks ≡ k.digits) (same : m.width ≡ k.width) where
+module _ {d u : ℕ} {ks xs os : List ℕ} {m : Mark} {k : Known} (e : xs ≡ os) (h : IsMark d (mark_at u os))
+    (v : mark_at u os ≡ m) (b : IsBody d k.width ks) (s : ks ≡ k.digits) (same : m.width ≡ k.width) where
   mk : xs ≡ m.digits
   mk = e ∙ ap (λ (m : Mark). m.digits) v
 
@@ -53,7 +56,9 @@ module _ {d u : ℕ} {ks xs os : List ℕ} {m : Mark} {k : Known} (e : xs ≡ os
   at-place : (place : ℕ) → IsTopDifference xs ks place → IsTopDifference m.digits k.digits place
   at-place place p = subst (λ x. IsTopDifference x k.digits place) mk (subst (λ y. IsTopDifference xs y place) s p)
 
-  pub part-order : (place : ℕ) (late : Bool) → IsTopDifference xs ks place × (late ≡ nat_lt (body_address place xs) (body_address place ks)) → late ≡ before m.width (point_at m.width m.digits) (point_at m.width k.digits)
+  pub part-order : (place : ℕ) (late : Bool) → IsTopDifference xs ks place ×
+      (late ≡ nat_lt (body_address place xs) (body_address place ks)) →
+      late ≡ before m.width (point_at m.width m.digits) (point_at m.width k.digits)
   part-order place late p =
       p.1 ∙ (λ i. nat_lt (body_address place (mk i)) (body_address place (s i)))
       ∙ sym (parting-order d m.width place m.digits k.digits (subst (IsMark d) v h).body body-k (at-place place p.0))

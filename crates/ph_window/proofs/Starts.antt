@@ -24,7 +24,9 @@ use Rattle.ph_window.specs.Corners.{Corners, AreCorners, corners_at, window_of, 
 use Rattle.ph_window.proofs.Areas.{window-exact}
 
 -- the corners as the code makes them
-pub made-corners : (d w : ℕ) (lo hi : List ℤ) (low high : List ℕ) → IsPoint w d lo → IsPoint w d hi → take (length lo) low ≡ map (offset w) lo → take (length hi) high ≡ map (offset w) hi → corners_at w (take d low) (take d high) ≡ corners_at w (offsets w lo) (offsets w hi)
+pub made-corners : (d w : ℕ) (lo hi : List ℤ) (low high : List ℕ) → IsPoint w d lo → IsPoint w d hi →
+    take (length lo) low ≡ map (offset w) lo → take (length hi) high ≡ map (offset w) hi →
+    corners_at w (take d low) (take d high) ≡ corners_at w (offsets w lo) (offsets w hi)
 made-corners d w lo hi low high p q e g =
     λ i. corners_at w (offsets-point w d lo low p e i) (offsets-point w d hi high q g i)
 
@@ -45,15 +47,20 @@ some-met : (t : Bool) (m : ℕ × ℕ) → is_some (if t then Some m else None) 
 some-met true m = refl
 some-met false m = refl
 
-pub met-root : (d w : ℕ) (lo hi : List ℤ) {b : ℕ} {ks : List ℕ} {m : Option (ℕ × ℕ)} → 1 ≤ w → b ≡ w → ks ≡ replicate d 0 → m ≡ masks w (node_region w (b - 1) (body_above (b - 1) ks)) lo hi → is_some m ≡ meets_window w (node_region w (w - 1) (replicate d 0)) lo hi
+pub met-root : (d w : ℕ) (lo hi : List ℤ) {b : ℕ} {ks : List ℕ} {m : Option (ℕ × ℕ)} → 1 ≤ w → b ≡ w →
+    ks ≡ replicate d 0 → m ≡ masks w (node_region w (b - 1) (body_above (b - 1) ks)) lo hi →
+    is_some m ≡ meets_window w (node_region w (w - 1) (replicate d 0)) lo hi
 met-root d w lo hi l same none is =
     ap is_some (is ∙ (λ i. masks w (node_region w (same i - 1) (body_above (same i - 1) (none i))) lo hi))
     ∙ ap (λ t. is_some (masks w (node_region w (w - 1) t) lo hi)) (above-top d (w - 1) w (replicate d 0) (omega (arith, l)) (zeros-body d w))
-    ∙ some-met (meets_window w (node_region w (w - 1) (replicate d 0)) lo hi) (mask w (node_region w (w - 1) (replicate d 0)) lo, mask w (node_region w (w - 1) (replicate d 0)) hi)
+    ∙ some-met (meets_window w (node_region w (w - 1) (replicate d 0)) lo hi)
+    (mask w (node_region w (w - 1) (replicate d 0)) lo, mask w (node_region w (w - 1) (replicate d 0)) hi)
 
 -- ---- of a table
 
-module _ (d w u : ℕ) (o : Option PlainNode) (table : List Row) (lo hi p q : List ℤ) {c : Corners} (l : 1 ≤ w) (e : w ≡ u) (h : IsTable u d table) (f : o ≡ shape u table) (a : p ≡ lo) (b : q ≡ hi) (x : IsPoint w d p) (y : IsPoint w d q) (made : c ≡ corners_at w (offsets w p) (offsets w q)) where
+module _ (d w u : ℕ) (o : Option PlainNode) (table : List Row) (lo hi p q : List ℤ) {c : Corners} (l : 1 ≤ w)
+    (e : w ≡ u) (h : IsTable u d table) (f : o ≡ shape u table) (a : p ≡ lo) (b : q ≡ hi) (x : IsPoint w d p)
+    (y : IsPoint w d q) (made : c ≡ corners_at w (offsets w p) (offsets w q)) where
   points : points_of c ≡ window_of w p q
   points = corner-points d w p q x y made
 
@@ -70,7 +77,8 @@ module _ (d w u : ℕ) (o : Option PlainNode) (table : List Row) (lo hi p q : Li
   module _ (out : (points_of c).touches (node_region (points_of c).width ((points_of c).width - 1) (replicate d 0)) ≡ false) where
     nothing : (kept (points_of c) (rows w d o) ≡ []) × (length (touched (points_of c) (placed w d o)) ≡ 0)
     nothing =
-        let n = none-in-tree d (window_of w p q) (window-exact d w p q x y) l o (shape-lawful d w u o table l e h f) (subst (λ t. t.touches (node_region t.width (t.width - 1) (replicate d 0)) ≡ false) points out) in
+        let n = none-in-tree d (window_of w p q) (window-exact d w p q x y) l o (shape-lawful d w u o table l e h f)
+        (subst (λ t. t.touches (node_region t.width (t.width - 1) (replicate d 0)) ≡ false) points out) in
         (ap (λ t. kept t (rows w d o)) points ∙ n.0, ap (λ t. length (touched t (placed w d o))) points ∙ n.1)
 
     pub empty-rows : [] ≡ window lo hi table

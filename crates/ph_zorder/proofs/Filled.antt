@@ -1,5 +1,6 @@
 -- The step to the next address that fits, with the digits filled in below the highest one that does not fit.
-use Rattle.std.proofs.Common.{◌≡◌, ◌≢◌, ℕ, zero, suc, ◌+◌, ◌-◌, ◌*◌, ◌/◌, ◌%◌, ◌^◌, ◌<◌, ◌≤◌, refl, sym, ◌∙◌, ap, subst, arith, max, min, Bool, true, false, cond, ◌&&◌, inl, inr, eq-eqb, eqb-true, ne_eqb, bit_and, bit_or}
+use Rattle.std.proofs.Common.{◌≡◌, ◌≢◌, ℕ, zero, suc, ◌+◌, ◌-◌, ◌*◌, ◌/◌, ◌%◌, ◌^◌, ◌<◌, ◌≤◌, refl, sym, ◌∙◌, ap, subst, arith, max}
+use Rattle.std.proofs.Common.{min, Bool, true, false, cond, ◌&&◌, inl, inr, eq-eqb, eqb-true, ne_eqb, bit_and, bit_or}
 use Rattle.std.specs.Prelude.{◌==◌, Option, Some, None, if◌then◌else◌}
 use Rattle.std.proofs.lemmas.Nat.{pow_pos, leading_top, or_lt, and_le_r}
 use Rattle.std.specs.Int.Count.{count_leading_zeros}
@@ -71,7 +72,8 @@ without-next n h u a c p r k =
 abbrev stop : ℕ → ℕ → ℕ → ℕ
 stop a b c = max (min a (1 - c)) (min b (1 - a))
 
-blocked-next : (n h l u a b c : ℕ) → a < 2 → b < 2 → c < 2 → h < 2 ^ n → u < 2 ^ n → blocked (suc n) (h * 2 + a) (l * 2 + b) (u * 2 + c) ≡ blocked n h l u * 2 + stop a b c
+blocked-next : (n h l u a b c : ℕ) → a < 2 → b < 2 → c < 2 → h < 2 ^ n → u < 2 ^ n →
+    blocked (suc n) (h * 2 + a) (l * 2 + b) (u * 2 + c) ≡ blocked n h l u * 2 + stop a b c
 blocked-next n h l u a b c p q r i k =
     ap (λ t. bit_or t (bit_and (l * 2 + b) (2 ^ suc n - 1 - (h * 2 + a)))) (without-next n h u a c p r k)
     ∙ ap (λ t. bit_or (bit_and h (2 ^ n - 1 - u) * 2 + min a (1 - c)) t) (without-next n l h b a q p i)
@@ -96,12 +98,17 @@ blocked-none zero zero (suc l) u p q r f = absurd (omega (arith, q))
 blocked-none zero zero zero (suc u) p q r f = absurd (omega (arith, r))
 blocked-none (suc n) h l u p q r f =
     by_halves (λ h l u. fits_masks h l u ≡ true → blocked (suc n) h l u ≡ 0) h l u
-    (λ g. step (blocked-none n (h / 2) (l / 2) (u / 2) (half-small n h p) (half-small n l q) (half-small n u r)) (fits-next (h / 2) (l / 2) (u / 2) (h % 2) (l % 2) (u % 2) (bit h) (bit l) (bit u) (fits _ _ _ g)))
+    (λ g. step (blocked-none n (h / 2) (l / 2) (u / 2) (half-small n h p) (half-small n l q) (half-small n u r))
+    (fits-next (h / 2) (l / 2) (u / 2) (h % 2) (l % 2) (u % 2) (bit h) (bit l) (bit u) (fits _ _ _ g)))
     f
   where
-    step : (fits_masks (h / 2) (l / 2) (u / 2) ≡ true → blocked n (h / 2) (l / 2) (u / 2) ≡ 0) → FitsNext (h / 2) (l / 2) (u / 2) (h % 2) (l % 2) (u % 2) → blocked (suc n) (h / 2 * 2 + h % 2) (l / 2 * 2 + l % 2) (u / 2 * 2 + u % 2) ≡ 0
+    step : (fits_masks (h / 2) (l / 2) (u / 2) ≡ true → blocked n (h / 2) (l / 2) (u / 2) ≡ 0) →
+        FitsNext (h / 2) (l / 2) (u / 2) (h % 2) (l % 2) (u % 2) →
+        blocked (suc n) (h / 2 * 2 + h % 2) (l / 2 * 2 + l % 2) (u / 2 * 2 + u % 2) ≡ 0
     step k x =
-        let e : blocked (suc n) (h / 2 * 2 + h % 2) (l / 2 * 2 + l % 2) (u / 2 * 2 + u % 2) ≡ blocked n (h / 2) (l / 2) (u / 2) * 2 + stop (h % 2) (l % 2) (u % 2) = blocked-next n (h / 2) (l / 2) (u / 2) (h % 2) (l % 2) (u % 2) (bit h) (bit l) (bit u) (half-small n h p) (half-small n u r) in
+        let e : blocked (suc n) (h / 2 * 2 + h % 2) (l / 2 * 2 + l % 2) (u / 2 * 2 + u % 2) ≡
+        blocked n (h / 2) (l / 2) (u / 2) * 2 + stop (h % 2) (l % 2) (u % 2) = blocked-next n (h / 2) (l / 2)
+        (u / 2) (h % 2) (l % 2) (u % 2) (bit h) (bit l) (bit u) (half-small n h p) (half-small n u r) in
         let ih : blocked n (h / 2) (l / 2) (u / 2) ≡ 0 = k (fit-test (h / 2) (l / 2) (u / 2) x.rest) in
         let s : stop (h % 2) (l % 2) (u % 2) ≡ 0 = stop-none (h % 2) (l % 2) (u % 2) (bit h) (bit l) (bit u) x.low x.high in
         let g : blocked n (h / 2) (l / 2) (u / 2) * 2 + stop (h % 2) (l % 2) (u % 2) ≡ 0 = omega (arith, ih, s) in
@@ -113,11 +120,16 @@ none-blocked zero (suc h) l u p q r f = absurd (omega (arith, p))
 none-blocked zero zero (suc l) u p q r f = absurd (omega (arith, q))
 none-blocked zero zero zero (suc u) p q r f = absurd (omega (arith, r))
 none-blocked (suc n) h l u p q r f =
-    by_halves (λ h l u. blocked (suc n) h l u ≡ 0 → Fits h l u) h l u (step (none-blocked n (h / 2) (l / 2) (u / 2) (half-small n h p) (half-small n l q) (half-small n u r))) f
+    by_halves (λ h l u. blocked (suc n) h l u ≡ 0 → Fits h l u) h l u
+    (step (none-blocked n (h / 2) (l / 2) (u / 2) (half-small n h p) (half-small n l q) (half-small n u r))) f
   where
-    step : (blocked n (h / 2) (l / 2) (u / 2) ≡ 0 → Fits (h / 2) (l / 2) (u / 2)) → blocked (suc n) (h / 2 * 2 + h % 2) (l / 2 * 2 + l % 2) (u / 2 * 2 + u % 2) ≡ 0 → Fits (h / 2 * 2 + h % 2) (l / 2 * 2 + l % 2) (u / 2 * 2 + u % 2)
+    step : (blocked n (h / 2) (l / 2) (u / 2) ≡ 0 → Fits (h / 2) (l / 2) (u / 2)) →
+        blocked (suc n) (h / 2 * 2 + h % 2) (l / 2 * 2 + l % 2) (u / 2 * 2 + u % 2) ≡ 0 →
+        Fits (h / 2 * 2 + h % 2) (l / 2 * 2 + l % 2) (u / 2 * 2 + u % 2)
     step k g =
-        let e : blocked (suc n) (h / 2 * 2 + h % 2) (l / 2 * 2 + l % 2) (u / 2 * 2 + u % 2) ≡ blocked n (h / 2) (l / 2) (u / 2) * 2 + stop (h % 2) (l % 2) (u % 2) = blocked-next n (h / 2) (l / 2) (u / 2) (h % 2) (l % 2) (u % 2) (bit h) (bit l) (bit u) (half-small n h p) (half-small n u r) in
+        let e : blocked (suc n) (h / 2 * 2 + h % 2) (l / 2 * 2 + l % 2) (u / 2 * 2 + u % 2) ≡
+        blocked n (h / 2) (l / 2) (u / 2) * 2 + stop (h % 2) (l % 2) (u % 2) = blocked-next n (h / 2) (l / 2)
+        (u / 2) (h % 2) (l % 2) (u % 2) (bit h) (bit l) (bit u) (half-small n h p) (half-small n u r) in
         let z : blocked n (h / 2) (l / 2) (u / 2) ≡ 0 = both (blocked n (h / 2) (l / 2) (u / 2)) (stop (h % 2) (l % 2) (u % 2)) (sym e ∙ g) in
         let s : stop (h % 2) (l % 2) (u % 2) ≡ 0 = other (blocked n (h / 2) (l / 2) (u / 2)) (stop (h % 2) (l % 2) (u % 2)) (sym e ∙ g) in
         let o : (l % 2 ≤ h % 2) × (h % 2 ≤ u % 2) = stop-fits (h % 2) (l % 2) (u % 2) (bit h) (bit l) (bit u) s in
@@ -174,19 +186,24 @@ filled-last n c d l =
 full-fits : (n h l u : ℕ) → blocked n h l u ≡ 0 → full n h l u ≡ bit_or h (2 ^ n - 1 - u)
 full-fits n h l u e = ap (λ t. bit_or (bit_or h (2 ^ n - 1 - u)) t) (ap (filled n) e ∙ filled-zero n) ∙ or-zero (bit_or h (2 ^ n - 1 - u))
 
-full-next : (n h l u a b c : ℕ) → a < 2 → b < 2 → c < 2 → h < 2 ^ n → u < 2 ^ n → full (suc n) (h * 2 + a) (l * 2 + b) (u * 2 + c) ≡ bit_or (bit_or h (2 ^ n - 1 - u) * 2 + max a (1 - c)) (cond (blocked n h l u == 0) 0 (filled n (blocked n h l u) * 2 + 1))
+full-next : (n h l u a b c : ℕ) → a < 2 → b < 2 → c < 2 → h < 2 ^ n → u < 2 ^ n →
+    full (suc n) (h * 2 + a) (l * 2 + b) (u * 2 + c) ≡ bit_or (bit_or h (2 ^ n - 1 - u) * 2 + max a (1 - c))
+    (cond (blocked n h l u == 0) 0 (filled n (blocked n h l u) * 2 + 1))
 full-next n h l u a b c p q r i k =
     let s : stop a b c < 2 = omega (arith, p, q, r) in
     ap (λ t. bit_or t (filled (suc n) (blocked (suc n) (h * 2 + a) (l * 2 + b) (u * 2 + c)))) (filled-next n h u a c p r k)
-    ∙ ap (λ t. bit_or (bit_or h (2 ^ n - 1 - u) * 2 + max a (1 - c)) t) (ap (filled (suc n)) (blocked-next n h l u a b c p q r i k) ∙ filled-last n (blocked n h l u) (stop a b c) s)
+    ∙ ap (λ t. bit_or (bit_or h (2 ^ n - 1 - u) * 2 + max a (1 - c)) t)
+    (ap (filled (suc n)) (blocked-next n h l u a b c p q r i k) ∙ filled-last n (blocked n h l u) (stop a b c) s)
 
-full-open : (n h l u a b c : ℕ) → a < 2 → b < 2 → c < 2 → h < 2 ^ n → u < 2 ^ n → blocked n h l u ≡ 0 → full (suc n) (h * 2 + a) (l * 2 + b) (u * 2 + c) ≡ bit_or h (2 ^ n - 1 - u) * 2 + max a (1 - c)
+full-open : (n h l u a b c : ℕ) → a < 2 → b < 2 → c < 2 → h < 2 ^ n → u < 2 ^ n → blocked n h l u ≡ 0 →
+    full (suc n) (h * 2 + a) (l * 2 + b) (u * 2 + c) ≡ bit_or h (2 ^ n - 1 - u) * 2 + max a (1 - c)
 full-open n h l u a b c p q r i k e =
     full-next n h l u a b c p q r i k
     ∙ ap (λ t. bit_or (bit_or h (2 ^ n - 1 - u) * 2 + max a (1 - c)) (cond t 0 (filled n (blocked n h l u) * 2 + 1))) (eq-eqb (blocked n h l u) 0 e)
     ∙ or-zero (bit_or h (2 ^ n - 1 - u) * 2 + max a (1 - c))
 
-full-shut : (n h l u a b c : ℕ) → a < 2 → b < 2 → c < 2 → h < 2 ^ n → u < 2 ^ n → (blocked n h l u ≡ 0 → ⊥) → full (suc n) (h * 2 + a) (l * 2 + b) (u * 2 + c) ≡ full n h l u * 2 + 1
+full-shut : (n h l u a b c : ℕ) → a < 2 → b < 2 → c < 2 → h < 2 ^ n → u < 2 ^ n → (blocked n h l u ≡ 0 → ⊥) →
+    full (suc n) (h * 2 + a) (l * 2 + b) (u * 2 + c) ≡ full n h l u * 2 + 1
 full-shut n h l u a b c p q r i k e =
     let m : max a (1 - c) < 2 = omega (arith, p) in
     let o : max (max a (1 - c)) 1 ≡ 1 = omega (arith, p) in
@@ -216,7 +233,9 @@ last-bit : (x a c : ℕ) → a < 2 → c < 2 → max a (1 - c) < 2
 last-bit x a c p r = omega (arith, p)
 
 -- a last digit that rises
-rises : (n h l u b : ℕ) → b < 2 → h < 2 ^ n → l < 2 ^ n → u < 2 ^ n → Fits h l u → (x : ℕ) → x ≡ bit_or h (2 ^ n - 1 - u) * 2 + 0 → bit_or h (2 ^ n - 1 - u) < 2 ^ n → IsStep (suc n) (h * 2 + 0) (l * 2 + b) (u * 2 + 1) x (Some (h * 2 + 0 + 1))
+rises : (n h l u b : ℕ) → b < 2 → h < 2 ^ n → l < 2 ^ n → u < 2 ^ n → Fits h l u → (x : ℕ) →
+    x ≡ bit_or h (2 ^ n - 1 - u) * 2 + 0 → bit_or h (2 ^ n - 1 - u) < 2 ^ n →
+    IsStep (suc n) (h * 2 + 0) (l * 2 + b) (u * 2 + 1) x (Some (h * 2 + 0 + 1))
 rises n h l u b q i j k f x e s =
     let p : 2 ^ suc n ≡ 2 * 2 ^ n = ap (λ t. 2 ^ t) (let s : suc n ≡ n + 1 = omega arith in s) ∙ pow-next n in
     let g : raised x (l * 2 + b) (u * 2 + 1) ≡ h * 2 + 1 = ap (λ t. raised t (l * 2 + b) (u * 2 + 1)) e ∙ raised-last n h l u b q i k f in
@@ -228,14 +247,17 @@ rises n h l u b q i j k f x e s =
     }
 
 step_of : (n h l u a b c x : ℕ) (o : Option ℕ) → a < 2 → b < 2 → c < 2 → h < 2 ^ n → l < 2 ^ n → u < 2 ^ n → x ≡ full n h l u → IsStep n h l u x o
-    → (t : Bool) → (fits_masks h l u && (a == 0 && c == 1)) ≡ t → IsStep (suc n) (h * 2 + a) (l * 2 + b) (u * 2 + c) (full (suc n) (h * 2 + a) (l * 2 + b) (u * 2 + c)) (if t then Some (h * 2 + a + 1) else then_last b o)
+    → (t : Bool) → (fits_masks h l u && (a == 0 && c == 1)) ≡ t →
+    IsStep (suc n) (h * 2 + a) (l * 2 + b) (u * 2 + c) (full (suc n) (h * 2 + a) (l * 2 + b) (u * 2 + c))
+    (if t then Some (h * 2 + a + 1) else then_last b o)
 step_of n h l u a b c x o p q r i j k e s true g =
     let y : (fits_masks h l u ≡ true) × ((a == 0 && c == 1) ≡ true) = and-parts (fits_masks h l u) (a == 0 && c == 1) g in
     let z : ((a == 0) ≡ true) × ((c == 1) ≡ true) = and-parts (a == 0) (c == 1) y.1 in
     let ea : 0 ≡ a = sym (eqb-true a 0 z.0) in
     let ec : 1 ≡ c = sym (eqb-true c 1 z.1) in
     let none : blocked n h l u ≡ 0 = blocked-none n h l u i j k y.0 in
-    let w : full (suc n) (h * 2 + 0) (l * 2 + b) (u * 2 + 1) ≡ bit_or h (2 ^ n - 1 - u) * 2 + max 0 (1 - 1) = full-open n h l u 0 b 1 (omega arith) q (omega arith) i k none in
+    let w : full (suc n) (h * 2 + 0) (l * 2 + b) (u * 2 + 1) ≡ bit_or h (2 ^ n - 1 - u) * 2 + max 0 (1 - 1) =
+    full-open n h l u 0 b 1 (omega arith) q (omega arith) i k none in
     let v : full (suc n) (h * 2 + 0) (l * 2 + b) (u * 2 + 1) ≡ bit_or h (2 ^ n - 1 - u) * 2 + 0 = omega (arith, w) in
     let m : full n h l u ≡ bit_or h (2 ^ n - 1 - u) = full-fits n h l u none in
     subst (λ a. IsStep (suc n) (h * 2 + a) (l * 2 + b) (u * 2 + c) (full (suc n) (h * 2 + a) (l * 2 + b) (u * 2 + c)) (Some (h * 2 + a + 1))) ea
@@ -259,10 +281,12 @@ step_of n h l u a b c x o p q r i j k e s false g =
         let w : full (suc n) (h * 2 + a) (l * 2 + b) (u * 2 + c) ≡ bit_or h (2 ^ n - 1 - u) * 2 + max a (1 - c) = full-open n h l u a b c p q r i k none in
         omega (arith, w, st, e, full-fits n h l u none)
     full-odd false d =
-        let w : full (suc n) (h * 2 + a) (l * 2 + b) (u * 2 + c) ≡ full n h l u * 2 + 1 = full-shut n h l u a b c p q r i k (λ z. let no : true ≡ false = sym (eq-eqb (blocked n h l u) 0 z) ∙ d in cc) in
+        let w : full (suc n) (h * 2 + a) (l * 2 + b) (u * 2 + c) ≡ full n h l u * 2 + 1 =
+        full-shut n h l u a b c p q r i k (λ z. let no : true ≡ false = sym (eq-eqb (blocked n h l u) 0 z) ∙ d in cc) in
         omega (arith, w, e)
 
-    carried : full (suc n) (h * 2 + a) (l * 2 + b) (u * 2 + c) ≡ x * 2 + 1 → IsStep (suc n) (h * 2 + a) (l * 2 + b) (u * 2 + c) (full (suc n) (h * 2 + a) (l * 2 + b) (u * 2 + c)) (then_last b o)
+    carried : full (suc n) (h * 2 + a) (l * 2 + b) (u * 2 + c) ≡ x * 2 + 1 →
+        IsStep (suc n) (h * 2 + a) (l * 2 + b) (u * 2 + c) (full (suc n) (h * 2 + a) (l * 2 + b) (u * 2 + c)) (then_last b o)
     carried w =
         let d : IsStep (suc n) (h * 2) (l * 2 + b) (u * 2 + c) (x * 2 + 1) (then_last b o) = front n h l u b c x o q r s in
         subst (λ y. IsStep (suc n) (h * 2 + a) (l * 2 + b) (u * 2 + c) y (then_last b o)) (sym w) (record { within = d.within; found = d.found; none = d.none })
@@ -276,21 +300,29 @@ full-step zero zero zero (suc u) p q r = absurd (omega (arith, r))
 full-step (suc n) h l u p q r =
     let t : Bool = fits_masks (h / 2) (l / 2) (u / 2) && (h % 2 == 0 && u % 2 == 1) in
     let o : Option ℕ = next_fitting n (h / 2) (l / 2) (u / 2) in
-    let s : IsStep (suc n) (h / 2 * 2 + h % 2) (l / 2 * 2 + l % 2) (u / 2 * 2 + u % 2) (full (suc n) (h / 2 * 2 + h % 2) (l / 2 * 2 + l % 2) (u / 2 * 2 + u % 2)) (if t then Some (h / 2 * 2 + h % 2 + 1) else then_last (l % 2) o) =
-    step_of n (h / 2) (l / 2) (u / 2) (h % 2) (l % 2) (u % 2) (full n (h / 2) (l / 2) (u / 2)) o (bit h) (bit l) (bit u) (half-small n h p) (half-small n l q) (half-small n u r) refl (full-step n (h / 2) (l / 2) (u / 2) (half-small n h p) (half-small n l q) (half-small n u r)) t refl in
+    let s : IsStep (suc n) (h / 2 * 2 + h % 2) (l / 2 * 2 + l % 2) (u / 2 * 2 + u % 2)
+    (full (suc n) (h / 2 * 2 + h % 2) (l / 2 * 2 + l % 2) (u / 2 * 2 + u % 2))
+    (if t then Some (h / 2 * 2 + h % 2 + 1) else then_last (l % 2) o) =
+    step_of n (h / 2) (l / 2) (u / 2) (h % 2) (l % 2) (u % 2) (full n (h / 2) (l / 2) (u / 2)) o (bit h) (bit l)
+    (bit u) (half-small n h p) (half-small n l q) (half-small n u r) refl
+    (full-step n (h / 2) (l / 2) (u / 2) (half-small n h p) (half-small n l q) (half-small n u r)) t refl in
     subst (λ z. IsStep (suc n) h l z (full (suc n) h l z) (if t then Some (h + 1) else then_last (l % 2) o)) (back u)
     (subst (λ y. IsStep (suc n) h y (u / 2 * 2 + u % 2) (full (suc n) h y (u / 2 * 2 + u % 2)) (if t then Some (h + 1) else then_last (l % 2) o)) (back l)
-    (subst (λ x. IsStep (suc n) x (l / 2 * 2 + l % 2) (u / 2 * 2 + u % 2) (full (suc n) x (l / 2 * 2 + l % 2) (u / 2 * 2 + u % 2)) (if t then Some (x + 1) else then_last (l % 2) o)) (back h) s))
+    (subst (λ x. IsStep (suc n) x (l / 2 * 2 + l % 2) (u / 2 * 2 + u % 2)
+    (full (suc n) x (l / 2 * 2 + l % 2) (u / 2 * 2 + u % 2)) (if t then Some (x + 1) else then_last (l % 2) o)) (back h) s))
 
 -- what the word gives, as the least address that fits
-pub next-found : (n h l u fill : ℕ) → h < 2 ^ n → l < 2 ^ n → u < 2 ^ n → bit_and l u ≡ l → fill ≡ filled n (blocked n h l u) → bit_or (bit_or h (2 ^ n - 1 - u)) fill + 1 < 2 ^ n → IsNextOf h l u (Some (raised (bit_or (bit_or h (2 ^ n - 1 - u)) fill) l u))
+pub next-found : (n h l u fill : ℕ) → h < 2 ^ n → l < 2 ^ n → u < 2 ^ n → bit_and l u ≡ l →
+    fill ≡ filled n (blocked n h l u) → bit_or (bit_or h (2 ^ n - 1 - u)) fill + 1 < 2 ^ n →
+    IsNextOf h l u (Some (raised (bit_or (bit_or h (2 ^ n - 1 - u)) fill) l u))
 next-found n h l u fill p q r m e k =
     let s : IsStep n h l u (full n h l u) (next_fitting n h l u) = full-step n h l u p q r in
     let f : full n h l u ≡ bit_or (bit_or h (2 ^ n - 1 - u)) fill = ap (bit_or (bit_or h (2 ^ n - 1 - u))) (sym e) in
     let g : full n h l u + 1 < 2 ^ n = omega (arith, f, k) in
     subst (IsNextOf h l u) (s.found g ∙ ap {B = Option ℕ} (λ x. Some (raised x l u)) f) (next_fitting-least n h l u q r m)
 
-pub next-none : (n h l u fill : ℕ) → h < 2 ^ n → l < 2 ^ n → u < 2 ^ n → bit_and l u ≡ l → fill ≡ filled n (blocked n h l u) → 2 ^ n ≤ bit_or (bit_or h (2 ^ n - 1 - u)) fill + 1 → IsNextOf h l u None
+pub next-none : (n h l u fill : ℕ) → h < 2 ^ n → l < 2 ^ n → u < 2 ^ n → bit_and l u ≡ l →
+    fill ≡ filled n (blocked n h l u) → 2 ^ n ≤ bit_or (bit_or h (2 ^ n - 1 - u)) fill + 1 → IsNextOf h l u None
 next-none n h l u fill p q r m e k =
     let s : IsStep n h l u (full n h l u) (next_fitting n h l u) = full-step n h l u p q r in
     let f : full n h l u ≡ bit_or (bit_or h (2 ^ n - 1 - u)) fill = ap (bit_or (bit_or h (2 ^ n - 1 - u))) (sym e) in
@@ -306,17 +338,25 @@ fill-of c t f n l e g =
 
 pub blocked-small : (n h l u : ℕ) → blocked n h l u < 2 ^ n
 blocked-small n h l u =
-    or_lt n (bit_and h (2 ^ n - 1 - u)) (bit_and l (2 ^ n - 1 - h)) (omega (arith, and_le_r h (2 ^ n - 1 - u), pow_pos n)) (omega (arith, and_le_r l (2 ^ n - 1 - h), pow_pos n))
+    or_lt n (bit_and h (2 ^ n - 1 - u)) (bit_and l (2 ^ n - 1 - h))
+    (omega (arith, and_le_r h (2 ^ n - 1 - u), pow_pos n)) (omega (arith, and_le_r l (2 ^ n - 1 - h), pow_pos n))
 
 -- the answer of the sum that is taken
-pub some-found : (n h l u fill : ℕ) (o : Option ℕ) (x : ℕ) → h < 2 ^ n → l < 2 ^ n → u < 2 ^ n → bit_and l u ≡ l → IsFill (blocked n h l u) fill → SomeIff o (bit_or (bit_or h (2 ^ n - 1 - u)) fill + 1 < 2 ^ n) (bit_or (bit_or h (2 ^ n - 1 - u)) fill + 1) → o ≡ Some x → IsNext h l u (bit_or (bit_and x u) l)
+pub some-found : (n h l u fill : ℕ) (o : Option ℕ) (x : ℕ) → h < 2 ^ n → l < 2 ^ n → u < 2 ^ n → bit_and l u ≡ l →
+    IsFill (blocked n h l u) fill →
+    SomeIff o (bit_or (bit_or h (2 ^ n - 1 - u)) fill + 1 < 2 ^ n) (bit_or (bit_or h (2 ^ n - 1 - u)) fill + 1) →
+    o ≡ Some x → IsNext h l u (bit_or (bit_and x u) l)
 some-found n h l u fill None x p q r m f s e = absurd (let no : ◌≡◌ {A = Option ℕ} None (Some x) = e in cc)
 some-found n h l u fill (Some y) x p q r m f s e =
     let same : y ≡ x = cc in
-    let i : IsNextOf h l u (Some (raised (bit_or (bit_or h (2 ^ n - 1 - u)) fill) l u)) = next-found n h l u fill p q r m (fill-is n (blocked n h l u) fill (blocked-small n h l u) f) s.0 in
+    let i : IsNextOf h l u (Some (raised (bit_or (bit_or h (2 ^ n - 1 - u)) fill) l u)) =
+    next-found n h l u fill p q r m (fill-is n (blocked n h l u) fill (blocked-small n h l u) f) s.0 in
     subst (λ z. IsNext h l u (bit_or (bit_and z u) l)) (sym s.1 ∙ same) i
 
-pub none-found : (n h l u fill : ℕ) (o : Option ℕ) → h < 2 ^ n → l < 2 ^ n → u < 2 ^ n → bit_and l u ≡ l → IsFill (blocked n h l u) fill → SomeIff o (bit_or (bit_or h (2 ^ n - 1 - u)) fill + 1 < 2 ^ n) (bit_or (bit_or h (2 ^ n - 1 - u)) fill + 1) → o ≡ None → IsNextOf h l u None
+pub none-found : (n h l u fill : ℕ) (o : Option ℕ) → h < 2 ^ n → l < 2 ^ n → u < 2 ^ n → bit_and l u ≡ l →
+    IsFill (blocked n h l u) fill →
+    SomeIff o (bit_or (bit_or h (2 ^ n - 1 - u)) fill + 1 < 2 ^ n) (bit_or (bit_or h (2 ^ n - 1 - u)) fill + 1) →
+    o ≡ None → IsNextOf h l u None
 none-found n h l u fill (Some y) p q r m f s e = absurd (let no : ◌≡◌ {A = Option ℕ} (Some y) None = e in cc)
 none-found n h l u fill None p q r m f s e =
     next-none n h l u fill p q r m (fill-is n (blocked n h l u) fill (blocked-small n h l u) f) (not-less (bit_or (bit_or h (2 ^ n - 1 - u)) fill + 1) (2 ^ n) s)

@@ -32,23 +32,37 @@ small-on w x xs ps l e h =
 
 -- ---- what is still to be added
 
-pub distance-on : (c d : ℤ) (cs ds ps qs : List ℤ) (sum n r : ℕ) → ps ≡ c ∷ cs → qs ≡ d ∷ ds → n ≡ squared_gap c d → sum + distance ps qs ≡ r → sum + n + distance cs ds ≡ r
+pub distance-on : (c d : ℤ) (cs ds ps qs : List ℤ) (sum n r : ℕ) → ps ≡ c ∷ cs → qs ≡ d ∷ ds → n ≡ squared_gap c d →
+    sum + distance ps qs ≡ r → sum + n + distance cs ds ≡ r
 distance-on c d cs ds ps qs sum n r e f g h =
     let k : distance ps qs ≡ squared_gap c d + distance cs ds = ap (λ xs. distance xs qs) e ∙ ap (distance (c ∷ cs)) f in
     omega (arith, h, k, g)
 
-pub offset-distance-on : (w x y : ℕ) (xs ys ps qs : List ℕ) (sum n m r : ℕ) → ps ≡ x ∷ xs → qs ≡ y ∷ ys → n ≡ abs_diff x y → m ≡ n * n → sum + distance (map (coordinate w) ps) (map (coordinate w) qs) ≡ r → sum + m + distance (map (coordinate w) xs) (map (coordinate w) ys) ≡ r
+pub offset-distance-on : (w x y : ℕ) (xs ys ps qs : List ℕ) (sum n m r : ℕ) → ps ≡ x ∷ xs → qs ≡ y ∷ ys →
+    n ≡ abs_diff x y → m ≡ n * n → sum + distance (map (coordinate w) ps) (map (coordinate w) qs) ≡ r →
+    sum + m + distance (map (coordinate w) xs) (map (coordinate w) ys) ≡ r
 offset-distance-on w x y xs ys ps qs sum n m r e f g h i =
-    distance-on (coordinate w x) (coordinate w y) (map (coordinate w) xs) (map (coordinate w) ys) (map (coordinate w) ps) (map (coordinate w) qs) sum m r (ap (map (coordinate w)) e) (ap (map (coordinate w)) f) (h ∙ ap (λ t. t * t) (g ∙ sym (coordinate-apart w x y))) i
+    distance-on (coordinate w x) (coordinate w y) (map (coordinate w) xs) (map (coordinate w) ys)
+    (map (coordinate w) ps) (map (coordinate w) qs) sum m r (ap (map (coordinate w)) e)
+    (ap (map (coordinate w)) f) (h ∙ ap (λ t. t * t) (g ∙ sym (coordinate-apart w x y))) i
 
 -- the square of the gap of one dimension, by offsets
 gap-squared : (w l x y : ℕ) → 1 ≤ w → y < 2 ^ w → bound w l (coordinate w x ∷ []) (coordinate w y ∷ []) ≡ gap l x y * gap l x y
 gap-squared w l x y o s =
-    omega (arith, square-gap w l (coordinate w x) (coordinate w y) (coordinate-fits w y o s) ∙ (λ i. gap l (offset-coordinate w x i) (offset-coordinate w y i) * gap l (offset-coordinate w x i) (offset-coordinate w y i)))
+    omega (
+      arith,
+      square-gap w l (coordinate w x) (coordinate w y) (coordinate-fits w y o s) ∙
+          (λ i. gap l (offset-coordinate w x i) (offset-coordinate w y i) * gap l (offset-coordinate w x i)
+          (offset-coordinate w y i)),
+    )
 
-pub offset-bound-on : (w l x y : ℕ) (xs ys ps qs : List ℕ) (sum n m r : ℕ) → 1 ≤ w → y < 2 ^ w → ps ≡ x ∷ xs → qs ≡ y ∷ ys → n ≡ gap l x y → m ≡ n * n → sum + bound w l (map (coordinate w) ps) (map (coordinate w) qs) ≡ r → sum + m + bound w l (map (coordinate w) xs) (map (coordinate w) ys) ≡ r
+pub offset-bound-on : (w l x y : ℕ) (xs ys ps qs : List ℕ) (sum n m r : ℕ) → 1 ≤ w → y < 2 ^ w → ps ≡ x ∷ xs →
+    qs ≡ y ∷ ys → n ≡ gap l x y → m ≡ n * n → sum + bound w l (map (coordinate w) ps) (map (coordinate w) qs) ≡ r →
+    sum + m + bound w l (map (coordinate w) xs) (map (coordinate w) ys) ≡ r
 offset-bound-on w l x y xs ys ps qs sum n m r o s e f g h i =
-    let k : bound w l (map (coordinate w) ps) (map (coordinate w) qs) ≡ bound w l (coordinate w x ∷ map (coordinate w) xs) (coordinate w y ∷ map (coordinate w) ys) = λ i. bound w l (map (coordinate w) (e i)) (map (coordinate w) (f i)) in
+    let k : bound w l (map (coordinate w) ps) (map (coordinate w) qs) ≡
+    bound w l (coordinate w x ∷ map (coordinate w) xs) (coordinate w y ∷ map (coordinate w) ys) =
+    λ i. bound w l (map (coordinate w) (e i)) (map (coordinate w) (f i)) in
     let j : m ≡ gap l x y * gap l x y = h ∙ ap (λ t. t * t) g in
     omega (arith, i, k, j, gap-squared w l x y o s)
 

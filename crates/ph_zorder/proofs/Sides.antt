@@ -49,7 +49,8 @@ met-sides level (x ∷ xs) (a ∷ los) [] h = refl
 met-sides level (x ∷ xs) (a ∷ los) (b ∷ his) h =
     and-made (meets_side level x a b) (meets_sides level xs los his)
     (and-made (nat_le a b && nat_le a (start_of level x + (2 ^ (level + 1) - 1))) (nat_le (start_of level x) b)
-    (and-made (nat_le a b) (nat_le a (start_of level x + (2 ^ (level + 1) - 1))) (le-leb a b h.ordered.0) (le-leb a (start_of level x + (2 ^ (level + 1) - 1)) h.starts.0))
+    (and-made (nat_le a b) (nat_le a (start_of level x + (2 ^ (level + 1) - 1))) (le-leb a b h.ordered.0)
+    (le-leb a (start_of level x + (2 ^ (level + 1) - 1)) h.starts.0))
     (le-leb (start_of level x) b h.ends.0))
     (met-sides level xs los his (record { ordered = h.ordered.1; starts = h.starts.1; ends = h.ends.1 }))
 
@@ -58,7 +59,8 @@ same-tests true t f g = sym (f refl)
 same-tests false true f g = g refl
 same-tests false false f g = refl
 
-meets-sides : (w d : ℕ) (r : Region) (lo hi : List ℤ) → r.level < w → IsPoint w d r.corner → IsPoint w d lo → IsPoint w d hi → meets_sides r.level (offsets w r.corner) (offsets w lo) (offsets w hi) ≡ meets_window w r lo hi
+meets-sides : (w d : ℕ) (r : Region) (lo hi : List ℤ) → r.level < w → IsPoint w d r.corner → IsPoint w d lo →
+    IsPoint w d hi → meets_sides r.level (offsets w r.corner) (offsets w lo) (offsets w hi) ≡ meets_window w r lo hi
 meets-sides w d r lo hi l c a b =
     let n : length (offsets w r.corner) ≡ d = point-long w d r.corner c in
     same-tests (meets_sides r.level (offsets w r.corner) (offsets w lo) (offsets w hi)) (meets_window w r lo hi)
@@ -68,23 +70,35 @@ meets-sides w d r lo hi l c a b =
     met-sides r.level (offsets w r.corner) (offsets w lo) (offsets w hi) (record { ordered = m.ordered; starts = m.starts; ends = m.ends }))
 
 -- the masks by the offsets of points
-masks-sides : (w d : ℕ) (r : Region) (lo hi : List ℤ) → r.level < w → IsPoint w d r.corner → IsPoint w d lo → IsPoint w d hi → side_masks r.level (offsets w r.corner) (offsets w lo) (offsets w hi) ≡ masks w r lo hi
+masks-sides : (w d : ℕ) (r : Region) (lo hi : List ℤ) → r.level < w → IsPoint w d r.corner → IsPoint w d lo →
+    IsPoint w d hi → side_masks r.level (offsets w r.corner) (offsets w lo) (offsets w hi) ≡ masks w r lo hi
 masks-sides w d r lo hi l c a b =
-    ap {B = Option (ℕ × ℕ)} (λ t. if t then Some (side_mask 0 r.level (offsets w r.corner) (offsets w lo), side_mask 0 r.level (offsets w r.corner) (offsets w hi)) else None) (meets-sides w d r lo hi l c a b)
-    ∙ ap {B = Option (ℕ × ℕ)} (λ x. if meets_window w r lo hi then Some (x, side_mask 0 r.level (offsets w r.corner) (offsets w hi)) else None) (mask-sides 0 w r.level r.corner lo)
+    ap {B = Option (ℕ × ℕ)} (λ t. if t then
+    Some (
+      side_mask 0 r.level (offsets w r.corner) (offsets w lo),
+      side_mask 0 r.level (offsets w r.corner) (offsets w hi),
+    ) else None) (meets-sides w d r lo hi l c a b)
+    ∙ ap {B = Option (ℕ × ℕ)} (λ x. if meets_window w r lo hi then
+    Some (x, side_mask 0 r.level (offsets w r.corner) (offsets w hi)) else None) (mask-sides 0 w r.level r.corner lo)
     ∙ ap {B = Option (ℕ × ℕ)} (λ x. if meets_window w r lo hi then Some (mask w r lo, x) else None) (mask-sides 0 w r.level r.corner hi)
 
-pub masks-by : (w d : ℕ) (r : Region) (lo hi : List ℤ) (xs los his : List ℕ) → r.level < w → IsPoint w d r.corner → IsPoint w d lo → IsPoint w d hi → xs ≡ offsets w r.corner → los ≡ offsets w lo → his ≡ offsets w hi → side_masks r.level xs los his ≡ masks w r lo hi
+pub masks-by : (w d : ℕ) (r : Region) (lo hi : List ℤ) (xs los his : List ℕ) → r.level < w → IsPoint w d r.corner →
+    IsPoint w d lo → IsPoint w d hi → xs ≡ offsets w r.corner → los ≡ offsets w lo → his ≡ offsets w hi →
+    side_masks r.level xs los his ≡ masks w r lo hi
 masks-by w d r lo hi xs los his l c a b e f g =
     (λ i. side_masks r.level (e i) (f i) (g i)) ∙ masks-sides w d r lo hi l c a b
 
 -- the masks of a node, by the digits that are known above its level and the offsets of the corners
-pub masks-node : (w d level : ℕ) (above los his : List ℕ) → level < w → length above ≡ d → length los ≡ d → length his ≡ d → small w above → small w los → small w his → side_masks level above los his ≡ masks w (node_region w level above) (map (coordinate w) los) (map (coordinate w) his)
+pub masks-node : (w d level : ℕ) (above los his : List ℕ) → level < w → length above ≡ d → length los ≡ d →
+    length his ≡ d → small w above → small w los → small w his →
+    side_masks level above los his ≡ masks w (node_region w level above) (map (coordinate w) los) (map (coordinate w) his)
 masks-node w d level above los his l n a b s p q =
     ap (λ t. side_masks level t los his) (sym (offsets-coordinate w above))
     ∙ ap (λ t. side_masks level (offsets w (map (coordinate w) above)) t his) (sym (offsets-coordinate w los))
     ∙ ap (λ t. side_masks level (offsets w (map (coordinate w) above)) (offsets w (map (coordinate w) los)) t) (sym (offsets-coordinate w his))
-    ∙ masks-sides w d (node_region w level above) (map (coordinate w) los) (map (coordinate w) his) l (small-point w d above (omega (arith, l)) n s) (small-point w d los (omega (arith, l)) a p) (small-point w d his (omega (arith, l)) b q)
+    ∙ masks-sides w d (node_region w level above) (map (coordinate w) los) (map (coordinate w) his) l
+    (small-point w d above (omega (arith, l)) n s) (small-point w d los (omega (arith, l)) a p)
+    (small-point w d his (omega (arith, l)) b q)
 
 -- ---- the offsets of a point
 

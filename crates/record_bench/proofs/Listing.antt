@@ -44,7 +44,8 @@ from-first dims n step field i l =
 pub inside : (dims n step field i : ℕ) → i < length (points dims n 0 step field) → i < n
 inside dims n step field i l = omega (arith, l, length-points dims n 0 step field)
 
-pub read-at : (dims n step field i : ℕ) → dims ≤ 16 → i < n → slice_get (map unvalued (points dims n 0 step field)) i ≡ Some (read_point (i * step) (take dims (replicate 16 field)))
+pub read-at : (dims n step field i : ℕ) → dims ≤ 16 → i < n →
+    slice_get (map unvalued (points dims n 0 step field)) i ≡ Some (read_point (i * step) (take dims (replicate 16 field)))
 read-at dims n step field i f l =
     slice_get-map unvalued (points dims n 0 step field) i
     ∙ ap (option_map unvalued) (from-first dims n step field i l)
@@ -71,13 +72,20 @@ each-row : (level n field : ℕ) → field < 2 ^ level → Each (λ x. x < 2 ^ l
 each-row level zero field f = tt
 each-row level (suc n) field f = (f, each-row level n field f)
 
-pub rising : (dims level least n at step field : ℕ) → field < 2 ^ level → 1 ≤ step → least ≤ at → at + n * step ≤ 2 ^ dims → AreRising dims level least (points dims n at step field)
+pub rising : (dims level least n at step field : ℕ) → field < 2 ^ level → 1 ≤ step → least ≤ at →
+    at + n * step ≤ 2 ^ dims → AreRising dims level least (points dims n at step field)
 rising dims level least zero at step field f s l w = tt
 rising dims level least (suc n) at step field f s l w =
-    let e : suc n * step ≡ step + n * step = omega arith in
-    (l, omega (arith, w, e, s), (length-row dims field, each-row level dims field f), rising dims level (at + 1) n (at + step) step field f s (omega (arith, s)) (omega (arith, w, e)))
+    let e : suc n * step ≡ step + n * step = omega arith in (
+      l,
+      omega (arith, w, e, s),
+      (length-row dims field, each-row level dims field f),
+      rising dims level (at + 1) n (at + step) step field f s (omega (arith, s)) (omega (arith, w, e)),
+    )
 
-pub is-record : (cube : Bool) (dims level n step field : ℕ) (words : List ℕ) → 1 ≤ dims → dims ≤ 16 → level ≤ 61 → 1 ≤ n → AreRising dims level 0 (points dims n 0 step field) → words ≡ record_in cube dims level (points dims n 0 step field) → IsRecord cube dims words
+pub is-record : (cube : Bool) (dims level n step field : ℕ) (words : List ℕ) → 1 ≤ dims → dims ≤ 16 → level ≤ 61 →
+    1 ≤ n → AreRising dims level 0 (points dims n 0 step field) →
+    words ≡ record_in cube dims level (points dims n 0 step field) → IsRecord cube dims words
 is-record cube dims level n step field words o f b k h e =
     subst (IsRecord cube dims) (sym e)
     (made cube dims level (points dims n 0 step field) o f b (omega (arith, k, length-points dims n 0 step field)) (λ _. childless dims n 0 step field) h).is_record

@@ -14,10 +14,12 @@ points-fit [] = refl
 points-fit (r ∷ rows) = points-fit rows
 
 -- the table that is read of a snapshot of points is the one that it is of
-pub table_read : (w v : ℕ) (bytes : List ℕ) (saved read : List Row) → v ≡ w → 1 ≤ v → v ≤ 62 → IsTable w 2 saved → bytes ≡ snap Kind.Points 2 w saved → read_snapshot Kind.Points 2 v bytes ≡ Ok read → read ≡ saved
+pub table_read : (w v : ℕ) (bytes : List ℕ) (saved read : List Row) → v ≡ w → 1 ≤ v → v ≤ 62 → IsTable w 2 saved →
+    bytes ≡ snap Kind.Points 2 w saved → read_snapshot Kind.Points 2 v bytes ≡ Ok read → read ≡ saved
 table_read w v bytes saved read same low high h is e =
     let l : 1 ≤ w = omega (arith, same, low) in
     let u : w ≤ 62 = omega (arith, same, high) in
-    let k : read_snapshot Kind.Points 2 w (snap Kind.Points 2 w saved) ≡ Ok saved = snap-read Kind.Points 2 w saved refl (and _ _ (le-leb 1 w l) (le-leb w 62 u)) h (points-fit saved) in
+    let k : read_snapshot Kind.Points 2 w (snap Kind.Points 2 w saved) ≡ Ok saved = snap-read Kind.Points 2 w saved
+    refl (and _ _ (le-leb 1 w l) (le-leb w 62 u)) h (points-fit saved) in
     let f : read_snapshot Kind.Points 2 v bytes ≡ Ok saved = rw (same, is) k in
     cc

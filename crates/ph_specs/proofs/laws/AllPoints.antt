@@ -35,7 +35,9 @@ between-corners : (w d : ℕ) (p : List ℤ) → IsPoint w d p → is_between (l
 between-corners w d p h =
     let parts = and_parts (length p == d) (list_all (fits w) p) h in
     let long : length p ≡ d = eqb-true (length p) d parts.0 in
-    and-made (at_most (lowest w d) p) (at_most p (highest w d)) (subst (λ k. at_most (replicate k (least w)) p ≡ true) long (from-least w p parts.1)) (subst (λ k. at_most p (replicate k (greatest w)) ≡ true) long (to-greatest w p parts.1))
+    and-made (at_most (lowest w d) p) (at_most p (highest w d))
+    (subst (λ k. at_most (replicate k (least w)) p ≡ true) long (from-least w p parts.1))
+    (subst (λ k. at_most p (replicate k (greatest w)) ≡ true) long (to-greatest w p parts.1))
 
 -- ---- rows
 
@@ -55,10 +57,12 @@ whole-table w d table h =
 abbrev met : ℕ → ℕ → List Placed → List Placed
 met w d xs = filter (λ x. meets_window w x.region (lowest w d) (highest w d)) xs
 
-region-met : (w d level : ℕ) (known : List ℕ) → level < w → IsPoint w d (map (coordinate w) known) → meets_window w (node_region w level known) (lowest w d) (highest w d) ≡ true
+region-met : (w d level : ℕ) (known : List ℕ) → level < w → IsPoint w d (map (coordinate w) known) →
+    meets_window w (node_region w level known) (lowest w d) (highest w d) ≡ true
 region-met w d level known l h =
     let corner = map (coordinate w) known in
-    point-meets w d (node_region w level known) (lowest w d) (highest w d) corner l h (lowest-point w d) (highest-point w d) (h, same-in w level corner corner refl, between-corners w d corner h)
+    point-meets w d (node_region w level known) (lowest w d) (highest w d) corner l h (lowest-point w d)
+    (highest-point w d) (h, same-in w level corner corner refl, between-corners w d corner h)
 
 met-first : (w d : ℕ) (x : Placed) (xs : List Placed) → meets_window w x.region (lowest w d) (highest w d) ≡ true → met w d xs ≡ xs → met w d (x ∷ xs) ≡ x ∷ xs
 met-first w d x xs m h = ap (λ t. cond t (x ∷ met w d xs) (met w d xs)) m ∙ ap (λ ys. x ∷ ys) h
@@ -66,13 +70,15 @@ met-first w d x xs m h = ap (λ t. cond t (x ∷ met w d xs) (met w d xs)) m ∙
 met-both : (w d : ℕ) (xs ys : List Placed) → met w d xs ≡ xs → met w d ys ≡ ys → met w d (xs ++ ys) ≡ xs ++ ys
 met-both w d xs ys h k = filter-append (λ x. meets_window w x.region (lowest w d) (highest w d)) xs ys ∙ ap (λ z. z ++ met w d ys) h ∙ ap (λ z. xs ++ z) k
 
-below-met : (w d b first : ℕ) (above : List ℕ) (e : Entries) → At w d b above (lowest w d) (highest w d) → IsLawfulFrom d b first e → met w d (placed_below w b above e) ≡ placed_below w b above e
+below-met : (w d b first : ℕ) (above : List ℕ) (e : Entries) → At w d b above (lowest w d) (highest w d) →
+    IsLawfulFrom d b first e → met w d (placed_below w b above e) ≡ placed_below w b above e
 below-met w d b first above end t k = refl
 below-met w d b first above (point a body v rest) t k = below-met w d b (a + 1) above rest t k.3
 below-met w d b first above (child a body c chain rest) t k =
     let known = put_together b a above body in
     let under : At w d c known (lowest w d) (highest w d) = at-child w d b c a above body (lowest w d) (highest w d) chain rest first t k in
-    met-first w d (record { node = record { level = c; chain = chain }; region = node_region w (b - 1) known }) (placed_below w c known chain ++ placed_below w b above rest)
+    met-first w d (record { node = record { level = c; chain = chain }; region = node_region w (b - 1) known })
+    (placed_below w c known chain ++ placed_below w b above rest)
     (region-met w d (b - 1) known (omega (arith, t.within)) (at-corner w d c known (lowest w d) (highest w d) under))
     (met-both w d (placed_below w c known chain) (placed_below w b above rest) (below-met w d c 0 known chain under k.6) (below-met w d b (a + 1) above rest t k.7))
 

@@ -11,7 +11,8 @@ boxes-put w [] p v b h = (b, tt)
 boxes-put w (r ∷ rows) p v b h =
     elim (same_point r.point p) as (λ t. AreBoxes (if t then row p v ∷ rows else (if before w p r.point then row p v ∷ r ∷ rows else r ∷ put w rows p v))) [
       | true ↦ (b, h.1)
-      | false ↦ elim (before w p r.point) as (λ t. AreBoxes (if t then row p v ∷ r ∷ rows else r ∷ put w rows p v)) [ true ↦ (b, h) | false ↦ (h.0, boxes-put w rows p v b h.1) ]
+      | false ↦ elim (before w p r.point) as (λ t. AreBoxes (if t then row p v ∷ r ∷ rows else r ∷ put w rows p v))
+          [ true ↦ (b, h) | false ↦ (h.0, boxes-put w rows p v b h.1) ]
     ]
 
 pub boxes-del : (rows : List Row) (p : List ℤ) → AreBoxes rows → AreBoxes (del rows p)
@@ -23,4 +24,6 @@ boxes-value w rows p q None b h = h
 boxes-value w rows p q (Some v) b h = boxes-put w (del rows p) q v b (boxes-del rows p h)
 
 pub boxes-move : (w : ℕ) (rows : List Row) (p q : List ℤ) → IsBox q → AreBoxes rows → AreBoxes (move w rows p q)
-boxes-move w rows p q b h = elim (has rows q) as (λ t. AreBoxes (if t then rows else move_value w rows p q (find rows p))) [ true ↦ h | false ↦ boxes-value w rows p q (find rows p) b h ]
+boxes-move w rows p q b h = elim (has rows q)
+    as (λ t. AreBoxes (if t then rows else move_value w rows p q (find rows p)))
+    [ true ↦ h | false ↦ boxes-value w rows p q (find rows p) b h ]

@@ -1,5 +1,6 @@
 -- Boxes by their two halves, and the windows that answer questions about them.
-use Rattle.std.proofs.Common.{◌≡◌, ℕ, zero, suc, ◌+◌, ◌-◌, ◌*◌, ◌/◌, ◌≤◌, refl, sym, ◌∙◌, ap, subst, arith, cond, Bool, true, false, List, [], ◌∷◌, ◌++◌, length, take, drop, replicate, take-append-drop, length-append, eqb-true, le-leb}
+use Rattle.std.proofs.Common.{◌≡◌, ℕ, zero, suc, ◌+◌, ◌-◌, ◌*◌, ◌/◌, ◌≤◌, refl, sym, ◌∙◌, ap, subst, arith, cond, Bool, true, false, List}
+use Rattle.std.proofs.Common.{[], ◌∷◌, ◌++◌, length, take, drop, replicate, take-append-drop, length-append, eqb-true, le-leb}
 use Rattle.std.specs.Prelude.{ℤ, int_le, ◌&&◌, ◌==◌, filter}
 use Rattle.std.specs.List.{list_all, AllByRecursion as Each}
 use Rattle.std.proofs.Math.Seq.{take-append_seam, drop-append_seam}
@@ -97,7 +98,8 @@ halved w k d box e h =
     let a : ((length box == d) ≡ true) × (list_all (fits w) box ≡ true) = and_parts (length box == d) (list_all (fits w) box) h in
     let n : length box ≡ d = eqb-true (length box) d a.0 in
     let j : take k box ++ drop k box ≡ box = take-append-drop k box in
-    let f : (list_all (fits w) (take k box) ≡ true) × (list_all (fits w) (drop k box) ≡ true) = list_all-parts (fits w) (take k box) (drop k box) (subst (λ b. list_all (fits w) b ≡ true) (sym j) a.1) in
+    let f : (list_all (fits w) (take k box) ≡ true) × (list_all (fits w) (drop k box) ≡ true) =
+    list_all-parts (fits w) (take k box) (drop k box) (subst (λ b. list_all (fits w) b ≡ true) (sym j) a.1) in
     record {
       low = take k box;
       high = drop k box;
@@ -127,32 +129,45 @@ module _ (w k d : ℕ) (lo hi : List ℤ) (e : k * 2 ≡ d) (low : length lo ≡
   pub overlaps-window : IsWindowFor w d (overlaps (lo ++ hi)) (overlaps_low w lo hi) (overlaps_high w lo hi)
   overlaps-window box p b =
       let x : Halved w k box = halved w k d box e p in
-      subst (λ z. is_between (overlaps_low w lo hi) (overlaps_high w lo hi) z ≡ overlaps (lo ++ hi) z) (sym x.joined) (by_halves x.low x.high x.low_long x.high_long x.low_fits x.high_fits)
+      subst (λ z. is_between (overlaps_low w lo hi) (overlaps_high w lo hi) z ≡ overlaps (lo ++ hi) z) (sym x.joined)
+      (by_halves x.low x.high x.low_long x.high_long x.low_fits x.high_fits)
     where
-      by_halves : (l g : List ℤ) → length l ≡ k → length g ≡ k → list_all (fits w) l ≡ true → list_all (fits w) g ≡ true → is_between (overlaps_low w lo hi) (overlaps_high w lo hi) (l ++ g) ≡ overlaps (lo ++ hi) (l ++ g)
+      by_halves : (l g : List ℤ) → length l ≡ k → length g ≡ k → list_all (fits w) l ≡ true →
+          list_all (fits w) g ≡ true → is_between (overlaps_low w lo hi) (overlaps_high w lo hi) (l ++ g) ≡
+          overlaps (lo ++ hi) (l ++ g)
       by_halves l g m n f h =
           let a : at_most (replicate (length lo) (least w)) l ≡ true = subst (λ j. at_most (replicate j (least w)) l ≡ true) (m ∙ sym low) (from-least w l f) in
           let b : at_most g (replicate (length hi) (greatest w)) ≡ true = subst (λ j. at_most g (replicate j (greatest w)) ≡ true) (n ∙ sym high) (to-greatest w g h) in
           let c = corners-joined lo hi (low ∙ sym high) in
           let o = corners-joined l g (m ∙ sym n) in
-          ap (λ t. t && at_most (l ++ g) (overlaps_high w lo hi)) (at_most-joined (replicate (length lo) (least w)) l lo g (length-replicate (length lo) (least w) ∙ low ∙ sym m) ∙ true-left (at_most (replicate (length lo) (least w)) l) (at_most lo g) a)
-          ∙ ap (λ t. at_most lo g && t) (at_most-joined l hi g (replicate (length hi) (greatest w)) (m ∙ sym high) ∙ true-right (at_most l hi) (at_most g (replicate (length hi) (greatest w))) b)
+          ap (λ t. t && at_most (l ++ g) (overlaps_high w lo hi))
+          (at_most-joined (replicate (length lo) (least w)) l lo g
+          (length-replicate (length lo) (least w) ∙ low ∙ sym m) ∙
+          true-left (at_most (replicate (length lo) (least w)) l) (at_most lo g) a)
+          ∙ ap (λ t. at_most lo g && t) (at_most-joined l hi g (replicate (length hi) (greatest w)) (m ∙ sym high) ∙
+          true-right (at_most l hi) (at_most g (replicate (length hi) (greatest w))) b)
           ∙ flip (at_most lo g) (at_most l hi)
           ∙ sym (λ i. at_most (o.0 i) (c.1 i) && at_most (c.0 i) (o.1 i))
 
   pub covers-window : IsWindowFor w d (covers (lo ++ hi)) (covers_low w lo hi) (covers_high w lo hi)
   covers-window box p b =
       let x : Halved w k box = halved w k d box e p in
-      subst (λ z. is_between (covers_low w lo hi) (covers_high w lo hi) z ≡ covers (lo ++ hi) z) (sym x.joined) (by_halves x.low x.high x.low_long x.high_long x.low_fits x.high_fits)
+      subst (λ z. is_between (covers_low w lo hi) (covers_high w lo hi) z ≡ covers (lo ++ hi) z) (sym x.joined)
+      (by_halves x.low x.high x.low_long x.high_long x.low_fits x.high_fits)
     where
-      by_halves : (l g : List ℤ) → length l ≡ k → length g ≡ k → list_all (fits w) l ≡ true → list_all (fits w) g ≡ true → is_between (covers_low w lo hi) (covers_high w lo hi) (l ++ g) ≡ covers (lo ++ hi) (l ++ g)
+      by_halves : (l g : List ℤ) → length l ≡ k → length g ≡ k → list_all (fits w) l ≡ true →
+          list_all (fits w) g ≡ true → is_between (covers_low w lo hi) (covers_high w lo hi) (l ++ g) ≡ covers (lo ++ hi) (l ++ g)
       by_halves l g m n f h =
           let a : at_most (replicate (length hi) (least w)) l ≡ true = subst (λ j. at_most (replicate j (least w)) l ≡ true) (m ∙ sym high) (from-least w l f) in
           let b : at_most g (replicate (length lo) (greatest w)) ≡ true = subst (λ j. at_most g (replicate j (greatest w)) ≡ true) (n ∙ sym low) (to-greatest w g h) in
           let c = corners-joined lo hi (low ∙ sym high) in
           let o = corners-joined l g (m ∙ sym n) in
-          ap (λ t. t && at_most (l ++ g) (covers_high w lo hi)) (at_most-joined (replicate (length hi) (least w)) l hi g (length-replicate (length hi) (least w) ∙ high ∙ sym m) ∙ true-left (at_most (replicate (length hi) (least w)) l) (at_most hi g) a)
-          ∙ ap (λ t. at_most hi g && t) (at_most-joined l lo g (replicate (length lo) (greatest w)) (m ∙ sym low) ∙ true-right (at_most l lo) (at_most g (replicate (length lo) (greatest w))) b)
+          ap (λ t. t && at_most (l ++ g) (covers_high w lo hi))
+          (at_most-joined (replicate (length hi) (least w)) l hi g
+          (length-replicate (length hi) (least w) ∙ high ∙ sym m) ∙
+          true-left (at_most (replicate (length hi) (least w)) l) (at_most hi g) a)
+          ∙ ap (λ t. at_most hi g && t) (at_most-joined l lo g (replicate (length lo) (greatest w)) (m ∙ sym low) ∙
+          true-right (at_most l lo) (at_most g (replicate (length lo) (greatest w))) b)
           ∙ flip (at_most hi g) (at_most l lo)
           ∙ sym (λ i. at_most (o.0 i) (c.0 i) && at_most (c.1 i) (o.1 i))
 
@@ -205,7 +220,9 @@ greatest_all w k = all-fit w k (greatest w) (greatest_fits w)
 -- ---- tables of boxes
 
 -- on boxes of the width the window lists what the question lists
-pub window_lists : (w d : ℕ) (asks : List ℤ → Bool) (low high : List ℤ) (table : List Row) → IsWindowFor w d asks low high → Each (λ r. IsPoint w d r.point × IsBox r.point) table → window low high table ≡ filter (λ r. asks r.point) table
+pub window_lists : (w d : ℕ) (asks : List ℤ → Bool) (low high : List ℤ) (table : List Row) →
+    IsWindowFor w d asks low high → Each (λ r. IsPoint w d r.point × IsBox r.point) table →
+    window low high table ≡ filter (λ r. asks r.point) table
 window_lists w d asks low high [] f h = refl
 window_lists w d asks low high (r ∷ table) f h =
     ap (λ t. cond t (r ∷ window low high table) (window low high table)) (f r.point h.0.0 h.0.1)

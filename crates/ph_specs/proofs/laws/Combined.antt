@@ -107,10 +107,15 @@ module _ (w : ℕ) (left both right : Bool) where
   split-none [] us vs k = chosen-append right us vs
   split-none (y ∷ ys) us vs k =
       let first : Each (λ u. before w u.point y.point ≡ true) us = Each-each us (λ u h. h.0) k in
-      let e : earlier w y (us ++ vs) ≡ us ++ earlier w y vs = filter-append (λ s. before w s.point y.point) us vs ∙ ap (λ t. t ++ earlier w y vs) (filter-all (λ s. before w s.point y.point) us first) in
-      let f : later w y (us ++ vs) ≡ later w y vs = filter-append (λ s. before w y.point s.point) us vs ∙ ap (λ t. t ++ later w y vs) (filter-none (λ s. before w y.point s.point) us (Each-each us (λ u h. not-back w u.point y.point h) first)) in
+      let e : earlier w y (us ++ vs) ≡ us ++ earlier w y vs = filter-append (λ s. before w s.point y.point) us vs ∙
+      ap (λ t. t ++ earlier w y vs) (filter-all (λ s. before w s.point y.point) us first) in
+      let f : later w y (us ++ vs) ≡ later w y vs = filter-append (λ s. before w y.point s.point) us vs ∙
+      ap (λ t. t ++ later w y vs) (filter-none (λ s. before w y.point s.point) us
+      (Each-each us (λ u h. not-back w u.point y.point h) first)) in
       let g : find (us ++ vs) y.point ≡ find vs y.point = find-back us vs y.point (Each-each us (λ u h. not-same w u.point y.point h) first) in
-      three (chosen right (earlier w y (us ++ vs))) (chosen right us ++ chosen right (earlier w y vs)) (chosen (if has (us ++ vs) y.point then both else left) (y ∷ [])) (chosen (if has vs y.point then both else left) (y ∷ [])) (joined ys (later w y (us ++ vs))) (joined ys (later w y vs))
+      three (chosen right (earlier w y (us ++ vs))) (chosen right us ++ chosen right (earlier w y vs))
+      (chosen (if has (us ++ vs) y.point then both else left) (y ∷ []))
+      (chosen (if has vs y.point then both else left) (y ∷ [])) (joined ys (later w y (us ++ vs))) (joined ys (later w y vs))
       (ap (chosen right) e ∙ chosen-append right us (earlier w y vs))
       (ap (λ t. chosen (if is_some t then both else left) (y ∷ [])) g)
       (ap (joined ys) f)
@@ -119,11 +124,19 @@ module _ (w : ℕ) (left both right : Bool) where
   pub combined-split : (xs ys us vs : List Row) → AreParted w xs vs → AreParted w us ys → joined (xs ++ ys) (us ++ vs) ≡ joined xs us ++ joined ys vs
   combined-split [] ys us vs h k = split-none ys us vs k
   combined-split (x ∷ xs) ys us vs h k =
-      let e : earlier w x (us ++ vs) ≡ earlier w x us = filter-append (λ s. before w s.point x.point) us vs ∙ append-nothing (earlier w x us) (earlier w x vs) (filter-none (λ s. before w s.point x.point) vs (Each-each vs (λ v h. not-back w x.point v.point h) h.0)) in
-      let f : later w x (us ++ vs) ≡ later w x us ++ vs = filter-append (λ s. before w x.point s.point) us vs ∙ ap (λ t. later w x us ++ t) (filter-all (λ s. before w x.point s.point) vs h.0) in
+      let e : earlier w x (us ++ vs) ≡ earlier w x us = filter-append (λ s. before w s.point x.point) us vs ∙
+      append-nothing (earlier w x us) (earlier w x vs)
+      (filter-none (λ s. before w s.point x.point) vs (Each-each vs (λ v h. not-back w x.point v.point h) h.0)) in
+      let f : later w x (us ++ vs) ≡ later w x us ++ vs = filter-append (λ s. before w x.point s.point) us vs ∙
+      ap (λ t. later w x us ++ t) (filter-all (λ s. before w x.point s.point) vs h.0) in
       let g : find (us ++ vs) x.point ≡ find us x.point = find-front us vs x.point (find-none vs x.point (Each-each vs (λ v h. not-same-back w x.point v.point h) h.0)) in
-      let ih : joined (xs ++ ys) (later w x us ++ vs) ≡ joined xs (later w x us) ++ joined ys vs = combined-split xs ys (later w x us) vs h.1 (Each-filter (λ u. Each (λ y. before w u.point y.point ≡ true) ys) (λ s. before w x.point s.point) us k) in
-      three (chosen right (earlier w x (us ++ vs))) (chosen right (earlier w x us)) (chosen (if has (us ++ vs) x.point then both else left) (x ∷ [])) (chosen (if has us x.point then both else left) (x ∷ [])) (joined (xs ++ ys) (later w x (us ++ vs))) (joined xs (later w x us) ++ joined ys vs)
+      let ih : joined (xs ++ ys) (later w x us ++ vs) ≡ joined xs (later w x us) ++ joined ys vs =
+      combined-split xs ys (later w x us) vs h.1
+      (Each-filter (λ u. Each (λ y. before w u.point y.point ≡ true) ys) (λ s. before w x.point s.point) us k) in
+      three (chosen right (earlier w x (us ++ vs))) (chosen right (earlier w x us))
+      (chosen (if has (us ++ vs) x.point then both else left) (x ∷ []))
+      (chosen (if has us x.point then both else left) (x ∷ [])) (joined (xs ++ ys) (later w x (us ++ vs)))
+      (joined xs (later w x us) ++ joined ys vs)
       (ap (chosen right) e)
       (ap (λ t. chosen (if is_some t then both else left) (x ∷ [])) g)
       (ap (joined (xs ++ ys)) f ∙ ih)
@@ -169,6 +182,7 @@ module _ (w : ℕ) (left both right : Bool) where
       combined-split [] xs p (q ++ r) tt h ∙ ap (λ t. chosen right p ++ t) (sym (ap (λ t. joined t (q ++ r)) (append-nothing xs [] refl)) ∙ e)
 
   -- the first part of one table, and what of the other lies before it, at it and behind it
-  pub combined-step : (x xs p q r : List Row) → AreParted w p (x ++ xs) → AreParted w x r → AreParted w q xs → joined (x ++ xs) (p ++ (q ++ r)) ≡ chosen right p ++ (joined x q ++ joined xs r)
+  pub combined-step : (x xs p q r : List Row) → AreParted w p (x ++ xs) → AreParted w x r → AreParted w q xs →
+      joined (x ++ xs) (p ++ (q ++ r)) ≡ chosen right p ++ (joined x q ++ joined xs r)
   combined-step x xs p q r h k l =
       combined-split [] (x ++ xs) p (q ++ r) tt h ∙ ap (λ t. chosen right p ++ t) (combined-split x xs q r k l)

@@ -1,5 +1,6 @@
 -- A record that is written in a layout is a record of that layout, and has the entries that it was written of.
-use Rattle.std.proofs.Common.{◌≡◌, ℕ, ◌+◌, ◌-◌, ◌*◌, ◌/◌, ◌%◌, ◌^◌, ◌<◌, ◌≤◌, sym, ◌∙◌, ap, subst, arith, List, ◌∷◌, ◌++◌, length, map, take, drop, Bool, true, false, mul-le-mul_left}
+use Rattle.std.proofs.Common.{◌≡◌, ℕ, ◌+◌, ◌-◌, ◌*◌, ◌/◌, ◌%◌, ◌^◌, ◌<◌, ◌≤◌, sym, ◌∙◌, ap, subst, arith, List}
+use Rattle.std.proofs.Common.{◌∷◌, ◌++◌, length, map, take, drop, Bool, true, false, mul-le-mul_left}
 use Rattle.std.proofs.Math.Nat.{mul-div_cancel, mul-mod_left}
 use Rattle.std.proofs.lemmas.Nat.{pow_pos, pow-add}
 use Rattle.std.proofs.lemmas.List.{length-append}
@@ -72,14 +73,17 @@ module _ (cube : Bool) (dims level : ℕ) (es : List Flat) (h : AreRising dims l
   digits-made = sym (table-digits cube dims level 0 es h)
 
   -- the number and the fields by the first word that is written
-  pub number-written : number_of (map (field 64) (take (words_for (digits_as cube dims f)) (words_of tbl ++ values es))) ≡ number_of tbl * 2 ^ padding (digits_as cube dims f)
+  pub number-written : number_of
+      (map (field 64) (take (words_for (digits_as cube dims f)) (words_of tbl ++ values es))) ≡
+      number_of tbl * 2 ^ padding (digits_as cube dims f)
   number-written =
       let l : length (words_of tbl) ≡ words_for (digits_as cube dims f) = length-words_of tbl ∙ sym (ap words_for digits-made) in
       ap (λ t. number_of (map (field 64) t)) (take-front (words_for (digits_as cube dims f)) (words_of tbl) (values es) l)
       ∙ number_of-words_of tbl (table-fit cube dims level 0 es h)
       ∙ ap (λ t. number_of tbl * 2 ^ padding t) (sym digits-made)
 
-  pub fields-written : read_fields (digits_as cube dims f) (widths cube dims f) (number_of tbl * 2 ^ padding (digits_as cube dims f) / 2 ^ padding (digits_as cube dims f)) ≡ numbers tbl
+  pub fields-written : read_fields (digits_as cube dims f) (widths cube dims f)
+      (number_of tbl * 2 ^ padding (digits_as cube dims f) / 2 ^ padding (digits_as cube dims f)) ≡ numbers tbl
   fields-written =
       ap (λ t. read_fields (digits_as cube dims f) (widths cube dims f) t) (mul-div_cancel (number_of tbl) (pow_pos (padding (digits_as cube dims f))))
       ∙ ap (λ t. read_fields t (widths cube dims f) (number_of tbl)) digits-made
@@ -116,7 +120,8 @@ module _ (cube : Bool) (dims level : ℕ) (es : List Flat) (h : AreRising dims l
 
   pub values-made : values_as cube dims words ≡ values es
   values-made =
-      let l : length (first_word level (layout cube) (length es) (children es) ∷ words_of tbl) ≡ 1 + words_for (digits_as cube dims f) = omega (arith, length-words_of tbl, ap words_for digits-made) in
+      let l : length (first_word level (layout cube) (length es) (children es) ∷ words_of tbl) ≡
+      1 + words_for (digits_as cube dims f) = omega (arith, length-words_of tbl, ap words_for digits-made) in
       ap (λ t. drop (1 + words_for (digits_as cube dims t)) words) first-made
       ∙ drop-front (1 + words_for (digits_as cube dims f)) (first_word level (layout cube) (length es) (children es) ∷ words_of tbl) (values es) l
 
@@ -150,7 +155,8 @@ pub record IsMade (cube : Bool) (dims level : ℕ) (es : List Flat) : Type 0 whe
   pub entries_are : entries_as cube dims (record_in cube dims level es) ≡ map unvalued es
   pub values_are : values_as cube dims (record_in cube dims level es) ≡ values es
 
-pub made : (cube : Bool) (dims level : ℕ) (es : List Flat) → 1 ≤ dims → dims ≤ 16 → level ≤ 61 → 1 ≤ length es → (level ≡ 0 → children es ≡ 0) → AreRising dims level 0 es → IsMade cube dims level es
+pub made : (cube : Bool) (dims level : ℕ) (es : List Flat) → 1 ≤ dims → dims ≤ 16 → level ≤ 61 → 1 ≤ length es →
+    (level ≡ 0 → children es ≡ 0) → AreRising dims level 0 es → IsMade cube dims level es
 made cube dims level es o l b n z h =
     let fits : FitsFirst level (length es) (children es) = fits-first dims level es l (omega (arith, b)) h in
     record {

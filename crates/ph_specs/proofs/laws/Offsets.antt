@@ -24,11 +24,15 @@ coordinate-le w a b = by_test (nat_le a b) refl
 -- the nearest number of an interval, by offsets
 pub clamp-apart : (w low high n : ℕ) → low ≤ high → nat_abs (clamp (coordinate w low) (coordinate w high) (coordinate w n) -ℤ coordinate w n) ≡ (low - n) + (n - high)
 clamp-apart w low high n h =
-    ap (λ t. nat_abs ((if t then coordinate w low else (if int_le (coordinate w high) (coordinate w n) then coordinate w high else coordinate w n)) -ℤ coordinate w n)) (coordinate-le w n low)
+    ap (λ t. nat_abs ((if t then coordinate w low else
+    (if int_le (coordinate w high) (coordinate w n) then coordinate w high else coordinate w n)) -ℤ coordinate w
+    n)) (coordinate-le w n low)
     ∙ ap (λ t. nat_abs ((if nat_le n low then coordinate w low else (if t then coordinate w high else coordinate w n)) -ℤ coordinate w n)) (coordinate-le w high n)
     ∙ by_tests (nat_le n low) (nat_le high n) refl refl
   where
-    by_tests : (s t : Bool) → nat_le n low ≡ s → nat_le high n ≡ t → nat_abs ((if s then coordinate w low else (if t then coordinate w high else coordinate w n)) -ℤ coordinate w n) ≡ (low - n) + (n - high)
+    by_tests : (s t : Bool) → nat_le n low ≡ s → nat_le high n ≡ t →
+        nat_abs ((if s then coordinate w low else (if t then coordinate w high else coordinate w n)) -ℤ coordinate w
+        n) ≡ (low - n) + (n - high)
     by_tests true t e f = coordinate-apart w low n ∙ (let l : n ≤ low = leb-true n low e in omega (arith, l, h))
     by_tests false true e f = coordinate-apart w high n ∙ (let l : low < n = leb-false n low e in let m : high ≤ n = leb-true high n f in omega (arith, l, m))
     by_tests false false e f = coordinate-apart w n n ∙ (let l : low < n = leb-false n low e in let m : n < high = leb-false high n f in omega (arith, l, m))
@@ -39,5 +43,6 @@ clamp-gap w l c x f =
     subst (λ y. nat_abs (clamp (low_end w l c) (high_end w l c) y -ℤ y) ≡ gap l (offset w c) (offset w x)) (coordinate-offset w x f)
     (clamp-apart w (prefix w l c * 2 ^ (l + 1)) (prefix w l c * 2 ^ (l + 1) + (2 ^ (l + 1) - 1)) (offset w x) (omega arith))
 
-pub square-gap : (w l : ℕ) (c x : ℤ) → fits w x ≡ true → squared_gap (clamp (low_end w l c) (high_end w l c) x) x ≡ gap l (offset w c) (offset w x) * gap l (offset w c) (offset w x)
+pub square-gap : (w l : ℕ) (c x : ℤ) → fits w x ≡ true → squared_gap (clamp (low_end w l c) (high_end w l c) x) x ≡
+    gap l (offset w c) (offset w x) * gap l (offset w c) (offset w x)
 square-gap w l c x f = ap (λ n. n * n) (clamp-gap w l c x f)

@@ -1,5 +1,6 @@
 -- Laws of pages: the rest behind a page is what the page left, and there is more exactly where that is not empty.
-use Rattle.std.proofs.Common.{◌≡◌, ◌↔◌, ℕ, zero, suc, ◌<◌, List, [], ◌∷◌, ◌++◌, length, take, drop, refl, sym, ◌∙◌, ap, subst, arith, cond, Bool, true, false, ◌&&◌, append_assoc, take-append-drop, lt-ltb, ltb-true}
+use Rattle.std.proofs.Common.{◌≡◌, ◌↔◌, ℕ, zero, suc, ◌<◌, List, [], ◌∷◌, ◌++◌, length, take, drop, refl, sym, ◌∙◌, ap, subst}
+use Rattle.std.proofs.Common.{arith, cond, Bool, true, false, ◌&&◌, append_assoc, take-append-drop, lt-ltb, ltb-true}
 use Rattle.std.specs.Prelude.{ℤ, Option, Some, None, filter}
 use Rattle.std.specs.List.{AllByRecursion as Each, list_all}
 use Rattle.ph_specs.specs.ZOrder.{before}
@@ -18,7 +19,8 @@ all-kept : (w : ℕ) (xs : List Row) → filter (λ r. is_after w None r.point) 
 all-kept w [] = refl
 all-kept w (x ∷ xs) = ap {B = List Row} (λ t. x ∷ t) (all-kept w xs)
 
-pub from-start : (w : ℕ) (c : Cursor) (lo hi : List ℤ) (last : Option (List ℤ)) (table : List Row) → record { lo = lo; hi = hi; last = last } ≡ c → last ≡ None → window lo hi table ≡ rest w c table
+pub from-start : (w : ℕ) (c : Cursor) (lo hi : List ℤ) (last : Option (List ℤ)) (table : List Row) →
+    record { lo = lo; hi = hi; last = last } ≡ c → last ≡ None → window lo hi table ≡ rest w c table
 from-start w c lo hi last table e n =
     sym (all-kept w (window lo hi table)) ∙ ap (λ l. rest w (record { lo = lo; hi = hi; last = l }) table) (sym n) ∙ ap (λ c. rest w c table) e
 
@@ -65,9 +67,12 @@ after-upward w (Some l) r s a b = before_trans w l r.point s.point a b
 -- behind a row of rows in Z-order stand those that come after it
 behind-row : (w : ℕ) (us : List Row) (r : Row) (vs : List Row) → Rising w (us ++ r ∷ vs) → filter (λ s. before w r.point s.point) (us ++ r ∷ vs) ≡ vs
 behind-row w [] r vs h =
-    ap (λ t. cond t (r ∷ filter (λ s. before w r.point s.point) vs) (filter (λ s. before w r.point s.point) vs)) (before_irrefl w r.point) ∙ all-pass (λ s. before w r.point s.point) vs h.0
+    ap (λ t. cond t (r ∷ filter (λ s. before w r.point s.point) vs) (filter (λ s. before w r.point s.point) vs))
+    (before_irrefl w r.point) ∙ all-pass (λ s. before w r.point s.point) vs h.0
 behind-row w (u ∷ us) r vs h =
-    ap (λ t. cond t (u ∷ filter (λ s. before w r.point s.point) (us ++ r ∷ vs)) (filter (λ s. before w r.point s.point) (us ++ r ∷ vs))) (before-not w u.point r.point (at-row us h.0)) ∙ behind-row w us r vs h.1
+    ap (λ t. cond t (u ∷ filter (λ s. before w r.point s.point) (us ++ r ∷ vs))
+    (filter (λ s. before w r.point s.point) (us ++ r ∷ vs))) (before-not w u.point r.point (at-row us h.0)) ∙
+    behind-row w us r vs h.1
   where
     at-row : (us : List Row) → Each (λ s. before w u.point s.point ≡ true) (us ++ r ∷ vs) → before w u.point r.point ≡ true
     at-row [] k = k.0
@@ -81,24 +86,30 @@ last-row o x [] = ([], x, refl, refl)
 last-row o x (y ∷ xs) = let ih = last-row (Some x.point) y xs in (x ∷ ih.0, ih.1, ap {B = List Row} (λ t. x ∷ t) ih.2, ih.3)
 
 -- the rest behind a page is what the page left
-pub rest-behind-page : (w d : ℕ) (cursor : Cursor) (n : ℕ) (table : List Row) → IsTable w d table → rest w (next_cursor w cursor n table) table ≡ drop n (rest w cursor table)
+pub rest-behind-page : (w d : ℕ) (cursor : Cursor) (n : ℕ) (table : List Row) → IsTable w d table →
+    rest w (next_cursor w cursor n table) table ≡ drop n (rest w cursor table)
 rest-behind-page w d cursor n table h = by_page (take n (rest w cursor table)) (drop n (rest w cursor table)) refl (take-append-drop n (rest w cursor table))
   where
     all : List Row
     all = window cursor.lo cursor.hi table
 
     rises : Rising w all
-    rises = rising-filter w (λ r. is_between cursor.lo cursor.hi r.point) table (rising-rows w table (and-parts (is_rising w table) (list_all (λ r. is_point w d r.point) table && list_all (λ r. is_value r.value) table) h).0)
+    rises = rising-filter w (λ r. is_between cursor.lo cursor.hi r.point) table
+        (rising-rows w table (and-parts (is_rising w table)
+        (list_all (λ r. is_point w d r.point) table && list_all (λ r. is_value r.value) table) h).0)
 
     front : (us : List Row) × (all ≡ us ++ rest w cursor table)
     front = last-ones w (λ r. is_after w cursor.last r.point) all (after-upward w cursor.last) rises
 
-    by_page : (given left : List Row) → take n (rest w cursor table) ≡ given → given ++ left ≡ rest w cursor table → rest w (record cursor { last = last_listed cursor.last (take n (rest w cursor table)) }) table ≡ left
+    by_page : (given left : List Row) → take n (rest w cursor table) ≡ given → given ++ left ≡ rest w cursor table →
+        rest w (record cursor { last = last_listed cursor.last (take n (rest w cursor table)) }) table ≡ left
     by_page [] left e f = ap (λ t. rest w (record cursor { last = last_listed cursor.last t }) table) e ∙ sym f
     by_page (x ∷ xs) left e f =
         let z = last-row cursor.last x xs in
         let us : List Row = front.0 ++ z.0 in
-        let parts : all ≡ (front.0 ++ z.0) ++ z.1 ∷ left = front.1 ∙ ap (λ t. front.0 ++ t) (sym f ∙ ap (λ t. t ++ left) z.2 ∙ append_assoc z.0 (z.1 ∷ []) left) ∙ sym (append_assoc front.0 z.0 (z.1 ∷ left)) in
+        let parts : all ≡ (front.0 ++ z.0) ++ z.1 ∷ left = front.1 ∙
+        ap (λ t. front.0 ++ t) (sym f ∙ ap (λ t. t ++ left) z.2 ∙ append_assoc z.0 (z.1 ∷ []) left) ∙
+        sym (append_assoc front.0 z.0 (z.1 ∷ left)) in
         ap (λ t. rest w (record cursor { last = last_listed cursor.last t }) table) e
         ∙ ap (λ o. rest w (record cursor { last = o }) table) z.3
         ∙ ap (filter (λ s. before w z.1.point s.point)) parts

@@ -44,7 +44,8 @@ pub common-combined : (w : ℕ) (a b : List Row) → is_rising w a ≡ true → 
 common-combined w [] b h = refl
 common-combined w (x ∷ a) b h =
     let ih : combined w false true false a (later w x b) ≡ common a (later w x b) = common-combined w a (later w x b) (and_parts _ _ h).1 in
-    let e : common a (later w x b) ≡ common a b = filter-same (λ r. has (later w x b) r.point) (λ r. has b r.point) a (Each-each a (λ s k. ap is_some (find-among_later w x b s.point k)) (rest-after w x a h)) in
+    let e : common a (later w x b) ≡ common a b = filter-same (λ r. has (later w x b) r.point) (λ r. has b r.point) a
+    (Each-each a (λ s k. ap is_some (find-among_later w x b s.point k)) (rest-after w x a h)) in
     ap (λ t. chosen (if has b x.point then true else false) (x ∷ []) ++ t) (ih ∙ e) ∙ by_bool (has b x.point) (common a b)
   where
     by_bool : (t : Bool) (xs : List Row) → chosen (if t then true else false) (x ∷ []) ++ xs ≡ cond t (x ∷ xs) xs
@@ -55,7 +56,9 @@ pub minus-combined : (w : ℕ) (a b : List Row) → is_rising w a ≡ true → c
 minus-combined w [] b h = refl
 minus-combined w (x ∷ a) b h =
     let ih : combined w true false false a (later w x b) ≡ minus a (later w x b) = minus-combined w a (later w x b) (and_parts _ _ h).1 in
-    let e : minus a (later w x b) ≡ minus a b = filter-same (λ r. not (has (later w x b) r.point)) (λ r. not (has b r.point)) a (Each-each a (λ s k. ap (λ t. not (is_some t)) (find-among_later w x b s.point k)) (rest-after w x a h)) in
+    let e : minus a (later w x b) ≡ minus a b = filter-same (λ r. not (has (later w x b) r.point))
+    (λ r. not (has b r.point)) a (Each-each a
+    (λ s k. ap (λ t. not (is_some t)) (find-among_later w x b s.point k)) (rest-after w x a h)) in
     ap (λ t. chosen (if has b x.point then false else true) (x ∷ []) ++ t) (ih ∙ e) ∙ by_bool (has b x.point) (minus a b)
   where
     by_bool : (t : Bool) (xs : List Row) → chosen (if t then false else true) (x ∷ []) ++ xs ≡ cond (not t) (x ∷ xs) xs
@@ -64,7 +67,9 @@ minus-combined w (x ∷ a) b h =
 
 -- ---- a row that is put stands between the earlier and the later rows
 
-put-between : (w d : ℕ) (x : Row) (b : List Row) → 1 ≤ w → is_point w d x.point ≡ true → Each (λ s. is_point w d s.point ≡ true) b → is_rising w b ≡ true → put w b x.point x.value ≡ earlier w x b ++ (x ∷ later w x b)
+put-between : (w d : ℕ) (x : Row) (b : List Row) → 1 ≤ w → is_point w d x.point ≡ true →
+    Each (λ s. is_point w d s.point ≡ true) b → is_rising w b ≡ true →
+    put w b x.point x.value ≡ earlier w x b ++ (x ∷ later w x b)
 put-between w d x [] l p q h = refl
 put-between w d x (y ∷ b) l p q h =
     let after : Each (λ s. before w y.point s.point ≡ true) b = rest-after w y b h in
@@ -108,7 +113,9 @@ put-between w d x (y ∷ b) l p q h =
 put-behind : (w : ℕ) (us vs : List Row) (x : Row) → Each (λ u. before w u.point x.point ≡ true) us → put w (us ++ vs) x.point x.value ≡ us ++ put w vs x.point x.value
 put-behind w [] vs x h = refl
 put-behind w (u ∷ us) vs x h =
-    ap (λ t. if t then x ∷ (us ++ vs) else (if before w x.point u.point then x ∷ u ∷ (us ++ vs) else u ∷ put w (us ++ vs) x.point x.value)) (not-same w u.point x.point h.0)
+    ap (λ t. if t then x ∷ (us ++ vs) else
+    (if before w x.point u.point then x ∷ u ∷ (us ++ vs) else u ∷ put w (us ++ vs) x.point x.value))
+    (not-same w u.point x.point h.0)
     ∙ ap (λ t. if t then x ∷ u ∷ (us ++ vs) else u ∷ put w (us ++ vs) x.point x.value) (not-back w u.point x.point h.0)
     ∙ ap {B = List Row} (λ t. u ∷ t) (put-behind w us vs x h.1)
 
@@ -129,14 +136,22 @@ chosen-if : (t : Bool) (rows : List Row) → chosen (if t then true else true) r
 chosen-if true rows = refl
 chosen-if false rows = refl
 
-pub union-combined : (w d : ℕ) (a b : List Row) → 1 ≤ w → Each (λ r. is_point w d r.point ≡ true) a → is_rising w a ≡ true → Each (λ r. is_point w d r.point ≡ true) b → is_rising w b ≡ true → combined w true true true a b ≡ union w a b
+pub union-combined : (w d : ℕ) (a b : List Row) → 1 ≤ w → Each (λ r. is_point w d r.point ≡ true) a →
+    is_rising w a ≡ true → Each (λ r. is_point w d r.point ≡ true) b → is_rising w b ≡ true →
+    combined w true true true a b ≡ union w a b
 union-combined w d [] b l p h q k = refl
 union-combined w d (x ∷ a) b l p h q k =
     let after : Each (λ s. before w x.point s.point ≡ true) a = rest-after w x a h in
-    let ih : combined w true true true a (later w x b) ≡ put_all w (later w x b) a = union-combined w d a (later w x b) l p.1 (and_parts _ _ h).1 (Each-filter (λ r. is_point w d r.point ≡ true) (λ s. before w x.point s.point) b q) (is_rising-filter w (λ s. before w x.point s.point) b k) in
-    let front : AreParted w (earlier w x b) a = Each-each (earlier w x b) (λ u m. Each-each a (λ s n. before_trans w u.point x.point s.point m n) after) (filter-tests w x b) in
+    let ih : combined w true true true a (later w x b) ≡ put_all w (later w x b) a =
+    union-combined w d a (later w x b) l p.1 (and_parts _ _ h).1
+    (Each-filter (λ r. is_point w d r.point ≡ true) (λ s. before w x.point s.point) b q)
+    (is_rising-filter w (λ s. before w x.point s.point) b k) in
+    let front : AreParted w (earlier w x b) a =
+    Each-each (earlier w x b) (λ u m. Each-each a (λ s n. before_trans w u.point x.point s.point m n) after)
+    (filter-tests w x b) in
     let one : AreParted w (x ∷ []) a = (after, tt) in
     let made : put_all w (put w b x.point x.value) a ≡ earlier w x b ++ (x ∷ put_all w (later w x b) a) =
-    ap (λ t. put_all w t a) (put-between w d x b l p.0 q k) ∙ put_all-behind w (earlier w x b) (x ∷ later w x b) a front ∙ ap (λ t. earlier w x b ++ t) (put_all-behind w (x ∷ []) (later w x b) a one)
+    ap (λ t. put_all w t a) (put-between w d x b l p.0 q k) ∙ put_all-behind w (earlier w x b) (x ∷ later w x b) a
+    front ∙ ap (λ t. earlier w x b ++ t) (put_all-behind w (x ∷ []) (later w x b) a one)
     in
     ap (λ t. earlier w x b ++ (t ++ combined w true true true a (later w x b))) (chosen-if (has b x.point) (x ∷ [])) ∙ ap (λ t. earlier w x b ++ (x ∷ t)) ih ∙ sym made

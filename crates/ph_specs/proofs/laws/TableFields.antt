@@ -1,5 +1,6 @@
 -- A field of the tables of a record is digits of its words.
-use Rattle.std.proofs.Common.{◌≡◌, ℕ, zero, suc, ◌+◌, ◌-◌, ◌*◌, ◌/◌, ◌%◌, ◌^◌, ◌<◌, ◌≤◌, refl, sym, ◌∙◌, ap, subst, arith, List, [], ◌∷◌, ◌++◌, length, map, take, drop, replicate, slice_index_or, get_or, Bool}
+use Rattle.std.proofs.Common.{◌≡◌, ℕ, zero, suc, ◌+◌, ◌-◌, ◌*◌, ◌/◌, ◌%◌, ◌^◌, ◌<◌, ◌≤◌, refl, sym, ◌∙◌, ap, subst, arith, List}
+use Rattle.std.proofs.Common.{[], ◌∷◌, ◌++◌, length, map, take, drop, replicate, slice_index_or, get_or, Bool}
 use Rattle.std.specs.List.{AllByRecursion as Each}
 use Rattle.std.proofs.lemmas.List.{take-append-drop, length-take-le, drop-drop}
 use Rattle.std.proofs.lemmas.Nat.{shr-shr}
@@ -52,7 +53,8 @@ tables-digits (x ∷ ws) digits p w l m h =
     within p w t n a b = omega (arith, a, b)
 
 -- field j of the tables, where it has w digits and the fields before it have p
-pub field-digits : (cube : Bool) (dims : ℕ) (words : List ℕ) (j w p : ℕ) → IsRecord cube dims words → Each (λ x. x < 2 ^ 64) words → j < length (widths cube dims (first_in words))
+pub field-digits : (cube : Bool) (dims : ℕ) (words : List ℕ) (j w p : ℕ) → IsRecord cube dims words →
+    Each (λ x. x < 2 ^ 64) words → j < length (widths cube dims (first_in words))
     → slice_index_or (widths cube dims (first_in words)) j 0 ≡ w → total (take j (widths cube dims (first_in words))) ≡ p → p + w ≤ digits_as cube dims (first_in words)
     → slice_index_or (fields_as cube dims words) j 0 ≡ digits_at words (64 + p) w
 field-digits cube dims words j w p r h k at before m =

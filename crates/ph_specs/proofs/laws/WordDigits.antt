@@ -1,5 +1,6 @@
 -- Digits of a list of words, by the words that they lie in.
-use Rattle.std.proofs.Common.{◌≡◌, ℕ, zero, suc, ◌+◌, ◌-◌, ◌*◌, ◌/◌, ◌%◌, ◌^◌, ◌<◌, ◌≤◌, sym, ◌∙◌, ap, subst, arith, List, [], ◌∷◌, ◌++◌, length, length-append, map, slice_index_or, Fits, w64}
+use Rattle.std.proofs.Common.{◌≡◌, ℕ, zero, suc, ◌+◌, ◌-◌, ◌*◌, ◌/◌, ◌%◌, ◌^◌, ◌<◌, ◌≤◌, sym, ◌∙◌, ap, subst, arith}
+use Rattle.std.proofs.Common.{List, [], ◌∷◌, ◌++◌, length, length-append, map, slice_index_or, Fits, w64}
 use Rattle.std.specs.List.{AllByRecursion as Each}
 use Rattle.std.proofs.lemmas.Nat.{div-mul-add, pow-add, mod-pow-add, pow_pos, shr-shr, field_of, shr_high, mod_low, shr_below, mod_below}
 use Rattle.std.proofs.Math.Nat.{mul-add-div_right, mul-add-mod_self_right}
@@ -48,7 +49,8 @@ each-fits (x ∷ ws) h = ((h 0).fits, each-fits ws (λ i. h (suc i)))
 pub number-front : (x : ℕ) (ws : List ℕ) → number_in (x ∷ ws) ≡ x * 2 ^ (64 * length ws) + number_in ws
 number-front x ws =
     let z : 0 * 2 ^ 64 + x ≡ x = omega arith in
-    number_after-start (0 * 2 ^ 64 + x) (map (field 64) ws) ∙ ap (λ t. t * 2 ^ digits_of (map (field 64) ws) + number_in ws) z ∙ ap (λ t. x * 2 ^ t + number_in ws) (digits-words 64 ws)
+    number_after-start (0 * 2 ^ 64 + x) (map (field 64) ws) ∙
+    ap (λ t. t * 2 ^ digits_of (map (field 64) ws) + number_in ws) z ∙ ap (λ t. x * 2 ^ t + number_in ws) (digits-words 64 ws)
 
 pub number-small : (ws : List ℕ) → Each (λ x. x < 2 ^ 64) ws → number_in ws < 2 ^ (64 * length ws)
 number-small ws h = subst (λ t. number_in ws < 2 ^ t) (digits-words 64 ws) (number_of-small (map (field 64) ws) (fit-words 64 ws h))
@@ -57,8 +59,10 @@ pub number-append : (xs ys : List ℕ) → number_in (xs ++ ys) ≡ number_in xs
 number-append [] ys = omega arith
 number-append (x ∷ xs) ys =
     let a : 64 * length (xs ++ ys) ≡ 64 * length xs + 64 * length ys = ap (λ t. 64 * t) (length-append xs ys) ∙ omega arith in
-    let p : x * 2 ^ (64 * length (xs ++ ys)) ≡ x * (2 ^ (64 * length xs) * 2 ^ (64 * length ys)) = ap (λ t. x * 2 ^ t) a ∙ ap (λ t. x * t) (pow-add 2 (64 * length xs) (64 * length ys)) in
-    let m : number_in (x ∷ xs) * 2 ^ (64 * length ys) ≡ (x * 2 ^ (64 * length xs) + number_in xs) * 2 ^ (64 * length ys) = ap (λ t. t * 2 ^ (64 * length ys)) (number-front x xs) in
+    let p : x * 2 ^ (64 * length (xs ++ ys)) ≡ x * (2 ^ (64 * length xs) * 2 ^ (64 * length ys)) =
+    ap (λ t. x * 2 ^ t) a ∙ ap (λ t. x * t) (pow-add 2 (64 * length xs) (64 * length ys)) in
+    let m : number_in (x ∷ xs) * 2 ^ (64 * length ys) ≡ (x * 2 ^ (64 * length xs) + number_in xs) * 2 ^
+    (64 * length ys) = ap (λ t. t * 2 ^ (64 * length ys)) (number-front x xs) in
     omega (arith, p, m, number-front x (xs ++ ys), number-append xs ys)
 
 -- digits behind the first word are digits of the words behind it
@@ -88,8 +92,10 @@ digits-across x y ws before room low behind e f l h =
     let m : ℕ = number_in ws in
     let a : 64 * suc (suc (length ws)) - before - (room + low) ≡ 64 * length ws + behind = omega (arith, e, f) in
     let s : 64 * suc (length ws) ≡ (low + behind) + 64 * length ws = omega (arith, f) in
-    let p : x * 2 ^ (64 * suc (length ws)) ≡ x * (2 ^ (low + behind) * 2 ^ (64 * length ws)) = ap (λ t. x * 2 ^ t) s ∙ ap (λ t. x * t) (pow-add 2 (low + behind) (64 * length ws)) in
-    let g : number_in (x ∷ y ∷ ws) ≡ x * 2 ^ (64 * suc (length ws)) + (y * 2 ^ (64 * length ws) + number_in ws) = number-front x (y ∷ ws) ∙ ap (λ t. x * 2 ^ (64 * suc (length ws)) + t) (number-front y ws) in
+    let p : x * 2 ^ (64 * suc (length ws)) ≡ x * (2 ^ (low + behind) * 2 ^ (64 * length ws)) = ap (λ t. x * 2 ^ t) s ∙
+    ap (λ t. x * t) (pow-add 2 (low + behind) (64 * length ws)) in
+    let g : number_in (x ∷ y ∷ ws) ≡ x * 2 ^ (64 * suc (length ws)) + (y * 2 ^ (64 * length ws) + number_in ws) =
+    number-front x (y ∷ ws) ∙ ap (λ t. x * 2 ^ (64 * suc (length ws)) + t) (number-front y ws) in
     let j : number_in (x ∷ y ∷ ws) ≡ (x * 2 ^ (low + behind) + y) * 2 ^ (64 * length ws) + number_in ws = g ∙ omega (arith, p) in
     ap (λ t. number_in (x ∷ y ∷ ws) / 2 ^ t % 2 ^ (room + low)) a
     ∙ ap (λ t. t / 2 ^ (64 * length ws + behind) % 2 ^ (room + low)) j
@@ -110,7 +116,8 @@ pub digits-two : (ws : List ℕ) (place before room low behind : ℕ) → before
     → digits_at ws (64 * place + before) (room + low) ≡ (slice_index_or ws place 0 % 2 ^ room) * 2 ^ low + slice_index_or ws (suc place) 0 / 2 ^ behind
 digits-two [] place before room low behind e f l h = elim l [ ]
 digits-two (x ∷ []) zero before room low behind e f l h = absurd (omega (arith, l))
-digits-two (x ∷ y ∷ ws) zero before room low behind e f l h = ap (λ t. digits_at (x ∷ y ∷ ws) t (room + low)) (omega arith) ∙ digits-across x y ws before room low behind e f h.1.0 h.1.1
+digits-two (x ∷ y ∷ ws) zero before room low behind e f l h = ap (λ t. digits_at (x ∷ y ∷ ws) t (room + low))
+    (omega arith) ∙ digits-across x y ws before room low behind e f h.1.0 h.1.1
 digits-two (x ∷ ws) (suc n) before room low behind e f l h =
     ap (λ t. digits_at (x ∷ ws) t (room + low)) (omega arith)
     ∙ digits-behind x ws (64 * n + before) (room + low) (omega (arith, e, f, l))
@@ -132,7 +139,8 @@ digits-below ws at w = mod_below (number_in ws / 2 ^ (64 * length ws - at - w)) 
 -- digits of a list in two parts
 pub digits-front : (xs ys : List ℕ) (at width : ℕ) → at + width ≤ 64 * length xs → Each (λ x. x < 2 ^ 64) ys → digits_at (xs ++ ys) at width ≡ digits_at xs at width
 digits-front xs ys at width l h =
-    let a : 64 * length (xs ++ ys) - at - width ≡ 64 * length ys + (64 * length xs - at - width) = ap (λ t. 64 * t - at - width) (length-append xs ys) ∙ omega (arith, l) in
+    let a : 64 * length (xs ++ ys) - at - width ≡ 64 * length ys + (64 * length xs - at - width) =
+    ap (λ t. 64 * t - at - width) (length-append xs ys) ∙ omega (arith, l) in
     ap (λ t. number_in (xs ++ ys) / 2 ^ t % 2 ^ width) a
     ∙ ap (λ t. t / 2 ^ (64 * length ys + (64 * length xs - at - width)) % 2 ^ width) (number-append xs ys)
     ∙ ap (λ t. t % 2 ^ width) (low_gone (number_in xs) (number_in ys) (64 * length ys) (64 * length xs - at - width) (number-small ys h))

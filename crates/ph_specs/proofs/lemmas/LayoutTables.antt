@@ -1,5 +1,6 @@
 -- The tables of a layout: what digits they take, what is read back from them, and that they keep the rules of the layout.
-use Rattle.std.proofs.Common.{◌≡◌, ℕ, zero, suc, ◌+◌, ◌^◌, ◌≤◌, refl, sym, ◌∙◌, ap, arith, List, [], ◌∷◌, ◌++◌, length, map, take, drop, replicate, Bool, true, false, lt-ltb, le-leb, eq-eqb}
+use Rattle.std.proofs.Common.{◌≡◌, ℕ, zero, suc, ◌+◌, ◌^◌, ◌≤◌, refl, sym, ◌∙◌, ap, arith, List, [], ◌∷◌, ◌++◌}
+use Rattle.std.proofs.Common.{length, map, take, drop, replicate, Bool, true, false, lt-ltb, le-leb, eq-eqb}
 use Rattle.std.specs.Prelude.{if◌then◌else◌, Option, Some, None, ◌&&◌, ◌||◌, ◌==◌, nat_lt, nat_le, count_by}
 use Rattle.std.specs.List.{list_all}
 use Rattle.std.proofs.lemmas.List.{append_assoc, length-append}
@@ -9,8 +10,10 @@ use Rattle.ph_specs.specs.Pack.{linear_digits, cube_digits, linear_table, cube_t
 use Rattle.ph_specs.specs.Record.{First, read_linear, read_cube, parts, widths, tables_in, rises_from, absent_are_zero}
 use Rattle.ph_specs.specs.Layout.{read_kept, unvalued, AreRising}
 use Rattle.ph_specs.proofs.lemmas.Numbers.{Fit, numbers, field_widths}
-use Rattle.ph_specs.proofs.lemmas.Columns.{take-front, drop-front, concat_of, parts-concat, reads-linear, addr_column, mark_column, body_column, entries-bodies, length-bodies, linear-digits, linear-widths, linear-numbers, linear-fit}
-use Rattle.ph_specs.proofs.lemmas.Cubes.{all_places, kind_column, place_column, length-places, places-bodies, cube-digits, cube-widths, cube-numbers, cube-fit, reads-cube}
+use Rattle.ph_specs.proofs.lemmas.Columns.{take-front, drop-front, concat_of, parts-concat, reads-linear, addr_column, mark_column, body_column}
+use Rattle.ph_specs.proofs.lemmas.Columns.{entries-bodies, length-bodies, linear-digits, linear-widths, linear-numbers, linear-fit}
+use Rattle.ph_specs.proofs.lemmas.Cubes.{all_places, kind_column, place_column, length-places, places-bodies}
+use Rattle.ph_specs.proofs.lemmas.Cubes.{cube-digits, cube-widths, cube-numbers, cube-fit, reads-cube}
 use Rattle.ph_specs.proofs.lemmas.Tests.{and-made}
 use Rattle.ph_specs.proofs.lemmas.Counted.{kids, ones, ones-count, kids-cube}
 
@@ -39,11 +42,14 @@ children-few (e ∷ es) = by_value e.value (children-few es)
 -- ---- what is read back
 
 -- the table of a layout takes the digits that the layout's formula gives
-pub table-digits : (cube : Bool) (dims level least : ℕ) (es : List Flat) → AreRising dims level least es → digits_of (table cube dims level es) ≡ (if cube then cube_digits dims level else linear_digits dims level (length es))
+pub table-digits : (cube : Bool) (dims level least : ℕ) (es : List Flat) → AreRising dims level least es →
+    digits_of (table cube dims level es) ≡ (if cube then cube_digits dims level else linear_digits dims level (length es))
 table-digits true dims level least es h = cube-digits dims level least es h
 table-digits false dims level least es h = linear-digits dims level least es h
 
-pub table-widths : (cube : Bool) (dims level least lay kids : ℕ) (es : List Flat) → AreRising dims level least es → field_widths (table cube dims level es) ≡ widths cube dims (record { level = level; layout = lay; entries = length es; children = kids })
+pub table-widths : (cube : Bool) (dims level least lay kids : ℕ) (es : List Flat) → AreRising dims level least es →
+    field_widths (table cube dims level es) ≡
+    widths cube dims (record { level = level; layout = lay; entries = length es; children = kids })
 table-widths true dims level least lay kids es h = cube-widths dims level least es h
 table-widths false dims level least lay kids es h = linear-widths dims level least es h
 
@@ -98,14 +104,22 @@ module _ (dims level : ℕ) (es : List Flat) (h : AreRising dims level 0 es) whe
 
   linear-bodies : parts (length es) dims (drop (length es + length es) (numbers (linear_table dims level es))) ≡ body_column es
   linear-bodies =
-      let l : length (mark_column es ++ addr_column es) ≡ length es + length es = omega (arith, length-append (mark_column es) (addr_column es), length-map' (λ e. child_mark e.value) es, length-map' (λ e. e.addr) es) in
+      let l : length (mark_column es ++ addr_column es) ≡ length es + length es =
+      omega (
+        arith,
+        length-append (mark_column es) (addr_column es),
+        length-map' (λ e. child_mark e.value) es,
+        length-map' (λ e. e.addr) es,
+      ) in
       ap (λ t. parts n dims (drop (n + n) t)) (linear-numbers dims level es)
       ∙ ap (parts n dims) (drop-front (n + n) (mark_column es ++ addr_column es) (concat_of (body_column es)) l)
       ∙ ap (λ t. parts t dims (concat_of (body_column es))) (sym (length-bodies es))
       ∙ parts-concat dims level (body_column es) (entries-bodies dims level 0 es h)
 
 -- the entries that the numbers of a table make
-pub table-reads : (cube : Bool) (dims level lay kids : ℕ) (es : List Flat) → AreRising dims level 0 es → (tables_in cube dims (record { level = level; layout = lay; entries = length es; children = kids }) (numbers (table cube dims level es))).entries ≡ map unvalued es
+pub table-reads : (cube : Bool) (dims level lay kids : ℕ) (es : List Flat) → AreRising dims level 0 es →
+    (tables_in cube dims (record { level = level; layout = lay; entries = length es; children = kids })
+    (numbers (table cube dims level es))).entries ≡ map unvalued es
 table-reads true dims level lay kids es h =
     ap (λ t. read_cube 0 t (parts (2 ^ dims) dims (drop (2 ^ dims) (numbers (cube_table dims level es))))) (cube-kinds dims level es h)
     ∙ ap (λ t. read_cube 0 (kind_column (all_places dims es)) t) (cube-bodies dims level es h)
@@ -159,21 +173,35 @@ absent-zero dims [] = refl
 absent-zero dims (None ∷ ps) =
     and-made (list_all (λ x. x == 0) (replicate dims 0)) _ (zeros-zero dims) (absent-zero dims ps)
 absent-zero dims (Some e ∷ ps) =
-    and-made (nat_lt 0 (1 + child_mark e.value) || list_all (λ x. x == 0) e.body) _ (ap (λ t. t || list_all (λ x. x == 0) e.body) (lt-ltb 0 (1 + child_mark e.value) (omega arith))) (absent-zero dims ps)
+    and-made (nat_lt 0 (1 + child_mark e.value) || list_all (λ x. x == 0) e.body) _
+    (ap (λ t. t || list_all (λ x. x == 0) e.body) (lt-ltb 0 (1 + child_mark e.value) (omega arith))) (absent-zero dims ps)
 
-pub tables-lawful : (cube : Bool) (dims level lay : ℕ) (es : List Flat) → AreRising dims level 0 es → (tables_in cube dims (first level lay (length es) (children es)) (numbers (table cube dims level es))).is_lawful ≡ true
+pub tables-lawful : (cube : Bool) (dims level lay : ℕ) (es : List Flat) → AreRising dims level 0 es →
+    (tables_in cube dims (first level lay (length es) (children es)) (numbers (table cube dims level es))).is_lawful ≡ true
 tables-lawful true dims level lay es h =
     let ps : List (Option Flat) = all_places dims es in
     let m : ℕ = 2 ^ dims in
     let ks : List ℕ = kind_column (all_places dims es) in
     let bs : List (List ℕ) = place_column dims (all_places dims es) in
-    let r : read_cube 0 (kind_column (all_places dims es)) (place_column dims (all_places dims es)) ≡ map unvalued es = reads-cube dims level m 0 0 es (omega arith) (omega arith) h in
-    let c : (length (read_cube 0 (kind_column (all_places dims es)) (place_column dims (all_places dims es))) ≡ ones (λ k. nat_lt 0 k) (kind_column (all_places dims es))) × (kids (read_cube 0 (kind_column (all_places dims es)) (place_column dims (all_places dims es))) ≡ ones (λ k. k == 2) (kind_column (all_places dims es))) = kids-cube 0 ks bs (length-bs dims level es h ∙ sym (length-ks dims level es h)) in
-    let n : count_by (λ k. nat_lt 0 k) (kind_column (all_places dims es)) ≡ length es = sym (ones-count (λ k. nat_lt 0 k) ks) ∙ sym c.0 ∙ ap length r ∙ length-map' unvalued es in
+    let r : read_cube 0 (kind_column (all_places dims es)) (place_column dims (all_places dims es)) ≡
+    map unvalued es = reads-cube dims level m 0 0 es (omega arith) (omega arith) h in
+    let c : (length (read_cube 0 (kind_column (all_places dims es)) (place_column dims (all_places dims es))) ≡
+    ones (λ k. nat_lt 0 k) (kind_column (all_places dims es))) ×
+    (kids (read_cube 0 (kind_column (all_places dims es)) (place_column dims (all_places dims es))) ≡
+    ones (λ k. k == 2) (kind_column (all_places dims es))) =
+    kids-cube 0 ks bs (length-bs dims level es h ∙ sym (length-ks dims level es h)) in
+    let n : count_by (λ k. nat_lt 0 k) (kind_column (all_places dims es)) ≡ length es =
+    sym (ones-count (λ k. nat_lt 0 k) ks) ∙ sym c.0 ∙ ap length r ∙ length-map' unvalued es in
     let q : count_by (λ k. k == 2) (kind_column (all_places dims es)) ≡ children es = sym (ones-count (λ k. k == 2) ks) ∙ sym c.1 ∙ ap kids r ∙ kids-unvalued es in
-    ap (λ t. list_all (λ k. nat_le k 2) t && (count_by (λ k. nat_lt 0 k) t == length es) && (count_by (λ k. k == 2) t == children es) && absent_are_zero t (parts m dims (drop m (numbers (cube_table dims level es))))) (cube-kinds dims level es h)
-    ∙ ap (λ t. list_all (λ k. nat_le k 2) ks && (count_by (λ k. nat_lt 0 k) ks == length es) && (count_by (λ k. k == 2) ks == children es) && absent_are_zero ks t) (cube-bodies dims level es h)
-    ∙ and-made (list_all (λ k. nat_le k 2) ks && (count_by (λ k. nat_lt 0 k) ks == length es) && (count_by (λ k. k == 2) ks == children es)) _ (and-made (list_all (λ k. nat_le k 2) ks && (count_by (λ k. nat_lt 0 k) ks == length es)) _ (and-made (list_all (λ k. nat_le k 2) ks) _ (kinds-small ps) (eq-eqb _ _ n)) (eq-eqb _ _ q)) (absent-zero dims ps)
+    ap (λ t. list_all (λ k. nat_le k 2) t && (count_by (λ k. nat_lt 0 k) t == length es) &&
+    (count_by (λ k. k == 2) t == children es) &&
+    absent_are_zero t (parts m dims (drop m (numbers (cube_table dims level es))))) (cube-kinds dims level es h)
+    ∙ ap (λ t. list_all (λ k. nat_le k 2) ks && (count_by (λ k. nat_lt 0 k) ks == length es) &&
+    (count_by (λ k. k == 2) ks == children es) && absent_are_zero ks t) (cube-bodies dims level es h)
+    ∙ and-made (list_all (λ k. nat_le k 2) ks && (count_by (λ k. nat_lt 0 k) ks == length es) &&
+    (count_by (λ k. k == 2) ks == children es)) _
+    (and-made (list_all (λ k. nat_le k 2) ks && (count_by (λ k. nat_lt 0 k) ks == length es)) _
+    (and-made (list_all (λ k. nat_le k 2) ks) _ (kinds-small ps) (eq-eqb _ _ n)) (eq-eqb _ _ q)) (absent-zero dims ps)
 tables-lawful false dims level lay es h =
     let n : ℕ = length es in
     let ms : List ℕ = mark_column es in

@@ -13,7 +13,8 @@ returns-then-sum-limit c =
     let whole = put_together c.args.level c.args.addr (body_above c.args.level known) (digits_row c.args.words.now c.args.at c.args.level (length known)) in
     let l = c.loop-i-test.true in
     let long = joined-long c.args.words.now known c.args.at c.args.level c.args.addr in
-    let first = apart-first c.loop-i.i _ _ whole c.args.others.now (omega (arith, l, long)) (omega (arith, l, c.requires.others.0)) c.joined_number-number.ensures.value c.square_apart-sum.ensures.value in
+    let first = apart-first c.loop-i.i _ _ whole c.args.others.now (omega (arith, l, long))
+    (omega (arith, l, c.requires.others.0)) c.joined_number-number.ensures.value c.square_apart-sum.ensures.value in
     omega (arith, c.if-sum-limit.true, c.loop-i.invariant.value, first)
 
 pub loop-i-preserved : goal.loop-i-preserved
@@ -23,10 +24,12 @@ loop-i-preserved c =
     let i = c.loop-i.i in
     let l = c.loop-i-test.true in
     let long = joined-long c.args.words.now known c.args.at c.args.level c.args.addr in
-    let first = apart-first i _ _ whole c.args.others.now (omega (arith, l, long)) (omega (arith, l, c.requires.others.0)) c.joined_number-number.ensures.value c.square_apart-sum.ensures.value in
+    let first = apart-first i _ _ whole c.args.others.now (omega (arith, l, long))
+    (omega (arith, l, c.requires.others.0)) c.joined_number-number.ensures.value c.square_apart-sum.ensures.value in
     record {
       value = omega (arith, c.loop-i.invariant.value, first);
-      limit = room-on c.loop-i.sum c.square_apart-sum.result (length known - i) (length known - (i + 1)) greatest_square (omega (arith, l)) c.square_apart-sum.ensures.limit c.loop-i.invariant.limit;
+      limit = room-on c.loop-i.sum c.square_apart-sum.result (length known - i) (length known - (i + 1))
+          greatest_square (omega (arith, l)) c.square_apart-sum.ensures.limit c.loop-i.invariant.limit;
       within = omega (arith, c.if-sum-limit.false);
     }
 

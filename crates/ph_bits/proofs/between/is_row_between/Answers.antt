@@ -15,7 +15,8 @@ returns-then-not-is_between c =
     let i = c.loop-i.i in
     let l = c.loop-i-test.true in
     sym (ap (λ t. t && each_between (drop (i + 1) c.args.low.now) (drop (i + 1) c.args.high.now) (drop (i + 1) whole)) c.if-not-is_between.true)
-    ∙ sym (between-first i _ c.args.low.now c.args.high.now whole (omega (arith, l, c.requires.low)) (omega (arith, l, c.requires.high)) (omega (arith, l, long)) c.joined_number-number.ensures.value c.is_between.ensures)
+    ∙ sym (between-first i _ c.args.low.now c.args.high.now whole (omega (arith, l, c.requires.low))
+    (omega (arith, l, c.requires.high)) (omega (arith, l, long)) c.joined_number-number.ensures.value c.is_between.ensures)
     ∙ c.loop-i.invariant
 
 pub loop-i-preserved : goal.loop-i-preserved
@@ -26,5 +27,6 @@ loop-i-preserved c =
     let i = c.loop-i.i in
     let l = c.loop-i-test.true in
     sym (ap (λ t. t && each_between (drop (i + 1) c.args.low.now) (drop (i + 1) c.args.high.now) (drop (i + 1) whole)) c.if-not-is_between.false)
-    ∙ sym (between-first i _ c.args.low.now c.args.high.now whole (omega (arith, l, c.requires.low)) (omega (arith, l, c.requires.high)) (omega (arith, l, long)) c.joined_number-number.ensures.value c.is_between.ensures)
+    ∙ sym (between-first i _ c.args.low.now c.args.high.now whole (omega (arith, l, c.requires.low))
+    (omega (arith, l, c.requires.high)) (omega (arith, l, long)) c.joined_number-number.ensures.value c.is_between.ensures)
     ∙ c.loop-i.invariant

@@ -35,13 +35,17 @@ word ws at place d w e l m p h =
 
 next : (ws : List ℕ) (at n left place ones w : ℕ) → at + n ≤ 64 * length ws → ((i : ℕ) → Fits w64 (slice_index_or ws i 0)) → 0 < left → w ≡ ord_min nat_cmp 64 left
     → (left ≤ n) × (ones ≡ ones_in ws at (n - left)) × (ones ≤ n - left) × (0 < left → 64 * place + 64 ≡ at + (n - left))
-    → (left - w ≤ n) × (ones + count_ones (slice_index_or ws (place + 1) 0 / 2 ^ (64 - w)) ≡ ones_in ws at (n - (left - w))) × (ones + count_ones (slice_index_or ws (place + 1) 0 / 2 ^ (64 - w)) ≤ n - (left - w)) × (0 < left - w → 64 * (place + 1) + 64 ≡ at + (n - (left - w)))
+    → (left - w ≤ n) × (ones + count_ones (slice_index_or ws (place + 1) 0 / 2 ^ (64 - w)) ≡
+    ones_in ws at (n - (left - w))) ×
+    (ones + count_ones (slice_index_or ws (place + 1) 0 / 2 ^ (64 - w)) ≤ n - (left - w)) ×
+    (0 < left - w → 64 * (place + 1) + 64 ≡ at + (n - (left - w)))
 next ws at n left place ones w m h p e' i =
     let e : w ≡ min 64 left = e' ∙ least 64 left in
     let d : ℕ = n - left in
     let at_word : 64 * place + 64 ≡ at + (n - left) = i.3 p in
     let g : n - left + w ≡ n - (left - w) = omega (arith, e, i.0) in
-    let c : slice_index_or ws (place + 1) 0 / 2 ^ (64 - w) ≡ digits_at ws (at + (n - left)) w = word ws at place (n - left) w at_word (omega (arith, e)) (omega (arith, e, m, i.0)) (omega (arith, e, p)) h in
+    let c : slice_index_or ws (place + 1) 0 / 2 ^ (64 - w) ≡ digits_at ws (at + (n - left)) w =
+    word ws at place (n - left) w at_word (omega (arith, e)) (omega (arith, e, m, i.0)) (omega (arith, e, p)) h in
     let both : ones + count_ones (slice_index_or ws (place + 1) 0 / 2 ^ (64 - w)) ≡ ones_in ws at (n - (left - w)) =
     ap (λ t. t + count_ones (slice_index_or ws (place + 1) 0 / 2 ^ (64 - w))) i.1
     ∙ ap (λ t. ones_in ws at (n - left) + count_ones t) c
@@ -54,7 +58,8 @@ loop-left-init c = start c.args.words.now c.args.at c.args.n c.min-first.result 
 
 pub overflow_add-ones : goal.overflow_add-ones
 overflow_add-ones c =
-    let i = next c.args.words.now c.args.at c.args.n c.loop-left.left c.loop-left.place c.loop-left.ones c.min-width.result c.requires.inside c.type_inv.words c.loop-left-test.true c.min-width.ensures c.loop-left.invariant in
+    let i = next c.args.words.now c.args.at c.args.n c.loop-left.left c.loop-left.place c.loop-left.ones
+    c.min-width.result c.requires.inside c.type_inv.words c.loop-left-test.true c.min-width.ensures c.loop-left.invariant in
     record { fits = small c.args.n (c.loop-left.left - c.min-width.result) _ c.ranges.n.fits i.2 }
   where
     small : (n m k : ℕ) → n < 2 ^ 64 → k ≤ n - m → k < 2 ^ 64
@@ -62,4 +67,5 @@ overflow_add-ones c =
 
 pub loop-left-preserved : goal.loop-left-preserved
 loop-left-preserved c =
-    next c.args.words.now c.args.at c.args.n c.loop-left.left c.loop-left.place c.loop-left.ones c.min-width.result c.requires.inside c.type_inv.words c.loop-left-test.true c.min-width.ensures c.loop-left.invariant
+    next c.args.words.now c.args.at c.args.n c.loop-left.left c.loop-left.place c.loop-left.ones c.min-width.result
+    c.requires.inside c.type_inv.words c.loop-left-test.true c.min-width.ensures c.loop-left.invariant

@@ -25,7 +25,8 @@ returns-then-n-eq0 c = none c.args.words.now c.args.at c.args.n c.if-n-eq0.true
 pub returns-then-n-front : goal.returns-then-n-front
 returns-then-n-front c =
     let ws = c.args.words.now in
-    ap count_ones (c.part_of.ensures ∙ one ws c.args.at c.args.n (above c.args.n c.if-n-eq0.false) (omega (arith, c.if-n-front.true)) c.requires.inside (each-fits ws c.type_inv.words))
+    ap count_ones (c.part_of.ensures ∙ one ws c.args.at c.args.n (above c.args.n c.if-n-eq0.false)
+    (omega (arith, c.if-n-front.true)) c.requires.inside (each-fits ws c.type_inv.words))
   where
     above : (n : ℕ) → (n ≡ 0 → ⊥) → 0 < n
     above n h = omega (arith, h)

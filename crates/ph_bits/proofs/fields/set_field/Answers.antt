@@ -27,7 +27,8 @@ pub returns-then-width-room : goal.returns-then-width-room
 returns-then-width-room c =
     let range : (i : ℕ) → Fits w64 (slice_index_or c.args.words.now i 0) = search rules in
     put c.args.words.now _ c.args.at c.args.width c.args.v c.requires.inside c.requires.value range
-    (one c.args.words.now c.args.at c.args.width c.with_field.result c.args.v c.if-width-room.true (above c.args.width c.if-width-eq0.false) c.requires.inside range c.with_field.type_inv c.with_field.ensures)
+    (one c.args.words.now c.args.at c.args.width c.with_field.result c.args.v c.if-width-room.true
+    (above c.args.width c.if-width-eq0.false) c.requires.inside range c.with_field.type_inv c.with_field.ensures)
   where
     above : (n : ℕ) → (n ≡ 0 → ⊥) → 0 < n
     above n h = omega (arith, h)
@@ -43,7 +44,8 @@ returns-else-width-room c =
     let low : ℕ = c.args.width - (64 - c.args.at % 64) in
     let other : slice_index_or (slice_set ws place x) (place + 1) 0 ≡ slice_index_or ws (place + 1) 0 = get_or-set_other ws place (place + 1) x 0 (apart place) in
     put ws _ c.args.at c.args.width c.args.v c.requires.inside c.requires.value range
-    (two ws c.args.at c.args.width x y c.args.v c.requires.width c.if-width-room.false c.requires.inside range c.with_field-else-width-room.type_inv c.with_field-else-width-room-2.type_inv c.with_field-else-width-room.ensures
+    (two ws c.args.at c.args.width x y c.args.v c.requires.width c.if-width-room.false c.requires.inside range
+    c.with_field-else-width-room.type_inv c.with_field-else-width-room-2.type_inv c.with_field-else-width-room.ensures
     (subst (λ t. y + t / 2 ^ behind % 2 ^ low * 2 ^ behind ≡ t + c.args.v * 2 ^ behind % 2 ^ 64 / 2 ^ behind * 2 ^ behind) other c.with_field-else-width-room-2.ensures))
   where
     apart : (i : ℕ) → i + 1 ≢ i

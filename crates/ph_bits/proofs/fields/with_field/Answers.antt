@@ -31,7 +31,9 @@ fits x k w v l m n =
     let a : 64 ≡ 64 - k - w + (w + k) = omega (arith, l) in
     let e : (x - x * 2 ^ (64 - k - w) % 2 ^ 64 / 2 ^ (64 - w) * 2 ^ k % 2 ^ 64 + v * 2 ^ k % 2 ^ 64) ≡ (x / 2 ^ (w + k) * 2 ^ w + v) * 2 ^ k + x % 2 ^ k =
     replaced x (x - x * 2 ^ (64 - k - w) % 2 ^ 64 / 2 ^ (64 - w) * 2 ^ k % 2 ^ 64 + v * 2 ^ k % 2 ^ 64) w k v (sum x k w v l m (below x k w l)) in
-    subst (λ t. t < 2 ^ 64) (sym e) (subst (λ t. (x / 2 ^ (w + k) * 2 ^ w + v) * 2 ^ k + x % 2 ^ k < 2 ^ t) (sym a) (replaced-fits x w k (64 - k - w) v m (subst (λ t. x < 2 ^ t) a n)))
+    subst (λ t. t < 2 ^ 64) (sym e)
+    (subst (λ t. (x / 2 ^ (w + k) * 2 ^ w + v) * 2 ^ k + x % 2 ^ k < 2 ^ t) (sym a)
+    (replaced-fits x w k (64 - k - w) v m (subst (λ t. x < 2 ^ t) a n)))
 
 pub overflow_sub-result : goal.overflow_sub-result
 overflow_sub-result c = below c.args.word c.args.behind c.args.width c.requires.inside

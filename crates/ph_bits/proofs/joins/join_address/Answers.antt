@@ -14,8 +14,11 @@ loop-i-preserved c =
     let v = get_or c.loop-i.known c.loop-i.i 0 / 2 ^ (c.args.level + 1) * 2 ^ (c.args.level + 1) + c.args.addr / 2 ^ (d - 1 - c.loop-i.i) % 2 * 2 ^ c.args.level in
     record {
       long = search rules;
-      made = made-more c.args.level c.args.addr c.loop-i.i _ c.loop-i.known c.args.known.now (replicate d 0) (length-replicate d 0) c.loop-i.invariant.long c.loop-i-test.true c.loop-i.invariant.kept c.loop-i.invariant.made
-          (ap (λ t. t + c.address_digit.result) c.digits_above.ensures.value ∙ ap (λ t. get_or c.loop-i.known c.loop-i.i 0 / 2 ^ (c.args.level + 1) * 2 ^ (c.args.level + 1) + t) c.address_digit.ensures.value
+      made = made-more c.args.level c.args.addr c.loop-i.i _ c.loop-i.known c.args.known.now (replicate d 0)
+          (length-replicate d 0) c.loop-i.invariant.long c.loop-i-test.true c.loop-i.invariant.kept c.loop-i.invariant.made
+          (ap (λ t. t + c.address_digit.result) c.digits_above.ensures.value ∙
+          ap (λ t. get_or c.loop-i.known c.loop-i.i 0 / 2 ^ (c.args.level + 1) * 2 ^ (c.args.level + 1) + t)
+          c.address_digit.ensures.value
           ∙ omega (arith, nought d c.loop-i.i));
       kept = kept-more c.loop-i.i _ c.loop-i.known c.args.known.now c.loop-i.invariant.kept;
     }
@@ -23,4 +26,5 @@ loop-i-preserved c =
 pub returns : goal.returns
 returns c =
     let d = length c.args.known.now in
-    joined-all c.args.level c.args.addr c.loop-i.i c.loop-i.known c.args.known.now (replicate d 0) (length-replicate d 0) c.loop-i.invariant.long (omega arith) c.loop-i.invariant.made
+    joined-all c.args.level c.args.addr c.loop-i.i c.loop-i.known c.args.known.now (replicate d 0)
+    (length-replicate d 0) c.loop-i.invariant.long (omega arith) c.loop-i.invariant.made

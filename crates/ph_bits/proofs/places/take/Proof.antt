@@ -1,5 +1,11 @@
 -- `take` cuts the new block into places, and keeps the right to give it back. Assumes `Logic`.
-use Rattle.ph_bits.proofs.Walks.{◌*◌, ◌^◌, ◌<◌, List, [], ◌∷◌, refl, sym, subst, arith, length, length-replicate, None, replicate, lit<, true, false, Ok, Err, proved, id⊢, ftrue, flft, ty_int, named, w64, Val, vstruct, vcons, vnil, fact, tables, ‵, raw, ◌⊛◌, at_ret, ◌$◌, ◌∵◌, !, qed, done, move, keep, use0, use1, use2, use3, split, join, fsplit, fjoin, flt_i, suffices, frame, whole, agg, enter, of_opd, and_then, no_more, bin, lit, stop, fld, first, exec, returns, word, word-Good, alloc_all, pass_all, free_all, look_at, get, get_in, get_tag, lands_as, sets, sets_last, env, usize, yes, uint_vals, uint_Tells, Ptr, block_ptr, owns, plain, nothing, heard, Stays, walk_of, says, stay_dropped, Goes-dropped, ends_at, after, head, arm_body}
+use Rattle.ph_bits.proofs.Walks.{◌*◌, ◌^◌, ◌<◌, List, [], ◌∷◌, refl, sym, subst, arith, length, length-replicate, None, replicate, lit<, true}
+use Rattle.ph_bits.proofs.Walks.{false, Ok, Err, proved, id⊢, ftrue, flft, ty_int, named, w64, Val, vstruct, vcons, vnil, fact, tables, ‵}
+use Rattle.ph_bits.proofs.Walks.{raw, ◌⊛◌, at_ret, ◌$◌, ◌∵◌, !, qed, done, move, keep, use0, use1, use2, use3, split, join, fsplit, fjoin}
+use Rattle.ph_bits.proofs.Walks.{flt_i, suffices, frame, whole, agg, enter, of_opd, and_then, no_more, bin, lit, stop, fld, first, exec}
+use Rattle.ph_bits.proofs.Walks.{returns, word, word-Good, alloc_all, pass_all, free_all, look_at, get, get_in, get_tag, lands_as, sets}
+use Rattle.ph_bits.proofs.Walks.{sets_last, env, usize, yes, uint_vals, uint_Tells, Ptr, block_ptr, owns, plain, nothing, heard, Stays}
+use Rattle.ph_bits.proofs.Walks.{walk_of, says, stay_dropped, Goes-dropped, ends_at, after, head, arm_body}
 use base.Fml.{Incl-trans}
 use contract.BorrowLft.{◌⊑◌}
 use denote.Builtin.{RefOf}
@@ -56,7 +62,8 @@ take_spec 𝓤 𝓛 𝓜 𝓡 wired A L g d dd met md =
     let vss : List Val × (List Val × Unit {0}) = (shr_vals a.0, (uint_vals w64 room, tt)) in
     let y : W.Ghost = ((κs, qs, bounds, a, vss), tt) in
     let others = ‵ (flft κs.1.0 qs.1.0) ⊛ ‵ ftrue in
-    qed 𝓛 (((‵ (flft κ q) ⊛ others) ⊛ ‵ (owns (ShrRef (named 0) κ Ar ∷ usize ∷ []) a vss)) ∷ (raw (fact 𝓤 (κs.1.0 ⊑ A.lives)) ⊛ raw (fact 𝓤 ((0 < room) × (room < 2 ^ 32)))) ∷ []) ∵
+    qed 𝓛 (((‵ (flft κ q) ⊛ others) ⊛ ‵ (owns (ShrRef (named 0) κ Ar ∷ usize ∷ []) a vss)) ∷
+    (raw (fact 𝓤 (κs.1.0 ⊑ A.lives)) ⊛ raw (fact 𝓤 ((0 < room) × (room < 2 ^ 32)))) ∷ []) ∵
     move ! (1 ∷ []) $ split ! $ heard ! _ (λ within. heard ! _ (λ asked. split ! $ split ! $ move ! (2 ∷ []) $ fsplit ! $ fsplit ! $ keep ! (1 ∷ 3 ∷ 4 ∷ []) $
     enter ! _ _ _ _ _ $ alloc_all ! (λ l. pass_all ! refl ((tt, tt), ((tt, record { fits = are.1.0.1 }), tt)) $
     let En : Env 𝓤 𝓛.H = env function.locals l in
@@ -66,9 +73,13 @@ take_spec 𝓤 𝓛 𝓜 𝓡 wired A L g d dd met md =
     let bytes : room * 8 < 2 ^ 64 = omega (arith, asked.1) in
     let z = at_takes Z 𝓛 𝓜.mem 𝓡.returns κ q a.0.ref_ptr heap (room * 8) 8 τ in
     sets ! (bin ! (get ! refl) (lit ! tt) (record { fits = bytes })) refl (tt, record { fits = bytes }) $
-    use2 𝓛 (raw ((Takes Z 𝓛 𝓜.mem 𝓡.returns).pre z)) (Takes-goes Z 𝓛 𝓜.mem 𝓡.returns κ q a.0.ref_ptr heap (Incl-trans bounds.0 within) (room * 8) 8 τ (capped_is (room * 8) bytes) refl bytes (lit< tt)) $
-    calls_at ! (framed 𝓤 𝓛.H 𝓜 𝓣) (Takes Z 𝓛 𝓜.mem 𝓡.returns) (met.allocate dd) z (and_then ! (get ! refl) (and_then ! (get ! refl) (and_then ! (lit ! tt) (no_more !)))) (λ v.
-    use1 𝓛 (later (raw (Answered Z 𝓛 𝓜.mem 𝓡.returns heap τ v) ⊛ ‵ (flft κ q))) (Takes-gives Z 𝓛 𝓜.mem 𝓡.returns κ q a.0.ref_ptr heap (room * 8) 8 τ v) $ await ! tt $ split ! $
+    use2 𝓛 (raw ((Takes Z 𝓛 𝓜.mem 𝓡.returns).pre z))
+    (Takes-goes Z 𝓛 𝓜.mem 𝓡.returns κ q a.0.ref_ptr heap (Incl-trans bounds.0 within) (room * 8) 8 τ
+    (capped_is (room * 8) bytes) refl bytes (lit< tt)) $
+    calls_at ! (framed 𝓤 𝓛.H 𝓜 𝓣) (Takes Z 𝓛 𝓜.mem 𝓡.returns) (met.allocate dd) z
+    (and_then ! (get ! refl) (and_then ! (get ! refl) (and_then ! (lit ! tt) (no_more !)))) (λ v.
+    use1 𝓛 (later (raw (Answered Z 𝓛 𝓜.mem 𝓡.returns heap τ v) ⊛ ‵ (flft κ q)))
+    (Takes-gives Z 𝓛 𝓜.mem 𝓡.returns κ q a.0.ref_ptr heap (room * 8) 8 τ v) $ await ! tt $ split ! $
     answers Z ! 𝓜.mem 𝓡.returns heap τ v
     (λ b o e.
     let p : Ptr = block_ptr b o in
@@ -78,7 +89,8 @@ take_spec 𝓤 𝓛 𝓜 𝓡 wired A L g d dd met md =
     let made : Val = triple_val (word p) mark mark in
     let typed : Good (layout Three) made = (tt, ((tt, tt), ((tt, tt), ((tt, tt), tt)))) in
     let ok = first_Good (layout Three) made typed in
-    lands_as ! e refl (Answer-typed true b o) $ first ! $ switches_on ! (get_tag ! (vrt ! refl (fld ! refl (stop !))) (whole !)) $ exec ! 𝓣.C 𝓣.Λ En (arm_body 0 both) Then $
+    lands_as ! e refl (Answer-typed true b o) $ first ! $ switches_on !
+    (get_tag ! (vrt ! refl (fld ! refl (stop !))) (whole !)) $ exec ! 𝓣.C 𝓣.Λ En (arm_body 0 both) Then $
     sets ! (of_opd ! (get_in ! (vrt ! refl (fld ! refl (stop !))) (in_variant ! 0 0 refl refl (whole !)))) refl (tt, tt) $ sets ! (of_opd ! (get ! refl)) refl (tt, tt) $
     sets ! (agg ! (and_then ! (get ! refl) (no_more !))) refl (word-Good [] p) $
     sets ! (agg ! (no_more !)) refl (tt, tt) $ sets ! (agg ! (and_then ! (get ! refl) (no_more !))) refl (tt, (tt, tt)) $
@@ -99,7 +111,8 @@ take_spec 𝓤 𝓛 𝓜 𝓡 wired A L g d dd met md =
     (λ e.
     let Refusal : RattleType = Struct (Declared.shape AE.the_type) in
     let none : Val = live 1 (vcons (vstruct vnil) vnil) in
-    lands_as ! e refl (Answer-typed false 0 0) $ first ! $ switches_on ! (get_tag ! (vrt ! refl (fld ! refl (stop !))) (whole !)) $ exec ! 𝓣.C 𝓣.Λ En (arm_body 1 both) Then $
+    lands_as ! e refl (Answer-typed false 0 0) $ first ! $ switches_on !
+    (get_tag ! (vrt ! refl (fld ! refl (stop !))) (whole !)) $ exec ! 𝓣.C 𝓣.Λ En (arm_body 1 both) Then $
     sets ! (of_opd ! (get_in ! (vrt ! refl (fld ! refl (stop !))) (in_variant ! 1 0 refl refl (whole !)))) refl (tt, tt) $
     sets_last ! (agg ! (and_then ! (lit ! tt) (and_then ! (get ! refl) (no_more !)))) refl (tt, (record { fits = lit< tt }, (tt, tt))) $
     exec ! 𝓣.C 𝓣.Λ En (after 3 function.body) (at_ret En (W.post y)) $ sets ! (of_opd ! (get ! refl)) refl (tt, (record { fits = lit< tt }, (tt, tt))) $

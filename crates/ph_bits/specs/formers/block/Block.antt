@@ -94,8 +94,13 @@ module _ (R S : RattleType) (h : R.Denot → S.Denot) where
   the_places a = view_places fields (the_former this) view (λ X Y k u. refl) (λ X u. refl) R.Denot S.Denot h (C.the_row R).coded (C.the_row S).coded
       (invariant R.Denot) (invariant S.Denot) (one R.Denot) (one S.Denot) to from
       (over (I.the_row R)) (over (I.the_row S))
-      (struct_places (I.the_type R) (I.the_type S) ((λ x. x), ((λ x. x), ((λ x. x), ((λ x. x), (moved, tt))))) _ (λ d. refl) refl
-      ((refl, (λ y. refl, λ y. refl)), ((refl, (λ y. refl, λ y. refl)), ((refl, (λ y. refl, λ y. refl)), ((refl, (λ y. refl, λ y. refl)), (laid _ _ _ (kids.the_places R S h a), tt))))))
+      (struct_places (I.the_type R) (I.the_type S) ((λ x. x), ((λ x. x), ((λ x. x), ((λ x. x), (moved, tt))))) _ (λ d. refl) refl (
+        (refl, (λ y. refl, λ y. refl)),
+        (
+          (refl, (λ y. refl, λ y. refl)),
+          ((refl, (λ y. refl, λ y. refl)), ((refl, (λ y. refl, λ y. refl)), (laid _ _ _ (kids.the_places R S h a), tt))),
+        ),
+      ))
 
   pub the_codes_placed : Recodes R S h → Recodes (C.the_row R) (C.the_row S) ((the_former this).map R.Denot S.Denot h)
   the_codes_placed e d = second (second (first (sym (code_map R.coded.code S.coded.code h (λ x. sym (e x)) d.values))))

@@ -28,8 +28,24 @@ pub adopt-requires-2 : goal.adopt-requires-2
 adopt-requires-2 g c =
     let l : 1 ≤ length c.args.rows.now = grind (arith, common_steps) in
     let r = root-is c.args.w g.row.D c.bits-bits.result c.args.rows.now c.bits-bits.ensures.value (omega arith) l c.requires.table in
-    let count : length c.args.rows.now ≡ length (rows c.args.w g.row.D (Some c.in_ok-root.root)) = ap (λ ts. length ts) (sym r.rows_are) ∙ ap (λ n. length (rows c.args.w g.row.D (Some n))) (sym c.in_ok-root.ensures.node) in
-    (omega arith, (omega arith, (c.requires.some, (c.requires.dims, (subst (λ n. IsLawful c.args.w g.row.D (Some n)) (sym c.in_ok-root.ensures.node) r.lawful, omega (arith, count))))))
+    let count : length c.args.rows.now ≡ length (rows c.args.w g.row.D (Some c.in_ok-root.root)) =
+    ap (λ ts. length ts) (sym r.rows_are) ∙ ap (λ n. length (rows c.args.w g.row.D (Some n)))
+    (sym c.in_ok-root.ensures.node) in (
+      omega arith,
+      (
+        omega arith,
+        (
+          c.requires.some,
+          (
+            c.requires.dims,
+            (
+              subst (λ n. IsLawful c.args.w g.row.D (Some n)) (sym c.in_ok-root.ensures.node) r.lawful,
+              omega (arith, count),
+            ),
+          ),
+        ),
+      ),
+    )
 
 pub returns-clause-table : goal.returns-clause-table
 returns-clause-table g c =

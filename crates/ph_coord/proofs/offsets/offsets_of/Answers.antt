@@ -12,7 +12,9 @@ loop-i-preserved g c =
     let long : length (map (offset c.args.w) c.args.coords.now) ≡ length c.args.coords.now = length-map c.args.coords.now (offset c.args.w) in
     let e = get_or-map (offset c.args.w) c.args.coords.now c.loop-i.i (pos 0) 0 c.loop-i-test.true in
     filled-next g.row.N 0 (map (offset c.args.w) c.args.coords.now) c.loop-i.offsets c.loop-i.i c.offset.result 0
-    c.loop-i.invariant (omega arith) (omega arith) (passed (offset c.args.w) (get_or c.args.coords.now c.loop-i.i (pos 0)) c.offset.result (search rules) c.offset.ensures ∙ sym e)
+    c.loop-i.invariant (omega arith) (omega arith)
+    (passed (offset c.args.w) (get_or c.args.coords.now c.loop-i.i (pos 0)) c.offset.result (search rules)
+    c.offset.ensures ∙ sym e)
 
 abbrev values : (g : Over) → goal.After-loop-i g → List ℕ
 values g c = map (offset c.args.w) c.args.coords.now

@@ -43,7 +43,17 @@ loop-i-preserved c =
       | in-Near w ↦ record {
         room = rw w.coords-is (omega (arith, w.push.ensures.len));
         numbers = rw (add-one, more) (numbers-next front c.in-Some.text.now w.in-Near.c w.in-Near.ensures c.loop-i.invariant.numbers);
-        near = λ h. let fits : SFits w64 w.in-Near.c = search rules in rw (add-one, more, numbers-kept front c.in-Some.text.now w.in-Near.c w.in-Near.ensures, w.coords-is, w.push.ensures.items, to_z-of_z w64 w.in-Near.c fits) (ap (λ t. t ++ w.in-Near.c ∷ []) (c.loop-i.invariant.near (sym w.far-is ∙ h)));
-        far = λ h b s. rw (add-one, more, numbers-kept front c.in-Some.text.now w.in-Near.c w.in-Near.ensures) (far-more b (filter_map number front) w.in-Near.c (c.loop-i.invariant.far (sym w.far-is ∙ h) b s));
+        near = λ h. let fits : SFits w64 w.in-Near.c = search rules in
+            rw (
+              add-one,
+              more,
+              numbers-kept front c.in-Some.text.now w.in-Near.c w.in-Near.ensures,
+              w.coords-is,
+              w.push.ensures.items,
+              to_z-of_z w64 w.in-Near.c fits,
+            )
+            (ap (λ t. t ++ w.in-Near.c ∷ []) (c.loop-i.invariant.near (sym w.far-is ∙ h)));
+        far = λ h b s. rw (add-one, more, numbers-kept front c.in-Some.text.now w.in-Near.c w.in-Near.ensures)
+            (far-more b (filter_map number front) w.in-Near.c (c.loop-i.invariant.far (sym w.far-is ∙ h) b s));
       }
     ]

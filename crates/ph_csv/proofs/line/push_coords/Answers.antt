@@ -15,6 +15,8 @@ loop-coord-preserved g c =
     let fits : SFits w64 x = search rules in
     let coord = c.format.ensures.text ∙ ap signed_decimal (to_z-of_z w64 x fits) in
     record {
-      text = rw add-one (line-more c.args.line.now.bytes cs i (pos 0) c.loop-coord-test.true c.loop-coord.line.bytes c.format.result.now c.push_str.new.self.bytes _ c.loop-coord.invariant.text coord c.push_str.ensures.bytes c.push_str-in-loop-coord.ensures.bytes);
+      text = rw add-one (line-more c.args.line.now.bytes cs i (pos 0) c.loop-coord-test.true c.loop-coord.line.bytes
+          c.format.result.now c.push_str.new.self.bytes _ c.loop-coord.invariant.text coord c.push_str.ensures.bytes
+          c.push_str-in-loop-coord.ensures.bytes);
       size = omega (arith, c.push_str.ensures.len, c.push_str-in-loop-coord.ensures.len, c.format.ensures.short, c.format.ensures.fits, c.loop-coord.invariant.size);
     }

@@ -16,27 +16,35 @@ unreachable-requires g c =
 
 pub returns-in_default-read_value-clause-err : goal.returns-in_default-read_value-clause-err
 returns-in_default-read_value-clause-err g c =
-    read-bad-value c.args.w g.row.D c.args.kind c.args.n (fields_of c.args.fields.now) c.in-Some.text.now (omega arith) (sym c.in-Some.ensures.value) (rw c.in_default-read_value.is at c.read_value.ensures)
+    read-bad-value c.args.w g.row.D c.args.kind c.args.n (fields_of c.args.fields.now) c.in-Some.text.now
+    (omega arith) (sym c.in-Some.ensures.value) (rw c.in_default-read_value.is at c.read_value.ensures)
 
 pub returns-in-Not-clause-err : goal.returns-in-Not-clause-err
 returns-in-Not-clause-err g c =
-    read-bad-front c.args.w g.row.D c.args.kind c.args.n (fields_of c.args.fields.now) c.in-Some.text.now (omega arith) (sym c.in-Some.ensures.value) (rw c.in-Not.is at c.read_coords-spelled.ensures)
+    read-bad-front c.args.w g.row.D c.args.kind c.args.n (fields_of c.args.fields.now) c.in-Some.text.now
+    (omega arith) (sym c.in-Some.ensures.value) (rw c.in-Not.is at c.read_coords-spelled.ensures)
 
 pub returns-in-Far-clause-err : goal.returns-in-Far-clause-err
 returns-in-Far-clause-err g c =
     let far = rw c.in-Far.is at c.read_coords-spelled.ensures in
-    read-numbers c.args.w g.row.D c.args.kind c.args.n (fields_of c.args.fields.now) c.in-Some.text.now (omega arith) (sym c.in-Some.ensures.value) c.in-Some-read_value.value far.0 c.in-Some-read_value.ensures
+    read-numbers c.args.w g.row.D c.args.kind c.args.n (fields_of c.args.fields.now) c.in-Some.text.now (omega arith)
+    (sym c.in-Some.ensures.value) c.in-Some-read_value.value far.0 c.in-Some-read_value.ensures
     ∙ answer-far c.args.w c.args.kind c.args.n _ (far.1 c.args.w (omega arith))
 
 pub row_of-requires : goal.row_of-requires
 row_of-requires g c =
-    let near = rw c.in-Near.is at c.read_coords-spelled.ensures in
-    (search rules, ap length (c.as_slice.ensures.value ∙ near.1) ∙ numbers-length (take g.row.D (fields_of c.args.fields.now)) near.0 ∙ length-take-le g.row.D (fields_of c.args.fields.now) (omega arith))
+    let near = rw c.in-Near.is at c.read_coords-spelled.ensures in (
+      search rules,
+      ap length (c.as_slice.ensures.value ∙ near.1) ∙
+          numbers-length (take g.row.D (fields_of c.args.fields.now)) near.0 ∙
+          length-take-le g.row.D (fields_of c.args.fields.now) (omega arith),
+    )
 
 pub returns-in-Near : goal.returns-in-Near
 returns-in-Near g c =
     let near = rw c.in-Near.is at c.read_coords-spelled.ensures in
     let same =
-    read-numbers c.args.w g.row.D c.args.kind c.args.n (fields_of c.args.fields.now) c.in-Some.text.now (omega arith) (sym c.in-Some.ensures.value) c.in-Some-read_value.value near.0 c.in-Some-read_value.ensures
+    read-numbers c.args.w g.row.D c.args.kind c.args.n (fields_of c.args.fields.now) c.in-Some.text.now (omega arith)
+    (sym c.in-Some.ensures.value) c.in-Some-read_value.value near.0 c.in-Some-read_value.ensures
     ∙ ap (λ p. row_answer c.args.w c.args.kind c.args.n (row p c.in-Some-read_value.value)) (sym (c.as_slice.ensures.value ∙ near.1)) in
     record { ok = rw same c.row_of.ensures.ok; err = rw same c.row_of.ensures.err; point = c.row_of.ensures.point; boxed = c.row_of.ensures.boxed }

@@ -12,7 +12,8 @@ abbrev pub invariant-records : goal.invariant-records
 invariant-records g l = record {
   reading : IsReading (λ s. Some s.now) l.reader;
   number : l.n + length (left_in (λ s. Some s.now) l.reader) ≤ l.first + length (left_in (λ s. Some s.now) l.initial.reader);
-  rows : read_records l.w g.row.D l.kind l.first (rest_in (λ s. Some s.now) l.initial.reader) ≡ rows_then l.rows.items (read_records l.w g.row.D l.kind l.n (rest_in (λ s. Some s.now) l.reader));
+  rows : read_records l.w g.row.D l.kind l.first (rest_in (λ s. Some s.now) l.initial.reader) ≡
+      rows_then l.rows.items (read_records l.w g.row.D l.kind l.n (rest_in (λ s. Some s.now) l.reader));
   points : Each (λ r. IsPoint l.w g.row.D r.point) l.rows.items;
   boxes : l.kind ≡ Boxes → Each (λ r. IsBox r.point) l.rows.items;
 }

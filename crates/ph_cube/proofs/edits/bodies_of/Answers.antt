@@ -23,6 +23,9 @@ returns-clause-column c =
     let old = c.args.old.now in
     let n = c.addresses-count.result in
     record {
-      inside = inside n (2 ^ c.args.dims) c.args.dims c.level_in.result (first_in old).level (length old) ((first_in old).entries - (first_in old).children) c.addresses-count.ensures c.level_in.ensures c.requires.long;
-      near = near n c.args.dims c.level_in.result (omega (arith, c.addresses-count.ensures, few c.args.dims c.requires.few)) c.requires.few (omega (arith, c.level_in.ensures, c.requires.low));
+      inside = inside n (2 ^ c.args.dims) c.args.dims c.level_in.result (first_in old).level (length old)
+          ((first_in old).entries - (first_in old).children) c.addresses-count.ensures c.level_in.ensures c.requires.long;
+      near = near n c.args.dims c.level_in.result
+          (omega (arith, c.addresses-count.ensures, few c.args.dims c.requires.few)) c.requires.few
+          (omega (arith, c.level_in.ensures, c.requires.low));
     }

@@ -27,7 +27,8 @@ module _ (c : After-put_table-old) where
       IsOutlined o (c.args.edit.now.value ∷ []) ws
       × (with_values 1 o (c.args.edit.now.value ∷ []) ws ≡ record_in true c.args.dims (first_in old).level (edited_as true c.args.dims old c.args.edit.now))
   put =
-      point-come true c.args.dims old c.args.edit.now c.requires.record fit within c.put_table-old.result c.put_table-old.ensures.outline c.put_table-old.new.words c.args.words.now
+      point-come true c.args.dims old c.args.edit.now c.requires.record fit within c.put_table-old.result
+      c.put_table-old.ensures.outline c.put_table-old.new.words c.args.words.now
       c.requires.entries refl c.requires.less c.requires.more c.requires.point c.requires.some c.put_table-old.auto.words c.put_table-old.ensures.words
 
 pub put_value-requires-clause-none : goal.put_value-requires-clause-none

@@ -5,4 +5,5 @@ use Rattle.ph_cube.proofs.edits.outline_of.Goals as goal
 
 pub overflow_add-edit : goal.overflow_add-edit
 overflow_add-edit c =
-    let w = within c.args.dims c.args.old.now c.args.edit.now c.args.addr c.requires.record (each-fits c.args.old.now c.type_inv.old) c.requires.edit in record { fits = omega (arith, w) }
+    let w = within c.args.dims c.args.old.now c.args.edit.now c.args.addr c.requires.record
+    (each-fits c.args.old.now c.type_inv.old) c.requires.edit in record { fits = omega (arith, w) }

@@ -26,7 +26,8 @@ counted c =
     let p = c.requires.place ∙ ap (λ t. position_or_len (λ r. nat_le t (read_address r)) rs) (sym z) ∙ place-next 0 (kinds d words) (bodies d words) a many l in
     let m : c.args.i ≤ length rs = omega (arith, c.requires.place, below-most (λ r. nat_le a (read_address r)) rs) in
     let k : children_in (take c.args.i rs) ≡ twos_in words 64 a =
-    ap (λ t. children_in (take t rs)) p ∙ children-at 0 (kinds d words) (bodies d words) a many l ∙ sym (twos-digits d words a c.requires.record (each-fits words c.type_inv.old) c.requires.limit) in
+    ap (λ t. children_in (take t rs)) p ∙ children-at 0 (kinds d words) (bodies d words) a many l ∙
+    sym (twos-digits d words a c.requires.record (each-fits words c.type_inv.old) c.requires.limit) in
     omega (arith, both-counts rs c.args.i m, k, c.children_before.ensures)
 
 pub overflow_sub-result : goal.overflow_sub-result

@@ -12,7 +12,9 @@ use Rattle.ph_cube.proofs.edits.put_child.Goals.{After-put_table-outline}
 
 -- the words with the new kind and the new body, without the value
 put : (c : After-put_table-outline) → let ws = c.put_table-outline.new.words in
-    IsOutlined c.put_table-outline.result [] ws × (with_values 1 c.put_table-outline.result [] ws ≡ record_in true c.args.dims (first_in c.args.words.now).level (edited_as true c.args.dims c.args.words.now c.args.edit.now))
+    IsOutlined c.put_table-outline.result [] ws ×
+    (with_values 1 c.put_table-outline.result [] ws ≡ record_in true c.args.dims (first_in c.args.words.now).level
+    (edited_as true c.args.dims c.args.words.now c.args.edit.now))
 put c =
     let old = c.args.words.now in
     let e = c.args.edit.now in

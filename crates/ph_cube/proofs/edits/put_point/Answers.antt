@@ -24,15 +24,18 @@ module _ (c : After-put_table-outline) where
   -- the words with the new kind and the new body fit the outline, and with the value they are the new record
   put : let ws = part_lent c.put_table-outline.new.words c.args.words.now in
       IsOutlined c.put_table-outline.result (c.args.edit.now.value ∷ []) ws
-      × (with_values 1 c.put_table-outline.result (c.args.edit.now.value ∷ []) ws ≡ record_in true c.args.dims (first_in old).level (edited_as true c.args.dims old c.args.edit.now))
+      × (with_values 1 c.put_table-outline.result (c.args.edit.now.value ∷ []) ws ≡
+      record_in true c.args.dims (first_in old).level (edited_as true c.args.dims old c.args.edit.now))
   put =
-      point-changed true c.args.dims old c.args.edit.now c.requires.record fit within c.put_table-outline.result c.put_table-outline.ensures.outline c.put_table-outline.new.words c.args.words.now
+      point-changed true c.args.dims old c.args.edit.now c.requires.record fit within c.put_table-outline.result
+      c.put_table-outline.ensures.outline c.put_table-outline.new.words c.args.words.now
       c.requires.entries c.requires.less c.requires.more c.requires.point c.requires.some c.put_table-outline.auto.words c.put_table-outline.ensures.words
 
 pub put_value-requires-clause-none : goal.put_value-requires-clause-none
 put_value-requires-clause-none c =
     let p = (goal.at.put_value-requires-clause-none c).After-put_table-outline in
-    none true c.args.dims (old p) c.args.edit.now c.requires.record (fit p) (within p) c.put_table-outline.result c.put_table-outline.ensures.outline c.requires.less c.requires.was
+    none true c.args.dims (old p) c.args.edit.now c.requires.record (fit p) (within p) c.put_table-outline.result
+    c.put_table-outline.ensures.outline c.requires.less c.requires.was
 
 pub put_value-requires-clause-outline : goal.put_value-requires-clause-outline
 put_value-requires-clause-outline c = (put (goal.at.put_value-requires-clause-outline c).After-put_table-outline).0

@@ -23,9 +23,11 @@ module _ (c : After-put_table-old) where
   -- the words with the new kind and the new body fit the outline with an entry less, and without the value they are the new record
   put : let o = record c.put_table-old.result { count = c.put_table-old.result.count - 1 } in
       IsOutlined o [] c.put_table-old.new.words
-      × (with_values 1 o [] c.put_table-old.new.words ≡ record_in true c.args.dims (first_in c.args.words.now).level (edited_as true c.args.dims c.args.words.now c.args.edit.now))
+      × (with_values 1 o [] c.put_table-old.new.words ≡ record_in true c.args.dims (first_in c.args.words.now).level
+      (edited_as true c.args.dims c.args.words.now c.args.edit.now))
   put =
-      entry-gone true c.args.dims c.args.words.now c.args.edit.now c.requires.record fit within c.put_table-old.result c.put_table-old.ensures.outline c.put_table-old.new.words
+      entry-gone true c.args.dims c.args.words.now c.args.edit.now c.requires.record fit within c.put_table-old.result
+      c.put_table-old.ensures.outline c.put_table-old.new.words
       c.requires.entries refl c.requires.less c.requires.more c.put_table-old.ensures.words
 
 pub overflow_sub-outline : goal.overflow_sub-outline

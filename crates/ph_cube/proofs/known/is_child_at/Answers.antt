@@ -17,11 +17,17 @@ child_at-requires-clause-few c =
 pub child_at-requires-clause-inside : goal.child_at-requires-clause-inside
 child_at-requires-clause-inside c =
     let r = c.requires in
-    omega (arith, room c.args.dims c.args.words.now r.record, (stands-at c.args.dims c.args.words.now c.args.addr c.args.i r.record (each-fits c.args.words.now c.type_inv.words) r.within r.address).limit)
+    omega (
+      arith,
+      room c.args.dims c.args.words.now r.record,
+      (stands-at c.args.dims c.args.words.now c.args.addr c.args.i r.record
+          (each-fits c.args.words.now c.type_inv.words) r.within r.address).limit,
+    )
 
 pub returns : goal.returns
 returns c =
     let r = c.requires in
     let h = each-fits c.args.words.now c.type_inv.words in
-    kind-is c.args.dims c.args.words.now c.args.addr c.args.i r.record h r.within (stands-at c.args.dims c.args.words.now c.args.addr c.args.i r.record h r.within r.address)
+    kind-is c.args.dims c.args.words.now c.args.addr c.args.i r.record h r.within
+    (stands-at c.args.dims c.args.words.now c.args.addr c.args.i r.record h r.within r.address)
     ∙ ap Some (sym c.child_at.ensures)

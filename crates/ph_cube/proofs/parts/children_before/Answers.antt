@@ -36,5 +36,7 @@ returns-then-left-gt0 c =
     let k : n - 32 * (p - 1) ≤ 32 = omega (arith, e, c.loop-left-test.false) in
     let i : p < length ws = omega (arith, v.at, v.place, c.if-left-gt0.true, c.requires.inside) in
     let q : c.twos_of-twos-then-left-gt0.result ≡ twos_in ws (64 + 32 * (p - 1) * 2) (n - 32 * (p - 1)) =
-    c.twos_of-twos-then-left-gt0.ensures ∙ ap (λ t. HIGH (slice_index_or ws p 0 / 2 ^ (64 - t))) e ∙ ap HIGH (word-front ws p m v.place k i c.type_inv.words) ∙ high-digits ws at m k (omega (arith, e, v.at, v.place, c.requires.inside)) in
+    c.twos_of-twos-then-left-gt0.ensures ∙ ap (λ t. HIGH (slice_index_or ws p 0 / 2 ^ (64 - t))) e ∙
+    ap HIGH (word-front ws p m v.place k i c.type_inv.words) ∙
+    high-digits ws at m k (omega (arith, e, v.at, v.place, c.requires.inside)) in
     ap (λ t. t + c.twos_of-twos-then-left-gt0.result) v.twos ∙ ap (λ t. twos_in ws 64 (32 * (p - 1)) + t) q ∙ sym (twos-add ws 64 (32 * (p - 1)) m) ∙ ap (twos_in ws 64) f

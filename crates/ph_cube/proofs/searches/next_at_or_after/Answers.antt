@@ -30,7 +30,9 @@ returns-then-i-count_in c =
     let d : ℕ = c.args.dims in
     let rs = entries_as true d words in
     let i : ℕ = c.ones_before-i.result in
-    let p : position_or_len (λ r. nat_le c.args.addr (read_address r)) (entries_as true d words) ≡ i = place d words c.args.addr i c.requires.record (each-fits words c.type_inv.words) (inside c.args.dims c.args.addr c.requires.record.few c.if-addr-dims.false) c.ones_before-i.ensures in
+    let p : position_or_len (λ r. nat_le c.args.addr (read_address r)) (entries_as true d words) ≡ i =
+    place d words c.args.addr i c.requires.record (each-fits words c.type_inv.words)
+    (inside c.args.dims c.args.addr c.requires.record.few c.if-addr-dims.false) c.ones_before-i.ensures in
     let m : i < length (entries_as true d words) = omega (arith, length-entries d words c.requires.record, c.count_in.ensures, c.if-i-count_in.true) in
     rw (p, lt-ltb i (length (entries_as true d words)) m) refl
 
@@ -39,6 +41,8 @@ returns-else-i-count_in c =
     let words = c.args.words.now in
     let d : ℕ = c.args.dims in
     let i : ℕ = c.ones_before-i.result in
-    let p : position_or_len (λ r. nat_le c.args.addr (read_address r)) (entries_as true d words) ≡ i = place d words c.args.addr i c.requires.record (each-fits words c.type_inv.words) (inside c.args.dims c.args.addr c.requires.record.few c.if-addr-dims.false) c.ones_before-i.ensures in
+    let p : position_or_len (λ r. nat_le c.args.addr (read_address r)) (entries_as true d words) ≡ i =
+    place d words c.args.addr i c.requires.record (each-fits words c.type_inv.words)
+    (inside c.args.dims c.args.addr c.requires.record.few c.if-addr-dims.false) c.ones_before-i.ensures in
     let m : length (entries_as true d words) ≤ i = omega (arith, length-entries d words c.requires.record, c.count_in.ensures, c.if-i-count_in.false) in
     rw (p, le-ltb i (length (entries_as true d words)) m) refl

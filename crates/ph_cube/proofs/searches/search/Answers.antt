@@ -17,7 +17,8 @@ returns-then-field-eq0-clause-absent c =
     let d : ℕ = c.args.dims in
     let a : ℕ = c.args.addr in
     let ks : List ℕ = kinds d words in
-    let e : slice_index_or ks a 0 ≡ 0 = kind-digits d words a c.requires.record (each-fits words c.type_inv.words) c.requires.address ∙ sym c.field.ensures ∙ c.if-field-eq0.true in
+    let e : slice_index_or ks a 0 ≡ 0 = kind-digits d words a c.requires.record (each-fits words c.type_inv.words)
+    c.requires.address ∙ sym c.field.ensures ∙ c.if-field-eq0.true in
     let n : length (bodies d words) ≡ length ks = length-parts (2 ^ d) d _ ∙ sym (length-kinds d words) in
     let z : 0 + a ≡ a = omega arith in
     let p : position_or_len (λ r. read_address r == a) (entries_as true d words) ≡ length (entries_as true d words) =
@@ -33,16 +34,19 @@ returns-else-field-eq0-clause-found c =
     let ks : List ℕ = kinds d words in
     let h = each-fits words c.type_inv.words in
     let l : a < length ks = subst (λ t. a < t) (sym (length-kinds d words)) c.requires.address in
-    let e : (slice_index_or ks a 0 == 0) ≡ false = ne_eqb (slice_index_or ks a 0) 0 (λ q. c.if-field-eq0.false (c.field.ensures ∙ sym (kind-digits d words a c.requires.record h c.requires.address) ∙ q)) in
+    let e : (slice_index_or ks a 0 == 0) ≡ false = ne_eqb (slice_index_or ks a 0) 0
+    (λ q. c.if-field-eq0.false (c.field.ensures ∙ sym (kind-digits d words a c.requires.record h c.requires.address) ∙ q)) in
     let n : length (bodies d words) ≡ length ks = length-parts (2 ^ d) d _ ∙ sym (length-kinds d words) in
     let z : 0 + a ≡ a = omega arith in
     let i : c.ones_before-i.result ≡ present ks a = c.ones_before-i.ensures ∙ present-ones d words a c.requires.record h (omega (arith, c.requires.address)) in
     let p : position_or_len (λ r. read_address r == a) (entries_as true d words) ≡ c.ones_before-i.result =
     ap (λ t. position_or_len (λ r. read_address r == t) (entries_as true d words)) (sym z)
     ∙ place-at 0 ks (bodies d words) a n l e ∙ sym i in
-    let m : c.ones_before-i.result < length (entries_as true d words) = subst (λ t. t < length (entries_as true d words)) (sym i) (entry-at 0 ks (bodies d words) a n l e).0 in
+    let m : c.ones_before-i.result < length (entries_as true d words) =
+    subst (λ t. t < length (entries_as true d words)) (sym i) (entry-at 0 ks (bodies d words) a n l e).0 in
     rw (p, lt-ltb c.ones_before-i.result (length (entries_as true d words)) m) refl
 
 pub returns-then-field-eq0-clause-place : goal.returns-then-field-eq0-clause-place
 returns-then-field-eq0-clause-place c =
-    sym (place c.args.dims c.args.words.now c.args.addr c.ones_before-i.result c.requires.record (each-fits c.args.words.now c.type_inv.words) c.requires.address c.ones_before-i.ensures)
+    sym (place c.args.dims c.args.words.now c.args.addr c.ones_before-i.result c.requires.record
+    (each-fits c.args.words.now c.type_inv.words) c.requires.address c.ones_before-i.ensures)

@@ -15,6 +15,7 @@ invariant-loop-addr g l =
       same : (a : ℕ) → l.addr ≤ a → at_address a (g.E.Entries.list l.fn.from) ≡ at_address a (drop l.i (g.E.Entries.list l.fn.from));
       pen : IsPen l.pen;
       digits : digits_by l.words.words l.pen ≡ digits_by l.fn.words.words l.fn.pen + l.addr * (g.P.Dims.D * l.fn.level);
-      number : number_by l.words.words l.pen ≡ number_after (number_by l.fn.words.words l.fn.pen) (bodies l.fn.level (map (place_body g.P.Dims.D) (places l.addr 0 (g.E.Entries.list l.fn.from))));
+      number : number_by l.words.words l.pen ≡ number_after (number_by l.fn.words.words l.fn.pen)
+          (bodies l.fn.level (map (place_body g.P.Dims.D) (places l.addr 0 (g.E.Entries.list l.fn.from))));
       places : IsSamePlaces l.fn.words l.words;
     }

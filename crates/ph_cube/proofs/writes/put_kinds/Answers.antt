@@ -28,11 +28,13 @@ loop-addr-preserved g c =
       children = ap (λ t. t + k / 2) v.children ∙ sym (children-next g.P.Dims.D v.rise.0 a i k es v.rise.1 e);
       pen = c.put.ensures.pen;
       digits = omega (arith, c.put.ensures.digits, v.digits);
-      number = c.put.ensures.number ∙ ap (λ t. t * 2 ^ 2 + k) v.number ∙ ap (λ t. number_after r (map place_kind (places a 0 es)) * 2 ^ 2 + t) f ∙ sym (kinds-more r a es);
+      number = c.put.ensures.number ∙ ap (λ t. t * 2 ^ 2 + k) v.number ∙
+          ap (λ t. number_after r (map place_kind (places a 0 es)) * 2 ^ 2 + t) f ∙ sym (kinds-more r a es);
       places = (c.put.ensures.places.0 ∙ v.places.0, c.put.ensures.places.1 ∙ v.places.1);
     }
 
 pub returns-clause-children : goal.returns-clause-children
 returns-clause-children g c =
     let v = c.loop-addr.invariant in
-    v.children ∙ ap children (all-passed g.P.Dims.D v.rise.0 c.loop-addr.addr c.loop-addr.i (g.E.Entries.list c.args.from.now) (omega (arith, c.loop-addr-test.false, v.end)) v.rise.1)
+    v.children ∙ ap children (all-passed g.P.Dims.D v.rise.0 c.loop-addr.addr c.loop-addr.i
+    (g.E.Entries.list c.args.from.now) (omega (arith, c.loop-addr-test.false, v.end)) v.rise.1)

@@ -16,7 +16,8 @@ returns-then-entry-addr g c =
     let i : ℕ = c.args.i in
     let l : i < length es = omega (arith, c.if-i-count.false, c.count.ensures) in
     let q = given es i p.child p.addr (take g.P.Dims.D p.body) l c.at-entry.ensures.entry in
-    ap (option_map unvalued) (ap (at_address c.args.addr) (drop-first es i l) ∙ here c.args.addr (get_or es i no_flat) (drop (suc i) es) (q.same_addr ∙ c.if-entry-addr.true))
+    ap (option_map unvalued) (ap (at_address c.args.addr) (drop-first es i l) ∙ here c.args.addr (get_or es i no_flat)
+    (drop (suc i) es) (q.same_addr ∙ c.if-entry-addr.true))
     ∙ ap Some (read-at es i (read_of g.P.Dims.D p) l c.at-entry.ensures.entry)
 
 pub returns-else-entry-addr : goal.returns-else-entry-addr
@@ -26,4 +27,8 @@ returns-else-entry-addr g c =
     let i : ℕ = c.args.i in
     let l : i < length es = omega (arith, c.if-i-count.false, c.count.ensures) in
     let d = drop-first es i l in
-    ap (option_map unvalued) (ap (at_address c.args.addr) d ∙ later g.P.Dims.D c.requires.rise.0 c.args.addr (get_or es i no_flat) (drop (suc i) es) (subst (AreRising g.P.Dims.D c.requires.rise.0 c.args.addr) d c.requires.rise.1) (λ z. c.if-entry-addr.false (sym (given es i p.child p.addr (take g.P.Dims.D p.body) l c.at-entry.ensures.entry).same_addr ∙ z)))
+    ap (option_map unvalued) (ap (at_address c.args.addr) d ∙ later g.P.Dims.D c.requires.rise.0 c.args.addr
+    (get_or es i no_flat) (drop (suc i) es)
+    (subst (AreRising g.P.Dims.D c.requires.rise.0 c.args.addr) d c.requires.rise.1)
+    (λ z. c.if-entry-addr.false (sym
+    (given es i p.child p.addr (take g.P.Dims.D p.body) l c.at-entry.ensures.entry).same_addr ∙ z)))

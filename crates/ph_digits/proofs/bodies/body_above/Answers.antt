@@ -4,4 +4,6 @@ use Rattle.ph_digits.proofs.bodies.body_above.Goals as goal
 
 pub loop-field-preserved : goal.loop-field-preserved
 loop-field-preserved c =
-    rw c.digits_above.ensures.value (map_over_more (λ x. x / 2 ^ (c.args.place + 1) * 2 ^ (c.args.place + 1)) c.args.body c.loop-field.field-items c.loop-field.field-index _ (search rules) c.loop-field.invariant (search rules))
+    rw c.digits_above.ensures.value
+    (map_over_more (λ x. x / 2 ^ (c.args.place + 1) * 2 ^ (c.args.place + 1)) c.args.body c.loop-field.field-items
+    c.loop-field.field-index _ (search rules) c.loop-field.invariant (search rules))

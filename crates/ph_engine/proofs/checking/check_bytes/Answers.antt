@@ -6,7 +6,9 @@ use Rattle.ph_engine.proofs.checking.check_bytes.Goals as goal
 
 pub returns-in-Ok-clause-line : goal.returns-in-Ok-clause-line
 returns-in-Ok-clause-line g c =
-    sizes-given c.args.bytes.now c.in-Ok.kind (any_table c.in-Ok.tree) c.in-Ok.ensures.saved (taken_of (g.O.Sink.written c.args.out.now) (g.O.Sink.amount c.args.out.now)) (taken_of (g.O.Sink.written c.say_line.new.out) (g.O.Sink.amount c.say_line.new.out))
+    sizes-given c.args.bytes.now c.in-Ok.kind (any_table c.in-Ok.tree) c.in-Ok.ensures.saved
+    (taken_of (g.O.Sink.written c.args.out.now) (g.O.Sink.amount c.args.out.now))
+    (taken_of (g.O.Sink.written c.say_line.new.out) (g.O.Sink.amount c.say_line.new.out))
     c.as_str.result.now c.table_line.result.bytes c.say_line.result c.as_str.ensures.value c.table_line.ensures.line c.say_line.ensures.line
 
 pub returns-in-Ok-clause-sizes : goal.returns-in-Ok-clause-sizes
@@ -21,15 +23,21 @@ returns-in-Ok-clause-nodes g c e = omega (arith, c.in-Ok.ensures.nodes, nodes-ar
 
 pub returns-in-Err-clause-nodes : goal.returns-in-Err-clause-nodes
 returns-in-Err-clause-nodes g c e =
-    fault-sizes c.args.bytes.now c.in-Err.fault c.in-Err.ensures.fault (taken_of (g.O.Sink.written c.args.out.now) (g.O.Sink.amount c.args.out.now)) (taken_of (g.O.Sink.written c.tell.new.out) (g.O.Sink.amount c.tell.new.out))
+    fault-sizes c.args.bytes.now c.in-Err.fault c.in-Err.ensures.fault
+    (taken_of (g.O.Sink.written c.args.out.now) (g.O.Sink.amount c.args.out.now))
+    (taken_of (g.O.Sink.written c.tell.new.out) (g.O.Sink.amount c.tell.new.out))
     c.fault_reply.result c.tell.result c.fault_reply.ensures c.tell.ensures.told e
 
 pub returns-in-Err-clause-line : goal.returns-in-Err-clause-line
 returns-in-Err-clause-line g c =
-    fault-given c.args.bytes.now c.in-Err.fault c.in-Err.ensures.fault (taken_of (g.O.Sink.written c.args.out.now) (g.O.Sink.amount c.args.out.now)) (taken_of (g.O.Sink.written c.tell.new.out) (g.O.Sink.amount c.tell.new.out))
+    fault-given c.args.bytes.now c.in-Err.fault c.in-Err.ensures.fault
+    (taken_of (g.O.Sink.written c.args.out.now) (g.O.Sink.amount c.args.out.now))
+    (taken_of (g.O.Sink.written c.tell.new.out) (g.O.Sink.amount c.tell.new.out))
     c.fault_reply.result c.tell.result c.fault_reply.ensures c.tell.ensures.told
 
 pub returns-in-Err-clause-sizes : goal.returns-in-Err-clause-sizes
 returns-in-Err-clause-sizes g c =
-    fault-sizes c.args.bytes.now c.in-Err.fault c.in-Err.ensures.fault (taken_of (g.O.Sink.written c.args.out.now) (g.O.Sink.amount c.args.out.now)) (taken_of (g.O.Sink.written c.tell.new.out) (g.O.Sink.amount c.tell.new.out))
+    fault-sizes c.args.bytes.now c.in-Err.fault c.in-Err.ensures.fault
+    (taken_of (g.O.Sink.written c.args.out.now) (g.O.Sink.amount c.args.out.now))
+    (taken_of (g.O.Sink.written c.tell.new.out) (g.O.Sink.amount c.tell.new.out))
     c.fault_reply.result c.tell.result c.fault_reply.ensures c.tell.ensures.told

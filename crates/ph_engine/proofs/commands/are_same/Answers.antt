@@ -8,4 +8,5 @@ returns g c =
     let x = c.tree-first.result.now in
     let y = c.tree-second.result.now in
     let one : x.width ≡ y.width = omega (arith, c.bits-bits.ensures.value, c.bits-others.ensures.value, c.width.ensures, c.width-2.ensures, c.if-bits-others.false) in
-    kept-compared g.row.D c.args.a.now c.args.b.now x y c.tree-first.ensures c.tree-second.ensures c.args.visits.now c.same.new.visits c.same.result one h.same h.later h.visits h.all
+    kept-compared g.row.D c.args.a.now c.args.b.now x y c.tree-first.ensures c.tree-second.ensures c.args.visits.now
+    c.same.new.visits c.same.result one h.same h.later h.visits h.all

@@ -18,12 +18,14 @@ loop-i-preserved c =
 pub returns-in-Less-clause-place : goal.returns-in-Less-clause-place
 returns-in-Less-clause-place c =
     let order = ap {A = Held} (λ h. slice_cmp nat_cmp c.args.name.now h.name) (sym c.index-held-i.is) ∙ sym c.cmp.ensures ∙ c.in-Less.is in
-    sym (c.loop-i.invariant ∙ behind-less (λ h. h.name) (λ h. cursor_of h.cursor) c.loop-i.i c.args.name.now c.args.held.now c.index-held-i.result c.loop-i-test.true order)
+    sym (c.loop-i.invariant ∙ behind-less (λ h. h.name) (λ h. cursor_of h.cursor) c.loop-i.i c.args.name.now
+    c.args.held.now c.index-held-i.result c.loop-i-test.true order)
 
 pub returns-in-Equal-clause-place : goal.returns-in-Equal-clause-place
 returns-in-Equal-clause-place c =
     let order = ap {A = Held} (λ h. slice_cmp nat_cmp c.args.name.now h.name) (sym c.index-held-i.is) ∙ sym c.cmp.ensures ∙ c.in-Equal.is in
-    sym (c.loop-i.invariant ∙ behind-equal (λ h. h.name) (λ h. cursor_of h.cursor) c.loop-i.i c.args.name.now c.args.held.now c.index-held-i.result c.loop-i-test.true order)
+    sym (c.loop-i.invariant ∙ behind-equal (λ h. h.name) (λ h. cursor_of h.cursor) c.loop-i.i c.args.name.now
+    c.args.held.now c.index-held-i.result c.loop-i-test.true order)
 
 pub returns-clause-place : goal.returns-clause-place
 returns-clause-place c =

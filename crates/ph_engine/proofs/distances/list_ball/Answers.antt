@@ -36,7 +36,8 @@ pub returns-in_err-say_hit-clause-lists : goal.returns-in_err-say_hit-clause-lis
 returns-in_err-say_hit-clause-lists g c =
     let e = next-is c.hits.ball.hits c.next.new.self.hits c.in-Some.hit c.in-Some.ensures.hit c.next.ensures.rest in
     let is = err_from_is_err_and c.from_residual.result c.from_residual.ensures.1 in
-    ball-said (tree_at g.row.D c.args.tree.now) c.point_at.result _ c.args.r c.new-ball.result.hits c.new-ball.result.visits _ _ c.args.visits.now c.next.new.visits c.from_residual.result
+    ball-said (tree_at g.row.D c.args.tree.now) c.point_at.result _ c.args.r c.new-ball.result.hits
+    c.new-ball.result.visits _ _ c.args.visits.now c.next.new.visits c.from_residual.result
     c.point_at.ensures.value c.new-ball.ensures.hits c.new-ball.ensures.visits
     (rw (is.1, is.2)
     (record {
@@ -52,5 +53,7 @@ returns-clause-lists g c =
     ball-said (tree_at g.row.D c.args.tree.now) c.point_at.result _ c.args.r c.new-ball.result.hits n _ _ c.args.visits.now c.next.new.visits c.say.result
     c.point_at.ensures.value c.new-ball.ensures.hits c.new-ball.ensures.visits
     (items-said hit_said c.new-ball.result.hits c.hits.ball.hits (length c.new-ball.result.hits) c.hits.count n n c.args.visits.now c.next.new.visits _ _ _ c.say.result
-    c.hits.invariant.given none (omega (arith, c.hits.invariant.counted, ap (λ hs. length hs) none)) c.say.ensures.answer c.say.ensures.told c.say.ensures.err c.say.ensures.front
-    (omega (arith, c.hits.invariant.cost, c.next.ensures.cost, c.in_default.ensures.end refl)) (omega (arith, c.hits.invariant.cost, c.next.ensures.cost, c.in_default.ensures.end refl)))
+    c.hits.invariant.given none (omega (arith, c.hits.invariant.counted, ap (λ hs. length hs) none))
+    c.say.ensures.answer c.say.ensures.told c.say.ensures.err c.say.ensures.front
+    (omega (arith, c.hits.invariant.cost, c.next.ensures.cost, c.in_default.ensures.end refl))
+    (omega (arith, c.hits.invariant.cost, c.next.ensures.cost, c.in_default.ensures.end refl)))

@@ -7,13 +7,17 @@ returns-in-Ok-clause-frame g c = rw c.replace.ensures.table (loaded-frame c.args
 
 pub returns-in-Err-clause-loads : goal.returns-in-Err-clause-loads
 returns-in-Err-clause-loads g c =
-    loads-none c.args.kind (any_table c.args.tree.now) c.dims.result c.width.result c.args.bytes.now c.in-Err.fault c.fault_reply.result c.dims.ensures.value c.width.ensures c.in-Err.ensures.fault c.fault_reply.ensures
+    loads-none c.args.kind (any_table c.args.tree.now) c.dims.result c.width.result c.args.bytes.now c.in-Err.fault
+    c.fault_reply.result c.dims.ensures.value c.width.ensures c.in-Err.ensures.fault c.fault_reply.ensures
 
 pub returns-in-Ok-clause-nodes : goal.returns-in-Ok-clause-nodes
 returns-in-Ok-clause-nodes g c rows is =
     let t = any_table c.args.tree.now in
-    nodes-loaded c.args.kind t c.dims.result c.width.result c.args.bytes.now (any_table c.in-Ok.loaded).tree.table rows c.args.changes.now c.load.new.changes c.dims.ensures.value c.width.ensures c.in-Ok.ensures.read is c.in-Ok.ensures.nodes
+    nodes-loaded c.args.kind t c.dims.result c.width.result c.args.bytes.now (any_table c.in-Ok.loaded).tree.table
+    rows c.args.changes.now c.load.new.changes c.dims.ensures.value c.width.ensures c.in-Ok.ensures.read is
+    c.in-Ok.ensures.nodes
 
 pub returns-in-Err-clause-nodes : goal.returns-in-Err-clause-nodes
 returns-in-Err-clause-nodes g c rows is =
-    nodes-none c.args.kind (any_table c.args.tree.now) c.dims.result c.width.result c.args.bytes.now c.in-Err.fault c.fault_reply.result rows _ _ c.dims.ensures.value c.width.ensures c.in-Err.ensures.fault c.fault_reply.ensures is
+    nodes-none c.args.kind (any_table c.args.tree.now) c.dims.result c.width.result c.args.bytes.now c.in-Err.fault
+    c.fault_reply.result rows _ _ c.dims.ensures.value c.width.ensures c.in-Err.ensures.fault c.fault_reply.ensures is

@@ -13,8 +13,12 @@ returns-in-Ok-clause-loaded g c =
     let loads = c.load_bytes.ensures in
     record {
       filed = λ visits cursors.
-          read-filed-or c.args.limits.now.file_bytes c.args.kind t cursors c.args.file.now c.as_slice.result.now (g.F.Files.faults c.args.files.now) (g.F.Files.faults c.fetch.new.self) visits c.args.changes.now c.load_bytes.new.changes
-          (g.F.Files.files c.args.files.now) (g.F.Files.files c.fetch.new.self) (any_table c.load_bytes.new.tree) c.load_bytes.result (rw (slice, ← c.as_str.ensures.value) e.fetches) (rw slice e.within) e.files e.counts loads.loads loads.kept loads.few loads.nodes;
+          read-filed-or c.args.limits.now.file_bytes c.args.kind t cursors c.args.file.now c.as_slice.result.now
+          (g.F.Files.faults c.args.files.now) (g.F.Files.faults c.fetch.new.self) visits c.args.changes.now
+          c.load_bytes.new.changes
+          (g.F.Files.files c.args.files.now) (g.F.Files.files c.fetch.new.self) (any_table c.load_bytes.new.tree)
+          c.load_bytes.result (rw (slice, ← c.as_str.ensures.value) e.fetches) (rw slice e.within) e.files
+          e.counts loads.loads loads.kept loads.few loads.nodes;
     }
 
 pub returns : goal.returns
@@ -25,7 +29,11 @@ returns g c =
       frame = same-frame-still c.args.kind t;
       loaded = record {
         filed = λ visits cursors.
-            unfetched-filed-or (Command.Load c.args.file.now) c.args.file.now (fetch-load c.args.file.now) c.args.limits.now.file_bytes (slot_of c.args.kind t cursors) c.fetch.new.into.items (g.F.Files.faults c.args.files.now) (g.F.Files.faults c.fetch.new.self) visits visits c.args.changes.now c.args.changes.now
-            (g.F.Files.files c.args.files.now) (g.F.Files.files c.fetch.new.self) c.in-Err.fault c.fetch_reply.result c.fetch_reply.ensures (rw (← c.as_str.ensures.value) e.fetches) e.counts e.files refl refl;
+            unfetched-filed-or (Command.Load c.args.file.now) c.args.file.now (fetch-load c.args.file.now)
+            c.args.limits.now.file_bytes (slot_of c.args.kind t cursors) c.fetch.new.into.items
+            (g.F.Files.faults c.args.files.now) (g.F.Files.faults c.fetch.new.self) visits visits
+            c.args.changes.now c.args.changes.now
+            (g.F.Files.files c.args.files.now) (g.F.Files.files c.fetch.new.self) c.in-Err.fault c.fetch_reply.result
+            c.fetch_reply.ensures (rw (← c.as_str.ensures.value) e.fetches) e.counts e.files refl refl;
       };
     }

@@ -36,7 +36,9 @@ returns-in_err-say_row-clause-lists g c =
     let is = err_from_is_err_and c.from_residual.result c.from_residual.ensures.1 in
     rw (is.1, is.2)
     (record {
-      front = rw (← c.new-window.ensures.rows) (item-front Reply.RowIs _ _ c.rows.window.rows c.next.new.self.rows c.in-Some.row _ _ _ c.rows.invariant.given e c.in_err-say_row.ensures.front);
+      front = rw (← c.new-window.ensures.rows)
+          (item-front Reply.RowIs _ _ c.rows.window.rows c.next.new.self.rows c.in-Some.row _ _ _
+          c.rows.invariant.given e c.in_err-say_row.ensures.front);
       fault = c.in_err-say_row.ensures.err;
       visited = omega (arith, c.rows.invariant.cost, c.next.ensures.cost, c.new-window.ensures.visits);
     })
@@ -46,6 +48,9 @@ returns-clause-lists g c =
     let none = none-left c.rows.window.rows c.in_default.ensures.row in
     let n = c.new-window.result.visits in
     rw (← c.new-window.ensures.rows, ← c.new-window.ensures.visits)
-    (items-said Reply.RowIs c.new-window.result.rows c.rows.window.rows (length c.new-window.result.rows) c.rows.count n n c.args.visits.now c.next.new.visits _ _ _ c.say.result
-    c.rows.invariant.given none (omega (arith, c.rows.invariant.counted, ap (λ rs. length rs) none)) c.say.ensures.answer c.say.ensures.told c.say.ensures.err c.say.ensures.front
-    (omega (arith, c.rows.invariant.cost, c.next.ensures.cost, c.in_default.ensures.end refl)) (omega (arith, c.rows.invariant.cost, c.next.ensures.cost, c.in_default.ensures.end refl)))
+    (items-said Reply.RowIs c.new-window.result.rows c.rows.window.rows (length c.new-window.result.rows) c.rows.count
+    n n c.args.visits.now c.next.new.visits _ _ _ c.say.result
+    c.rows.invariant.given none (omega (arith, c.rows.invariant.counted, ap (λ rs. length rs) none))
+    c.say.ensures.answer c.say.ensures.told c.say.ensures.err c.say.ensures.front
+    (omega (arith, c.rows.invariant.cost, c.next.ensures.cost, c.in_default.ensures.end refl))
+    (omega (arith, c.rows.invariant.cost, c.next.ensures.cost, c.in_default.ensures.end refl)))

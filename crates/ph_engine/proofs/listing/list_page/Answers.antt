@@ -34,7 +34,8 @@ rows-preserved g c =
     let e = page-step old.rows new.rows old.left new.left c.in-Some.row goes.0 goes.1 in
     record {
       later = omega (arith, c.rows.invariant.later, c.in_ok-say_row.ensures.cause.later);
-      given = λ tail. item-given Reply.RowIs _ tail (take old.left old.rows) (take new.left new.rows) c.in-Some.row _ _ _ (c.rows.invariant.given tail) e c.in_ok-say_row.ensures.told;
+      given = λ tail. item-given Reply.RowIs _ tail (take old.left old.rows) (take new.left new.rows) c.in-Some.row _
+          _ _ (c.rows.invariant.given tail) e c.in_ok-say_row.ensures.told;
       counted = omega (arith, c.rows.invariant.counted, ap (λ rs. length rs) e);
       behind = sym (page-rest old.rows new.rows old.left new.left c.in-Some.row goes.0 goes.1) ∙ c.rows.invariant.behind;
       lo = ap (λ x. x.lo) goes.2 ∙ c.rows.invariant.lo;
@@ -61,8 +62,11 @@ returns-in_err-say_row-clause-lists g c =
     let is = err_from_is_err_and c.from_residual.result c.from_residual.ensures.1 in
     rw (is.1, is.2)
     (record {
-      front = subst (λ rs. WritesFront (taken_of (g.O.Sink.written c.args.out.now) (g.O.Sink.amount c.args.out.now)) (taken_of (g.O.Sink.written c.say_row.new.out) (g.O.Sink.amount c.say_row.new.out)) (replies_text (row_replies rs ++ tail))) whole
-          (item-front Reply.RowIs _ tail (take old.left old.rows) (take new.left new.rows) c.in-Some.row _ _ _ (c.rows.invariant.given tail) e c.in_err-say_row.ensures.front);
+      front = subst (λ rs. WritesFront (taken_of (g.O.Sink.written c.args.out.now) (g.O.Sink.amount c.args.out.now))
+          (taken_of (g.O.Sink.written c.say_row.new.out) (g.O.Sink.amount c.say_row.new.out))
+          (replies_text (row_replies rs ++ tail))) whole
+          (item-front Reply.RowIs _ tail (take old.left old.rows) (take new.left new.rows) c.in-Some.row _ _ _
+          (c.rows.invariant.given tail) e c.in_err-say_row.ensures.front);
       fault = c.in_err-say_row.ensures.err;
       visited = omega (arith, c.rows.invariant.cost, c.next.ensures.cost, few, start);
     })
@@ -79,7 +83,11 @@ returns-clause-lists g c =
     let start = few-to-resume t.tree.width _ _ cursor.last c.page-page.ensures.first c.page-page.ensures.cost in
     let none = none-left (take old.left old.rows) c.in_default.ensures.row in
     let more = more-by c.tail.result (old.rows ≡ [] → ⊥) (subst (λ rs. (c.tail.result ≡ More) ↔ (rs ≡ [] → ⊥)) same.0 c.tail.ensures.more) in
-    page-said t cursor c.args.n first.rows old.rows old.left c.rows.count c.args.visits.now c.tail.new.visits (is_more c.tail.result) c.cursor-behind.result (taken_of (g.O.Sink.written c.args.out.now) (g.O.Sink.amount c.args.out.now)) (taken_of (g.O.Sink.written c.rows.out) (g.O.Sink.amount c.rows.out)) (taken_of (g.O.Sink.written c.say.new.out) (g.O.Sink.amount c.say.new.out)) c.page-page.ensures.rows
+    page-said t cursor c.args.n first.rows old.rows old.left c.rows.count c.args.visits.now c.tail.new.visits
+    (is_more c.tail.result) c.cursor-behind.result
+    (taken_of (g.O.Sink.written c.args.out.now) (g.O.Sink.amount c.args.out.now))
+    (taken_of (g.O.Sink.written c.rows.out) (g.O.Sink.amount c.rows.out))
+    (taken_of (g.O.Sink.written c.say.new.out) (g.O.Sink.amount c.say.new.out)) c.page-page.ensures.rows
     (λ tail. rw (← n) (c.rows.invariant.given tail))
     none
     (c.rows.invariant.behind ∙ ap (λ k. drop k first.rows) n)
@@ -87,10 +95,18 @@ returns-clause-lists g c =
     more
     (ap (λ x. x.lo) (c.cursor-behind.ensures ∙ same.2) ∙ c.rows.invariant.lo ∙ ap (λ x. x.lo) c.page-page.ensures.cursor)
     (ap (λ x. x.hi) (c.cursor-behind.ensures ∙ same.2) ∙ c.rows.invariant.hi ∙ ap (λ x. x.hi) c.page-page.ensures.cursor)
-    (ap (λ x. last_listed x.last (take old.left old.rows)) (c.cursor-behind.ensures ∙ same.2) ∙ c.rows.invariant.last ∙ ap (λ x. last_listed x.last (take first.left first.rows)) c.page-page.ensures.cursor ∙ ap (λ k. last_listed cursor.last (take k first.rows)) n)
+    (ap (λ x. last_listed x.last (take old.left old.rows)) (c.cursor-behind.ensures ∙ same.2) ∙
+    c.rows.invariant.last ∙ ap (λ x. last_listed x.last (take first.left first.rows)) c.page-page.ensures.cursor ∙
+    ap (λ k. last_listed cursor.last (take k first.rows)) n)
     c.requires.last
     c.root-root.ensures.table
-    (omega (arith, some-to-resume t.tree.table _ _ cursor.last c.page-page.ensures.grows c.page-page.ensures.resumed, c.rows.invariant.grows, c.next.ensures.grows, c.tail.ensures.grows))
+    (omega (
+      arith,
+      some-to-resume t.tree.table _ _ cursor.last c.page-page.ensures.grows c.page-page.ensures.resumed,
+      c.rows.invariant.grows,
+      c.next.ensures.grows,
+      c.tail.ensures.grows,
+    ))
     (omega (arith, c.rows.invariant.cost, c.next.ensures.cost, c.tail.ensures.cost, few, start))
     (rw (← c.page_end.ensures) c.in_ok-say.ensures.told)
 
@@ -109,7 +125,10 @@ returns-in_err-say-clause-lists g c =
     let is = err_from_is_err_and c.from_residual-in_err-say.result c.from_residual-in_err-say.ensures.1 in
     rw (is.1, is.2)
     (record {
-      front = page-cut t cursor c.args.n first.rows old.rows old.left c.rows.count (is_more c.tail.result) (taken_of (g.O.Sink.written c.args.out.now) (g.O.Sink.amount c.args.out.now)) (taken_of (g.O.Sink.written c.rows.out) (g.O.Sink.amount c.rows.out)) (taken_of (g.O.Sink.written c.say.new.out) (g.O.Sink.amount c.say.new.out)) c.page-page.ensures.rows
+      front = page-cut t cursor c.args.n first.rows old.rows old.left c.rows.count (is_more c.tail.result)
+          (taken_of (g.O.Sink.written c.args.out.now) (g.O.Sink.amount c.args.out.now))
+          (taken_of (g.O.Sink.written c.rows.out) (g.O.Sink.amount c.rows.out))
+          (taken_of (g.O.Sink.written c.say.new.out) (g.O.Sink.amount c.say.new.out)) c.page-page.ensures.rows
           (λ tail. rw (← n) (c.rows.invariant.given tail))
           none
           (c.rows.invariant.behind ∙ ap (λ k. drop k first.rows) n)

@@ -12,7 +12,9 @@ invariant-rows g l =
     let left = take l.page.left l.page.rows in
     record {
       later : g.O.Sink.faults l.initial.out ≤ g.O.Sink.faults l.out;
-      given : (tail : List Reply) → IsGiven (row_replies all ++ tail) (row_replies left ++ tail) (taken_of (g.O.Sink.written l.initial.out) (g.O.Sink.amount l.initial.out)) (taken_of (g.O.Sink.written l.out) (g.O.Sink.amount l.out));
+      given : (tail : List Reply) → IsGiven (row_replies all ++ tail) (row_replies left ++ tail)
+          (taken_of (g.O.Sink.written l.initial.out) (g.O.Sink.amount l.initial.out))
+          (taken_of (g.O.Sink.written l.out) (g.O.Sink.amount l.out));
       counted : l.count + length left ≡ length all;
       behind : drop l.page.left l.page.rows ≡ drop l.initial.page.left l.initial.page.rows;
       lo : l.page.cursor.lo ≡ l.initial.page.cursor.lo;

@@ -40,7 +40,9 @@ returns-in_err-say_pair-clause-lists g c =
     let is = err_from_is_err_and c.from_residual.result c.from_residual.ensures.1 in
     rw (is.1, is.2)
     (record {
-      front = rw (← c.new-join.ensures.pairs) (item-front pair_said _ _ c.pairs.join.pairs c.next.new.self.pairs c.in-Some.pair _ _ _ c.pairs.invariant.given e c.in_err-say_pair.ensures.front);
+      front = rw (← c.new-join.ensures.pairs)
+          (item-front pair_said _ _ c.pairs.join.pairs c.next.new.self.pairs c.in-Some.pair _ _ _
+          c.pairs.invariant.given e c.in_err-say_pair.ensures.front);
       fault = c.in_err-say_pair.ensures.err;
       visited = omega (arith, c.pairs.invariant.cost, c.next.ensures.cost, c.new-join.ensures.visits);
     })
@@ -50,6 +52,9 @@ returns-clause-lists g c =
     let none = none-left c.pairs.join.pairs c.in_default.ensures.pair in
     let n = c.new-join.result.visits in
     rw (← c.new-join.ensures.pairs, ← c.new-join.ensures.visits)
-    (items-said pair_said c.new-join.result.pairs c.pairs.join.pairs (length c.new-join.result.pairs) c.pairs.count n n c.args.visits.now c.next.new.visits _ _ _ c.say.result
-    c.pairs.invariant.given none (omega (arith, c.pairs.invariant.counted, ap (λ ps. length ps) none)) c.say.ensures.answer c.say.ensures.told c.say.ensures.err c.say.ensures.front
-    (omega (arith, c.pairs.invariant.cost, c.next.ensures.cost, c.in_default.ensures.end refl)) (omega (arith, c.pairs.invariant.cost, c.next.ensures.cost, c.in_default.ensures.end refl)))
+    (items-said pair_said c.new-join.result.pairs c.pairs.join.pairs (length c.new-join.result.pairs) c.pairs.count n
+    n c.args.visits.now c.next.new.visits _ _ _ c.say.result
+    c.pairs.invariant.given none (omega (arith, c.pairs.invariant.counted, ap (λ ps. length ps) none))
+    c.say.ensures.answer c.say.ensures.told c.say.ensures.err c.say.ensures.front
+    (omega (arith, c.pairs.invariant.cost, c.next.ensures.cost, c.in_default.ensures.end refl))
+    (omega (arith, c.pairs.invariant.cost, c.next.ensures.cost, c.in_default.ensures.end refl)))

@@ -14,8 +14,12 @@ returns-in-Ok-clause-imported g c =
     let i = c.import.ensures in
     record {
       filed = λ cursors.
-          imported-filed-or c.args.limits.now.file_bytes c.args.kind t cursors c.args.file.now c.as_slice.result.now c.args.header (g.F.Files.faults c.args.files.now) (g.F.Files.faults c.fetch.new.self) c.args.visits.now c.import.new.visits c.args.changes.now c.import.new.changes
-          (g.F.Files.files c.args.files.now) (g.F.Files.files c.fetch.new.self) (any_table c.import.new.self) c.import.result (rw (slice, ← c.as_str.ensures.value) e.fetches) (rw slice e.within) e.files e.counts i.imports i.later i.few i.kept i.changes;
+          imported-filed-or c.args.limits.now.file_bytes c.args.kind t cursors c.args.file.now c.as_slice.result.now
+          c.args.header (g.F.Files.faults c.args.files.now) (g.F.Files.faults c.fetch.new.self) c.args.visits.now
+          c.import.new.visits c.args.changes.now c.import.new.changes
+          (g.F.Files.files c.args.files.now) (g.F.Files.files c.fetch.new.self) (any_table c.import.new.self)
+          c.import.result (rw (slice, ← c.as_str.ensures.value) e.fetches) (rw slice e.within) e.files e.counts
+          i.imports i.later i.few i.kept i.changes;
     }
 
 pub returns : goal.returns
@@ -27,7 +31,11 @@ returns g c =
       frame = same-frame-still c.args.kind t;
       imported = record {
         filed = λ cursors.
-            unfetched-filed-or (Command.Import name c.args.header) name (fetch-import name c.args.header) c.args.limits.now.file_bytes (slot_of c.args.kind t cursors) c.fetch.new.into.items (g.F.Files.faults c.args.files.now) (g.F.Files.faults c.fetch.new.self) c.args.visits.now c.args.visits.now c.args.changes.now c.args.changes.now
-            (g.F.Files.files c.args.files.now) (g.F.Files.files c.fetch.new.self) c.in-Err.fault c.fetch_reply.result c.fetch_reply.ensures (rw (← c.as_str.ensures.value) e.fetches) e.counts e.files refl refl;
+            unfetched-filed-or (Command.Import name c.args.header) name (fetch-import name c.args.header)
+            c.args.limits.now.file_bytes (slot_of c.args.kind t cursors) c.fetch.new.into.items
+            (g.F.Files.faults c.args.files.now) (g.F.Files.faults c.fetch.new.self) c.args.visits.now
+            c.args.visits.now c.args.changes.now c.args.changes.now
+            (g.F.Files.files c.args.files.now) (g.F.Files.files c.fetch.new.self) c.in-Err.fault c.fetch_reply.result
+            c.fetch_reply.ensures (rw (← c.as_str.ensures.value) e.fetches) e.counts e.files refl refl;
       };
     }

@@ -12,7 +12,10 @@ returns-then-number c =
     let a = number_of_coord c.in-Some.a.now in
     let b = number_of_coord c.in-Some.b.now in
     let u : int_le a b ≡ false = grind (arith, ints) in
-    reversed_here a b (numbers_of c.next.new.self.a.rest.now) (numbers_of c.next.new.self.b.rest.now) (numbers_of c.loop-a.a-iterator.a.rest.now) (numbers_of c.loop-a.a-iterator.b.rest.now) (numbers_of c.args.low.now) (numbers_of c.args.high.now) (ap (λ xs. numbers_of xs) s.0) (ap (λ xs. numbers_of xs) s.1) u c.loop-a.invariant.value
+    reversed_here a b (numbers_of c.next.new.self.a.rest.now) (numbers_of c.next.new.self.b.rest.now)
+    (numbers_of c.loop-a.a-iterator.a.rest.now) (numbers_of c.loop-a.a-iterator.b.rest.now)
+    (numbers_of c.args.low.now) (numbers_of c.args.high.now) (ap (λ xs. numbers_of xs) s.0)
+    (ap (λ xs. numbers_of xs) s.1) u c.loop-a.invariant.value
 
 pub loop-a-preserved : goal.loop-a-preserved
 loop-a-preserved c =
@@ -22,6 +25,9 @@ loop-a-preserved c =
     let b = number_of_coord c.in-Some.b.now in
     let u : int_le a b ≡ true = grind (arith, ints) in
     record {
-      value = ordered_so_far a b (numbers_of c.next.new.self.a.rest.now) (numbers_of c.next.new.self.b.rest.now) (numbers_of c.loop-a.a-iterator.a.rest.now) (numbers_of c.loop-a.a-iterator.b.rest.now) (numbers_of c.args.low.now) (numbers_of c.args.high.now) (ap (λ xs. numbers_of xs) s.0) (ap (λ xs. numbers_of xs) s.1) u c.loop-a.invariant.value;
+      value = ordered_so_far a b (numbers_of c.next.new.self.a.rest.now) (numbers_of c.next.new.self.b.rest.now)
+          (numbers_of c.loop-a.a-iterator.a.rest.now) (numbers_of c.loop-a.a-iterator.b.rest.now)
+          (numbers_of c.args.low.now) (numbers_of c.args.high.now) (ap (λ xs. numbers_of xs) s.0)
+          (ap (λ xs. numbers_of xs) s.1) u c.loop-a.invariant.value;
       same = search rules;
     }

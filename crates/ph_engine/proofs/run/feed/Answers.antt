@@ -32,14 +32,23 @@ lines-preserved g c =
       filings = omega (arith, c.lines.invariant.filings, c.in-Ok.ensures.filings);
       fed = λ known fits.
           let fed = c.lines.invariant.fed known fits in
-          let line = known-on (Says c.args.limits.now.file_bytes c.in-Some.line (whole c.lines.eng (told_now known middle)) _ _ (Ok c.in-Ok.some)) c.answer.new.eng known middle (g.F.Files.files c.answer.new.files) fed.0 (c.in-Ok.ensures.answered (told_now known middle) (known-right known middle fed.0)) in (
+          let line = known-on (Says c.args.limits.now.file_bytes c.in-Some.line
+          (whole c.lines.eng (told_now known middle)) _ _ (Ok c.in-Ok.some)) c.answer.new.eng known middle
+          (g.F.Files.files c.answer.new.files) fed.0
+          (c.in-Ok.ensures.answered (told_now known middle) (known-right known middle fed.0)) in (
             line.0,
             λ unended k u.
                 let before = fed.1 unended k u in
-                let answered = λ (now : List ℕ) (kept : c.lines.lines ≡ take KEPT now). line.1 (now ++ before_feed (drop c.lines.at c.args.piece.now)) (shown-behind now (before_feed (drop c.lines.at c.args.piece.now)) c.lines.lines c.in-Some.line kept given.1) in
-                then-fed (script_machine c.args.limits.now.file_bytes) _ unended (take c.lines.at c.args.piece.now) (before_feed (drop c.lines.at c.args.piece.now) ++ LF ∷ []) (take c.next_line.new.at c.args.piece.now)
+                let answered = λ (now : List ℕ) (kept : c.lines.lines ≡ take KEPT now). line.1
+                (now ++ before_feed (drop c.lines.at c.args.piece.now))
+                (shown-behind now (before_feed (drop c.lines.at c.args.piece.now)) c.lines.lines c.in-Some.line
+                kept given.1) in
+                then-fed (script_machine c.args.limits.now.file_bytes) _ unended (take c.lines.at c.args.piece.now)
+                (before_feed (drop c.lines.at c.args.piece.now) ++ LF ∷ []) (take c.next_line.new.at c.args.piece.now)
                 c.lines.lines c.next_line.follows.lender-at-none _ _ _ _ _ c.lines.refused c.in-Ok.some c.either-refused.result before
-                (λ now kept free. rw empty (line-said (script_machine c.args.limits.now.file_bytes) _ now (before_feed (drop c.lines.at c.args.piece.now)) (answered now kept).met _ _ _ c.in-Ok.some free (feed-unbroken (drop c.lines.at c.args.piece.now) given.0)
+                (λ now kept free. rw empty (line-said (script_machine c.args.limits.now.file_bytes) _ now
+                (before_feed (drop c.lines.at c.args.piece.now)) (answered now kept).met _ _ _ c.in-Ok.some free
+                (feed-unbroken (drop c.lines.at c.args.piece.now) given.0)
                 (answered now kept).said))
                 (feed-next c.args.piece.now c.lines.at c.next_line.new.at given.0 place) c.either-refused.ensures,
           );
@@ -51,16 +60,26 @@ returns-in-Err-clause-fed g c known fits =
     let place = c.in-Some.ensures.place in
     let middle = g.F.Files.files c.lines.files in
     let fed = c.lines.invariant.fed known fits in
-    let line = known-on (Says c.args.limits.now.file_bytes c.in-Some.line (whole c.lines.eng (told_now known middle)) _ _ (Err c.in-Err.stop)) c.answer.new.eng known middle (g.F.Files.files c.answer.new.files) fed.0 (c.in-Err.ensures.answered (told_now known middle) (known-right known middle fed.0)) in (
+    let line = known-on (Says c.args.limits.now.file_bytes c.in-Some.line (whole c.lines.eng (told_now known middle))
+    _ _ (Err c.in-Err.stop)) c.answer.new.eng known middle (g.F.Files.files c.answer.new.files) fed.0
+    (c.in-Err.ensures.answered (told_now known middle) (known-right known middle fed.0)) in (
       line.0,
       λ unended k u.
           let before = fed.1 unended k u in
-          let answered = λ (now : List ℕ) (kept : c.lines.lines ≡ take KEPT now). line.1 (now ++ before_feed (drop c.lines.at c.args.piece.now)) (shown-behind now (before_feed (drop c.lines.at c.args.piece.now)) c.lines.lines c.in-Some.line kept given.1) in
-          then-stopped (script_machine c.args.limits.now.file_bytes) _ unended (take c.lines.at c.args.piece.now) (before_feed (drop c.lines.at c.args.piece.now) ++ LF ∷ []) (drop c.next_line.new.at c.args.piece.now) c.args.piece.now
+          let answered = λ (now : List ℕ) (kept : c.lines.lines ≡ take KEPT now). line.1
+          (now ++ before_feed (drop c.lines.at c.args.piece.now))
+          (shown-behind now (before_feed (drop c.lines.at c.args.piece.now)) c.lines.lines c.in-Some.line kept given.1) in
+          then-stopped (script_machine c.args.limits.now.file_bytes) _ unended (take c.lines.at c.args.piece.now)
+          (before_feed (drop c.lines.at c.args.piece.now) ++ LF ∷ []) (drop c.next_line.new.at c.args.piece.now)
+          c.args.piece.now
           c.lines.lines c.next_line.follows.lender-at-none _ _ _ _ _ c.lines.refused c.in-Err.stop before
-          (λ now kept free. line-stopped (script_machine c.args.limits.now.file_bytes) _ now (before_feed (drop c.lines.at c.args.piece.now)) c.next_line.follows.lender-at-none (answered now kept).met _ _ _ c.in-Err.stop free (feed-unbroken (drop c.lines.at c.args.piece.now) given.0)
+          (λ now kept free. line-stopped (script_machine c.args.limits.now.file_bytes) _ now
+          (before_feed (drop c.lines.at c.args.piece.now)) c.next_line.follows.lender-at-none
+          (answered now kept).met _ _ _ c.in-Err.stop free (feed-unbroken (drop c.lines.at c.args.piece.now) given.0)
           (answered now kept).said)
-          (ap (λ t. t ++ drop c.next_line.new.at c.args.piece.now) (feed-next c.args.piece.now c.lines.at c.next_line.new.at given.0 place) ∙ whole-piece c.args.piece.now c.next_line.new.at),
+          (ap (λ t. t ++ drop c.next_line.new.at c.args.piece.now)
+          (feed-next c.args.piece.now c.lines.at c.next_line.new.at given.0 place) ∙
+          whole-piece c.args.piece.now c.next_line.new.at),
     )
 
 pub returns-clause-fed : goal.returns-clause-fed
@@ -86,6 +105,8 @@ lines-init g c = record {
         let s = whole c.args.eng.now known in
         let b = beside_by g.O.Sink g.F.Files c.args.out.now c.args.files.now c.args.visits.now c.args.changes.now in
         let same : told_now known (g.F.Files.files c.args.files.now) ≡ known = known-still known _ _ fits refl in
-        subst (λ x. Fed (script_machine c.args.limits.now.file_bytes) s unended [] b b (whole c.args.eng.now x) c.args.lines.now false) (sym same) (fed-none (script_machine c.args.limits.now.file_bytes) s unended c.args.lines.now _ k u),
+        subst (λ x. Fed (script_machine c.args.limits.now.file_bytes) s unended [] b b (whole c.args.eng.now x)
+        c.args.lines.now false) (sym same)
+        (fed-none (script_machine c.args.limits.now.file_bytes) s unended c.args.lines.now _ k u),
   );
 }

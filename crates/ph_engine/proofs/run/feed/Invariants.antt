@@ -9,7 +9,11 @@ invariant-lines g l = record {
   within : l.at ≤ length l.piece;
   later : g.O.Sink.faults l.initial.out ≤ g.O.Sink.faults l.out;
   filings : g.F.Files.faults l.initial.files ≤ g.F.Files.faults l.files;
-  fed : ServesPiece l.limits.file_bytes (standing (g.O.Sink.written l.initial.out) (g.O.Sink.amount l.initial.out) (g.F.Files.files l.initial.files) (g.F.Files.faults l.initial.files) l.initial.visits l.initial.changes l.initial.eng) l.initial.lines (take l.at l.piece) (standing (g.O.Sink.written l.out) (g.O.Sink.amount l.out) (g.F.Files.files l.files) (g.F.Files.faults l.files) l.visits l.changes l.eng) l.lines (Ok l.refused);
+  fed : ServesPiece l.limits.file_bytes
+      (standing (g.O.Sink.written l.initial.out) (g.O.Sink.amount l.initial.out) (g.F.Files.files l.initial.files)
+      (g.F.Files.faults l.initial.files) l.initial.visits l.initial.changes l.initial.eng) l.initial.lines
+      (take l.at l.piece) (standing (g.O.Sink.written l.out) (g.O.Sink.amount l.out) (g.F.Files.files l.files)
+      (g.F.Files.faults l.files) l.visits l.changes l.eng) l.lines (Ok l.refused);
 }
 
 abbrev pub decreases-lines : goal.decreases-lines

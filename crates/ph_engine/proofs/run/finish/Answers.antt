@@ -16,7 +16,9 @@ returns-in_default-clause-ends g c known fits = (
       let same : told_now known (g.F.Files.files c.args.files.now) ≡ known = known-still known _ _ fits refl in
       rw c.read_status.ensures
       (subst (λ x. EndsOr (script_machine c.args.limits.now.file_bytes) s unended c.args.refused b b (whole c.args.eng.now x) (read_status c.args.refused)) (sym same)
-      (ends-read (script_machine c.args.limits.now.file_bytes) s unended c.args.refused _ _ _ c.args.refused (end-none (script_machine c.args.limits.now.file_bytes) s unended c.args.lines.now c.args.refused _ k c.in_default.ensures.given))),
+      (ends-read (script_machine c.args.limits.now.file_bytes) s unended c.args.refused _ _ _ c.args.refused
+      (end-none (script_machine c.args.limits.now.file_bytes) s unended c.args.lines.now c.args.refused _ k
+      c.in_default.ensures.given))),
 )
 
 pub returns-in-Ok-clause-ends : goal.returns-in-Ok-clause-ends
@@ -27,7 +29,8 @@ returns-in-Ok-clause-ends g c known fits =
           let answered = said.1 unended (shown-whole unended c.args.lines.now c.in-Some.line k c.in-Some.ensures.given.1) in
           rw (c.read_status-in-Ok.ensures, c.either.ensures)
           (ends-read (script_machine c.args.limits.now.file_bytes) _ unended c.args.refused _ _ _ (c.args.refused || c.in-Ok.last)
-          (end-said (script_machine c.args.limits.now.file_bytes) _ unended c.args.lines.now c.args.refused c.in-Ok.last answered.met _ _ _ k u c.in-Some.ensures.given.0 answered.said)),
+          (end-said (script_machine c.args.limits.now.file_bytes) _ unended c.args.lines.now c.args.refused
+          c.in-Ok.last answered.met _ _ _ k u c.in-Some.ensures.given.0 answered.said)),
     )
 
 pub returns-in-Err-clause-ends : goal.returns-in-Err-clause-ends
@@ -37,5 +40,6 @@ returns-in-Err-clause-ends g c known fits =
       λ unended k u.
           let answered = said.1 unended (shown-whole unended c.args.lines.now c.in-Some.line k c.in-Some.ensures.given.1) in
           rw c.stopped.ensures
-          (end-stopped (script_machine c.args.limits.now.file_bytes) _ unended c.args.lines.now c.args.refused answered.met _ _ _ c.in-Err.stop k u c.in-Some.ensures.given.0 answered.said),
+          (end-stopped (script_machine c.args.limits.now.file_bytes) _ unended c.args.lines.now c.args.refused
+          answered.met _ _ _ c.in-Err.stop k u c.in-Some.ensures.given.0 answered.said),
     )

@@ -12,7 +12,8 @@ pub returns-in_default-clause-outcome : goal.returns-in_default-clause-outcome
 returns-in_default-clause-outcome g c known fits =
     let before = c.pieces.invariant.reached known fits in (
       before.0,
-      interrupted (script_machine c.args.limits.now.file_bytes) c.args.limits.now.script_bytes _ _ _ _ _ _ _ c.pieces.lines c.pieces.refused c.pieces.taken before.1 c.pieces.invariant.within c.in_default.ensures.bytes,
+      interrupted (script_machine c.args.limits.now.file_bytes) c.args.limits.now.script_bytes _ _ _ _ _ _ _
+          c.pieces.lines c.pieces.refused c.pieces.taken before.1 c.pieces.invariant.within c.in_default.ensures.bytes,
     )
 
 pub returns-then-count-eq0-clause-outcome : goal.returns-then-count-eq0-clause-outcome
@@ -20,10 +21,15 @@ returns-then-count-eq0-clause-outcome g c known fits =
     let m = script_machine c.args.limits.now.file_bytes in
     let middle = g.F.Files.files c.pieces.files in
     let before = c.pieces.invariant.reached known fits in
-    let ends = known-on (λ s. Ends m (whole c.pieces.eng (told_now known middle)) c.pieces.lines c.pieces.refused (beside_by g.O.Sink g.F.Files c.pieces.out c.pieces.files c.pieces.visits c.pieces.changes) (beside_by g.O.Sink g.F.Files c.finish.new.out c.finish.new.files c.finish.new.visits c.finish.new.changes) s c.finish.result) c.finish.new.eng known middle (g.F.Files.files c.finish.new.files) before.0 (c.finish.ensures.ends (told_now known middle) (known-right known middle before.0)) in (
+    let ends = known-on (λ s. Ends m (whole c.pieces.eng (told_now known middle)) c.pieces.lines c.pieces.refused
+    (beside_by g.O.Sink g.F.Files c.pieces.out c.pieces.files c.pieces.visits c.pieces.changes)
+    (beside_by g.O.Sink g.F.Files c.finish.new.out c.finish.new.files c.finish.new.visits c.finish.new.changes) s
+    c.finish.result) c.finish.new.eng known middle (g.F.Files.files c.finish.new.files) before.0
+    (c.finish.ensures.ends (told_now known middle) (known-right known middle before.0)) in (
       ends.0,
       at-end m c.args.limits.now.script_bytes _ _ _ _ _ _ _ _ _ c.pieces.lines (take c.in-Ok.count c.fill.new.piece) c.pieces.refused c.pieces.taken c.finish.result
-          before.1 c.pieces.invariant.within c.in-Ok.ensures.bytes.0 (ap (λ n. take n c.fill.new.piece) c.if-count-eq0.true) (c.in-Ok.ensures.end c.if-count-eq0.true) ends.1,
+          before.1 c.pieces.invariant.within c.in-Ok.ensures.bytes.0
+          (ap (λ n. take n c.fill.new.piece) c.if-count-eq0.true) (c.in-Ok.ensures.end c.if-count-eq0.true) ends.1,
     )
 
 pub returns-in-Err-clause-outcome : goal.returns-in-Err-clause-outcome
@@ -31,11 +37,18 @@ returns-in-Err-clause-outcome g c known fits =
     let m = script_machine c.args.limits.now.file_bytes in
     let middle = g.F.Files.files c.pieces.files in
     let before = c.pieces.invariant.reached known fits in
-    let fed = known-on (λ s. Feeds m (whole c.pieces.eng (told_now known middle)) c.pieces.lines (take c.min-fresh.result c.fill.new.piece) (beside_by g.O.Sink g.F.Files c.pieces.out c.pieces.files c.pieces.visits c.pieces.changes) (beside_by g.O.Sink g.F.Files c.feed.new.out c.feed.new.files c.feed.new.visits c.feed.new.changes) s c.feed.new.lines (Err c.in-Err.stop)) c.feed.new.eng known middle (g.F.Files.files c.feed.new.files) before.0 (c.in-Err.ensures.fed (told_now known middle) (known-right known middle before.0)) in (
+    let fed = known-on (λ s. Feeds m (whole c.pieces.eng (told_now known middle)) c.pieces.lines
+    (take c.min-fresh.result c.fill.new.piece)
+    (beside_by g.O.Sink g.F.Files c.pieces.out c.pieces.files c.pieces.visits c.pieces.changes)
+    (beside_by g.O.Sink g.F.Files c.feed.new.out c.feed.new.files c.feed.new.visits c.feed.new.changes) s
+    c.feed.new.lines (Err c.in-Err.stop)) c.feed.new.eng known middle (g.F.Files.files c.feed.new.files) before.0
+    (c.in-Err.ensures.fed (told_now known middle) (known-right known middle before.0)) in (
       fed.0,
       rw c.stopped.ensures
-          (stopped m c.args.limits.now.script_bytes _ _ _ _ _ _ _ _ _ c.pieces.lines c.feed.new.lines c.fill.new.piece _ c.pieces.refused c.pieces.taken c.in-Ok.count c.min-fresh.result c.in-Err.stop
-          before.1 c.in-Ok.ensures.bytes.0 (omega (arith, c.in-Ok.ensures.room)) (omega (arith, c.min-fresh.ensures)) refl (omega (arith, c.in-Ok.ensures.most, c.pieces.invariant.within)) fed.1),
+          (stopped m c.args.limits.now.script_bytes _ _ _ _ _ _ _ _ _ c.pieces.lines c.feed.new.lines c.fill.new.piece
+          _ c.pieces.refused c.pieces.taken c.in-Ok.count c.min-fresh.result c.in-Err.stop
+          before.1 c.in-Ok.ensures.bytes.0 (omega (arith, c.in-Ok.ensures.room)) (omega (arith, c.min-fresh.ensures))
+          refl (omega (arith, c.in-Ok.ensures.most, c.pieces.invariant.within)) fed.1),
     )
 
 pub returns-then-fresh-count-clause-outcome : goal.returns-then-fresh-count-clause-outcome
@@ -43,10 +56,18 @@ returns-then-fresh-count-clause-outcome g c known fits =
     let m = script_machine c.args.limits.now.file_bytes in
     let middle = g.F.Files.files c.pieces.files in
     let before = c.pieces.invariant.reached known fits in
-    let fed = known-on (λ s. Feeds m (whole c.pieces.eng (told_now known middle)) c.pieces.lines (take c.min-fresh.result c.fill.new.piece) (beside_by g.O.Sink g.F.Files c.pieces.out c.pieces.files c.pieces.visits c.pieces.changes) (beside_by g.O.Sink g.F.Files c.feed.new.out c.feed.new.files c.feed.new.visits c.feed.new.changes) s c.feed.new.lines (Ok c.in-Ok-feed.some)) c.feed.new.eng known middle (g.F.Files.files c.feed.new.files) before.0 (c.in-Ok-feed.ensures.fed (told_now known middle) (known-right known middle before.0)) in (
+    let fed = known-on (λ s. Feeds m (whole c.pieces.eng (told_now known middle)) c.pieces.lines
+    (take c.min-fresh.result c.fill.new.piece)
+    (beside_by g.O.Sink g.F.Files c.pieces.out c.pieces.files c.pieces.visits c.pieces.changes)
+    (beside_by g.O.Sink g.F.Files c.feed.new.out c.feed.new.files c.feed.new.visits c.feed.new.changes) s
+    c.feed.new.lines (Ok c.in-Ok-feed.some)) c.feed.new.eng known middle (g.F.Files.files c.feed.new.files)
+    before.0 (c.in-Ok-feed.ensures.fed (told_now known middle) (known-right known middle before.0)) in (
       fed.0,
-      exceeded m c.args.limits.now.script_bytes _ _ _ _ _ _ _ _ _ c.pieces.lines c.feed.new.lines c.fill.new.piece _ c.pieces.refused c.in-Ok-feed.some c.pieces.taken c.in-Ok.count c.min-fresh.result
-          before.1 c.in-Ok.ensures.bytes.0 (omega (arith, c.in-Ok.ensures.room)) (omega (arith, c.min-fresh.ensures)) refl (omega (arith, c.in-Ok.ensures.most, c.min-fresh.ensures)) (omega (arith, c.in-Ok.ensures.most, c.min-fresh.ensures)) fed.1,
+      exceeded m c.args.limits.now.script_bytes _ _ _ _ _ _ _ _ _ c.pieces.lines c.feed.new.lines c.fill.new.piece _
+          c.pieces.refused c.in-Ok-feed.some c.pieces.taken c.in-Ok.count c.min-fresh.result
+          before.1 c.in-Ok.ensures.bytes.0 (omega (arith, c.in-Ok.ensures.room)) (omega (arith, c.min-fresh.ensures))
+          refl (omega (arith, c.in-Ok.ensures.most, c.min-fresh.ensures))
+          (omega (arith, c.in-Ok.ensures.most, c.min-fresh.ensures)) fed.1,
     )
 
 pub pieces-preserved : goal.pieces-preserved
@@ -59,9 +80,15 @@ pieces-preserved g c = let all : c.min-fresh.result ≡ c.in-Ok.count = omega (a
       let m = script_machine c.args.limits.now.file_bytes in
       let middle = g.F.Files.files c.pieces.files in
       let before = c.pieces.invariant.reached known fits in
-      let fed = known-on (λ s. Feeds m (whole c.pieces.eng (told_now known middle)) c.pieces.lines (take c.min-fresh.result c.fill.new.piece) (beside_by g.O.Sink g.F.Files c.pieces.out c.pieces.files c.pieces.visits c.pieces.changes) (beside_by g.O.Sink g.F.Files c.feed.new.out c.feed.new.files c.feed.new.visits c.feed.new.changes) s c.feed.new.lines (Ok c.in-Ok-feed.some)) c.feed.new.eng known middle (g.F.Files.files c.feed.new.files) before.0 (c.in-Ok-feed.ensures.fed (told_now known middle) (known-right known middle before.0)) in (
+      let fed = known-on (λ s. Feeds m (whole c.pieces.eng (told_now known middle)) c.pieces.lines
+      (take c.min-fresh.result c.fill.new.piece)
+      (beside_by g.O.Sink g.F.Files c.pieces.out c.pieces.files c.pieces.visits c.pieces.changes)
+      (beside_by g.O.Sink g.F.Files c.feed.new.out c.feed.new.files c.feed.new.visits c.feed.new.changes) s
+      c.feed.new.lines (Ok c.in-Ok-feed.some)) c.feed.new.eng known middle (g.F.Files.files c.feed.new.files)
+      before.0 (c.in-Ok-feed.ensures.fed (told_now known middle) (known-right known middle before.0)) in (
         fed.0,
-        reached-more m _ _ _ _ _ _ _ _ _ c.pieces.lines c.feed.new.lines c.fill.new.piece _ c.pieces.refused c.in-Ok-feed.some c.either-refused.result c.pieces.taken c.in-Ok.count
+        reached-more m _ _ _ _ _ _ _ _ _ c.pieces.lines c.feed.new.lines c.fill.new.piece _ c.pieces.refused
+            c.in-Ok-feed.some c.either-refused.result c.pieces.taken c.in-Ok.count
             before.1 c.in-Ok.ensures.bytes.0 (omega (arith, c.in-Ok.ensures.room)) (ap (λ n. take n c.fill.new.piece) all) fed.1 c.either-refused.ensures,
       );
 }
@@ -72,5 +99,9 @@ pieces-init g c = record {
   reads = omega arith;
   writes = omega arith;
   filings = omega arith;
-  reached = λ known fits. (known-left known _ _ fits refl, reached-known (script_machine c.args.limits.now.file_bytes) _ _ c.args.eng.now known _ c.args.lines.now fits c.requires.lines);
+  reached = λ known fits. (
+    known-left known _ _ fits refl,
+    reached-known (script_machine c.args.limits.now.file_bytes)
+        _ _ c.args.eng.now known _ c.args.lines.now fits c.requires.lines,
+  );
 }

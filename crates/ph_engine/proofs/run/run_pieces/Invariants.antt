@@ -7,14 +7,16 @@ use Rattle.ph_engine.proofs.run.run_pieces.Given as goal
 
 abbrev pub invariant-pieces : goal.invariant-pieces
 invariant-pieces g l =
-    let st = (standing (g.O.Sink.written l.initial.out) (g.O.Sink.amount l.initial.out) (g.F.Files.files l.initial.files) (g.F.Files.faults l.initial.files) l.initial.visits l.initial.changes l.initial.eng) in
+    let st = (standing (g.O.Sink.written l.initial.out) (g.O.Sink.amount l.initial.out)
+    (g.F.Files.files l.initial.files) (g.F.Files.faults l.initial.files) l.initial.visits l.initial.changes l.initial.eng) in
     let now = (standing (g.O.Sink.written l.out) (g.O.Sink.amount l.out) (g.F.Files.files l.files) (g.F.Files.faults l.files) l.visits l.changes l.eng) in
     record {
       within : l.taken ≤ l.limits.script_bytes;
       reads : g.S.Source.faults l.initial.src ≤ g.S.Source.faults l.src;
       writes : g.O.Sink.faults l.initial.out ≤ g.O.Sink.faults l.out;
       filings : g.F.Files.faults l.initial.files ≤ g.F.Files.faults l.files;
-      reached : FromKnown st now (λ s after. Reached (script_machine l.limits.file_bytes) (g.S.Source.left l.initial.src) (g.S.Source.left l.src) st.beside now.beside s after l.lines l.refused l.taken);
+      reached : FromKnown st now (λ s after. Reached (script_machine l.limits.file_bytes)
+          (g.S.Source.left l.initial.src) (g.S.Source.left l.src) st.beside now.beside s after l.lines l.refused l.taken);
     }
 
 abbrev pub decreases-pieces : goal.decreases-pieces

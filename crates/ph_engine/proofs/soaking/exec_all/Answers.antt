@@ -8,7 +8,8 @@ commands-init g c = soak_begun c.args.limits.now.file_bytes c.args.eng.now c.arg
 
 pub commands-preserved : goal.commands-preserved
 commands-preserved g c =
-    soak_next c.args.limits.now.file_bytes c.args.eng.now c.commands.eng c.exec_by.new.self c.args.commands (command_of c.in-Some.command) c.next.new.self _ _ _ c.in-Ok.field-0 refl refl refl
+    soak_next c.args.limits.now.file_bytes c.args.eng.now c.commands.eng c.exec_by.new.self c.args.commands
+    (command_of c.in-Some.command) c.next.new.self _ _ _ c.in-Ok.field-0 refl refl refl
     (rw c.in-Some.ensures.next at c.commands.invariant) c.in-Ok.ensures.done
 
 pub returns-in-Err-NoMemory : goal.returns-in-Err-NoMemory

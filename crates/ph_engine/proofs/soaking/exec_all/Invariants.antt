@@ -5,7 +5,9 @@ use Rattle.ph_engine.proofs.soaking.exec_all.Given as goal
 
 abbrev pub invariant-commands : goal.invariant-commands
 invariant-commands g l =
-    SoakedSoFar l.limits.file_bytes l.initial.eng l.initial.commands (beside None (Some l.initial.replies) None 0 l.initial.visits l.initial.changes) (beside None (Some l.replies) None 0 l.visits l.changes) l.eng l.commands
+    SoakedSoFar l.limits.file_bytes l.initial.eng l.initial.commands
+    (beside None (Some l.initial.replies) None 0 l.initial.visits l.initial.changes)
+    (beside None (Some l.replies) None 0 l.visits l.changes) l.eng l.commands
 
 abbrev pub decreases-commands : goal.decreases-commands
 decreases-commands g l = length l.commands

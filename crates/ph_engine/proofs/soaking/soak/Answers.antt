@@ -10,19 +10,27 @@ exec_all-requires-clause-drawn g c = rw c.new-commands.ensures.commands (all_dra
 pub returns-in-Ok-write_piece-clause-done : goal.returns-in-Ok-write_piece-clause-done
 returns-in-Ok-write_piece-clause-done g c =
     let soaked = rw (c.open_points.ensures, c.new-commands.ensures.commands, c.new-replies.ensures) at c.in-Ok.ensures in
-    let line = c.as_bytes.ensures.value ∙ c.as_str.ensures.value ∙ c.soak_line-line.ensures ∙ sizes_line_is c.args.n (stats_of c.sizes-sizes.result) c.slot.result.now c.exec_all.new.eng.a c.taken.result c.exec_all.new.replies c.sizes-sizes.ensures.sizes c.slot.ensures c.taken.ensures in
+    let line = c.as_bytes.ensures.value ∙ c.as_str.ensures.value ∙ c.soak_line-line.ensures ∙
+    sizes_line_is c.args.n (stats_of c.sizes-sizes.result) c.slot.result.now c.exec_all.new.eng.a c.taken.result
+    c.exec_all.new.replies c.sizes-sizes.ensures.sizes c.slot.ensures c.taken.ensures in
     let small : c.taken.result < 2 ^ 64 = search rules in
     let fits : c.exec_all.new.replies ≤ 2 ^ 64 - 1 = omega (arith, small, c.taken.ensures) in
     let sized = c.sizes-sizes.ensures.visits ∙ ap (λ s. c.exec_all.new.visits + nodes_of s) c.slot.ensures in
-    soak_clean c.args.limits.now.file_bytes c.args.n c.args.start c.args.eng.now c.exec_all.new.eng c.args.visits.now c.exec_all.new.visits c.sizes-sizes.new.visits c.args.changes.now c.exec_all.new.changes c.exec_all.new.replies soaked fits sized _ _
+    soak_clean c.args.limits.now.file_bytes c.args.n c.args.start c.args.eng.now c.exec_all.new.eng c.args.visits.now
+    c.exec_all.new.visits c.sizes-sizes.new.visits c.args.changes.now c.exec_all.new.changes
+    c.exec_all.new.replies soaked fits sized _ _
     (rw line at c.in-Ok-write_piece.ensures.told)
 
 pub returns-in-Err-clause-done : goal.returns-in-Err-clause-done
 returns-in-Err-clause-done g c =
     let soaked = rw (c.open_points.ensures, c.new-commands.ensures.commands, c.new-replies.ensures) at c.in-Ok.ensures in
-    let line = c.as_bytes.ensures.value ∙ c.as_str.ensures.value ∙ c.soak_line-line.ensures ∙ sizes_line_is c.args.n (stats_of c.sizes-sizes.result) c.slot.result.now c.exec_all.new.eng.a c.taken.result c.exec_all.new.replies c.sizes-sizes.ensures.sizes c.slot.ensures c.taken.ensures in
+    let line = c.as_bytes.ensures.value ∙ c.as_str.ensures.value ∙ c.soak_line-line.ensures ∙
+    sizes_line_is c.args.n (stats_of c.sizes-sizes.result) c.slot.result.now c.exec_all.new.eng.a c.taken.result
+    c.exec_all.new.replies c.sizes-sizes.ensures.sizes c.slot.ensures c.taken.ensures in
     let small : c.taken.result < 2 ^ 64 = search rules in
     let fits : c.exec_all.new.replies ≤ 2 ^ 64 - 1 = omega (arith, small, c.taken.ensures) in
     let sized = c.sizes-sizes.ensures.visits ∙ ap (λ s. c.exec_all.new.visits + nodes_of s) c.slot.ensures in
-    soak_cut c.args.limits.now.file_bytes c.args.n c.args.start c.args.eng.now c.exec_all.new.eng c.args.visits.now c.exec_all.new.visits c.sizes-sizes.new.visits c.args.changes.now c.exec_all.new.changes c.exec_all.new.replies soaked fits sized _ _
+    soak_cut c.args.limits.now.file_bytes c.args.n c.args.start c.args.eng.now c.exec_all.new.eng c.args.visits.now
+    c.exec_all.new.visits c.sizes-sizes.new.visits c.args.changes.now c.exec_all.new.changes
+    c.exec_all.new.replies soaked fits sized _ _
     (rw line at c.in-Err.ensures.front)

@@ -15,7 +15,8 @@ loop-step-preserved g c =
     let counted = c.in_ok-back_one.ensures.made (told-true (Ok told) told refl (λ e. some (ap (λ k. k.past) (sym so_far.state) ∙ c.in_ok-back_one.ensures.none.0 e))) in
     record {
       state = c.in_ok-back_one.ensures.back ∙ ap (λ k. back k 1) so_far.state ∙ back-next c.args.kept.now c.loop-step._step more;
-      visits = visits-next c.args.visits.now c.loop-step.visits c.back_one.new.visits c.args.kept.now.width c.loop-step.kept.width c.loop-step._step so_far.visits one.visits width;
+      visits = visits-next c.args.visits.now c.loop-step.visits c.back_one.new.visits c.args.kept.now.width
+          c.loop-step.kept.width c.loop-step._step so_far.visits one.visits width;
       later = omega (arith, so_far.later, one.later);
       changes = omega (arith, so_far.changes, one.changes);
       made = omega (arith, so_far.made, counted);

@@ -20,11 +20,14 @@ loop-row-preserved g c =
       counted = elim c.if-is_none.branch [
         | then-is_none+in_ok-insert w ↦
             rw w.new_points-is
-            (counted-new t.width g.row.D t.table c.args.rows.now i c.row-item.result c.loop-row.new_points w.insert.new.self w.in_ok-insert.field-0 positive c.requires.points good c.loop-row-test.true (found ∙ ap not w.if-is_none.true) c.loop-row.invariant.counted
+            (counted-new t.width g.row.D t.table c.args.rows.now i c.row-item.result c.loop-row.new_points
+            w.insert.new.self w.in_ok-insert.field-0 positive c.requires.points good c.loop-row-test.true
+            (found ∙ ap not w.if-is_none.true) c.loop-row.invariant.counted
             w.as_slice.result (w.as_slice.ensures.value ∙ at) w.in_ok-insert.ensures.updates w.in_ok-insert.ensures.added w.in_ok-insert.ensures.len)
         | else-is_none w ↦
             rw w.new_points-is
-            (counted-old t.width g.row.D t.table c.args.rows.now i c.row-item.result c.loop-row.new_points positive c.requires.points good c.loop-row-test.true (found ∙ ap not w.if-is_none.false) c.loop-row.invariant.counted
+            (counted-old t.width g.row.D t.table c.args.rows.now i c.row-item.result c.loop-row.new_points positive
+            c.requires.points good c.loop-row-test.true (found ∙ ap not w.if-is_none.false) c.loop-row.invariant.counted
             (record { ref_ptr = c.args.rows.ref_ptr; now = row.point }) refl)
       ];
       visits = omega (arith, c.get.ensures.limit, c.loop-row.invariant.visits);

@@ -9,10 +9,14 @@ returns-then-is_eq c =
     let s = c.file-item.result in
     rw c.as_slice.ensures.value
     (found (map file_of c.args.stored.now) c.args.name.now c.loop-file.file-index (file_of s) (rw length-map c.loop-file-test.true)
-    (ap file_of c.file-item.is ∙ sym (get_or-map file_of c.args.stored.now c.loop-file.file-index s (file_of s) c.loop-file-test.true)) (rw (← c.as_str.ensures.value, ← c.cmp.ensures) (sym c.is_eq.ensures ∙ c.if-is_eq.true)) c.loop-file.invariant)
+    (ap file_of c.file-item.is ∙ sym
+    (get_or-map file_of c.args.stored.now c.loop-file.file-index s (file_of s) c.loop-file-test.true))
+    (rw (← c.as_str.ensures.value, ← c.cmp.ensures) (sym c.is_eq.ensures ∙ c.if-is_eq.true)) c.loop-file.invariant)
 
 pub loop-file-preserved : goal.loop-file-preserved
 loop-file-preserved c =
     let s = c.file-item.result in
     not-found (map file_of c.args.stored.now) c.args.name.now c.loop-file.file-index (file_of s) (rw length-map c.loop-file-test.true)
-    (ap file_of c.file-item.is ∙ sym (get_or-map file_of c.args.stored.now c.loop-file.file-index s (file_of s) c.loop-file-test.true)) (rw (← c.as_str.ensures.value, ← c.cmp.ensures) (sym c.is_eq.ensures ∙ c.if-is_eq.false)) c.loop-file.invariant
+    (ap file_of c.file-item.is ∙ sym
+    (get_or-map file_of c.args.stored.now c.loop-file.file-index s (file_of s) c.loop-file-test.true))
+    (rw (← c.as_str.ensures.value, ← c.cmp.ensures) (sym c.is_eq.ensures ∙ c.if-is_eq.false)) c.loop-file.invariant

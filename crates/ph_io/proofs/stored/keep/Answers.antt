@@ -12,4 +12,5 @@ returns-in-Ok-clause-files c =
 pub returns-in-Some-clause-files : goal.returns-in-Some-clause-files
 returns-in-Some-clause-files c =
     let place = c.in-Err.ensures in
-    ap (λ ss. map file_of ss) c.insert_within.ensures.items ∙ map-insert file_of c.args.stored.now.items c.in-Err.i c.fill-in-Err.new.self ∙ rw c.fill-in-Err.ensures.file (sym (rw c.deref.ensures.value at place.1 c.args.bytes.now))
+    ap (λ ss. map file_of ss) c.insert_within.ensures.items ∙ map-insert file_of c.args.stored.now.items c.in-Err.i
+    c.fill-in-Err.new.self ∙ rw c.fill-in-Err.ensures.file (sym (rw c.deref.ensures.value at place.1 c.args.bytes.now))

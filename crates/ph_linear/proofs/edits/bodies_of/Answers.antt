@@ -22,6 +22,7 @@ returns-clause-column c =
     let old = c.args.old.now in
     let n = c.count_in-count.result in
     record {
-      inside = inside n (first_in old).entries c.args.dims c.level_in.result (first_in old).level (length old) ((first_in old).entries - (first_in old).children) c.count_in-count.ensures c.level_in.ensures c.requires.long;
+      inside = inside n (first_in old).entries c.args.dims c.level_in.result (first_in old).level (length old)
+          ((first_in old).entries - (first_in old).children) c.count_in-count.ensures c.level_in.ensures c.requires.long;
       near = near n c.args.dims c.level_in.result (omega (arith, c.count_in-count.ensures)) c.requires.few (omega (arith, c.level_in.ensures, c.requires.low));
     }

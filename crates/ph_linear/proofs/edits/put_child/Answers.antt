@@ -11,7 +11,10 @@ use Rattle.ph_linear.proofs.edits.put_child.Goals.{After-put_table-outline}
 
 -- the words with the new kind and the new body, without the value
 put : (c : After-put_table-outline) → let ws = c.put_table-outline.new.words in
-    IsOutlined c.put_table-outline.result [] ws × (with_values 0 c.put_table-outline.result [] ws ≡ record_in false c.args.dims (first_in c.args.words.now).level (edited_as false c.args.dims c.args.words.now c.args.edit.now))
+    IsOutlined c.put_table-outline.result [] ws ×
+    (with_values 0 c.put_table-outline.result [] ws ≡
+    record_in false c.args.dims (first_in c.args.words.now).level
+    (edited_as false c.args.dims c.args.words.now c.args.edit.now))
 put c =
     let old = c.args.words.now in
     let e = c.args.edit.now in

@@ -43,7 +43,9 @@ returns c =
     let kind : IsColumnOver old kinds e (replicate e.more (field kinds.width (if e.entry.child then 1 else 0))) c.put_field.new.words =
     subst (λ t. IsColumnOver old kinds e (replicate e.more (field kinds.width t)) c.put_field.new.words) (byte e.entry.child) c.put_field.ensures in
     let row : IsColumnOver c.put_field.new.words rows e (bodies (first_in old).level (replicate e.more (take d e.entry.body))) c.put_row.new.words =
-    subst (λ t. IsColumnOver c.put_field.new.words rows e (bodies t (replicate e.more (take d e.entry.body))) c.put_row.new.words) c.level_in-level.ensures c.put_row.ensures in
+    subst (λ t. IsColumnOver c.put_field.new.words rows e (bodies t (replicate e.more (take d e.entry.body)))
+    c.put_row.new.words) c.level_in-level.ensures c.put_row.ensures in
     put-table d old e c.requires.record fit w c.put_field.new.words c.put_row.new.words kinds rows c.requires.entries c.requires.less c.requires.more c.requires.address
-    c.kinds_of-kinds.ensures.at c.kinds_of-kinds.ensures.width c.kinds_of-kinds.ensures.count c.bodies_of-bodies.ensures.at c.bodies_of-bodies.ensures.width c.bodies_of-bodies.ensures.count
+    c.kinds_of-kinds.ensures.at c.kinds_of-kinds.ensures.width c.kinds_of-kinds.ensures.count
+    c.bodies_of-bodies.ensures.at c.bodies_of-bodies.ensures.width c.bodies_of-bodies.ensures.count
     c.put_field.auto.words (c.put_row.auto.words ∙ c.put_field.auto.words) (each-fits c.put_row.new.words c.type_inv.words) kind row

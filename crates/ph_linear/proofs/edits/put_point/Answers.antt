@@ -30,21 +30,25 @@ module _ (c : After-put_table-outline) where
 
   within : c.args.edit.now.place + c.args.edit.now.less ≤ (first_in old).entries
   within =
-      let l : c.args.edit.now.place < (first_in old).entries = inside c.args.dims c.args.edit.now.place old (points-child (entries_as false c.args.dims old) c.args.edit.now.place c.requires.was).0 in
+      let l : c.args.edit.now.place < (first_in old).entries = inside c.args.dims c.args.edit.now.place old
+      (points-child (entries_as false c.args.dims old) c.args.edit.now.place c.requires.was).0 in
       omega (arith, l, c.requires.less)
 
   -- the words with the new kind and the new body fit the outline, and with the value they are the new record
   put : let ws = part_lent c.put_table-outline.new.words c.args.words.now in
       IsOutlined c.put_table-outline.result (c.args.edit.now.value ∷ []) ws
-      × (with_values 0 c.put_table-outline.result (c.args.edit.now.value ∷ []) ws ≡ record_in false c.args.dims (first_in old).level (edited_as false c.args.dims old c.args.edit.now))
+      × (with_values 0 c.put_table-outline.result (c.args.edit.now.value ∷ []) ws ≡
+      record_in false c.args.dims (first_in old).level (edited_as false c.args.dims old c.args.edit.now))
   put =
-      point-changed false c.args.dims old c.args.edit.now c.requires.record fit within c.put_table-outline.result c.put_table-outline.ensures.outline c.put_table-outline.new.words c.args.words.now
+      point-changed false c.args.dims old c.args.edit.now c.requires.record fit within c.put_table-outline.result
+      c.put_table-outline.ensures.outline c.put_table-outline.new.words c.args.words.now
       c.requires.entries c.requires.less c.requires.more c.requires.point c.requires.some c.put_table-outline.auto.words c.put_table-outline.ensures.words
 
 pub put_value-requires-clause-none : goal.put_value-requires-clause-none
 put_value-requires-clause-none c =
     let p = (goal.at.put_value-requires-clause-none c).After-put_table-outline in
-    none false c.args.dims (old p) c.args.edit.now c.requires.record (fit p) (within p) c.put_table-outline.result c.put_table-outline.ensures.outline c.requires.less c.requires.was
+    none false c.args.dims (old p) c.args.edit.now c.requires.record (fit p) (within p) c.put_table-outline.result
+    c.put_table-outline.ensures.outline c.requires.less c.requires.was
 
 pub put_value-requires-clause-outline : goal.put_value-requires-clause-outline
 put_value-requires-clause-outline c = (put (goal.at.put_value-requires-clause-outline c).After-put_table-outline).0

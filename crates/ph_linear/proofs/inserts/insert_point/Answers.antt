@@ -30,16 +30,23 @@ module _ (c : After-columns_of-columns) where
   long = length-take-le c.args.len c.args.words.now c.requires.front
 
   -- how long the words are
-  parts : (length c.args.words.now ≡ 1 + words_for (digits_more c.columns_of-columns.result) + (length old - c.outline_of-outline.result.values + 1)) × (c.outline_of-outline.result.values ≤ 1 + words_for (digits_more c.columns_of-columns.result)) × (c.outline_of-outline.result.values + c.outline_of-outline.result.front ≤ length old)
+  parts : (length c.args.words.now ≡ 1 + words_for (digits_more c.columns_of-columns.result) +
+      (length old - c.outline_of-outline.result.values + 1)) ×
+      (c.outline_of-outline.result.values ≤ 1 + words_for (digits_more c.columns_of-columns.result)) ×
+      (c.outline_of-outline.result.values + c.outline_of-outline.result.front ≤ length old)
   parts =
-      record-long c.args.dims old c.args.edit.now c.requires.record fit within c.requires.less c.requires.more c.requires.point c.requires.entries c.columns_of-columns.result c.columns_of-columns.ensures c.outline_of-outline.result (length c.args.words.now) c.outline_of-outline.ensures c.requires.long
+      record-long c.args.dims old c.args.edit.now c.requires.record fit within c.requires.less c.requires.more
+      c.requires.point c.requires.entries c.columns_of-columns.result c.columns_of-columns.ensures
+      c.outline_of-outline.result (length c.args.words.now) c.outline_of-outline.ensures c.requires.long
 
   first : let o = c.outline_of-outline.result in
       (o.level ≤ 61) × (o.count + 1 ≤ 2 ^ 16) × (length old - o.values + 1 ≤ o.count + 1)
       × (first_word o.level 0 (o.count + 1) (o.count + 1 - (length old - o.values + 1))
       ≡ first_word (first_in old).level 0 (length (edited_as false c.args.dims old c.args.edit.now)) (children (edited_as false c.args.dims old c.args.edit.now)))
   first =
-      counts c.args.dims old c.args.edit.now c.requires.record fit within c.requires.less c.requires.more c.requires.point c.requires.entries c.columns_of-columns.result c.columns_of-columns.ensures c.outline_of-outline.result c.outline_of-outline.ensures
+      counts c.args.dims old c.args.edit.now c.requires.record fit within c.requires.less c.requires.more
+      c.requires.point c.requires.entries c.columns_of-columns.result c.columns_of-columns.ensures
+      c.outline_of-outline.result c.outline_of-outline.ensures
 
   -- the new entry is lawful
   lawful : (c.args.edit.now.entry.addr < 2 ^ c.args.dims) × IsBody c.args.dims (first_in old).level (take c.args.dims c.args.edit.now.entry.body)
@@ -90,7 +97,8 @@ insert-requires-clause-address c = (lawful (goal.at.insert-requires-clause-addre
 
 pub insert-requires-clause-fields : goal.insert-requires-clause-fields
 insert-requires-clause-fields c =
-    subst (λ t. Each (λ x. x < 2 ^ t) (take c.args.dims c.args.edit.now.entry.body)) (sym c.outline_of-outline.ensures.level) (lawful (goal.at.insert-requires-clause-fields c).After-columns_of-columns).1.1
+    subst (λ t. Each (λ x. x < 2 ^ t) (take c.args.dims c.args.edit.now.entry.body))
+    (sym c.outline_of-outline.ensures.level) (lawful (goal.at.insert-requires-clause-fields c).After-columns_of-columns).1.1
 
 pub insert-requires-clause-room : goal.insert-requires-clause-room
 insert-requires-clause-room c = omega (arith, (parts (goal.at.insert-requires-clause-room c).After-columns_of-columns).0, c.open_values.ensures.same)
@@ -123,5 +131,6 @@ returns c =
     c.insert.ensures ∙ ap (λ t. with_fields (runs_with mid cs t c.args.dims e) mid) k.level in
     let one : c.first_of.result ≡ first_word (first_in old).level 0 (length (edited_as false c.args.dims old e)) (children (edited_as false c.args.dims old e)) =
     c.first_of.ensures ∙ ap (λ t. first_word o.level 0 (o.count + 1) (o.count + 1 - (t - o.values + 1))) (sym (long p)) ∙ (first p).3 in
-    opened-record c.args.dims old e c.requires.record (fit p) (within p) c.requires.less c.requires.more c.requires.point c.requires.entries cs c.columns_of-columns.ensures o mid c.insert.new.words c.first_of.result
+    opened-record c.args.dims old e c.requires.record (fit p) (within p) c.requires.less c.requires.more
+    c.requires.point c.requires.entries cs c.columns_of-columns.ensures o mid c.insert.new.words c.first_of.result
     k f m (lawful p).1.0 front values is one

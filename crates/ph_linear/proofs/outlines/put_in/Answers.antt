@@ -18,6 +18,7 @@ returns c =
     let n : ℕ = length ws - 1 - at in
     let next : at + 1 ≡ suc at = omega arith in
     let none : drop (at + 1 + n) ws ≡ [] = drop_all (at + 1 + n) ws (omega (arith, c.requires)) in
-    ap (λ t. slice_set t at v) (c.copy_within.ensures.after ∙ ap (λ t. (take (at + 1) ws ++ take n (drop at ws)) ++ t) none ∙ ap (λ t. (take t ws ++ take n (drop at ws)) ++ []) next)
+    ap (λ t. slice_set t at v) (c.copy_within.ensures.after ∙ ap (λ t. (take (at + 1) ws ++ take n (drop at ws)) ++ t)
+    none ∙ ap (λ t. (take t ws ++ take n (drop at ws)) ++ []) next)
     ∙ over at n v ws (omega (arith, c.requires))
     ∙ ap (λ t. take at ws ++ v ∷ t) (between_is ws at (length ws - 1))

@@ -12,15 +12,23 @@ pub overflow_sub-result : goal.overflow_sub-result
 overflow_sub-result c =
     let words = c.args.words.now in
     let rs : List Read = entries_as false c.args.dims words in
-    let h : children_in (take c.args.i rs) + points_in (take c.args.i rs) ≡ c.args.i = both-counts rs c.args.i (omega (arith, many c.args.dims words, c.requires.within)) in
-    omega (arith, h, children-ones c.args.dims words c.args.i c.requires.record (each-fits words c.type_inv.words) (omega (arith, c.requires.within)), c.ones_before-children.ensures)
+    let h : children_in (take c.args.i rs) + points_in (take c.args.i rs) ≡ c.args.i =
+    both-counts rs c.args.i (omega (arith, many c.args.dims words, c.requires.within)) in
+    omega (
+      arith,
+      h,
+      children-ones c.args.dims words c.args.i c.requires.record (each-fits words c.type_inv.words)
+          (omega (arith, c.requires.within)),
+      c.ones_before-children.ensures,
+    )
 
 pub returns-then-child : goal.returns-then-child
 returns-then-child c =
     let words = c.args.words.now in
     let k : ℕ = c.ones_before-children.result in
     ranked c.args.child (entries_as false c.args.dims words) c.args.i k k (omega (arith, many c.args.dims words, c.requires.within))
-    (children-ones c.args.dims words c.args.i c.requires.record (each-fits words c.type_inv.words) (omega (arith, c.requires.within)) ∙ sym c.ones_before-children.ensures)
+    (children-ones c.args.dims words c.args.i c.requires.record (each-fits words c.type_inv.words)
+    (omega (arith, c.requires.within)) ∙ sym c.ones_before-children.ensures)
     (sym (ap (λ t. if t then k else c.args.i - k) c.if-child.true))
 
 pub returns-else-child : goal.returns-else-child
@@ -28,5 +36,6 @@ returns-else-child c =
     let words = c.args.words.now in
     let k : ℕ = c.ones_before-children.result in
     ranked c.args.child (entries_as false c.args.dims words) c.args.i k (c.args.i - k) (omega (arith, many c.args.dims words, c.requires.within))
-    (children-ones c.args.dims words c.args.i c.requires.record (each-fits words c.type_inv.words) (omega (arith, c.requires.within)) ∙ sym c.ones_before-children.ensures)
+    (children-ones c.args.dims words c.args.i c.requires.record (each-fits words c.type_inv.words)
+    (omega (arith, c.requires.within)) ∙ sym c.ones_before-children.ensures)
     (sym (ap (λ t. if t then k else c.args.i - k) c.if-child.false))

@@ -11,7 +11,9 @@ returns-clause-words c =
     let v = c.args.values in
     let k = c.requires in
     let n : ℕ = v + (o.front + (length ws - (o.values + o.until))) in
-    ap (λ t. take n (slice_set t 0 c.first_of.result)) (c.copy_within-2.ensures.after ∙ ap (λ t. copy_within t (o.values + o.until) (length t) (v + o.front)) c.copy_within.ensures.after)
+    ap (λ t. take n (slice_set t 0 c.first_of.result))
+    (c.copy_within-2.ensures.after ∙ ap (λ t. copy_within t (o.values + o.until) (length t) (v + o.front))
+    c.copy_within.ensures.after)
     ∙ closed-values ws v o.values o.front o.until c.first_of.result k.order k.first k.shorter k.within
     ∙ ap (λ t. slice_set (values_closed v o ws) 0 t) c.first_of.ensures
 

@@ -49,11 +49,13 @@ less_in-requires-clause-rise c =
     let high : ℕ = c.loop-high.high in
     let xs : List ℕ = addresses c.args.dims words in
     let n : length xs ≡ (first_in words).entries = length-addresses d words in
-    let e : c.field-rest.result ≡ digits_at words (64 + (first_in words).entries + low * d) ((high - low) * d) = c.field-rest.ensures ∙ ap (λ t. digits_at words (64 + t + low * d) ((high - low) * d)) c.requires.count in
+    let e : c.field-rest.result ≡ digits_at words (64 + (first_in words).entries + low * d) ((high - low) * d) =
+    c.field-rest.ensures ∙ ap (λ t. digits_at words (64 + t + low * d) ((high - low) * d)) c.requires.count in
     let w : high ≤ (first_in words).entries = omega (arith, v.within, c.requires.count) in
     let one = λ (i : ℕ) (b : i < high - low). one-of d words low high c.field-rest.result i c.requires.record (each-fits words c.type_inv.words) w v.ordered e b in
     λ i j b l. subst (λ t. t ≤ c.field-rest.result / 2 ^ (d * (high - low - 1 - j)) % 2 ^ d) (sym (one i (omega (arith, b, l))))
-    (subst (λ t. slice_index_or xs (low + i) 0 ≤ t) (sym (one j l)) (rises-most xs (low + i) (low + j) (rise d words c.requires.record) (omega (arith, b)) (omega (arith, l, n, w))))
+    (subst (λ t. slice_index_or xs (low + i) 0 ≤ t) (sym (one j l))
+    (rises-most xs (low + i) (low + j) (rise d words c.requires.record) (omega (arith, b)) (omega (arith, l, n, w))))
 
 pub returns-clause-value : goal.returns-clause-value
 returns-clause-value c =
@@ -65,7 +67,8 @@ returns-clause-value c =
     let k : ℕ = c.less_in.result in
     let xs : List ℕ = addresses c.args.dims words in
     let n : length xs ≡ (first_in words).entries = length-addresses d words in
-    let e : c.field-rest.result ≡ digits_at words (64 + (first_in words).entries + low * d) ((high - low) * d) = c.field-rest.ensures ∙ ap (λ t. digits_at words (64 + t + low * d) ((high - low) * d)) c.requires.count in
+    let e : c.field-rest.result ≡ digits_at words (64 + (first_in words).entries + low * d) ((high - low) * d) =
+    c.field-rest.ensures ∙ ap (λ t. digits_at words (64 + t + low * d) ((high - low) * d)) c.requires.count in
     let w : high ≤ (first_in words).entries = omega (arith, v.within, c.requires.count) in
     let one = λ (i : ℕ) (b : i < high - low). one-of d words low high c.field-rest.result i c.requires.record (each-fits words c.type_inv.words) w v.ordered e b in
     first-at xs c.args.addr (low + k) (omega (arith, n, w, v.ordered, c.less_in.ensures.within))

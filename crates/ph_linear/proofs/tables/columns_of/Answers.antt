@@ -42,7 +42,8 @@ returns c =
         bodies = next ac.at ac.width kc.count n c.args.dims bc.at k.count a.width two;
         bodies_many = b.count ∙ sym k.count;
         inside = ends bc.at bc.width bc.count kc.count _ (b.count ∙ sym k.count) b.column.inside;
-        near = near n c.args.dims (first_in old).level bc.at bc.width kc.count kc.width ac.width (omega arith) c.requires.few c.requires.low b.at b.width k.count k.width a.width;
+        near = near n c.args.dims (first_in old).level bc.at bc.width kc.count kc.width ac.width (omega arith)
+            c.requires.few c.requires.low b.at b.width k.count k.width a.width;
       };
       many = k.count;
       addresses_wide = a.width;

@@ -13,7 +13,8 @@ put-requires-clause-value g c =
     let i : ℕ = c.loop-i.i in
     let l : i < length es = omega (arith, c.loop-i-test.true, c.loop-i.invariant.end) in
     let q = given es i p.child p.addr (take g.P.Dims.D p.body) l c.at.ensures.entry in
-    subst (λ t. p.addr < 2 ^ t) (sym c.D.ensures) (subst (λ t. t < 2 ^ g.P.Dims.D) q.same_addr (rising-at g.P.Dims.D c.requires.entries.0 0 es i c.requires.entries.1 l).0)
+    subst (λ t. p.addr < 2 ^ t) (sym c.D.ensures)
+    (subst (λ t. t < 2 ^ g.P.Dims.D) q.same_addr (rising-at g.P.Dims.D c.requires.entries.0 0 es i c.requires.entries.1 l).0)
 
 pub loop-i-preserved : goal.loop-i-preserved
 loop-i-preserved g c =

@@ -18,7 +18,8 @@ invariant-loop-item g l = record {
   order : IsHeap waiting_cmp (heap_items l.queue);
   opened : Each (IsOpened l.w g.row.D) l.opened.items;
   waits : AreWaiting l.w (map (coordinate l.w) l.center) l.opened.items (heap_items l.queue);
-  nearing : IsNearing l.w l.n (map (coordinate l.w) l.center) (rows l.w g.row.D (option_copied l.fn.root)) (heap_items l.ranking.rows) (line_of l.w l.opened.items (heap_items l.queue)) l.fn.visits l.visits;
+  nearing : IsNearing l.w l.n (map (coordinate l.w) l.center) (rows l.w g.row.D (option_copied l.fn.root))
+      (heap_items l.ranking.rows) (line_of l.w l.opened.items (heap_items l.queue)) l.fn.visits l.visits;
 }
 
 abbrev pub decreases-loop-item : goal.decreases-loop-item

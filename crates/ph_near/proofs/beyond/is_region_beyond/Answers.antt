@@ -10,7 +10,8 @@ pub squared_gap-sum-requires-clause-low : goal.squared_gap-sum-requires-clause-l
 squared_gap-sum-requires-clause-low c =
     let known = c.args.known.now in
     let digit = c.args.addr / 2 ^ (length known - 1 - c.loop-i.i) in
-    let room = corner-room c.args.level (get_or known c.loop-i.i 0) (digit % 2) c.requires.level (small-at 62 (length known) c.loop-i.i known c.requires.known) (mod-lt digit (omega arith)) in
+    let room = corner-room c.args.level (get_or known c.loop-i.i 0) (digit % 2) c.requires.level
+    (small-at 62 (length known) c.loop-i.i known c.requires.known) (mod-lt digit (omega arith)) in
     omega (arith, room, c.digits_above.ensures.value, c.address_digit-digit.ensures.value)
 
 pub returns-then-sum-limit-clause-beyond : goal.returns-then-sum-limit-clause-beyond
@@ -21,7 +22,8 @@ returns-then-sum-limit-clause-beyond c _ =
     let l = c.loop-i-test.true in
     let whole = low-whole level (get_or known i 0) (c.args.addr / 2 ^ (length known - 1 - i) % 2) _ _ c.digits_above.ensures.value c.address_digit-digit.ensures.value in
     let here = corner-at level c.args.addr i _ _ known l c.digits_above.ensures.value c.address_digit-digit.ensures.value in
-    let first = gaps-first (level - 1) i _ _ (corner_of level c.args.addr known) c.args.center.now (omega (arith, l, corner-long level c.args.addr known)) (omega (arith, l, c.requires.center.0)) here
+    let first = gaps-first (level - 1) i _ _ (corner_of level c.args.addr known) c.args.center.now
+    (omega (arith, l, corner-long level c.args.addr known)) (omega (arith, l, c.requires.center.0)) here
     (c.squared_gap-sum.ensures.value ∙ sym (ap (λ n. n * n) (gap-whole level _ (get_or c.args.center.now i 0) (omega (arith, c.if-level-eq0.false)) whole))) in
     (omega (arith, c.if-level-eq0.false), omega (arith, c.if-sum-limit.true, c.loop-i.invariant.value, first))
 
@@ -33,12 +35,14 @@ loop-i-preserved c =
     let l = c.loop-i-test.true in
     let whole = low-whole level (get_or known i 0) (c.args.addr / 2 ^ (length known - 1 - i) % 2) _ _ c.digits_above.ensures.value c.address_digit-digit.ensures.value in
     let here = corner-at level c.args.addr i _ _ known l c.digits_above.ensures.value c.address_digit-digit.ensures.value in
-    let first = gaps-first (level - 1) i _ _ (corner_of level c.args.addr known) c.args.center.now (omega (arith, l, corner-long level c.args.addr known)) (omega (arith, l, c.requires.center.0)) here
+    let first = gaps-first (level - 1) i _ _ (corner_of level c.args.addr known) c.args.center.now
+    (omega (arith, l, corner-long level c.args.addr known)) (omega (arith, l, c.requires.center.0)) here
     (c.squared_gap-sum.ensures.value ∙ sym (ap (λ n. n * n) (gap-whole level _ (get_or c.args.center.now i 0) (omega (arith, c.if-level-eq0.false)) whole))) in
     record {
       value = omega (arith, c.loop-i.invariant.value, first);
       within = omega (arith, c.if-sum-limit.false);
-      limit = room-on c.loop-i.sum c.squared_gap-sum.result (length known - i) (length known - (i + 1)) greatest_square (omega (arith, l)) c.squared_gap-sum.ensures.limit c.loop-i.invariant.limit;
+      limit = room-on c.loop-i.sum c.squared_gap-sum.result (length known - i) (length known - (i + 1))
+          greatest_square (omega (arith, l)) c.squared_gap-sum.ensures.limit c.loop-i.invariant.limit;
     }
 
 pub returns-clause-within : goal.returns-clause-within
@@ -46,7 +50,8 @@ returns-clause-within c _ l =
     let known = c.args.known.now in
     let corner = corner_of c.args.level c.args.addr known in
     let none : drop c.loop-i.i corner ≡ [] = drop-all c.loop-i.i corner (omega (arith, c.loop-i-test.false, corner-long c.args.level c.args.addr known)) in
-    let rest : gaps_squared (c.args.level - 1) (drop c.loop-i.i corner) (drop c.loop-i.i c.args.center.now) ≡ 0 = ap (λ t. gaps_squared (c.args.level - 1) t (drop c.loop-i.i c.args.center.now)) none in
+    let rest : gaps_squared (c.args.level - 1) (drop c.loop-i.i corner) (drop c.loop-i.i c.args.center.now) ≡ 0 =
+    ap (λ t. gaps_squared (c.args.level - 1) t (drop c.loop-i.i c.args.center.now)) none in
     omega (arith, c.loop-i.invariant.value, c.loop-i.invariant.within, rest)
   where
     drop-all : (i : ℕ) (xs : List ℕ) → length xs ≤ i → drop i xs ≡ []

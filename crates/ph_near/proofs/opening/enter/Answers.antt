@@ -19,7 +19,8 @@ join_child-requires-clause-body g c =
 pub join_child-requires-clause-zeros : goal.join_child-requires-clause-zeros
 join_child-requires-clause-zeros g c =
     let zeros = child-zeros c.args.from.now c.requires.opened c.spot-spot.result.place c.spot-spot.ensures.spot.within c.in-Child.child.now c.in-Child.ensures in
-    subst (λ k. HasZerosFrom k (body_at (entries (shown c.args.from.now.node)) c.spot-spot.result.place)) (sym (c.level.ensures.value ∙ ap (λ m. m.level) c.visit-node.ensures.shows)) zeros
+    subst (λ k. HasZerosFrom k (body_at (entries (shown c.args.from.now.node)) c.spot-spot.result.place))
+    (sym (c.level.ensures.value ∙ ap (λ m. m.level) c.visit-node.ensures.shows)) zeros
 
 pub join_child-requires-clause-known : goal.join_child-requires-clause-known
 join_child-requires-clause-known g c =
@@ -30,7 +31,8 @@ pub returns-clause-opened : goal.returns-clause-opened
 returns-clause-opened g c =
     let i = c.spot-spot.result.place in
     let there = c.spot-spot.ensures.spot.within in
-    (child-opened c.args.from.now c.requires.opened i there c.in-Child.child.now c.in-Child.ensures (record { node = c.visit-node.result; known = c.join_child.new.known }) c.visit-node.ensures.shows
+    (child-opened c.args.from.now c.requires.opened i there c.in-Child.child.now c.in-Child.ensures
+    (record { node = c.visit-node.result; known = c.join_child.new.known }) c.visit-node.ensures.shows
     (c.join_child.ensures ∙ joined-is c.args.from.now c.requires.opened i there c.spot-spot.result c.spot-spot.ensures.spot refl)).0
 
 pub returns-clause-entered : goal.returns-clause-entered
@@ -38,5 +40,6 @@ returns-clause-entered g c =
     let i = c.spot-spot.result.place in
     let there = c.spot-spot.ensures.spot.within in
     subst (λ i. IsEntered c.args.w c.args.from.now i (record { node = c.visit-node.result; known = c.join_child.new.known })) c.spot-spot.ensures.place
-    (child-opened c.args.from.now c.requires.opened i there c.in-Child.child.now c.in-Child.ensures (record { node = c.visit-node.result; known = c.join_child.new.known }) c.visit-node.ensures.shows
+    (child-opened c.args.from.now c.requires.opened i there c.in-Child.child.now c.in-Child.ensures
+    (record { node = c.visit-node.result; known = c.join_child.new.known }) c.visit-node.ensures.shows
     (c.join_child.ensures ∙ joined-is c.args.from.now c.requires.opened i there c.spot-spot.result c.spot-spot.ensures.spot refl)).1

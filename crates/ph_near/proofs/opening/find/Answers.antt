@@ -27,7 +27,9 @@ returns-then-is_point_beyond-clause-tried g c =
     let o = c.args.from.now in
     let i = c.args.spot.place in
     let there = c.requires.spot.within in
-    let far = ap (λ k. entry_gap (shown o.node).level k c.args.center.now (what_at (entries (shown o.node)) i)) (joined-is o c.requires.opened i there c.args.spot c.requires.spot refl) ∙ place-distance o c.requires.opened i there c.args.center.now c.requires.point in
+    let far = ap (λ k. entry_gap (shown o.node).level k c.args.center.now (what_at (entries (shown o.node)) i))
+    (joined-is o c.requires.opened i there c.args.spot c.requires.spot refl) ∙ place-distance o c.requires.opened
+    i there c.args.center.now c.requires.point in
     inl (
       refl,
       c.limit.ensures.beyond (item_distance c.args.w (map (coordinate c.args.w) c.args.center.now) (place_item c.args.w c.args.from.now c.args.spot.place))
@@ -45,7 +47,9 @@ offset_distance-distance-requires-clause-first g c =
     let o = c.args.from.now in
     let i = c.args.spot.place in
     let there = c.requires.spot.within in
-    subst (λ ks. Each (λ x. x < 2 ^ c.args.w) ks) (sym (c.join.ensures.known ∙ joined-is o c.requires.opened i there c.args.spot c.requires.spot refl)) (joined-body o c.requires.opened i there).1
+    subst (λ ks. Each (λ x. x < 2 ^ c.args.w) ks)
+    (sym (c.join.ensures.known ∙ joined-is o c.requires.opened i there c.args.spot c.requires.spot refl))
+    (joined-body o c.requires.opened i there).1
 
 pub returns-then-distance-limit-clause-tried : goal.returns-then-distance-limit-clause-tried
 returns-then-distance-limit-clause-tried g c =
@@ -53,7 +57,10 @@ returns-then-distance-limit-clause-tried g c =
     let o = c.args.from.now in
     let i = c.args.spot.place in
     let there = c.requires.spot.within in
-    let f = place-found o c.requires.opened i there c.args.center.now c.requires.point (record { distance = c.offset_distance-distance.result; known = c.join.new.known; value = c.in-Value.value }) (c.join.ensures.known ∙ joined-is o c.requires.opened i there c.args.spot c.requires.spot refl) c.offset_distance-distance.ensures refl c.in-Value.ensures in
+    let f = place-found o c.requires.opened i there c.args.center.now c.requires.point
+    (record { distance = c.offset_distance-distance.result; known = c.join.new.known; value = c.in-Value.value })
+    (c.join.ensures.known ∙ joined-is o c.requires.opened i there c.args.spot c.requires.spot refl)
+    c.offset_distance-distance.ensures refl c.in-Value.ensures in
     let far = ap (item_distance c.args.w (map (coordinate c.args.w) c.args.center.now)) f.1 ∙ sym c.offset_distance-distance.ensures in
     inl (
       refl,
@@ -67,5 +74,13 @@ returns-clause-tried g c =
     let o = c.args.from.now in
     let i = c.args.spot.place in
     let there = c.requires.spot.within in
-    let f = place-found o c.requires.opened i there c.args.center.now c.requires.point (record { distance = c.offset_distance-distance.result; known = c.join.new.known; value = c.in-Value.value }) (c.join.ensures.known ∙ joined-is o c.requires.opened i there c.args.spot c.requires.spot refl) c.offset_distance-distance.ensures refl c.in-Value.ensures in
-    on_ok_weaker c.add.result (λ a. inr (record { distance = c.offset_distance-distance.result; known = c.join.new.known; value = c.in-Value.value }, f.0, f.1, a)) c.add.ensures.added
+    let f = place-found o c.requires.opened i there c.args.center.now c.requires.point
+    (record { distance = c.offset_distance-distance.result; known = c.join.new.known; value = c.in-Value.value })
+    (c.join.ensures.known ∙ joined-is o c.requires.opened i there c.args.spot c.requires.spot refl)
+    c.offset_distance-distance.ensures refl c.in-Value.ensures in
+    on_ok_weaker c.add.result (λ a. inr (
+      record { distance = c.offset_distance-distance.result; known = c.join.new.known; value = c.in-Value.value },
+      f.0,
+      f.1,
+      a,
+    )) c.add.ensures.added

@@ -19,8 +19,12 @@ loop-place-init g c =
       n = refl;
       ranking = c.requires.ranking;
       order = c.requires.order;
-      waits = subst (λ os. AreWaiting c.args.w (map (coordinate c.args.w) c.args.center.now) os (heap_items c.args.queue.now)) (sym more) (later-waits c.args.w q os c.args.from.now waits c.requires.waits);
-      kept = subst (λ is. IsKept c.args.w c.args.ranking.now.n (map (coordinate c.args.w) c.args.center.now) (heap_items c.args.ranking.now.rows) (opened_items c.args.w c.args.from.now ++ line_of c.args.w c.args.opened.now.items (heap_items c.args.queue.now)) (heap_items c.args.ranking.now.rows) (opened_items c.args.w c.args.from.now ++ is))
+      waits = subst (λ os. AreWaiting c.args.w (map (coordinate c.args.w) c.args.center.now) os
+          (heap_items c.args.queue.now)) (sym more) (later-waits c.args.w q os c.args.from.now waits c.requires.waits);
+      kept = subst (λ is. IsKept c.args.w c.args.ranking.now.n (map (coordinate c.args.w) c.args.center.now)
+          (heap_items c.args.ranking.now.rows)
+          (opened_items c.args.w c.args.from.now ++ line_of c.args.w c.args.opened.now.items
+          (heap_items c.args.queue.now)) (heap_items c.args.ranking.now.rows) (opened_items c.args.w c.args.from.now ++ is))
           (sym (ap (λ os. line_of c.args.w os waits) more ∙ later-line c.args.w q os c.args.from.now waits c.requires.waits))
           (kept-all (all ++ line_of c.args.w os waits));
     }
@@ -50,8 +54,16 @@ loop-place-preserved g c =
     let os = c.keep.new.opened.items in
     let at = c.len-at.result in
     let place = c.loop-place.place in
-    let inside : (c.len-at.result < length c.keep.new.opened.items) × (opened_at c.keep.new.opened.items c.len-at.result ≡ c.args.from.now) = subst (λ os. (c.len-at.result < length os) × (opened_at os c.len-at.result ≡ c.args.from.now)) (sym c.in_ok-keep.ensures) (last-at old from at (omega (arith, c.len-at.ensures, c.args.opened.now.ok.0))) in
-    let treated : IsTreated c.args.ranking.now.n c.args.w (map (coordinate c.args.w) c.args.center.now) c.len-at.result c.args.from.now c.loop-place.place (heap_items c.loop-place.ranking.rows) (heap_items c.treat.new.ranking.rows) (heap_items c.loop-place.queue) (heap_items c.treat.new.queue) = subst (λ n. IsTreated n c.args.w (map (coordinate c.args.w) c.args.center.now) c.len-at.result c.args.from.now c.loop-place.place (heap_items c.loop-place.ranking.rows) (heap_items c.treat.new.ranking.rows) (heap_items c.loop-place.queue) (heap_items c.treat.new.queue)) c.loop-place.invariant.n c.in_ok-treat.ensures.treated in
+    let inside : (c.len-at.result < length c.keep.new.opened.items) ×
+    (opened_at c.keep.new.opened.items c.len-at.result ≡ c.args.from.now) =
+    subst (λ os. (c.len-at.result < length os) × (opened_at os c.len-at.result ≡ c.args.from.now))
+    (sym c.in_ok-keep.ensures) (last-at old from at (omega (arith, c.len-at.ensures, c.args.opened.now.ok.0))) in
+    let treated : IsTreated c.args.ranking.now.n c.args.w (map (coordinate c.args.w) c.args.center.now)
+    c.len-at.result c.args.from.now c.loop-place.place (heap_items c.loop-place.ranking.rows)
+    (heap_items c.treat.new.ranking.rows) (heap_items c.loop-place.queue) (heap_items c.treat.new.queue) =
+    subst (λ n. IsTreated n c.args.w (map (coordinate c.args.w) c.args.center.now) c.len-at.result c.args.from.now
+    c.loop-place.place (heap_items c.loop-place.ranking.rows) (heap_items c.treat.new.ranking.rows)
+    (heap_items c.loop-place.queue) (heap_items c.treat.new.queue)) c.loop-place.invariant.n c.in_ok-treat.ensures.treated in
     let more = items-more w (shown from.node).level place from.known (shown from.node).chain (omega (arith, c.loop-place-test.true, c.len-place-end.ensures)) in
     record {
       n = c.treat.ensures.n ∙ c.loop-place.invariant.n;
@@ -59,13 +71,22 @@ loop-place-preserved g c =
       order = c.in_ok-treat.ensures.order;
       waits = treated-waits os at from place inside treated c.loop-place.invariant.waits;
       kept = kept-then c.loop-place.invariant.kept
-          (subst (λ is. IsKept c.args.w c.args.ranking.now.n (map (coordinate c.args.w) c.args.center.now) (heap_items c.loop-place.ranking.rows) (is ++ line_of c.args.w c.keep.new.opened.items (heap_items c.loop-place.queue)) (heap_items c.treat.new.ranking.rows) (drop (c.loop-place.place + 1) (opened_items c.args.w c.args.from.now) ++ line_of c.args.w c.keep.new.opened.items (heap_items c.treat.new.queue))) (sym more)
+          (subst (λ is. IsKept c.args.w c.args.ranking.now.n (map (coordinate c.args.w) c.args.center.now)
+          (heap_items c.loop-place.ranking.rows)
+          (is ++ line_of c.args.w c.keep.new.opened.items (heap_items c.loop-place.queue))
+          (heap_items c.treat.new.ranking.rows)
+          (drop (c.loop-place.place + 1) (opened_items c.args.w c.args.from.now) ++
+          line_of c.args.w c.keep.new.opened.items (heap_items c.treat.new.queue))) (sym more)
           (treated-kept os at from place inside treated (drop (place + 1) (opened_items w from))));
     }
 
 pub returns-clause-kept : goal.returns-clause-kept
 returns-clause-kept g c =
     let from = c.args.from.now in
-    subst (λ is. IsKept c.args.w c.args.ranking.now.n (map (coordinate c.args.w) c.args.center.now) (heap_items c.args.ranking.now.rows) (opened_items c.args.w c.args.from.now ++ line_of c.args.w c.args.opened.now.items (heap_items c.args.queue.now)) (heap_items c.loop-place.ranking.rows) (is ++ line_of c.args.w c.keep.new.opened.items (heap_items c.loop-place.queue)))
+    subst (λ is. IsKept c.args.w c.args.ranking.now.n (map (coordinate c.args.w) c.args.center.now)
+    (heap_items c.args.ranking.now.rows)
+    (opened_items c.args.w c.args.from.now ++ line_of c.args.w c.args.opened.now.items
+    (heap_items c.args.queue.now)) (heap_items c.loop-place.ranking.rows)
+    (is ++ line_of c.args.w c.keep.new.opened.items (heap_items c.loop-place.queue)))
     (items-none c.args.w (shown from.node).level c.loop-place.place from.known (shown from.node).chain (omega (arith, c.loop-place-test.false, c.len-place-end.ensures)))
     c.loop-place.invariant.kept

@@ -13,5 +13,7 @@ invariant-loop-place g l = record {
   ranking : IsRanking l.ranking;
   order : IsHeap waiting_cmp (heap_items l.queue);
   waits : AreWaiting l.w (map (coordinate l.w) l.center) l.opened.items (heap_items l.queue);
-  kept : IsKept l.w l.fn.ranking.n (map (coordinate l.w) l.center) (heap_items l.fn.ranking.rows) (opened_items l.w l.from ++ line_of l.w l.fn.opened.items (heap_items l.fn.queue)) (heap_items l.ranking.rows) (drop l.place (opened_items l.w l.from) ++ line_of l.w l.opened.items (heap_items l.queue));
+  kept : IsKept l.w l.fn.ranking.n (map (coordinate l.w) l.center) (heap_items l.fn.ranking.rows)
+      (opened_items l.w l.from ++ line_of l.w l.fn.opened.items (heap_items l.fn.queue)) (heap_items l.ranking.rows)
+      (drop l.place (opened_items l.w l.from) ++ line_of l.w l.opened.items (heap_items l.queue));
 }

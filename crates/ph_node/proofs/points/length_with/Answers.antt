@@ -8,18 +8,38 @@ use Rattle.ph_node.proofs.points.length_with.Goals as goal
 
 pub size-requires-clause-entries : goal.size-requires-clause-entries
 size-requires-clause-entries g c =
-    omega (arith, c.count-n.ensures, ap (λ u. (first_in u).entries) c.words-words.ensures, count_more _ _ _ c.requires.edit c.requires.less c.requires.more c.requires.point, few_with _ _ _ c.requires.edit, ap (λ d. 2 ^ d) c.D-dims.ensures)
+    omega (
+      arith,
+      c.count-n.ensures,
+      ap (λ u. (first_in u).entries) c.words-words.ensures,
+      count_more _ _ _ c.requires.edit c.requires.less c.requires.more c.requires.point,
+      few_with _ _ _ c.requires.edit,
+      ap (λ d. 2 ^ d) c.D-dims.ensures,
+    )
 
 pub returns-clause-value : goal.returns-clause-value
 returns-clause-value g c =
     let ws = c.args.block.now.words in
     let n : c.count-n.result + 1 ≡ (first_in ws).entries + 1 = omega (arith, c.count-n.ensures, ap (λ u. (first_in u).entries) c.words-words.ensures) in
-    let p : c.count-n.result + 1 - c.count-children.result + (first_in ws).children ≡ c.count-n.result + 1 = omega (arith, n, c.count-children.ensures.value, c.requires.children, c.requires.edit.source.laid.tables.kids) in
+    let p : c.count-n.result + 1 - c.count-children.result + (first_in ws).children ≡ c.count-n.result + 1 =
+    omega (arith, n, c.count-children.ensures.value, c.requires.children, c.requires.edit.source.laid.tables.kids) in
     c.size.ensures.value
     ∙ ap (λ d. words_wanted d c.level_in.result (c.count-n.result + 1) (c.count-n.result + 1 - c.count-children.result)) c.D-dims.ensures
-    ∙ words_more g.P.Dims.D ws c.args.edit.now c.requires.edit c.requires.less c.requires.more c.requires.point _ _ _ (c.level_in.ensures ∙ ap (λ u. (first_in u).level) c.words-words.ensures) n p
+    ∙ words_more g.P.Dims.D ws c.args.edit.now c.requires.edit c.requires.less c.requires.more c.requires.point _ _ _
+    (c.level_in.ensures ∙ ap (λ u. (first_in u).level) c.words-words.ensures) n p
 
 pub returns-clause-limit : goal.returns-clause-limit
 returns-clause-limit g c =
     let wide : 2 ^ g.P.Dims.D ≤ 2 ^ 16 = pow_mono c.requires.edit.source.laid.tables.few in
-    omega (arith, c.size.ensures.limit, wide, c.count-n.ensures, ap (λ u. (first_in u).entries) c.words-words.ensures, count_more _ _ _ c.requires.edit c.requires.less c.requires.more c.requires.point, few_with _ _ _ c.requires.edit, c.count-children.ensures.value, c.requires.children, c.requires.edit.source.laid.tables.kids)
+    omega (
+      arith,
+      c.size.ensures.limit,
+      wide,
+      c.count-n.ensures,
+      ap (λ u. (first_in u).entries) c.words-words.ensures,
+      count_more _ _ _ c.requires.edit c.requires.less c.requires.more c.requires.point,
+      few_with _ _ _ c.requires.edit,
+      c.count-children.ensures.value,
+      c.requires.children,
+      c.requires.edit.source.laid.tables.kids,
+    )

@@ -15,9 +15,12 @@ overflow_sub-left g c =
 pub lay_out-requires-clause-room : goal.lay_out-requires-clause-room
 lay_out-requires-clause-room g c =
     let ws = c.args.block.now.words in
-    let told = relaid g.P.Dims.D c.D-dims.result c.count-left.result ws c.words-words.result.now c.changes_layout.result c.D-dims.ensures c.words-words.ensures c.count-left.ensures c.changes_layout.ensures in
+    let told = relaid g.P.Dims.D c.D-dims.result c.count-left.result ws c.words-words.result.now
+    c.changes_layout.result c.D-dims.ensures c.words-words.ensures c.count-left.ensures c.changes_layout.ensures in
     let yes : is_relaid g.P.Dims.D (first_in ws).level (first_in ws).entries ≡ true = sym told ∙ c.if-changes_layout.true in
-    let room : length ws + length c.args.block.now.values ≤ room_of c.in-Some.words = subst (λ s. MatchOption s ⊥ (λ w. length ws + length c.args.block.now.values ≤ room_of w)) c.in-Some.is (c.requires.room yes) in
+    let room : length ws + length c.args.block.now.values ≤ room_of c.in-Some.words =
+    subst (λ s. MatchOption s ⊥ (λ w. length ws + length c.args.block.now.values ≤ room_of w)) c.in-Some.is
+    (c.requires.room yes) in
     omega (arith, room, shorter_with _ _ _ c.requires.edit c.requires.less c.requires.more)
 
 pub remove_entry-requires-clause-edit : goal.remove_entry-requires-clause-edit
@@ -28,4 +31,6 @@ pub remove_entry-requires-clause-layout : goal.remove_entry-requires-clause-layo
 remove_entry-requires-clause-layout g c =
     let ws = c.args.block.now.words in
     subst (λ d. is_cube d (first_in ws).level (length (with_edit d ws c.args.edit.now)) ≡ has_cube d (first_in ws)) (sym c.D-dims.ensures)
-    (stays_less g.P.Dims.D ws c.args.edit.now c.requires.edit c.requires.less c.requires.more c.D-dims.result c.count-left.result c.words-words.result.now c.changes_layout.result c.D-dims.ensures c.words-words.ensures c.count-left.ensures c.changes_layout.ensures c.if-changes_layout.false)
+    (stays_less g.P.Dims.D ws c.args.edit.now c.requires.edit c.requires.less c.requires.more c.D-dims.result
+    c.count-left.result c.words-words.result.now c.changes_layout.result c.D-dims.ensures c.words-words.ensures
+    c.count-left.ensures c.changes_layout.ensures c.if-changes_layout.false)

@@ -7,9 +7,12 @@ overflow_sub-step c = two-digits c.ilog2.result c.args.room c.if-room-le32.false
 
 pub returns-clause-limit : goal.returns-clause-limit
 returns-clause-limit c =
-    rounded-below c.ilog2.result c.args.room _ (two-digits c.ilog2.result c.args.room c.if-room-le32.false c.ilog2.ensures.next_power_gt) c.ilog2.ensures.power_le (omega arith) c.requires
+    rounded-below c.ilog2.result c.args.room _
+    (two-digits c.ilog2.result c.args.room c.if-room-le32.false c.ilog2.ensures.next_power_gt)
+    c.ilog2.ensures.power_le (omega arith) c.requires
 
 pub returns-clause-rounded : goal.returns-clause-rounded
 returns-clause-rounded c _ =
     let two = two-digits c.ilog2.result c.args.room c.if-room-le32.false c.ilog2.ensures.next_power_gt in
-    rounded-steps c.ilog2.result c.args.room _ two c.ilog2.ensures.power_le c.ilog2.ensures.next_power_gt (omega (arith, quarter c.ilog2.result two, c.ilog2.ensures.power_le, c.requires))
+    rounded-steps c.ilog2.result c.args.room _ two c.ilog2.ensures.power_le c.ilog2.ensures.next_power_gt
+    (omega (arith, quarter c.ilog2.result two, c.ilog2.ensures.power_le, c.requires))

@@ -20,11 +20,15 @@ returns-then-child-clause-nodes g c =
     ap nodes_of (c.insert.ensures.values ∙ ap (λ u. insert u c.args.k c.only_child.result) c.remove-node.ensures.values)
     ∙ nodes-again c.args.block.now.values c.args.k c.only_child.result l
     ∙ ap (λ n. edited c.args.k 1 1 n (nodes_of c.args.block.now.values)) (c.only_child.ensures ∙ ap (λ (n : PlainNode). node_at (nodes_held (entries n)) 0) a)
-    ∙ ap (λ (b : Bool). edited c.args.k 1 (if b then 1 else 0) (node_at (nodes_held (entries (node_at (nodes_of c.args.block.now.values) c.args.k))) 0) (nodes_of c.args.block.now.values)) (sym c.if-child.true)
+    ∙ ap (λ (b : Bool). edited c.args.k 1 (if b then 1 else 0)
+    (node_at (nodes_held (entries (node_at (nodes_of c.args.block.now.values) c.args.k))) 0)
+    (nodes_of c.args.block.now.values)) (sym c.if-child.true)
 
 pub returns-else-child-clause-nodes : goal.returns-else-child-clause-nodes
 returns-else-child-clause-nodes g c =
     let l : c.args.k < length c.args.block.now.values = c.requires.within in
     ap nodes_of c.remove-node.ensures.values
     ∙ nodes-gone c.args.block.now.values c.args.k c.remove-node.result (node_at (nodes_held (entries (node_at (nodes_of c.args.block.now.values) c.args.k))) 0) l
-    ∙ ap (λ (b : Bool). edited c.args.k 1 (if b then 1 else 0) (node_at (nodes_held (entries (node_at (nodes_of c.args.block.now.values) c.args.k))) 0) (nodes_of c.args.block.now.values)) (sym c.if-child.false)
+    ∙ ap (λ (b : Bool). edited c.args.k 1 (if b then 1 else 0)
+    (node_at (nodes_held (entries (node_at (nodes_of c.args.block.now.values) c.args.k))) 0)
+    (nodes_of c.args.block.now.values)) (sym c.if-child.false)

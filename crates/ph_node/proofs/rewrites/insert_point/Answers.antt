@@ -28,10 +28,20 @@ insert_point-requires c =
     let ws : List ℕ = c.args.words.now in
     let q = c.requires in
     let hc = sym c.has_cube.ensures ∙ c.if-has_cube.true in
-    let one : c.args.len ≡ length ws - 1 = omega (arith, q.long, cube_longer c.args.dims (take c.args.len ws) c.args.edit.now q.edit q.less q.more q.point q.layout hc, length-take-le c.args.len ws q.front) in
+    let one : c.args.len ≡ length ws - 1 =
+    omega (
+      arith,
+      q.long,
+      cube_longer c.args.dims (take c.args.len ws) c.args.edit.now q.edit q.less q.more
+          q.point q.layout hc,
+      length-take-le c.args.len ws q.front,
+    ) in
     let laid : IsRecord true c.args.dims (take c.args.len ws) = subst (λ b. IsRecord b c.args.dims (take c.args.len ws)) hc q.edit.source.laid.tables in
     let at : IsEditAt c.args.dims (take c.args.len ws) c.args.edit.now c.args.edit.now.entry.addr = in_cube c.args.dims (take c.args.len ws) c.args.edit.now hc q.edit in
-    let rise : AreRising c.args.dims (first_in (take c.args.len ws)).level 0 (edited_as true c.args.dims (take c.args.len ws) c.args.edit.now) = subst (λ b. AreRising c.args.dims (first_in (take c.args.len ws)).level 0 (edited_as b c.args.dims (take c.args.len ws) c.args.edit.now)) hc q.edit.rise in
+    let rise : AreRising c.args.dims (first_in (take c.args.len ws)).level 0
+    (edited_as true c.args.dims (take c.args.len ws) c.args.edit.now) =
+    subst (λ b. AreRising c.args.dims (first_in (take c.args.len ws)).level 0
+    (edited_as b c.args.dims (take c.args.len ws) c.args.edit.now)) hc q.edit.rise in
     record {
       some = omega (arith, q.long, cube_longer c.args.dims (take c.args.len ws) c.args.edit.now q.edit q.less q.more q.point q.layout hc);
       «record» = subst (λ n. IsRecord true c.args.dims (take n ws)) one laid;
@@ -54,6 +64,14 @@ returns-then-has_cube c =
     let ws : List ℕ = c.args.words.now in
     let q = c.requires in
     let hc = sym c.has_cube.ensures ∙ c.if-has_cube.true in
-    let one : c.args.len ≡ length ws - 1 = omega (arith, q.long, cube_longer c.args.dims (take c.args.len ws) c.args.edit.now q.edit q.less q.more q.point q.layout hc, length-take-le c.args.len ws q.front) in
-    subst (λ n. c.insert_point.new.words ≡ record_in true c.args.dims (first_in (take n ws)).level (edited_as true c.args.dims (take n ws) c.args.edit.now)) (sym one) c.insert_point.ensures
+    let one : c.args.len ≡ length ws - 1 =
+    omega (
+      arith,
+      q.long,
+      cube_longer c.args.dims (take c.args.len ws) c.args.edit.now q.edit q.less q.more
+          q.point q.layout hc,
+      length-take-le c.args.len ws q.front,
+    ) in
+    subst (λ n. c.insert_point.new.words ≡ record_in true c.args.dims (first_in (take n ws)).level
+    (edited_as true c.args.dims (take n ws) c.args.edit.now)) (sym one) c.insert_point.ensures
     ∙ record_kept c.args.dims (take c.args.len ws) c.args.edit.now q.edit true q.layout hc

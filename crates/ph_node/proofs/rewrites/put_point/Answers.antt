@@ -10,4 +10,5 @@ returns-then-has_cube c =
 pub returns-else-has_cube : goal.returns-else-has_cube
 returns-else-has_cube c =
     let old = take (length c.args.words.now - 1) c.args.words.now in
-    c.put_point-else-has_cube.ensures ∙ record-there c.args.dims old c.args.edit.now false c.requires.edit c.requires.less c.requires.more (sym c.has_cube.ensures ∙ c.if-has_cube.false)
+    c.put_point-else-has_cube.ensures ∙ record-there c.args.dims old c.args.edit.now false c.requires.edit
+    c.requires.less c.requires.more (sym c.has_cube.ensures ∙ c.if-has_cube.false)

@@ -3,4 +3,5 @@ use Rattle.ph_node.proofs.tests.lifts.Goals as goal
 
 pub merge-requires-clause-child : goal.merge-requires-clause-child
 merge-requires-clause-child g c =
-    rw (c.in_ok-split-2.ensures.ok, c.in_ok-split.ensures.ok, c.in_ok-add.ensures.ok, c.in_ok-node.ensures.ok) (record { two = refl; lower = omega arith; zeros = (refl, (refl, tt)) })
+    rw (c.in_ok-split-2.ensures.ok, c.in_ok-split.ensures.ok, c.in_ok-add.ensures.ok, c.in_ok-node.ensures.ok)
+    (record { two = refl; lower = omega arith; zeros = (refl, (refl, tt)) })

@@ -25,7 +25,12 @@ loop-i-preserved c =
       few = omega (arith, v.few);
       limit = omega (arith, v.limit, c.if-item-next.false);
       bottom = λ z. ap children q ∙ omega (arith, one.bottom z, v.bottom z);
-      rising = subst (AreRising d b e.addr) (sym q) (omega arith, omega (arith, v.limit, c.if-item-next.false), one.body, lower d b c.loop-i.next (e.addr + 1) rest (omega (arith, c.if-item-next.false)) v.rising);
+      rising = subst (AreRising d b e.addr) (sym q) (
+        omega arith,
+        omega (arith, v.limit, c.if-item-next.false),
+        one.body,
+        lower d b c.loop-i.next (e.addr + 1) rest (omega (arith, c.if-item-next.false)) v.rising,
+      );
     }
 
 pub returns : goal.returns

@@ -10,4 +10,5 @@ write-requires-clause-room g c =
 
 pub returns : goal.returns
 returns g c =
-    is-record g.row.D c.args.level c.args.items.now c.requires.some c.requires.few (c.is_writable.ensures c.if-not-is_writable.false) false c.write.new.words.words c.write.ensures.words
+    is-record g.row.D c.args.level c.args.items.now c.requires.some c.requires.few
+    (c.is_writable.ensures c.if-not-is_writable.false) false c.write.new.words.words c.write.ensures.words

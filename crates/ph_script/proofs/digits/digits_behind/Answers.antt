@@ -6,4 +6,5 @@ pub loop-at-preserved : goal.loop-at-preserved
 loop-at-preserved c =
     let digit = c.digit_of-digit in
     let few = c.if-digit-gt9.false in
-    digits-more c.args.text.now c.args.from c.args.before c.loop-at.at c.loop-at.size digit.result _ c.loop-at.invariant c.loop-at-test.true (digit.ensures.digit few) few (digit.ensures.value few) refl
+    digits-more c.args.text.now c.args.from c.args.before c.loop-at.at c.loop-at.size digit.result _
+    c.loop-at.invariant c.loop-at-test.true (digit.ensures.digit few) few (digit.ensures.value few) refl

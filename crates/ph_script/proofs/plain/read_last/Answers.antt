@@ -7,4 +7,5 @@ pub returns-in-Some-next_number : goal.returns-in-Some-next_number
 returns-in-Some-next_number c =
     let line = c.args.line.now in
     let read = c.in-Some-next_number in
-    last-some c.args.plain (drop c.args.from line) (drop read.end line) c.in-Some.most read.short (sym c.most.ensures ∙ c.in-Some.is) read.ensures (is-other _ c.if-not-short.true) c.if-short-most.true
+    last-some c.args.plain (drop c.args.from line) (drop read.end line) c.in-Some.most read.short
+    (sym c.most.ensures ∙ c.in-Some.is) read.ensures (is-other _ c.if-not-short.true) c.if-short-most.true

@@ -9,8 +9,10 @@ returns-in-Count c = rw c.miscounted.ensures (passed-count c.args.refused (sprea
 
 pub returns-then-has_own_words : goal.returns-then-has_own_words
 returns-then-has_own_words c =
-    refusing-own c.args.refused c.args.bad (spread_of c.args.places) (words c.args.text.now) c.in_default.not-Count c.requires (sym c.has_own_words.ensures ∙ c.if-has_own_words.true)
+    refusing-own c.args.refused c.args.bad (spread_of c.args.places) (words c.args.text.now) c.in_default.not-Count
+    c.requires (sym c.has_own_words.ensures ∙ c.if-has_own_words.true)
 
 pub returns-else-has_own_words : goal.returns-else-has_own_words
 returns-else-has_own_words c =
-    passed-own c.args.refused c.args.bad (spread_of c.args.places) (words c.args.text.now) c.in_default.not-Count c.requires (sym c.has_own_words.ensures ∙ c.if-has_own_words.false)
+    passed-own c.args.refused c.args.bad (spread_of c.args.places) (words c.args.text.now) c.in_default.not-Count
+    c.requires (sym c.has_own_words.ensures ∙ c.if-has_own_words.false)

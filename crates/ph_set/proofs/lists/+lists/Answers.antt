@@ -17,7 +17,9 @@ list_entries-list_entry-requires g t c κs within =
     let n = shown c.args.node in
     let known : IsBody g.P.Dims.D c.args.w (take g.P.Dims.D c.loop-i.known) = c.loop-i.invariant.known in
     let part : IsPart c.args.w g.P.Dims.D (body_above (shown c.args.node).level (take g.P.Dims.D c.loop-i.known)) (node (shown c.args.node)) =
-    subst (λ t. IsPart c.args.w g.P.Dims.D t (node n)) (sym (same-above n.level (take g.P.Dims.D c.loop-i.known) (take g.P.Dims.D c.args.known.now) c.loop-i.invariant.above)) c.requires.part in
+    subst (λ t. IsPart c.args.w g.P.Dims.D t (node n))
+    (sym (same-above n.level (take g.P.Dims.D c.loop-i.known) (take g.P.Dims.D c.args.known.now)
+    c.loop-i.invariant.above)) c.requires.part in
     (omega (arith, c.decreases), search (rules, within, known, part))
 
 pub list_entries-returns-in_err-list_entry-clause-visits : goal.list_entries-returns-in_err-list_entry-clause-visits
@@ -30,9 +32,14 @@ list_entries-returns-in_err-list_entry-clause-visits g t c =
     let o = what_at (entries n) c.spot.result.place in
     let same = same-above n.level now first c.loop-i.invariant.above in
     let part : IsPart c.args.w g.P.Dims.D (body_above n.level now) (node n) = subst (λ t. IsPart c.args.w g.P.Dims.D t (node n)) (sym same) c.requires.part in
-    let made = joined-behind c.args.w g.P.Dims.D now n part c.spot.result c.spot.ensures.spot new refl ∙ ap (λ t. behind n.level t (entry_at (entries n) c.spot.result.place)) same ∙ ap (λ k. behind n.level ds (entry_at (entries n) k)) c.spot.ensures.place in
-    let step : length (nodes_in c.args.w n.level ds (stretch c.loop-i.i c.args.to (entries n))) ≡ openings o + length (part_nodes c.args.w new o) + length (nodes_in c.args.w n.level ds (stretch (c.loop-i.i + 1) c.args.to (entries n))) =
-    step-nodes c.args.w n.level c.loop-i.i c.args.to ds new o (entries n) (omega (arith, c.loop-i-test.true)) c.requires.within made (ap (what_at (entries n)) c.spot.ensures.place) in
+    let made = joined-behind c.args.w g.P.Dims.D now n part c.spot.result c.spot.ensures.spot new refl ∙
+    ap (λ t. behind n.level t (entry_at (entries n) c.spot.result.place)) same ∙
+    ap (λ k. behind n.level ds (entry_at (entries n) k)) c.spot.ensures.place in
+    let step : length (nodes_in c.args.w n.level ds (stretch c.loop-i.i c.args.to (entries n))) ≡
+    openings o + length (part_nodes c.args.w new o) + length
+    (nodes_in c.args.w n.level ds (stretch (c.loop-i.i + 1) c.args.to (entries n))) =
+    step-nodes c.args.w n.level c.loop-i.i c.args.to ds new o (entries n) (omega (arith, c.loop-i-test.true))
+    c.requires.within made (ap (what_at (entries n)) c.spot.ensures.place) in
     omega (arith, step, c.list_entry.ensures.visits, c.loop-i.invariant.visits)
 
 pub list_entries-loop-i-preserved : goal.list_entries-loop-i-preserved
@@ -45,17 +52,24 @@ list_entries-loop-i-preserved g t c =
     let o = what_at (entries n) c.spot.result.place in
     let same = same-above n.level now first c.loop-i.invariant.above in
     let part : IsPart c.args.w g.P.Dims.D (body_above n.level now) (node n) = subst (λ t. IsPart c.args.w g.P.Dims.D t (node n)) (sym same) c.requires.part in
-    let made = joined-behind c.args.w g.P.Dims.D now n part c.spot.result c.spot.ensures.spot new refl ∙ ap (λ t. behind n.level t (entry_at (entries n) c.spot.result.place)) same ∙ ap (λ k. behind n.level ds (entry_at (entries n) k)) c.spot.ensures.place in
+    let made = joined-behind c.args.w g.P.Dims.D now n part c.spot.result c.spot.ensures.spot new refl ∙
+    ap (λ t. behind n.level t (entry_at (entries n) c.spot.result.place)) same ∙
+    ap (λ k. behind n.level ds (entry_at (entries n) k)) c.spot.ensures.place in
     let held = ap (what_at (entries n)) c.spot.ensures.place in
-    let step : length (nodes_in c.args.w n.level ds (stretch c.loop-i.i c.args.to (entries n))) ≡ openings o + length (part_nodes c.args.w new o) + length (nodes_in c.args.w n.level ds (stretch (c.loop-i.i + 1) c.args.to (entries n))) =
+    let step : length (nodes_in c.args.w n.level ds (stretch c.loop-i.i c.args.to (entries n))) ≡
+    openings o + length (part_nodes c.args.w new o) + length
+    (nodes_in c.args.w n.level ds (stretch (c.loop-i.i + 1) c.args.to (entries n))) =
     step-nodes c.args.w n.level c.loop-i.i c.args.to ds new o (entries n) (omega (arith, c.loop-i-test.true)) c.requires.within made held in
-    let rows : rows_in c.args.w n.level ds (stretch c.loop-i.i c.args.to (entries n)) ≡ part_rows c.args.w new o ++ rows_in c.args.w n.level ds (stretch (c.loop-i.i + 1) c.args.to (entries n)) =
+    let rows : rows_in c.args.w n.level ds (stretch c.loop-i.i c.args.to (entries n)) ≡ part_rows c.args.w new o ++
+    rows_in c.args.w n.level ds (stretch (c.loop-i.i + 1) c.args.to (entries n)) =
     step-rows c.args.w n.level c.loop-i.i c.args.to ds new o (entries n) (omega (arith, c.loop-i-test.true)) c.requires.within made held in
-    let listed : map g.P.Space.row_of c.list_entry.new.rows.items ≡ map g.P.Space.row_of c.loop-i.rows.items ++ part_rows c.args.w new o = c.in_ok-list_entry.ensures.rows in
+    let listed : map g.P.Space.row_of c.list_entry.new.rows.items ≡ map g.P.Space.row_of c.loop-i.rows.items ++
+    part_rows c.args.w new o = c.in_ok-list_entry.ensures.rows in
     record {
       rows =
           ap (λ x. x ++ rows_in c.args.w n.level ds (stretch (c.loop-i.i + 1) c.args.to (entries n))) listed
-          ∙ append_assoc (map g.P.Space.row_of c.loop-i.rows.items) (part_rows c.args.w new o) (rows_in c.args.w n.level ds (stretch (c.loop-i.i + 1) c.args.to (entries n)))
+          ∙ append_assoc (map g.P.Space.row_of c.loop-i.rows.items) (part_rows c.args.w new o)
+          (rows_in c.args.w n.level ds (stretch (c.loop-i.i + 1) c.args.to (entries n)))
           ∙ ap (λ x. map g.P.Space.row_of c.loop-i.rows.items ++ x) (sym rows) ∙ c.loop-i.invariant.rows;
       visits = omega (arith, step, c.list_entry.ensures.visits, c.loop-i.invariant.visits);
       later = omega (arith, c.list_entry.ensures.later, c.loop-i.invariant.later);
@@ -69,7 +83,8 @@ list_entry-join_entry-requires-clause-known g t c =
 
 pub list_entry-with_offsets-requires-clause-small : goal.list_entry-with_offsets-requires-clause-small
 list_entry-with_offsets-requires-clause-small g t c =
-    (joined-known c.args.w g.P.Dims.D (take g.P.Dims.D c.args.known.now) (shown c.args.node) c.requires.part c.args.spot c.requires.spot (take g.P.Dims.D c.join_entry.new.known) c.join_entry.ensures).1
+    (joined-known c.args.w g.P.Dims.D (take g.P.Dims.D c.args.known.now) (shown c.args.node) c.requires.part
+    c.args.spot c.requires.spot (take g.P.Dims.D c.join_entry.new.known) c.join_entry.ensures).1
 
 pub list_entry-list_entries-requires : goal.list_entry-list_entries-requires
 list_entry-list_entries-requires g t c κs within =
@@ -77,26 +92,32 @@ list_entry-list_entries-requires g t c κs within =
     let n = shown c.args.node in
     let m = shown c.visit-below.result in
     let held = sym c.in-Child.ensures ∙ ap node (sym c.visit-below.ensures.shows) in
-    let known : IsBody g.P.Dims.D c.args.w (take g.P.Dims.D c.join_entry.new.known) = joined-known c.args.w d (take d c.args.known.now) n c.requires.part c.args.spot c.requires.spot (take d c.join_entry.new.known) c.join_entry.ensures in
+    let known : IsBody g.P.Dims.D c.args.w (take g.P.Dims.D c.join_entry.new.known) =
+    joined-known c.args.w d (take d c.args.known.now) n c.requires.part c.args.spot c.requires.spot
+    (take d c.join_entry.new.known) c.join_entry.ensures in
     let part : IsPart c.args.w g.P.Dims.D (body_above (shown c.visit-below.result).level (take g.P.Dims.D c.join_entry.new.known)) (node (shown c.visit-below.result)) =
     child-part c.args.w d (take d c.args.known.now) n c.requires.part c.args.spot c.requires.spot (take d c.join_entry.new.known) c.join_entry.ensures m held in
-    let low = child-level c.args.w d (take d c.args.known.now) n c.requires.part c.args.spot c.requires.spot (take d c.join_entry.new.known) c.join_entry.ensures m held in
+    let low = child-level c.args.w d (take d c.args.known.now) n c.requires.part c.args.spot c.requires.spot
+    (take d c.join_entry.new.known) c.join_entry.ensures m held in
     (omega (arith, low, c.decreases), search (rules, within, known, part))
 
 pub list_entry-returns-in_ok-push-in-Value-clause-known : goal.list_entry-returns-in_ok-push-in-Value-clause-known
 list_entry-returns-in_ok-push-in-Value-clause-known g t c =
-    joined-known c.args.w g.P.Dims.D (take g.P.Dims.D c.args.known.now) (shown c.args.node) c.requires.part c.args.spot c.requires.spot (take g.P.Dims.D c.join_entry.new.known) c.join_entry.ensures
+    joined-known c.args.w g.P.Dims.D (take g.P.Dims.D c.args.known.now) (shown c.args.node) c.requires.part
+    c.args.spot c.requires.spot (take g.P.Dims.D c.join_entry.new.known) c.join_entry.ensures
 
 pub list_entry-returns-in_ok-push-in-Value-clause-above : goal.list_entry-returns-in_ok-push-in-Value-clause-above
 list_entry-returns-in_ok-push-in-Value-clause-above g t c =
-    joined-from c.args.w g.P.Dims.D (take g.P.Dims.D c.args.known.now) (shown c.args.node) c.requires.part c.args.spot c.requires.spot (take g.P.Dims.D c.join_entry.new.known) c.join_entry.ensures
+    joined-from c.args.w g.P.Dims.D (take g.P.Dims.D c.args.known.now) (shown c.args.node) c.requires.part c.args.spot
+    c.requires.spot (take g.P.Dims.D c.join_entry.new.known) c.join_entry.ensures
 
 pub list_entry-returns-in-Child-clause-rows : goal.list_entry-returns-in-Child-clause-rows
 list_entry-returns-in-Child-clause-rows g t c =
     let d = g.P.Dims.D in
     let held = sym c.in-Child.ensures ∙ ap node (sym c.visit-below.ensures.shows) in
     subst (λ r. OnOk c.list_entries.result (map g.P.Space.row_of c.list_entries.new.rows.items ≡ map g.P.Space.row_of c.args.rows.now.items ++ r))
-    (child-rows c.args.w d (take d c.args.known.now) (shown c.args.node) c.requires.part c.args.spot c.requires.spot (take d c.join_entry.new.known) c.join_entry.ensures (shown c.visit-below.result) held c.len.result c.len.ensures)
+    (child-rows c.args.w d (take d c.args.known.now) (shown c.args.node) c.requires.part c.args.spot c.requires.spot
+    (take d c.join_entry.new.known) c.join_entry.ensures (shown c.visit-below.result) held c.len.result c.len.ensures)
     c.list_entries.ensures.rows
 
 pub list_entry-returns-in-Child-clause-visits : goal.list_entry-returns-in-Child-clause-visits
@@ -104,7 +125,10 @@ list_entry-returns-in-Child-clause-visits g t c =
     let d = g.P.Dims.D in
     let held = sym c.in-Child.ensures ∙ ap node (sym c.visit-below.ensures.shows) in
     let one = ap openings held in
-    let below = ap (λ t. length t) (child-nodes c.args.w d (take d c.args.known.now) (shown c.args.node) c.requires.part c.args.spot c.requires.spot (take d c.join_entry.new.known) c.join_entry.ensures (shown c.visit-below.result) held c.len.result c.len.ensures) in
+    let below = ap (λ t. length t)
+    (child-nodes c.args.w d (take d c.args.known.now) (shown c.args.node) c.requires.part c.args.spot
+    c.requires.spot (take d c.join_entry.new.known) c.join_entry.ensures (shown c.visit-below.result) held
+    c.len.result c.len.ensures) in
     omega (arith, one, below, c.list_entries.ensures.visits, c.visit-below.ensures.cost)
 
 pub list_entry-returns-in-Child-clause-above : goal.list_entry-returns-in-Child-clause-above
@@ -112,5 +136,7 @@ list_entry-returns-in-Child-clause-above g t c =
     let d = g.P.Dims.D in
     let held = sym c.in-Child.ensures ∙ ap node (sym c.visit-below.ensures.shows) in
     on_ok_weaker c.list_entries.result
-    (λ e. child-from c.args.w d (take d c.args.known.now) (shown c.args.node) c.requires.part c.args.spot c.requires.spot (take d c.join_entry.new.known) c.join_entry.ensures (shown c.visit-below.result) held (take d c.list_entries.new.known) e)
+    (λ e. child-from c.args.w d (take d c.args.known.now) (shown c.args.node) c.requires.part c.args.spot
+    c.requires.spot (take d c.join_entry.new.known) c.join_entry.ensures (shown c.visit-below.result) held
+    (take d c.list_entries.new.known) e)
     c.list_entries.ensures.above

@@ -13,7 +13,9 @@ list_entries-requires-clause-part g c =
 pub returns-clause-rows : goal.returns-clause-rows
 returns-clause-rows g c =
     let n = shown c.args.node in
-    subst (λ t. OnOk c.list_entries.result (map g.P.Space.row_of c.list_entries.new.rows.items ≡ map g.P.Space.row_of c.args.rows.now.items ++ rows_in c.args.w n.level t (stretch c.args.from c.args.to (entries n))))
+    subst (λ t. OnOk c.list_entries.result
+    (map g.P.Space.row_of c.list_entries.new.rows.items ≡ map g.P.Space.row_of c.args.rows.now.items ++
+    rows_in c.args.w n.level t (stretch c.args.from c.args.to (entries n))))
     (above-whole n.level (take g.P.Dims.D c.args.digits.now) c.requires.part.held.1) c.list_entries.ensures.rows
 
 pub returns-clause-visits : goal.returns-clause-visits

@@ -8,7 +8,8 @@ use Rattle.ph_set.specs.Meeting.{kept_of, kept_parts, IsParting}
 use Rattle.ph_set.specs.Parts.{AreListed, height, rows_in, nodes_in, stretch, stretch_rows}
 use Rattle.ph_set.proofs.Meetings.{after-two, after-three, both-values, sides-start, sides-work, sides-end, sides-end-work}
 use Rattle.ph_set.proofs.Overs.{over-by, left-found, left-work, none-place, left-none, left-none-work, right-found, right-work, right-none, right-none-work}
-use Rattle.ph_set.proofs.Pairs.{paired, left-within, left-ahead, left-passed, left-passed-work, right-within, right-ahead, right-passed, right-passed-work, both-passed, both-passed-work}
+use Rattle.ph_set.proofs.Pairs.{paired, left-within, left-ahead, left-passed, left-passed-work, right-within}
+use Rattle.ph_set.proofs.Pairs.{right-ahead, right-passed, right-passed-work, both-passed, both-passed-work}
 use Rattle.ph_set.specs.Sides.{kept_from, side_digits, side_node, side_nodes}
 use Rattle.ph_set.proofs.meet.+meet.Goals.{side_by_side-then-loop-i-test+else-j-rights, side_by_side-else-loop-i-test}
 use Rattle.ph_set.proofs.Walking.{wide-digits, new-part, new-height, spot-behind}
@@ -98,7 +99,8 @@ over_left-returns-in_ok-meet-in-Ok-clause-rows g t c =
     let one = kept_of p (part_digits d new) (part_what new) (part_digits d y) (part_what y) in
     let back = chosen p.left (stretch_rows p.width n ds (i + 1) c.len-end.result) in
     subst (λ t. OnOk c.list_stretch_if-in-Ok.result (map r c.list_stretch_if-in-Ok.new.rows.items ≡ t))
-    (after-three (map r c.args.rows.now.items) (map r c.list_stretch_if.new.rows.items) (map r c.meet.new.rows.items) front one back (kept_of p ds (node n) (part_digits d y) (part_what y))
+    (after-three (map r c.args.rows.now.items) (map r c.list_stretch_if.new.rows.items) (map r c.meet.new.rows.items)
+    front one back (kept_of p ds (node n) (part_digits d y) (part_what y))
     c.in_ok-list_stretch_if-in-Ok.ensures.rows c.in_ok-meet-in-Ok.ensures.rows
     (left-found p over c.in-Ok.ensures.spot c.in-Ok.ensures.found c.part_at-part.ensures.digits c.part_at-part.ensures.held c.len-end.ensures))
     c.list_stretch_if-in-Ok.ensures.rows
@@ -125,7 +127,8 @@ over_left-returns-in_ok-list_part_if-in-Err-clause-rows g t c =
     let one = chosen p.right (rows_held p.width d y) in
     let back = chosen p.left (stretch_rows p.width n ds i c.len-end.result) in
     subst (λ t. OnOk c.list_stretch_if-in-Err-2.result (map r c.list_stretch_if-in-Err-2.new.rows.items ≡ t))
-    (after-three (map r c.args.rows.now.items) (map r c.list_stretch_if-in-Err.new.rows.items) (map r c.list_part_if.new.rows.items) front one back (kept_of p ds (node n) (part_digits d y) (part_what y))
+    (after-three (map r c.args.rows.now.items) (map r c.list_stretch_if-in-Err.new.rows.items)
+    (map r c.list_part_if.new.rows.items) front one back (kept_of p ds (node n) (part_digits d y) (part_what y))
     c.in_ok-list_stretch_if-in-Err.ensures.rows c.in_ok-list_part_if-in-Err.ensures.rows
     (left-none p over c.in-Err.ensures.absent c.in-Err.ensures.place c.len-end.ensures))
     c.list_stretch_if-in-Err-2.ensures.rows
@@ -207,7 +210,8 @@ over_right-returns-in_ok-meet-in-Ok-clause-rows g t c =
     let one = kept_of p (part_digits d y) (part_what y) (part_digits d new) (part_what new) in
     let back = chosen p.right (stretch_rows p.width n ds (i + 1) c.len-end.result) in
     subst (λ t. OnOk c.list_stretch_if-in-Ok.result (map r c.list_stretch_if-in-Ok.new.rows.items ≡ t))
-    (after-three (map r c.args.rows.now.items) (map r c.list_stretch_if.new.rows.items) (map r c.meet.new.rows.items) front one back (kept_of p (part_digits d y) (part_what y) ds (node n))
+    (after-three (map r c.args.rows.now.items) (map r c.list_stretch_if.new.rows.items) (map r c.meet.new.rows.items)
+    front one back (kept_of p (part_digits d y) (part_what y) ds (node n))
     c.in_ok-list_stretch_if-in-Ok.ensures.rows c.in_ok-meet-in-Ok.ensures.rows
     (right-found p over c.in-Ok.ensures.spot c.in-Ok.ensures.found c.part_at-part.ensures.digits c.part_at-part.ensures.held c.len-end.ensures))
     c.list_stretch_if-in-Ok.ensures.rows
@@ -234,7 +238,8 @@ over_right-returns-in_ok-list_part_if-in-Err-clause-rows g t c =
     let one = chosen p.left (rows_held p.width d y) in
     let back = chosen p.right (stretch_rows p.width n ds i c.len-end.result) in
     subst (λ t. OnOk c.list_stretch_if-in-Err-2.result (map r c.list_stretch_if-in-Err-2.new.rows.items ≡ t))
-    (after-three (map r c.args.rows.now.items) (map r c.list_stretch_if-in-Err.new.rows.items) (map r c.list_part_if.new.rows.items) front one back (kept_of p (part_digits d y) (part_what y) ds (node n))
+    (after-three (map r c.args.rows.now.items) (map r c.list_stretch_if-in-Err.new.rows.items)
+    (map r c.list_part_if.new.rows.items) front one back (kept_of p (part_digits d y) (part_what y) ds (node n))
     c.in_ok-list_stretch_if-in-Err.ensures.rows c.in_ok-list_part_if-in-Err.ensures.rows
     (right-none p over c.in-Err.ensures.absent c.in-Err.ensures.place c.len-end.ensures))
     c.list_stretch_if-in-Err-2.ensures.rows
@@ -446,7 +451,9 @@ side_by_side-returns-clause-rows g t c =
     ] in
     let end : kept_from p d c.args.a.now c.loop-i.i c.args.b.now c.loop-i.j ≡ left ++ right =
     sides-end p ds dt n m c.loop-i.i c.loop-i.j done
-    ∙ ap (λ k. chosen p.left (rows_in p.width n.level ds (stretch c.loop-i.i k (entries n))) ++ chosen p.right (rows_in p.width m.level dt (stretch c.loop-i.j (length (entries m)) (entries m)))) (sym c.len-lefts.ensures)
+    ∙ ap (λ k. chosen p.left (rows_in p.width n.level ds (stretch c.loop-i.i k (entries n))) ++
+    chosen p.right (rows_in p.width m.level dt (stretch c.loop-i.j (length (entries m)) (entries m))))
+    (sym c.len-lefts.ensures)
     ∙ ap (λ k. left ++ chosen p.right (rows_in p.width m.level dt (stretch c.loop-i.j k (entries m)))) (sym c.len-rights.ensures) in
     subst (λ r. OnOk c.list_stretch_if-2.result (map g.P.Space.row_of c.list_stretch_if-2.new.rows.items ≡ r))
     (ap (λ t. t ++ right) c.in_ok-list_stretch_if.ensures.rows ∙ append_assoc mid left right ∙ ap (λ t. mid ++ t) (sym end) ∙ c.loop-i.invariant.rows)
@@ -461,7 +468,8 @@ side_by_side-returns-in_err-list_stretch_if-clause-visits g t c =
     let ds = take g.P.Dims.D c.args.a.now.digits.now in
     let dt = take g.P.Dims.D c.args.b.now.digits.now in
     let first : c.list_stretch_if.new.visits ≤ c.loop-i.visits + seen_nodes p.width p.left [] (side_nodes p.width d c.args.a.now c.loop-i.i) =
-    subst (λ k. c.list_stretch_if.new.visits ≤ c.loop-i.visits + seen_nodes p.width p.left [] (nodes_in p.width n.level ds (stretch c.loop-i.i k (entries n)))) c.len-lefts.ensures c.list_stretch_if.ensures.visits in
+    subst (λ k. c.list_stretch_if.new.visits ≤ c.loop-i.visits + seen_nodes p.width p.left []
+    (nodes_in p.width n.level ds (stretch c.loop-i.i k (entries n)))) c.len-lefts.ensures c.list_stretch_if.ensures.visits in
     let bound = sides-end-work p ds dt n m c.loop-i.i c.loop-i.j in
     omega (arith, first, bound, c.loop-i.invariant.visits)
 
@@ -474,8 +482,11 @@ side_by_side-returns-clause-visits g t c =
     let ds = take g.P.Dims.D c.args.a.now.digits.now in
     let dt = take g.P.Dims.D c.args.b.now.digits.now in
     let first : c.list_stretch_if.new.visits ≤ c.loop-i.visits + seen_nodes p.width p.left [] (side_nodes p.width d c.args.a.now c.loop-i.i) =
-    subst (λ k. c.list_stretch_if.new.visits ≤ c.loop-i.visits + seen_nodes p.width p.left [] (nodes_in p.width n.level ds (stretch c.loop-i.i k (entries n)))) c.len-lefts.ensures c.list_stretch_if.ensures.visits in
+    subst (λ k. c.list_stretch_if.new.visits ≤ c.loop-i.visits + seen_nodes p.width p.left []
+    (nodes_in p.width n.level ds (stretch c.loop-i.i k (entries n)))) c.len-lefts.ensures c.list_stretch_if.ensures.visits in
     let second : c.list_stretch_if-2.new.visits ≤ c.list_stretch_if.new.visits + seen_nodes p.width p.right [] (side_nodes p.width d c.args.b.now c.loop-i.j) =
-    subst (λ k. c.list_stretch_if-2.new.visits ≤ c.list_stretch_if.new.visits + seen_nodes p.width p.right [] (nodes_in p.width m.level dt (stretch c.loop-i.j k (entries m)))) c.len-rights.ensures c.list_stretch_if-2.ensures.visits in
+    subst (λ k. c.list_stretch_if-2.new.visits ≤ c.list_stretch_if.new.visits + seen_nodes p.width p.right []
+    (nodes_in p.width m.level dt (stretch c.loop-i.j k (entries m)))) c.len-rights.ensures
+    c.list_stretch_if-2.ensures.visits in
     let bound = sides-end-work p ds dt n m c.loop-i.i c.loop-i.j in
     omega (arith, first, second, bound, c.loop-i.invariant.visits)

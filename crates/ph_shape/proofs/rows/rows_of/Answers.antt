@@ -33,7 +33,8 @@ pub returns-clause-rows : goal.returns-clause-rows
 returns-clause-rows g c =
     sym (map-same c.gather.new.rows.items)
     ∙ c.in_ok-gather.ensures
-    ∙ ap (λ (t : List Row). map (λ r. r) t ++ rows_behind c.args.w c.in-Some.node.now.level (take {A = ℕ} g.row.D (replicate 16 0)) c.in-Some.node.now.chain) c.new-rows.ensures.items
+    ∙ ap (λ (t : List Row). map (λ r. r) t ++ rows_behind c.args.w c.in-Some.node.now.level
+    (take {A = ℕ} g.row.D (replicate 16 0)) c.in-Some.node.now.chain) c.new-rows.ensures.items
     ∙ ap (λ t. rows_behind c.args.w c.in-Some.node.now.level t c.in-Some.node.now.chain) (root-zeros g.row.D c.requires.dims)
     ∙ ap (λ t. rows c.args.w g.row.D (lent t)) (sym c.in-Some.is)
 

@@ -13,7 +13,9 @@ decreases-node_of g l = 2 * l.place + 1
 
 abbrev pub invariant-node_of-loop-first : goal.invariant-node_of-loop-first
 invariant-node_of-loop-first g l = record {
-  made : with_front (map (entry_of g.P.Dims.D) l.entries.items) (entries_of l.w l.place (node_below l.w l.place) (groups l.w l.place (map g.P.Space.row_of l.rest))) ≡ entries_of l.w l.place (node_below l.w l.place) (groups l.w l.place (map g.P.Space.row_of l.rows));
+  made : with_front (map (entry_of g.P.Dims.D) l.entries.items)
+      (entries_of l.w l.place (node_below l.w l.place) (groups l.w l.place (map g.P.Space.row_of l.rest))) ≡
+      entries_of l.w l.place (node_below l.w l.place) (groups l.w l.place (map g.P.Space.row_of l.rows));
   filled : AreFilled g.P.Dims.D l.entries.items;
   rows : IsGroup l.w g.P.Dims.D (l.place + 1) (map g.P.Space.row_of l.rest);
 }

@@ -14,12 +14,17 @@ use Rattle.ph_shape.proofs.shape.shape_of.Goals as goal
 pub node_of-requires-clause-rows : goal.node_of-requires-clause-rows
 node_of-requires-clause-rows g c =
     let e : c.args.w ≡ c.bits-bits.result - 1 + 1 = omega arith in
-    subst (λ k. IsGroup c.args.w g.row.D k (map (λ r. r) c.args.rows.now)) e (subst (IsGroup c.args.w g.row.D c.args.w) (sym (map-same c.args.rows.now)) (table-group c.args.w g.row.D c.args.rows.now c.requires.table))
+    subst (λ k. IsGroup c.args.w g.row.D k (map (λ r. r) c.args.rows.now)) e
+    (subst (IsGroup c.args.w g.row.D c.args.w) (sym (map-same c.args.rows.now))
+    (table-group c.args.w g.row.D c.args.rows.now c.requires.table))
 
-root-is : (w bits : ℕ) (rows : List Row) (n : PlainNode) → bits ≡ w → 1 ≤ length rows → n ≡ node_at w (bits - 1) (node_below w (bits - 1)) (map (λ r. r) rows) → shape w rows ≡ Some n
+root-is : (w bits : ℕ) (rows : List Row) (n : PlainNode) → bits ≡ w → 1 ≤ length rows →
+    n ≡ node_at w (bits - 1) (node_below w (bits - 1)) (map (λ r. r) rows) → shape w rows ≡ Some n
 root-is w bits [] n e l h = absurd (let no : ⊥ = omega (arith, l) in no)
 root-is w bits (r ∷ rows) n e l h =
-    ap {B = Option PlainNode} (λ b. Some (node_at w (b - 1) (node_below w (b - 1)) (r ∷ rows))) (sym e) ∙ ap {B = Option PlainNode} (λ t. Some (node_at w (bits - 1) (node_below w (bits - 1)) t)) (sym (map-same (r ∷ rows))) ∙ ap {B = Option PlainNode} (λ t. Some t) (sym h)
+    ap {B = Option PlainNode} (λ b. Some (node_at w (b - 1) (node_below w (b - 1)) (r ∷ rows))) (sym e) ∙
+    ap {B = Option PlainNode} (λ t. Some (node_at w (bits - 1) (node_below w (bits - 1)) t))
+    (sym (map-same (r ∷ rows))) ∙ ap {B = Option PlainNode} (λ t. Some t) (sym h)
 
 pub returns-clause-lawful : goal.returns-clause-lawful
 returns-clause-lawful g c =

@@ -11,5 +11,18 @@ three w p q r v h k m =
     (subst (λ (r : List ℤ). IsTable 32 2 (row (pos 0 ∷ pos 0 ∷ []) 1 ∷ row (pos 0 ∷ pos 1 ∷ []) 3 ∷ row r 2 ∷ [])) (sym m) refl)))
 
 pub shape_of-requires : goal.shape_of-requires
-shape_of-requires g c =
-    (search rules, (search rules, (search rules, (search rules, three c.in-Some.w c.in-Some-from_slice.first c.in-Some-from_slice-2.second c.in-Some-from_slice-3.third c.in-Some.ensures.1 c.in-Some-from_slice.ensures.1 c.in-Some-from_slice-2.ensures.1 c.in-Some-from_slice-3.ensures.1))))
+shape_of-requires g c = (
+  search rules,
+  (
+    search rules,
+    (
+      search rules,
+      (
+        search rules,
+        three c.in-Some.w c.in-Some-from_slice.first c.in-Some-from_slice-2.second
+            c.in-Some-from_slice-3.third c.in-Some.ensures.1 c.in-Some-from_slice.ensures.1
+            c.in-Some-from_slice-2.ensures.1 c.in-Some-from_slice-3.ensures.1,
+      ),
+    ),
+  ),
+)

@@ -53,8 +53,18 @@ put_first-requires-clause-spare g t c =
     let i = c.entries.i in
     let q = place_of form.dims c.in-Some.under in
     let place = rw (c.words-in-entries.ensures ∙ c.entries.invariant.words) at c.in-Some.ensures.place in
-    let room : c.of-block.result.spare ≡ (first_in c.of-block.result.words).children = ap (λ k. k.spare) c.of-block.ensures ∙ c.in-Ok.ensures.room ∙ ap (λ k. (first_in k.words).children) (sym c.of-block.ensures) in
-    omega (arith, c.entries.invariant.spare, c.entries.invariant.count, room, ap (λ ps. length ps) place, length-append (places_under level above (take i es)) (q ∷ []), stands-few form.kind form.width form.dims bytes p c.args.at words b c.requires.at c.in-Ok.ensures.none w (i + 1))
+    let room : c.of-block.result.spare ≡ (first_in c.of-block.result.words).children =
+    ap (λ k. k.spare) c.of-block.ensures ∙ c.in-Ok.ensures.room ∙ ap (λ k. (first_in k.words).children)
+    (sym c.of-block.ensures) in
+    omega (
+      arith,
+      c.entries.invariant.spare,
+      c.entries.invariant.count,
+      room,
+      ap (λ ps. length ps) place,
+      length-append (places_under level above (take i es)) (q ∷ []),
+      stands-few form.kind form.width form.dims bytes p c.args.at words b c.requires.at c.in-Ok.ensures.none w (i + 1),
+    )
 
 pub returns-in-Err-load_node-clause-err : goal.returns-in-Err-load_node-clause-err
 returns-in-Err-load_node-clause-err g t c =
@@ -64,7 +74,10 @@ returns-in-Err-load_node-clause-err g t c =
     let words = c.of-block.result.words in
     let w : c.of-block.result.words ≡ next_record c.args.form.now.dims (drop c.args.at c.args.bytes.now) = ap (λ k. k.words) c.of-block.ensures ∙ c.in-Ok.ensures.words in
     let b : IsBytes c.args.bytes.now = bytes-are c.args.bytes.now c.type_inv.bytes in
-    child-fault form.kind form.width form.dims bytes p c.args.at words b c.requires.at c.in-Ok.ensures.none w c.entries.i c.entries.end (place_of form.dims c.in-Some.under) c.in-Err-load_node.fault (rw (c.words-in-entries.ensures ∙ c.entries.invariant.words) at c.in-Some.ensures.place) (rw c.len.ensures.value at c.entries.invariant.none) c.in-Err-load_node.ensures.err
+    child-fault form.kind form.width form.dims bytes p c.args.at words b c.requires.at c.in-Ok.ensures.none w
+    c.entries.i c.entries.end (place_of form.dims c.in-Some.under) c.in-Err-load_node.fault
+    (rw (c.words-in-entries.ensures ∙ c.entries.invariant.words) at c.in-Some.ensures.place)
+    (rw c.len.ensures.value at c.entries.invariant.none) c.in-Err-load_node.ensures.err
 
 pub entries-preserved : goal.entries-preserved
 entries-preserved g t c =
@@ -83,17 +96,39 @@ entries-preserved g t c =
     let end = c.in-Ok-load_node.child.end in
     let n : PlainNode = c.in-Ok-load_node.child.node in
     let ss = c.entries.block.values in
-    let place : places_under (first_in c.of-block.result.words).level (known c.args.form.now.dims (place_of c.args.form.now.dims c.args.place.now)) (take (c.entries.i + 1) (entries_in c.args.form.now.dims c.of-block.result.words)) ≡ places_under (first_in c.of-block.result.words).level (known c.args.form.now.dims (place_of c.args.form.now.dims c.args.place.now)) (take c.entries.i (entries_in c.args.form.now.dims c.of-block.result.words)) ++ place_of c.args.form.now.dims c.in-Some.under ∷ [] = rw (c.words-in-entries.ensures ∙ c.entries.invariant.words) at c.in-Some.ensures.place in
-    let all : nodes_of (reverse c.put_first.new.self.values) ≡ nodes_of (reverse c.entries.block.values) ++ c.in-Ok-load_node.child.node ∷ [] = ap (λ xs. nodes_of (reverse xs)) c.put_first.ensures.values ∙ nodes-first (in_slot n) ss in
-    let rows : all_points (nodes_of (reverse c.put_first.new.self.values)) ≡ all_points (nodes_of (reverse c.entries.block.values)) + points c.in-Ok-load_node.child.node = ap all_points all ∙ points-more (nodes_of (reverse ss)) n in
-    let sizes : all_sizes (nodes_of (reverse c.put_first.new.self.values)) ≡ all_sizes (nodes_of (reverse c.entries.block.values)) + node_size c.in-Ok-load_node.child.node = ap all_sizes all ∙ sizes-more (nodes_of (reverse ss)) n in
+    let place : places_under (first_in c.of-block.result.words).level
+    (known c.args.form.now.dims (place_of c.args.form.now.dims c.args.place.now))
+    (take (c.entries.i + 1) (entries_in c.args.form.now.dims c.of-block.result.words)) ≡
+    places_under (first_in c.of-block.result.words).level
+    (known c.args.form.now.dims (place_of c.args.form.now.dims c.args.place.now))
+    (take c.entries.i (entries_in c.args.form.now.dims c.of-block.result.words)) ++ place_of c.args.form.now.dims
+    c.in-Some.under ∷ [] = rw (c.words-in-entries.ensures ∙ c.entries.invariant.words) at c.in-Some.ensures.place in
+    let all : nodes_of (reverse c.put_first.new.self.values) ≡ nodes_of (reverse c.entries.block.values) ++
+    c.in-Ok-load_node.child.node ∷ [] = ap (λ xs. nodes_of (reverse xs)) c.put_first.ensures.values ∙
+    nodes-first (in_slot n) ss in
+    let rows : all_points (nodes_of (reverse c.put_first.new.self.values)) ≡
+    all_points (nodes_of (reverse c.entries.block.values)) + points c.in-Ok-load_node.child.node =
+    ap all_points all ∙ points-more (nodes_of (reverse ss)) n in
+    let sizes : all_sizes (nodes_of (reverse c.put_first.new.self.values)) ≡
+    all_sizes (nodes_of (reverse c.entries.block.values)) + node_size c.in-Ok-load_node.child.node =
+    ap all_sizes all ∙ sizes-more (nodes_of (reverse ss)) n in
     record {
       within = c.in-Ok-load_node.ensures.within;
       words = c.put_first.ensures.same.0 ∙ c.entries.invariant.words;
       spare = omega (arith, c.entries.invariant.spare, c.put_first.ensures.spare, ap (λ xs. length xs) c.put_first.ensures.values);
-      count = omega (arith, ap (λ xs. length xs) c.put_first.ensures.values, c.entries.invariant.count, ap (λ ps. length ps) place, length-append (places_under level above (take i es)) (q ∷ []));
-      none = subst (λ ps. HaveNone form.kind form.width form.dims ps start bytes end) (sym place) (none-more form.kind form.width form.dims bytes (places_under level above (take i es)) q start c.entries.end end c.entries.invariant.none c.in-Ok-load_node.ensures.none);
-      nodes = subst (λ ns. ReadAs form.dims (drop start bytes) ns (drop end bytes)) (sym all) (read-more form.dims (drop start bytes) (drop c.entries.end bytes) (drop end bytes) (nodes_of (reverse ss)) n c.entries.invariant.nodes c.in-Ok-load_node.ensures.node);
+      count = omega (
+        arith,
+        ap (λ xs. length xs) c.put_first.ensures.values,
+        c.entries.invariant.count,
+        ap (λ ps. length ps) place,
+        length-append (places_under level above (take i es)) (q ∷ []),
+      );
+      none = subst (λ ps. HaveNone form.kind form.width form.dims ps start bytes end) (sym place)
+          (none-more form.kind form.width form.dims bytes (places_under level above (take i es)) q start c.entries.end
+          end c.entries.invariant.none c.in-Ok-load_node.ensures.none);
+      nodes = subst (λ ns. ReadAs form.dims (drop start bytes) ns (drop end bytes)) (sym all)
+          (read-more form.dims (drop start bytes) (drop c.entries.end bytes) (drop end bytes) (nodes_of (reverse ss))
+          n c.entries.invariant.nodes c.in-Ok-load_node.ensures.node);
       rows = omega (arith, c.entries.invariant.rows, c.in-Ok-load_node.ensures.rows, rows);
       few = omega (arith, c.entries.invariant.few, c.in-Ok-load_node.ensures.few, rows);
       changes = omega (arith, c.entries.invariant.changes, c.in-Ok-load_node.ensures.nodes, sizes);
@@ -122,7 +157,8 @@ returns-clause-none g t c =
     let w : c.of-block.result.words ≡ next_record c.args.form.now.dims (drop c.args.at c.args.bytes.now) = ap (λ k. k.words) c.of-block.ensures ∙ c.in-Ok.ensures.words in
     let b : IsBytes c.args.bytes.now = bytes-are c.args.bytes.now c.type_inv.bytes in
     let past : (first_in c.of-block.result.words).entries ≤ c.entries.i = omega (arith, c.entries-test.false, (rw c.words.ensures at c.count_in-count.ensures)) in
-    all-none form.kind form.width form.dims bytes p c.args.at words b c.requires.at c.in-Ok.ensures.none w c.entries.i c.entries.end past (rw c.len.ensures.value at c.entries.invariant.none)
+    all-none form.kind form.width form.dims bytes p c.args.at words b c.requires.at c.in-Ok.ensures.none w c.entries.i
+    c.entries.end past (rw c.len.ensures.value at c.entries.invariant.none)
 
 pub returns-clause-node : goal.returns-clause-node
 returns-clause-node g t c =
@@ -133,7 +169,9 @@ returns-clause-node g t c =
     let w : c.of-block.result.words ≡ next_record c.args.form.now.dims (drop c.args.at c.args.bytes.now) = ap (λ k. k.words) c.of-block.ensures ∙ c.in-Ok.ensures.words in
     let b : IsBytes c.args.bytes.now = bytes-are c.args.bytes.now c.type_inv.bytes in
     let past : (first_in c.of-block.result.words).entries ≤ c.entries.i = omega (arith, c.entries-test.false, (rw c.words.ensures at c.count_in-count.ensures)) in
-    let many : length (nodes_of (reverse c.entries.block.values)) ≡ (first_in c.of-block.result.words).children = nodes-turned c.entries.block.values ∙ c.entries.invariant.count ∙ stands-many form.kind form.width form.dims bytes p c.args.at words b c.requires.at c.in-Ok.ensures.none w c.entries.i past in
+    let many : length (nodes_of (reverse c.entries.block.values)) ≡ (first_in c.of-block.result.words).children =
+    nodes-turned c.entries.block.values ∙ c.entries.invariant.count ∙ stands-many form.kind form.width form.dims
+    bytes p c.args.at words b c.requires.at c.in-Ok.ensures.none w c.entries.i past in
     let cs = nodes_of (reverse c.entries.block.values) in
     let node : c.assemble-node.result ≡ unpacked c.args.form.now.dims c.of-block.result.words (nodes_of (reverse c.entries.block.values)) = c.assemble-node.ensures.node
     ∙ (λ j. unpacked (sym c.requires.dims j) (c.reverse.ensures.same.0 j) (nodes_of (c.reverse.ensures.values j)))
@@ -142,7 +180,9 @@ returns-clause-node g t c =
     let entries : c.count_in-count.result ≡ (first_in c.of-block.result.words).entries = rw c.words.ensures at c.count_in-count.ensures in
     let below : c.children_in-below.result ≡ (first_in c.of-block.result.words).children = rw c.words-2.ensures at c.children_in-below.ensures in
     subst (λ x. ReadAs form.dims (drop c.args.at bytes) (x ∷ []) (drop c.entries.end bytes)) (sym node)
-    (read-all form.kind form.width form.dims bytes p c.args.at words b c.requires.at c.in-Ok.ensures.none w c.entries.end cs many (omega (arith, c.len.ensures.value, c.entries.invariant.few)) (rw c.len.ensures.value at c.entries.invariant.nodes))
+    (read-all form.kind form.width form.dims bytes p c.args.at words b c.requires.at c.in-Ok.ensures.none w
+    c.entries.end cs many (omega (arith, c.len.ensures.value, c.entries.invariant.few))
+    (rw c.len.ensures.value at c.entries.invariant.nodes))
 
 pub returns-clause-rows : goal.returns-clause-rows
 returns-clause-rows g t c =
@@ -153,7 +193,9 @@ returns-clause-rows g t c =
     let w : c.of-block.result.words ≡ next_record c.args.form.now.dims (drop c.args.at c.args.bytes.now) = ap (λ k. k.words) c.of-block.ensures ∙ c.in-Ok.ensures.words in
     let b : IsBytes c.args.bytes.now = bytes-are c.args.bytes.now c.type_inv.bytes in
     let past : (first_in c.of-block.result.words).entries ≤ c.entries.i = omega (arith, c.entries-test.false, (rw c.words.ensures at c.count_in-count.ensures)) in
-    let many : length (nodes_of (reverse c.entries.block.values)) ≡ (first_in c.of-block.result.words).children = nodes-turned c.entries.block.values ∙ c.entries.invariant.count ∙ stands-many form.kind form.width form.dims bytes p c.args.at words b c.requires.at c.in-Ok.ensures.none w c.entries.i past in
+    let many : length (nodes_of (reverse c.entries.block.values)) ≡ (first_in c.of-block.result.words).children =
+    nodes-turned c.entries.block.values ∙ c.entries.invariant.count ∙ stands-many form.kind form.width form.dims
+    bytes p c.args.at words b c.requires.at c.in-Ok.ensures.none w c.entries.i past in
     let cs = nodes_of (reverse c.entries.block.values) in
     let node : c.assemble-node.result ≡ unpacked c.args.form.now.dims c.of-block.result.words (nodes_of (reverse c.entries.block.values)) = c.assemble-node.ensures.node
     ∙ (λ j. unpacked (sym c.requires.dims j) (c.reverse.ensures.same.0 j) (nodes_of (c.reverse.ensures.values j)))
@@ -172,7 +214,9 @@ returns-clause-few g t c =
     let w : c.of-block.result.words ≡ next_record c.args.form.now.dims (drop c.args.at c.args.bytes.now) = ap (λ k. k.words) c.of-block.ensures ∙ c.in-Ok.ensures.words in
     let b : IsBytes c.args.bytes.now = bytes-are c.args.bytes.now c.type_inv.bytes in
     let past : (first_in c.of-block.result.words).entries ≤ c.entries.i = omega (arith, c.entries-test.false, (rw c.words.ensures at c.count_in-count.ensures)) in
-    let many : length (nodes_of (reverse c.entries.block.values)) ≡ (first_in c.of-block.result.words).children = nodes-turned c.entries.block.values ∙ c.entries.invariant.count ∙ stands-many form.kind form.width form.dims bytes p c.args.at words b c.requires.at c.in-Ok.ensures.none w c.entries.i past in
+    let many : length (nodes_of (reverse c.entries.block.values)) ≡ (first_in c.of-block.result.words).children =
+    nodes-turned c.entries.block.values ∙ c.entries.invariant.count ∙ stands-many form.kind form.width form.dims
+    bytes p c.args.at words b c.requires.at c.in-Ok.ensures.none w c.entries.i past in
     let cs = nodes_of (reverse c.entries.block.values) in
     let node : c.assemble-node.result ≡ unpacked c.args.form.now.dims c.of-block.result.words (nodes_of (reverse c.entries.block.values)) = c.assemble-node.ensures.node
     ∙ (λ j. unpacked (sym c.requires.dims j) (c.reverse.ensures.same.0 j) (nodes_of (c.reverse.ensures.values j)))
@@ -191,7 +235,9 @@ returns-clause-nodes g t c =
     let w : c.of-block.result.words ≡ next_record c.args.form.now.dims (drop c.args.at c.args.bytes.now) = ap (λ k. k.words) c.of-block.ensures ∙ c.in-Ok.ensures.words in
     let b : IsBytes c.args.bytes.now = bytes-are c.args.bytes.now c.type_inv.bytes in
     let past : (first_in c.of-block.result.words).entries ≤ c.entries.i = omega (arith, c.entries-test.false, (rw c.words.ensures at c.count_in-count.ensures)) in
-    let many : length (nodes_of (reverse c.entries.block.values)) ≡ (first_in c.of-block.result.words).children = nodes-turned c.entries.block.values ∙ c.entries.invariant.count ∙ stands-many form.kind form.width form.dims bytes p c.args.at words b c.requires.at c.in-Ok.ensures.none w c.entries.i past in
+    let many : length (nodes_of (reverse c.entries.block.values)) ≡ (first_in c.of-block.result.words).children =
+    nodes-turned c.entries.block.values ∙ c.entries.invariant.count ∙ stands-many form.kind form.width form.dims
+    bytes p c.args.at words b c.requires.at c.in-Ok.ensures.none w c.entries.i past in
     let cs = nodes_of (reverse c.entries.block.values) in
     let node : c.assemble-node.result ≡ unpacked c.args.form.now.dims c.of-block.result.words (nodes_of (reverse c.entries.block.values)) = c.assemble-node.ensures.node
     ∙ (λ j. unpacked (sym c.requires.dims j) (c.reverse.ensures.same.0 j) (nodes_of (c.reverse.ensures.values j)))
@@ -210,7 +256,9 @@ returns-clause-cost g t c =
     let w : c.of-block.result.words ≡ next_record c.args.form.now.dims (drop c.args.at c.args.bytes.now) = ap (λ k. k.words) c.of-block.ensures ∙ c.in-Ok.ensures.words in
     let b : IsBytes c.args.bytes.now = bytes-are c.args.bytes.now c.type_inv.bytes in
     let past : (first_in c.of-block.result.words).entries ≤ c.entries.i = omega (arith, c.entries-test.false, (rw c.words.ensures at c.count_in-count.ensures)) in
-    let many : length (nodes_of (reverse c.entries.block.values)) ≡ (first_in c.of-block.result.words).children = nodes-turned c.entries.block.values ∙ c.entries.invariant.count ∙ stands-many form.kind form.width form.dims bytes p c.args.at words b c.requires.at c.in-Ok.ensures.none w c.entries.i past in
+    let many : length (nodes_of (reverse c.entries.block.values)) ≡ (first_in c.of-block.result.words).children =
+    nodes-turned c.entries.block.values ∙ c.entries.invariant.count ∙ stands-many form.kind form.width form.dims
+    bytes p c.args.at words b c.requires.at c.in-Ok.ensures.none w c.entries.i past in
     let cs = nodes_of (reverse c.entries.block.values) in
     let node : c.assemble-node.result ≡ unpacked c.args.form.now.dims c.of-block.result.words (nodes_of (reverse c.entries.block.values)) = c.assemble-node.ensures.node
     ∙ (λ j. unpacked (sym c.requires.dims j) (c.reverse.ensures.same.0 j) (nodes_of (c.reverse.ensures.values j)))

@@ -15,8 +15,12 @@ invariant-entries g l = record {
   within : l.end ≤ length l.bytes;
   words : l.block.words ≡ l.initial.block.words;
   spare : l.block.spare + length l.block.values ≡ l.initial.block.spare;
-  count : length l.block.values ≡ length (places_under (first_in l.initial.block.words).level (known l.form.dims (place_of l.form.dims l.place)) (take l.i (entries_in l.form.dims l.initial.block.words)));
-  none : HaveNone l.form.kind l.form.width l.form.dims (places_under (first_in l.initial.block.words).level (known l.form.dims (place_of l.form.dims l.place)) (take l.i (entries_in l.form.dims l.initial.block.words))) l.initial.end l.bytes l.end;
+  count : length l.block.values ≡
+      length (places_under (first_in l.initial.block.words).level (known l.form.dims (place_of l.form.dims l.place))
+      (take l.i (entries_in l.form.dims l.initial.block.words)));
+  none : HaveNone l.form.kind l.form.width l.form.dims
+      (places_under (first_in l.initial.block.words).level (known l.form.dims (place_of l.form.dims l.place))
+      (take l.i (entries_in l.form.dims l.initial.block.words))) l.initial.end l.bytes l.end;
   nodes : ReadAs l.form.dims (drop l.initial.end l.bytes) (nodes_of (reverse l.block.values)) (drop l.end l.bytes);
   rows : l.rows ≡ l.initial.rows + all_points (nodes_of (reverse l.block.values));
   few : l.initial.end + 8 * all_points (nodes_of (reverse l.block.values)) ≤ l.end;

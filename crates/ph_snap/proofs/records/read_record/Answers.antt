@@ -65,4 +65,6 @@ returns-clause-room c =
     let form = c.args.form.now in
     let f = c.new-first.ensures ∙ ap first_of c.word_at.ensures in
     let w = c.in-Ok.ensures.words ∙ ap (λ n. words_in n rest) (c.words-len.ensures.value ∙ ap (record_words form.dims) f) in
-    c.in-Ok.ensures.room ∙ ap (λ t. t.children) (same-first form c.args.place.now c.requires.form c.requires.standing rest c.in-Ok.words.words c.new-first.result f w c.if-not-fits.ensures)
+    c.in-Ok.ensures.room ∙ ap (λ t. t.children)
+    (same-first form c.args.place.now c.requires.form c.requires.standing rest c.in-Ok.words.words
+    c.new-first.result f w c.if-not-fits.ensures)

@@ -11,7 +11,9 @@ push-requires c =
 pub loop-i-preserved : goal.loop-i-preserved
 loop-i-preserved c =
     record {
-      words = c.push.ensures.words ∙ ap (λ t. t ++ c.word_at.result ∷ []) c.loop-i.invariant.words ∙ ap (λ t. words_in c.loop-i.i c.args.bytes.now ++ t ∷ []) c.word_at.ensures ∙ sym (words-more c.loop-i.i c.args.bytes.now);
+      words = c.push.ensures.words ∙ ap (λ t. t ++ c.word_at.result ∷ []) c.loop-i.invariant.words ∙
+          ap (λ t. words_in c.loop-i.i c.args.bytes.now ++ t ∷ []) c.word_at.ensures ∙
+          sym (words-more c.loop-i.i c.args.bytes.now);
       room = c.push.ensures.places.0 ∙ c.loop-i.invariant.room;
     }
 

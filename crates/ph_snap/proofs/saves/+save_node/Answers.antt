@@ -37,7 +37,8 @@ returns-in_err-size-clause-front g t c =
     let is = err_from_is_err_and c.from_residual-in_err-size.result c.from_residual-in_err-size.ensures.1 in
     let below = below-children c.children-slot-items.result.now _ _ c.children-slot-items.ensures c.visit-visited.ensures.shows in
     rw is.1
-    (child-front g.P.Dims.D c.args.node.now c.children-slot-items.result.now c.loop-slot.slot-index c.slot-item.result (omega arith) c.slot-item.is _ _ _ _ _ below c.loop-slot.invariant.passed c.in_err-size.ensures.front)
+    (child-front g.P.Dims.D c.args.node.now c.children-slot-items.result.now c.loop-slot.slot-index c.slot-item.result
+    (omega arith) c.slot-item.is _ _ _ _ _ below c.loop-slot.invariant.passed c.in_err-size.ensures.front)
 
 pub returns-in_err-size-clause-visits : goal.returns-in_err-size-clause-visits
 returns-in_err-size-clause-visits g t c =
@@ -58,8 +59,10 @@ loop-slot-preserved g t c =
     let child = nodes (Some c.slot-item.result.node) in
     let more = ap length (trees-more ss c.loop-slot.slot-index c.slot-item.result (omega arith) c.slot-item.is) in
     record {
-      passed = child-passed g.P.Dims.D c.args.node.now ss c.loop-slot.slot-index c.slot-item.result (omega arith) c.slot-item.is _ _ _ _ _ _ c.loop-slot.invariant.passed c.in_ok-size.ensures.passed;
-      size = child-size g.P.Dims.D c.args.node.now ss c.loop-slot.slot-index c.slot-item.result (omega arith) c.slot-item.is _ _ c.loop-slot.invariant.size c.in_ok-size.ensures.size;
+      passed = child-passed g.P.Dims.D c.args.node.now ss c.loop-slot.slot-index c.slot-item.result (omega arith)
+          c.slot-item.is _ _ _ _ _ _ c.loop-slot.invariant.passed c.in_ok-size.ensures.passed;
+      size = child-size g.P.Dims.D c.args.node.now ss c.loop-slot.slot-index c.slot-item.result (omega arith)
+          c.slot-item.is _ _ c.loop-slot.invariant.size c.in_ok-size.ensures.size;
       few = omega (arith, c.in_ok-size.ensures.few, c.loop-slot.invariant.few, more, length-append before child);
       later = omega (arith, c.loop-slot.invariant.later, c.in_ok-size.ensures.cause.later);
       follows = g.met.S.Sink.follows_on _ _ _ c.loop-slot.invariant.follows c.in_ok-size.ensures.follows;

@@ -11,7 +11,9 @@ decreases-save_node g l = length (nodes (Some l.node.now))
 
 abbrev pub invariant-loop-slot : goal.invariant-loop-slot
 invariant-loop-slot g l = record {
-  passed : Passed (taken_of (g.S.Sink.written l.fn.sink) (g.S.Sink.amount l.fn.sink)) l.fn.block (taken_of (g.S.Sink.written l.sink) (g.S.Sink.amount l.sink)) l.block (saved g.P.Dims.D (l.fn.node ∷ trees (take l.slot-index l.slot-items)));
+  passed : Passed (taken_of (g.S.Sink.written l.fn.sink) (g.S.Sink.amount l.fn.sink)) l.fn.block
+      (taken_of (g.S.Sink.written l.sink) (g.S.Sink.amount l.sink)) l.block
+      (saved g.P.Dims.D (l.fn.node ∷ trees (take l.slot-index l.slot-items)));
   size : l.size ≡ length (saved g.P.Dims.D (l.fn.node ∷ trees (take l.slot-index l.slot-items)));
   few : l.size ≤ 2 ^ 63 * (1 + length (trees (take l.slot-index l.slot-items)));
   later : g.S.Sink.faults l.fn.sink ≤ g.S.Sink.faults l.sink;

@@ -12,7 +12,11 @@ returns-then-kinds_fit c =
     let dims = c.args.dims in
     let words = c.args.words.now in
     let f = c.args.first.now in
-    cube-is dims words (1 * 2 ^ dims % 2 ^ 64) f.entries f.children f.level true c.absent_bodies_are_zero.result (long-as dims words true c.requires.layout c.requires.framed) (each-fits words c.type_inv.words) (shifted dims c.requires.framed.few) (ap (λ (t : First). t.entries) c.requires.first) (ap (λ (t : First). t.children) c.requires.first) (ap (λ (t : First). t.level) c.requires.first) c.if-kinds_fit.ensures c.absent_bodies_are_zero.ensures
+    cube-is dims words (1 * 2 ^ dims % 2 ^ 64) f.entries f.children f.level true c.absent_bodies_are_zero.result
+    (long-as dims words true c.requires.layout c.requires.framed) (each-fits words c.type_inv.words)
+    (shifted dims c.requires.framed.few) (ap (λ (t : First). t.entries) c.requires.first)
+    (ap (λ (t : First). t.children) c.requires.first) (ap (λ (t : First). t.level) c.requires.first)
+    c.if-kinds_fit.ensures c.absent_bodies_are_zero.ensures
 
 pub returns-else-kinds_fit : goal.returns-else-kinds_fit
 returns-else-kinds_fit c =
@@ -21,4 +25,8 @@ returns-else-kinds_fit c =
     let f = c.args.first.now in
     let absent = absent_are_zero (digits_row words 64 2 (2 ^ dims)) (body_rows words (64 + 2 ^ dims * 2) f.level dims (2 ^ dims)) in
     c.if-kinds_fit.false
-    ∙ cube-is dims words (1 * 2 ^ dims % 2 ^ 64) f.entries f.children f.level false absent (long-as dims words true c.requires.layout c.requires.framed) (each-fits words c.type_inv.words) (shifted dims c.requires.framed.few) (ap (λ (t : First). t.entries) c.requires.first) (ap (λ (t : First). t.children) c.requires.first) (ap (λ (t : First). t.level) c.requires.first) c.if-kinds_fit.ensures refl
+    ∙ cube-is dims words (1 * 2 ^ dims % 2 ^ 64) f.entries f.children f.level false absent
+    (long-as dims words true c.requires.layout c.requires.framed) (each-fits words c.type_inv.words)
+    (shifted dims c.requires.framed.few) (ap (λ (t : First). t.entries) c.requires.first)
+    (ap (λ (t : First). t.children) c.requires.first) (ap (λ (t : First). t.level) c.requires.first)
+    c.if-kinds_fit.ensures refl

@@ -13,7 +13,10 @@ returns-then-ones_before-from c =
     let words = c.args.words.now in
     let rise = c.addresses_rise.result in
     ap (λ t. t && rise) (sym (eq-eqb c.ones_before.result c.from.result c.if-ones_before-from.true))
-    ∙ linear-is dims words c.from-count.result c.from.result c.ones_before.result rise (long-as dims words false c.requires.layout c.requires.framed) (each-fits words c.type_inv.words) (c.from-count.ensures ∙ ap (λ (t : First). t.entries) c.requires.first) (c.from.ensures ∙ ap (λ (t : First). t.children) c.requires.first) c.ones_before.ensures c.addresses_rise.ensures
+    ∙ linear-is dims words c.from-count.result c.from.result c.ones_before.result rise
+    (long-as dims words false c.requires.layout c.requires.framed) (each-fits words c.type_inv.words)
+    (c.from-count.ensures ∙ ap (λ (t : First). t.entries) c.requires.first)
+    (c.from.ensures ∙ ap (λ (t : First). t.children) c.requires.first) c.ones_before.ensures c.addresses_rise.ensures
 
 pub returns-else-ones_before-from : goal.returns-else-ones_before-from
 returns-else-ones_before-from c =
@@ -23,4 +26,7 @@ returns-else-ones_before-from c =
     let rise = rises_from 0 (digits_row words (64 + n) dims n) in
     let z : (c.ones_before.result == c.from.result) ≡ false = ne_eqb c.ones_before.result c.from.result c.if-ones_before-from.false in
     z ∙ ap (λ t. t && rise) (sym z)
-    ∙ linear-is dims words n c.from.result c.ones_before.result rise (long-as dims words false c.requires.layout c.requires.framed) (each-fits words c.type_inv.words) (c.from-count.ensures ∙ ap (λ (t : First). t.entries) c.requires.first) (c.from.ensures ∙ ap (λ (t : First). t.children) c.requires.first) c.ones_before.ensures refl
+    ∙ linear-is dims words n c.from.result c.ones_before.result rise
+    (long-as dims words false c.requires.layout c.requires.framed) (each-fits words c.type_inv.words)
+    (c.from-count.ensures ∙ ap (λ (t : First). t.entries) c.requires.first)
+    (c.from.ensures ∙ ap (λ (t : First). t.children) c.requires.first) c.ones_before.ensures refl

@@ -6,7 +6,9 @@ use Rattle.ph_table.proofs.place.place_of.Goals as goal
 
 pub returns-then-i-rows : goal.returns-then-i-rows
 returns-then-i-rows g c =
-    place-new c.args.w g.row.D c.args.rows.now c.args.p.now _ (omega arith) c.requires.point (and_parts _ _ (and_parts _ _ c.requires.table).1).0 (and_parts _ _ c.requires.table).0 c.rows_before-i.ensures (λ l d. absurd (omega arith))
+    place-new c.args.w g.row.D c.args.rows.now c.args.p.now _ (omega arith) c.requires.point
+    (and_parts _ _ (and_parts _ _ c.requires.table).1).0 (and_parts _ _ c.requires.table).0
+    c.rows_before-i.ensures (λ l d. absurd (omega arith))
 
 pub returns-then-eq : goal.returns-then-eq
 returns-then-eq g c =
@@ -16,4 +18,6 @@ returns-then-eq g c =
 pub returns-else-eq : goal.returns-else-eq
 returns-else-eq g c =
     let s : same_point c.index-rows-i.result.point c.args.p.now ≡ false = search rules in
-    place-new c.args.w g.row.D c.args.rows.now c.args.p.now _ (omega arith) c.requires.point (and_parts _ _ (and_parts _ _ c.requires.table).1).0 (and_parts _ _ c.requires.table).0 c.rows_before-i.ensures (λ l d. other-at c.args.rows.now c.args.p.now _ c.index-rows-i.result d l c.index-rows-i.is s)
+    place-new c.args.w g.row.D c.args.rows.now c.args.p.now _ (omega arith) c.requires.point
+    (and_parts _ _ (and_parts _ _ c.requires.table).1).0 (and_parts _ _ c.requires.table).0
+    c.rows_before-i.ensures (λ l d. other-at c.args.rows.now c.args.p.now _ c.index-rows-i.result d l c.index-rows-i.is s)

@@ -10,7 +10,8 @@ loop-low-preserved-then-z_before g c =
     record {
       ordered = omega arith;
       within = omega arith;
-      earlier = λ k d h. earlier-up c.args.w c.args.rows.now c.args.p.now c.index-rows-middle.result _ k d (and_parts _ _ c.requires.table).0 (omega arith) c.index-rows-middle.is b h;
+      earlier = λ k d h. earlier-up c.args.w c.args.rows.now c.args.p.now c.index-rows-middle.result _ k d
+          (and_parts _ _ c.requires.table).0 (omega arith) c.index-rows-middle.is b h;
       later = c.loop-low.invariant.later;
     }
 
@@ -21,5 +22,6 @@ loop-low-preserved g c =
       ordered = omega arith;
       within = omega arith;
       earlier = c.loop-low.invariant.earlier;
-      later = λ k d i l. later-down c.args.w c.args.rows.now c.args.p.now c.index-rows-middle.result _ k d (and_parts _ _ c.requires.table).0 c.index-rows-middle.is b i l;
+      later = λ k d i l. later-down c.args.w c.args.rows.now c.args.p.now c.index-rows-middle.result _ k d
+          (and_parts _ _ c.requires.table).0 c.index-rows-middle.is b i l;
     }

@@ -16,5 +16,6 @@ invariant-loop-x g l = record {
   right : AreLawful g.P.Dims.D (nodes_of l.x-iterator.b.rest.now);
   few : length (trees l.x-iterator.a.rest.now) + 1 ≤ length (nodes (Some l.fn.a));
   later : l.fn.visits ≤ l.visits;
-  visits : l.visits + length (trees l.x-iterator.a.rest.now) + length (trees l.x-iterator.b.rest.now) ≡ l.fn.visits + length (nodes (Some l.fn.a)) + length (nodes (Some l.fn.b));
+  visits : l.visits + length (trees l.x-iterator.a.rest.now) + length (trees l.x-iterator.b.rest.now) ≡
+      l.fn.visits + length (nodes (Some l.fn.a)) + length (nodes (Some l.fn.b));
 }

@@ -6,7 +6,9 @@ use Rattle.ph_tree.proofs.find.find_in.Goals.{After-step}
 use Rattle.ph_tree.proofs.find.find_in.Goals as goal
 
 -- what the step finds in the node
-stepped : (g : Over) (c : After-step g) → IsStepAt g.P.Dims.D c.args.key.now.width c.args.key.now.point (shown c.down.node) c.step.result (c.step.new.visits - c.down.visits)
+stepped : (g : Over) (c : After-step g) →
+    IsStepAt g.P.Dims.D c.args.key.now.width c.args.key.now.point (shown c.down.node) c.step.result
+    (c.step.new.visits - c.down.visits)
 stepped g c = record { lawful = c.down.invariant.lawful; step = c.step.ensures.step }
 
 pub returns-in-Absent-clause-found : goal.returns-in-Absent-clause-found

@@ -11,7 +11,8 @@ invariant-down g l =
       lawful : IsLawfulFrom g.P.Dims.D (shown l.node).level 0 (shown l.node).chain;
       level : (shown l.node).level < l.key.width;
       found : find_node l.key.width (shown l.node) l.key.point ≡ find_node l.key.width (shown l.initial.node) l.key.point;
-      cost : l.visits + opened_below l.key.width (shown l.node).level (shown l.node).chain l.key.point ≡ l.initial.visits + opened_below l.key.width (shown l.initial.node).level (shown l.initial.node).chain l.key.point;
+      cost : l.visits + opened_below l.key.width (shown l.node).level (shown l.node).chain l.key.point ≡
+          l.initial.visits + opened_below l.key.width (shown l.initial.node).level (shown l.initial.node).chain l.key.point;
     }
 
 abbrev pub decreases-down : goal.decreases-down

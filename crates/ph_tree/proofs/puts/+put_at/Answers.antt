@@ -2,13 +2,16 @@ use Rattle.std.proofs.Common.{◌-◌, ℕ, arith, rules, sym, ap, ◌∙◌}
 use Rattle.ph_specs.specs.Node.{node}
 use Rattle.ph_specs.specs.EntryEdits.{with_child}
 use Rattle.ph_tree.proofs.PutCases.{found_as, put_as, lifted}
-use Rattle.ph_tree.proofs.Walks.{IsStepAt, step_at, absent_found, same_found, same_value, same_spot, same_put, below_node, below_spot, below_rank, below_lent, way_below, other_found, other_opened}
+use Rattle.ph_tree.proofs.Walks.{IsStepAt, step_at, absent_found, same_found, same_value, same_spot, same_put, below_node}
+use Rattle.ph_tree.proofs.Walks.{below_spot, below_rank, below_lent, way_below, other_found, other_opened}
 use Rattle.ph_tree.proofs.puts.+put_at.Given.{Over}
 use Rattle.ph_tree.proofs.puts.+put_at.Goals.{After-step}
 use Rattle.ph_tree.proofs.puts.+put_at.Goals as goal
 
 -- what the step finds in the node
-stepped : (g : Over) (t : ℕ) (c : After-step g t) → IsStepAt g.P.Dims.D c.args.put.now.key.now.width c.args.put.now.key.now.point c.args.cur.now c.step.result (c.step.new.visits - c.visit-node.new.visits)
+stepped : (g : Over) (t : ℕ) (c : After-step g t) →
+    IsStepAt g.P.Dims.D c.args.put.now.key.now.width c.args.put.now.key.now.point c.args.cur.now c.step.result
+    (c.step.new.visits - c.visit-node.new.visits)
 stepped g t c = step_at c.visit-node.ensures.shows c.requires.lawful c.step.ensures.step
 
 pub replace_value-requires : goal.replace_value-requires

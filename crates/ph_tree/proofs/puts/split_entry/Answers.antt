@@ -6,7 +6,9 @@ use Rattle.ph_tree.proofs.puts.split_entry.Goals.{After-below}
 use Rattle.ph_tree.proofs.puts.split_entry.Goals as goal
 
 -- the split where the body and the point's digits differ
-split_there : (g : Over) (c : After-below g) → Splits c.args.put.now.key.now.width g.P.Dims.D c.args.put.now.key.now.point c.args.cur.now c.args.spot (take g.P.Dims.D c.below.result)
+split_there : (g : Over) (c : After-below g) →
+    Splits c.args.put.now.key.now.width g.P.Dims.D c.args.put.now.key.now.point c.args.cur.now c.args.spot
+    (take g.P.Dims.D c.below.result)
 split_there g c =
     splits c.requires.lawful c.requires.apart c.requires.level c.below.ensures.body.fields c.below.ensures.value
 
@@ -22,4 +24,6 @@ split-requires g c =
 
 pub returns-in-Ok-clause-put : goal.returns-in-Ok-clause-put
 returns-in-Ok-clause-put g c =
-    added _ _ c.if-not-put.false (c.in-Ok.ensures.ok ∙ (split_there g (goal.at.returns-in-Ok-clause-put g c).After-below).put c.args.put.now.value) (omega (arith, c.in-Ok.ensures.cost)) (omega (arith, c.in-Ok.ensures.cost))
+    added _ _ c.if-not-put.false (c.in-Ok.ensures.ok ∙
+    (split_there g (goal.at.returns-in-Ok-clause-put g c).After-below).put c.args.put.now.value)
+    (omega (arith, c.in-Ok.ensures.cost)) (omega (arith, c.in-Ok.ensures.cost))

@@ -10,4 +10,9 @@ returns-clause-room g c =
 pub returns-clause-limit : goal.returns-clause-limit
 returns-clause-limit g c =
     let n = shown c.args.node in
-    omega (arith, room-of g.P.Dims.D n c.words.result.now c.children.result.now c.words.ensures c.children.ensures, room-few g.P.Dims.D n c.requires.few c.requires.lawful (omega (arith, c.level-level.ensures.value, c.level-level.ensures.limit)))
+    omega (
+      arith,
+      room-of g.P.Dims.D n c.words.result.now c.children.result.now c.words.ensures c.children.ensures,
+      room-few g.P.Dims.D n c.requires.few c.requires.lawful
+          (omega (arith, c.level-level.ensures.value, c.level-level.ensures.limit)),
+    )

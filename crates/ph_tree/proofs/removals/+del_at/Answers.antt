@@ -4,7 +4,8 @@ use Rattle.ph_specs.specs.Node.{node}
 use Rattle.ph_specs.specs.EntryEdits.{with_child}
 use Rattle.ph_tree.specs.Rooms.{relaid_room}
 use Rattle.ph_tree.specs.Spares.{HasRoom}
-use Rattle.ph_tree.proofs.Walks.{IsStepAt, step_at, absent_found, absent_opened, same_found, same_opened, same_value, same_spot, below_node, below_spot, below_rank, below_lent, way_below, some_none, other_found, other_opened}
+use Rattle.ph_tree.proofs.Walks.{IsStepAt, step_at, absent_found, absent_opened, same_found, same_opened, same_value, same_spot}
+use Rattle.ph_tree.proofs.Walks.{below_node, below_spot, below_rank, below_lent, way_below, some_none, other_found, other_opened}
 use Rattle.ph_tree.proofs.Gone.{absent_del, other_del, same_del, same_many, below_left, below_del, merges}
 use Rattle.ph_tree.proofs.RemovalCases.{removal_as, lifted}
 use Rattle.ph_tree.proofs.Wanted.{same_wanted, child_wanted}
@@ -13,7 +14,9 @@ use Rattle.ph_tree.proofs.removals.+del_at.Goals.{After-step, After-relaid_room-
 use Rattle.ph_tree.proofs.removals.+del_at.Goals as goal
 
 -- what the step finds in the node
-stepped : (g : Over) (t : ℕ) (c : After-step g t) → IsStepAt g.P.Dims.D c.args.key.now.width c.args.key.now.point c.args.cur.now c.step.result (c.step.new.visits - c.visit-node.new.visits)
+stepped : (g : Over) (t : ℕ) (c : After-step g t) →
+    IsStepAt g.P.Dims.D c.args.key.now.width c.args.key.now.point c.args.cur.now c.step.result
+    (c.step.new.visits - c.visit-node.new.visits)
 stepped g t c = step_at c.visit-node.ensures.shows c.requires.lawful c.step.ensures.step
 
 -- the room that the node wants

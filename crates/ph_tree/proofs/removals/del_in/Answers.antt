@@ -16,11 +16,15 @@ del_at-found-requires-clause-left g c =
 
 pub returns-in-Some-point_among-clause-del : goal.returns-in-Some-point_among-clause-del
 returns-in-Some-point_among-clause-del g c =
-    let last = last_found c.args.key.now.width g.P.Dims.D c.args.key.now.point c.in-Some.node _ c.visit.ensures.shows _ c.in-Some.ensures.value c.requires.lawful c.in-Some-point_among.field-0-0 c.in-Some-point_among.value c.in-Some-point_among.ensures in
+    let last = last_found c.args.key.now.width g.P.Dims.D c.args.key.now.point c.in-Some.node _ c.visit.ensures.shows
+    _ c.in-Some.ensures.value c.requires.lawful c.in-Some-point_among.field-0-0 c.in-Some-point_among.value
+    c.in-Some-point_among.ensures in
     record {
       answer = last;
       del = c.take.ensures.after
-          ∙ last_gone c.args.key.now.width g.P.Dims.D c.args.key.now.point c.in-Some.node _ c.visit.ensures.shows _ c.in-Some.ensures.value c.requires.lawful c.in-Some-point_among.field-0-0 c.in-Some-point_among.value c.in-Some-point_among.ensures;
+          ∙ last_gone c.args.key.now.width g.P.Dims.D c.args.key.now.point c.in-Some.node _ c.visit.ensures.shows _
+          c.in-Some.ensures.value c.requires.lawful c.in-Some-point_among.field-0-0 c.in-Some-point_among.value
+          c.in-Some-point_among.ensures;
       err = tt;
       absent = λ _. refl;
       changes = omega (arith, c.dissolve.ensures);
@@ -40,5 +44,6 @@ returns-in-None-clause-del g c =
 
 pub returns-in-None-clause-roomy : goal.returns-in-None-clause-roomy
 returns-in-None-clause-roomy g c room =
-    let wanted = root_wanted c.args.key.now.width g.P.Dims.D c.args.key.now.point c.in-Some.node _ c.visit.ensures.shows _ c.in-Some.ensures.value c.requires.lawful c.in-None.ensures in
+    let wanted = root_wanted c.args.key.now.width g.P.Dims.D c.args.key.now.point c.in-Some.node _
+    c.visit.ensures.shows _ c.in-Some.ensures.value c.requires.lawful c.in-None.ensures in
     rw c.outcome.ensures (c.del_at-found.ensures.roomy (subst (HasRoom c.args.removal.now) wanted room))

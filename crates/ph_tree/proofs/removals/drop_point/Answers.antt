@@ -18,7 +18,9 @@ held (Some w) n m e some h = omega (arith, e, h)
 pub drop_entry-requires-clause-room : goal.drop_entry-requires-clause-room
 drop_entry-requires-clause-room g c relaid =
     let n = c.args.cur.now in
-    let taken : length (pack g.P.Dims.D n) + length (child_nodes n.chain) ≡ room_of_entries g.P.Dims.D n.level n.chain = ap (λ k. length (pack g.P.Dims.D n) + k) (length-children n.chain) in
+    let taken : length (pack g.P.Dims.D n) + length (child_nodes n.chain) ≡ room_of_entries g.P.Dims.D n.level
+    n.chain = ap (λ k. length (pack g.P.Dims.D n) + k) (length-children n.chain) in
     let yes : is_relaid g.P.Dims.D n.level (count n.chain) ≡ true = ap (is_relaid g.P.Dims.D n.level) (sym (length-count n.chain)) ∙ relaid in
-    let room : c.args.room ≡ length (pack g.P.Dims.D n) + length (child_nodes n.chain) = c.requires.room ∙ ap (λ (b : Bool). if b then room_of_entries g.P.Dims.D n.level n.chain else 0) yes ∙ sym taken in
+    let room : c.args.room ≡ length (pack g.P.Dims.D n) + length (child_nodes n.chain) = c.requires.room ∙
+    ap (λ (b : Bool). if b then room_of_entries g.P.Dims.D n.level n.chain else 0) yes ∙ sym taken in
     held c.in-Ok.block _ c.args.room room (omega arith) c.in-Ok.ensures.room

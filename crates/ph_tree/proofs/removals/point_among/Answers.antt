@@ -20,4 +20,5 @@ returns-then-children-entries g c =
 
 pub returns : goal.returns
 returns g c =
-    subst (λ n. IsAmong c.args.key.now.width c.args.key.now.point (shown c.args.node) n c.point_in.result) (sym c.len.ensures ∙ omega (arith, c.if-len-entries.false)) c.point_in.ensures
+    subst (λ n. IsAmong c.args.key.now.width c.args.key.now.point (shown c.args.node) n c.point_in.result)
+    (sym c.len.ensures ∙ omega (arith, c.if-len-entries.false)) c.point_in.ensures

@@ -9,9 +9,11 @@ use Rattle.ph_tree.proofs.removals.point_in.Goals.{In-Ok}
 use Rattle.ph_tree.proofs.removals.point_in.Goals as goal
 
 -- the entry that was found stands at the point's address
-at : (g : Over) (c : In-Ok g) → IsAt c.args.key.now.width c.args.key.now.point (shown c.args.node) c.in-Ok.spot (entry_at (entries (shown c.args.node)) c.in-Ok.spot.place)
+at : (g : Over) (c : In-Ok g) → IsAt c.args.key.now.width c.args.key.now.point (shown c.args.node) c.in-Ok.spot
+    (entry_at (entries (shown c.args.node)) c.in-Ok.spot.place)
 at g c =
-    at_entry c.args.key.now.width c.args.key.now.point (shown c.args.node) _ _ c.in-Ok.spot c.level.ensures.value c.address.ensures.value c.in-Ok.ensures.found c.in-Ok.ensures.spot
+    at_entry c.args.key.now.width c.args.key.now.point (shown c.args.node) _ _ c.in-Ok.spot c.level.ensures.value
+    c.address.ensures.value c.in-Ok.ensures.found c.in-Ok.ensures.spot
 
 pub what-requires : goal.what-requires
 what-requires g c = c.in-Ok.ensures.spot
@@ -50,6 +52,7 @@ returns-else-is_below g c =
 pub returns-in-Child : goal.returns-in-Child
 returns-in-Child g c =
     let n = shown c.args.node in
-    child_among c.args.key.now.width g.P.Dims.D c.args.key.now.point n c.requires.lawful _ (length (entries (shown c.args.node))) (entry_at (entries n) c.in-Ok.spot.place) _
+    child_among c.args.key.now.width g.P.Dims.D c.args.key.now.point n c.requires.lawful _
+    (length (entries (shown c.args.node))) (entry_at (entries n) c.in-Ok.spot.place) _
     (at g (goal.at.returns-in-Child g c).In-Ok)
     (sym c.what.ensures ∙ ap (λ u. what_of u) c.in-Child.is)

@@ -14,4 +14,5 @@ returns-then-low-level g c =
     let n = shown c.args.node in
     let os = map (offset c.args.key.now.width) c.args.key.now.point in
     let long : length os ≡ g.P.Dims.D = ap (λ xs. length xs) (sym c.offsets-offsets.ensures.value) ∙ c.offsets-offsets.ensures.dims in
-    sym (same_digits-refl _ _ (gapless n.level c.args.low _ os (c.if-low-level.true ∙ c.level-level.ensures.value) c.requires.body.1 c.requires.zeros (long ∙ sym c.requires.body.0)))
+    sym (same_digits-refl _ _ (gapless n.level c.args.low _ os (c.if-low-level.true ∙ c.level-level.ensures.value)
+    c.requires.body.1 c.requires.zeros (long ∙ sym c.requires.body.0)))

@@ -23,7 +23,8 @@ is_same-returns g t c = (
 
 pub is_same_entry-is_same-requires : goal.is_same_entry-is_same-requires
 is_same_entry-is_same-requires g t c κs within =
-    let k = child-lawful g.P.Dims.D c.args.plain.now c.args.i (entry_of g.P.Dims.D c.args.entry.now) c.in-Child-Some.below c.requires.lawful c.requires.place c.in-Child-Some.ensures in
+    let k = child-lawful g.P.Dims.D c.args.plain.now c.args.i (entry_of g.P.Dims.D c.args.entry.now)
+    c.in-Child-Some.below c.requires.lawful c.requires.place c.in-Child-Some.ensures in
     (omega (arith, k.0, c.decreases), search (rules, within, k.1, c.requires.few))
 
 pub is_same_entry-returns-in-Value-None : goal.is_same_entry-returns-in-Value-None
@@ -31,7 +32,10 @@ is_same_entry-returns-in-Value-None g t c =
     let n = c.args.plain.now in
     let e = entry_of g.P.Dims.D c.args.entry.now in
     value-same n c.args.i e c.in-Value-None.v c.value.result c.eq.result c.requires.place
-    (front-same g.P.Dims.D n c.args.i e c.addr.result c.body-body.result c.requires.lawful c.requires.place c.if-entry-addr.false c.addr.ensures (body-same g.P.Dims.D _ _ c.args.entry.now.body c.body-body.result c.D.ensures c.D-else-entry-addr.ensures c.if-ne.ensures) c.body-body.ensures)
+    (front-same g.P.Dims.D n c.args.i e c.addr.result c.body-body.result c.requires.lawful c.requires.place
+    c.if-entry-addr.false c.addr.ensures
+    (body-same g.P.Dims.D _ _ c.args.entry.now.body c.body-body.result c.D.ensures c.D-else-entry-addr.ensures
+    c.if-ne.ensures) c.body-body.ensures)
     (ap what_of {x = c.args.entry.now.what} c.in-Value-None.is-0) c.in-Value-None.ensures c.value.ensures c.eq.ensures
 
 pub is_same_entry-returns-in-Child-Some : goal.is_same_entry-returns-in-Child-Some
@@ -39,5 +43,8 @@ is_same_entry-returns-in-Child-Some g t c =
     let n = c.args.plain.now in
     let e = entry_of g.P.Dims.D c.args.entry.now in
     child-same n c.args.i e c.in-Child-Some.node.now c.in-Child-Some.below c.is_same.result c.requires.place
-    (front-same g.P.Dims.D n c.args.i e c.addr.result c.body-body.result c.requires.lawful c.requires.place c.if-entry-addr.false c.addr.ensures (body-same g.P.Dims.D _ _ c.args.entry.now.body c.body-body.result c.D.ensures c.D-else-entry-addr.ensures c.if-ne.ensures) c.body-body.ensures)
+    (front-same g.P.Dims.D n c.args.i e c.addr.result c.body-body.result c.requires.lawful c.requires.place
+    c.if-entry-addr.false c.addr.ensures
+    (body-same g.P.Dims.D _ _ c.args.entry.now.body c.body-body.result c.D.ensures c.D-else-entry-addr.ensures
+    c.if-ne.ensures) c.body-body.ensures)
     (ap what_of {x = c.args.entry.now.what} c.in-Child-Some.is-0) c.in-Child-Some.ensures c.is_same.ensures

@@ -10,5 +10,7 @@ pub returns : goal.returns
 returns g c =
     let f = c.args.frame in
     let start : f.place ≡ 0 = omega arith in
-    subst (λ p. MatchOption c.next_at_or_after.result (AreShut f.note.lower f.note.upper (entries (shown f.node)) p (length (entries (shown f.node)))) (λ i. IsPassed f.note.lower f.note.upper (entries (shown f.node)) p i)) (sym start)
+    subst (λ p. MatchOption c.next_at_or_after.result
+    (AreShut f.note.lower f.note.upper (entries (shown f.node)) p (length (entries (shown f.node))))
+    (λ i. IsPassed f.note.lower f.note.upper (entries (shown f.node)) p i)) (sym start)
     (lower-passed f.note.lower f.note.upper (entries (shown f.node)) c.next_at_or_after.result c.next_at_or_after.ensures)

@@ -5,4 +5,5 @@ use Rattle.ph_specs.specs.Window.{lowest}
 use Rattle.ph_window.proofs.whole.least_corner.Goals as goal
 
 pub returns-clause-point : goal.returns-clause-point
-returns-clause-point g c = let value : c.new.result ≡ lowest c.args.w g.row.D = search rules in subst (IsPoint c.args.w g.row.D) (sym value) (lowest-point c.args.w g.row.D)
+returns-clause-point g c = let value : c.new.result ≡ lowest c.args.w g.row.D = search rules in
+    subst (IsPoint c.args.w g.row.D) (sym value) (lowest-point c.args.w g.row.D)

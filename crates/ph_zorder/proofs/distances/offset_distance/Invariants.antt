@@ -7,7 +7,8 @@ use Rattle.ph_zorder.proofs.distances.offset_distance.Given as goal
 
 abbrev pub invariant-loop-x : goal.invariant-loop-x
 invariant-loop-x l = record {
-  value : l.sum + distance (map (coordinate l.fn.w) l.x-iterator.a.rest.now) (map (coordinate l.fn.w) l.x-iterator.b.rest.now) ≡ distance (map (coordinate l.fn.w) l.p) (map (coordinate l.fn.w) l.q);
+  value : l.sum + distance (map (coordinate l.fn.w) l.x-iterator.a.rest.now)
+      (map (coordinate l.fn.w) l.x-iterator.b.rest.now) ≡ distance (map (coordinate l.fn.w) l.p) (map (coordinate l.fn.w) l.q);
   limit : l.sum + length l.x-iterator.a.rest.now * greatest_square ≤ 16 * greatest_square;
   same : length l.x-iterator.a.rest.now ≡ length l.x-iterator.b.rest.now;
   first : Each (λ x. x < 2 ^ l.fn.w) l.x-iterator.a.rest.now;

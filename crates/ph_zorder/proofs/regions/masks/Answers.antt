@@ -20,7 +20,8 @@ masks-are g c =
     let corner : IsPoint c.args.w g.row.D c.r.inside.corner = subst (λ (r : Region). IsPoint c.args.w g.row.D r.corner) (sym c.r.view_is) c.requires.corner in
     let level : c.r.inside.level < c.args.w = subst (λ (r : Region). r.level < c.args.w) (sym c.r.view_is) c.requires.level in
     c.offset_masks.ensures
-    ∙ masks-by c.args.w g.row.D r c.args.lo.now c.args.hi.now c.offsets.result c.offsets-2.result c.offsets-3.result level corner c.requires.lo c.requires.hi c.offsets.ensures c.offsets-2.ensures c.offsets-3.ensures
+    ∙ masks-by c.args.w g.row.D r c.args.lo.now c.args.hi.now c.offsets.result c.offsets-2.result c.offsets-3.result
+    level corner c.requires.lo c.requires.hi c.offsets.ensures c.offsets-2.ensures c.offsets-3.ensures
     ∙ ap (λ (r : Region). masks c.args.w r c.args.lo.now c.args.hi.now) c.r.view_is
 
 pub returns-clause-value : goal.returns-clause-value
@@ -38,8 +39,12 @@ returns-clause-none g c =
 
 pub returns-clause-small : goal.returns-clause-small
 returns-clause-small g c =
-    by_masks c.offset_masks.result (λ m e. masks-fit c.args.w g.row.D c.args.r.now c.args.lo.now c.args.hi.now m c.requires.level c.requires.corner c.requires.lo c.requires.hi (sym (masks-are g c) ∙ e))
+    by_masks c.offset_masks.result
+    (λ m e. masks-fit c.args.w g.row.D c.args.r.now c.args.lo.now c.args.hi.now m c.requires.level
+    c.requires.corner c.requires.lo c.requires.hi (sym (masks-are g c) ∙ e))
   where
-    by_masks : (o : Option (ℕ × ℕ)) → ((m : ℕ × ℕ) → o ≡ Some m → AreMasks c.args.w g.row.D c.args.r.now c.args.lo.now c.args.hi.now m) → IfSome o (λ m. (m.0 < 2 ^ g.row.D) × (m.1 < 2 ^ g.row.D))
+    by_masks : (o : Option (ℕ × ℕ)) →
+        ((m : ℕ × ℕ) → o ≡ Some m → AreMasks c.args.w g.row.D c.args.r.now c.args.lo.now c.args.hi.now m) →
+        IfSome o (λ m. (m.0 < 2 ^ g.row.D) × (m.1 < 2 ^ g.row.D))
     by_masks None h = tt
     by_masks (Some m) h = let a = h m refl in (a.lower_small, a.upper_small)

@@ -5,8 +5,13 @@ use Rattle.ph_bits.proofs.block.Block.drop.Goals as goal
 
 pub loop-i-init : goal.loop-i-init
 loop-i-init g c =
-    let h = c.self.invariant in let i = c.self.inside in let t = told i.places.slots i.kids.items i.alloc c.args.self c.self.view_is h.6 h.7 h.8 in
-    (h.0 ∙ sym h.3, h.0, omega (arith, h.4, t.places, c.first-first.ensures), omega (arith, t.places, c.first-first.ensures), omega (arith, t.count, c.count-count.ensures.value))
+    let h = c.self.invariant in let i = c.self.inside in let t = told i.places.slots i.kids.items i.alloc c.args.self c.self.view_is h.6 h.7 h.8 in (
+      h.0 ∙ sym h.3,
+      h.0,
+      omega (arith, h.4, t.places, c.first-first.ensures),
+      omega (arith, t.places, c.first-first.ensures),
+      omega (arith, t.count, c.count-count.ensures.value),
+    )
 
 pub pop_front-value-requires : goal.pop_front-value-requires
 pop_front-value-requires g c =

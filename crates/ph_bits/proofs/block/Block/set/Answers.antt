@@ -13,7 +13,8 @@ stays g c =
     let h = c.self.invariant in let i = c.self.inside in let cs = i.places.slots in let b = c.args.self.now in
     let t = told cs i.kids.items i.alloc b c.self.view_is h.6 h.7 h.8 in
     let e = c.write.ensures.1 in let at = c.args.i + 1 in let x = c.args.word in
-    held c.write.new.self.slots i.kids.items (length b.words + b.spare) (length b.words) (ap length e ∙ length-set cs at (Some x) ∙ t.places) (omega (arith, t.fits, t.count))
+    held c.write.new.self.slots i.kids.items (length b.words + b.spare) (length b.words)
+    (ap length e ∙ length-set cs at (Some x) ∙ t.places) (omega (arith, t.fits, t.count))
     (rw e (written-set (length b.words + 1) cs at x t.written)) (ap header_of e ∙ header-behind cs c.args.i (Some x) ∙ omega (arith, t.head, t.count))
 
 pub invariant_of-self : goal.invariant_of-self

@@ -1,4 +1,5 @@
-use Rattle.std.proofs.Common.{◌≡◌, ◌≤◌, ◌+◌, ◌-◌, ◌*◌, ◌^◌, ℕ, List, ◌++◌, sym, ◌∙◌, ap, arith, length, length-append, length-take, take, replicate, slice_set, Option, None, Some}
+use Rattle.std.proofs.Common.{◌≡◌, ◌≤◌, ◌+◌, ◌-◌, ◌*◌, ◌^◌, ℕ, List, ◌++◌, sym, ◌∙◌, ap, arith, length}
+use Rattle.std.proofs.Common.{length-append, length-take, take, replicate, slice_set, Option, None, Some}
 use Rattle.std.proofs.lemmas.List.{length-set, length-replicate}
 use Rattle.ph_bits.specs.Headers.{header_of}
 use Rattle.ph_bits.proofs.Headers.{Holds, told, held, header-first, taken, joined, written-alike}

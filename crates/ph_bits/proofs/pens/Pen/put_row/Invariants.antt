@@ -9,6 +9,7 @@ invariant-loop-i l =
     record {
       pen : IsPen l.self;
       digits : digits_by l.words.words l.self ≡ digits_by l.initial.words.words l.initial.self + l.i * l.fn.width;
-      number : number_by l.words.words l.self ≡ number_after (number_by l.initial.words.words l.initial.self) (take l.i (map (field l.fn.width) (take l.fn.count l.fn.body)));
+      number : number_by l.words.words l.self ≡ number_after (number_by l.initial.words.words l.initial.self)
+          (take l.i (map (field l.fn.width) (take l.fn.count l.fn.body)));
       places : IsSamePlaces l.initial.words l.words;
     }

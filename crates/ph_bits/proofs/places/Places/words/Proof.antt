@@ -1,5 +1,10 @@
 -- `words` shows the words that the first places lend. Assumes `Logic`.
-use Rattle.ph_bits.proofs.Walks.{◌≡◌, ℕ, ◌*◌, ◌^◌, List, [], ◌∷◌, refl, sym, ap, ◌∙◌, arith, length, length-map, length-take, Some, proved, full_share, id⊢, ftrue, fat, flft, named, w64, Val, fact, tables, ‵, raw, ◌⊛◌, at_ret, ◌$◌, ◌∵◌, !, qed, done, move, keep, drop, use1, split, join, fsplit, fjoin, flt_l, flt_i, feq_i, rewrite, suffices, frame, whole, sub, agg, enter, of_opd, and_then, no_more, stop, fld, first, blocks, exec, returns, take_at, give_at, layout, word, word-Good, alloc_all, pass_all, free_all, look_at, get, get_in, sets, sets_last, env, u64, usize, yes, uint_vals, uint_Tells, Ptr, in_a_block, owns, plain, nothing, heard, Stays, walk_of, says, stay_dropped, Goes-dropped, ends_at, after}
+use Rattle.ph_bits.proofs.Walks.{◌≡◌, ℕ, ◌*◌, ◌^◌, List, [], ◌∷◌, refl, sym, ap, ◌∙◌, arith, length, length-map, length-take, Some, proved, full_share}
+use Rattle.ph_bits.proofs.Walks.{id⊢, ftrue, fat, flft, named, w64, Val, fact, tables, ‵, raw, ◌⊛◌, at_ret, ◌$◌, ◌∵◌, !, qed, done, move, keep, drop}
+use Rattle.ph_bits.proofs.Walks.{use1, split, join, fsplit, fjoin, flt_l, flt_i, feq_i, rewrite, suffices, frame, whole, sub, agg, enter, of_opd}
+use Rattle.ph_bits.proofs.Walks.{and_then, no_more, stop, fld, first, blocks, exec, returns, take_at, give_at, layout, word, word-Good, alloc_all}
+use Rattle.ph_bits.proofs.Walks.{pass_all, free_all, look_at, get, get_in, sets, sets_last, env, u64, usize, yes, uint_vals, uint_Tells, Ptr, in_a_block}
+use Rattle.ph_bits.proofs.Walks.{owns, plain, nothing, heard, Stays, walk_of, says, stay_dropped, Goes-dropped, ends_at, after}
 use denote.Builtin.{RefOf}
 use denote.Opens.{hide, unhide}
 use denote.Ref.{ShrRef, shr_vals, shr_Tells}
@@ -20,8 +25,13 @@ stayed = (stay_dropped (RefOf (0 ∷ []) tt (plain (λ _. P)) (λ _. tt)) yes, (
 pub words_spec : {M : Type 1} → statement M
 words_spec 𝓤 𝓛 𝓜 𝓡 wired =
     let c = f.clauses 𝓛 𝓜.mem 𝓡.returns in let W = walk_of 𝓛 f.ended stayed c in let 𝓣 = tables 𝓤 𝓛.H 𝓜 𝓡 𝓡.env in
-    proved 𝓛 f.ended stayed c 𝓜 𝓡
-    (Goes-dropped 𝓛 1 (RefOf (0 ∷ []) tt (plain (λ _. P)) (λ _. tt)) yes (λ κs x w. refl), (Goes-dropped 𝓛 1 (plain (λ _. S)) yes (λ κs x w. refl), (Goes-dropped 𝓛 1 (plain (λ _. usize)) yes (λ κs x w. refl), tt)))
+    proved 𝓛 f.ended stayed c 𝓜 𝓡 (
+      Goes-dropped 𝓛 1 (RefOf (0 ∷ []) tt (plain (λ _. P)) (λ _. tt)) yes (λ κs x w. refl),
+      (
+        Goes-dropped 𝓛 1 (plain (λ _. S)) yes (λ κs x w. refl),
+        (Goes-dropped 𝓛 1 (plain (λ _. usize)) yes (λ κs x w. refl), tt),
+      ),
+    )
     f.Key.name code.function (code.unfolded 𝓤 𝓛.H 𝓜 𝓡 wired)
     (λ κs. (shr_vals, ((λ s. lowers.lowered s ∷ []), (uint_vals w64, tt))))
     (λ κs. (shr_Tells (named 0) κs.0 P, (lowers.val_is, (uint_Tells w64, tt)))) (λ κs qs bounds a _ are.
@@ -36,10 +46,13 @@ words_spec 𝓤 𝓛 𝓜 𝓡 wired =
     let long : length xs ≡ len = omega (arith, ap length asked.1.1.1, length-map xs Some, length-take len d.slots, asked.1.0) in
     take_at ! 2 $ rewrite ! 0 (λ (p : Ptr). ‵ (fat full_share (layout S) (l 2) 0 (word p))) (asked.0 ∙ e) refl $ give_at ! 2 $ first ! $ blocks ! $
     use1 𝓛 (‵ (elements_shared u64 xs b o κ)) (front_seen 𝓛 b κ d.slots xs len o asked.1.1.1) $ hide ! $
-    sets_last ! (agg ! (and_then ! (get_in ! (fld ! refl (stop !)) (sub ! 0 refl (whole !))) (and_then ! (get ! refl) (no_more !)))) refl (tt, (tt, (record { fits = are.1.1.0.1 }, tt))) $
-    exec ! 𝓣.C 𝓣.Λ (env code.Mir.locals l) (after 1 (code.function).body) (at_ret _ (W.post y)) $ sets ! (of_opd ! (get ! refl)) refl (tt, (tt, (record { fits = are.1.1.0.1 }, tt))) $
+    sets_last ! (agg ! (and_then ! (get_in ! (fld ! refl (stop !)) (sub ! 0 refl (whole !)))
+    (and_then ! (get ! refl) (no_more !)))) refl (tt, (tt, (record { fits = are.1.1.0.1 }, tt))) $
+    exec ! 𝓣.C 𝓣.Λ (env code.Mir.locals l) (after 1 (code.function).body) (at_ret _ (W.post y)) $ sets !
+    (of_opd ! (get ! refl)) refl (tt, (tt, (record { fits = are.1.1.0.1 }, tt))) $
     flt_i ! (length xs * 8) (2 ^ 63) (omega (arith, long, small, asked.1.0)) $ flt_i ! (length xs) (2 ^ 64) (omega (arith, long, are.1.1.0.1)) $ fjoin ! $
     feq_i ! (List Val) (slice_val (b, o) len ∷ []) (slice_val (b, o) (length xs) ∷ []) (ap (λ k. slice_val (b, o) k ∷ []) (sym long)) $ fjoin ! $ fjoin ! $
     returns ! (look_at ! 0 refl) $ free_all ! refl $ keep ! (1 ∷ 0 ∷ []) $
-    suffices ! _ (ends_at 𝓛 f.ended stayed c y (slice_val (b, o) len) (record { ref_ptr = (b, o); now = xs }) (tt, (tt, (tt, tt))) (tt, (tt, (tt, tt)))) $ says ! asked.1.1.1 $
+    suffices ! _ (ends_at 𝓛 f.ended stayed c y (slice_val (b, o) len) (record { ref_ptr = (b, o); now = xs })
+    (tt, (tt, (tt, tt))) (tt, (tt, (tt, tt)))) $ says ! asked.1.1.1 $
     nothing ! $ move ! (1 ∷ 0 ∷ []) $ join ! $ frame ! $ nothing ! $ nothing ! $ fjoin ! $ nothing ! $ fjoin ! $ nothing ! $ fjoin ! $ done !)))))

@@ -13,12 +13,14 @@ many ws xs i k n h m l e f = ap length f ∙ length-moved ws i k h m (omega (ari
 
 pub get-word-requires : goal.get-word-requires
 get-word-requires c =
-    let m = many c.args.self.now.words c.loop-k.self.words c.args.i c.loop-k.k c.len-k-end.result c.requires c.loop-k.auto.k (omega (arith, c.loop-k-test.true)) c.len-k-end.ensures c.loop-k.invariant.words in
+    let m = many c.args.self.now.words c.loop-k.self.words c.args.i c.loop-k.k c.len-k-end.result c.requires
+    c.loop-k.auto.k (omega (arith, c.loop-k-test.true)) c.len-k-end.ensures c.loop-k.invariant.words in
     omega (arith, m, c.loop-k-test.true, c.len-k-end.ensures)
 
 pub set-requires : goal.set-requires
 set-requires c =
-    let m = many c.args.self.now.words c.loop-k.self.words c.args.i c.loop-k.k c.len-k-end.result c.requires c.loop-k.auto.k (omega (arith, c.loop-k-test.true)) c.len-k-end.ensures c.loop-k.invariant.words in
+    let m = many c.args.self.now.words c.loop-k.self.words c.args.i c.loop-k.k c.len-k-end.result c.requires
+    c.loop-k.auto.k (omega (arith, c.loop-k-test.true)) c.len-k-end.ensures c.loop-k.invariant.words in
     omega (arith, m, c.loop-k-test.true, c.len-k-end.ensures)
 
 pub loop-k-preserved : goal.loop-k-preserved
@@ -30,7 +32,8 @@ loop-k-preserved c =
     let l : suc c.loop-k.k < length c.args.self.now.words = omega (arith, c.loop-k-test.true, c.len-k-end.ensures) in
     let next : c.loop-k.k + 1 ≡ suc c.loop-k.k = omega arith in
     let word : c.get-word.result ≡ slice_index_or c.args.self.now.words (suc c.loop-k.k) 0 =
-    c.get-word.ensures ∙ ap (λ t. slice_index_or t (k + 1) 0) c.loop-k.invariant.words ∙ ap (λ t. slice_index_or (moved ws i k) t 0) next ∙ moved-next ws i k c.requires c.loop-k.auto.k l in
+    c.get-word.ensures ∙ ap (λ t. slice_index_or t (k + 1) 0) c.loop-k.invariant.words ∙
+    ap (λ t. slice_index_or (moved ws i k) t 0) next ∙ moved-next ws i k c.requires c.loop-k.auto.k l in
     let new : c.set.new.self.words ≡ slice_set old.words k c.get-word.result = ap (λ (b : Block). b.words) c.set.ensures in
     let room : room_of c.set.new.self ≡ room_of old = ap room_of c.set.ensures ∙ ap (λ t. t + old.spare) (length-set old.words k c.get-word.result) in
     record {
@@ -50,7 +53,8 @@ end i k n m h e u d = (omega (arith, h, e, u, d), omega (arith, h, e, u, d))
 pub truncate-requires : goal.truncate-requires
 truncate-requires c =
     let z = end c.args.i c.loop-k.k c.len-k-end.result (length c.args.self.now.words) c.requires c.len-k-end.ensures c.loop-k.auto.k-end c.loop-k-test.false in
-    let m = many c.args.self.now.words c.loop-k.self.words c.args.i c.loop-k.k c.len-k-end.result c.requires c.loop-k.auto.k z.0 c.len-k-end.ensures c.loop-k.invariant.words in
+    let m = many c.args.self.now.words c.loop-k.self.words c.args.i c.loop-k.k c.len-k-end.result c.requires
+    c.loop-k.auto.k z.0 c.len-k-end.ensures c.loop-k.invariant.words in
     omega (arith, m, c.requires)
 
 pub returns-clause-words : goal.returns-clause-words
@@ -60,7 +64,8 @@ returns-clause-words c =
     let k = c.loop-k.k in
     let xs = c.loop-k.self.words in
     let z = end c.args.i c.loop-k.k c.len-k-end.result (length c.args.self.now.words) c.requires c.len-k-end.ensures c.loop-k.auto.k-end c.loop-k-test.false in
-    let m = many c.args.self.now.words c.loop-k.self.words c.args.i c.loop-k.k c.len-k-end.result c.requires c.loop-k.auto.k z.0 c.len-k-end.ensures c.loop-k.invariant.words in
+    let m = many c.args.self.now.words c.loop-k.self.words c.args.i c.loop-k.k c.len-k-end.result c.requires
+    c.loop-k.auto.k z.0 c.len-k-end.ensures c.loop-k.invariant.words in
     let last : length c.loop-k.self.words - 1 ≡ c.loop-k.k = omega (arith, m, z.1) in
     c.truncate.ensures.words
     ∙ ap (λ t. take (t - 1) xs) c.len-left.ensures ∙ ap (λ t. take t xs) last

@@ -17,5 +17,7 @@ loop-i-preserved g c =
 pub returns-clause-point : goal.returns-clause-point
 returns-clause-point g c =
     let long : length (map (coordinate c.args.w) c.args.offsets.now) ≡ length c.args.offsets.now = length-map c.args.offsets.now (coordinate c.args.w) in
-    let all : c.loop-i.coords ≡ map (coordinate c.args.w) c.args.offsets.now = filled-all g.row.D (pos 0) (map (coordinate c.args.w) c.args.offsets.now) c.loop-i.coords c.loop-i.i c.loop-i.invariant (omega (arith, long)) c.loop-i-test.false in
+    let all : c.loop-i.coords ≡ map (coordinate c.args.w) c.args.offsets.now =
+    filled-all g.row.D (pos 0) (map (coordinate c.args.w) c.args.offsets.now) c.loop-i.coords c.loop-i.i
+    c.loop-i.invariant (omega (arith, long)) c.loop-i-test.false in
     subst (IsPoint c.args.w g.row.D) (sym all) (point-is c.args.w g.row.D c.args.offsets.now (omega arith) c.requires.dims c.requires.small)

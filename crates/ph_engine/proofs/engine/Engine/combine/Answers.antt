@@ -3,8 +3,12 @@ use Rattle.ph_engine.proofs.engine.Engine.combine.Goals as goal
 
 pub returns-in-A : goal.returns-in-A
 returns-in-A g c =
-    combine-at-a c.args.operation c.args.self.now c.self.inside.a c.self.inside.b c.combine.new.self c.self.inside.current _ _ _ _ c.combine.result c.self.view_is c.in-A.is c.combine.ensures.visits c.combine.ensures.combines
+    combine-at-a c.args.operation c.args.self.now c.self.inside.a c.self.inside.b c.combine.new.self
+    c.self.inside.current _ _ _ _ c.combine.result c.self.view_is c.in-A.is c.combine.ensures.visits
+    c.combine.ensures.combines
 
 pub returns-in-B : goal.returns-in-B
 returns-in-B g c =
-    combine-at-b c.args.operation c.args.self.now c.self.inside.a c.self.inside.b c.combine-in-B.new.self c.self.inside.current _ _ _ _ c.combine-in-B.result c.self.view_is c.in-B.is c.combine-in-B.ensures.visits c.combine-in-B.ensures.combines
+    combine-at-b c.args.operation c.args.self.now c.self.inside.a c.self.inside.b c.combine-in-B.new.self
+    c.self.inside.current _ _ _ _ c.combine-in-B.result c.self.view_is c.in-B.is c.combine-in-B.ensures.visits
+    c.combine-in-B.ensures.combines

@@ -7,8 +7,12 @@ use Rattle.ph_engine.proofs.engine.Engine.join.Goals as goal
 pub returns-in-Some-clause-done : goal.returns-in-Some-clause-done
 returns-in-Some-clause-done g c =
     let told = tells-said _ _ c.reply.result c.say.result c.say.ensures.answer c.say.ensures.told c.say.ensures.err c.say.ensures.front in
-    rw (← c.self.view_is) (join-refused (record { a = c.self.inside.a; b = c.self.inside.b; current = c.self.inside.current }) _ _ c.say.result c.args.visits.now c.reply.result (sym c.in-Some.ensures ∙ ap Some (sym c.reply.ensures)) told)
+    rw (← c.self.view_is) (join-refused
+    (record { a = c.self.inside.a; b = c.self.inside.b; current = c.self.inside.current }) _ _ c.say.result
+    c.args.visits.now c.reply.result (sym c.in-Some.ensures ∙ ap Some (sym c.reply.ensures)) told)
 
 pub returns-in-None-clause-done : goal.returns-in-None-clause-done
 returns-in-None-clause-done g c =
-    rw (← c.self.view_is) (join-done (record { a = c.self.inside.a; b = c.self.inside.b; current = c.self.inside.current }) _ _ c.join.result c.args.visits.now c.join.new.visits (sym c.in-None.ensures) c.join.ensures.lists)
+    rw (← c.self.view_is) (join-done
+    (record { a = c.self.inside.a; b = c.self.inside.b; current = c.self.inside.current }) _ _ c.join.result
+    c.args.visits.now c.join.new.visits (sym c.in-None.ensures) c.join.ensures.lists)

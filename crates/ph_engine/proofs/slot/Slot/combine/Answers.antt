@@ -15,4 +15,5 @@ invariant_of-self g c =
     let others = named c.other.inside.cursors.items in
     slot-keeps kind t now c.self.inside.cursors.items
     (combined-frame c.args.operation kind c.other.inside.kind t u now cursors others c.args.changes.now c.combine.new.changes c.combine.result
-    ((λ i. frame_refusal (c.self.view_is i) (c.other.view_is i)) ∙ sym c.in_default.ensures) c.self.invariant.of_kind c.other.invariant.of_kind c.combine.ensures.made) c.self.invariant
+    ((λ i. frame_refusal (c.self.view_is i) (c.other.view_is i)) ∙ sym c.in_default.ensures) c.self.invariant.of_kind
+    c.other.invariant.of_kind c.combine.ensures.made) c.self.invariant

@@ -10,4 +10,6 @@ pub returns : goal.returns
 returns c =
     let items = c.self.inside.cursors.items in
     let at = c.place_of.ensures.place ∙ ap (λ xs. place c.args.name.now (named xs)) c.as_slice.ensures.value in
-    rw (← c.self.view_is) (c.is_ok.ensures.value ∙ ap (λ r. is_ok r) at ∙ sym (has-place c.args.name.now (named items) (names-sorted c.self.inside.kind (any_table c.self.inside.tree) items c.self.invariant)))
+    rw (← c.self.view_is) (c.is_ok.ensures.value ∙ ap (λ r. is_ok r) at ∙
+    sym (has-place c.args.name.now (named items)
+    (names-sorted c.self.inside.kind (any_table c.self.inside.tree) items c.self.invariant)))

@@ -18,8 +18,10 @@ unreachable-requires g c =
     let items = c.self.inside.cursors.items in
     let name = c.args.name.now in
     let unrefused = subst (λ x. early_refusal x (Command.Page name c.args.n) ≡ None) (sym c.self.view_is) c.requires in
-    let at : place name (named items) ≡ Err c.in_default.field-0 = ap (λ xs. place name (named xs)) (sym c.as_slice.ensures.value) ∙ sym c.place_of.ensures.place ∙ c.in_default.is in
-    let clash : true ≡ false = sym (cursor-there (slot_of c.self.inside.kind t (named items)) name c.args.n unrefused) ∙ has-place name (named items) (names-sorted c.self.inside.kind t items c.self.invariant) ∙ ap (λ r. is_ok r) at in
+    let at : place name (named items) ≡ Err c.in_default.field-0 = ap (λ xs. place name (named xs))
+    (sym c.as_slice.ensures.value) ∙ sym c.place_of.ensures.place ∙ c.in_default.is in
+    let clash : true ≡ false = sym (cursor-there (slot_of c.self.inside.kind t (named items)) name c.args.n unrefused)
+    ∙ has-place name (named items) (names-sorted c.self.inside.kind t items c.self.invariant) ∙ ap (λ r. is_ok r) at in
     cc
 
 pub invariant_of-self : goal.invariant_of-self
@@ -30,11 +32,17 @@ invariant_of-self g c =
     let slice = c.as_slice-2.result.now in
     let unrefused = subst (λ x. early_refusal x (Command.Page name c.args.n) ≡ None) (sym c.self.view_is) c.requires in
     let serve = subst (AllByRecursion (λ h. IsCursorIn t h.cursor)) (sym c.as_slice-2.ensures.value) c.self.invariant.serve in
-    let within : c.in-Ok.i < length slice = omega (arith, rw c.in-Ok.is at c.place_of.ensures.within, ap (λ xs. length xs) (c.as_slice.ensures.value ∙ sym c.as_slice-2.ensures.value)) in
+    let within : c.in-Ok.i < length slice =
+    omega (
+      arith,
+      rw c.in-Ok.is at c.place_of.ensures.within,
+      ap (λ xs. length xs) (c.as_slice.ensures.value ∙ sym c.as_slice-2.ensures.value),
+    ) in
     let old = all-at (λ h. IsCursorIn t h.cursor) slice c.in-Ok.i c.index-as_slice-i.result serve within in
     let lists = c.in-Ok-list_page.ensures.lists in
     let held : Held = record { name = name; cursor = c.in-Ok-list_page.cursor } in
-    rw c.enter.ensures (slot-entered c.self.inside.kind t held items c.self.invariant (record { dims = lists.0; lo = rw lists.1.next old.lo; hi = rw lists.1.next old.hi; last = lists.1.last })
+    rw c.enter.ensures (slot-entered c.self.inside.kind t held items c.self.invariant
+    (record { dims = lists.0; lo = rw lists.1.next old.lo; hi = rw lists.1.next old.hi; last = lists.1.last })
     (λ k. cursor-there (slot_of c.self.inside.kind t (named items)) name c.args.n unrefused))
 
 pub returns-in-Ok-list_page-clause-done : goal.returns-in-Ok-list_page-clause-done
@@ -45,10 +53,15 @@ returns-in-Ok-list_page-clause-done g c =
     let second = c.as_slice-2.result.now in
     let unrefused = subst (λ x. early_refusal x (Command.Page name c.args.n) ≡ None) (sym c.self.view_is) c.requires in
     let old = cursor_of (get_or second c.in-Ok.i c.index-as_slice-i.result).cursor in
-    let there = found-there name items c.as_slice.result.now second c.place_of.result c.in-Ok.i c.index-as_slice-i.result c.as_slice.ensures.value c.as_slice-2.ensures.value c.place_of.ensures.place c.in-Ok.is c.place_of.ensures.within in
+    let there = found-there name items c.as_slice.result.now second c.place_of.result c.in-Ok.i
+    c.index-as_slice-i.result c.as_slice.ensures.value c.as_slice-2.ensures.value c.place_of.ensures.place
+    c.in-Ok.is c.place_of.ensures.within in
     let held : Held = record { name = name; cursor = c.in-Ok-list_page.cursor } in
-    let is : named c.enter.new.cursors.items ≡ enter name (cursor_of c.in-Ok-list_page.cursor) (named items) = ap (λ xs. named xs) c.enter.ensures ∙ sym (under-entered (λ h. h.name) (λ h. cursor_of h.cursor) held items) in
-    rw (← c.self.view_is) (page-done c.self.inside.kind t (named items) (named c.enter.new.cursors.items) name c.args.n old (cursor_of c.in-Ok-list_page.cursor) _ _ c.args.visits.now c.list_page.new.visits unrefused there is c.in-Ok-list_page.ensures.lists.1)
+    let is : named c.enter.new.cursors.items ≡ enter name (cursor_of c.in-Ok-list_page.cursor) (named items) =
+    ap (λ xs. named xs) c.enter.ensures ∙ sym (under-entered (λ h. h.name) (λ h. cursor_of h.cursor) held items) in
+    rw (← c.self.view_is) (page-done c.self.inside.kind t (named items) (named c.enter.new.cursors.items) name
+    c.args.n old (cursor_of c.in-Ok-list_page.cursor) _ _ c.args.visits.now c.list_page.new.visits unrefused there
+    is c.in-Ok-list_page.ensures.lists.1)
 
 pub returns-in-Err-clause-done : goal.returns-in-Err-clause-done
 returns-in-Err-clause-done g c =
@@ -58,5 +71,8 @@ returns-in-Err-clause-done g c =
     let second = c.as_slice-2.result.now in
     let unrefused = subst (λ x. early_refusal x (Command.Page name c.args.n) ≡ None) (sym c.self.view_is) c.requires in
     let old = cursor_of (get_or second c.in-Ok.i c.index-as_slice-i.result).cursor in
-    let there = found-there name items c.as_slice.result.now second c.place_of.result c.in-Ok.i c.index-as_slice-i.result c.as_slice.ensures.value c.as_slice-2.ensures.value c.place_of.ensures.place c.in-Ok.is c.place_of.ensures.within in
-    rw (← c.self.view_is) (page-stopped c.self.inside.kind t (named items) name c.args.n old _ _ c.args.visits.now c.list_page.new.visits c.in-Err.stop unrefused there c.in-Err.ensures.lists)
+    let there = found-there name items c.as_slice.result.now second c.place_of.result c.in-Ok.i
+    c.index-as_slice-i.result c.as_slice.ensures.value c.as_slice-2.ensures.value c.place_of.ensures.place
+    c.in-Ok.is c.place_of.ensures.within in
+    rw (← c.self.view_is) (page-stopped c.self.inside.kind t (named items) name c.args.n old _ _ c.args.visits.now
+    c.list_page.new.visits c.in-Err.stop unrefused there c.in-Err.ensures.lists)

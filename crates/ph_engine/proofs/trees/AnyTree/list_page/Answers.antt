@@ -1,6 +1,13 @@
 use Rattle.ph_engine.specs.Slots.{cursor_of}
 use Rattle.ph_engine.proofs.Slotted.{cursor-at}
-use Rattle.ph_engine.proofs.trees.AnyTree.list_page.Goals.{in_default-via-in-D1+in_default, in_default-via-in-D2+in_default, in_default-via-in-D3+in_default, in_default-via-in-D4+in_default, in_default-via-in-D5+in_default, in_default-via-in-D6+in_default, in_default-via-in-D7+in_default, in_default-via-in-D8+in_default, in_default-via-in-D9+in_default, in_default-via-in-D10+in_default, in_default-via-in-D11+in_default, in_default-via-in-D12+in_default, in_default-via-in-D13+in_default, in_default-via-in-D14+in_default, in_default-via-in-D15+in_default, in_default-via-in-D16+in_default}
+use Rattle.ph_engine.proofs.trees.AnyTree.list_page.Goals.{in_default-via-in-D1+in_default, in_default-via-in-D2+in_default}
+use Rattle.ph_engine.proofs.trees.AnyTree.list_page.Goals.{in_default-via-in-D3+in_default, in_default-via-in-D4+in_default}
+use Rattle.ph_engine.proofs.trees.AnyTree.list_page.Goals.{in_default-via-in-D5+in_default, in_default-via-in-D6+in_default}
+use Rattle.ph_engine.proofs.trees.AnyTree.list_page.Goals.{in_default-via-in-D7+in_default, in_default-via-in-D8+in_default}
+use Rattle.ph_engine.proofs.trees.AnyTree.list_page.Goals.{in_default-via-in-D9+in_default, in_default-via-in-D10+in_default}
+use Rattle.ph_engine.proofs.trees.AnyTree.list_page.Goals.{in_default-via-in-D11+in_default, in_default-via-in-D12+in_default}
+use Rattle.ph_engine.proofs.trees.AnyTree.list_page.Goals.{in_default-via-in-D13+in_default, in_default-via-in-D14+in_default}
+use Rattle.ph_engine.proofs.trees.AnyTree.list_page.Goals.{in_default-via-in-D15+in_default, in_default-via-in-D16+in_default}
 use Rattle.ph_engine.proofs.trees.AnyTree.list_page.Goals as goal
 
 pub unreachable-requires : goal.unreachable-requires

@@ -9,6 +9,8 @@ invariant_of-result g c = record {
   dims = c.requires.dims;
   points =
       subst (λ w. AllByRecursion (λ r. IsPoint w g.row.D r.point) c.whole.result.rows) c.requires.width
-      (subst (λ rows. AllByRecursion (λ r. IsPoint c.args.first.now.width g.row.D r.point) rows) (sym c.whole.ensures.rows) (table-points c.args.first.now.width g.row.D c.args.first.now.table c.root-root.ensures.table));
+      (subst (λ rows. AllByRecursion (λ r. IsPoint c.args.first.now.width g.row.D r.point) rows)
+      (sym c.whole.ensures.rows) (table-points c.args.first.now.width g.row.D c.args.first.now.table
+      c.root-root.ensures.table));
   boxes = c.requires.seconds;
 }

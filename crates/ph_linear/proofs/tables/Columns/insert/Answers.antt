@@ -27,12 +27,19 @@ kind k a w t x l e f = omega (arith, l, e, f)
 body-at : (c : After-open_run-behind) → c.open_run-behind.result - c.args.self.now.bodies.width ≡ c.start-bodies.result + 1 + c.args.self.now.addresses.width
 body-at c =
     let o = ordered c.args.words.now c.args.self.now c.args.edit.now.place c.requires.columns c.requires.within in
-    body c.start-bodies.result c.start-end.result c.args.self.now.addresses.width c.args.self.now.bodies.width c.open_run-behind.result (omega (arith, o.until, c.start-bodies.ensures, c.start-end.ensures)) c.open_run-behind.ensures.begin
+    body c.start-bodies.result c.start-end.result c.args.self.now.addresses.width c.args.self.now.bodies.width
+    c.open_run-behind.result (omega (arith, o.until, c.start-bodies.ensures, c.start-end.ensures))
+    c.open_run-behind.ensures.begin
 
 address-at : (c : After-open_run-behind-2) → c.open_run-behind-2.result ≡ c.start-addresses.result + 1 + c.args.self.now.addresses.width
 address-at c =
     let o = ordered c.args.words.now c.args.self.now c.args.edit.now.place c.requires.columns c.requires.within in
-    address c.start-addresses.result c.start-bodies.result c.args.self.now.addresses.width (c.open_run-behind.result - c.args.self.now.bodies.width) c.open_run-behind-2.result (omega (arith, o.bodies, c.start-addresses.ensures, c.start-bodies.ensures)) (body c.start-bodies.result c.start-end.result c.args.self.now.addresses.width c.args.self.now.bodies.width c.open_run-behind.result (omega (arith, o.until, c.start-bodies.ensures, c.start-end.ensures)) c.open_run-behind.ensures.begin) c.open_run-behind-2.ensures.begin
+    address c.start-addresses.result c.start-bodies.result c.args.self.now.addresses.width
+    (c.open_run-behind.result - c.args.self.now.bodies.width) c.open_run-behind-2.result
+    (omega (arith, o.bodies, c.start-addresses.ensures, c.start-bodies.ensures))
+    (body c.start-bodies.result c.start-end.result c.args.self.now.addresses.width c.args.self.now.bodies.width
+    c.open_run-behind.result (omega (arith, o.until, c.start-bodies.ensures, c.start-end.ensures))
+    c.open_run-behind.ensures.begin) c.open_run-behind-2.ensures.begin
 
 pub open_run-behind-requires-2-clause-order : goal.open_run-behind-requires-2-clause-order
 open_run-behind-requires-2-clause-order c = omega (arith, body-at (goal.at.open_run-behind-requires-2-clause-order c).After-open_run-behind)
@@ -47,8 +54,12 @@ pub overflow_sub-behind : goal.overflow_sub-behind
 overflow_sub-behind c =
     let o = ordered c.args.words.now c.args.self.now c.args.edit.now.place c.requires.columns c.requires.within in
     let l : c.start-kinds.result ≤ c.start-addresses.result = omega (arith, o.addresses, c.start-kinds.ensures, c.start-addresses.ensures) in
-    omega
-    (arith, kind c.start-kinds.result c.start-addresses.result c.args.self.now.addresses.width c.open_run-behind-2.result c.open_run-behind-3.result l (address-at (goal.at.overflow_sub-behind c).After-open_run-behind-2) c.open_run-behind-3.ensures.begin)
+    omega (
+      arith,
+      kind c.start-kinds.result c.start-addresses.result c.args.self.now.addresses.width
+          c.open_run-behind-2.result c.open_run-behind-3.result l
+          (address-at (goal.at.overflow_sub-behind c).After-open_run-behind-2) c.open_run-behind-3.ensures.begin,
+    )
 
 pub returns : goal.returns
 returns c =
@@ -85,12 +96,17 @@ returns c =
     let e5 = c.open_run-behind-3.auto.words ∙ e4 in
     let small : Each (λ x. x < 2 ^ 64) old = each-fits old (search rules) in
     let fits : Each (λ x. x < 2 ^ 64) new = each-fits new (search rules) in
-    open-columns old w0 w1 w2 w3 w4 w5 new cs c.args.level c.args.dims e c.requires.columns c.requires.within small fits e0 e1 e2 e3 e4 e5 (c.set_field-2.auto.words ∙ e5) c.requires.bodies c.set_row.ensures.long c.requires.room
-    t tb ta t3 t2 t1 tk (omega (arith, b2)) (omega (arith, c.open_run-behind.ensures.begin, m3)) refl (omega (arith, c.open_run-behind-2.ensures.begin, m2)) refl (omega (arith, c.open_run-behind-3.ensures.begin, m1)) refl
+    open-columns old w0 w1 w2 w3 w4 w5 new cs c.args.level c.args.dims e c.requires.columns c.requires.within small
+    fits e0 e1 e2 e3 e4 e5 (c.set_field-2.auto.words ∙ e5) c.requires.bodies c.set_row.ensures.long c.requires.room
+    t tb ta t3 t2 t1 tk (omega (arith, b2)) (omega (arith, c.open_run-behind.ensures.begin, m3)) refl
+    (omega (arith, c.open_run-behind-2.ensures.begin, m2)) refl (omega (arith, c.open_run-behind-3.ensures.begin, m1)) refl
     c.clear_word.ensures.over
-    (moved-equal w0 w1 _ (start cs.bodies p) _ t3 _ (start cs.bodies cs.bodies.count - start cs.bodies p) b0 (sym c.open_run-behind.ensures.begin) m3 c.open_run-behind.ensures.moved)
+    (moved-equal w0 w1 _ (start cs.bodies p) _ t3 _ (start cs.bodies cs.bodies.count - start cs.bodies p) b0
+    (sym c.open_run-behind.ensures.begin) m3 c.open_run-behind.ensures.moved)
     c.set_row.ensures.over
-    (moved-equal w2 w3 _ (start cs.addresses p) _ t2 _ (start cs.bodies p - start cs.addresses p) a0 (sym c.open_run-behind-2.ensures.begin) m2 c.open_run-behind-2.ensures.moved)
+    (moved-equal w2 w3 _ (start cs.addresses p) _ t2 _ (start cs.bodies p - start cs.addresses p) a0
+    (sym c.open_run-behind-2.ensures.begin) m2 c.open_run-behind-2.ensures.moved)
     (over-put w3 w4 ta cs.addresses.width e.entry.addr c.set_field.ensures)
-    (moved-equal w4 w5 _ (start cs.kinds p) _ t1 _ (start cs.addresses p - start cs.kinds p) k0 (sym c.open_run-behind-3.ensures.begin) m1 c.open_run-behind-3.ensures.moved)
+    (moved-equal w4 w5 _ (start cs.kinds p) _ t1 _ (start cs.addresses p - start cs.kinds p) k0
+    (sym c.open_run-behind-3.ensures.begin) m1 c.open_run-behind-3.ensures.moved)
     (over-put w5 new tk 1 0 c.set_field-2.ensures)

@@ -9,7 +9,8 @@ use Rattle.ph_linear.proofs.tables.Columns.remove.Goals as goal
 use Rattle.ph_linear.proofs.tables.Columns.remove.Goals.{After-close_run-to-3, After-clear_word}
 
 -- the digits end no later than before
-ends : (k0 k1 a0 a1 b0 b1 b2 t1 t2 t3 : ℕ) → k0 ≤ k1 → k1 ≤ a0 → a0 ≤ a1 → a1 ≤ b0 → b0 ≤ b1 → b1 ≤ b2 → t1 ≡ k0 + (a0 - k1) → t2 ≡ t1 + (b0 - a1) → t3 ≡ t2 + (b2 - b1) → t3 ≤ b2
+ends : (k0 k1 a0 a1 b0 b1 b2 t1 t2 t3 : ℕ) → k0 ≤ k1 → k1 ≤ a0 → a0 ≤ a1 → a1 ≤ b0 → b0 ≤ b1 → b1 ≤ b2 →
+    t1 ≡ k0 + (a0 - k1) → t2 ≡ t1 + (b0 - a1) → t3 ≡ t2 + (b2 - b1) → t3 ≤ b2
 ends k0 k1 a0 a1 b0 b1 b2 t1 t2 t3 l1 l2 l3 l4 l5 l6 e1 e2 e3 = omega (arith, l1, l2, l3, l4, l5, l6, e1, e2, e3)
 
 low : (c : After-close_run-to-3) → c.close_run-to-3.result ≤ start c.args.self.now.bodies c.args.self.now.bodies.count
@@ -17,9 +18,13 @@ low c =
     let cs = c.args.self.now in
     let p = c.args.place in
     let u = ordered-at c.args.words.now cs p c.requires.columns c.requires.within in
-    ends (start cs.kinds p) (start cs.kinds (p + 1)) (start cs.addresses p) (start cs.addresses (p + 1)) (start cs.bodies p) (start cs.bodies (p + 1)) (start cs.bodies cs.bodies.count) c.close_run-to.result c.close_run-to-2.result c.close_run-to-3.result
+    ends (start cs.kinds p) (start cs.kinds (p + 1)) (start cs.addresses p) (start cs.addresses (p + 1))
+    (start cs.bodies p) (start cs.bodies (p + 1)) (start cs.bodies cs.bodies.count) c.close_run-to.result
+    c.close_run-to-2.result c.close_run-to-3.result
     u.kinds u.addresses u.next u.bodies u.last u.until
-    (omega (arith, c.close_run-to.ensures.end, c.start-to.ensures, c.start-from.ensures, c.start-addresses.ensures)) (omega (arith, c.close_run-to-2.ensures.end, c.start-from-2.ensures, c.start-bodies.ensures)) (omega (arith, c.close_run-to-3.ensures.end, c.start-from-3.ensures, c.start-end.ensures))
+    (omega (arith, c.close_run-to.ensures.end, c.start-to.ensures, c.start-from.ensures, c.start-addresses.ensures))
+    (omega (arith, c.close_run-to-2.ensures.end, c.start-from-2.ensures, c.start-bodies.ensures))
+    (omega (arith, c.close_run-to-3.ensures.end, c.start-from-3.ensures, c.start-end.ensures))
 
 below : (p n : ℕ) → p < n → p ≤ n
 below p n l = omega (arith, l)
@@ -27,14 +32,22 @@ below p n l = omega (arith, l)
 pub clear_word-requires-clause-inside : goal.clear_word-requires-clause-inside
 clear_word-requires-clause-inside c =
     let o = ordered c.args.words.now c.args.self.now c.args.place c.requires.columns (below c.args.place c.args.self.now.kinds.count c.requires.within) in
-    omega (arith, low (goal.at.clear_word-requires-clause-inside c).After-close_run-to-3, o.inside, c.close_run-to-3.auto.words, c.close_run-to-2.auto.words, c.close_run-to.auto.words)
+    omega (
+      arith,
+      low (goal.at.clear_word-requires-clause-inside c).After-close_run-to-3,
+      o.inside,
+      c.close_run-to-3.auto.words,
+      c.close_run-to-2.auto.words,
+      c.close_run-to.auto.words,
+    )
 
 pub clear_word-requires-clause-near : goal.clear_word-requires-clause-near
 clear_word-requires-clause-near c =
     let o = ordered c.args.words.now c.args.self.now c.args.place c.requires.columns (below c.args.place c.args.self.now.kinds.count c.requires.within) in
     omega (arith, low (goal.at.clear_word-requires-clause-near c).After-close_run-to-3, o.near)
 
-closed : (c : After-clear_word) → ((i : ℕ) → Fits w64 (slice_index_or c.clear_word.new.words i 0)) → (c.clear_word.new.words ≡ with_fields (runs_without c.args.words.now c.args.self.now c.args.place) c.args.words.now)
+closed : (c : After-clear_word) → ((i : ℕ) → Fits w64 (slice_index_or c.clear_word.new.words i 0)) →
+    (c.clear_word.new.words ≡ with_fields (runs_without c.args.words.now c.args.self.now c.args.place) c.args.words.now)
     × (c.clear_word.result ≡ 1 + words_for (digits_of (runs_without c.args.words.now c.args.self.now c.args.place)))
 closed c range =
     let old = c.args.words.now in

@@ -8,4 +8,6 @@ use Rattle.ph_near.proofs.found.FoundOrd.cmp.Goals as goal
 pub returns : goal.returns
 returns g c =
     c.z_numbers.ensures
-    ∙ ap (λ o. ordering_then o (z_numbers c.args.self.now.known c.args.other.now.known)) (nat_cmp_is c.args.self.now.distance c.args.other.now.distance Equal (omega (arith, c.if-self-other.false, c.if-other-self.false)))
+    ∙ ap (λ o. ordering_then o (z_numbers c.args.self.now.known c.args.other.now.known))
+    (nat_cmp_is c.args.self.now.distance c.args.other.now.distance Equal
+    (omega (arith, c.if-self-other.false, c.if-other-self.false)))

@@ -34,14 +34,21 @@ loop-i-preserved g c =
     let center = c.args.center.now in
     let in_low : c.loop-i.i < length c.loop-i.low = omega (arith, c.loop-i-test.true, c.loop-i.invariant.lows) in
     let in_high : c.loop-i.i < length c.loop-i.high = omega (arith, c.loop-i-test.true, c.loop-i.invariant.highs) in
-    let start : c.digits_above-start.result ≡ get_or c.args.known.now c.loop-i.i 0 / 2 ^ (c.args.level + 1) * 2 ^ (c.args.level + 1) + 0 * 2 ^ c.args.level = omega (arith, c.digits_above-start.ensures.value) in
-    let middle : c.digits_above-start.result + c.address_digit.result ≡ get_or c.args.known.now c.loop-i.i 0 / 2 ^ (c.args.level + 1) * 2 ^ (c.args.level + 1) + 1 * 2 ^ c.args.level = omega (arith, c.digits_above-start.ensures.value, c.address_digit.ensures.value) in
+    let start : c.digits_above-start.result ≡ get_or c.args.known.now c.loop-i.i 0 / 2 ^ (c.args.level + 1) * 2 ^
+    (c.args.level + 1) + 0 * 2 ^ c.args.level = omega (arith, c.digits_above-start.ensures.value) in
+    let middle : c.digits_above-start.result + c.address_digit.result ≡ get_or c.args.known.now c.loop-i.i 0 / 2 ^
+    (c.args.level + 1) * 2 ^ (c.args.level + 1) + 1 * 2 ^ c.args.level =
+    omega (arith, c.digits_above-start.ensures.value, c.address_digit.ensures.value) in
     let square = λ (t : ℕ). gap_above level t (get_or center i 0) * gap_above level t (get_or center i 0) in
     record {
       lows = length-set c.loop-i.low i c.squared_gap.result ∙ c.loop-i.invariant.lows;
       highs = length-set c.loop-i.high i c.squared_gap-in-loop-i.result ∙ c.loop-i.invariant.highs;
-      low = set-more (λ j n. n ≡ half_gap level (get_or known j 0) 0 (get_or center j 0)) c.loop-i.low i c.squared_gap.result in_low c.loop-i.invariant.low (c.squared_gap.ensures.value ∙ ap square start);
-      high = set-more (λ j n. n ≡ half_gap level (get_or known j 0) 1 (get_or center j 0)) c.loop-i.high i c.squared_gap-in-loop-i.result in_high c.loop-i.invariant.high (c.squared_gap-in-loop-i.ensures.value ∙ ap square middle);
+      low = set-more (λ j n. n ≡ half_gap level (get_or known j 0) 0 (get_or center j 0)) c.loop-i.low i
+          c.squared_gap.result in_low c.loop-i.invariant.low (c.squared_gap.ensures.value ∙ ap square start);
+      high = set-more (λ j n. n ≡ half_gap level (get_or known j 0) 1 (get_or center j 0)) c.loop-i.high i
+          c.squared_gap-in-loop-i.result in_high c.loop-i.invariant.high
+          (c.squared_gap-in-loop-i.ensures.value ∙ ap square middle);
       small_low = set-more (λ j n. n ≤ greatest_square) c.loop-i.low i c.squared_gap.result in_low c.loop-i.invariant.small_low c.squared_gap.ensures.limit;
-      small_high = set-more (λ j n. n ≤ greatest_square) c.loop-i.high i c.squared_gap-in-loop-i.result in_high c.loop-i.invariant.small_high c.squared_gap-in-loop-i.ensures.limit;
+      small_high = set-more (λ j n. n ≤ greatest_square) c.loop-i.high i c.squared_gap-in-loop-i.result in_high
+          c.loop-i.invariant.small_high c.squared_gap-in-loop-i.ensures.limit;
     }

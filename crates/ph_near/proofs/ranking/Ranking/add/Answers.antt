@@ -13,14 +13,23 @@ returns-then-len-self-clause-ranking g c =
     (λ p k. record {
       some = omega (arith, c.push.ensures.n, c.requires.some);
       order = k c.requires.order;
-      few = omega (arith, c.push.ensures.n, length_permutation (c.args.found ∷ heap_items c.args.self.now.rows) (heap_items c.push.new.self.rows) p, c.if-len-self.true, c.len.ensures, c.args.self.now.rows.data.ok.0);
+      few = omega (
+        arith,
+        c.push.ensures.n,
+        length_permutation (c.args.found ∷ heap_items c.args.self.now.rows)
+            (heap_items c.push.new.self.rows) p,
+        c.if-len-self.true,
+        c.len.ensures,
+        c.args.self.now.rows.data.ok.0,
+      );
     })
     c.push.ensures.moved c.push.ensures.order
 
 pub returns-then-len-self-clause-added : goal.returns-then-len-self-clause-added
 returns-then-len-self-clause-added g c =
     on-both c.push.result
-    (λ p k. added-few c.args.self.now.n c.args.found (heap_items c.args.self.now.rows) (heap_items c.push.new.self.rows) (omega (arith, c.if-len-self.true, c.len.ensures, c.args.self.now.rows.data.ok.0)) p)
+    (λ p k. added-few c.args.self.now.n c.args.found (heap_items c.args.self.now.rows)
+    (heap_items c.push.new.self.rows) (omega (arith, c.if-len-self.true, c.len.ensures, c.args.self.now.rows.data.ok.0)) p)
     c.push.ensures.moved c.push.ensures.order
 
 -- ---- it comes before the last one
@@ -32,14 +41,23 @@ returns-then-is_lt-clause-ranking g c =
     (λ p k. record {
       some = omega (arith, c.push-then-is_lt.ensures.n, c.requires.some);
       order = k (c.in-Some.ensures.heap_order c.requires.order).0;
-      few = omega (arith, c.push-then-is_lt.ensures.n, popped, length_permutation (c.args.found ∷ heap_items c.pop.new.self) (heap_items c.push-then-is_lt.new.self.rows) p, c.requires.few);
+      few = omega (
+        arith,
+        c.push-then-is_lt.ensures.n,
+        popped,
+        length_permutation (c.args.found ∷ heap_items c.pop.new.self) (heap_items c.push-then-is_lt.new.self.rows)
+            p,
+        c.requires.few,
+      );
     })
     c.push-then-is_lt.ensures.moved c.push-then-is_lt.ensures.order
 
 pub returns-then-is_lt-clause-added : goal.returns-then-is_lt-clause-added
 returns-then-is_lt-clause-added g c =
     on-both c.push-then-is_lt.result
-    (λ p k. added-in c.args.self.now.n c.args.found c.in-Some.last (omega (arith, c.if-len-self.false, c.len.ensures, c.args.self.now.rows.data.ok.0)) c.requires.few c.in-Some.ensures.permutation (c.in-Some.ensures.heap_order c.requires.order).1
+    (λ p k. added-in c.args.self.now.n c.args.found c.in-Some.last
+    (omega (arith, c.if-len-self.false, c.len.ensures, c.args.self.now.rows.data.ok.0)) c.requires.few
+    c.in-Some.ensures.permutation (c.in-Some.ensures.heap_order c.requires.order).1
     (ap is_lt (sym c.cmp.ensures) ∙ sym c.is_lt.ensures ∙ c.if-is_lt.true) p)
     c.push-then-is_lt.ensures.moved c.push-then-is_lt.ensures.order
 
@@ -52,13 +70,22 @@ returns-clause-ranking g c =
     (λ p k. record {
       some = omega (arith, c.push-2.ensures.n, c.requires.some);
       order = k (c.in-Some.ensures.heap_order c.requires.order).0;
-      few = omega (arith, c.push-2.ensures.n, popped, length_permutation (c.in-Some.last ∷ heap_items c.pop.new.self) (heap_items c.push-2.new.self.rows) p, c.requires.few);
+      few = omega (
+        arith,
+        c.push-2.ensures.n,
+        popped,
+        length_permutation (c.in-Some.last ∷ heap_items c.pop.new.self)
+            (heap_items c.push-2.new.self.rows) p,
+        c.requires.few,
+      );
     })
     c.push-2.ensures.moved c.push-2.ensures.order
 
 pub returns-clause-added : goal.returns-clause-added
 returns-clause-added g c =
     on-both c.push-2.result
-    (λ p k. added-out c.args.self.now.n c.args.found c.in-Some.last (omega (arith, c.if-len-self.false, c.len.ensures, c.args.self.now.rows.data.ok.0)) c.requires.few c.in-Some.ensures.permutation (c.in-Some.ensures.heap_order c.requires.order).1
+    (λ p k. added-out c.args.self.now.n c.args.found c.in-Some.last
+    (omega (arith, c.if-len-self.false, c.len.ensures, c.args.self.now.rows.data.ok.0)) c.requires.few
+    c.in-Some.ensures.permutation (c.in-Some.ensures.heap_order c.requires.order).1
     (ap is_lt (sym c.cmp.ensures) ∙ sym c.is_lt.ensures ∙ c.if-is_lt.false) p)
     c.push-2.ensures.moved c.push-2.ensures.order

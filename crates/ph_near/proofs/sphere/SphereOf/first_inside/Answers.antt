@@ -12,7 +12,8 @@ use Rattle.ph_near.proofs.sphere.SphereOf.first_inside.Goals as goal
 pub rules_out-requires-clause-body : goal.rules_out-requires-clause-body
 rules_out-requires-clause-body g c =
     let t = shown c.args.node in
-    (entry-lawful g.P.Dims.D t.level 0 c.spot-spot.result.place t.chain _ c.requires.lawful (read-entry (entries t) c.spot-spot.result refl c.spot-spot.ensures.spot refl)).body
+    (entry-lawful g.P.Dims.D t.level 0 c.spot-spot.result.place t.chain _ c.requires.lawful
+    (read-entry (entries t) c.spot-spot.result refl c.spot-spot.ensures.spot refl)).body
 
 pub returns-then-not-rules_out-clause-found : goal.returns-then-not-rules_out-clause-found
 returns-then-not-rules_out-clause-found g c =
@@ -20,7 +21,10 @@ returns-then-not-rules_out-clause-found g c =
     let a = points_of c.args.self.now in
     let above = body_above t.level c.args.known.now.digits in
     subst (IsNext a t.level above (entries t) c.args.place) (sym c.spot-spot.ensures.place)
-    (next-here c.args.self.now t.level above (entries t) c.args.place c.args.place (none-between a t.level above (entries t) c.args.place c.args.place (omega arith)) _ (read-entry (entries t) c.spot-spot.result c.spot-spot.ensures.place c.spot-spot.ensures.spot refl) g.P.Dims.D 0 t refl c.requires.lawful (omega arith) (c.rules_out.ensures.near c.if-not-rules_out.true))
+    (next-here c.args.self.now t.level above (entries t) c.args.place c.args.place
+    (none-between a t.level above (entries t) c.args.place c.args.place (omega arith)) _
+    (read-entry (entries t) c.spot-spot.result c.spot-spot.ensures.place c.spot-spot.ensures.spot refl) g.P.Dims.D
+    0 t refl c.requires.lawful (omega arith) (c.rules_out.ensures.near c.if-not-rules_out.true))
 
 pub returns-clause-found : goal.returns-clause-found
 returns-clause-found g c =
@@ -29,5 +33,7 @@ returns-clause-found g c =
     let above = body_above t.level c.args.known.now.digits in
     let entry = read-entry (entries t) c.spot-spot.result c.spot-spot.ensures.place c.spot-spot.ensures.spot refl in
     found-on a t.level above (entries t) c.args.place (c.args.place + 1) (omega arith)
-    (out-behind c.args.self.now t.level above (entries t) c.args.place c.args.place (none-between a t.level above (entries t) c.args.place c.args.place (omega arith)) _ entry (c.rules_out.ensures.far c.if-not-rules_out.false))
+    (out-behind c.args.self.now t.level above (entries t) c.args.place c.args.place
+    (none-between a t.level above (entries t) c.args.place c.args.place (omega arith)) _ entry
+    (c.rules_out.ensures.far c.if-not-rules_out.false))
     c.first_behind.result c.first_behind.ensures.found

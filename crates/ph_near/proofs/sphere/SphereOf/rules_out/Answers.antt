@@ -95,4 +95,5 @@ returns-then-D-gt-FEW_DIMS-clause-far g c e =
     subst (λ (s : Sphere). IsOut s t.level (put_together t.level a (body_above t.level digits) body) what) c.self.view_is
     (subst (λ n. r < n) (entry-distance w t.level (put_together t.level a (body_above t.level digits) body) center what c.self.invariant.wide c.self.invariant.center.1)
     (subst (λ (xs : List ℕ). r < entry_gap t.level (put_together t.level a (body_above t.level xs) body) center what) c.digits-digits.ensures.value
-    (subst (λ n. r < entry_gap t.level (put_together t.level a (body_above t.level c.digits-digits.result.now) body) (take n c.self.inside.center) what) c.D.ensures (c.is_point_beyond.ensures e))))
+    (subst (λ n. r < entry_gap t.level (put_together t.level a (body_above t.level c.digits-digits.result.now) body)
+    (take n c.self.inside.center) what) c.D.ensures (c.is_point_beyond.ensures e))))

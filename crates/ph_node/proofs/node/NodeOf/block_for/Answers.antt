@@ -19,7 +19,9 @@ write-requires-clause-room g c =
     let es = g.E.Entries.list c.args.entries.now in
     let n = c.count_children-children.result in
     let points : length (values es) ≡ c.count.result - n = omega (arith, c.count.ensures, c.count_children-children.ensures.value, children-few es) in
-    let wanted : words_wanted g.P.Dims.D c.args.level (length es) (length (values es)) ≡ words_wanted g.P.Dims.D c.args.level c.count.result (c.count.result - n) = λ i. words_wanted g.P.Dims.D c.args.level (sym c.count.ensures i) (points i) in
+    let wanted : words_wanted g.P.Dims.D c.args.level (length es) (length (values es)) ≡
+    words_wanted g.P.Dims.D c.args.level c.count.result (c.count.result - n) =
+    λ i. words_wanted g.P.Dims.D c.args.level (sym c.count.ensures i) (points i) in
     omega (arith, wanted, ap room_of c.in_ok-words.ensures)
 
 pub returns-clause-room : goal.returns-clause-room
@@ -27,18 +29,22 @@ returns-clause-room g c =
     let es = g.E.Entries.list c.args.entries.now in
     let n = c.count_children-children.result in
     let points : length (values es) ≡ c.count.result - n = omega (arith, c.count.ensures, c.count_children-children.ensures.value, children-few es) in
-    let wanted : words_wanted g.P.Dims.D c.args.level (length es) (length (values es)) ≡ words_wanted g.P.Dims.D c.args.level c.count.result (c.count.result - n) = λ i. words_wanted g.P.Dims.D c.args.level (sym c.count.ensures i) (points i) in
+    let wanted : words_wanted g.P.Dims.D c.args.level (length es) (length (values es)) ≡
+    words_wanted g.P.Dims.D c.args.level c.count.result (c.count.result - n) =
+    λ i. words_wanted g.P.Dims.D c.args.level (sym c.count.ensures i) (points i) in
     let long = ap length c.write.ensures.words ∙ record-long g.P.Dims.D c.args.level es c.requires.rise in
     omega (arith, wanted, ap room_of c.in_ok-words.ensures, c.write.ensures.places.0, long, ap (λ b. b.spare) c.of.ensures, c.count_children-children.ensures.value)
 
 pub returns-clause-laid : goal.returns-clause-laid
 returns-clause-laid g c bottom =
     let r = c.requires in
-    subst (IsLaidOut g.P.Dims.D) (sym (ap (λ b. b.words) c.of.ensures ∙ c.write.ensures.words)) (record-laid g.P.Dims.D c.args.level (g.E.Entries.list c.args.entries.now) r.some r.few r.low r.entries bottom r.rise)
+    subst (IsLaidOut g.P.Dims.D) (sym (ap (λ b. b.words) c.of.ensures ∙ c.write.ensures.words))
+    (record-laid g.P.Dims.D c.args.level (g.E.Entries.list c.args.entries.now) r.some r.few r.low r.entries bottom r.rise)
 
 pub returns-clause-children : goal.returns-clause-children
 returns-clause-children g c =
     let r = c.requires in
     let es = g.E.Entries.list c.args.entries.now in
     ap (λ ws. (first_in ws).children) (ap (λ b. b.words) c.of.ensures ∙ c.write.ensures.words)
-    ∙ ap (λ t. t.children) (first-made (is_cube g.P.Dims.D c.args.level (length es)) g.P.Dims.D c.args.level es r.rise (fits-first g.P.Dims.D c.args.level es r.few (omega (arith, r.low)) r.rise))
+    ∙ ap (λ t. t.children) (first-made (is_cube g.P.Dims.D c.args.level (length es)) g.P.Dims.D c.args.level es r.rise
+    (fits-first g.P.Dims.D c.args.level es r.few (omega (arith, r.low)) r.rise))

@@ -18,14 +18,20 @@ pub invariant_of-self-lent : goal.invariant_of-self-lent
 invariant_of-self-lent g c w =
     let o = old _ _ _ _ c.self.view_is c.self.invariant in
     let k = c.requires.rank in
-    kept_new _ _ _ _ _ (lent _ _ c.self.inside.block.values _ o c.args.spot.place c.args.rank w c.requires.spot.within c.requires.child k) c.self.inside.block.words o.words
+    kept_new _ _ _ _ _ (lent _ _ c.self.inside.block.values _ o c.args.spot.place c.args.rank w c.requires.spot.within
+    c.requires.child k) c.self.inside.block.words o.words
 
 pub returns : goal.returns
 returns g c =
     let o = old _ _ _ _ c.self.view_is c.self.invariant in
     let t = c.args.self.now in
     let k = c.requires.rank in (
-      (refl, λ w. seen_new _ _ _ _ _ (lent _ _ c.self.inside.block.values _ o c.args.spot.place c.args.rank w c.requires.spot.within c.requires.child k) c.self.inside.block.words o.words),
+      (
+        refl,
+        λ w. seen_new _ _ _ _ _
+            (lent _ _ c.self.inside.block.values _ o c.args.spot.place c.args.rank w c.requires.spot.within
+            c.requires.child k) c.self.inside.block.words o.words,
+      ),
       record {
         lends = tt;
         shows =

@@ -16,7 +16,8 @@ remove_point-requires-clause-was g c =
 
 pub remove_point-requires-clause-room : goal.remove_point-requires-clause-room
 remove_point-requires-clause-room g c relaid =
-    less_room _ _ _ _ c.self.view_is c.self.invariant c.args.spare (length c.self.inside.block.values) (sym (length-nodes c.self.inside.block.values)) c.requires.room relaid
+    less_room _ _ _ _ c.self.view_is c.self.invariant c.args.spare (length c.self.inside.block.values)
+    (sym (length-nodes c.self.inside.block.values)) c.requires.room relaid
 
 pub invariant_of-self : goal.invariant_of-self
 invariant_of-self g c =

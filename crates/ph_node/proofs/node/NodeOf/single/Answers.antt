@@ -12,7 +12,8 @@ use Rattle.ph_node.proofs.node.NodeOf.single.Goals as goal
 node-is : (d b a v : ℕ) (body : List ℕ) → 1 ≤ d → d ≤ 16 → b ≤ 61 → a < 2 ^ d → IsBody d b body → IsKept d b (point_entry a body v ∷ [])
 node-is d b a v body o f l m h = record { some = o; few = f; low = l; rise = (omega arith, m, h, tt) }
 
-shown : (d b a v : ℕ) (body : List ℕ) → 1 ≤ d → d ≤ 16 → b ≤ 61 → a < 2 ^ d → IsBody d b body → unpacked d (pack d (node_of b (point_entry a body v ∷ []))) [] ≡ node_of b (point_entry a body v ∷ [])
+shown : (d b a v : ℕ) (body : List ℕ) → 1 ≤ d → d ≤ 16 → b ≤ 61 → a < 2 ^ d → IsBody d b body →
+    unpacked d (pack d (node_of b (point_entry a body v ∷ []))) [] ≡ node_of b (point_entry a body v ∷ [])
 shown d b a v body o f l m h = again d b (chained (point_entry a body v ∷ [])) (node-is d b a v body o f l m h) (omega arith) (λ z. refl)
 
 pub assemble-requires-clause-record : goal.assemble-requires-clause-record

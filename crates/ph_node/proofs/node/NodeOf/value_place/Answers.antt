@@ -17,16 +17,49 @@ pub overflow_sub-result : goal.overflow_sub-result
 overflow_sub-result g c =
     let o = old _ _ _ _ c.self.view_is c.self.invariant in
     let w : length c.self.inside.block.words ≡ length (record_of g.P.Dims.D c.args.self.now.level (flats_of c.args.self.now)) = ap (λ (u : List ℕ). length u) o.words in
-    omega (arith, c.count.ensures, count_at _ _ _ _ _ o c.words.ensures, o.points, c.count-children.ensures.value, length-nodes c.self.inside.block.values, c.len-len.ensures.value, w, values-fit g.P.Dims.D c.args.self.now.level (flats_of c.args.self.now))
+    omega (
+      arith,
+      c.count.ensures,
+      count_at _ _ _ _ _ o c.words.ensures,
+      o.points,
+      c.count-children.ensures.value,
+      length-nodes c.self.inside.block.values,
+      c.len-len.ensures.value,
+      w,
+      values-fit g.P.Dims.D c.args.self.now.level (flats_of c.args.self.now),
+    )
 
 pub overflow_add-result : goal.overflow_add-result
 overflow_add-result g c =
     let o = old _ _ _ _ c.self.view_is c.self.invariant in
     let w : length c.self.inside.block.words ≡ length (record_of g.P.Dims.D c.args.self.now.level (flats_of c.args.self.now)) = ap (λ (u : List ℕ). length u) o.words in
-    omega (arith, c.count.ensures, count_at _ _ _ _ _ o c.words.ensures, o.points, c.count-children.ensures.value, length-nodes c.self.inside.block.values, c.len-len.ensures.value, w, values-fit g.P.Dims.D c.args.self.now.level (flats_of c.args.self.now), c.points_before.ensures, values-below (entries c.args.self.now) c.args.spot.place c.requires.spot.within c.requires.point)
+    omega (
+      arith,
+      c.count.ensures,
+      count_at _ _ _ _ _ o c.words.ensures,
+      o.points,
+      c.count-children.ensures.value,
+      length-nodes c.self.inside.block.values,
+      c.len-len.ensures.value,
+      w,
+      values-fit g.P.Dims.D c.args.self.now.level (flats_of c.args.self.now),
+      c.points_before.ensures,
+      values-below (entries c.args.self.now) c.args.spot.place c.requires.spot.within c.requires.point,
+    )
 
 pub returns : goal.returns
 returns g c =
     let o = old _ _ _ _ c.self.view_is c.self.invariant in
     let w : length c.self.inside.block.words ≡ length (record_of g.P.Dims.D c.args.self.now.level (flats_of c.args.self.now)) = ap (λ (u : List ℕ). length u) o.words in
-    omega (arith, c.count.ensures, count_at _ _ _ _ _ o c.words.ensures, o.points, c.count-children.ensures.value, length-nodes c.self.inside.block.values, c.len-len.ensures.value, w, values-fit g.P.Dims.D c.args.self.now.level (flats_of c.args.self.now), c.points_before.ensures)
+    omega (
+      arith,
+      c.count.ensures,
+      count_at _ _ _ _ _ o c.words.ensures,
+      o.points,
+      c.count-children.ensures.value,
+      length-nodes c.self.inside.block.values,
+      c.len-len.ensures.value,
+      w,
+      values-fit g.P.Dims.D c.args.self.now.level (flats_of c.args.self.now),
+      c.points_before.ensures,
+    )

@@ -23,7 +23,9 @@ returns g c =
     let known = c.args.known.now in
     let t = shown c.args.self.now in
     let joined = put_together t.level c.args.spot.addr (body_above t.level known) (body_at (entries t) c.args.spot.place) in
-    let here : put_together c.level.result c.args.spot.addr (body_above c.level.result known) (digits_row c.words-words.result.now c.body_place-at.result c.level.result (length known)) ≡ joined =
-    ap (λ xs. put_together c.level.result c.args.spot.addr (body_above c.level.result known) xs) (same-row _ _ _ _ _ _ _ _ c.words-words.ensures c.level.ensures.value c.requires.known.0 c.body_place-at.ensures.body)
+    let here : put_together c.level.result c.args.spot.addr (body_above c.level.result known)
+    (digits_row c.words-words.result.now c.body_place-at.result c.level.result (length known)) ≡ joined =
+    ap (λ xs. put_together c.level.result c.args.spot.addr (body_above c.level.result known) xs)
+    (same-row _ _ _ _ _ _ _ _ c.words-words.ensures c.level.ensures.value c.requires.known.0 c.body_place-at.ensures.body)
     ∙ ap (λ (b : ℕ). put_together b c.args.spot.addr (body_above b known) (body_at (entries t) c.args.spot.place)) c.level.ensures.value in
     subst (λ (xs : List ℕ). IsDistanceWithin c.args.limit xs c.args.others.now c.row_distance.result) here c.row_distance.ensures

@@ -11,5 +11,6 @@ pub returns : goal.returns
 returns g c =
     let numbers = c.args.numbers.now in
     c.is_row.ensures
-    ∙ ap (λ xs. same_digits xs (map (cut c.level.result c.args.low) numbers)) (same-row _ _ _ _ _ _ _ _ c.words.ensures c.level.ensures.value c.requires.dims c.body_place-at.ensures.body)
+    ∙ ap (λ xs. same_digits xs (map (cut c.level.result c.args.low) numbers))
+    (same-row _ _ _ _ _ _ _ _ c.words.ensures c.level.ensures.value c.requires.dims c.body_place-at.ensures.body)
     ∙ ap (λ (b : ℕ). same_digits (body_at (entries (shown c.args.self.now)) c.args.spot.place) (map (cut b c.args.low) numbers)) c.level.ensures.value

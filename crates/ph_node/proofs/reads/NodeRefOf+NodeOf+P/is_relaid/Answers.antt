@@ -19,6 +19,7 @@ pub returns : goal.returns
 returns g c =
     let t = shown c.args.self.now in
     let ws = c.node.inside.block.words in
-    relaid g.P.Dims.D c.D-dims.result c.count-left.result ws c.words-words.result.now c.changes_layout.result c.D-dims.ensures c.words-words.ensures c.count-left.ensures c.changes_layout.ensures
+    relaid g.P.Dims.D c.D-dims.result c.count-left.result ws c.words-words.result.now c.changes_layout.result
+    c.D-dims.ensures c.words-words.ensures c.count-left.ensures c.changes_layout.ensures
     ∙ ap (λ l. is_relaid g.P.Dims.D l (first_in ws).entries) (sym (level_is _ _ _ _ c.node.view_is c.node.invariant))
     ∙ ap (λ n. is_relaid g.P.Dims.D t.level n) (sym (count_is _ _ _ _ c.node.view_is c.node.invariant))

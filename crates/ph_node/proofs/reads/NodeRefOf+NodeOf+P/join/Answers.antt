@@ -17,5 +17,6 @@ pub returns-clause-known : goal.returns-clause-known
 returns-clause-known g c =
     let known = c.args.known.now in
     c.join_row.ensures
-    ∙ ap (λ xs. put_together c.level.result c.args.spot.addr (body_above c.level.result known) xs) (same-row _ _ _ _ _ _ _ _ c.words.ensures c.level.ensures.value c.requires.known.0 c.body_place-at.ensures.body)
+    ∙ ap (λ xs. put_together c.level.result c.args.spot.addr (body_above c.level.result known) xs)
+    (same-row _ _ _ _ _ _ _ _ c.words.ensures c.level.ensures.value c.requires.known.0 c.body_place-at.ensures.body)
     ∙ ap (λ (b : ℕ). put_together b c.args.spot.addr (body_above b known) (body_at (entries (shown c.args.self.now)) c.args.spot.place)) c.level.ensures.value

@@ -29,4 +29,5 @@ returns-then-low-level g c =
     c.join_address.ensures
     ∙ ap (λ (b : ℕ). put_together b c.args.spot.addr (body_above b known) (replicate (length known) 0)) c.level-level.ensures.value
     ∙ ap (λ k. put_together n.level c.args.spot.addr (body_above n.level known) (replicate k 0)) (c.requires.known.0 ∙ sym c.requires.body.0)
-    ∙ ap (put_together n.level c.args.spot.addr (body_above n.level known)) (none-left n.level c.args.low body (c.if-low-level.true ∙ c.level-level.ensures.value) c.requires.body.1 c.requires.zeros)
+    ∙ ap (put_together n.level c.args.spot.addr (body_above n.level known))
+    (none-left n.level c.args.low body (c.if-low-level.true ∙ c.level-level.ensures.value) c.requires.body.1 c.requires.zeros)

@@ -26,5 +26,9 @@ returns-clause-between g c =
     let low = c.args.low.now in
     let high = c.args.high.now in
     c.is_row_between.ensures
-    ∙ ap (λ xs. each_between low high (put_together c.level.result c.args.spot.addr (body_above c.level.result known) xs)) (same-row _ _ _ _ _ _ _ _ c.words-words.ensures c.level.ensures.value c.requires.known.0 c.body_place-at.ensures.body)
-    ∙ ap (λ (b : ℕ). each_between low high (put_together b c.args.spot.addr (body_above b known) (body_at (entries (shown c.args.self.now)) c.args.spot.place))) c.level.ensures.value
+    ∙ ap (λ xs. each_between low high
+    (put_together c.level.result c.args.spot.addr (body_above c.level.result known) xs))
+    (same-row _ _ _ _ _ _ _ _ c.words-words.ensures c.level.ensures.value c.requires.known.0 c.body_place-at.ensures.body)
+    ∙ ap (λ (b : ℕ). each_between low high
+    (put_together b c.args.spot.addr (body_above b known)
+    (body_at (entries (shown c.args.self.now)) c.args.spot.place))) c.level.ensures.value

@@ -12,4 +12,6 @@ pub invariant_of-self : goal.invariant_of-self
 invariant_of-self g c =
     let d = g.P.Dims.D in
     let n = shown c.args.node in
-    (joined-seen d c.D-dims.result c.self.inside.width c.self.inside.digits c.D-dims.ensures c.self.invariant c.args.self.now n.level c.args.spot.addr (body_at (entries n) c.args.spot.place) c.join.new.known _ c.self.view_is c.requires.level c.join.ensures.body c.join.ensures.known).0
+    (joined-seen d c.D-dims.result c.self.inside.width c.self.inside.digits c.D-dims.ensures c.self.invariant
+    c.args.self.now n.level c.args.spot.addr (body_at (entries n) c.args.spot.place) c.join.new.known _
+    c.self.view_is c.requires.level c.join.ensures.body c.join.ensures.known).0

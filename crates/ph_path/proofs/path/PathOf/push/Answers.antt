@@ -16,8 +16,10 @@ push-requires g c =
 
 pub invariant_of-self-2 : goal.invariant_of-self-2
 invariant_of-self-2 g c =
-    (pushed c.self.inside.last c.self.inside.above.items c.push.new.self.items c.in-Some.last c.args.frame _ c.self.invariant c.in-Some.is c.push.ensures.items c.self.view_is).0
+    (pushed c.self.inside.last c.self.inside.above.items c.push.new.self.items c.in-Some.last c.args.frame _
+    c.self.invariant c.in-Some.is c.push.ensures.items c.self.view_is).0
 
 pub returns : goal.returns
 returns g c =
-    (pushed c.self.inside.last c.self.inside.above.items c.push.new.self.items c.in-Some.last c.args.frame _ c.self.invariant c.in-Some.is c.push.ensures.items c.self.view_is).1
+    (pushed c.self.inside.last c.self.inside.above.items c.push.new.self.items c.in-Some.last c.args.frame _
+    c.self.invariant c.in-Some.is c.push.ensures.items c.self.view_is).1

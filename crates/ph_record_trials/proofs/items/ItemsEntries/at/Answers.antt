@@ -16,6 +16,8 @@ returns g c =
     let e = slice_index_or es c.args.i no_item in
     record {
       entry = read-at d es c.args.i (omega (arith, c.requires, length-flats d es))
-          ∙ ap Some (kept e.value c.is_none.result e.addr (take d (body_of e.fields)) c.is_none.ensures ∙ ap (λ t. read c.is_none.result e.addr t) (sym (at-dims c.D.result d c.body_of-body.result (body_of e.fields) c.D.ensures c.body_of-body.ensures.fields)));
+          ∙ ap Some (kept e.value c.is_none.result e.addr (take d (body_of e.fields)) c.is_none.ensures ∙
+          ap (λ t. read c.is_none.result e.addr t)
+          (sym (at-dims c.D.result d c.body_of-body.result (body_of e.fields) c.D.ensures c.body_of-body.ensures.fields)));
       zeros = subst (λ n. IsPadded n c.body_of-body.result) c.D.ensures c.body_of-body.ensures.zeros;
     }

@@ -5,8 +5,16 @@ use Rattle.ph_record_trials.proofs.items.ItemsEntries.value.Goals as goal
 
 pub returns-in-Some : goal.returns-in-Some
 returns-in-Some g c v e =
-    ap out (ap Some (sym c.in-Some.is) ∙ sym (value-at g.P.Dims.D c.args.self.now.items.now c.args.i (omega (arith, c.requires.within, length-flats g.P.Dims.D c.args.self.now.items.now))) ∙ e)
+    ap out (ap Some (sym c.in-Some.is) ∙
+    sym (value-at g.P.Dims.D c.args.self.now.items.now c.args.i
+    (omega (arith, c.requires.within, length-flats g.P.Dims.D c.args.self.now.items.now))) ∙ e)
 
 pub returns-in-None : goal.returns-in-None
 returns-in-None g c v e =
-    absurd (omega (arith, ap there (ap Some (sym c.in-None.is) ∙ sym (value-at g.P.Dims.D c.args.self.now.items.now c.args.i (omega (arith, c.requires.within, length-flats g.P.Dims.D c.args.self.now.items.now))) ∙ e)))
+    absurd (omega (
+      arith,
+      ap there
+          (ap Some (sym c.in-None.is) ∙ sym
+          (value-at g.P.Dims.D c.args.self.now.items.now c.args.i
+          (omega (arith, c.requires.within, length-flats g.P.Dims.D c.args.self.now.items.now))) ∙ e),
+    ))

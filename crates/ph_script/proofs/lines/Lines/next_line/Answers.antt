@@ -13,7 +13,15 @@ returns-then-is_whole c =
       (refl, (λ _. tt), sym (ended c.args.self.now rest c.in-Some.end found)),
       record {
         rests = tt;
-        given = (omega (arith, feed.0, feed.1), line-whole c.self.inside.is_over c.self.inside.buffer.items c.args.self.now c.begin.new.buffer.items rest c.split_at.result.1.now c.split_at-in-Some.result.0.now c.in-Some.end c.show.result c.begin.ensures.items c.self.view_is (no-byte c.begin.new.buffer.items (vec_len c.begin.new.buffer) (sym c.is_empty-is_whole.ensures ∙ c.if-is_whole.true) c.begin.new.buffer.ok.0) c.split_at.ensures.back feed.0 c.split_at-in-Some.ensures.front c.show.ensures);
+        given = (
+          omega (arith, feed.0, feed.1),
+          line-whole c.self.inside.is_over c.self.inside.buffer.items
+              c.args.self.now c.begin.new.buffer.items rest c.split_at.result.1.now c.split_at-in-Some.result.0.now
+              c.in-Some.end c.show.result c.begin.ensures.items c.self.view_is
+              (no-byte c.begin.new.buffer.items (vec_len c.begin.new.buffer)
+              (sym c.is_empty-is_whole.ensures ∙ c.if-is_whole.true) c.begin.new.buffer.ok.0) c.split_at.ensures.back
+              feed.0 c.split_at-in-Some.ensures.front c.show.ensures,
+        );
         place = omega (arith, feed.0);
       },
     )
@@ -26,7 +34,15 @@ returns-else-is_whole c =
       (refl, (λ _. tt), sym (ended c.args.self.now rest c.in-Some.end found)),
       record {
         rests = tt;
-        given = (omega (arith, feed.0, feed.1), line-shown c.self.inside.is_over c.self.inside.buffer.items c.args.self.now c.begin.new.buffer.items rest c.split_at.result.1.now c.keep.new.buffer.items c.deref.result.now c.in-Some.end c.show-in-Some.result c.begin.ensures.items c.self.view_is c.split_at.ensures.back feed.0 (c.keep.ensures.items ∙ ap (λ l. kept (c.begin.new.buffer.items ++ l)) c.split_at-in-Some.ensures.front) c.deref.ensures.value c.show-in-Some.ensures);
+        given = (
+          omega (arith, feed.0, feed.1),
+          line-shown c.self.inside.is_over c.self.inside.buffer.items
+              c.args.self.now c.begin.new.buffer.items rest c.split_at.result.1.now c.keep.new.buffer.items
+              c.deref.result.now c.in-Some.end c.show-in-Some.result c.begin.ensures.items c.self.view_is
+              c.split_at.ensures.back feed.0
+              (c.keep.ensures.items ∙ ap (λ l. kept (c.begin.new.buffer.items ++ l)) c.split_at-in-Some.ensures.front)
+              c.deref.ensures.value c.show-in-Some.ensures,
+        );
         place = omega (arith, feed.0);
       },
     )
@@ -35,7 +51,9 @@ pub returns-in-None : goal.returns-in-None
 returns-in-None c =
     let rest = drop c.args.at.now c.args.piece.now in
     let found : position is_feed rest ≡ None = rw (← c.split_at.ensures.back) (sym c.in-None.ensures) in
-    let line = line-goes_on c.self.inside.is_over c.self.inside.buffer.items c.args.self.now c.begin.new.buffer.items rest c.split_at.result.1.now c.keep-in-None.new.buffer.items c.begin.ensures.items c.self.view_is c.split_at.ensures.back c.keep-in-None.ensures.items in (
+    let line = line-goes_on c.self.inside.is_over c.self.inside.buffer.items c.args.self.now c.begin.new.buffer.items
+    rest c.split_at.result.1.now c.keep-in-None.new.buffer.items c.begin.ensures.items c.self.view_is
+    c.split_at.ensures.back c.keep-in-None.ensures.items in (
       (refl, (λ _. tt), line ∙ sym (not_ended c.args.self.now rest found)),
       record {
         rests = tt;

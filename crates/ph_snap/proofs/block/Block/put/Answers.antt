@@ -10,7 +10,8 @@ returns-in_err-push-clause-front g c =
 
 pub loop-word-preserved : goal.loop-word-preserved
 loop-word-preserved g c = record {
-  passed = rw (add-one, words-more c.args.words.now c.loop-word.word-index 0 c.loop-word-test.true) (passed-both _ _ _ _ _ _ _ _ c.loop-word.invariant.passed (rw c.bytes_in.ensures at c.in_ok-push.ensures.passed));
+  passed = rw (add-one, words-more c.args.words.now c.loop-word.word-index 0 c.loop-word-test.true)
+      (passed-both _ _ _ _ _ _ _ _ c.loop-word.invariant.passed (rw c.bytes_in.ensures at c.in_ok-push.ensures.passed));
   later = omega (arith, c.loop-word.invariant.later, c.in_ok-push.ensures.cause.later);
   follows = g.met.S.Sink.follows_on _ _ _ c.loop-word.invariant.follows c.in_ok-push.ensures.follows;
 }

@@ -13,6 +13,7 @@ invariant_of-self g c =
 pub returns-in-Ok-clause-value : goal.returns-in-Ok-clause-value
 returns-in-Ok-clause-value g c =
     let f : find c.self.inside.rows.items c.args.p.now ≡ Some c.remove-row.result.value =
-    (rw c.deref.ensures.value at c.in-Ok.ensures.1) ∙ value-at c.self.inside.rows.items c.in-Ok.i c.remove-row.result (rw c.deref.ensures.value at c.in-Ok.ensures.0) c.remove-row.ensures.value in
+    (rw c.deref.ensures.value at c.in-Ok.ensures.1) ∙ value-at c.self.inside.rows.items c.in-Ok.i c.remove-row.result
+    (rw c.deref.ensures.value at c.in-Ok.ensures.0) c.remove-row.ensures.value in
     let v : c.remove-row.result.value ≡ c.row.inside.value = sym (ap (λ r. r.value) c.row.view_is) in
     rw (← c.self.view_is, f ∙ ap (λ x. Some x) v)

@@ -9,5 +9,6 @@ returns-clause-value g c =
 
 pub returns-clause-limit : goal.returns-clause-limit
 returns-clause-limit g c =
-    let long : length (take c.D.result c.self.inside.offsets) ≡ g.P.Dims.D = ap (λ n. length (take n c.self.inside.offsets)) c.D.ensures ∙ c.self.invariant.body.fields.0 in
+    let long : length (take c.D.result c.self.inside.offsets) ≡ g.P.Dims.D =
+    ap (λ n. length (take n c.self.inside.offsets)) c.D.ensures ∙ c.self.invariant.body.fields.0 in
     subst (λ n. c.body_address.result < 2 ^ n) long c.body_address.ensures.limit

@@ -7,7 +7,10 @@ use Rattle.ph_tree.proofs.key.KeyOf.new.Goals as goal
 pub invariant_of-result : goal.invariant_of-result
 invariant_of-result g c =
     subst (λ (w : ℕ). IsKey g.P.Dims.D w c.offsets_of.result) (sym c.bits.ensures.value)
-    (made c.args.w g.P.Dims.D c.args.coords.now c.offsets_of.result c.requires.some c.requires.few (omega (arith, c.bits.ensures.value, c.bits.ensures.some)) (omega (arith, c.bits.ensures.value, c.bits.ensures.limit)) c.requires.point c.offsets_of.ensures.values c.offsets_of.ensures.zeros)
+    (made c.args.w g.P.Dims.D c.args.coords.now c.offsets_of.result c.requires.some c.requires.few
+    (omega (arith, c.bits.ensures.value, c.bits.ensures.some))
+    (omega (arith, c.bits.ensures.value, c.bits.ensures.limit)) c.requires.point c.offsets_of.ensures.values
+    c.offsets_of.ensures.zeros)
 
 pub returns-clause-point : goal.returns-clause-point
 returns-clause-point g c =

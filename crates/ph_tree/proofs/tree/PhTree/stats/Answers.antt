@@ -8,11 +8,18 @@ use Rattle.ph_tree.proofs.tree.PhTree.stats.Goals as goal
 pub count_tree-counts-requires : goal.count_tree-counts-requires
 count_tree-counts-requires g c =
     let w : 1 ≤ c.args.self.now.width = omega (arith, c.width.ensures, c.bits-bits.ensures.value, c.bits-bits.ensures.some) in
-    omega (arith, nodes-few c.args.self.now.width g.row.D c.args.self.now.table _ w c.root.ensures.table c.root.ensures.shape, c.len-rows.ensures.value, c.len-rows.type_inv)
+    omega (
+      arith,
+      nodes-few c.args.self.now.width g.row.D c.args.self.now.table _ w c.root.ensures.table
+          c.root.ensures.shape,
+      c.len-rows.ensures.value,
+      c.len-rows.type_inv,
+    )
 
 pub returns-clause-stats : goal.returns-clause-stats
 returns-clause-stats g c =
-    sizes-counted c.args.self.now.width g.row.D c.from.result c.args.self.now.table _ c.count_tree-counts.result (c.from.ensures ∙ c.len-rows.ensures.value) c.root.ensures.shape c.count_tree-counts.ensures.counts
+    sizes-counted c.args.self.now.width g.row.D c.from.result c.args.self.now.table _ c.count_tree-counts.result
+    (c.from.ensures ∙ c.len-rows.ensures.value) c.root.ensures.shape c.count_tree-counts.ensures.counts
 
 pub returns-clause-visits : goal.returns-clause-visits
 returns-clause-visits g c =

@@ -11,7 +11,8 @@ use Rattle.ph_undo.proofs.kept.Kept.back_one.Goals as goal
 
 no_past : (g : Over) (c : In_default g) → c.args.self.now.past ≡ []
 no_past g c =
-    sym (ap (λ k. k.past) c.self.view_is) ∙ past-none {D = g.row.D} c.self.inside.tree c.self.inside.ring (first-none (steps_in c.self.inside.ring) (sym c.newest.ensures ∙ c.in_default.is))
+    sym (ap (λ k. k.past) c.self.view_is) ∙ past-none {D = g.row.D} c.self.inside.tree c.self.inside.ring
+    (first-none (steps_in c.self.inside.ring) (sym c.newest.ensures ∙ c.in_default.is))
 
 pub returns-in_default-clause-none : goal.returns-in_default-clause-none
 returns-in_default-clause-none g c = (λ _. no_past g c, λ _. refl)
@@ -43,12 +44,15 @@ take_back-requires g c =
 pub invariant_of-self : goal.invariant_of-self
 invariant_of-self g c =
     let is = first-some (steps_in c.self.inside.ring) c.in-Some.step (sym c.newest.ensures ∙ c.in-Some.is) in
-    is_kept-back c.self.inside.tree c.self.inside.depth c.in-Some.step (drop 1 (steps_in c.self.inside.ring)) c.self.inside.ring c.self.invariant is c.take_back.new.tree c.in-Ok.ensures.undone c.drop_newest.new.ring c.drop_newest.ensures.steps c.drop_newest.ensures.room
+    is_kept-back c.self.inside.tree c.self.inside.depth c.in-Some.step (drop 1 (steps_in c.self.inside.ring))
+    c.self.inside.ring c.self.invariant is c.take_back.new.tree c.in-Ok.ensures.undone c.drop_newest.new.ring
+    c.drop_newest.ensures.steps c.drop_newest.ensures.room
 
 pub returns-in-Ok-clause-back : goal.returns-in-Ok-clause-back
 returns-in-Ok-clause-back g c =
     let is = first-some (steps_in c.self.inside.ring) c.in-Some.step (sym c.newest.ensures ∙ c.in-Some.is) in
-    kept-back c.self.inside.tree c.self.inside.depth c.in-Some.step (drop 1 (steps_in c.self.inside.ring)) c.self.inside.ring is c.take_back.new.tree c.in-Ok.ensures.undone c.drop_newest.new.ring c.drop_newest.ensures.steps
+    kept-back c.self.inside.tree c.self.inside.depth c.in-Some.step (drop 1 (steps_in c.self.inside.ring))
+    c.self.inside.ring is c.take_back.new.tree c.in-Ok.ensures.undone c.drop_newest.new.ring c.drop_newest.ensures.steps
     ∙ ap (λ k. back k 1) c.self.view_is
 
 -- ---- memory was missing

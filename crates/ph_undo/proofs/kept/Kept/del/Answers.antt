@@ -16,11 +16,16 @@ use Rattle.ph_undo.proofs.kept.Kept.del.Goals as goal
 found : (g : Over) (c : After-note_removal g) → find c.self.inside.tree.table c.args.p.now ≡ Some c.in-Some.value
 found g c = sym c.in_ok-gone.ensures.answer ∙ c.in-Some.is
 
-del_noted : (g : Over) (c : After-note_removal g) → IsNoted g.row.D c.self.inside.tree (del c.self.inside.tree.table c.args.p.now) c.self.inside.depth c.self.inside.ring c.note_removal.new.ring
+del_noted : (g : Over) (c : After-note_removal g) →
+    IsNoted g.row.D c.self.inside.tree (del c.self.inside.tree.table c.args.p.now) c.self.inside.depth
+    c.self.inside.ring c.note_removal.new.ring
 del_noted g c =
     let t = c.self.inside.tree in
-    noted t (del t.table c.args.p.now) c.self.inside.depth (Restore c.args.p.now c.in-Some.value) c.self.inside.ring c.note_removal.new.ring c.self.invariant c.note_removal.ensures.steps c.note_removal.ensures.room
-    (subst (λ k. IsPoint k.width g.row.D c.args.p.now) (sym c.self.view_is) c.requires) tt (omega (arith, c.len-len.ensures)) (del-undone g.row.D t.width t.table c.root-root.ensures.table c.args.p.now c.in-Some.value (found g c))
+    noted t (del t.table c.args.p.now) c.self.inside.depth (Restore c.args.p.now c.in-Some.value) c.self.inside.ring
+    c.note_removal.new.ring c.self.invariant c.note_removal.ensures.steps c.note_removal.ensures.room
+    (subst (λ k. IsPoint k.width g.row.D c.args.p.now) (sym c.self.view_is) c.requires) tt
+    (omega (arith, c.len-len.ensures))
+    (del-undone g.row.D t.width t.table c.root-root.ensures.table c.args.p.now c.in-Some.value (found g c))
 
 -- no row was there
 stays : (g : Over) (c : In_default g) → c.del.new.self ≡ c.self.inside.tree

@@ -10,13 +10,16 @@ use Rattle.ph_undo.proofs.kept.Kept.put.Given.{Over}
 use Rattle.ph_undo.proofs.kept.Kept.put.Goals.{After-note_put}
 use Rattle.ph_undo.proofs.kept.Kept.put.Goals as goal
 
-put_noted : (g : Over) (c : After-note_put g) → IsNoted g.row.D c.self.inside.tree (put c.self.inside.tree.width c.self.inside.tree.table c.args.p c.args.v) c.self.inside.depth c.self.inside.ring c.note_put.new.ring
+put_noted : (g : Over) (c : After-note_put g) →
+    IsNoted g.row.D c.self.inside.tree (put c.self.inside.tree.width c.self.inside.tree.table c.args.p c.args.v)
+    c.self.inside.depth c.self.inside.ring c.note_put.new.ring
 put_noted g c =
     let t = c.self.inside.tree in
     let a = c.in_ok-put.put in
     let after = put t.width t.table c.args.p c.args.v in
     let point : IsPoint t.width g.row.D c.args.p = subst (λ k. IsPoint k.width g.row.D c.args.p) (sym c.self.view_is) c.requires in
-    noted t after c.self.inside.depth (put_inverse {D = g.row.D} c.args.p a) c.self.inside.ring c.note_put.new.ring c.self.invariant c.note_put.ensures.steps c.note_put.ensures.room
+    noted t after c.self.inside.depth (put_inverse {D = g.row.D} c.args.p a) c.self.inside.ring c.note_put.new.ring
+    c.self.invariant c.note_put.ensures.steps c.note_put.ensures.room
     (put-point g.row.D t.width c.args.p a point) (put-changes g.row.D t.width t.table c.args.p c.args.v a) (omega (arith, c.len-len.ensures))
     (put-undone g.row.D t.width t.table c.root-root.ensures.table c.args.p c.args.v a c.in_ok-put.ensures.answer)
 

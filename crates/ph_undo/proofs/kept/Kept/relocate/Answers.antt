@@ -15,15 +15,23 @@ use Rattle.ph_undo.proofs.kept.Kept.relocate.Goals as goal
 
 -- what a move leaves, whether it took a row to another point or not
 record IsLeft (g : Over) (c : After-note_move g) : Type 0 where
-  pub kept : IsKept g.row.D (with_table c.self.inside.tree (move c.self.inside.tree.width c.self.inside.tree.table c.args.from.now c.args.to.now)) c.self.inside.depth c.note_move.new.ring
-  pub view : kept_of (with_table c.self.inside.tree (move c.self.inside.tree.width c.self.inside.tree.table c.args.from.now c.args.to.now)) c.self.inside.depth c.note_move.new.ring
+  pub kept : IsKept g.row.D (with_table c.self.inside.tree
+      (move c.self.inside.tree.width c.self.inside.tree.table c.args.from.now c.args.to.now)) c.self.inside.depth
+      c.note_move.new.ring
+  pub view : kept_of (with_table c.self.inside.tree
+      (move c.self.inside.tree.width c.self.inside.tree.table c.args.from.now c.args.to.now)) c.self.inside.depth
+      c.note_move.new.ring
       ≡ move_kept (kept_of c.self.inside.tree c.self.inside.depth c.self.inside.ring) c.args.from.now c.args.to.now
 
 -- the inverses after it
 steps : (g : Over) (c : After-note_move g) (b : Bool) → moves_by (find c.self.inside.tree.table c.args.from.now) (find c.self.inside.tree.table c.args.to.now) ≡ b
-    → steps_in c.note_move.new.ring ≡ cond b (take (room_in c.self.inside.ring) (Return c.args.to.now c.args.from.now ∷ steps_in c.self.inside.ring)) (steps_in c.self.inside.ring)
+    → steps_in c.note_move.new.ring ≡
+    cond b (take (room_in c.self.inside.ring)
+    (Return c.args.to.now c.args.from.now ∷ steps_in c.self.inside.ring)) (steps_in c.self.inside.ring)
 steps g c b e =
-    steps-move (room_in c.self.inside.ring) c.self.inside.tree.table c.args.from.now c.args.to.now c.in_ok-moved.moved (steps_in c.self.inside.ring) (steps_in c.note_move.new.ring) c.in_ok-moved.ensures.done.answer c.note_move.ensures.steps b e
+    steps-move (room_in c.self.inside.ring) c.self.inside.tree.table c.args.from.now c.args.to.now c.in_ok-moved.moved
+    (steps_in c.self.inside.ring) (steps_in c.note_move.new.ring) c.in_ok-moved.ensures.done.answer
+    c.note_move.ensures.steps b e
 
 -- it did
 moved : (g : Over) (c : After-note_move g) → moves_by (find c.self.inside.tree.table c.args.from.now) (find c.self.inside.tree.table c.args.to.now) ≡ true → IsLeft g c
@@ -34,7 +42,8 @@ moved g c e =
     let m = moved-is (find t.table p) (find t.table q) e in
     let from : IsPoint t.width g.row.D p = subst (λ k. IsPoint k.width g.row.D p) (sym c.self.view_is) c.requires.from in
     let to : IsPoint t.width g.row.D q = subst (λ k. IsPoint k.width g.row.D q) (sym c.self.view_is) c.requires.to in
-    let n = noted t (move t.width t.table p q) c.self.inside.depth (Return q p) c.self.inside.ring c.note_move.new.ring c.self.invariant (steps g c true e) c.note_move.ensures.room
+    let n = noted t (move t.width t.table p q) c.self.inside.depth (Return q p) c.self.inside.ring
+    c.note_move.new.ring c.self.invariant (steps g c true e) c.note_move.ensures.room
     (to, from) (move-changes g.row.D t.width t.table c.root-root.ensures.table p q m.value m.free m.there) (omega (arith, c.len-len.ensures))
     (move-undone g.row.D t.width t.table c.root-root.ensures.table p q m.value m.free m.there) in
     record { kept = n.kept; view = n.view ∙ move-edit (kept_of t c.self.inside.depth c.self.inside.ring) p q e }
@@ -46,8 +55,11 @@ stayed g c e =
     let now = c.note_move.new.ring in
     let same : with_table t (move t.width t.table c.args.from.now c.args.to.now) ≡ t = ap (with_table t) (move-stays t.width t.table c.args.from.now c.args.to.now e) in
     record {
-      kept = subst (λ u. IsKept g.row.D u c.self.inside.depth now) (sym same) (is_kept-same t c.self.inside.depth c.self.inside.ring now c.self.invariant (steps g c false e) c.note_move.ensures.room);
-      view = ap (λ u. kept_of u c.self.inside.depth now) same ∙ kept-same t c.self.inside.depth c.self.inside.ring now (steps g c false e) ∙ move-idle (kept_of t c.self.inside.depth c.self.inside.ring) c.args.from.now c.args.to.now e;
+      kept = subst (λ u. IsKept g.row.D u c.self.inside.depth now) (sym same)
+          (is_kept-same t c.self.inside.depth c.self.inside.ring now c.self.invariant (steps g c false e)
+          c.note_move.ensures.room);
+      view = ap (λ u. kept_of u c.self.inside.depth now) same ∙ kept-same t c.self.inside.depth c.self.inside.ring now
+          (steps g c false e) ∙ move-idle (kept_of t c.self.inside.depth c.self.inside.ring) c.args.from.now c.args.to.now e;
     }
 
 left : (g : Over) (c : After-note_move g) → IsLeft g c

@@ -9,4 +9,5 @@ returns g c =
     let s = c.args.self.now in
     let same = c.bits.ensures.value ∙ ap (λ (c : Corners). c.width) c.self.view_is in
     c.is_some.ensures
-    ∙ met-root g.P.Dims.D s.width (point_at s.width s.low) (point_at s.width s.high) (omega (arith, c.bits.ensures.some, same)) same (ap (λ (k : Known). k.digits) c.new-known.ensures) c.masks.ensures
+    ∙ met-root g.P.Dims.D s.width (point_at s.width s.low) (point_at s.width s.high)
+    (omega (arith, c.bits.ensures.some, same)) same (ap (λ (k : Known). k.digits) c.new-known.ensures) c.masks.ensures

@@ -9,4 +9,6 @@ offset_masks-requires-clause-small g c =
 pub returns : goal.returns
 returns g c =
     c.offset_masks.ensures
-    ∙ masks-seen c.self.invariant c.self.view_is c.requires.width c.digits.ensures.body c.digits.ensures.value (ap (λ n. take n c.self.inside.low) c.D-dims.ensures) (ap (λ n. take n c.self.inside.high) c.D-dims.ensures) c.args.level c.requires.level
+    ∙ masks-seen c.self.invariant c.self.view_is c.requires.width c.digits.ensures.body c.digits.ensures.value
+    (ap (λ n. take n c.self.inside.low) c.D-dims.ensures) (ap (λ n. take n c.self.inside.high) c.D-dims.ensures)
+    c.args.level c.requires.level

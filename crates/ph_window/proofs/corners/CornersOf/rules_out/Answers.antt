@@ -14,5 +14,8 @@ was-false false e = refl
 pub returns-clause-outside : goal.returns-clause-outside
 returns-clause-outside g c e =
     sym (c.lies_between.ensures.between
-    ∙ entry-seen c.self.invariant c.self.view_is c.requires.width c.digits-digits.ensures.body c.digits-digits.ensures.value (ap (λ n. take n c.self.inside.low) c.D-dims.ensures) (ap (λ n. take n c.self.inside.high) c.D-dims.ensures) (shown c.args.node).level c.args.spot.addr _ c.requires.level c.lies_between.ensures.body)
+    ∙ entry-seen c.self.invariant c.self.view_is c.requires.width c.digits-digits.ensures.body
+    c.digits-digits.ensures.value (ap (λ n. take n c.self.inside.low) c.D-dims.ensures)
+    (ap (λ n. take n c.self.inside.high) c.D-dims.ensures) (shown c.args.node).level c.args.spot.addr _
+    c.requires.level c.lies_between.ensures.body)
     ∙ was-false c.lies_between.result e

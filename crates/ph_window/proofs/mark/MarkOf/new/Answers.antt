@@ -7,5 +7,6 @@ invariant_of-result g c = record {
   few = c.requires.few;
   wide = omega (arith, c.bits-bits.ensures.value, c.bits-bits.ensures.some);
   narrow = omega (arith, c.bits-bits.ensures.value, c.bits-bits.ensures.limit);
-  body = mark-body g.P.Dims.D c.args.w c.args.p.now c.offsets_of.result (omega (arith, c.bits-bits.ensures.value, c.bits-bits.ensures.some)) c.requires.point c.offsets_of.ensures.values;
+  body = mark-body g.P.Dims.D c.args.w c.args.p.now c.offsets_of.result
+      (omega (arith, c.bits-bits.ensures.value, c.bits-bits.ensures.some)) c.requires.point c.offsets_of.ensures.values;
 }

@@ -17,7 +17,9 @@ new-requires g c =
     let d = g.row.D in
     let lo = same-point w c.args.tree.now.width d c.as_slice.result.now c.args.lo c.width-w.ensures c.as_slice.ensures.value c.requires.lo in
     let hi = same-point w c.args.tree.now.width d c.as_slice-2.result.now c.args.hi c.width-w.ensures c.as_slice-2.ensures.value c.requires.hi in
-    let tree = shape-lawful d w c.args.tree.now.width (option_copied c.root-all.result) c.args.tree.now.table (omega (arith, c.bits-bits.ensures.value, c.bits-bits.ensures.some)) c.width-w.ensures c.root-all.ensures.table c.root-all.ensures.shape in
+    let tree = shape-lawful d w c.args.tree.now.width (option_copied c.root-all.result) c.args.tree.now.table
+    (omega (arith, c.bits-bits.ensures.value, c.bits-bits.ensures.some)) c.width-w.ensures
+    c.root-all.ensures.table c.root-all.ensures.shape in
     let lawful : IsLawful w d (option_copied c.if-have_points.root) = elim c.if-have_points.branch [
       | then-have_points t ↦ subst (λ o. IsLawful w d (option_copied o)) (sym t.root-is) tree
       | else-have_points t ↦ subst (λ o. IsLawful w d (option_copied o)) (sym t.root-is) tt
@@ -25,8 +27,19 @@ new-requires g c =
     let start : IfSome c.if-have_points.root (λ n. TouchesRoot d (points_of c.new-corners.result)) = elim c.if-have_points.branch [
       | then-have_points t ↦ if-some (TouchesRoot d (points_of c.new-corners.result)) c.if-have_points.root (sym c.have_points.ensures ∙ t.if-have_points.true)
       | else-have_points t ↦ subst (λ o. IfSome o (λ n. TouchesRoot d (points_of c.new-corners.result))) (sym t.root-is) tt
-    ] in
-    (omega arith, (c.root-all.ensures.some, (c.root-all.ensures.few, (ap (λ (c : Corners). c.width) c.new-corners.ensures, (corner-exact d w c.as_slice.result.now c.as_slice-2.result.now lo hi c.new-corners.ensures, (lawful, start))))))
+    ] in (
+      omega arith,
+      (
+        c.root-all.ensures.some,
+        (
+          c.root-all.ensures.few,
+          (
+            ap (λ (c : Corners). c.width) c.new-corners.ensures,
+            (corner-exact d w c.as_slice.result.now c.as_slice-2.result.now lo hi c.new-corners.ensures, (lawful, start)),
+          ),
+        ),
+      ),
+    )
 
 pub returns-clause-rows : goal.returns-clause-rows
 returns-clause-rows g c =
@@ -35,8 +48,18 @@ returns-clause-rows g c =
     let lo = same-point w c.args.tree.now.width d c.as_slice.result.now c.args.lo c.width-w.ensures c.as_slice.ensures.value c.requires.lo in
     let hi = same-point w c.args.tree.now.width d c.as_slice-2.result.now c.args.hi c.width-w.ensures c.as_slice-2.ensures.value c.requires.hi in
     c.new.ensures.rest ∙ elim c.if-have_points.branch [
-      | then-have_points t ↦ ap (λ o. kept (points_of c.new-corners.result) (rows w d (option_copied o))) t.root-is ∙ table-rows d w c.args.tree.now.width (option_copied c.root-all.result) c.args.tree.now.table c.args.lo c.args.hi c.as_slice.result.now c.as_slice-2.result.now (omega (arith, c.bits-bits.ensures.value, c.bits-bits.ensures.some)) c.width-w.ensures c.root-all.ensures.table c.root-all.ensures.shape c.as_slice.ensures.value c.as_slice-2.ensures.value lo hi c.new-corners.ensures
-      | else-have_points t ↦ ap (λ o. kept (points_of c.new-corners.result) (rows w d (option_copied o))) t.root-is ∙ empty-rows d w c.args.tree.now.width (option_copied c.root-all.result) c.args.tree.now.table c.args.lo c.args.hi c.as_slice.result.now c.as_slice-2.result.now (omega (arith, c.bits-bits.ensures.value, c.bits-bits.ensures.some)) c.width-w.ensures c.root-all.ensures.table c.root-all.ensures.shape c.as_slice.ensures.value c.as_slice-2.ensures.value lo hi c.new-corners.ensures (sym c.have_points.ensures ∙ t.if-have_points.false)
+      | then-have_points t ↦ ap (λ o. kept (points_of c.new-corners.result) (rows w d (option_copied o))) t.root-is ∙
+          table-rows d w c.args.tree.now.width (option_copied c.root-all.result) c.args.tree.now.table c.args.lo
+          c.args.hi c.as_slice.result.now c.as_slice-2.result.now
+          (omega (arith, c.bits-bits.ensures.value, c.bits-bits.ensures.some)) c.width-w.ensures
+          c.root-all.ensures.table c.root-all.ensures.shape c.as_slice.ensures.value c.as_slice-2.ensures.value lo hi
+          c.new-corners.ensures
+      | else-have_points t ↦ ap (λ o. kept (points_of c.new-corners.result) (rows w d (option_copied o))) t.root-is ∙
+          empty-rows d w c.args.tree.now.width (option_copied c.root-all.result) c.args.tree.now.table c.args.lo
+          c.args.hi c.as_slice.result.now c.as_slice-2.result.now
+          (omega (arith, c.bits-bits.ensures.value, c.bits-bits.ensures.some)) c.width-w.ensures
+          c.root-all.ensures.table c.root-all.ensures.shape c.as_slice.ensures.value c.as_slice-2.ensures.value lo hi
+          c.new-corners.ensures (sym c.have_points.ensures ∙ t.if-have_points.false)
     ]
 
 pub returns-clause-visits : goal.returns-clause-visits
@@ -46,6 +69,18 @@ returns-clause-visits g c =
     let lo = same-point w c.args.tree.now.width d c.as_slice.result.now c.args.lo c.width-w.ensures c.as_slice.ensures.value c.requires.lo in
     let hi = same-point w c.args.tree.now.width d c.as_slice-2.result.now c.args.hi c.width-w.ensures c.as_slice-2.ensures.value c.requires.hi in
     c.new.ensures.visits ∙ elim c.if-have_points.branch [
-      | then-have_points t ↦ ap (λ o. length (touched (points_of c.new-corners.result) (placed w d (option_copied o)))) t.root-is ∙ table-nodes d w c.args.tree.now.width (option_copied c.root-all.result) c.args.tree.now.table c.args.lo c.args.hi c.as_slice.result.now c.as_slice-2.result.now (omega (arith, c.bits-bits.ensures.value, c.bits-bits.ensures.some)) c.width-w.ensures c.root-all.ensures.table c.root-all.ensures.shape c.as_slice.ensures.value c.as_slice-2.ensures.value lo hi c.new-corners.ensures
-      | else-have_points t ↦ ap (λ o. length (touched (points_of c.new-corners.result) (placed w d (option_copied o)))) t.root-is ∙ empty-nodes d w c.args.tree.now.width (option_copied c.root-all.result) c.args.tree.now.table c.args.lo c.args.hi c.as_slice.result.now c.as_slice-2.result.now (omega (arith, c.bits-bits.ensures.value, c.bits-bits.ensures.some)) c.width-w.ensures c.root-all.ensures.table c.root-all.ensures.shape c.as_slice.ensures.value c.as_slice-2.ensures.value lo hi c.new-corners.ensures (sym c.have_points.ensures ∙ t.if-have_points.false)
+      | then-have_points t ↦ ap (λ o. length
+          (touched (points_of c.new-corners.result) (placed w d (option_copied o)))) t.root-is ∙
+          table-nodes d w c.args.tree.now.width (option_copied c.root-all.result) c.args.tree.now.table c.args.lo
+          c.args.hi c.as_slice.result.now c.as_slice-2.result.now
+          (omega (arith, c.bits-bits.ensures.value, c.bits-bits.ensures.some)) c.width-w.ensures
+          c.root-all.ensures.table c.root-all.ensures.shape c.as_slice.ensures.value c.as_slice-2.ensures.value lo hi
+          c.new-corners.ensures
+      | else-have_points t ↦ ap (λ o. length
+          (touched (points_of c.new-corners.result) (placed w d (option_copied o)))) t.root-is ∙
+          empty-nodes d w c.args.tree.now.width (option_copied c.root-all.result) c.args.tree.now.table c.args.lo
+          c.args.hi c.as_slice.result.now c.as_slice-2.result.now
+          (omega (arith, c.bits-bits.ensures.value, c.bits-bits.ensures.some)) c.width-w.ensures
+          c.root-all.ensures.table c.root-all.ensures.shape c.as_slice.ensures.value c.as_slice-2.ensures.value lo hi
+          c.new-corners.ensures (sym c.have_points.ensures ∙ t.if-have_points.false)
     ]

@@ -19,7 +19,8 @@ overflow_mul-result g c =
 -- an array whose first numbers are filled
 filled : (d n field : ℕ) (body : List ℕ) → n ≡ d → d ≤ 16 → body ≡ replicate n field ++ drop n (replicate 16 0) → (take d body ≡ replicate d field) × IsPadded d body
 filled d n field body e f h =
-    let is : body ≡ replicate d field ++ replicate (16 - d) 0 = h ∙ ap (λ k. replicate k field ++ drop k (replicate 16 0)) e ∙ ap (λ u. replicate d field ++ u) (drop-replicate d 16 0) in
+    let is : body ≡ replicate d field ++ replicate (16 - d) 0 = h ∙
+    ap (λ k. replicate k field ++ drop k (replicate 16 0)) e ∙ ap (λ u. replicate d field ++ u) (drop-replicate d 16 0) in
     let len : length (replicate d field) ≡ d = length-replicate d field in
     (ap (take d) is ∙ take_at (replicate d field) (replicate (16 - d) 0) d len, ap (drop d) is ∙ drop_at (replicate d field) (replicate (16 - d) 0) d len)
 
@@ -29,6 +30,7 @@ returns g c =
     let d = g.P.Dims.D in
     let is = filled d c.D.result s.field c.body_of-body.result c.D.ensures s.few c.body_of-body.ensures in
     record {
-      entry = read-at d s.count s.step s.field c.args.i s.few (inside d s.count s.step s.field c.args.i c.requires) ∙ ap (λ b. Some (read_point (c.args.i * s.step) b)) (take-replicate d 16 s.field s.few ∙ sym is.0);
+      entry = read-at d s.count s.step s.field c.args.i s.few (inside d s.count s.step s.field c.args.i c.requires) ∙
+          ap (λ b. Some (read_point (c.args.i * s.step) b)) (take-replicate d 16 s.field s.few ∙ sym is.0);
       zeros = is.1;
     }
