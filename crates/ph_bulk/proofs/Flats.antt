@@ -14,38 +14,42 @@ use Rattle.ph_bulk.specs.declared.parts.Part.{Part}
 use Rattle.ph_bulk.specs.Parts.{rows_in, entry_in, chain_of, flat_entry, IsSplit, IsPart, node_made, made_flat, flat_in, can_write, is_ready}
 use Rattle.ph_bulk.proofs.Chains.{flat-chained, held, what_size}
 
-pub get-map : {X Y : Type 0} (f : X → Y) (xs : List X) (i : ℕ) (x : X) → i < length xs → x ≡ get_or xs i x → slice_get (map f xs) i ≡ Some (f x)
-get-map f [] i x l e = absurd (let no : ⊥ = omega (arith, l) in no)
-get-map {X} {Y} f (y ∷ xs) zero x l e = ap {B = Option Y} (λ t. Some (f t)) (sym e)
-get-map f (y ∷ xs) (suc i) x l e = get-map f xs i x (omega (arith, l)) e
-
-pub get-map-map : {X Y Z : Type 0} (k : Y → Z) (f : X → Y) (xs : List X) (i : ℕ) (x : X) → i < length xs → x ≡ get_or xs i x → slice_get (map k (map f xs)) i ≡ Some (k (f x))
+pub get-map-map : {X Y Z : Type 0} (k : Y → Z) (f : X → Y) (xs : List X) (i : ℕ) (x : X) → i < length xs →
+    x ≡ get_or xs i x → slice_get (map k (map f xs)) i ≡ Some (k (f x))
 get-map-map k f [] i x l e = absurd (let no : ⊥ = omega (arith, l) in no)
 get-map-map {X} {Y} {Z} k f (y ∷ xs) zero x l e = ap {B = Option Z} (λ t. Some (k (f t))) (sym e)
 get-map-map k f (y ∷ xs) (suc i) x l e = get-map-map k f xs i x (omega (arith, l)) e
 
 -- ---- one part
 
-flat-split : (w dims place : ℕ) (r : Row) (rs : List Row) (o : Option ℕ) → IsSplit w dims place (r ∷ rs) r o → made_flat w place (r ∷ rs) o ≡ flat_entry (group_entry w place (node_below w place) (r ∷ rs))
+flat-split : (w dims place : ℕ) (r : Row) (rs : List Row) (o : Option ℕ) → IsSplit w dims place (r ∷ rs) r o →
+    made_flat w place (r ∷ rs) o ≡ flat_entry (group_entry w place (node_below w place) (r ∷ rs))
 flat-split w dims place r rs None h = ap flat_entry (sym h)
 flat-split w dims place r rs (Some t) h = ap flat_entry (sym h.2)
 
-flat-rows : {R : Type 0} (f : R → Row) (w dims place : ℕ) (xs : List R) (o : Option ℕ) → 1 ≤ length xs → ((first : R) → first ≡ get_or xs 0 first → IsSplit w dims place (map f xs) (f first) o) → made_flat w place (map f xs) o ≡ flat_entry (group_entry w place (node_below w place) (map f xs))
+flat-rows : {R : Type 0} (f : R → Row) (w dims place : ℕ) (xs : List R) (o : Option ℕ) → 1 ≤ length xs →
+    ((first : R) → first ≡ get_or xs 0 first → IsSplit w dims place (map f xs) (f first) o) →
+    made_flat w place (map f xs) o ≡ flat_entry (group_entry w place (node_below w place) (map f xs))
 flat-rows f w dims place [] o l h = absurd (let no : ⊥ = omega (arith, l) in no)
 flat-rows f w dims place (x ∷ xs) o l h = flat-split w dims place (f x) (map f xs) o (h x refl)
 
 flat-part : {R : Type 0} (f : R → Row) (w dims place : ℕ) (p : Part R) → IsPart f w dims place p → flat_in f w place p ≡ flat_entry (entry_in f w place p)
 flat-part f w dims place p h = flat-rows f w dims place p.rows.now p.level h.some h.split
 
-ready-split : (w dims place : ℕ) (r : Row) (rs : List Row) (o : Option ℕ) → IsGroup w dims place (r ∷ rs) → IsSplit w dims place (r ∷ rs) r o → can_write w dims place (r ∷ rs) o ≡ true
+ready-split : (w dims place : ℕ) (r : Row) (rs : List Row) (o : Option ℕ) → IsGroup w dims place (r ∷ rs) →
+    IsSplit w dims place (r ∷ rs) r o → can_write w dims place (r ∷ rs) o ≡ true
 ready-split w dims place r rs None g h = and _ _ g.points.0 refl
 ready-split w dims place r rs (Some t) g h = and _ _ g.points.0 (lt-ltb t place h.0)
 
-ready-rows : {R : Type 0} (f : R → Row) (w dims place : ℕ) (xs : List R) (o : Option ℕ) → 1 ≤ length xs → IsGroup w dims place (map f xs) → ((first : R) → first ≡ get_or xs 0 first → IsSplit w dims place (map f xs) (f first) o) → can_write w dims place (map f xs) o ≡ true
+ready-rows : {R : Type 0} (f : R → Row) (w dims place : ℕ) (xs : List R) (o : Option ℕ) → 1 ≤ length xs →
+    IsGroup w dims place (map f xs) →
+    ((first : R) → first ≡ get_or xs 0 first → IsSplit w dims place (map f xs) (f first) o) →
+    can_write w dims place (map f xs) o ≡ true
 ready-rows f w dims place [] o l g h = absurd (let no : ⊥ = omega (arith, l) in no)
 ready-rows f w dims place (x ∷ xs) o l g h = ready-split w dims place (f x) (map f xs) o g (h x refl)
 
-pub value-of : {R : Type 0} (f : R → Row) (w place : ℕ) (xs : List R) (o : Option ℕ) (x : R) (v : ℕ) → 1 ≤ length xs → x ≡ get_or xs 0 x → (made_flat w place (map f xs) o).value ≡ Some v → (f x).value ≡ v
+pub value-of : {R : Type 0} (f : R → Row) (w place : ℕ) (xs : List R) (o : Option ℕ) (x : R) (v : ℕ) → 1 ≤ length xs →
+    x ≡ get_or xs 0 x → (made_flat w place (map f xs) o).value ≡ Some v → (f x).value ≡ v
 value-of f w place [] o x v l e h = absurd (let no : ⊥ = omega (arith, l) in no)
 value-of f w place (y ∷ xs) None x v l e h = ap (λ t. (f t).value) e ∙ some-is (f y).value v h
   where
@@ -55,7 +59,8 @@ value-of f w place (y ∷ xs) (Some t) x v l e h = cc
 
 -- ---- all parts
 
-pub flats : {R : Type 0} (f : R → Row) (w dims place : ℕ) (ps : List (Part R)) → Each (IsPart f w dims place) ps → map (flat_in f w place) ps ≡ flat (chain_of f w place ps)
+pub flats : {R : Type 0} (f : R → Row) (w dims place : ℕ) (ps : List (Part R)) → Each (IsPart f w dims place) ps →
+    map (flat_in f w place) ps ≡ flat (chain_of f w place ps)
 flats {R} f w dims place ps h = each ps h ∙ sym (flat-chained (map (entry_in f w place) ps))
   where
     each : (qs : List (Part R)) → Each (IsPart f w dims place) qs → map (flat_in f w place) qs ≡ map flat_entry (map (entry_in f w place) qs)
@@ -72,7 +77,8 @@ can-first : {R : Type 0} (f : R → Row) (w dims place : ℕ) (xs : List R) (o :
 can-first f w dims place [] o h = cc
 can-first f w dims place (x ∷ xs) o h = omega arith
 
-pub some-first : {R : Type 0} (f : R → Row) (w dims place : ℕ) (ps : List (Part R)) (i : ℕ) (p : Part R) → IsTrue (list_all (is_ready f w dims place) ps) → i < length ps → p ≡ get_or ps i p → 1 ≤ length p.rows.now
+pub some-first : {R : Type 0} (f : R → Row) (w dims place : ℕ) (ps : List (Part R)) (i : ℕ) (p : Part R) →
+    IsTrue (list_all (is_ready f w dims place) ps) → i < length ps → p ≡ get_or ps i p → 1 ≤ length p.rows.now
 some-first f w dims place [] i p h l e = absurd (let no : ⊥ = omega (arith, l) in no)
 some-first {R} f w dims place (q ∷ ps) zero p h l e =
     subst (λ (t : Part R). 1 ≤ length t.rows.now) (sym e) (can-first f w dims place q.rows.now q.level (and_parts _ _ h).0)
@@ -81,7 +87,8 @@ some-first f w dims place (q ∷ ps) (suc i) p h l e = some-first f w dims place
 -- ---- all parts of a node
 
 -- what is written of parts that make the entries of a node
-pub written : {R : Type 0} (f : R → Row) (w dims place : ℕ) (ps : List (Part R)) (c : Entries) → Each (IsPart f w dims place) ps → chain_of f w place ps ≡ c → map (flat_in f w place) ps ≡ flat c
+pub written : {R : Type 0} (f : R → Row) (w dims place : ℕ) (ps : List (Part R)) (c : Entries) →
+    Each (IsPart f w dims place) ps → chain_of f w place ps ≡ c → map (flat_in f w place) ps ≡ flat c
 written f w dims place ps c h e = flats f w dims place ps h ∙ ap (λ (t : Entries). flat t) e
 
 -- ---- the child of a part
@@ -89,7 +96,8 @@ written f w dims place ps c h e = flats f w dims place ps h ∙ ap (λ (t : Entr
 abbrev made : ℕ → ℕ → List Row → Entry
 made w place rows = group_entry w place (node_below w place) rows
 
-none-held : (w dims place : ℕ) (rows : List Row) (first : Row) (o : Option ℕ) → IsSplit w dims place rows first o → ((t : ℕ) → o ≡ Some t → ⊥) → (held (made w place rows).what ≡ []) × (what_size (made w place rows).what ≡ 0)
+none-held : (w dims place : ℕ) (rows : List Row) (first : Row) (o : Option ℕ) → IsSplit w dims place rows first o →
+    ((t : ℕ) → o ≡ Some t → ⊥) → (held (made w place rows).what ≡ []) × (what_size (made w place rows).what ≡ 0)
 none-held w dims place rows first None h n = (ap (λ (e : Entry). held e.what) h, ap (λ (e : Entry). what_size e.what) h)
 none-held w dims place rows first (Some t) h n = absurd (n t refl)
 
@@ -105,7 +113,8 @@ first-of : {X : Type 0} (xs : List X) → 1 ≤ length xs → (x : X) × (x ≡ 
 first-of [] l = absurd (let no : ⊥ = omega (arith, l) in no)
 first-of (x ∷ xs) l = (x, refl)
 
-pub no-child : {R : Type 0} (f : R → Row) (w dims place : ℕ) (p : Part R) → IsPart f w dims place p → ((t : ℕ) → p.level ≡ Some t → ⊥) → (held (entry_in f w place p).what ≡ []) × (what_size (entry_in f w place p).what ≡ 0)
+pub no-child : {R : Type 0} (f : R → Row) (w dims place : ℕ) (p : Part R) → IsPart f w dims place p →
+    ((t : ℕ) → p.level ≡ Some t → ⊥) → (held (entry_in f w place p).what ≡ []) × (what_size (entry_in f w place p).what ≡ 0)
 no-child f w dims place p h n =
     let x = first-of p.rows.now h.some in
     none-held w dims place (rows_in f p) (f x.0) p.level (h.split x.0 x.1) n

@@ -1,14 +1,10 @@
 -- Rows of which each comes before the next one are in order.
 use Rattle.std.proofs.Common.{◌≡◌, ℕ, zero, suc, ◌+◌, ◌-◌, ◌<◌, ◌≤◌, Bool, true, false, List, [], ◌∷◌, length, get_or, refl, sym, ◌∙◌, ap, arith, inl, inr}
-use Rattle.std.specs.Prelude.{ℤ}
 use Rattle.std.specs.List.{list_all}
 use Rattle.std.proofs.lemmas.Bool.{and_parts, cases_lt}
 use Rattle.ph_specs.specs.ZOrder.{before}
 use Rattle.ph_specs.specs.Table.{Row, is_rising}
 use Rattle.ph_specs.proofs.laws.Put.{either, and, list_all_before}
-
-abbrev point_at : List Row → ℕ → Row → List ℤ
-point_at rows i d = (get_or rows i d).point
 
 -- each of so many comes before the next one
 abbrev pub AreNext : ℕ → List Row → ℕ → Type 0
@@ -28,7 +24,8 @@ rise-next w (r ∷ []) h j d l = absurd (let no : ⊥ = omega (arith, l) in no)
 rise-next w (r ∷ s ∷ rows) h zero d l = (and_parts _ _ (and_parts _ _ h).0).0
 rise-next w (r ∷ s ∷ rows) h (suc j) d l = rise-next w (s ∷ rows) (and_parts (list_all (λ t. before w r.point t.point) (s ∷ rows)) _ h).1 j d (omega (arith, l))
 
-pub next-more : (w : ℕ) (rows : List Row) (i : ℕ) → AreNext w rows i → ((d : Row) → before w (get_or rows (i - 1) d).point (get_or rows i d).point ≡ true) → 1 ≤ i → AreNext w rows (i + 1)
+pub next-more : (w : ℕ) (rows : List Row) (i : ℕ) → AreNext w rows i →
+    ((d : Row) → before w (get_or rows (i - 1) d).point (get_or rows i d).point ≡ true) → 1 ≤ i → AreNext w rows (i + 1)
 next-more w rows i h b l j d m =
     elim (cases_lt (suc j) i) [
       | inl lt ↦ h j d lt
@@ -44,11 +41,15 @@ get-same [] i a b l = absurd (let no : ⊥ = omega (arith, l) in no)
 get-same (x ∷ xs) zero a b l = refl
 get-same (x ∷ xs) (suc i) a b l = get-same xs i a b (omega (arith, l))
 
-pub pair-more : (w : ℕ) (rows : List Row) (i : ℕ) (x y : Row) (t : Bool) → AreNext w rows i → 1 ≤ i → i < length rows → x ≡ get_or rows (i - 1) x → y ≡ get_or rows i y → t ≡ before w x.point y.point → t ≡ true → AreNext w rows (i + 1)
+pub pair-more : (w : ℕ) (rows : List Row) (i : ℕ) (x y : Row) (t : Bool) → AreNext w rows i → 1 ≤ i →
+    i < length rows → x ≡ get_or rows (i - 1) x → y ≡ get_or rows i y → t ≡ before w x.point y.point → t ≡ true →
+    AreNext w rows (i + 1)
 pair-more w rows i x y t h l m e k is holds =
-    next-more w rows i h (λ d. (λ q. before w (sym (e ∙ get-same rows (i - 1) x d (omega (arith, l, m))) q).point (sym (k ∙ get-same rows i y d m) q).point) ∙ sym is ∙ holds) l
+    next-more w rows i h (λ d. (λ q. before w (sym (e ∙ get-same rows (i - 1) x d (omega (arith, l, m))) q).point
+    (sym (k ∙ get-same rows i y d m) q).point) ∙ sym is ∙ holds) l
 
-pub pair-breaks : (w : ℕ) (rows : List Row) (i : ℕ) (x y : Row) (t : Bool) → 1 ≤ i → i < length rows → x ≡ get_or rows (i - 1) x → y ≡ get_or rows i y → t ≡ before w x.point y.point → t ≡ false → is_rising w rows ≡ false
+pub pair-breaks : (w : ℕ) (rows : List Row) (i : ℕ) (x y : Row) (t : Bool) → 1 ≤ i → i < length rows →
+    x ≡ get_or rows (i - 1) x → y ≡ get_or rows i y → t ≡ before w x.point y.point → t ≡ false → is_rising w rows ≡ false
 pair-breaks w rows i x y t l m e k is fails =
     elim (either (is_rising w rows)) [
       | inl rises ↦

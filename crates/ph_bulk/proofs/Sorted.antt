@@ -1,5 +1,6 @@
 -- Rows in order, and their table.
-use Rattle.std.proofs.Common.{◌≡◌, ℕ, zero, suc, ◌+◌, ◌<◌, ◌≤◌, Bool, true, false, ◌&&◌, cond, List, [], ◌∷◌, ◌++◌, length, map, take, filter, get_or, refl, sym, ◌∙◌, ap, subst, arith, inl, inr, ◌^◌, lt-ltb}
+use Rattle.std.proofs.Common.{◌≡◌, ℕ, zero, suc, ◌+◌, ◌<◌, ◌≤◌, Bool, true, false, ◌&&◌, cond, List, [], ◌∷◌, ◌++◌, length}
+use Rattle.std.proofs.Common.{map, take, filter, get_or, refl, sym, ◌∙◌, ap, subst, arith, inl, inr}
 use Rattle.std.specs.Prelude.{ℤ, not, None, ◌==◌}
 use Rattle.std.specs.List.{list_all, AllByRecursion as Each}
 use Rattle.std.specs.List.Sorted.{IsPermutation, IsSortedBy, IsStableBy, ties}
@@ -39,13 +40,15 @@ before-more (suc n) w d p q l h k =
       | inl e ↦ ap (λ m. before_below m w p q) (sym e)
       | inr g ↦
           let le : w ≤ n = omega (arith, g) in
-          let same : address w p n ≡ address w q n = address_from-is w 0 n p ∙ same_number 0 w n (offsets w p) (offsets w q) le (none_from d w (offsets w p) (offsets w q) h k) ∙ sym (address_from-is w 0 n q) in
+          let same : address w p n ≡ address w q n = address_from-is w 0 n p ∙ same_number 0 w n (offsets w p)
+          (offsets w q) le (none_from d w (offsets w p) (offsets w q) h k) ∙ sym (address_from-is w 0 n q) in
           decided-eq (address w p n) (address w q n) (before_below n w p q) same ∙ before-more n w d p q le h k
     ]
 
 offsets-before : (w d : ℕ) (p q : List ℤ) → 1 ≤ w → w ≤ 62 → IsPoint w d p → IsPoint w d q → words_first (offsets w p) (offsets w q) ≡ before w p q
 unfolding words_first
-offsets-before w d p q positive l h k = words-offsets 64 w p q ∙ before-more 64 w d p q (omega (arith, l)) (is_body-point w d p positive h) (is_body-point w d q positive k)
+offsets-before w d p q positive l h k = words-offsets 64 w p q ∙ before-more 64 w d p q (omega (arith, l))
+    (is_body-point w d p positive h) (is_body-point w d q positive k)
 
 any-is : (w : ℕ) (p : List ℤ) → list_all (fits w) p ≡ true → map (any_offset w) p ≡ map (offset w) p
 any-is w [] h = refl
@@ -55,7 +58,8 @@ any-is w (c ∷ p) h =
 
 row-order : (w d : ℕ) (a b : Row) → 1 ≤ w → w ≤ 62 → IsPoint w d a.point → IsPoint w d b.point → row_before w a b ≡ before w a.point b.point
 row-order w d a b positive l h k =
-    (λ i. words_first (any-is w a.point (and_parts (length a.point == d) _ h).1 i) (any-is w b.point (and_parts (length b.point == d) _ k).1 i)) ∙ offsets-before w d a.point b.point positive l h k
+    (λ i. words_first (any-is w a.point (and_parts (length a.point == d) _ h).1 i)
+    (any-is w b.point (and_parts (length b.point == d) _ k).1 i)) ∙ offsets-before w d a.point b.point positive l h k
 
 -- ---- the table of rows
 
@@ -87,14 +91,20 @@ front-stays : (w : ℕ) (r : Row) (table rows : List Row) → list_all (λ s. be
 front-stays w r table [] h = refl
 front-stays w r table (s ∷ rows) h =
     let b : before w r.point s.point ≡ true = (and_parts _ _ h).0 in
-    let placed : put w (r ∷ table) s.point s.value ≡ r ∷ put w table s.point s.value = ap {B = List Row} (λ t. cond t (s ∷ table) (cond (before w s.point r.point) (s ∷ r ∷ table) (r ∷ put w table s.point s.value))) (not-same w r.point s.point b) ∙ ap {B = List Row} (λ t. cond t (s ∷ r ∷ table) (r ∷ put w table s.point s.value)) (not-back w r.point s.point b) in
+    let placed : put w (r ∷ table) s.point s.value ≡ r ∷ put w table s.point s.value =
+    ap {B = List Row} (λ t. cond t (s ∷ table)
+    (cond (before w s.point r.point) (s ∷ r ∷ table) (r ∷ put w table s.point s.value)))
+    (not-same w r.point s.point b) ∙
+    ap {B = List Row} (λ t. cond t (s ∷ r ∷ table) (r ∷ put w table s.point s.value)) (not-back w r.point s.point b) in
     ap (λ t. put_all w t rows) placed ∙ front-stays w r (put w table s.point s.value) rows (and_parts _ _ h).1
 
 -- rows that rise are their own table
 pub rising-table : (w : ℕ) (rows : List Row) → is_rising w rows ≡ true → rows ≡ table_of w rows
 rising-table w [] h = refl
 rising-table w (r ∷ rows) h =
-    ap {B = List Row} (λ t. r ∷ t) (rising-table w rows (and_parts (list_all (λ s. before w r.point s.point) rows) _ h).1) ∙ sym (front-stays w r [] rows (and_parts _ _ h).0)
+    ap {B = List Row} (λ t. r ∷ t)
+    (rising-table w rows (and_parts (list_all (λ s. before w r.point s.point) rows) _ h).1) ∙
+    sym (front-stays w r [] rows (and_parts _ _ h).0)
 
 -- ---- one row more
 
@@ -108,11 +118,13 @@ each-by P zero xs d l h = tt
 each-by P (suc n) [] d l h = absurd (let no : ⊥ = omega (arith, l) in no)
 each-by P (suc n) (x ∷ xs) d l h = (h 0 (omega arith), each-by P n xs d (omega (arith, l)) (λ j m. h (suc j) (omega (arith, m))))
 
-all-put_all : (test : Row → Bool) (w : ℕ) (table rows : List Row) → list_all test table ≡ true → Each (λ r. test r ≡ true) rows → list_all test (put_all w table rows) ≡ true
+all-put_all : (test : Row → Bool) (w : ℕ) (table rows : List Row) → list_all test table ≡ true →
+    Each (λ r. test r ≡ true) rows → list_all test (put_all w table rows) ≡ true
 all-put_all test w table [] h k = h
 all-put_all test w table (r ∷ rows) h k = all-put_all test w (put w table r.point r.value) rows (list_all-put test w table r.point r.value h k.0) k.1
 
-not-before : (w d : ℕ) (r : Row) (rows : List Row) → 1 ≤ w → w ≤ 62 → IsPoint w d r.point → ArePoints w d rows → Each (λ s. row_before w r s ≡ false) rows → Each (λ s. not (before w r.point s.point) ≡ true) rows
+not-before : (w d : ℕ) (r : Row) (rows : List Row) → 1 ≤ w → w ≤ 62 → IsPoint w d r.point → ArePoints w d rows →
+    Each (λ s. row_before w r s ≡ false) rows → Each (λ s. not (before w r.point s.point) ≡ true) rows
 not-before w d r [] positive l h hs b = tt
 not-before w d r (s ∷ rows) positive l h hs b =
     (ap not (sym (row-order w d r s positive l h hs.0) ∙ b.0), not-before w d r rows positive l h hs.1 b.1)
@@ -124,24 +136,30 @@ pub record IsNext (w d : ℕ) (rows : List Row) (r : Row) : Type 0 where
   pub rise : is_rising w rows ≡ true
   pub behind : list_all (λ s. not (before w r.point s.point)) rows ≡ true
 
-pub next-row : (w d : ℕ) (rows : List Row) (i : ℕ) (r : Row) → 1 ≤ w → w ≤ 62 → ArePoints w d rows → IsSortedBy (row_before w) rows → i < length rows → r ≡ get_or rows i r → IsNext w d (table_of w (take i rows)) r
+pub next-row : (w d : ℕ) (rows : List Row) (i : ℕ) (r : Row) → 1 ≤ w → w ≤ 62 → ArePoints w d rows →
+    IsSortedBy (row_before w) rows → i < length rows → r ≡ get_or rows i r → IsNext w d (table_of w (take i rows)) r
 next-row w d rows i r positive l h up m e =
     let p : IsPoint w d r.point = subst (λ (s : Row). IsPoint w d s.point) (sym e) (each-at (λ (s : Row). IsPoint w d s.point) rows i r h m) in
-    let far : (j : ℕ) → j < i → row_before w r (get_or rows j r) ≡ false = λ j n. ap (λ x. row_before w x (get_or rows j r)) e ∙ sorted_far (row_before w) (order w) rows up j i r (omega (arith, n)) m in
+    let far : (j : ℕ) → j < i → row_before w r (get_or rows j r) ≡ false =
+    λ j n. ap (λ x. row_before w x (get_or rows j r)) e ∙ sorted_far (row_before w) (order w) rows up j i r
+    (omega (arith, n)) m in
     let hs : ArePoints w d (take i rows) = each-front (λ s. IsPoint w d s.point) i rows h in
     let u : IsUp w d (table_of w (take i rows)) = up-rows w d (take i rows) positive hs in
     record {
       point = p;
       points = u.points;
       rise = u.rise;
-      behind = all-put_all (λ s. not (before w r.point s.point)) w [] (take i rows) refl (not-before w d r (take i rows) positive l p hs (each-by (λ s. row_before w r s ≡ false) i rows r (omega (arith, m)) far));
+      behind = all-put_all (λ s. not (before w r.point s.point)) w [] (take i rows) refl
+          (not-before w d r (take i rows) positive l p hs
+          (each-by (λ s. row_before w r s ≡ false) i rows r (omega (arith, m)) far));
     }
 
 put_all-more : (w : ℕ) (table rows : List Row) (r : Row) → put_all w table (rows ++ r ∷ []) ≡ put w (put_all w table rows) r.point r.value
 put_all-more w table [] r = refl
 put_all-more w table (s ∷ rows) r = put_all-more w (put w table s.point s.value) rows r
 
-pub table-more : (w : ℕ) (rows : List Row) (i : ℕ) (r : Row) → i < length rows → r ≡ get_or rows i r → table_of w (take (i + 1) rows) ≡ put w (table_of w (take i rows)) r.point r.value
+pub table-more : (w : ℕ) (rows : List Row) (i : ℕ) (r : Row) → i < length rows → r ≡ get_or rows i r →
+    table_of w (take (i + 1) rows) ≡ put w (table_of w (take i rows)) r.point r.value
 table-more w rows i r m e =
     ap (table_of w) (take_more rows i r m) ∙ put_all-more w [] (take i rows) (get_or rows i r)
     ∙ ap (λ (s : Row). put w (table_of w (take i rows)) s.point s.value) (sym e)
@@ -158,11 +176,13 @@ all-tie : (w : ℕ) (q : List ℤ) (rows : List Row) → Each (λ r. same_point 
 all-tie w q [] = tt
 all-tie w q (r ∷ rows) = (λ same. tie w (row q 0) r (sym (same_from_test r.point q same)), all-tie w q rows)
 
-found-rows : (w : ℕ) (q : List ℤ) (rows : List Row) → find (table_of w rows) q ≡ pick (λ r. same_point r.point q) (λ r. r.value) None (filter (ties (row_before w) (row q 0)) rows)
+found-rows : (w : ℕ) (q : List ℤ) (rows : List Row) →
+    find (table_of w rows) q ≡ pick (λ r. same_point r.point q) (λ r. r.value) None (filter (ties (row_before w) (row q 0)) rows)
 found-rows w q rows =
     find-put_all w [] rows q ∙ pick-filter (ties (row_before w) (row q 0)) (λ r. same_point r.point q) (λ r. r.value) None rows (all-tie w q rows)
 
-pub sorted-table : (w d : ℕ) (rows ys : List Row) → 1 ≤ w → ArePoints w d rows → IsPermutation rows ys → IsStableBy (row_before w) rows ys → table_of w ys ≡ table_of w rows
+pub sorted-table : (w d : ℕ) (rows ys : List Row) → 1 ≤ w → ArePoints w d rows → IsPermutation rows ys →
+    IsStableBy (row_before w) rows ys → table_of w ys ≡ table_of w rows
 sorted-table w d rows ys positive h m st =
     let a = up-rows w d ys positive (points-moved w d rows ys h m) in
     let b = up-rows w d rows positive h in
@@ -170,21 +190,6 @@ sorted-table w d rows ys positive h m st =
     (λ q. found-rows w q ys ∙ ap (λ (t : List Row). pick (λ r. same_point r.point q) (λ r. r.value) None t) (st (row q 0)) ∙ sym (found-rows w q rows))
 
 -- ---- values
-
-all-append : {X : Type 0} (test : X → Bool) (xs ys : List X) → list_all test xs ≡ true → list_all test ys ≡ true → list_all test (xs ++ ys) ≡ true
-all-append test [] ys h k = k
-all-append test (x ∷ xs) ys h k = and _ _ (and_parts _ _ h).0 (all-append test xs ys (and_parts _ _ h).1 k)
-
-pub all-more : (rows : List Row) (i : ℕ) (r : Row) → i < length rows → r ≡ get_or rows i r → r.value < 2 ^ 64 → list_all (λ x. is_value x.value) (take i rows) ≡ true → list_all (λ x. is_value x.value) (take (i + 1) rows) ≡ true
-all-more rows i r l e v h =
-    ap (λ t. list_all (λ x. is_value x.value) t) (take_more rows i r l)
-    ∙ all-append (λ x. is_value x.value) (take i rows) (get_or rows i r ∷ []) h (and _ _ (ap (λ (x : Row). is_value x.value) (sym e) ∙ lt-ltb r.value (2 ^ 64) v) refl)
-
-pub take-whole : {X : Type 0} (i : ℕ) (xs : List X) → length xs ≤ i → take i xs ≡ xs
-take-whole zero [] l = refl
-take-whole zero (x ∷ xs) l = absurd (let no : ⊥ = omega (arith, l) in no)
-take-whole (suc i) [] l = refl
-take-whole {X} (suc i) (x ∷ xs) l = ap {B = List X} (λ t. x ∷ t) (take-whole i xs (omega (arith, l)))
 
 points-all : (w d : ℕ) (rows : List Row) → Each (λ r. IsPoint w d r.point) rows → list_all (λ r. is_point w d r.point) rows ≡ true
 points-all w d [] h = refl

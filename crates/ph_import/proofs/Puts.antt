@@ -1,5 +1,6 @@
 -- How many rows a table has after rows were put into it, and at which points.
-use Rattle.std.proofs.Common.{◌≡◌, ℕ, zero, suc, ◌+◌, ◌-◌, ◌*◌, ◌<◌, ◌≤◌, Bool, true, false, cond, List, [], ◌∷◌, length, take, get_or, refl, sym, ◌∙◌, ap, arith, inl, inr}
+use Rattle.std.proofs.Common.{◌≡◌, ℕ, zero, suc, ◌+◌, ◌-◌, ◌*◌, ◌<◌, ◌≤◌, Bool, true, false, cond, List, []}
+use Rattle.std.proofs.Common.{◌∷◌, length, take, get_or, refl, sym, ◌∙◌, ap, arith, inl, inr}
 use Rattle.std.specs.Prelude.{ℤ, Option, Some, None, is_some}
 use Rattle.std.specs.List.{list_all, AllByRecursion as Each}
 use Rattle.std.proofs.lemmas.Bool.{and_parts}
@@ -8,8 +9,8 @@ use Rattle.ph_specs.specs.Coordinate.{same_point, is_point, IsPoint}
 use Rattle.ph_specs.specs.ZOrder.{before}
 use Rattle.ph_specs.specs.Table.{Row, find, has, put, is_rising, IsTable}
 use Rattle.ph_specs.specs.Sets.{put_all}
-use Rattle.ph_specs.specs.Past.{Past, without_past}
-use Rattle.ph_import.specs.Imported.{with_rows, with_some, IsPart}
+use Rattle.ph_specs.specs.Past.{Past}
+use Rattle.ph_import.specs.Imported.{with_some, IsPart}
 use Rattle.ph_specs.proofs.laws.Order.{before_trans}
 use Rattle.ph_specs.proofs.laws.Put.{either, find-put, is_rising-put, list_all-put}
 use Rattle.ph_specs.proofs.laws.FindTree.{not_same}
@@ -24,7 +25,8 @@ find-behind w (r ∷ rows) p h =
     let other : r.point ≡ p → ⊥ = λ e. before-differs w p r.point (and_parts _ _ h).0 (sym e) in
     rw (not_same r.point p other) (find-behind w rows p (and_parts _ _ h).1)
 
-all-behind : (w : ℕ) (p q : List ℤ) (rows : List Row) → before w p q ≡ true → list_all (λ s. before w q s.point) rows ≡ true → list_all (λ s. before w p s.point) rows ≡ true
+all-behind : (w : ℕ) (p q : List ℤ) (rows : List Row) → before w p q ≡ true →
+    list_all (λ s. before w q s.point) rows ≡ true → list_all (λ s. before w p s.point) rows ≡ true
 all-behind w p q [] h k = refl
 all-behind w p q (s ∷ rows) h k =
     rw (before_trans w p q s.point h (and_parts _ _ k).0) (all-behind w p q rows h (and_parts _ _ k).1)
@@ -69,7 +71,8 @@ risen-put w d rows p v positive point h =
     record { points = list_all-put (λ r. is_point w d r.point) w rows p v h.points point; rising = is_rising-put w d rows p v positive point h.points h.rising }
 
 -- the same, of the first so many of some rows
-pub risen-part : (w d : ℕ) (table rows : List Row) (i : ℕ) → 1 ≤ w → Each (λ r. IsPoint w d r.point) rows → IsRisen w d table → IsRisen w d (put_all w table (take i rows))
+pub risen-part : (w d : ℕ) (table rows : List Row) (i : ℕ) → 1 ≤ w → Each (λ r. IsPoint w d r.point) rows →
+    IsRisen w d table → IsRisen w d (put_all w table (take i rows))
 risen-part w d table rows zero positive h k = k
 risen-part w d table [] (suc i) positive h k = k
 risen-part w d table (r ∷ rows) (suc i) positive h k =
@@ -84,33 +87,39 @@ most : (n : ℕ) (b : Bool) → n + cond b 0 1 ≤ n + 1
 most n true = omega arith
 most n false = omega arith
 
-pub length-put_all : (w d : ℕ) (table rows : List Row) → 1 ≤ w → Each (λ r. IsPoint w d r.point) rows → IsRisen w d table → (length table ≤ length (put_all w table rows)) × (length (put_all w table rows) ≤ length table + length rows)
+pub length-put_all : (w d : ℕ) (table rows : List Row) → 1 ≤ w → Each (λ r. IsPoint w d r.point) rows →
+    IsRisen w d table → (length table ≤ length (put_all w table rows)) ×
+    (length (put_all w table rows) ≤ length table + length rows)
 length-put_all w d table [] positive h k = (omega arith, omega arith)
 length-put_all w d table (r ∷ rows) positive h k =
     let one : length (put w table r.point r.value) ≡ length table + cond (has table r.point) 0 1 = length-put w table r.point r.value k.rising in
-    let more : (length (put w table r.point r.value) ≤ length (put_all w (put w table r.point r.value) rows)) × (length (put_all w (put w table r.point r.value) rows) ≤ length (put w table r.point r.value) + length rows) = length-put_all w d (put w table r.point r.value) rows positive h.1 (risen-put w d table r.point r.value positive h.0 k) in
+    let more : (length (put w table r.point r.value) ≤ length (put_all w (put w table r.point r.value) rows)) ×
+    (length (put_all w (put w table r.point r.value) rows) ≤ length (put w table r.point r.value) + length rows) =
+    length-put_all w d (put w table r.point r.value) rows positive h.1 (risen-put w d table r.point r.value positive h.0 k) in
     (omega (arith, one, more.0, grows (length table) (has table r.point)), omega (arith, one, more.1, most (length table) (has table r.point)))
 
 -- the first so many rows make no more than all
-pub length-part : (w d : ℕ) (table rows : List Row) (i : ℕ) → 1 ≤ w → Each (λ r. IsPoint w d r.point) rows → IsRisen w d table → length (put_all w table (take i rows)) ≤ length (put_all w table rows)
+pub length-part : (w d : ℕ) (table rows : List Row) (i : ℕ) → 1 ≤ w → Each (λ r. IsPoint w d r.point) rows →
+    IsRisen w d table → length (put_all w table (take i rows)) ≤ length (put_all w table rows)
 length-part w d table rows zero positive h k = (length-put_all w d table rows positive h k).0
 length-part w d table [] (suc i) positive h k = omega arith
 length-part w d table (r ∷ rows) (suc i) positive h k =
     length-part w d (put w table r.point r.value) rows i positive h.1 (risen-put w d table r.point r.value positive h.0 k)
 
 -- one row more
-pub put-next : (w : ℕ) (table rows : List Row) (i : ℕ) (d : Row) → i < length rows → put_all w table (take (i + 1) rows) ≡ put w (put_all w table (take i rows)) (get_or rows i d).point (get_or rows i d).value
+pub put-next : (w : ℕ) (table rows : List Row) (i : ℕ) (d : Row) → i < length rows →
+    put_all w table (take (i + 1) rows) ≡ put w (put_all w table (take i rows)) (get_or rows i d).point (get_or rows i d).value
 put-next w table rows i d l = fold_more (λ t r. put w t r.point r.value) table rows i d l
 
-pub point-at : (w d : ℕ) (rows : List Row) (i : ℕ) (e : Row) → i < length rows → Each (λ r. IsPoint w d r.point) rows → IsPoint w d (get_or rows i e).point
-point-at w d [] i e l h = absurd (omega (arith, l))
-point-at w d (r ∷ rows) zero e l h = h.0
-point-at w d (r ∷ rows) (suc i) e l h = point-at w d rows i e (omega (arith, l)) h.1
-
 -- where all rows fit, a row at a new point finds room
-pub room-left : (w d max : ℕ) (table rows : List Row) (i : ℕ) (e : Row) → 1 ≤ w → Each (λ r. IsPoint w d r.point) rows → IsRisen w d table → i < length rows → length (put_all w table rows) ≤ max → find (put_all w table (take i rows)) (get_or rows i e).point ≡ None → length (put_all w table (take i rows)) ≡ max → ⊥
+pub room-left : (w d max : ℕ) (table rows : List Row) (i : ℕ) (e : Row) → 1 ≤ w →
+    Each (λ r. IsPoint w d r.point) rows → IsRisen w d table → i < length rows → length (put_all w table rows) ≤ max →
+    find (put_all w table (take i rows)) (get_or rows i e).point ≡ None → length (put_all w table (take i rows)) ≡ max → ⊥
 room-left w d max table rows i e positive h k l fits none full =
-    let one : length (put w (put_all w table (take i rows)) (get_or rows i e).point (get_or rows i e).value) ≡ length (put_all w table (take i rows)) + cond (has (put_all w table (take i rows)) (get_or rows i e).point) 0 1 = length-put w (put_all w table (take i rows)) (get_or rows i e).point (get_or rows i e).value (risen-part w d table rows i positive h k).rising in
+    let one : length (put w (put_all w table (take i rows)) (get_or rows i e).point (get_or rows i e).value) ≡
+    length (put_all w table (take i rows)) + cond (has (put_all w table (take i rows)) (get_or rows i e).point) 0
+    1 = length-put w (put_all w table (take i rows)) (get_or rows i e).point (get_or rows i e).value
+    (risen-part w d table rows i positive h k).rising in
     let new : ◌≡◌ {A = ℕ} (cond (has (put_all w table (take i rows)) (get_or rows i e).point) 0 1) 1 = ap (λ o. cond (is_some o) 0 1) none in
     omega (arith, one, new, fits, full, ap (λ t. length t) (put-next w table rows i e l), length-part w d table rows (i + 1) positive h k)
 
@@ -131,26 +140,6 @@ some-width k (r ∷ rows) = refl
 pub some-max : (k : Past) (rows : List Row) → (with_some k rows).max ≡ k.max
 some-max k [] = refl
 some-max k (r ∷ rows) = refl
-
--- without a past it makes no difference whether there are any
-pub some-forgotten : (k : Past) (rows : List Row) → without_past (with_some k rows) (with_some k rows).table ≡ with_rows k rows
-some-forgotten k [] = refl
-some-forgotten k (r ∷ rows) = refl
-
-some-taken : (k : Past) (rows : List Row) (i : ℕ) → i < length rows → with_some k (take (i + 1) rows) ≡ with_rows k (take (i + 1) rows)
-some-taken k [] i l = absurd (omega (arith, l))
-some-taken k (r ∷ rows) i l = let more : suc i ≡ i + 1 = omega arith in ap (λ j. with_some k (take j (r ∷ rows))) (sym more) ∙ ap (λ j. with_rows k (take j (r ∷ rows))) more
-
-forgotten-again : (k : Past) (rows table : List Row) → without_past (without_past (with_some k rows) table) table ≡ without_past k table
-forgotten-again k [] table = refl
-forgotten-again k (r ∷ rows) table = refl
-
--- one row more
-pub some-next : (k : Past) (rows : List Row) (i : ℕ) (d : Row) → i < length rows → without_past (with_some k (take i rows)) (put k.width (put_all k.width k.table (take i rows)) (get_or rows i d).point (get_or rows i d).value) ≡ with_some k (take (i + 1) rows)
-some-next k rows i d l =
-    forgotten-again k (take i rows) _
-    ∙ ap (without_past k) (sym (put-next k.width k.table rows i d l))
-    ∙ sym (some-taken k rows i l)
 
 -- ---- visits
 

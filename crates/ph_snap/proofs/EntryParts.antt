@@ -1,28 +1,12 @@
 -- Entries by their parts, and the places of their children.
-use Rattle.std.proofs.Common.{◌≡◌, ℕ, zero, suc, ◌+◌, refl, sym, ◌∙◌, ap, arith, List, [], ◌∷◌, ◌++◌, map, take, drop, length, ◌≤◌, Bool, true, false, append_assoc}
+use Rattle.std.proofs.Common.{◌≡◌, ℕ, zero, suc, ◌+◌, refl, sym, ◌∙◌, ap, arith, List, [], ◌∷◌, ◌++◌, take, drop, length, ◌≤◌, Bool, true, append_assoc}
 use Rattle.std.specs.Prelude.{Option, Some, None, slice_get}
 use Rattle.std.specs.List.{list_all}
 use Rattle.std.specs.Prelude.{◌&&◌}
 use Rattle.std.proofs.lemmas.List.{take-append-drop}
 use Rattle.ph_specs.specs.Lawful.{put_together}
 use Rattle.ph_specs.specs.Load.{Place, under, places_under}
-use Rattle.ph_specs.specs.Record.{Read, read_point, read_child, read}
-use Rattle.ph_specs.specs.Layout.{read_address, is_child}
-use Rattle.ph_bits.specs.Packed.{read_body}
-
-pub read-whole : (es : List Read) (i a : ℕ) (c : Bool) (b : List ℕ) → slice_get (map read_address es) i ≡ Some a → slice_get (map is_child es) i ≡ Some c → slice_get (map read_body es) i ≡ Some b → slice_get es i ≡ Some (read c a b)
-read-whole [] i a c b e f g = absurd (let h : ◌≡◌ {A = Option ℕ} None (Some a) = e in cc)
-read-whole (r ∷ es) (suc i) a c b e f g = read-whole es i a c b e f g
-read-whole (read_point x y ∷ es) zero a true b e f g = absurd (let h : Some false ≡ Some true = f in cc)
-read-whole (read_point x y ∷ es) zero a false b e f g =
-    let h : x ≡ a = (let k : Some x ≡ Some a = e in cc) in
-    let j : y ≡ b = (let k : Some y ≡ Some b = g in cc) in
-    ap (λ t. Some (read_point t y)) h ∙ ap (λ t. Some (read_point a t)) j
-read-whole (read_child x y ∷ es) zero a false b e f g = absurd (let h : Some true ≡ Some false = f in cc)
-read-whole (read_child x y ∷ es) zero a true b e f g =
-    let h : x ≡ a = (let k : Some x ≡ Some a = e in cc) in
-    let j : y ≡ b = (let k : Some y ≡ Some b = g in cc) in
-    ap (λ t. Some (read_child t y)) h ∙ ap (λ t. Some (read_child a t)) j
+use Rattle.ph_specs.specs.Record.{Read, read_point, read_child}
 
 pub drop-get : {X : Type 0} (xs : List X) (i : ℕ) (x : X) → slice_get xs i ≡ Some x → drop i xs ≡ x ∷ drop (i + 1) xs
 drop-get {X} [] i x e = absurd (let h : ◌≡◌ {A = Option X} None (Some x) = e in cc)
@@ -46,12 +30,15 @@ module _ (level : ℕ) (above : List ℕ) where
   under-append (read_child a b ∷ xs) ys =
       ap {B = List Place} (λ t. under level (put_together level a above b) ∷ t) (under-append xs ys)
 
-  pub under-more : (es : List Read) (i : ℕ) (r : Read) → slice_get es i ≡ Some r → places_under level above (take (i + 1) es) ≡ places_under level above (take i es) ++ places_under level above (r ∷ [])
+  pub under-more : (es : List Read) (i : ℕ) (r : Read) → slice_get es i ≡ Some r →
+      places_under level above (take (i + 1) es) ≡ places_under level above (take i es) ++ places_under level above (r ∷ [])
   under-more es i r e =
       ap (places_under level above) (take-get es i r e) ∙ under-append (take i es) (r ∷ [])
 
   -- the places in front of one and behind it
-  pub under-split : (es : List Read) (i : ℕ) (q : Place) → places_under level above (take (i + 1) es) ≡ places_under level above (take i es) ++ q ∷ [] → places_under level above es ≡ places_under level above (take i es) ++ q ∷ places_under level above (drop (i + 1) es)
+  pub under-split : (es : List Read) (i : ℕ) (q : Place) →
+      places_under level above (take (i + 1) es) ≡ places_under level above (take i es) ++ q ∷ [] →
+      places_under level above es ≡ places_under level above (take i es) ++ q ∷ places_under level above (drop (i + 1) es)
   under-split es i q e =
       let front : List Place = places_under level above (take i es) in
       let back : List Place = places_under level above (drop (i + 1) es) in

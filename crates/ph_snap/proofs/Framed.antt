@@ -1,8 +1,8 @@
 -- Words whose first word keeps its rules, and those whose tables keep theirs too.
-use Rattle.std.proofs.Common.{◌≡◌, ℕ, ◌+◌, ◌%◌, ◌^◌, ◌<◌, ◌≤◌, refl, sym, ◌∙◌, ap, subst, arith, List, length, Bool, true, eqb-true}
+use Rattle.std.proofs.Common.{◌≡◌, ℕ, ◌+◌, ◌^◌, ◌<◌, ◌≤◌, refl, sym, ◌∙◌, ap, subst, arith, List, length, Bool, true}
 use Rattle.std.specs.Prelude.{◌&&◌, ◌||◌, ◌==◌, nat_le, nat_lt}
 use Rattle.std.proofs.lemmas.Bool.Decides.{nat_tests}
-use Rattle.ph_specs.specs.Record.{First, first_in, has_cube, record_words, tables_of, table_number, table_digits, padding}
+use Rattle.ph_specs.specs.Record.{First, first_in, has_cube, record_words}
 use Rattle.ph_specs.specs.Pack.{layout}
 use Rattle.ph_specs.specs.Load.{Place as Stand, root, under, known, level_fits, least_entries, first_fits, has_zeros_from}
 use Rattle.ph_specs.proofs.lemmas.Tests.{and-parts}
@@ -69,7 +69,8 @@ module _ (form : Form) (place : Place) (k : IsForm form) (s : IsStanding form.wi
     pub clear : has_zeros_from f.level (known form.dims (place_of form.dims place)) ≡ true
     clear = (first-facts form.width form.dims p f h).zeros
 
-  pub framed : (words : List ℕ) → first_fits form.width form.dims (place_of form.dims place) (first_in words) ≡ true → length words ≡ record_words form.dims (first_in words) → IsFramed form.dims words
+  pub framed : (words : List ℕ) → first_fits form.width form.dims (place_of form.dims place) (first_in words) ≡ true →
+      length words ≡ record_words form.dims (first_in words) → IsFramed form.dims words
   framed words h l =
       let f : First = first_in words in
       let i : IsFirst form.width form.dims p (first_in words) = first-facts form.width form.dims p f h in
@@ -85,24 +86,6 @@ module _ (form : Form) (place : Place) (k : IsForm form) (s : IsStanding form.wi
         long = l;
       }
 
-pub laid : (dims : ℕ) (words : List ℕ) → IsFramed dims words → (tables_of dims (first_in words) words).is_lawful ≡ true → (table_number dims (first_in words) words % 2 ^ padding (table_digits dims (first_in words)) == 0) ≡ true → IsLaidOut dims words
-laid dims words h t e =
-    record {
-      tables = record {
-        some = h.some;
-        few = h.few;
-        low = h.low;
-        least = h.least;
-        most = h.most;
-        kids = h.kids;
-        bottom = h.bottom;
-        long = h.long;
-        tables = t;
-        padded = eqb-true (table_number dims (first_in words) words % 2 ^ padding (table_digits dims (first_in words))) 0 e;
-      };
-      told = h.told;
-    }
-
 -- it has as many entries as its first word says
 pub laid-many : (dims : ℕ) (words : List ℕ) → IsLaidOut dims words → length (entries_in dims words) ≡ (first_in words).entries
 laid-many dims words h = by (has_cube dims (first_in words)) refl
@@ -112,12 +95,16 @@ laid-many dims words h = by (has_cube dims (first_in words)) refl
     by false e = ap (λ t. length (entries_as t dims words)) (sym e) ∙ many dims words
 
 -- its tables are there whole
-pub long-as : (dims : ℕ) (words : List ℕ) (t : Bool) → has_cube dims (first_in words) ≡ t → IsFramed dims words → 1 + words_for (digits_as t dims (first_in words)) ≤ length words
+pub long-as : (dims : ℕ) (words : List ℕ) (t : Bool) → has_cube dims (first_in words) ≡ t → IsFramed dims words →
+    1 + words_for (digits_as t dims (first_in words)) ≤ length words
 long-as dims words t e h =
     subst (λ s. 1 + words_for (digits_as s dims (first_in words)) ≤ length words) e (omega (arith, h.long))
 
 -- the words of a record whose first word fits
-module _ (form : Form) (place : Place) (k : IsForm form) (s : IsStanding form.width form.dims place) (rest words : List ℕ) (first : First') (f : said_by first ≡ next_first rest) (w : words ≡ next_record form.dims rest) (h : true ≡ first_fits form.width form.dims (place_of form.dims place) (said_by first)) where
+module _ (form : Form) (place : Place) (k : IsForm form) (s : IsStanding form.width form.dims place)
+    (rest words : List ℕ) (first : First') (f : said_by first ≡ next_first rest)
+    (w : words ≡ next_record form.dims rest)
+    (h : true ≡ first_fits form.width form.dims (place_of form.dims place) (said_by first)) where
   pub same-first : said_by first ≡ first_in words
   same-first = f ∙ sym (next-first form.dims rest) ∙ ap first_in (sym w)
 
@@ -127,7 +114,9 @@ module _ (form : Form) (place : Place) (k : IsForm form) (s : IsStanding form.wi
 
   pub is-framed : IsFramed form.dims words
   is-framed =
-      framed form place k s words same-fits (ap length w ∙ words-many form.dims rest ∙ ap (record_words form.dims) (sym (next-first form.dims rest) ∙ ap first_in (sym w)))
+      framed form place k s words same-fits
+      (ap length w ∙ words-many form.dims rest ∙
+      ap (record_words form.dims) (sym (next-first form.dims rest) ∙ ap first_in (sym w)))
 
   pub is-clear : has_zeros_from (first_in words).level (known form.dims (place_of form.dims place)) ≡ true
   is-clear = clear form place k s (first_in words) same-fits

@@ -3,7 +3,8 @@ use Rattle.std.proofs.Common.{◌≡◌, ◌≤◌, ◌⊎◌, inl, inr, ℕ, ze
 use Rattle.std.specs.Prelude.{Option, Some, None, ◌==◌, ◌&&◌, ◌||◌, nat_le, if◌then◌else◌, slice_index}
 use Rattle.ph_specs.specs.declared.Kind.{Kind}
 use Rattle.ph_specs.specs.declared.Kind.TheVariants.{Points, Boxes}
-use Rattle.ph_specs.specs.Load.{Fault, bad_magic, bad_header, bad_dims, first_failed, header_tests_1, header_tests, has_magic, has_byte, is_flag, is_width, dims_fit, body_fault, load_fault}
+use Rattle.ph_specs.specs.Load.{Fault, bad_magic, bad_header, bad_dims, first_failed, header_tests_1, header_tests}
+use Rattle.ph_specs.specs.Load.{has_magic, has_byte, is_flag, is_width, dims_fit, body_fault, load_fault}
 use Rattle.ph_specs.specs.SavedTable.{root_flag}
 use Rattle.ph_specs.specs.Snapshot.{kind_byte}
 use Rattle.ph_specs.proofs.lemmas.Tests.{and-made, and-parts}
@@ -18,7 +19,9 @@ abbrev or_else : Option Fault → Option Fault → Option Fault
 or_else (Some f) later = Some f
 or_else None later = later
 
-five-tests : (a b c d g : Bool) (fa fb fc fd fg : Fault) → first_failed ((a, fa) ∷ (b, fb) ∷ (c, fc) ∷ (d, fd) ∷ (g, fg) ∷ []) ≡ or_else (first_failed ((a, fa) ∷ (b, fb) ∷ (c, fc) ∷ (d, fd) ∷ [])) (first_failed ((g, fg) ∷ []))
+five-tests : (a b c d g : Bool) (fa fb fc fd fg : Fault) →
+    first_failed ((a, fa) ∷ (b, fb) ∷ (c, fc) ∷ (d, fd) ∷ (g, fg) ∷ []) ≡
+    or_else (first_failed ((a, fa) ∷ (b, fb) ∷ (c, fc) ∷ (d, fd) ∷ [])) (first_failed ((g, fg) ∷ []))
 five-tests false b c d g fa fb fc fd fg = refl
 five-tests true false c d g fa fb fc fd fg = refl
 five-tests true true false d g fa fb fc fd fg = refl
@@ -45,7 +48,9 @@ module _ (bytes : List ℕ) (kind : Kind) (dims width : ℕ) where
   -- the first fault by the header's own tests, by what is asked for, and by what stands behind
   abbrev in_turn : ℕ → Option Fault
   in_turn v =
-      or_else (first_failed (own_tests v bytes)) (or_else (first_failed ((is_asked v kind dims width bytes, bad_dims) ∷ [])) (body_fault kind width dims (root_flag bytes) bytes))
+      or_else (first_failed (own_tests v bytes))
+      (or_else (first_failed ((is_asked v kind dims width bytes, bad_dims) ∷ []))
+      (body_fault kind width dims (root_flag bytes) bytes))
 
   -- the fault behind a header whose flag is this
   abbrev rest : ℕ → Option Fault
@@ -56,26 +61,51 @@ module _ (bytes : List ℕ) (kind : Kind) (dims width : ℕ) where
 
   first-version : has_magic 1 bytes ≡ true → load_fault kind dims width bytes ≡ in_turn 1
   first-version m =
-      let tests : List (Bool × Fault) = (has_byte bytes 4 is_flag, bad_header 4) ∷ (has_byte bytes 5 (dims_fit 8 (slice_index bytes 4)), bad_header 5) ∷ (has_byte bytes 6 is_flag, bad_header 6) ∷ (has_byte bytes 7 (λ b. b == 0), bad_header 7) ∷ (is_asked 1 kind dims width bytes, bad_dims) ∷ [] in
-      ap (λ b. elim b as (λ x. Option Fault) [ true ↦ headed (first_failed (header_tests_1 kind dims width bytes)) (slice_index bytes 6) | false ↦ headed (first_failed (header_tests kind dims width bytes)) (slice_index bytes 7) ]) m
+      let tests : List (Bool × Fault) = (has_byte bytes 4 is_flag, bad_header 4) ∷
+      (has_byte bytes 5 (dims_fit 8 (slice_index bytes 4)), bad_header 5) ∷
+      (has_byte bytes 6 is_flag, bad_header 6) ∷ (has_byte bytes 7 (λ b. b == 0), bad_header 7) ∷
+      (is_asked 1 kind dims width bytes, bad_dims) ∷ [] in
+      ap (λ b. elim b as (λ x. Option Fault) [
+        | true ↦ headed (first_failed (header_tests_1 kind dims width bytes)) (slice_index bytes 6)
+        | false ↦
+            headed (first_failed (header_tests kind dims width bytes)) (slice_index bytes 7)
+      ]) m
       ∙ ap (λ b. headed (first_failed ((b, bad_magic) ∷ tests)) (slice_index bytes 6)) m
-      ∙ ap (λ t. headed t (slice_index bytes 6)) (five-tests (has_byte bytes 4 is_flag) (has_byte bytes 5 (dims_fit 8 (slice_index bytes 4))) (has_byte bytes 6 is_flag) (has_byte bytes 7 (λ b. b == 0)) (is_asked 1 kind dims width bytes) (bad_header 4) (bad_header 5) (bad_header 6) (bad_header 7) bad_dims)
+      ∙ ap (λ t. headed t (slice_index bytes 6))
+      (five-tests (has_byte bytes 4 is_flag) (has_byte bytes 5 (dims_fit 8 (slice_index bytes 4)))
+      (has_byte bytes 6 is_flag) (has_byte bytes 7 (λ b. b == 0)) (is_asked 1 kind dims width bytes)
+      (bad_header 4) (bad_header 5) (bad_header 6) (bad_header 7) bad_dims)
       ∙ settled (first_failed (own_tests 1 bytes)) (first_failed ((is_asked 1 kind dims width bytes, bad_dims) ∷ [])) (rest (slice_index bytes 6))
-      ∙ ap (λ b. or_else (first_failed (own_tests 1 bytes)) (or_else (first_failed ((is_asked 1 kind dims width bytes, bad_dims) ∷ [])) (rest (if b then slice_index bytes 6 else slice_index bytes 7)))) (sym m)
+      ∙ ap (λ b. or_else (first_failed (own_tests 1 bytes))
+      (or_else (first_failed ((is_asked 1 kind dims width bytes, bad_dims) ∷ []))
+      (rest (if b then slice_index bytes 6 else slice_index bytes 7)))) (sym m)
 
   second-version : has_magic 1 bytes ≡ false → has_magic 2 bytes ≡ true → load_fault kind dims width bytes ≡ in_turn 2
   second-version n m =
-      let tests : List (Bool × Fault) = (has_byte bytes 4 is_flag, bad_header 4) ∷ (has_byte bytes 5 (dims_fit 16 (slice_index bytes 4)), bad_header 5) ∷ (has_byte bytes 6 is_width, bad_header 6) ∷ (has_byte bytes 7 is_flag, bad_header 7) ∷ (is_asked 2 kind dims width bytes, bad_dims) ∷ [] in
-      ap (λ b. elim b as (λ x. Option Fault) [ true ↦ headed (first_failed (header_tests_1 kind dims width bytes)) (slice_index bytes 6) | false ↦ headed (first_failed (header_tests kind dims width bytes)) (slice_index bytes 7) ]) n
+      let tests : List (Bool × Fault) = (has_byte bytes 4 is_flag, bad_header 4) ∷
+      (has_byte bytes 5 (dims_fit 16 (slice_index bytes 4)), bad_header 5) ∷
+      (has_byte bytes 6 is_width, bad_header 6) ∷ (has_byte bytes 7 is_flag, bad_header 7) ∷
+      (is_asked 2 kind dims width bytes, bad_dims) ∷ [] in
+      ap (λ b. elim b as (λ x. Option Fault) [
+        | true ↦ headed (first_failed (header_tests_1 kind dims width bytes)) (slice_index bytes 6)
+        | false ↦
+            headed (first_failed (header_tests kind dims width bytes)) (slice_index bytes 7)
+      ]) n
       ∙ ap (λ b. headed (first_failed ((b, bad_magic) ∷ tests)) (slice_index bytes 7)) m
-      ∙ ap (λ t. headed t (slice_index bytes 7)) (five-tests (has_byte bytes 4 is_flag) (has_byte bytes 5 (dims_fit 16 (slice_index bytes 4))) (has_byte bytes 6 is_width) (has_byte bytes 7 is_flag) (is_asked 2 kind dims width bytes) (bad_header 4) (bad_header 5) (bad_header 6) (bad_header 7) bad_dims)
+      ∙ ap (λ t. headed t (slice_index bytes 7))
+      (five-tests (has_byte bytes 4 is_flag) (has_byte bytes 5 (dims_fit 16 (slice_index bytes 4)))
+      (has_byte bytes 6 is_width) (has_byte bytes 7 is_flag) (is_asked 2 kind dims width bytes) (bad_header 4)
+      (bad_header 5) (bad_header 6) (bad_header 7) bad_dims)
       ∙ settled (first_failed (own_tests 2 bytes)) (first_failed ((is_asked 2 kind dims width bytes, bad_dims) ∷ [])) (rest (slice_index bytes 7))
-      ∙ ap (λ b. or_else (first_failed (own_tests 2 bytes)) (or_else (first_failed ((is_asked 2 kind dims width bytes, bad_dims) ∷ [])) (rest (if b then slice_index bytes 6 else slice_index bytes 7)))) (sym n)
+      ∙ ap (λ b. or_else (first_failed (own_tests 2 bytes))
+      (or_else (first_failed ((is_asked 2 kind dims width bytes, bad_dims) ∷ []))
+      (rest (if b then slice_index bytes 6 else slice_index bytes 7)))) (sym n)
 
   by-version : (v : ℕ) → IsVersion bytes v → load_fault kind dims width bytes ≡ in_turn v
   by-version v h = elim (versions v h.some h.few) [
     | inl e ↦ subst (λ n. load_fault kind dims width bytes ≡ in_turn n) (sym e) (first-version (sym h.other ∙ ap (λ n. n == 1) e))
-    | inr e ↦ subst (λ n. load_fault kind dims width bytes ≡ in_turn n) (sym e) (second-version (sym h.other ∙ ap (λ n. n == 1) e) (ap (λ n. has_magic n bytes) (sym e) ∙ h.magic_is))
+    | inr e ↦ subst (λ n. load_fault kind dims width bytes ≡ in_turn n) (sym e)
+        (second-version (sym h.other ∙ ap (λ n. n == 1) e) (ap (λ n. has_magic n bytes) (sym e) ∙ h.magic_is))
   ]
 
 -- ---- the fault of a header
@@ -108,7 +138,9 @@ width-found false six w width e k = sym e ∙ eqb-true six width k
 module _ (bytes : List ℕ) (h : Header) (k : IsHeader bytes h) where
   pub header-dims : (1 ≤ h.dims) × (h.dims ≤ 16)
   header-dims =
-      let a : ((nat_le 1 h.dims && nat_le h.dims (most_of h.version)) ≡ true) × (((kind_byte h.kind == 0) || (h.dims % 2 == 0)) ≡ true) = and-parts (nat_le 1 h.dims && nat_le h.dims (most_of h.version)) _ k.fits in
+      let a : ((nat_le 1 h.dims && nat_le h.dims (most_of h.version)) ≡ true) ×
+      (((kind_byte h.kind == 0) || (h.dims % 2 == 0)) ≡ true) =
+      and-parts (nat_le 1 h.dims && nat_le h.dims (most_of h.version)) _ k.fits in
       let b : (nat_le 1 h.dims ≡ true) × (nat_le h.dims (most_of h.version) ≡ true) = and-parts (nat_le 1 h.dims) _ a.0 in
       (leb-true 1 h.dims b.0, few (h.version == 1) (leb-true h.dims (most_of h.version) b.1))
     where
@@ -121,22 +153,30 @@ module _ (bytes : List ℕ) (h : Header) (k : IsHeader bytes h) where
 
   pub header-even : h.kind ≡ Boxes → h.dims % 2 ≡ 0
   header-even e =
-      let a : ((nat_le 1 h.dims && nat_le h.dims (most_of h.version)) ≡ true) × (((kind_byte h.kind == 0) || (h.dims % 2 == 0)) ≡ true) = and-parts (nat_le 1 h.dims && nat_le h.dims (most_of h.version)) _ k.fits in
+      let a : ((nat_le 1 h.dims && nat_le h.dims (most_of h.version)) ≡ true) ×
+      (((kind_byte h.kind == 0) || (h.dims % 2 == 0)) ≡ true) =
+      and-parts (nat_le 1 h.dims && nat_le h.dims (most_of h.version)) _ k.fits in
       eqb-true (h.dims % 2) 0 (ap (λ x. (kind_byte x == 0) || (h.dims % 2 == 0)) (sym e) ∙ a.1)
 
   module _ (kind : Kind) (dims width : ℕ) where
     wide : (if h.version == 1 then 32 else slice_index bytes 6) ≡ h.width
     wide = ap (λ b. if b then 32 else slice_index bytes 6) k.version_is.other ∙ k.width_is
 
-    behind : load_fault kind dims width bytes ≡ or_else (first_failed ((is_asked h.version kind dims width bytes, bad_dims) ∷ [])) (body_fault kind width dims (root_flag bytes) bytes)
+    behind : load_fault kind dims width bytes ≡
+        or_else (first_failed ((is_asked h.version kind dims width bytes, bad_dims) ∷ []))
+        (body_fault kind width dims (root_flag bytes) bytes)
     behind =
         by-version bytes kind dims width h.version k.version_is
-        ∙ ap (λ t. or_else t (or_else (first_failed ((is_asked h.version kind dims width bytes, bad_dims) ∷ [])) (body_fault kind width dims (root_flag bytes) bytes))) k.passes
+        ∙ ap (λ t. or_else t (or_else (first_failed ((is_asked h.version kind dims width bytes, bad_dims) ∷ []))
+        (body_fault kind width dims (root_flag bytes) bytes))) k.passes
 
     -- what is asked for is what it says
     pub asked-fault : h.kind ≡ kind → h.dims ≡ dims → h.width ≡ width → load_fault kind dims width bytes ≡ body_fault kind width dims (flag_byte h.root) bytes
     asked-fault e f g =
-        let all : is_asked h.version kind dims width bytes ≡ true = and-made _ _ (and-made _ _ (eq-eqb (slice_index bytes 4) (kind_byte kind) (k.kind_is ∙ ap kind_byte e)) (eq-eqb (slice_index bytes 5) dims (k.dims_are ∙ f))) (width-asked (h.version == 1) (slice_index bytes 6) h.width width wide g) in
+        let all : is_asked h.version kind dims width bytes ≡ true =
+        and-made _ _ (and-made _ _ (eq-eqb (slice_index bytes 4) (kind_byte kind) (k.kind_is ∙ ap kind_byte e))
+        (eq-eqb (slice_index bytes 5) dims (k.dims_are ∙ f)))
+        (width-asked (h.version == 1) (slice_index bytes 6) h.width width wide g) in
         behind
         ∙ ap (λ b. or_else (first_failed ((b, bad_dims) ∷ [])) (body_fault kind width dims (root_flag bytes) bytes)) all
         ∙ ap (λ n. body_fault kind width dims n bytes) k.root_is
@@ -145,9 +185,15 @@ module _ (bytes : List ℕ) (h : Header) (k : IsHeader bytes h) where
     pub other-fault : (h.kind ≡ kind → h.dims ≡ dims → h.width ≡ width → ⊥) → load_fault kind dims width bytes ≡ Some bad_dims
     other-fault n = behind ∙ refused (is_asked h.version kind dims width bytes) refl
       where
-        refused : (b : Bool) → is_asked h.version kind dims width bytes ≡ b → or_else (first_failed ((b, bad_dims) ∷ [])) (body_fault kind width dims (root_flag bytes) bytes) ≡ Some bad_dims
+        refused : (b : Bool) → is_asked h.version kind dims width bytes ≡ b →
+            or_else (first_failed ((b, bad_dims) ∷ [])) (body_fault kind width dims (root_flag bytes) bytes) ≡ Some bad_dims
         refused false e = refl
         refused true e =
-            let a : (((slice_index bytes 4 == kind_byte kind) && (slice_index bytes 5 == dims)) ≡ true) × ((if h.version == 1 then (width == 32) else (slice_index bytes 6 == width)) ≡ true) = and-parts ((slice_index bytes 4 == kind_byte kind) && (slice_index bytes 5 == dims)) _ e in
-            let b : ((slice_index bytes 4 == kind_byte kind) ≡ true) × ((slice_index bytes 5 == dims) ≡ true) = and-parts (slice_index bytes 4 == kind_byte kind) (slice_index bytes 5 == dims) a.0 in
-            absurd (n (kind-one h.kind kind (sym k.kind_is ∙ eqb-true (slice_index bytes 4) (kind_byte kind) b.0)) (sym k.dims_are ∙ eqb-true (slice_index bytes 5) dims b.1) (width-found (h.version == 1) (slice_index bytes 6) h.width width wide a.1))
+            let a : (((slice_index bytes 4 == kind_byte kind) && (slice_index bytes 5 == dims)) ≡ true) ×
+            ((if h.version == 1 then (width == 32) else (slice_index bytes 6 == width)) ≡ true) =
+            and-parts ((slice_index bytes 4 == kind_byte kind) && (slice_index bytes 5 == dims)) _ e in
+            let b : ((slice_index bytes 4 == kind_byte kind) ≡ true) × ((slice_index bytes 5 == dims) ≡ true) =
+            and-parts (slice_index bytes 4 == kind_byte kind) (slice_index bytes 5 == dims) a.0 in
+            absurd (n (kind-one h.kind kind (sym k.kind_is ∙ eqb-true (slice_index bytes 4) (kind_byte kind) b.0))
+            (sym k.dims_are ∙ eqb-true (slice_index bytes 5) dims b.1)
+            (width-found (h.version == 1) (slice_index bytes 6) h.width width wide a.1))

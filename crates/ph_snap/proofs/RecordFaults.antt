@@ -1,15 +1,15 @@
 -- The faults of records one behind the other.
-use Rattle.std.proofs.Common.{◌≡◌, ℕ, zero, suc, ◌+◌, ◌-◌, ◌*◌, ◌<◌, ◌≤◌, refl, sym, ◌∙◌, ap, subst, arith, List, [], ◌∷◌, ◌++◌, length, drop, get_or, Bool, true, leb-true, append_assoc}
+use Rattle.std.proofs.Common.{◌≡◌, ℕ, zero, suc, ◌+◌, ◌-◌, ◌*◌, ◌<◌, ◌≤◌, refl, sym, ◌∙◌, ap, subst, arith, List}
+use Rattle.std.proofs.Common.{[], ◌∷◌, ◌++◌, length, drop, Bool, true, leb-true, append_assoc}
 use Rattle.std.specs.Prelude.{Option, Some, None, nat_le}
-use Rattle.std.specs.List.{AllByRecursion as Each}
 use Rattle.std.proofs.lemmas.List.{length-drop, drop-drop}
 use Rattle.std.proofs.lemmas.Bool.Decides.{nat_tests}
 use Rattle.ph_specs.specs.declared.Kind.{Kind}
-use Rattle.ph_specs.specs.KindRows.{IsBytes}
 use Rattle.ph_specs.specs.Digits.{words_for}
-use Rattle.ph_specs.specs.Record.{First, first_in, Read, read_point, read_child, table_digits, record_words, entries_in}
-use Rattle.ph_specs.specs.Load.{Fault, bad_short, bad_node, first_failed, Place, root, under, known, level_fits, first_fits, rest_fits, words_in, next_first, next_record, record_fault, places_under, places_of, records_fault}
-use Rattle.ph_specs.proofs.lemmas.FoundTree.{passed, Passed, next-passed}
+use Rattle.ph_specs.specs.Record.{first_in, Read, read_point, read_child, table_digits, record_words, entries_in}
+use Rattle.ph_specs.specs.Load.{Fault, bad_short, bad_node, first_failed, Place, root, under, level_fits, first_fits, rest_fits}
+use Rattle.ph_specs.specs.Load.{words_in, next_first, next_record, record_fault, places_under, places_of, records_fault}
+use Rattle.ph_specs.proofs.lemmas.FoundTree.{passed, Passed}
 use Rattle.ph_specs.proofs.lemmas.ByteWords.{length-words_in}
 use Rattle.ph_specs.proofs.lemmas.Counted.{kids}
 use Rattle.ph_specs.proofs.laws.RecordAgain.{entries-count}
@@ -21,18 +21,23 @@ use Rattle.ph_snap.specs.declared.fault.LoadFault.{LoadFault}
 
 pub next-first : (dims : ℕ) (bytes : List ℕ) → first_in (next_record dims bytes) ≡ next_first bytes
 next-first dims bytes =
-    let e : record_words dims (next_first bytes) ≡ suc (words_for (table_digits dims (next_first bytes)) + ((next_first bytes).entries - (next_first bytes).children)) = omega arith in
+    let e : record_words dims (next_first bytes) ≡
+    suc (words_for (table_digits dims (next_first bytes)) +
+    ((next_first bytes).entries - (next_first bytes).children)) = omega arith in
     ap (λ n. first_in (words_in n bytes)) e
 
 -- it is there whole
-pub fits-whole : (kind : Kind) (width dims : ℕ) (place : Place) (n : ℕ) (bytes : List ℕ) → record_fault kind width dims place n bytes ≡ None → 8 * record_words dims (next_first bytes) ≤ length bytes
+pub fits-whole : (kind : Kind) (width dims : ℕ) (place : Place) (n : ℕ) (bytes : List ℕ) →
+    record_fault kind width dims place n bytes ≡ None → 8 * record_words dims (next_first bytes) ≤ length bytes
 fits-whole kind width dims place n bytes h =
     let t3 : List (Bool × Fault) = (rest_fits kind width dims place (next_record dims bytes), bad_node n) ∷ [] in
     let t2 : List (Bool × Fault) = (nat_le (8 * record_words dims (next_first bytes)) (length bytes), bad_short n) ∷ t3 in
     let t1 : List (Bool × Fault) = (first_fits width dims place (next_first bytes), bad_node n) ∷ t2 in
     let p : (nat_le 8 (length bytes) ≡ true) × (first_failed t1 ≡ None) = passed (nat_le 8 (length bytes)) (bad_short n) t1 h in
-    let q : (first_fits width dims place (next_first bytes) ≡ true) × (first_failed t2 ≡ None) = passed (first_fits width dims place (next_first bytes)) (bad_node n) t2 p.1 in
-    let r : (nat_le (8 * record_words dims (next_first bytes)) (length bytes) ≡ true) × (first_failed t3 ≡ None) = passed (nat_le (8 * record_words dims (next_first bytes)) (length bytes)) (bad_short n) t3 q.1 in
+    let q : (first_fits width dims place (next_first bytes) ≡ true) × (first_failed t2 ≡ None) =
+    passed (first_fits width dims place (next_first bytes)) (bad_node n) t2 p.1 in
+    let r : (nat_le (8 * record_words dims (next_first bytes)) (length bytes) ≡ true) × (first_failed t3 ≡ None) =
+    passed (nat_le (8 * record_words dims (next_first bytes)) (length bytes)) (bad_short n) t3 q.1 in
     leb-true (8 * record_words dims (next_first bytes)) (length bytes) r.0
 
 pub words-many : (dims : ℕ) (bytes : List ℕ) → length (next_record dims bytes) ≡ record_words dims (next_first bytes)
@@ -43,42 +48,20 @@ kids-places level above [] = refl
 kids-places level above (read_point a body ∷ rs) = kids-places level above rs
 kids-places level above (read_child a body ∷ rs) = ap suc (kids-places level above rs)
 
-pub kids-count : (kind : Kind) (width dims : ℕ) (place : Place) (words : List ℕ) → Passed kind width dims place words → kids (entries_in dims words) ≡ (first_in words).children
+pub kids-count : (kind : Kind) (width dims : ℕ) (place : Place) (words : List ℕ) →
+    Passed kind width dims place words → kids (entries_in dims words) ≡ (first_in words).children
 kids-count kind width dims place [] p = absurd (omega (arith, p.long))
 kids-count kind width dims place (w ∷ rest) p = (entries-count kind width dims place w rest p.long p.small p.first p.rest).1
-
--- it has a place for each of its children
-pub children-many : (kind : Kind) (width dims : ℕ) (place : Place) (n : ℕ) (bytes : List ℕ) → IsBytes bytes → record_fault kind width dims place n bytes ≡ None → length (places_of dims place (next_record dims bytes)) ≡ (next_first bytes).children
-children-many kind width dims place n bytes b h =
-    kids-places (first_in (next_record dims bytes)).level (known dims place) (entries_in dims (next_record dims bytes))
-    ∙ kids-count kind width dims place (next_record dims bytes) (next-passed kind width dims place n bytes b h).0
-    ∙ ap (λ (f : First). f.children) (next-first dims bytes)
 
 pub level-below : (width : ℕ) (place : Place) (level : ℕ) → 1 ≤ width → level_fits width place level ≡ true → level < ceiling width place
 level-below width root level w h = grind (arith, nat_tests)
 level-below width (under parent digits) level w h = grind (arith, nat_tests)
 
-places-level : (width level : ℕ) (above : List ℕ) (rs : List Read) → Each (λ p. ceiling width p ≡ level) (places_under level above rs)
-places-level width level above [] = tt
-places-level width level above (read_point a body ∷ rs) = places-level width level above rs
-places-level width level above (read_child a body ∷ rs) = (refl, places-level width level above rs)
-
-each-at : (P : Place → Type 0) (ps : List Place) (i : ℕ) (d : Place) → Each P ps → i < length ps → P (get_or ps i d)
-each-at P [] i d h l = absurd (omega arith)
-each-at P (p ∷ ps) zero d h l = h.0
-each-at P (p ∷ ps) (suc i) d h l = each-at P ps i d h.1 (omega arith)
-
--- its children stand at lower levels
-pub children-below : (kind : Kind) (width dims : ℕ) (place : Place) (n : ℕ) (bytes : List ℕ) (i : ℕ) (d : Place) → IsBytes bytes → 1 ≤ width → record_fault kind width dims place n bytes ≡ None → i < length (places_of dims place (next_record dims bytes)) → ceiling width (get_or (places_of dims place (next_record dims bytes)) i d) < ceiling width place
-children-below kind width dims place n bytes i d b w h l =
-    let p : Passed kind width dims place (next_record dims bytes) = (next-passed kind width dims place n bytes b h).0 in
-    let level : ℕ = (first_in (next_record dims bytes)).level in
-    let e : ceiling width (get_or (places_of dims place (next_record dims bytes)) i d) ≡ (first_in (next_record dims bytes)).level = each-at (λ p. ceiling width p ≡ level) (places_of dims place (next_record dims bytes)) i d (places-level width level (known dims place) (entries_in dims (next_record dims bytes))) l in
-    omega (arith, e, level-below width place level w p.first.at_level)
-
 -- ---- the number of records does not matter
 
-pub same-faults : (n m : ℕ) (kind : Kind) (width dims : ℕ) (ps : List Place) (from : ℕ) (bytes : List ℕ) → length bytes ≤ n → length bytes ≤ m → records_fault n kind width dims ps from bytes ≡ records_fault m kind width dims ps from bytes
+pub same-faults : (n m : ℕ) (kind : Kind) (width dims : ℕ) (ps : List Place) (from : ℕ) (bytes : List ℕ) →
+    length bytes ≤ n → length bytes ≤ m →
+    records_fault n kind width dims ps from bytes ≡ records_fault m kind width dims ps from bytes
 same-faults zero zero kind width dims ps from bytes h k = refl
 same-faults zero (suc m) kind width dims [] from [] h k = refl
 same-faults zero (suc m) kind width dims (p ∷ ps) from [] h k = refl
@@ -100,32 +83,44 @@ same-faults (suc n) (suc m) kind width dims (p ∷ ps) from bytes h k =
 abbrev fault_or : Option Fault → Option Fault → Option Fault
 fault_or o later = elim o [ Some f ↦ Some f | None ↦ later ]
 
-one-more : (kind : Kind) (width dims : ℕ) (p : Place) (ps : List Place) (from : ℕ) (bytes : List ℕ) → faults kind width dims (p ∷ ps) from bytes ≡ records_fault (suc (length bytes)) kind width dims (p ∷ ps) from bytes
+one-more : (kind : Kind) (width dims : ℕ) (p : Place) (ps : List Place) (from : ℕ) (bytes : List ℕ) →
+    faults kind width dims (p ∷ ps) from bytes ≡ records_fault (suc (length bytes)) kind width dims (p ∷ ps) from bytes
 one-more kind width dims p ps from bytes = same-faults (length bytes) (suc (length bytes)) kind width dims (p ∷ ps) from bytes (omega arith) (omega arith)
 
-pub one-some : (kind : Kind) (width dims : ℕ) (p : Place) (ps : List Place) (from : ℕ) (bytes : List ℕ) (f : Fault) → record_fault kind width dims p from bytes ≡ Some f → faults kind width dims (p ∷ ps) from bytes ≡ Some f
+pub one-some : (kind : Kind) (width dims : ℕ) (p : Place) (ps : List Place) (from : ℕ) (bytes : List ℕ) (f : Fault) →
+    record_fault kind width dims p from bytes ≡ Some f → faults kind width dims (p ∷ ps) from bytes ≡ Some f
 one-some kind width dims p ps from bytes f h =
     let size : ℕ = 8 * record_words dims (next_first bytes) in
-    one-more kind width dims p ps from bytes ∙ ap (λ o. fault_or o (records_fault (length bytes) kind width dims (places_of dims p (next_record dims bytes) ++ ps) (from + size) (drop size bytes))) h
+    one-more kind width dims p ps from bytes ∙
+    ap (λ o. fault_or o (records_fault (length bytes) kind width dims
+    (places_of dims p (next_record dims bytes) ++ ps) (from + size) (drop size bytes))) h
 
-pub one-none : (kind : Kind) (width dims : ℕ) (p : Place) (ps : List Place) (from : ℕ) (bytes : List ℕ) → record_fault kind width dims p from bytes ≡ None → faults kind width dims (p ∷ ps) from bytes ≡ faults kind width dims (places_of dims p (next_record dims bytes) ++ ps) (from + 8 * record_words dims (next_first bytes)) (drop (8 * record_words dims (next_first bytes)) bytes)
+pub one-none : (kind : Kind) (width dims : ℕ) (p : Place) (ps : List Place) (from : ℕ) (bytes : List ℕ) →
+    record_fault kind width dims p from bytes ≡ None →
+    faults kind width dims (p ∷ ps) from bytes ≡
+    faults kind width dims (places_of dims p (next_record dims bytes) ++ ps)
+    (from + 8 * record_words dims (next_first bytes)) (drop (8 * record_words dims (next_first bytes)) bytes)
 one-none kind width dims p ps from bytes h =
     let size : ℕ = 8 * record_words dims (next_first bytes) in
     let l : length (drop (8 * record_words dims (next_first bytes)) bytes) ≡ length bytes - 8 * record_words dims (next_first bytes) = length-drop size bytes in
     one-more kind width dims p ps from bytes
     ∙ ap (λ o. fault_or o (records_fault (length bytes) kind width dims (places_of dims p (next_record dims bytes) ++ ps) (from + size) (drop size bytes))) h
-    ∙ (same-faults (length bytes) (length (drop size bytes)) kind width dims (places_of dims p (next_record dims bytes) ++ ps) (from + size) (drop size bytes) (omega (arith, l)) (omega arith))
+    ∙ (same-faults (length bytes) (length (drop size bytes)) kind width dims
+    (places_of dims p (next_record dims bytes) ++ ps) (from + size) (drop size bytes) (omega (arith, l)) (omega arith))
 
 module _ (kind : Kind) (width dims : ℕ) (bytes : List ℕ) where
   pub none-start : (n : ℕ) → HaveNone kind width dims [] n bytes n
   none-start n qs = refl
 
-  pub none-more : (ps : List Place) (p : Place) (n mid end : ℕ) → HaveNone kind width dims ps n bytes mid → HaveNone kind width dims (p ∷ []) mid bytes end → HaveNone kind width dims (ps ++ p ∷ []) n bytes end
+  pub none-more : (ps : List Place) (p : Place) (n mid end : ℕ) → HaveNone kind width dims ps n bytes mid →
+      HaveNone kind width dims (p ∷ []) mid bytes end → HaveNone kind width dims (ps ++ p ∷ []) n bytes end
   none-more ps p n mid end h k qs =
       ap (λ t. faults kind width dims t n (drop n bytes)) (append_assoc ps (p ∷ []) qs) ∙ h (p ∷ qs) ∙ k qs
 
   -- a record with no fault, and those below it
-  pub none-node : (p : Place) (n end : ℕ) → record_fault kind width dims p n (drop n bytes) ≡ None → HaveNone kind width dims (places_of dims p (next_record dims (drop n bytes))) (n + 8 * record_words dims (next_first (drop n bytes))) bytes end → HaveNone kind width dims (p ∷ []) n bytes end
+  pub none-node : (p : Place) (n end : ℕ) → record_fault kind width dims p n (drop n bytes) ≡ None →
+      HaveNone kind width dims (places_of dims p (next_record dims (drop n bytes)))
+      (n + 8 * record_words dims (next_first (drop n bytes))) bytes end → HaveNone kind width dims (p ∷ []) n bytes end
   none-node p n end h k qs =
       let size : ℕ = 8 * record_words dims (next_first (drop n bytes)) in
       one-none kind width dims p qs n (drop n bytes) h
@@ -135,7 +130,8 @@ module _ (kind : Kind) (width dims : ℕ) (bytes : List ℕ) where
   pub same-fault : (o q : Option Fault) (f : LoadFault) → o ≡ q → IsLoadFault q f → IsLoadFault o f
   same-fault o q f e h = subst (λ x. IsLoadFault x f) (sym e) h
 
-  fault-first : (p : Place) (qs : List Place) (n : ℕ) (g : Option Fault) → IsGiven (record_fault kind width dims p n (drop n bytes)) g → IsGiven (faults kind width dims (p ∷ qs) n (drop n bytes)) g
+  fault-first : (p : Place) (qs : List Place) (n : ℕ) (g : Option Fault) →
+      IsGiven (record_fault kind width dims p n (drop n bytes)) g → IsGiven (faults kind width dims (p ∷ qs) n (drop n bytes)) g
   fault-first p qs n None h = tt
   fault-first p qs n (Some f) h = one-some kind width dims p qs n (drop n bytes) f h
 
@@ -144,7 +140,10 @@ module _ (kind : Kind) (width dims : ℕ) (bytes : List ℕ) where
   fault-now p n f h qs = fault-first p qs n (fault_of f) h
 
   -- a record with no fault, above one that has one
-  pub fault-below : (p : Place) (n mid : ℕ) (front back : List Place) (q : Place) (f : LoadFault) → record_fault kind width dims p n (drop n bytes) ≡ None → places_of dims p (next_record dims (drop n bytes)) ≡ front ++ q ∷ back → HaveNone kind width dims front (n + 8 * record_words dims (next_first (drop n bytes))) bytes mid → HaveFault kind width dims (q ∷ []) mid bytes f → HaveFault kind width dims (p ∷ []) n bytes f
+  pub fault-below : (p : Place) (n mid : ℕ) (front back : List Place) (q : Place) (f : LoadFault) →
+      record_fault kind width dims p n (drop n bytes) ≡ None → places_of dims p (next_record dims (drop n bytes)) ≡
+      front ++ q ∷ back → HaveNone kind width dims front (n + 8 * record_words dims (next_first (drop n bytes))) bytes
+      mid → HaveFault kind width dims (q ∷ []) mid bytes f → HaveFault kind width dims (p ∷ []) n bytes f
   fault-below p n mid front back q f h e k l qs =
       let size : ℕ = 8 * record_words dims (next_first (drop n bytes)) in
       same-fault _ _ f

@@ -11,9 +11,6 @@ use Rattle.ph_specs.proofs.laws.Del.{find-del, find-later}
 
 -- ---- where a row stands
 
-apart : true ≡ false → ⊥
-apart e = cc
-
 none_some : {v : ℕ} → None ≡ Some v → ⊥
 none_some e = cc
 
@@ -100,11 +97,13 @@ moved_to w rows p q v free there =
     ap (λ o. cond (is_some o) rows (move_value w rows p q (find rows p))) free ∙ ap (move_value w rows p q) there
 
 -- the row goes back
-pub move-move : (w : ℕ) (rows : List Row) (p q : List ℤ) (v : ℕ) → is_rising w rows ≡ true → find rows q ≡ None → find rows p ≡ Some v → move w (move w rows p q) q p ≡ rows
+pub move-move : (w : ℕ) (rows : List Row) (p q : List ℤ) (v : ℕ) → is_rising w rows ≡ true → find rows q ≡ None →
+    find rows p ≡ Some v → move w (move w rows p q) q p ≡ rows
 move-move w rows p q v rising free there =
     let gone : List Row = del rows p in
     let still_free : find gone q ≡ None = find-del w rows p q rising ∙ ap (cond (same_point p q) None) free ∙ either_none (same_point p q) in
-    let now_free : find (put w gone q v) p ≡ None = find-put w gone q p v ∙ ap (λ b. cond b (Some v) (find gone p)) other ∙ find-del w rows p p rising ∙ ap (λ b. cond b None (find rows p)) (same_self p) in
+    let now_free : find (put w gone q v) p ≡ None = find-put w gone q p v ∙ ap (λ b. cond b (Some v) (find gone p))
+    other ∙ find-del w rows p p rising ∙ ap (λ b. cond b None (find rows p)) (same_self p) in
     let now_there : find (put w gone q v) q ≡ Some v = find-put w gone q q v ∙ ap (λ b. cond b (Some v) (find gone q)) (same_self q) in
     ap (λ t. move w t q p) (moved_to w rows p q v free there)
     ∙ moved_to w (put w gone q v) q p v now_free now_there

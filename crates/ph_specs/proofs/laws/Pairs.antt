@@ -1,5 +1,6 @@
 -- The pairs of overlapping boxes of two tables, and the window that finds those of a row.
-use Rattle.std.proofs.Common.{◌≡◌, ℕ, ◌/◌, ◌≤◌, suc, ◌*◌, ◌∙◌, Bool, true, false, List, [], ◌∷◌, ◌++◌, length, take-append-drop, if◌then◌else◌, arith, refl, sym, ap, subst}
+use Rattle.std.proofs.Common.{◌≡◌, ℕ, ◌/◌, ◌≤◌, suc, ◌*◌, ◌∙◌, Bool, true, false, List, [], ◌∷◌, ◌++◌}
+use Rattle.std.proofs.Common.{length, take-append-drop, if◌then◌else◌, arith, sym, ap, subst}
 use Rattle.std.specs.Prelude.{ℤ, filter}
 use Rattle.std.specs.List.{AllByRecursion as Each}
 use Rattle.std.proofs.Math.Nat.{suc-mul}
@@ -11,10 +12,6 @@ use Rattle.ph_specs.specs.Sets.{pairs, partners, paired}
 use Rattle.ph_specs.specs.Table.{Row, IsTable}
 use Rattle.ph_specs.proofs.laws.BallSearch.{ArePoints, table-points}
 use Rattle.ph_specs.proofs.laws.Boxes.{window_lists}
-
-pub pairs-none : (a : List Row) → pairs a [] ≡ []
-pairs-none [] = refl
-pairs-none (r ∷ a) = pairs-none a
 
 -- ---- no more than all rows of one with all of the other
 
@@ -47,8 +44,11 @@ both_are w d (r ∷ rows) p b = ((p.0, b.0), both_are w d rows p.1 b.1)
 corners-back : (p low high : List ℤ) → low ≡ low_corner p → high ≡ high_corner p → low ++ high ≡ p
 corners-back p low high e f = (λ i. e i ++ f i) ∙ take-append-drop (length p / 2) p
 
-pub partners-found : (w u d : ℕ) (r : Row) (p low high from to : List ℤ) (rows table : List Row) → w ≡ u → IsTable u d table → AreBoxes table → p ≡ r.point → low ≡ low_corner p → high ≡ high_corner p → IsWindowFor w d (overlaps (low ++ high)) from to → rows ≡ window from to table → paired r rows ≡ partners r table
+pub partners-found : (w u d : ℕ) (r : Row) (p low high from to : List ℤ) (rows table : List Row) → w ≡ u →
+    IsTable u d table → AreBoxes table → p ≡ r.point → low ≡ low_corner p → high ≡ high_corner p →
+    IsWindowFor w d (overlaps (low ++ high)) from to → rows ≡ window from to table → paired r rows ≡ partners r table
 partners-found w u d r p low high from to rows table e t b is l h f found =
     let boxes = both_are u d table (table-points u d table t) b in
     let asked : low ++ high ≡ r.point = corners-back p low high l h ∙ is in
-    ap (λ rs. paired r rs) (found ∙ window_lists u d (overlaps (low ++ high)) from to table (subst (λ n. IsWindowFor n d (overlaps (low ++ high)) from to) e f) boxes ∙ ap (λ q. overlapping q table) asked)
+    ap (λ rs. paired r rs) (found ∙ window_lists u d (overlaps (low ++ high)) from to table
+    (subst (λ n. IsWindowFor n d (overlaps (low ++ high)) from to) e f) boxes ∙ ap (λ q. overlapping q table) asked)

@@ -1,5 +1,5 @@
 -- Two tables in which the same is found are one table, and what is found after many puts.
-use Rattle.std.proofs.Common.{◌≡◌, ℕ, ◌≤◌, Bool, true, false, cond, List, [], ◌∷◌, map, filter, refl, sym, ◌∙◌, ap, inl, inr}
+use Rattle.std.proofs.Common.{◌≡◌, ℕ, ◌≤◌, Bool, true, false, cond, List, [], ◌∷◌, filter, refl, sym, ◌∙◌, ap, inl, inr}
 use Rattle.std.specs.Prelude.{ℤ, Option, Some, None}
 use Rattle.std.specs.List.{list_all, AllByRecursion as Each}
 use Rattle.std.proofs.lemmas.Bool.{and_parts}
@@ -24,19 +24,17 @@ find-put_all w table (r ∷ rows) q =
     find-put_all w (put w table r.point r.value) rows q
     ∙ ap (λ o. pick (λ s. same_point s.point q) (λ s. s.value) o rows) (find-put w table r.point q r.value)
 
-pub pick-map : {X Y : Type 0} (t : Y → Bool) (v : Y → ℕ) (f : X → Y) (o : Option ℕ) (xs : List X) → pick t v o (map f xs) ≡ pick (λ x. t (f x)) (λ x. v (f x)) o xs
-pick-map t v f o [] = refl
-pick-map t v f o (x ∷ xs) = pick-map t v f (cond (t (f x)) (Some (v (f x))) o) xs
-
 -- what fails the test may be left out
-pub pick-filter : {X : Type 0} (s t : X → Bool) (v : X → ℕ) (o : Option ℕ) (xs : List X) → Each (λ x. t x ≡ true → s x ≡ true) xs → pick t v o xs ≡ pick t v o (filter s xs)
+pub pick-filter : {X : Type 0} (s t : X → Bool) (v : X → ℕ) (o : Option ℕ) (xs : List X) →
+    Each (λ x. t x ≡ true → s x ≡ true) xs → pick t v o xs ≡ pick t v o (filter s xs)
 pick-filter s t v o [] h = refl
 pick-filter {X} s t v o (x ∷ xs) h =
     elim (either (s x)) [
       | inl kept ↦ pick-filter s t v (cond (t x) (Some (v x)) o) xs h.1 ∙ sym (ap {B = Option ℕ} (λ b. pick t v o (cond b (x ∷ filter s xs) (filter s xs))) kept)
       | inr gone ↦
           let fails : t x ≡ false = elim (either (t x)) [ inl holds ↦ absurd (let clash : true ≡ false = sym (h.0 holds) ∙ gone in cc) | inr not_so ↦ not_so ] in
-          ap (λ b. pick t v (cond b (Some (v x)) o) xs) fails ∙ pick-filter s t v o xs h.1 ∙ sym (ap {B = Option ℕ} (λ b. pick t v o (cond b (x ∷ filter s xs) (filter s xs))) gone)
+          ap (λ b. pick t v (cond b (Some (v x)) o) xs) fails ∙ pick-filter s t v o xs h.1 ∙
+          sym (ap {B = Option ℕ} (λ b. pick t v o (cond b (x ∷ filter s xs) (filter s xs))) gone)
     ]
 
 -- ---- tables in which the same is found
@@ -51,12 +49,16 @@ some-same : (u v : ℕ) → ◌≡◌ {A = Option ℕ} (Some u) (Some v) → u �
 some-same u v e = cc
 
 -- a row that comes before all rows of a table is not found in it
-apart : (w : ℕ) (r s : Row) (rows more : List Row) → before w r.point s.point ≡ true → list_all (λ t. before w s.point t.point) more ≡ true → ((q : List ℤ) → find (r ∷ rows) q ≡ find (s ∷ more) q) → ⊥
+apart : (w : ℕ) (r s : Row) (rows more : List Row) → before w r.point s.point ≡ true →
+    list_all (λ t. before w s.point t.point) more ≡ true → ((q : List ℤ) → find (r ∷ rows) q ≡ find (s ∷ more) q) → ⊥
 apart w r s rows more h k same =
     let none : find (s ∷ more) r.point ≡ None = find-later w (s ∷ more) r.point (and _ _ h (list_all_before w r.point s.point more h k)) in
     some-none r.value (sym (found-first r rows) ∙ same r.point ∙ none)
 
-tail-same : (w : ℕ) (r : Row) (v : ℕ) (rows more : List Row) → list_all (λ t. before w r.point t.point) rows ≡ true → list_all (λ t. before w r.point t.point) more ≡ true → ((q : List ℤ) → cond (same_point r.point q) (Some r.value) (find rows q) ≡ cond (same_point r.point q) (Some v) (find more q)) → (q : List ℤ) → find rows q ≡ find more q
+tail-same : (w : ℕ) (r : Row) (v : ℕ) (rows more : List Row) → list_all (λ t. before w r.point t.point) rows ≡ true →
+    list_all (λ t. before w r.point t.point) more ≡ true →
+    ((q : List ℤ) → cond (same_point r.point q) (Some r.value) (find rows q) ≡ cond (same_point r.point q) (Some v)
+    (find more q)) → (q : List ℤ) → find rows q ≡ find more q
 tail-same w r v rows more h k same q =
     elim (either (same_point r.point q)) [
       | inl here ↦
@@ -65,7 +67,9 @@ tail-same w r v rows more h k same q =
       | inr other ↦ ap (λ b. cond b (Some r.value) (find rows q)) (sym other) ∙ same q ∙ ap (λ b. cond b (Some v) (find more q)) other
     ]
 
-pub same-tables : (w d : ℕ) (a b : List Row) → 1 ≤ w → is_rising w a ≡ true → is_rising w b ≡ true → list_all (λ r. is_point w d r.point) a ≡ true → list_all (λ r. is_point w d r.point) b ≡ true → ((q : List ℤ) → find a q ≡ find b q) → a ≡ b
+pub same-tables : (w d : ℕ) (a b : List Row) → 1 ≤ w → is_rising w a ≡ true → is_rising w b ≡ true →
+    list_all (λ r. is_point w d r.point) a ≡ true → list_all (λ r. is_point w d r.point) b ≡ true →
+    ((q : List ℤ) → find a q ≡ find b q) → a ≡ b
 same-tables w d [] [] positive ra rb pa pb same = refl
 same-tables w d [] (s ∷ b) positive ra rb pa pb same = absurd (some-none s.value (sym (found-first s b) ∙ sym (same s.point)))
 same-tables w d (r ∷ a) [] positive ra rb pa pb same = absurd (some-none r.value (sym (found-first r a) ∙ same r.point))
@@ -78,7 +82,8 @@ same-tables w d (r ∷ a) (s ∷ b) positive ra rb pa pb same =
             let p : r.point ≡ s.point = same_from_order w d r.point s.point positive (and_parts _ _ pa).0 (and_parts _ _ pb).0 later later2 in
             let v : r.value ≡ s.value = some-same r.value s.value (sym (found-first r a) ∙ same r.point ∙ ap (find (s ∷ b)) p ∙ found-first s b) in
             let behind : list_all (λ t. before w r.point t.point) b ≡ true = ap (λ x. list_all (λ t. before w x t.point) b) p ∙ (and_parts _ _ rb).0 in
-            let tails : (q : List ℤ) → find a q ≡ find b q = tail-same w r s.value a b (and_parts _ _ ra).0 behind (λ q. same q ∙ ap (λ x. cond (same_point x q) (Some s.value) (find b q)) (sym p)) in
+            let tails : (q : List ℤ) → find a q ≡ find b q = tail-same w r s.value a b (and_parts _ _ ra).0 behind
+            (λ q. same q ∙ ap (λ x. cond (same_point x q) (Some s.value) (find b q)) (sym p)) in
             let more : a ≡ b = same-tables w d a b positive (and_parts _ _ ra).1 (and_parts _ _ rb).1 (and_parts _ _ pa).1 (and_parts _ _ pb).1 tails in
             λ i. row (p i) (v i) ∷ more i
       ]

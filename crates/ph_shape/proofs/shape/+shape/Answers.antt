@@ -12,59 +12,121 @@ use Rattle.ph_shape.proofs.shape.+shape.Goals as goal
 
 pub group_entry_of-top_difference-requires-clause-last : goal.group_entry_of-top_difference-requires-clause-last
 group_entry_of-top_difference-requires-clause-last g t c =
-    each-item (λ r. is_point c.args.w g.P.Dims.D r.point ≡ true) g.P.Space.row_of c.args.group.now (length c.args.group.now - 1) c.index-group-group.result c.requires.group.points (omega (arith, c.requires.some, length-map c.args.group.now g.P.Space.row_of)) c.index-group-group.is
+    each-item (λ r. is_point c.args.w g.P.Dims.D r.point ≡ true) g.P.Space.row_of c.args.group.now
+    (length c.args.group.now - 1) c.index-group-group.result c.requires.group.points
+    (omega (arith, c.requires.some, length-map c.args.group.now g.P.Space.row_of)) c.index-group-group.is
 
 pub group_entry_of-child_body-body-requires-clause-low : goal.group_entry_of-child_body-body-requires-clause-low
 group_entry_of-child_body-body-requires-clause-low g t c =
-    let k = child-of-map g.P.Space.row_of c.args.w g.P.Dims.D c.args.place c.in-Some.level c.args.group.now c.index-group-0.result c.index-group-group.result c.requires.place c.requires.group c.requires.some c.index-group-0.is c.index-group-group.is c.in-Some.ensures in
+    let k = child-of-map g.P.Space.row_of c.args.w g.P.Dims.D c.args.place c.in-Some.level c.args.group.now
+    c.index-group-0.result c.index-group-group.result c.requires.place c.requires.group c.requires.some
+    c.index-group-0.is c.index-group-group.is c.in-Some.ensures in
     k.lower
 
 pub group_entry_of-node_of-requires : goal.group_entry_of-node_of-requires
 group_entry_of-node_of-requires g t c κs within =
-    let k = child-of-map g.P.Space.row_of c.args.w g.P.Dims.D c.args.place c.in-Some.level c.args.group.now c.index-group-0.result c.index-group-group.result c.requires.place c.requires.group c.requires.some c.index-group-0.is c.index-group-group.is c.in-Some.ensures in
+    let k = child-of-map g.P.Space.row_of c.args.w g.P.Dims.D c.args.place c.in-Some.level c.args.group.now
+    c.index-group-0.result c.index-group-group.result c.requires.place c.requires.group c.requires.some
+    c.index-group-0.is c.index-group-group.is c.in-Some.ensures in
     (omega (arith, k.lower, c.decreases), search (rules, within, k.group, k.lower))
 
 pub group_entry_of-returns-in-None : goal.group_entry_of-returns-in-None
 group_entry_of-returns-in-None g t c =
-    let a : row_address c.args.w c.args.place (g.P.Space.row_of c.index-group-0.result) ≡ c.args.addr = each-item (λ r. row_address c.args.w c.args.place r ≡ c.args.addr) g.P.Space.row_of c.args.group.now 0 c.index-group-0.result c.requires.addr (omega (arith, c.requires.some, length-map c.args.group.now g.P.Space.row_of)) c.index-group-0.is in
-    let p : is_point c.args.w g.P.Dims.D (g.P.Space.row_of c.index-group-0.result).point ≡ true = each-item (λ r. is_point c.args.w g.P.Dims.D r.point ≡ true) g.P.Space.row_of c.args.group.now 0 c.index-group-0.result c.requires.group.points (omega (arith, c.requires.some, length-map c.args.group.now g.P.Space.row_of)) c.index-group-0.is in
-    entry-of-made {P = g.row.P.Denot} g.P.Dims.D (record { addr = c.args.addr; body = c.point_body-body.result; held = Value c.value.result }) c.args.addr c.point_body-body.result (digits_below c.args.w c.args.place (g.P.Space.row_of c.index-group-0.result).point) (Value c.value.result) _ refl c.point_body-body.ensures
+    let a : row_address c.args.w c.args.place (g.P.Space.row_of c.index-group-0.result) ≡ c.args.addr =
+    each-item (λ r. row_address c.args.w c.args.place r ≡ c.args.addr) g.P.Space.row_of c.args.group.now 0
+    c.index-group-0.result c.requires.addr
+    (omega (arith, c.requires.some, length-map c.args.group.now g.P.Space.row_of)) c.index-group-0.is in
+    let p : is_point c.args.w g.P.Dims.D (g.P.Space.row_of c.index-group-0.result).point ≡ true =
+    each-item (λ r. is_point c.args.w g.P.Dims.D r.point ≡ true) g.P.Space.row_of c.args.group.now 0
+    c.index-group-0.result c.requires.group.points
+    (omega (arith, c.requires.some, length-map c.args.group.now g.P.Space.row_of)) c.index-group-0.is in
+    entry-of-made {P = g.row.P.Denot} g.P.Dims.D
+    (record { addr = c.args.addr; body = c.point_body-body.result; held = Value c.value.result }) c.args.addr
+    c.point_body-body.result (digits_below c.args.w c.args.place (g.P.Space.row_of c.index-group-0.result).point)
+    (Value c.value.result) _ refl c.point_body-body.ensures
     (length-below c.args.w g.P.Dims.D c.args.place (g.P.Space.row_of c.index-group-0.result).point p)
-    (point-of-map g.P.Space.row_of c.args.w g.P.Dims.D c.args.place (node_below c.args.w c.args.place) c.args.group.now c.index-group-0.result c.index-group-group.result c.requires.group c.requires.some c.index-group-0.is c.index-group-group.is c.in-None.ensures
-    ∙ ap {B = Entry} (λ t. record { addr = t; body = digits_below c.args.w c.args.place (g.P.Space.row_of c.index-group-0.result).point; what = value (g.P.Space.row_of c.index-group-0.result).value }) a
-    ∙ ap {B = Entry} (λ t. record { addr = c.args.addr; body = digits_below c.args.w c.args.place (g.P.Space.row_of c.index-group-0.result).point; what = value t }) (sym c.value.ensures))
+    (point-of-map g.P.Space.row_of c.args.w g.P.Dims.D c.args.place (node_below c.args.w c.args.place)
+    c.args.group.now c.index-group-0.result c.index-group-group.result c.requires.group c.requires.some
+    c.index-group-0.is c.index-group-group.is c.in-None.ensures
+    ∙ ap {B = Entry} (λ t. record {
+      addr = t;
+      body = digits_below c.args.w c.args.place (g.P.Space.row_of c.index-group-0.result).point;
+      what = value (g.P.Space.row_of c.index-group-0.result).value;
+    }) a
+    ∙ ap {B = Entry} (λ t. record {
+      addr = c.args.addr;
+      body = digits_below c.args.w c.args.place (g.P.Space.row_of c.index-group-0.result).point;
+      what = value t;
+    })
+    (sym c.value.ensures))
 
 pub group_entry_of-returns-in_ok-child-in-Some : goal.group_entry_of-returns-in_ok-child-in-Some
 group_entry_of-returns-in_ok-child-in-Some g t c =
-    let k = child-of-map g.P.Space.row_of c.args.w g.P.Dims.D c.args.place c.in-Some.level c.args.group.now c.index-group-0.result c.index-group-group.result c.requires.place c.requires.group c.requires.some c.index-group-0.is c.index-group-group.is c.in-Some.ensures in
-    let a : row_address c.args.w c.args.place (g.P.Space.row_of c.index-group-0.result) ≡ c.args.addr = each-item (λ r. row_address c.args.w c.args.place r ≡ c.args.addr) g.P.Space.row_of c.args.group.now 0 c.index-group-0.result c.requires.addr (omega (arith, c.requires.some, length-map c.args.group.now g.P.Space.row_of)) c.index-group-0.is in
-    let p : is_point c.args.w g.P.Dims.D (g.P.Space.row_of c.index-group-0.result).point ≡ true = each-item (λ r. is_point c.args.w g.P.Dims.D r.point ≡ true) g.P.Space.row_of c.args.group.now 0 c.index-group-0.result c.requires.group.points (omega (arith, c.requires.some, length-map c.args.group.now g.P.Space.row_of)) c.index-group-0.is in
-    entry-of-made {P = g.row.P.Denot} g.P.Dims.D (record { addr = c.args.addr; body = c.child_body-body.result; held = Child c.in_ok-child-in-Some.child }) c.args.addr c.child_body-body.result (digits_between c.args.w c.args.place c.in-Some.level (g.P.Space.row_of c.index-group-0.result).point) (Child c.in_ok-child-in-Some.child) _ refl c.child_body-body.ensures
+    let k = child-of-map g.P.Space.row_of c.args.w g.P.Dims.D c.args.place c.in-Some.level c.args.group.now
+    c.index-group-0.result c.index-group-group.result c.requires.place c.requires.group c.requires.some
+    c.index-group-0.is c.index-group-group.is c.in-Some.ensures in
+    let a : row_address c.args.w c.args.place (g.P.Space.row_of c.index-group-0.result) ≡ c.args.addr =
+    each-item (λ r. row_address c.args.w c.args.place r ≡ c.args.addr) g.P.Space.row_of c.args.group.now 0
+    c.index-group-0.result c.requires.addr
+    (omega (arith, c.requires.some, length-map c.args.group.now g.P.Space.row_of)) c.index-group-0.is in
+    let p : is_point c.args.w g.P.Dims.D (g.P.Space.row_of c.index-group-0.result).point ≡ true =
+    each-item (λ r. is_point c.args.w g.P.Dims.D r.point ≡ true) g.P.Space.row_of c.args.group.now 0
+    c.index-group-0.result c.requires.group.points
+    (omega (arith, c.requires.some, length-map c.args.group.now g.P.Space.row_of)) c.index-group-0.is in
+    entry-of-made {P = g.row.P.Denot} g.P.Dims.D
+    (record { addr = c.args.addr; body = c.child_body-body.result; held = Child c.in_ok-child-in-Some.child })
+    c.args.addr c.child_body-body.result
+    (digits_between c.args.w c.args.place c.in-Some.level (g.P.Space.row_of c.index-group-0.result).point)
+    (Child c.in_ok-child-in-Some.child) _ refl c.child_body-body.ensures
     (length-between c.args.w g.P.Dims.D c.args.place c.in-Some.level (g.P.Space.row_of c.index-group-0.result).point p)
     (k.entry
-    ∙ ap {B = Entry} (λ t. record { addr = t; body = digits_between c.args.w c.args.place c.in-Some.level (g.P.Space.row_of c.index-group-0.result).point; what = node (node_at c.args.w c.in-Some.level (node_below c.args.w c.in-Some.level) (map g.P.Space.row_of c.args.group.now)) }) a
-    ∙ ap {B = Entry} (λ t. record { addr = c.args.addr; body = digits_between c.args.w c.args.place c.in-Some.level (g.P.Space.row_of c.index-group-0.result).point; what = node t }) (sym c.in_ok-child-in-Some.ensures))
+    ∙ ap {B = Entry} (λ t. record {
+      addr = t;
+      body = digits_between c.args.w c.args.place c.in-Some.level
+          (g.P.Space.row_of c.index-group-0.result).point;
+      what = node (node_at c.args.w c.in-Some.level (node_below c.args.w c.in-Some.level)
+          (map g.P.Space.row_of c.args.group.now));
+    }) a
+    ∙ ap {B = Entry} (λ t. record {
+      addr = c.args.addr;
+      body = digits_between c.args.w c.args.place c.in-Some.level
+          (g.P.Space.row_of c.index-group-0.result).point;
+      what = node t;
+    }) (sym c.in_ok-child-in-Some.ensures))
 
 pub node_of-address-addr-requires-clause-point : goal.node_of-address-addr-requires-clause-point
 node_of-address-addr-requires-clause-point g t c =
     let f = first-is c.loop-first.rest.now c.in-Some.first.now c.in-Some.ensures.value in
-    each-item (λ r. is_point c.args.w g.P.Dims.D r.point ≡ true) g.P.Space.row_of c.loop-first.rest.now 0 c.in-Some.first.now c.loop-first.invariant.rows.points (omega (arith, f.0, length-map c.loop-first.rest.now g.P.Space.row_of)) f.1
+    each-item (λ r. is_point c.args.w g.P.Dims.D r.point ≡ true) g.P.Space.row_of c.loop-first.rest.now 0
+    c.in-Some.first.now c.loop-first.invariant.rows.points
+    (omega (arith, f.0, length-map c.loop-first.rest.now g.P.Space.row_of)) f.1
 
 pub node_of-group_entry_of-requires : goal.node_of-group_entry_of-requires
 node_of-group_entry_of-requires g t c κs within =
-    let s = step g.P.Space.row_of c.args.w g.P.Dims.D c.args.place c.address-addr.result c.group_len.result (node_below c.args.w c.args.place) c.loop-first.rest.now c.split_at.result.0.now c.split_at.result.1.now c.in-Some.first.now c.loop-first.invariant.rows c.in-Some.ensures.value (sym c.address-addr.ensures) c.group_len.ensures c.split_at.ensures.front c.split_at.ensures.back in
+    let s = step g.P.Space.row_of c.args.w g.P.Dims.D c.args.place c.address-addr.result c.group_len.result
+    (node_below c.args.w c.args.place) c.loop-first.rest.now c.split_at.result.0.now c.split_at.result.1.now
+    c.in-Some.first.now c.loop-first.invariant.rows c.in-Some.ensures.value (sym c.address-addr.ensures)
+    c.group_len.ensures c.split_at.ensures.front c.split_at.ensures.back in
     (omega (arith, c.decreases), search (rules, within, s.some, s.group, s.addr))
 
 pub node_of-loop-first-preserved : goal.node_of-loop-first-preserved
 node_of-loop-first-preserved g t c =
-    let s = step g.P.Space.row_of c.args.w g.P.Dims.D c.args.place c.address-addr.result c.group_len.result (node_below c.args.w c.args.place) c.loop-first.rest.now c.split_at.result.0.now c.split_at.result.1.now c.in-Some.first.now c.loop-first.invariant.rows c.in-Some.ensures.value (sym c.address-addr.ensures) c.group_len.ensures c.split_at.ensures.front c.split_at.ensures.back in
+    let s = step g.P.Space.row_of c.args.w g.P.Dims.D c.args.place c.address-addr.result c.group_len.result
+    (node_below c.args.w c.args.place) c.loop-first.rest.now c.split_at.result.0.now c.split_at.result.1.now
+    c.in-Some.first.now c.loop-first.invariant.rows c.in-Some.ensures.value (sym c.address-addr.ensures)
+    c.group_len.ensures c.split_at.ensures.front c.split_at.ensures.back in
     record {
-      made = made-next g.P.Dims.D c.loop-first.entries.items c.push.new.self.items c.in_ok-entry.entry _ _ _ _ c.in_ok-push.ensures.items c.in_ok-entry.ensures.0 s.next c.loop-first.invariant.made;
-      filled = filled-more g.P.Dims.D c.loop-first.entries.items c.push.new.self.items c.in_ok-entry.entry c.in_ok-push.ensures.items c.loop-first.invariant.filled c.in_ok-entry.ensures.1;
+      made = made-next g.P.Dims.D c.loop-first.entries.items c.push.new.self.items c.in_ok-entry.entry _ _ _ _
+          c.in_ok-push.ensures.items c.in_ok-entry.ensures.0 s.next c.loop-first.invariant.made;
+      filled = filled-more g.P.Dims.D c.loop-first.entries.items c.push.new.self.items c.in_ok-entry.entry
+          c.in_ok-push.ensures.items c.loop-first.invariant.filled c.in_ok-entry.ensures.1;
       rows = s.behind;
     }
 
 pub node_of-returns : goal.node_of-returns
 node_of-returns g t c =
     c.new.ensures
-    ∙ ap {B = PlainNode} (λ (e : Entries). record { level = c.args.place; chain = e }) (made-all g.P.Dims.D c.loop-first.entries.items g.P.Space.row_of c.args.w c.args.place (node_below c.args.w c.args.place) c.loop-first.rest.now _ (none-is c.loop-first.rest.now c.in_default.ensures.value) c.loop-first.invariant.made)
+    ∙ ap {B = PlainNode} (λ (e : Entries). record { level = c.args.place; chain = e })
+    (made-all g.P.Dims.D c.loop-first.entries.items g.P.Space.row_of c.args.w c.args.place
+    (node_below c.args.w c.args.place) c.loop-first.rest.now _
+    (none-is c.loop-first.rest.now c.in_default.ensures.value) c.loop-first.invariant.made)
