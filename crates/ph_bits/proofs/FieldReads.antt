@@ -1,8 +1,8 @@
 -- A field is read as the code does it: of the words of its first and of its last digit, which may be one.
-use Rattle.std.proofs.Common.{◌≡◌, ℕ, suc, ◌+◌, ◌-◌, ◌*◌, ◌/◌, ◌%◌, ◌^◌, ◌<◌, ◌≤◌, sym, ◌∙◌, ap, subst, arith, bit_or, zero, List, [], ◌∷◌, length, slice_index_or, inl, inr}
-use Rattle.std.proofs.lemmas.Nat.{div-mul-add, pow-add, mod-pow-add, pow_pos, shl-shr, shr-shr, mod_low, shr_below, mod_below, field_of, or_shifted}
-use Rattle.std.proofs.Math.Nat.{mul-le-mul_left, add-mul-div_right}
-use Rattle.std.proofs.Math.Pow.{mod-mod-pow}
+use Rattle.std.proofs.Common.{◌≡◌, ℕ, suc, ◌+◌, ◌-◌, ◌*◌, ◌/◌, ◌%◌, ◌^◌, ◌<◌, ◌≤◌, sym, ◌∙◌, ap, subst, arith}
+use Rattle.std.proofs.Common.{bit_or, zero, List, [], ◌∷◌, length, slice_index_or, inl, inr}
+use Rattle.std.proofs.lemmas.Nat.{div-mul-add, pow-add, mod-pow-add, pow_pos, shl-shr, shr-shr, mod_low, shr_below, field_of, or_shifted}
+use Rattle.std.proofs.Math.Nat.{add-mul-div_right}
 use Rattle.std.proofs.lemmas.Bool.{cases_lt}
 use Rattle.std.specs.List.{AllByRecursion as Each}
 use Rattle.ph_specs.specs.Digits.{digits_at}
@@ -14,40 +14,6 @@ shifted x w k =
     let z : x * 2 ^ k % 2 ^ k ≡ 0 = ap (λ t. t % 2 ^ k) (omega arith) ∙ mod_low x k 0 (pow_pos k) in
     mod-pow-add (x * 2 ^ k) w k ∙ ap (λ t. t % 2 ^ w * 2 ^ k + x * 2 ^ k % 2 ^ k) (shl-shr x k) ∙ ap (λ t. x % 2 ^ w * 2 ^ k + t) z ∙ omega arith
 
--- the first word before the front of the last, b digits of which are behind the field
-abbrev pub joined : ℕ → ℕ → ℕ → ℕ
-joined first last b = last / 2 ^ b + first * 2 ^ 1 % 2 ^ 64 * 2 ^ (63 - b) % 2 ^ 64
-
-pub joined-is : (first last b : ℕ) → b ≤ 63 → joined first last b ≡ first % 2 ^ b * 2 ^ (64 - b) + last / 2 ^ b
-joined-is first last b l =
-    let e : 64 ≡ b + 1 + (63 - b) = omega (arith, l) in
-    let f : 1 + (63 - b) ≡ 64 - b = omega (arith, l) in
-    let g : 63 ≡ 63 - b + b = omega (arith, l) in
-    let p : 2 * 2 ^ (63 - b) ≡ 2 ^ (64 - b) = sym (pow-add 2 1 (63 - b)) ∙ ap (λ t. 2 ^ t) f in
-    let h : first * 2 ^ 1 % 2 ^ 64 * 2 ^ (63 - b) % 2 ^ 64 ≡ first % 2 ^ b * 2 ^ (64 - b) =
-    ap (λ t. t * 2 ^ (63 - b) % 2 ^ 64) (shifted first 63 1)
-    ∙ ap (λ t. first % 2 ^ 63 * 2 ^ 1 * 2 ^ (63 - b) % 2 ^ t) e
-    ∙ shifted (first % 2 ^ 63 * 2 ^ 1) (b + 1) (63 - b)
-    ∙ ap (λ t. t * 2 ^ (63 - b)) (shifted (first % 2 ^ 63) b 1)
-    ∙ ap (λ t. t * 2 ^ 1 * 2 ^ (63 - b)) (ap (λ t. first % 2 ^ t % 2 ^ b) g ∙ mod-mod-pow first (63 - b) b)
-    ∙ double (first % 2 ^ b) (2 ^ (63 - b)) (2 ^ (64 - b)) p in
-    ap (λ t. last / 2 ^ b + t) h ∙ omega arith
-  where
-    double : (x k t : ℕ) → 2 * k ≡ t → x * 2 * k ≡ x * t
-    double x k t e = let f : x * (2 * k) ≡ x * t = ap (λ s. x * s) e in omega (arith, f)
-
--- it fits a word
-pub joined-small : (first last b : ℕ) → b ≤ 63 → last < 2 ^ 64 → joined first last b < 2 ^ 64
-joined-small first last b l m =
-    let e : 64 ≡ 64 - b + b = omega (arith, l) in
-    let f : 64 ≡ b + (64 - b) = omega (arith, l) in
-    let q : 2 ^ 64 ≡ 2 ^ b * 2 ^ (64 - b) = ap (λ t. 2 ^ t) f ∙ pow-add 2 b (64 - b) in
-    let s : last / 2 ^ b < 2 ^ (64 - b) = shr_below last (64 - b) b (subst (λ t. last < 2 ^ t) e m) in
-    subst (λ t. t < 2 ^ 64) (sym (joined-is first last b l)) (fits (first % 2 ^ b) (2 ^ b) (2 ^ (64 - b)) (last / 2 ^ b) (2 ^ 64) q (mod_below first (2 ^ b) (pow_pos b)) s)
-  where
-    fits : (x B K y t : ℕ) → t ≡ B * K → x < B → y < K → x * K + y < t
-    fits x B K y t e l m = let g : K * suc x ≤ K * B = mul-le-mul_left K l in omega (arith, e, g, m)
-
 -- the first word behind its front of f digits, and as many digits of the last one behind it
 abbrev pub turned : ℕ → ℕ → ℕ → ℕ
 turned first last f = bit_or (first * 2 ^ f % 2 ^ 64) (last / 2 ^ 1 / 2 ^ (63 - f))
@@ -56,15 +22,18 @@ front-small : (last f : ℕ) → f ≤ 63 → last < 2 ^ 64 → last / 2 ^ (64 -
 front-small last f l m =
     let e : 64 ≡ f + (64 - f) = omega (arith, l) in shr_below last f (64 - f) (subst (λ t. last < 2 ^ t) e m)
 
+-- two words by shifts that leave nothing over
+pub across-is : (first last f : ℕ) → f ≤ 63 → last < 2 ^ 64 → bit_or (first * 2 ^ f % 2 ^ 64) (last / 2 ^ (64 - f)) ≡ first % 2 ^ (64 - f) * 2 ^ f + last / 2 ^ (64 - f)
+across-is first last f l m =
+    let e : 64 ≡ 64 - f + f = omega (arith, l) in
+    let h : first * 2 ^ f % 2 ^ 64 ≡ first % 2 ^ (64 - f) * 2 ^ f = ap (λ t. first * 2 ^ f % 2 ^ t) e ∙ shifted first (64 - f) f in
+    ap (λ t. bit_or t (last / 2 ^ (64 - f))) h ∙ or_shifted (first % 2 ^ (64 - f)) f (last / 2 ^ (64 - f)) (front-small last f l m)
+
 turned-is : (first last f : ℕ) → f ≤ 63 → last < 2 ^ 64 → turned first last f ≡ first % 2 ^ (64 - f) * 2 ^ f + last / 2 ^ (64 - f)
 turned-is first last f l m =
-    let e : 64 ≡ 64 - f + f = omega (arith, l) in
     let s : 1 + (63 - f) ≡ 64 - f = omega (arith, l) in
-    let h : first * 2 ^ f % 2 ^ 64 ≡ first % 2 ^ (64 - f) * 2 ^ f = ap (λ t. first * 2 ^ f % 2 ^ t) e ∙ shifted first (64 - f) f in
     let k : last / 2 ^ 1 / 2 ^ (63 - f) ≡ last / 2 ^ (64 - f) = shr-shr last 1 (63 - f) ∙ ap (λ t. last / 2 ^ t) s in
-    ap (λ t. bit_or t (last / 2 ^ 1 / 2 ^ (63 - f))) h
-    ∙ ap (bit_or (first % 2 ^ (64 - f) * 2 ^ f)) k
-    ∙ or_shifted (first % 2 ^ (64 - f)) f (last / 2 ^ (64 - f)) (front-small last f l m)
+    ap (bit_or (first * 2 ^ f % 2 ^ 64)) k ∙ across-is first last f l m
 
 -- both ends in one word
 one_word : (x f w b : ℕ) → f ≤ 63 → f + w + b ≡ 64 → x < 2 ^ 64 → turned x x f / 2 ^ (64 - w) ≡ x / 2 ^ b % 2 ^ w
@@ -77,14 +46,16 @@ one_word x f w b l e m =
     ∙ ap (λ t. x % 2 ^ t / 2 ^ b) h ∙ field_of x w b
 
 -- and in two
-two_words : (x y f room low b : ℕ) → f ≤ 63 → f + room ≡ 64 → low + b ≡ 64 → room ≤ b → y < 2 ^ 64 → turned x y f / 2 ^ (64 - (room + low)) ≡ x % 2 ^ room * 2 ^ low + y / 2 ^ b
+two_words : (x y f room low b : ℕ) → f ≤ 63 → f + room ≡ 64 → low + b ≡ 64 → room ≤ b → y < 2 ^ 64 →
+    turned x y f / 2 ^ (64 - (room + low)) ≡ x % 2 ^ room * 2 ^ low + y / 2 ^ b
 two_words x y f room low b l e g n m =
     let k : ℕ = 64 - (room + low) in
     let r : 64 - f ≡ room = omega (arith, e) in
     let q : f ≡ low + k = omega (arith, e, g, n) in
     let s : room + k ≡ b = omega (arith, e, g, n) in
     let p : x % 2 ^ room * 2 ^ f ≡ x % 2 ^ room * 2 ^ low * 2 ^ k = split (x % 2 ^ room) (2 ^ f) (2 ^ low) (2 ^ k) (ap (λ t. 2 ^ t) q ∙ pow-add 2 low k) in
-    ap (λ t. t / 2 ^ k) (turned-is x y f l m ∙ ap (λ t. x % 2 ^ t * 2 ^ f + y / 2 ^ t) r ∙ ap (λ t. t + y / 2 ^ room) p ∙ turn (x % 2 ^ room * 2 ^ low * 2 ^ k) (y / 2 ^ room))
+    ap (λ t. t / 2 ^ k) (turned-is x y f l m ∙ ap (λ t. x % 2 ^ t * 2 ^ f + y / 2 ^ t) r ∙
+    ap (λ t. t + y / 2 ^ room) p ∙ turn (x % 2 ^ room * 2 ^ low * 2 ^ k) (y / 2 ^ room))
     ∙ add-mul-div_right (y / 2 ^ room) (x % 2 ^ room * 2 ^ low) (pow_pos k)
     ∙ turn (y / 2 ^ room / 2 ^ k) (x % 2 ^ room * 2 ^ low)
     ∙ ap (λ t. x % 2 ^ room * 2 ^ low + t) (shr-shr y room k ∙ ap (λ t. y / 2 ^ t) s)
@@ -130,7 +101,8 @@ in_two ws at width n l m h =
     let inside : suc (at / 64) < length ws = omega (arith, l, m) in
     ap (λ t. read ws place t (at % 64) width) next
     ∙ ap (λ t. read ws place (suc place) (at % 64) t) v
-    ∙ two_words (slice_index_or ws place 0) (slice_index_or ws (suc place) 0) (at % 64) room low b (omega arith) (omega arith) (omega (arith, n)) (omega (arith, n, l)) (each-below ws (suc place) h inside)
+    ∙ two_words (slice_index_or ws place 0) (slice_index_or ws (suc place) 0) (at % 64) room low b (omega arith)
+    (omega arith) (omega (arith, n)) (omega (arith, n, l)) (each-below ws (suc place) h inside)
     ∙ sym (digits-two ws place (at % 64) room low b (omega arith) (omega (arith, n)) inside h)
     ∙ ap (λ t. digits_at ws t (room + low)) w ∙ ap (λ t. digits_at ws at t) (sym v)
 

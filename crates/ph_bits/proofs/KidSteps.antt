@@ -4,6 +4,8 @@
 --     kid_out, kid_in      one value is taken out of the row, and put back with another in its place
 --     to_array, of_array      values as an array of them
 --     to_space, of_space      places as room for such an array
+--     at_type      what a call of the values is made at
+--     words_stay, words_go      a start and two words, which calls that show or lend values take behind the reference
 use Rattle.std.proofs.Common.{◌≡◌, ℕ, zero, suc, ◌+◌, ◌*◌, ◌<◌, refl, sym, arith, List, [], ◌∷◌, length, replicate, slice_index_or, slice_set, subst, Option, None}
 use Rattle.std.proofs.Common.{drop as behind}
 use seplogic.Ra.Ura.{Ura}
@@ -15,15 +17,19 @@ use types.Kit.{‵, ◌⊛◌, given, learn, by, some, pick, show, check, ◌$�
 use borrow.Table.OneValue.{part_out}
 use denote.RattleType.{RattleType}
 use denote.Laws.{Is, Typed, shows}
-use denote.Param.{param, layout}
+use denote.Builtin.{usize}
+use denote.Exit.{yes}
+use denote.Param.{param, layout, layouts}
 use denote.Param.Laws.{Laws, param_laws}
 use denote.Steps.{peeks}
 use lib.Dec.{T}
-use mir.Syntax.{ty_int, ty_array, w64}
+use mir.Syntax.{ty_int, ty_array, w64, Args, a_type}
 use mir.Val.{Val, vstruct, vnil}
 use denote.Shadow.{makes_shadow}
+use denote.Signature.{plain}
 use denote.Struct.Struct.{Struct}
 use denote.Struct.Owning.{shape}
+use denote.Triple.Walked.{Stays, AllGo, stay_dropped, Goes-dropped}
 use prog.Memory.{divides, size, align}
 use Rattle.std.proofs.RcSteps.{Good}
 use denote.Memory.{lone, mem, part_at, shared_of}
@@ -35,6 +41,7 @@ use Rattle.std.proofs.ptr.Rows as Rows
 use Rattle.ph_bits.specs.Memory.{places}
 use Rattle.ph_bits.proofs.PlaceSteps.{emptied}
 use Rattle.ph_bits.specs.contracts.kids.Kids as K
+use Rattle.ph_bits.specs.contracts.places.Start.{the_row as S}
 use Rattle.ph_bits.proofs.Made.{mark}
 use Rattle.ph_bits.specs.Kids.{IsWord, word_sized, kids, lent}
 
@@ -58,11 +65,17 @@ uncons (x ∷ xs) l = (x, (xs, refl))
 
 module _ (X : RattleType) (L : Laws X) {M : Type 1} {𝓤 : Ura M} (𝓛 : Logic 𝓤) where
   -- the bits of a value in memory
-  pub value_out : (x : X.Denot) (b o : ℕ) → ent 𝓤 (sem 𝓛 (part_at (param 0 X) full_share x b o)) (ex 𝓤 (λ (v : Val). guard 𝓤 (Good (layout X) v) (sep 𝓤 (𝓛.H.at full_share (layout X) b o v) (sem 𝓛 (X.own_val x (v ∷ []))))))
+  pub value_out : (x : X.Denot) (b o : ℕ) →
+      ent 𝓤 (sem 𝓛 (part_at (param 0 X) full_share x b o))
+      (ex 𝓤 (λ (v : Val). guard 𝓤 (Good (layout X) v)
+      (sep 𝓤 (𝓛.H.at full_share (layout X) b o v) (sem 𝓛 (X.own_val x (v ∷ []))))))
   value_out x b o = qed 𝓛 (‵ (part_at (param 0 X) full_share x b o) ∷ []) ∵
-      use1 𝓛 (some (λ (v : Val). ‵ (fat full_share (layout X) b o v) ⊛ ‵ (X.own_val x (v ∷ [])))) (part_out 𝓛 (param 0 X) refl full_share x b o) $ pick ! (λ v. split ! $ move ! (1 ∷ []) $
+      use1 𝓛 (some (λ (v : Val). ‵ (fat full_share (layout X) b o v) ⊛ ‵ (X.own_val x (v ∷ []))))
+      (part_out 𝓛 (param 0 X) refl full_share x b o) $ pick ! (λ v. split ! $ move ! (1 ∷ []) $
       peeks ! (param 0 X) (Is (param 0 X)) (shows 𝓛 (param 0 X)) x (v ∷ []) (λ p.
-      show ! (λ (w : Val). guard 𝓤 (Good (layout X) w) (sep 𝓤 (𝓛.H.at full_share (layout X) b o w) (sem 𝓛 (X.own_val x (w ∷ []))))) v $ check ! (((param_laws 0 X L).lawful 𝓛).typed x (v ∷ []) p).0 $ move ! (1 ∷ 0 ∷ []) $ done !))
+      show ! (λ (w : Val). guard 𝓤 (Good (layout X) w)
+      (sep 𝓤 (𝓛.H.at full_share (layout X) b o w) (sem 𝓛 (X.own_val x (w ∷ []))))) v $ check !
+      (((param_laws 0 X L).lawful 𝓛).typed x (v ∷ []) p).0 $ move ! (1 ∷ 0 ∷ []) $ done !))
 
   -- the bits of a value, whatever its machine values are
   pub one_value : (x : X.Denot) (vs : List Val) → Is (param 0 X) x vs → (v : Val) × ((vs ≡ v ∷ []) × Good (layout X) v)
@@ -75,13 +88,18 @@ module _ (X : RattleType) (L : Laws X) {M : Type 1} {𝓤 : Ura M} (𝓛 : Logic
 
   -- the room of a value of eight bytes is that of a word, and the other way round
   pub word_room : IsWord (param 0 X) → (b o : ℕ) → ent 𝓤 (𝓛.H.room (layout X) b o) (𝓛.H.room (ty_int w64) b o)
-  word_room h b o = via 𝓤 _ (𝓛.laws.room_as (layout X) (ty_int w64) b o (sym h.0) (subst (λ k. T (divides 8 k)) (sym h.1) tt)) (fst∗ 𝓤 (𝓛.H.room (ty_int w64) b o) (wand 𝓤 (𝓛.H.room (ty_int w64) b o) (𝓛.H.room (layout X) b o)))
+  word_room h b o = via 𝓤 _ (𝓛.laws.room_as (layout X) (ty_int w64) b o (sym h.0)
+      (subst (λ k. T (divides 8 k)) (sym h.1) tt))
+      (fst∗ 𝓤 (𝓛.H.room (ty_int w64) b o) (wand 𝓤 (𝓛.H.room (ty_int w64) b o) (𝓛.H.room (layout X) b o)))
 
   pub room_word : IsWord (param 0 X) → (b o : ℕ) → ent 𝓤 (𝓛.H.room (ty_int w64) b o) (𝓛.H.room (layout X) b o)
-  room_word h b o = via 𝓤 _ (𝓛.laws.room_as (ty_int w64) (layout X) b o h.0 (subst (λ k. T (divides k 8)) (sym h.1) tt)) (fst∗ 𝓤 (𝓛.H.room (layout X) b o) (wand 𝓤 (𝓛.H.room (layout X) b o) (𝓛.H.room (ty_int w64) b o)))
+  room_word h b o = via 𝓤 _ (𝓛.laws.room_as (ty_int w64) (layout X) b o h.0
+      (subst (λ k. T (divides k 8)) (sym h.1) tt))
+      (fst∗ 𝓤 (𝓛.H.room (layout X) b o) (wand 𝓤 (𝓛.H.room (layout X) b o) (𝓛.H.room (ty_int w64) b o)))
 
 module _ (R : RattleType) {M : Type 1} {𝓤 : Ura M} (𝓛 : Logic 𝓤) (b : ℕ) where
-  pub kid_seen : (κ : Lft) (xs : List R.Denot) (d : R.Denot) (i o : ℕ) → i < length xs → ent 𝓤 (sem 𝓛 (lent R b o xs κ)) (sem 𝓛 (shared_of R (slice_index_or xs i d) b (i * 8 + o) κ))
+  pub kid_seen : (κ : Lft) (xs : List R.Denot) (d : R.Denot) (i o : ℕ) → i < length xs →
+      ent 𝓤 (sem 𝓛 (lent R b o xs κ)) (sem 𝓛 (shared_of R (slice_index_or xs i d) b (i * 8 + o) κ))
   kid_seen κ [] d i o l = absurd (omega (arith, l))
   kid_seen κ (x ∷ xs) d zero o l =
       let e : o ≡ zero * 8 + o = omega arith in
@@ -135,7 +153,9 @@ module _ (R : RattleType) (h : IsWord R) {M : Type 1} {𝓤 : Ura M} (𝓛 : Log
   pub to_cells : (xs : List R.Denot) (o : ℕ) → ent 𝓤 (sem 𝓛 (kids R b o xs)) (sem 𝓛 (cells (mem R) xs b o))
   to_cells [] o = id⊢ 𝓤 (emp 𝓤)
   to_cells (x ∷ xs) o = qed 𝓛 (‵ (kids R b o (x ∷ xs)) ∷ []) ∵ fsplit ! $ fsplit ! $ drop ! $ move ! (1 ∷ []) $
-      rewrite ! 0 (λ k. ‵ (kids R b (o + k) xs)) (sym h.0) refl $ use1 𝓛 (‵ (cells (mem R) xs b (o + size (lone R.mir)))) (to_cells xs (o + size (lone R.mir))) $ move ! (1 ∷ 0 ∷ []) $ fjoin ! $ done !
+      rewrite ! 0 (λ k. ‵ (kids R b (o + k) xs)) (sym h.0) refl $ use1 𝓛
+      (‵ (cells (mem R) xs b (o + size (lone R.mir)))) (to_cells xs (o + size (lone R.mir))) $ move ! (1 ∷ 0 ∷ [])
+      $ fjoin ! $ done !
 
   pub of_cells : (xs : List R.Denot) (o : ℕ) → ent 𝓤 (sem 𝓛 (cells (mem R) xs b o)) (sem 𝓛 (kids R b o xs))
   of_cells [] o = id⊢ 𝓤 (emp 𝓤)
@@ -181,3 +201,15 @@ module _ (X : RattleType) (L : Laws X) (h : IsWord (param 0 X)) {M : Type 1} {�
       use1 𝓛 (‵ (froom (ty_int w64) b o)) (word_room X L 𝓛 h b o) $ move ! (1 ∷ []) $
       rewrite ! 0 (λ k. ‵ (froom (ty_array (layout X) n) b (o + k))) h.0 refl $ use1 𝓛 (‵ (places b (o + 8) (replicate n None))) (of_space n (o + 8)) $
       move ! (1 ∷ 0 ∷ []) $ fjoin ! $ done !
+
+abbrev pub at_type : RattleType → Args
+at_type X = layouts (a_type ∷ []) (X, tt)
+
+abbrev pub words_stay : Stays {n = 2} (plain (λ _. S) ∷ plain (λ _. usize) ∷ plain (λ _. usize) ∷ []) (yes, (yes, (yes, tt)))
+words_stay = (stay_dropped (plain (λ _. S)) yes, (stay_dropped (plain (λ _. usize)) yes, (stay_dropped (plain (λ _. usize)) yes, tt)))
+
+pub words_go : {M : Type 1} {𝓤 : Ura M} (𝓛 : Logic 𝓤) →
+    AllGo 𝓛 2 (plain (λ _. S) ∷ plain (λ _. usize) ∷ plain (λ _. usize) ∷ []) (yes, (yes, (yes, tt))) words_stay
+words_go 𝓛 =
+    let word_goes = Goes-dropped 𝓛 2 (plain (λ _. usize)) yes (λ κs x w. refl) in
+    (Goes-dropped 𝓛 2 (plain (λ _. S)) yes (λ κs x w. refl), (word_goes, (word_goes, tt)))

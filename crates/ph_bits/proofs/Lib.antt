@@ -12,7 +12,6 @@ mod FieldReads
 mod Replaced
 mod Codes
 mod PenSteps
-mod LevelWords
 mod RowPlaces
 mod Folds
 mod Tables

@@ -1,11 +1,14 @@
 -- Runs of digits that were moved, one behind the other.
-use Rattle.std.proofs.Common.{◌≡◌, ℕ, ◌+◌, ◌-◌, ◌*◌, ◌/◌, ◌%◌, ◌^◌, ◌≤◌, ◌<◌, refl, sym, ◌∙◌, ap, subst, arith, List, length, slice_index_or, slice_set, Fits, w64}
+use Rattle.std.proofs.Common.{◌≡◌, ℕ, zero, suc, ◌+◌, ◌-◌, ◌*◌, ◌/◌, ◌%◌, ◌^◌, ◌≤◌, ◌<◌, refl, sym, ◌∙◌, ap}
+use Rattle.std.proofs.Common.{subst, arith, List, length, slice_index_or, slice_set, Fits, w64}
 use Rattle.std.proofs.Math.Nat.{mod-one, mod-eq_of_lt}
+use Rattle.std.specs.List.{AllByRecursion as Each}
 use Rattle.ph_specs.specs.Digits.{digits_at}
-use Rattle.ph_specs.proofs.laws.WordDigits.{digits-parts}
+use Rattle.ph_specs.proofs.laws.WordDigits.{each-fits, digits-one, digits-two, digits-parts, digits-below, digits-within}
 use Rattle.ph_bits.specs.Fields.{number_in, with_digits, IsPut}
 use Rattle.ph_bits.specs.Moved.{IsMoved}
 use Rattle.ph_bits.proofs.Codes.{one}
+use Rattle.ph_bits.proofs.Replaced.{put}
 
 -- no digits are where they were
 pub moved-none : (ws : List ℕ) (from to len : ℕ) → len ≡ 0 → IsMoved ws from to len ws
@@ -49,12 +52,14 @@ moved-up old mid new from to m w e f o l p q = record {
   behind = λ a k h i. q.behind a k (omega (arith, h)) (omega (arith, i, e)) ∙ p.behind a k (omega (arith, h)) i;
 }
 
-pub moved-equal : (old new : List ℕ) (from from2 to to2 len len2 : ℕ) → from ≡ from2 → to ≡ to2 → len ≡ len2 → IsMoved old from to len new → IsMoved old from2 to2 len2 new
+pub moved-equal : (old new : List ℕ) (from from2 to to2 len len2 : ℕ) → from ≡ from2 → to ≡ to2 → len ≡ len2 →
+    IsMoved old from to len new → IsMoved old from2 to2 len2 new
 moved-equal old new from from2 to to2 len len2 e f g o =
     subst (λ t. IsMoved old from2 to2 t new) g (subst (λ t. IsMoved old from2 t len new) f (subst (λ t. IsMoved old t to len new) e o))
 
 -- a whole word that is stored
-pub word-stored : (ws : List ℕ) (place v : ℕ) → place < length ws → ((i : ℕ) → Fits w64 (slice_index_or ws i 0)) → v < 2 ^ 64 → slice_set ws place v ≡ with_digits ws (64 * place) 64 v
+pub word-stored : (ws : List ℕ) (place v : ℕ) → place < length ws → ((i : ℕ) → Fits w64 (slice_index_or ws i 0)) →
+    v < 2 ^ 64 → slice_set ws place v ≡ with_digits ws (64 * place) 64 v
 word-stored ws place v l h f =
     let a : 64 * place / 64 ≡ place = omega arith in
     let b : 64 - 64 * place % 64 - 64 ≡ 0 = omega arith in
@@ -69,3 +74,72 @@ word-stored ws place v l h f =
         let z : w / 2 ^ 0 ≡ w = omega arith in
         let m : w % 2 ^ 64 ≡ w = mod-eq_of_lt l in
         ap (λ t. t % 2 ^ 64 * 2 ^ 0) z ∙ omega (arith, m)
+
+-- a word that is made of two, in the first of which `shift` digits stand in front
+pub word-moved : (ws : List ℕ) (start shift place v : ℕ) → 0 < shift → shift < 64 → suc start < length ws →
+    place < length ws → ((i : ℕ) → Fits w64 (slice_index_or ws i 0))
+    → v ≡ slice_index_or ws start 0 % 2 ^ (64 - shift) * 2 ^ shift + slice_index_or ws (suc start) 0 / 2 ^ (64 - shift)
+    → IsMoved ws (64 * start + shift) (64 * place) 64 (slice_set ws place v)
+word-moved ws start shift place v p q s l h e =
+    let room : 64 - shift + shift ≡ 64 = omega (arith, q) in
+    let inside : 64 * place + 64 ≤ 64 * length ws = omega (arith, l) in
+    let d : v ≡ digits_at ws (64 * start + shift) 64 =
+    e ∙ sym (digits-two ws start shift (64 - shift) shift (64 - shift) (omega (arith, q)) (omega (arith, q)) s
+    (each-fits ws h)) ∙ ap (λ t. digits_at ws (64 * start + shift) t) room in
+    let small : v < 2 ^ 64 = subst (λ t. t < 2 ^ 64) (sym d) (digits-below ws (64 * start + shift) 64) in
+    moved-put ws _ (64 * start + shift) (64 * place) 64 v d (put ws _ (64 * place) 64 v inside small h (word-stored ws place v l h small))
+
+-- digits of words that are equal
+same-words : (old new : List ℕ) (from to n : ℕ) →
+    ((i : ℕ) → i < n → slice_index_or new (to + i) 0 ≡ slice_index_or old (from + i) 0) → from + n ≤ length old →
+    to + n ≤ length new
+    → Each (λ x. x < 2 ^ 64) old → Each (λ x. x < 2 ^ 64) new → digits_at new (64 * to) (64 * n) ≡ digits_at old (64 * from) (64 * n)
+same-words old new from to zero s l m h k =
+    mod-one (number_in new / 2 ^ (64 * length new - 64 * to - 0)) ∙ sym (mod-one (number_in old / 2 ^ (64 * length old - 64 * from - 0)))
+same-words old new from to (suc n) s l m h k =
+    let e : 64 * suc n ≡ 64 * n + 64 = omega arith in
+    let a : 64 * (to + n) + 0 ≡ 64 * to + 64 * n = omega arith in
+    let b : 64 * (from + n) + 0 ≡ 64 * from + 64 * n = omega arith in
+    let last : digits_at new (64 * to + 64 * n) 64 ≡ digits_at old (64 * from + 64 * n) 64 =
+    ap (λ t. digits_at new t 64) (sym a)
+    ∙ digits-one new (to + n) 0 64 0 refl (omega (arith, m)) k
+    ∙ ap (λ t. t / 2 ^ 0 % 2 ^ 64) (s n (omega arith))
+    ∙ sym (digits-one old (from + n) 0 64 0 refl (omega (arith, l)) h)
+    ∙ ap (λ t. digits_at old t 64) b in
+    ap (λ t. digits_at new (64 * to) t) e
+    ∙ digits-parts new (64 * to) (64 * n) 64 (omega (arith, m))
+    ∙ ap (λ t. t * 2 ^ 64 + digits_at new (64 * to + 64 * n) 64) (same-words old new from to n (λ i p. s i (omega (arith, p))) (omega (arith, l)) (omega (arith, m)) h k)
+    ∙ ap (λ t. digits_at old (64 * from) (64 * n) * 2 ^ 64 + t) last
+    ∙ sym (digits-parts old (64 * from) (64 * n) 64 (omega (arith, l)))
+    ∙ ap (λ t. digits_at old (64 * from) t) (sym e)
+
+-- digits within words that stayed
+same-digits : (old new : List ℕ) (at n a k : ℕ) →
+    ((i : ℕ) → i < n → slice_index_or new (at + i) 0 ≡ slice_index_or old (at + i) 0) → length new ≡ length old →
+    at + n ≤ length old
+    → Each (λ x. x < 2 ^ 64) old → Each (λ x. x < 2 ^ 64) new → 64 * at ≤ a → a + k ≤ 64 * (at + n) → digits_at new a k ≡ digits_at old a k
+same-digits old new at n a k s e l h j f g =
+    let p : ℕ = a - 64 * at in
+    let b : 64 * at + (a - 64 * at) ≡ a = omega (arith, f) in
+    let i : a - 64 * at + k ≤ 64 * n = omega (arith, f, g) in
+    ap (λ t. digits_at new t k) (sym b)
+    ∙ sym (digits-within new (64 * at) (64 * n) p k (omega (arith, l, e)) i)
+    ∙ ap (λ t. t / 2 ^ (64 * n - p - k) % 2 ^ k) (same-words old new at at n s l (omega (arith, l, e)) h j)
+    ∙ digits-within old (64 * at) (64 * n) p k (omega (arith, l)) i
+    ∙ ap (λ t. digits_at old t k) b
+
+-- whole words that were copied
+pub words-moved : (old new : List ℕ) (from to n : ℕ) → length new ≡ length old → from + n ≤ length old →
+    to + n ≤ length old → ((i : ℕ) → Fits w64 (slice_index_or old i 0)) → ((i : ℕ) → Fits w64 (slice_index_or new i 0))
+    → ((i : ℕ) → i < n → slice_index_or new (to + i) 0 ≡ slice_index_or old (from + i) 0)
+    → ((i : ℕ) → i < to → slice_index_or new i 0 ≡ slice_index_or old i 0)
+    → ((i : ℕ) → to + n ≤ i → slice_index_or new i 0 ≡ slice_index_or old i 0)
+    → IsMoved old (64 * from) (64 * to) (64 * n) new
+words-moved old new from to n e l m h k s f g = record {
+  value = same-words old new from to n s l (omega (arith, e, m)) (each-fits old h) (each-fits new k);
+  front = λ a w p. same-digits old new 0 to a w (λ i q. f (0 + i) (omega (arith, q))) e (omega (arith, m))
+      (each-fits old h) (each-fits new k) (omega arith) (omega (arith, p));
+  behind = λ a w p q.
+      same-digits old new (to + n) (length old - (to + n)) a w (λ i r. g (to + n + i) (omega arith)) e
+      (omega (arith, m)) (each-fits old h) (each-fits new k) (omega (arith, p)) (omega (arith, q, m));
+}

@@ -1,15 +1,16 @@
 -- Numbers that are packed, and digits that are compared with them.
-use Rattle.std.proofs.Common.{◌≡◌, ℕ, zero, suc, ◌+◌, ◌-◌, ◌*◌, ◌/◌, ◌%◌, ◌^◌, ◌<◌, ◌≤◌, refl, sym, ◌∙◌, ap, arith, List, [], ◌∷◌, length, map, drop, slice_index_or, true, false, inl, inr, ne_eqb, eq-eqb, ◌&&◌}
+use Rattle.std.proofs.Common.{◌≡◌, ℕ, zero, suc, ◌+◌, ◌*◌, ◌/◌, ◌%◌, ◌^◌, ◌<◌, ◌≤◌, refl, sym, ◌∙◌, ap, arith, List, []}
+use Rattle.std.proofs.Common.{◌∷◌, length, map, drop, slice_index_or, true, false, inl, inr, ne_eqb, eq-eqb}
 use Rattle.std.specs.Prelude.{◌==◌}
 use Rattle.std.specs.List.{AllByRecursion as Each}
 use Rattle.std.proofs.lemmas.Nat.{div-mul-add, mod-mul-add, pow-add, pow_pos}
 use Rattle.std.proofs.Math.Nat.{mod-eq_of_lt, mod-lt, div-mul-le_self, mul-le-mul_left, pow-le-pow_right}
-use Rattle.ph_specs.specs.Digits.{Field, field, number_after, number_of, digits_of, digits_at, pieces}
+use Rattle.ph_specs.specs.Digits.{Field, field, number_after, number_of, digits_of, pieces}
 use Rattle.ph_specs.specs.PutTree.{same_digits}
 use Rattle.ph_specs.proofs.lemmas.Numbers.{number_after-start, number_of-small, number_of-pieces}
 use Rattle.ph_specs.proofs.lemmas.PointDigits.{same_digits-true, same_digits-refl}
 use Rattle.ph_specs.proofs.laws.Put.{either}
-use Rattle.ph_bits.specs.Fields.{cut, digits_row}
+use Rattle.ph_bits.specs.Fields.{cut}
 
 fit : (w : ℕ) (ys : List ℕ) → Each (λ y. y < 2 ^ w) ys → Each (λ (f : Field). f.number < 2 ^ f.width) (map (field w) ys)
 fit w [] h = tt
@@ -33,7 +34,8 @@ pieces-packed w s (y ∷ ys) h =
     ∙ ap {B = List ℕ} (λ t. y ∷ t) (pieces-packed w n ys h.1)
 
 -- digits are those of numbers where they make the same number
-pub packed-same : (w n x : ℕ) (ys : List ℕ) → n ≡ length ys → Each (λ y. y < 2 ^ w) ys → x < 2 ^ (w * n) → (x == number_of (map (field w) ys)) ≡ same_digits (pieces w n x) ys
+pub packed-same : (w n x : ℕ) (ys : List ℕ) → n ≡ length ys → Each (λ y. y < 2 ^ w) ys → x < 2 ^ (w * n) →
+    (x == number_of (map (field w) ys)) ≡ same_digits (pieces w n x) ys
 packed-same w n x ys e h l =
     elim (either (same_digits (pieces w n x) ys)) [
       | inl t ↦
@@ -69,23 +71,9 @@ drop_one (x ∷ xs) (suc i) l =
     let e : suc (i + 1) ≡ suc i + 1 = omega arith in
     drop_one xs i (omega (arith, l)) ∙ ap (λ t. slice_index_or xs i 0 ∷ drop t (x ∷ xs)) e
 
-pub drop_all : (xs : List ℕ) (i : ℕ) → i ≡ length xs → drop i xs ≡ []
-drop_all [] zero e = refl
-drop_all [] (suc i) e = refl
-drop_all (x ∷ xs) zero e = absurd (omega (arith, e))
-drop_all (x ∷ xs) (suc i) e = drop_all xs i (omega (arith, e))
-
-pub field-more : (ws xs : List ℕ) (at w low i : ℕ) → i < length xs
-    → same_digits (digits_row ws (at + i * w) w (length xs - i)) (map (cut w low) (drop i xs)) ≡ (digits_at ws (at + i * w) w == cut w low (slice_index_or xs i 0)) && same_digits (digits_row ws (at + (i + 1) * w) w (length xs - (i + 1))) (map (cut w low) (drop (i + 1) xs))
-field-more ws xs at w low i l =
-    let m : length xs - i ≡ suc (length xs - (i + 1)) = omega (arith, l) in
-    let a : at + i * w + w ≡ at + (i + 1) * w = omega arith in
-    ap (λ t. same_digits (digits_row ws (at + i * w) w t) (map (cut w low) (drop i xs))) m
-    ∙ ap (λ t. same_digits (digits_row ws (at + i * w) w (suc (length xs - (i + 1)))) (map (cut w low) t)) (drop_one xs i l)
-    ∙ ap (λ t. (digits_at ws (at + i * w) w == cut w low (slice_index_or xs i 0)) && same_digits (digits_row ws t w (length xs - (i + 1))) (map (cut w low) (drop (i + 1) xs))) a
-
 pub packed-more : (w low all i : ℕ) (xs : List ℕ) → i < length xs
-    → number_after all (map (field w) (map (cut w low) (drop i xs))) ≡ number_after (all * 2 ^ w + cut w low (slice_index_or xs i 0)) (map (field w) (map (cut w low) (drop (i + 1) xs)))
+    → number_after all (map (field w) (map (cut w low) (drop i xs))) ≡
+    number_after (all * 2 ^ w + cut w low (slice_index_or xs i 0)) (map (field w) (map (cut w low) (drop (i + 1) xs)))
 packed-more w low all i xs l = ap (λ t. number_after all (map (field w) (map (cut w low) t))) (drop_one xs i l)
 
 -- so many fields, and one more

@@ -3,8 +3,7 @@ use Rattle.std.proofs.Common.{◌≡◌, ℕ, suc, ◌+◌, ◌-◌, ◌*◌, �
 use Rattle.std.proofs.lemmas.Nat.{pow-add, shl_whole, shr_split, shr_below, and_mask}
 use Rattle.std.proofs.Math.Nat.{mul-le-mul_left, mod-eq_of_lt, pow-le-pow_right}
 use Rattle.ph_bits.specs.Fields.{number_in}
-use Rattle.ph_specs.specs.Digits.{digits_at}
-use Rattle.ph_specs.proofs.laws.WordDigits.{number-append, digits-parts}
+use Rattle.ph_specs.proofs.laws.WordDigits.{number-append}
 
 -- a word more
 pub number-push : (ws : List ℕ) (x : ℕ) → number_in (ws ++ x ∷ []) ≡ number_in ws * 2 ^ 64 + x
@@ -38,7 +37,8 @@ fits_more k room w v a l m b =
     let p : 2 ^ (64 - (room - w)) < 2 ^ 64 = power_fits (64 - (room - w)) (omega (arith, l, m)) in
     omega (arith, c, p)
 
-pub number_more : (n k room w v : ℕ) → k < 2 ^ (64 - room) → room ≤ 64 → w ≤ room → n * 2 ^ (64 - (room - w)) + (k * 2 ^ w % 2 ^ 64 + v) ≡ (n * 2 ^ (64 - room) + k) * 2 ^ w + v
+pub number_more : (n k room w v : ℕ) → k < 2 ^ (64 - room) → room ≤ 64 → w ≤ room →
+    n * 2 ^ (64 - (room - w)) + (k * 2 ^ w % 2 ^ 64 + v) ≡ (n * 2 ^ (64 - room) + k) * 2 ^ w + v
 number_more n k room w v a l m =
     let e : 64 - (room - w) ≡ 64 - room + w = omega (arith, l, m) in
     let p : n * 2 ^ (64 - (room - w)) ≡ n * (2 ^ (64 - room) * 2 ^ w) = ap (λ t. n * 2 ^ t) e ∙ ap (λ t. n * t) (pow-add 2 (64 - room) w) in
@@ -62,7 +62,8 @@ masked v low l =
     ap (λ t. bit_and v (t - 1)) e ∙ and_mask v low
 
 pub number_full : (n k room w v : ℕ) → k < 2 ^ (64 - room) → room ≤ 64 → 1 ≤ room → room ≤ w → w ≤ 64
-    → (n * 2 ^ 64 + (k * 2 ^ room % 2 ^ 64 + v / 2 ^ (w - room))) * 2 ^ (64 - (64 - (w - room))) + bit_and v (1 * 2 ^ (w - room) % 2 ^ 64 - 1) ≡ (n * 2 ^ (64 - room) + k) * 2 ^ w + v
+    → (n * 2 ^ 64 + (k * 2 ^ room % 2 ^ 64 + v / 2 ^ (w - room))) * 2 ^ (64 - (64 - (w - room))) + bit_and v
+    (1 * 2 ^ (w - room) % 2 ^ 64 - 1) ≡ (n * 2 ^ (64 - room) + k) * 2 ^ w + v
 number_full n k room w v a l o m q =
     let low : ℕ = w - room in
     let e : 64 - (64 - (w - room)) ≡ w - room = omega (arith, q) in
@@ -78,18 +79,9 @@ number_full n k room w v a l o m q =
     sum : (n k v A R L h r : ℕ) → h * L + r ≡ v → (n * (A * R) + (k * R + h)) * L + r ≡ (n * A + k) * (R * L) + v
     sum n k v A R L h r e = omega (arith, e)
 
--- digits that are copied, in two parts
-pub number_copied : (ws : List ℕ) (at m w n r : ℕ) → at + m + w ≤ 64 * length ws → r ≡ n * 2 ^ m + digits_at ws at m → r * 2 ^ w + digits_at ws (at + m) w ≡ n * 2 ^ (m + w) + digits_at ws at (m + w)
-number_copied ws at m w n r l e =
-    let p : n * 2 ^ (m + w) ≡ n * (2 ^ m * 2 ^ w) = ap (λ t. n * t) (pow-add 2 m w) in
-    let q : r * 2 ^ w ≡ (n * 2 ^ m + digits_at ws at m) * 2 ^ w = ap (λ t. t * 2 ^ w) e in
-    sum n (2 ^ m) (2 ^ w) (digits_at ws at m) (digits_at ws (at + m) w) (r * 2 ^ w) (n * 2 ^ (m + w)) (digits_at ws at (m + w)) q p (digits-parts ws at m w l)
-  where
-    sum : (n M W a b r p d : ℕ) → r ≡ (n * M + a) * W → p ≡ n * (M * W) → d ≡ a * W + b → r + b ≡ p + d
-    sum n M W a b r p d e f g = omega (arith, e, f, g)
-
 -- the last word
-pub number_end : (n k room d place : ℕ) → k < 2 ^ (64 - room) → room ≤ 64 → d ≡ 64 * place + (64 - room) → n * 2 ^ 64 + k * 2 ^ room % 2 ^ 64 ≡ (n * 2 ^ (64 - room) + k) * 2 ^ (64 * (place + 1) - d)
+pub number_end : (n k room d place : ℕ) → k < 2 ^ (64 - room) → room ≤ 64 → d ≡ 64 * place + (64 - room) →
+    n * 2 ^ 64 + k * 2 ^ room % 2 ^ 64 ≡ (n * 2 ^ (64 - room) + k) * 2 ^ (64 * (place + 1) - d)
 number_end n k room d place a l e =
     let f : 64 * (place + 1) - d ≡ room = omega (arith, l, e) in
     let g : 64 ≡ 64 - room + room = omega (arith, l) in

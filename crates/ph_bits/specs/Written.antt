@@ -1,5 +1,5 @@
 -- What a pen has written: the number that all digits up to it make.
-use Rattle.std.specs.Prelude.{ℕ, ◌+◌, ◌-◌, ◌*◌, ◌/◌, ◌%◌, ◌^◌, ◌<◌, ◌≤◌, List, [], ◌∷◌, length}
+use Rattle.std.specs.Prelude.{ℕ, ◌+◌, ◌-◌, ◌*◌, ◌^◌, ◌<◌, ◌≤◌, List, length}
 use Rattle.ph_bits.specs.Fields.{number_in}
 use Rattle.ph_bits.specs.declared.pens.Pen.{Pen}
 
@@ -15,9 +15,3 @@ digits_by words p = 64 * length words + (64 - p.room)
 -- the number that they make
 abbrev pub number_by : List ℕ → Pen → ℕ
 number_by words p = number_in words * 2 ^ (64 - p.room) + p.kept
-
--- words that begin with the last digits of some words and end with the first digits of others
-abbrev pub shifted : ℕ → List ℕ → List ℕ → List ℕ
-shifted behind [] seconds = []
-shifted behind (x ∷ firsts) [] = []
-shifted behind (x ∷ firsts) (y ∷ seconds) = (x % 2 ^ behind * 2 ^ (64 - behind) + y / 2 ^ behind) ∷ shifted behind firsts seconds

@@ -19,9 +19,9 @@ pub fn field(words: &[u64], at: u64, width: u32) -> u64
         return 0;
     }
     let place = (at / 64) as usize;
-    let front = (at % 64) as u32;
+    let front = at % 64;
     let first = words[place];
-    let last = words[place + ((front + width - 1) / 64) as usize];
+    let last = words[place + ((front + width as u64 - 1) / 64) as usize];
     let all = (first << front) | ((last >> 1) >> (63 - front));
     all >> (64 - width)
 }
@@ -58,8 +58,8 @@ pub fn set_field(words: &mut [u64], at: u64, width: u32, v: u64)
     }
 }
 
-// A word with `v` in the `width` digits in front of the last `behind`.
-fn with_field(word: u64, behind: u32, width: u32, v: u64) -> u64
+/// A word with `v` in the `width` digits in front of the last `behind`.
+pub fn with_field(word: u64, behind: u32, width: u32, v: u64) -> u64
     requires width { 0 < width }
     requires inside { behind + width ≤ 64 }
     requires value { v < 2 ^ width }

@@ -1,9 +1,9 @@
 //! Runs of digits that are moved within words.
 
-ghost use Rattle.std.specs.Prelude.{◌≤◌, ◌<◌, ◌+◌, ◌*◌, ◌^◌, length};
+ghost use Rattle.std.specs.Prelude.{◌≡◌, ◌≤◌, ◌<◌, ◌+◌, ◌-◌, ◌*◌, ◌/◌, ◌%◌, ◌^◌, length};
 ghost use Rattle.ph_bits.specs.Moved.{IsMoved};
 
-use crate::fields::{field, set_field};
+use crate::fields::{field, set_field, with_field};
 
 /// Moves the `len` digits from digit `from` on to digit `to`, which does not lie behind it. The runs may overlap. The digits
 /// that lie outside the run at `to` stay. It takes no memory.
@@ -35,7 +35,9 @@ pub fn move_up(words: &mut [u64], from: u64, to: u64, len: u64)
     }
 }
 
-// Moves at least a word's digits: those that fill the first word, then whole words, then what is left.
+// Moves at least a word's digits: those that fill the first word, then whole words, then what is left. It stays a call, so
+// that a short run saves no registers.
+#[inline(never)]
 fn move_many_down(words: &mut [u64], from: u64, to: u64, len: u64)
     requires order { to ≤ from }
     requires many { 64 ≤ len }
@@ -46,12 +48,14 @@ fn move_many_down(words: &mut [u64], from: u64, to: u64, len: u64)
     let front = (64 - to % 64) % 64;
     let whole = (len - front) / 64;
     let done = front + 64 * whole;
-    move_field(words, from, to, front as u32);
+    let rest = (len - done) as u32;
+    move_part(words, from, to, front as u32, 0);
     move_words_down(words, from + front, (to + front) / 64, whole);
-    move_field(words, from + done, to + done, (len - done) as u32);
+    move_part(words, from + done, to + done, rest, 64 - rest);
 }
 
 // The same from the last digits to the first.
+#[inline(never)]
 fn move_many_up(words: &mut [u64], from: u64, to: u64, len: u64)
     requires order { from ≤ to }
     requires many { 64 ≤ len }
@@ -62,9 +66,10 @@ fn move_many_up(words: &mut [u64], from: u64, to: u64, len: u64)
     let front = (64 - to % 64) % 64;
     let whole = (len - front) / 64;
     let done = front + 64 * whole;
-    move_field(words, from + done, to + done, (len - done) as u32);
+    let rest = (len - done) as u32;
+    move_part(words, from + done, to + done, rest, 64 - rest);
     move_words_up(words, from + front, (to + front) / 64, whole);
-    move_field(words, from, to, front as u32);
+    move_part(words, from, to, front as u32, 0);
 }
 
 // Moves the digits from one on to so many words, the first word first.
@@ -74,8 +79,10 @@ fn move_words_down(words: &mut [u64], from: u64, place: u64, count: u64)
     requires near { from + 64 * count ≤ 2 ^ 62 }
     ensures { IsMoved words.old from (64 * place) (64 * count) words.new }
 {
-    for i in 0..count {
-        move_word(words, from + 64 * i, place + i);
+    if from % 64 == 0 {
+        copy_words(words, from / 64, place, count);
+    } else {
+        shift_words_down(words, from, place, count);
     }
 }
 
@@ -86,20 +93,86 @@ fn move_words_up(words: &mut [u64], from: u64, place: u64, count: u64)
     requires near { 64 * place + 64 * count ≤ 2 ^ 62 }
     ensures { IsMoved words.old from (64 * place) (64 * count) words.new }
 {
-    for i in 0..count {
-        let left = count - 1 - i;
-        move_word(words, from + 64 * left, place + left);
+    if from % 64 == 0 {
+        copy_words(words, from / 64, place, count);
+    } else {
+        shift_words_up(words, from, place, count);
     }
 }
 
-// Moves 64 digits to a word: it is made of two words by shifts, or of one.
-#[inline(always)]
-fn move_word(words: &mut [u64], from: u64, place: u64)
-    requires from { from + 64 ≤ 64 * length words.old }
-    requires place { place < length words.old }
-    ensures { IsMoved words.old from (64 * place) 64 words.new }
+// Moves whole words.
+fn copy_words(words: &mut [u64], start: u64, place: u64, count: u64)
+    requires from { start + count ≤ length words.old }
+    requires to { place + count ≤ length words.old }
+    ensures { IsMoved words.old (64 * start) (64 * place) (64 * count) words.new }
 {
-    words[place as usize] = field(words, from, 64);
+    words.copy_within(start as usize..(start + count) as usize, place as usize);
+}
+
+// Moves digits that begin within a word to so many words, the first word first. Each word is read once, and before it is
+// written: what was written lies in front of the word that was read last.
+fn shift_words_down(words: &mut [u64], from: u64, place: u64, count: u64)
+    requires across { 0 < from % 64 }
+    requires order { 64 * place ≤ from }
+    requires inside { from + 64 * count ≤ 64 * length words.old }
+    requires near { from + 64 * count ≤ 2 ^ 62 }
+    ensures { IsMoved words.old from (64 * place) (64 * count) words.new }
+{
+    let start = from / 64;
+    let front = from % 64;
+    let mut first = words[start as usize];
+    for i in 0..count {
+        let last = words[(start + i + 1) as usize];
+        words[(place + i) as usize] = word_across(first, last, front);
+        first = last;
+    }
+}
+
+// The same from the last word to the first: what was written lies behind the word that was read last.
+fn shift_words_up(words: &mut [u64], from: u64, place: u64, count: u64)
+    requires across { 0 < from % 64 }
+    requires order { from ≤ 64 * place }
+    requires inside { 64 * place + 64 * count ≤ 64 * length words.old }
+    requires near { 64 * place + 64 * count ≤ 2 ^ 62 }
+    ensures { IsMoved words.old from (64 * place) (64 * count) words.new }
+{
+    let start = from / 64;
+    let front = from % 64;
+    let mut last = words[(start + count) as usize];
+    let mut left = count;
+    while left > 0 {
+        left -= 1;
+        let first = words[(start + left) as usize];
+        words[(place + left) as usize] = word_across(first, last, front);
+        last = first;
+    }
+}
+
+// The 64 digits of two words that begin behind the first `front`. It is one double shift of the processor.
+#[inline(always)]
+fn word_across(first: u64, last: u64, front: u64) -> u64
+    requires some { 0 < front }
+    requires inside { front < 64 }
+    ensures { result ≡ first % 2 ^ (64 - front) * 2 ^ front + last / 2 ^ (64 - front) }
+{
+    (first << front) | (last >> (64 - front))
+}
+
+// Moves digits to others that lie in one word, in front of its last `behind`.
+#[inline(always)]
+fn move_part(words: &mut [u64], from: u64, to: u64, width: u32, behind: u32)
+    requires width { width ≤ 64 }
+    requires one { 0 < width → to % 64 + width + behind ≡ 64 }
+    requires from { from + width ≤ 64 * length words.old }
+    requires to { to + width ≤ 64 * length words.old }
+    ensures { IsMoved words.old from to width words.new }
+{
+    if width == 0 {
+        return;
+    }
+    let moved = field(words, from, width);
+    let place = (to / 64) as usize;
+    words[place] = with_field(words[place], behind, width, moved);
 }
 
 // Moves at most 64 digits.

@@ -1,13 +1,12 @@
 //! Fields that are written one behind the other.
 
-ghost use Rattle.std.specs.Prelude.{◌≡◌, ◌+◌, ◌-◌, ◌*◌, ◌%◌, ◌^◌, ◌<◌, ◌≤◌, ◌++◌, ℕ, List, length, take, map};
+ghost use Rattle.std.specs.Prelude.{◌≡◌, ◌+◌, ◌-◌, ◌*◌, ◌^◌, ◌<◌, ◌≤◌, ◌++◌, ℕ, List, length, take, map};
 ghost use Rattle.std.specs.List.{AllByRecursion as Each};
-ghost use Rattle.ph_specs.specs.Digits.{Field, field, number_after, digits_of, words_for, words_of, digits_at};
+ghost use Rattle.ph_specs.specs.Digits.{Field, field, number_after, digits_of, words_for, words_of};
 ghost use Rattle.ph_bits.specs.Block.{room_of, IsSamePlaces};
 ghost use Rattle.ph_bits.specs.Fields.{number_in};
 ghost use Rattle.ph_bits.specs.Written.{IsPen, digits_by, number_by};
 
-use crate::fields::field;
 use crate::words::Words;
 
 /// A writer of fields behind the words of a block.
@@ -73,47 +72,6 @@ impl Pen {
         }
     }
 
-    /// Writes `count` digits of other words, from digit `at` on. Fewer than 64 are one field.
-    #[inline(always)]
-    pub fn copy(&mut self, words: &mut Words, from: &[u64], at: u64, count: u64)
-        requires pen { IsPen self.old }
-        requires from { at + count ≤ 64 * length from.now }
-        requires near { at + count ≤ 2 ^ 62 }
-        requires inside { digits_by words.old.words self.old + count ≤ 64 * room_of words.old }
-        ensures pen { IsPen self.new }
-        ensures digits { digits_by words.new.words self.new ≡ digits_by words.old.words self.old + count }
-        ensures number { number_by words.new.words self.new ≡ number_by words.old.words self.old * 2 ^ count + digits_at from.now at count }
-        ensures places { IsSamePlaces words.old words.new }
-    {
-        if count < 64 {
-            let width = count as u32;
-            self.put(words, width, field(from, at, width));
-        } else {
-            self.copy_words(words, from, at, count);
-        }
-    }
-
-    // Writes `count` digits of other words: those that fill the word begun, then whole words, then what is left.
-    fn copy_words(&mut self, words: &mut Words, from: &[u64], at: u64, count: u64)
-        requires pen { IsPen self.old }
-        requires many { 64 ≤ count }
-        requires from { at + count ≤ 64 * length from.now }
-        requires near { at + count ≤ 2 ^ 62 }
-        requires inside { digits_by words.old.words self.old + count ≤ 64 * room_of words.old }
-        ensures pen { IsPen self.new }
-        ensures digits { digits_by words.new.words self.new ≡ digits_by words.old.words self.old + count }
-        ensures number { number_by words.new.words self.new ≡ number_by words.old.words self.old * 2 ^ count + digits_at from.now at count }
-        ensures places { IsSamePlaces words.old words.new }
-    {
-        let front = self.room % 64;
-        self.put(words, front, field(from, at, front));
-        let begin = at + front as u64;
-        let whole = (count - front as u64) / 64;
-        extend_from(words, from, begin, whole as usize);
-        let rest = ((count - front as u64) % 64) as u32;
-        self.put(words, rest, field(from, begin + 64 * whole, rest));
-    }
-
     /// Ends a table of fields that began at a new word: its last word is filled up with zeros.
     pub fn finish(self, words: &mut Words)
         requires pen { IsPen self }
@@ -142,30 +100,6 @@ impl Pen {
         if self.room < 64 {
             words.push(self.kept << self.room);
         }
-    }
-}
-
-// Writes so many words of digits of other words, from digit `at` on, behind the words of a block.
-#[inline(always)]
-fn extend_from(words: &mut Words, from: &[u64], at: u64, count: usize)
-    requires from { at + 64 * count ≤ 64 * length from.now }
-    requires near { at ≤ 2 ^ 62 }
-    requires room { length words.old.words + count ≤ room_of words.old }
-    ensures length { length words.new.words ≡ length words.old.words + count }
-    ensures number { number_in words.new.words ≡ number_in words.old.words * 2 ^ (64 * count) + digits_at from.now at (64 * count) }
-    ensures places { IsSamePlaces words.old words.new }
-{
-    are_words(from);
-    let place = (at / 64) as usize;
-    let shift = (at % 64) as u32;
-    if shift == 0 {
-        words.extend(&from[place..place + count]);
-    } else if count > 0 {
-        words.extend_shifted(
-            &from[place..place + count],
-            &from[place + 1..place + 1 + count],
-            64 - shift,
-        );
     }
 }
 

@@ -6,7 +6,6 @@ ghost use base.Fml.{ftrue};
 ghost use denote.RawPtr.{Ptr};
 ghost use Rattle.ph_bits.specs.Memory.{block_owns, block_lent, right_owns};
 ghost use Rattle.ph_bits.specs.Slots.{AreWritten, words_at, words_in};
-ghost use Rattle.ph_bits.specs.Written.{shifted};
 
 use crate::NoMemory;
 use std::alloc::Allocator;
@@ -73,33 +72,6 @@ impl Places {
     {
         for i in 0..more.len() {
             self.write(start, len + i, more[i]);
-        }
-    }
-
-    // Writes words that begin with the last `behind` digits of some words and end with the first digits of others, behind
-    // those of the first `len` places.
-    pub(crate) fn extend_shifted(
-        &mut self,
-        start: Start,
-        len: usize,
-        first: &[u64],
-        second: &[u64],
-        behind: u32,
-    )
-        requires start { start.at ≡ self.old.at }
-        requires behind { (0 < behind) × (behind < 64) }
-        requires same { length second.now ≡ length first.now }
-        requires written { AreWritten len self.old.slots }
-        requires room { len + length first.now ≤ length self.old.slots }
-        requires small { length self.old.slots < 2 ^ 32 }
-        ensures start { self.new.at ≡ self.old.at }
-        ensures room { length self.new.slots ≡ length self.old.slots }
-        ensures written { AreWritten (len + length first.now) self.new.slots }
-        ensures words { words_at (len + length first.now) self.new.slots ≡ words_at len self.old.slots ++ shifted behind first.now second.now }
-    {
-        for i in 0..first.len() {
-            let word = (second[i] >> behind) + ((first[i] << 1) << (63 - behind));
-            self.write(start, len + i, word);
         }
     }
 

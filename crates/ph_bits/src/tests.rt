@@ -349,7 +349,7 @@ fn digits_moved_down_and_up(rt: HostRuntime) {
     for i in 0..6u64 {
         for j in 0..6u64 {
             for k in 0..12u64 {
-                let (low, more, len) = (13 * i, 17 * j, 9 * k);
+                let (low, more, len) = (3 * i, 16 * j, 14 * k);
                 assert!(rt;
                     is_moved_both_ways(low, more, len),
                     "{len} digits by {more} at {low}"

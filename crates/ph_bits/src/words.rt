@@ -3,7 +3,6 @@
 ghost use Rattle.std.specs.Prelude.{◌≡◌, ◌+◌, ◌-◌, ◌<◌, ◌≤◌, ◌^◌, ◌∷◌, ◌++◌, [], length, take, replicate, slice_index_or, slice_set, IfOk};
 ghost use Rattle.std.specs.List.{remove};
 ghost use Rattle.ph_bits.specs.Block.{room_of, zeros, empty, IsSamePlaces};
-ghost use Rattle.ph_bits.specs.Written.{shifted};
 ghost use Rattle.ph_bits.specs.Parts.{IsBlock, block_of};
 
 use crate::NoMemory;
@@ -157,20 +156,6 @@ impl Words {
     {
         self.places.extend(self.start, self.len as usize + 1, more);
         self.len += more.len() as u32;
-    }
-
-    /// Writes words behind the others that begin with the last `behind` digits of some words and end with the first digits of
-    /// others.
-    pub(crate) fn extend_shifted(&mut self, first: &[u64], second: &[u64], behind: u32)
-        requires behind { (0 < behind) × (behind < 64) }
-        requires same { length second.now ≡ length first.now }
-        requires room { length self.old.words + length first.now ≤ room_of self.old }
-        ensures words { self.new.words ≡ self.old.words ++ shifted behind first.now second.now }
-        ensures places { IsSamePlaces self.old self.new }
-    {
-        self.places
-            .extend_shifted(self.start, self.len as usize + 1, first, second, behind);
-        self.len += first.len() as u32;
     }
 
     /// Takes a word out. Those behind it move up, and its place stays free behind them.

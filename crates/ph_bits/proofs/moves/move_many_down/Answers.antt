@@ -4,9 +4,11 @@ use Rattle.ph_bits.proofs.MovedRuns.{moved-down, moved-equal}
 use Rattle.ph_bits.proofs.moves.move_many_down.Goals as goal
 
 -- the three parts, the first of which ends where a word ends
-all : (old first mid new : List ℕ) (from to len front whole : ℕ) → length first ≡ length old → length mid ≡ length old → length new ≡ length old → to ≤ from → from + len ≤ 64 * length old
+all : (old first mid new : List ℕ) (from to len front whole : ℕ) → length first ≡ length old →
+    length mid ≡ length old → length new ≡ length old → to ≤ from → from + len ≤ 64 * length old
     → front + 64 * whole ≤ len → 64 * ((to + front) / 64) ≡ to + front
-    → IsMoved old from to front first → IsMoved first (from + front) (64 * ((to + front) / 64)) (64 * whole) mid → IsMoved mid (from + (front + 64 * whole)) (to + (front + 64 * whole)) (len - (front + 64 * whole)) new
+    → IsMoved old from to front first → IsMoved first (from + front) (64 * ((to + front) / 64)) (64 * whole) mid →
+    IsMoved mid (from + (front + 64 * whole)) (to + (front + 64 * whole)) (len - (front + 64 * whole)) new
     → IsMoved old from to len new
 all old first mid new from to len front whole e f g o l m w p q r =
     let two : IsMoved old from to (front + 64 * whole) mid =
@@ -21,7 +23,8 @@ returns c =
     let whole : ℕ = (c.args.len - (64 - c.args.to % 64) % 64) / 64 in
     let w : 64 * ((c.args.to + (64 - c.args.to % 64) % 64) / 64) ≡ c.args.to + (64 - c.args.to % 64) % 64 = omega arith in
     let m : (64 - c.args.to % 64) % 64 + 64 * ((c.args.len - (64 - c.args.to % 64) % 64) / 64) ≤ c.args.len = omega (arith, c.requires.many) in
-    let e = c.move_field.auto.words in
+    let e = c.move_part.auto.words in
     let f = c.move_words_down.auto.words ∙ e in
-    all c.args.words.now c.move_field.new.words c.move_words_down.new.words c.move_field-2.new.words c.args.from c.args.to c.args.len front whole e f (c.move_field-2.auto.words ∙ f)
-    c.requires.order c.requires.inside m w c.move_field.ensures c.move_words_down.ensures c.move_field-2.ensures
+    all c.args.words.now c.move_part.new.words c.move_words_down.new.words c.move_part-2.new.words c.args.from
+    c.args.to c.args.len front whole e f (c.move_part-2.auto.words ∙ f)
+    c.requires.order c.requires.inside m w c.move_part.ensures c.move_words_down.ensures c.move_part-2.ensures

@@ -1,5 +1,11 @@
 -- `as_mut_slice` lends the values, and the owner follows them. Assumes `Logic`.
-use Rattle.ph_bits.proofs.Walks.{behind, agg, and_then, no_more, sets_last, ◌≡◌, ℕ, ◌+◌, ◌*◌, ◌^◌, ◌<◌, List, [], ◌∷◌, refl, sym, subst, ◌∙◌, arith, length, proved, full_share, id⊢, ftrue, fat, flft, fsep, named, w64, Val, fact, tables, ‵, raw, ◌⊛◌, at_ret, ◌$◌, ◌∵◌, !, qed, done, move, keep, use1, split, join, group, fsplit, fsplit3, fjoin, flt_l, flt_i, rewrite, suffices, frame, whole, sub, enter, of_opd, bin, lit, stop, fld, first, blocks, exec, returns, take_at, give_at, layout, word, word-Good, alloc_all, pass_all, free_all, look_at, get, get_in, sets, env, usize, yes, no, uint_vals, uint_Tells, Ptr, block_ptr, in_a_block, owns, MutRef, mut_vals, mut_Tells, plain, nothing, opens, heard, Stays, walk_of, says, stay_dropped, Goes-dropped, ends_at, after}
+use Rattle.ph_bits.proofs.Walks.{behind, agg, and_then, no_more, sets_last, ◌≡◌, ℕ, ◌+◌, ◌*◌, ◌^◌, ◌<◌, List, [], ◌∷◌, refl, sym, subst, ◌∙◌}
+use Rattle.ph_bits.proofs.Walks.{arith, length, proved, full_share, id⊢, ftrue, fat, flft, fsep, named, w64, Val, fact, tables, ‵, raw, ◌⊛◌}
+use Rattle.ph_bits.proofs.Walks.{at_ret, ◌$◌, ◌∵◌, !, qed, done, move, keep, use1, split, join, group, fsplit, fsplit3, fjoin, flt_l, flt_i}
+use Rattle.ph_bits.proofs.Walks.{rewrite, suffices, frame, whole, sub, enter, of_opd, bin, lit, stop, fld, first, blocks, exec, returns, take_at}
+use Rattle.ph_bits.proofs.Walks.{give_at, layout, word, word-Good, alloc_all, pass_all, free_all, look_at, get, get_in, sets, env, usize, yes, no}
+use Rattle.ph_bits.proofs.Walks.{uint_vals, uint_Tells, Ptr, block_ptr, in_a_block, owns, MutRef, mut_vals, mut_Tells, plain, nothing, opens}
+use Rattle.ph_bits.proofs.Walks.{heard, Stays, walk_of, says, stay_dropped, ends_at, after}
 use base.Fml.{Fml, GName}
 use base.Logic.{ent, sep}
 use contract.BorrowLft.{◌⊑◌}
@@ -12,13 +18,13 @@ use lib.Seq.{take_at as take_front}
 use Rattle.std.specs.List.{refill}
 use Rattle.ph_bits.specs.Kids.{IsWord}
 use denote.Memory.{mem, cell_at, part_of}
-use denote.Param.{param, layouts}
+use denote.Param.{param}
 use denote.Ref.{MutBor}
 use denote.RattleType.{RattleType}
 use denote.Signature.{mut_ref_to}
 use denote.Triple.Walked.{Goes-spent_ref}
 use mir.MapTy.{inst_fn}
-use mir.Syntax.{Fn, Args, a_type}
+use mir.Syntax.{Fn}
 use seplogic.Ra.Ura.{Ura}
 use types.Kit.{some, later, await, pick, fpack}
 use types.Logic.{Logic, sem}
@@ -30,7 +36,7 @@ use Rattle.ph_bits.specs.contracts.places.Start.{the_row as S}
 use Rattle.ph_bits.proofs.places.Start.TheLaws.{lowers}
 use Rattle.ph_bits.proofs.kids.Kids.as_mut_slice.Statement.{statement}
 use Rattle.ph_bits.proofs.kids.Kids.as_mut_slice.Code as code
-use Rattle.ph_bits.proofs.KidSteps.{Mark, to_cells, of_cells}
+use Rattle.ph_bits.proofs.KidSteps.{Mark, to_cells, of_cells, at_type, words_stay, words_go}
 
 module _ (R : RattleType) (h : IsWord R) {M : Type 1} {𝓤 : Ura M} (𝓛 : Logic 𝓤) where
   abbrev Row : RattleType
@@ -59,25 +65,29 @@ module _ (R : RattleType) (h : IsWord R) {M : Type 1} {𝓤 : Ura M} (𝓛 : Log
 pub as_mut_slice_spec : {M : Type 1} → statement M
 as_mut_slice_spec 𝓤 𝓛 𝓜 𝓡 wired X LX =
     let T = f.ended X in let c = f.clauses X 𝓛 𝓜.mem 𝓡.returns in
-    let R : RattleType = param 0 X in
-    let Kr : RattleType = K.the_row R in
-    let args : Args = layouts (a_type ∷ []) (X, tt) in
-    let function : Fn = inst_fn args code.function in
-    let stayed : Stays T.signature.params T.kept = (stay_dropped (mut_ref_to (0 ∷ []) tt (plain (λ _. Kr))) no, (stay_dropped (plain (λ _. S)) yes, (stay_dropped (plain (λ _. usize)) yes, (stay_dropped (plain (λ _. usize)) yes, tt)))) in
+    let R : RattleType = param 0 X in let Kr : RattleType = K.the_row R in
+    let function : Fn = inst_fn (at_type X) code.function in
+    let stayed : Stays T.signature.params T.kept = (stay_dropped (mut_ref_to (0 ∷ []) tt (plain (λ _. Kr))) no, words_stay) in
     let W = walk_of 𝓛 T stayed c in let 𝓣 = tables 𝓤 𝓛.H 𝓜 𝓡 𝓡.env in
-    proved 𝓛 T stayed c 𝓜 𝓡
-    (Goes-spent_ref 𝓛 2 (0 ∷ []) tt (plain (λ _. Kr)), (Goes-dropped 𝓛 2 (plain (λ _. S)) yes (λ κs x w. refl), (Goes-dropped 𝓛 2 (plain (λ _. usize)) yes (λ κs x w. refl), (Goes-dropped 𝓛 2 (plain (λ _. usize)) yes (λ κs x w. refl), tt))))
-    (f.Key.name args) function (code.unfolded 𝓤 𝓛.H 𝓜 𝓡 wired (X, tt))
+    proved 𝓛 T stayed c 𝓜 𝓡 (Goes-spent_ref 𝓛 2 (0 ∷ []) tt (plain (λ _. Kr)), words_go 𝓛)
+    (f.Key.name (at_type X)) function (code.unfolded 𝓤 𝓛.H 𝓜 𝓡 wired (X, tt))
     (λ κs. (mut_vals, ((λ s. lowers.lowered s ∷ []), (uint_vals w64, (uint_vals w64, tt)))))
     (λ κs. (mut_Tells (named 0) κs.0 Kr, (lowers.val_is, (uint_Tells w64, (uint_Tells w64, tt))))) (λ κs qs bounds a _ are.
-    let κ = κs.0 in let q = qs.0 in let rb = a.0.ref_ptr.0 in let ro = a.0.ref_ptr.1 in let γ = a.0.ghost_name in let d = a.0.now in let start = a.1.0 in let from = a.1.1.0 in let len = a.1.1.1.0 in
+    let κ = κs.0 in let q = qs.0 in let rb = a.0.ref_ptr.0 in let ro = a.0.ref_ptr.1 in let γ = a.0.ghost_name in
+    let d = a.0.now in let start = a.1.0 in let from = a.1.1.0 in let len = a.1.1.1.0 in
     let vss : List Val × (List Val × (List Val × (List Val × Unit {0}))) = (mut_vals a.0, (lowers.lowered start ∷ [], (uint_vals w64 from, (uint_vals w64 len, tt)))) in
     let y : W.Ghost = ((κs, qs, bounds, a, vss), tt) in
     let others = ‵ (flft κs.1.0 qs.1.0) ⊛ ‵ ftrue in
     let xs : List R.Denot = d.items in
-    qed 𝓛 (((‵ (flft κ q) ⊛ others) ⊛ ‵ (owns (MutRef (named 0) κ Kr ∷ S ∷ usize ∷ usize ∷ []) a vss)) ∷ (raw (fact 𝓤 (κs.1.0 ⊑ X.lives)) ⊛ raw (fact 𝓤 ((start.at ≡ d.at) × (from ≡ d.from) × (len ≡ length d.items) × IsWord R))) ∷ []) ∵
+    qed 𝓛 (((‵ (flft κ q) ⊛ others) ⊛ ‵ (owns (MutRef (named 0) κ Kr ∷ S ∷ usize ∷ usize ∷ []) a vss)) ∷
+    (raw (fact 𝓤 (κs.1.0 ⊑ X.lives)) ⊛ raw
+    (fact 𝓤 ((start.at ≡ d.at) × (from ≡ d.from) × (len ≡ length d.items) × IsWord R))) ∷ []) ∵
     move ! (1 ∷ []) $ split ! $ heard ! _ (λ within. heard ! _ (λ asked. split ! $ split ! $ move ! (2 ∷ []) $ fsplit ! $ fsplit3 ! $ keep ! (1 ∷ 2 ∷ 4 ∷ 5 ∷ []) $
-    enter ! _ _ _ _ _ $ alloc_all ! (λ l. pass_all ! refl ((tt, tt), (word-Good [] start.at, ((tt, record { fits = are.1.1.0.1 }), ((tt, record { fits = are.1.1.1.0.1 }), tt)))) $
+    enter ! _ _ _ _ _ $ alloc_all !
+    (λ l. pass_all ! refl (
+      (tt, tt),
+      (word-Good [] start.at, ((tt, record { fits = are.1.1.0.1 }), ((tt, record { fits = are.1.1.1.0.1 }), tt))),
+    ) $
     opens ! tt Kr {h = d} rb ro (λ vs. move ! (1 ∷ []) $ fsplit ! $ move ! (1 ∷ []) $
     in_a_block ! d.at (λ p. kids_own R p d.from d.items) (id⊢ 𝓤 _) (λ b o e. fsplit ! $ flt_l ! (λ small.
     let h : IsWord R = asked.3 in
@@ -96,13 +106,16 @@ as_mut_slice_spec 𝓤 𝓛 𝓜 𝓡 wired X LX =
     rewrite ! 0 (λ k. ‵ (kids R b k xs)) there refl $ use1 𝓛 (‵ (cells (mem R) xs b place)) (to_cells R h 𝓛 b xs place) $
     sets ! (of_opd ! (get ! refl)) refl (tt, tt) $
     sets_last ! (agg ! (and_then ! (get ! refl) (and_then ! (get ! refl) (no_more !)))) refl (tt, (tt, (record { fits = are.1.1.1.0.1 }, tt))) $
-    exec ! 𝓣.C 𝓣.Λ (env function.locals l) (after 1 function.body) (at_ret _ (W.post y)) $ sets ! (of_opd ! (get ! refl)) refl (tt, (tt, (record { fits = are.1.1.1.0.1 }, tt))) $
+    exec ! 𝓣.C 𝓣.Λ (env function.locals l) (after 1 function.body) (at_ret _ (W.post y)) $ sets !
+    (of_opd ! (get ! refl)) refl (tt, (tt, (record { fits = are.1.1.1.0.1 }, tt))) $
     move ! (1 ∷ 2 ∷ []) $ fjoin ! $ move ! (2 ∷ 3 ∷ 4 ∷ 1 ∷ 0 ∷ []) $ group ! 5 $
     use1 𝓛 (later (some (λ (δ : GName). raw (Elements 𝓛 Kr R new' (named 0) κ q rb ro b place γ xs (roomy, fitting) (sem 𝓛 rest) way δ))))
     (lends_Elements 𝓛 Kr R new' (named 0) κ q rb ro b place γ xs (roomy, fitting) (sem 𝓛 rest) way (Kr.coded.code d) (Kr.coded.code d)) $ await ! tt $ pick ! (λ δ.
     let r : MutBor (List R.Denot) = record { ref_ptr = (b, place); ghost_name = δ; now = xs } in
     returns ! (look_at ! 0 refl) $ free_all ! refl $ keep ! (0 ∷ 1 ∷ []) $
     use1 𝓛 (‵ ((MutSlice (named 0) κ R).own_val r (slice_val (b, place) (length xs) ∷ [])) ⊛ (‵ (flft κ q) ⊛ ‵ (follows Kr (Array R 0) γ δ new'))) (id⊢ 𝓤 _) $ split ! $
-    rewrite ! 0 (λ (k : ℕ). ‵ ((MutSlice (named 0) κ R).own_val r (slice_val (b, place) k ∷ []))) (sym asked.2) refl $ move ! (1 ∷ []) $ split ! $ move ! (2 ∷ 0 ∷ 1 ∷ []) $
+    rewrite ! 0 (λ (k : ℕ). ‵ ((MutSlice (named 0) κ R).own_val r (slice_val (b, place) k ∷ []))) (sym asked.2) refl $
+    move ! (1 ∷ []) $ split ! $ move ! (2 ∷ 0 ∷ 1 ∷ []) $
     suffices ! _ (ends_at 𝓛 T stayed c y (slice_val (b, place) len) r (tt, (tt, (tt, (tt, tt)))) (tt, (tt, (tt, (tt, tt))))) $
-    nothing ! $ nothing ! $ fjoin ! $ nothing ! $ fjoin ! $ nothing ! $ fjoin ! $ nothing ! $ fjoin ! $ join ! $ move ! (1 ∷ 3 ∷ []) $ join ! $ join ! $ frame ! $ says ! refl $ done !))))))))
+    nothing ! $ nothing ! $ fjoin ! $ nothing ! $ fjoin ! $ nothing ! $ fjoin ! $ nothing ! $ fjoin ! $ join ! $ move
+    ! (1 ∷ 3 ∷ []) $ join ! $ join ! $ frame ! $ says ! refl $ done !))))))))

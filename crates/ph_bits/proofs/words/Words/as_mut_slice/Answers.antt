@@ -24,7 +24,11 @@ returns c =
     let h = c.self.invariant.written in (
       (
         refl,
-        λ w. (λ j. record { words = in-lent n cs w h.0 j; spare = c.self.inside.room - n; heap = c.self.inside.alloc }) ∙ ap (λ (b : Block). with_slice b w) c.self.view_is,
+        λ w. (λ j. record {
+          words = in-lent n cs w h.0 j;
+          spare = c.self.inside.room - n;
+          heap = c.self.inside.alloc;
+        }) ∙ ap (λ (b : Block). with_slice b w) c.self.view_is,
       ),
       record { lends = tt; words = c.words_mut.ensures.words ∙ ap (λ (b : Block). b.words) c.self.view_is },
     )
