@@ -1,5 +1,6 @@
 -- Places of addresses that rise.
-use Rattle.std.proofs.Common.{◌≡◌, ◌≢◌, ℕ, ◌+◌, ◌-◌, ◌*◌, ◌/◌, ◌%◌, ◌^◌, ◌<◌, ◌≤◌, refl, sym, ◌∙◌, ap, arith, List, length, Bool, true, false, slice_index_or, inl, inr, lt-ltb, le-ltb, ne_eqb, eq-eqb, eqb-true, bit_and}
+use Rattle.std.proofs.Common.{◌≡◌, ◌≢◌, ℕ, ◌+◌, ◌-◌, ◌*◌, ◌/◌, ◌%◌, ◌^◌, ◌<◌, ◌≤◌, refl, sym, ◌∙◌, ap, arith, List, length, Bool}
+use Rattle.std.proofs.Common.{true, false, slice_index_or, inl, inr, lt-ltb, le-ltb, ne_eqb, eq-eqb, eqb-true, bit_and}
 use Rattle.std.specs.Prelude.{Some, None, position, ◌==◌, nat_le, count_by}
 use Rattle.std.specs.List.{position_or_len, AllByRecursion as Each}
 use Rattle.std.proofs.lemmas.List.Sums.{position_or_len_is, fails_before_first, passes_at_first}
@@ -14,7 +15,7 @@ use Rattle.ph_specs.specs.Layout.{IsRecord, entries_as, read_address}
 use Rattle.ph_specs.proofs.laws.WordDigits.{digits-within}
 use Rattle.ph_linear.specs.Linear.{kinds, addresses, bodies}
 use Rattle.ph_linear.proofs.Columns.{length-kinds, length-addresses, address-digits}
-use Rattle.ph_linear.proofs.Entries.{split, rises-less, rises-most, position-read}
+use Rattle.ph_linear.proofs.Entries.{split, rises-less, rises-most, place-read, position-read}
 use Rattle.ph_specs.proofs.lemmas.ReadColumns.{length-parts}
 
 pub rise : (dims : ℕ) (words : List ℕ) → IsRecord false dims words → rises_from 0 (addresses dims words) ≡ true
@@ -37,7 +38,8 @@ one-of dims words low high x i r h l o e b =
     let g : 64 + (first_in words).entries + low * dims + i * dims ≡ 64 + (first_in words).entries + (low + i) * dims = omega arith in
     ap (λ t. t / 2 ^ (dims * (high - low - 1 - i)) % 2 ^ dims) e
     ∙ ap (λ t. digits_at words at ((high - low) * dims) / 2 ^ t % 2 ^ dims) f
-    ∙ digits-within words at ((high - low) * dims) (i * dims) dims (inside n dims (first_in words).level (length words) low high l o (omega (arith, r.long))) (within i (high - low) dims b)
+    ∙ digits-within words at ((high - low) * dims) (i * dims) dims
+    (inside n dims (first_in words).level (length words) low high l o (omega (arith, r.long))) (within i (high - low) dims b)
     ∙ ap (λ t. digits_at words t dims) g
     ∙ sym (address-digits dims words (low + i) r h (omega (arith, b, l)))
   where
@@ -50,22 +52,26 @@ one-of dims words low high x i r h l o e b =
 
     inside : (n d b len low high : ℕ) → high ≤ n → low ≤ high → 1 + words_for (linear_digits d b n) ≤ len → 64 + n + low * d + (high - low) * d ≤ 64 * len
     inside n d b len low high l o m =
-        let p : low * d + (high - low) * d ≡ high * d = let k : low + (high - low) ≡ high = omega (arith, o) in let q : (low + (high - low)) * d ≡ high * d = ap (λ t. t * d) k in omega (arith, q) in
+        let p : low * d + (high - low) * d ≡ high * d = let k : low + (high - low) ≡ high = omega (arith, o) in
+        let q : (low + (high - low)) * d ≡ high * d = ap (λ t. t * d) k in omega (arith, q) in
         let u : d * high ≤ d * n = mul-le-mul_left d l in
         omega (arith, p, u, m)
 
 -- the same address, or none
 pub found : (xs : List ℕ) (a i : ℕ) → rises_from 0 xs ≡ true → i < length xs → slice_index_or xs i 0 ≡ a → Some i ≡ position (λ x. x == a) xs
 found xs a i e l h =
-    let p : position_or_len (λ x. x == a) xs ≡ i = position_or_len_is (λ x. x == a) xs i 0 (omega (arith, l)) (λ k b. ne_eqb (slice_index_or xs k 0) a (other k b)) (λ _. eq-eqb (slice_index_or xs i 0) a h) in
+    let p : position_or_len (λ x. x == a) xs ≡ i = position_or_len_is (λ x. x == a) xs i 0 (omega (arith, l))
+    (λ k b. ne_eqb (slice_index_or xs k 0) a (other k b)) (λ _. eq-eqb (slice_index_or xs i 0) a h) in
     rw (p, lt-ltb i (length xs) l) refl
   where
     other : (k : ℕ) → k < i → slice_index_or xs k 0 ≢ a
     other k b f = omega (arith, rises-less 0 xs k i e b l, f, h)
 
-pub missed : (xs : List ℕ) (a i : ℕ) → rises_from 0 xs ≡ true → i ≡ position_or_len (λ x. nat_le a x) xs → (i < length xs → slice_index_or xs i 0 ≢ a) → None ≡ position (λ x. x == a) xs
+pub missed : (xs : List ℕ) (a i : ℕ) → rises_from 0 xs ≡ true → i ≡ position_or_len (λ x. nat_le a x) xs →
+    (i < length xs → slice_index_or xs i 0 ≢ a) → None ≡ position (λ x. x == a) xs
 missed xs a i e is n =
-    let p : position_or_len (λ x. x == a) xs ≡ length xs = position_or_len_is (λ x. x == a) xs (length xs) 0 (omega arith) (λ k l. ne_eqb (slice_index_or xs k 0) a (other k l)) (λ l. absurd (omega (arith, l))) in
+    let p : position_or_len (λ x. x == a) xs ≡ length xs = position_or_len_is (λ x. x == a) xs (length xs) 0
+    (omega arith) (λ k l. ne_eqb (slice_index_or xs k 0) a (other k l)) (λ l. absurd (omega (arith, l))) in
     rw (p, le-ltb (length xs) (length xs) (omega arith)) refl
   where
     other : (k : ℕ) → k < length xs → slice_index_or xs k 0 ≢ a
@@ -90,10 +96,20 @@ next_none p xs i e l = rw (← e, le-ltb i (length xs) l) refl
 -- a place among the addresses is a place among the entries
 pub place-entries : (p : ℕ → Bool) (dims : ℕ) (words : List ℕ) → position (λ r. p (read_address r)) (entries_as false dims words) ≡ position p (addresses dims words)
 place-entries p dims words =
-    position-read p (kinds dims words) (addresses dims words) (bodies dims words) (length-addresses dims words ∙ sym (length-kinds dims words)) (length-parts (first_in words).entries dims _ ∙ sym (length-kinds dims words))
+    position-read p (kinds dims words) (addresses dims words) (bodies dims words)
+    (length-addresses dims words ∙ sym (length-kinds dims words))
+    (length-parts (first_in words).entries dims _ ∙ sym (length-kinds dims words))
+
+pub place-there : (p : ℕ → Bool) (d : ℕ) (words : List ℕ) → position_or_len (λ r. p (read_address r)) (entries_as false d words) ≡ position_or_len p (addresses d words)
+place-there p d words =
+    place-read p (kinds d words) (addresses d words) (bodies d words)
+    (length-addresses d words ∙ sym (length-kinds d words))
+    (length-parts (first_in words).entries d _ ∙ sym (length-kinds d words))
 
 -- what stands at the place of an address
-pub at-place : (dims : ℕ) (words : List ℕ) (a i : ℕ) → position (λ r. read_address r == a) (entries_as false dims words) ≡ Some i → (i < (first_in words).entries) × (slice_index_or (addresses dims words) i 0 ≡ a)
+pub at-place : (dims : ℕ) (words : List ℕ) (a i : ℕ) →
+    position (λ r. read_address r == a) (entries_as false dims words) ≡ Some i → (i < (first_in words).entries) ×
+    (slice_index_or (addresses dims words) i 0 ≡ a)
 at-place dims words a i e =
     let h = position-Some (λ x. x == a) (addresses dims words) i 0 (sym (place-entries (λ x. x == a) dims words) ∙ e) in
     (omega (arith, h.0, length-addresses dims words), eqb-true _ _ h.1)

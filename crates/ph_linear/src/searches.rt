@@ -32,9 +32,38 @@ pub fn search(words: &[u64], dims: usize, addr: u32) -> Result<usize, usize>
 {
     // The most common number of entries is told apart, so that its search is compiled without a loop.
     match count_in(words) {
-        2 => search_among(words, dims, 2, addr),
+        2 => search_two(words, dims, addr),
         count => search_among(words, dims, count, addr),
     }
+}
+
+// The same among two addresses, without a jump that depends on the first: only the one that may be it is compared with it.
+#[inline(always)]
+fn search_two(words: &[u64], dims: usize, addr: u32) -> Result<usize, usize>
+    requires record { IsRecord false dims words.now }
+    requires two { 2 ≡ (first_in words.now).entries }
+    ensures found { IfOk result (λ i. Some i ≡ position (λ r. read_address r == addr) (entries_as false dims words.now)) }
+    ensures absent { IfErr result (λ i. None ≡ position (λ r. read_address r == addr) (entries_as false dims words.now)) }
+    ensures place { IfErr result (λ i. i ≡ position_or_len (λ r. nat_le addr (read_address r)) (entries_as false dims words.now)) }
+{
+    let first = address_at(words, dims, 2, 0);
+    let i = one_if_less(first, addr as u64);
+    let there = address_at(words, dims, 2, i);
+    if there == addr as u64 {
+        return Ok(i as usize);
+    }
+    let behind = one_if_less(there, addr as u64);
+    Err((i + behind) as usize)
+}
+
+// 1 where a number is less than another, and else 0.
+#[inline(always)]
+fn one_if_less(x: u64, y: u64) -> u64
+    ensures less { x < y → result ≡ 1 }
+    ensures more { y ≤ x → result ≡ 0 }
+    ensures limit { result ≤ 1 }
+{
+    (x < y) as u64
 }
 
 // The same among the addresses of so many entries.

@@ -35,14 +35,20 @@ use Rattle.ph_node.proofs.Parts.{AreApart, apart, apart-place, child-kept}
 abbrev pub pair_entries : ℕ → List ℕ → What → List ℕ → ℕ → List Entry
 pair_entries place xs w ys v = inserted (entry_below place ys (value v)) (entry_below place xs w ∷ [])
 
-flats-pair : (place : ℕ) (xs ys : List ℕ) (w : What) (v : ℕ) → in_order (below_flat place xs (value_of w)) (below_flat place ys (Some v)) ≡ map flat_of (pair_entries place xs w ys v)
+flats-pair : (place : ℕ) (xs ys : List ℕ) (w : What) (v : ℕ) →
+    in_order (below_flat place xs (value_of w)) (below_flat place ys (Some v)) ≡ map flat_of (pair_entries place xs w ys v)
 flats-pair place xs ys w v =
-    elim (nat_lt (body_address place ys) (body_address place xs)) as (λ b. (if b then below_flat place ys (Some v) ∷ below_flat place xs (value_of w) ∷ [] else below_flat place xs (value_of w) ∷ below_flat place ys (Some v) ∷ [])
-    ≡ map flat_of (if b then entry_below place ys (value v) ∷ entry_below place xs w ∷ [] else entry_below place xs w ∷ entry_below place ys (value v) ∷ [])) [ true ↦ refl | false ↦ refl ]
+    elim (nat_lt (body_address place ys) (body_address place xs))
+    as (λ b. (if b then below_flat place ys (Some v) ∷ below_flat place xs (value_of w) ∷ [] else
+    below_flat place xs (value_of w) ∷ below_flat place ys (Some v) ∷ [])
+    ≡ map flat_of (if b then entry_below place ys (value v) ∷ entry_below place xs w ∷ [] else
+    entry_below place xs w ∷ entry_below place ys (value v) ∷ [])) [ true ↦ refl | false ↦ refl ]
 
 nodes-pair : (place : ℕ) (xs ys : List ℕ) (w : What) (v : ℕ) → nodes_held (pair_entries place xs w ys v) ≡ held_nodes w
 nodes-pair place xs ys w v =
-    elim (nat_lt (body_address place ys) (body_address place xs)) as (λ b. nodes_held (if b then entry_below place ys (value v) ∷ entry_below place xs w ∷ [] else entry_below place xs w ∷ entry_below place ys (value v) ∷ []) ≡ held_nodes w) [ true ↦ alone w | false ↦ alone w ]
+    elim (nat_lt (body_address place ys) (body_address place xs))
+    as (λ b. nodes_held (if b then entry_below place ys (value v) ∷ entry_below place xs w ∷ [] else
+    entry_below place xs w ∷ entry_below place ys (value v) ∷ []) ≡ held_nodes w) [ true ↦ alone w | false ↦ alone w ]
   where
     alone : (w : What) → held_nodes w ++ [] ≡ held_nodes w
     alone (value v) = refl
@@ -55,7 +61,8 @@ no-children : (w : What) (place : ℕ) → IsBelow place w → place ≡ 0 → l
 no-children (value v) place h z = refl
 no-children (node n) place h z = absurd (omega (arith, h, z))
 
-module _ (d : ℕ) (ws : List ℕ) (ns : List PlainNode) (t : PlainNode) (o : IsOld d ws ns t) (i : ℕ) (old : OldEntry) (r : IsOldEntry d t i old) (l : i < length (entries t)) where
+module _ (d : ℕ) (ws : List ℕ) (ns : List PlainNode) (t : PlainNode) (o : IsOld d ws ns t) (i : ℕ) (old : OldEntry)
+    (r : IsOldEntry d t i old) (l : i < length (entries t)) where
   body-was : IsBody d t.level (body_at (entries t) i)
   body-was = kept-body d t.level 0 (entries t) i o.kept.rise l
 
@@ -71,9 +78,13 @@ module _ (d : ℕ) (ws : List ℕ) (ns : List PlainNode) (t : PlainNode) (o : Is
 
     pub addresses_differ : body_address place (take d old.body) ≢ body_address place (take d body)
     addresses_differ =
-        subst (λ u. body_address place u ≢ body_address place (take d body)) r.body (other_address place (body_at (entries t) i) (take d body) (omega (arith, body-was.0, b.fields.0)) two.agree two.differ)
+        subst (λ u. body_address place u ≢ body_address place (take d body)) r.body
+        (other_address place (body_at (entries t) i) (take d body) (omega (arith, body-was.0, b.fields.0))
+        two.agree two.differ)
 
-    pub child_new : IsBelow (part_place t i (take d body)) (what_at (entries t) i) → Renewed d place (pair_flats d place old body v) (held_nodes (what_at (entries t) i)) (pair_entries place (body_at (entries t) i) (what_at (entries t) i) (take d body) v)
+    pub child_new : IsBelow (part_place t i (take d body)) (what_at (entries t) i) →
+        Renewed d place (pair_flats d place old body v) (held_nodes (what_at (entries t) i))
+        (pair_entries place (body_at (entries t) i) (what_at (entries t) i) (take d body) v)
     child_new above = record {
       flats =
           ap (λ u. in_order (below_flat place u (held_by old)) (below_flat place (take d body) (Some v))) (sym r.body)
@@ -87,7 +98,8 @@ module _ (d : ℕ) (ws : List ℕ) (ns : List PlainNode) (t : PlainNode) (o : Is
 
     -- the room behind the record of the pair
     pub child_room : IsBelow (part_place t i (take d body)) (what_at (entries t) i) → (room : ℕ)
-        → words_wanted d place 2 (2 - (if old.child then 1 else 0)) + (if old.child then 1 else 0) ≤ room → length (record_of d place (pair_flats d place old body v)) + (if old.child then 1 else 0) ≤ room
+        → words_wanted d place 2 (2 - (if old.child then 1 else 0)) + (if old.child then 1 else 0) ≤ room →
+        length (record_of d place (pair_flats d place old body v)) + (if old.child then 1 else 0) ≤ room
     child_room above room h =
         let fs : List Flat = pair_flats d place old body v in
         let n : length fs ≡ 2 = length-order place (take d old.body) (take d body) (held_by old) (Some v) in
@@ -95,21 +107,39 @@ module _ (d : ℕ) (ws : List ℕ) (ns : List PlainNode) (t : PlainNode) (o : Is
         let e : words_for (least_digits d place (length fs)) ≡ words_for (least_digits d place 2) = ap (λ k. words_for (least_digits d place k)) n in
         omega (arith, a, e, n, points_new d place fs _ _ (child_new above), held-length (what_at (entries t) i), r.kind, h)
 
-    pub parent_new : (shared : List ℕ) → shared ≡ body_above place body → Renewed d t.level (edited i 1 1 (record { addr = old.addr; body = take d shared; value = None }) (flats_of t))
-        (edited (before (entries t) i) (ones_of (what_at (entries t) i)) 1 (node_of place (pair_entries place (body_at (entries t) i) (what_at (entries t) i) (take d body) v)) ns)
+    pub parent_new : (shared : List ℕ) → shared ≡ body_above place body →
+        Renewed d t.level (edited i 1 1 (record { addr = old.addr; body = take d shared; value = None }) (flats_of t))
+        (edited (before (entries t) i) (ones_of (what_at (entries t) i)) 1
+        (node_of place (pair_entries place (body_at (entries t) i) (what_at (entries t) i) (take d body) v)) ns)
         (entries (split_node t i place (take d body) v))
     parent_new shared s =
         let below : PlainNode = node_of place (pair_entries place (body_at (entries t) i) (what_at (entries t) i) (take d body) v) in
         let q : take d shared ≡ body_above place (take d body) = ap (λ u. take d u) s ∙ take-above place d body in
-        subst (λ a. Renewed d t.level (edited i 1 1 (record { addr = a; body = take d shared; value = None }) (flats_of t)) (edited (before (entries t) i) (ones_of (what_at (entries t) i)) 1 below ns) (entries (split_node t i place (take d body) v))) r.addr
-        (subst (λ u. Renewed d t.level (edited i 1 1 (record { addr = addr_at (entries t) i; body = u; value = None }) (flats_of t)) (edited (before (entries t) i) (ones_of (what_at (entries t) i)) 1 below ns) (entries (split_node t i place (take d body) v))) (sym q)
-        (subst (λ es. Renewed d t.level (edited i 1 1 (record { addr = addr_at (entries t) i; body = body_above place (take d body); value = None }) (flats_of t)) (edited (before (entries t) i) (ones_of (what_at (entries t) i)) 1 below ns) es)
-        (sym (listed-chained (split_at (entries t) i place (body_above place (take d body)) (body_address place (body_at (entries t) i)) (body_below place (body_at (entries t) i)) (entry_below place (take d body) (value v)))
-        ∙ split-content (entries t) i place (body_above place (take d body)) (body_address place (body_at (entries t) i)) (body_below place (body_at (entries t) i)) (entry_below place (take d body) (value v))))
+        subst (λ a. Renewed d t.level (edited i 1 1 (record { addr = a; body = take d shared; value = None })
+        (flats_of t)) (edited (before (entries t) i) (ones_of (what_at (entries t) i)) 1 below ns)
+        (entries (split_node t i place (take d body) v))) r.addr
+        (subst (λ u. Renewed d t.level
+        (edited i 1 1 (record { addr = addr_at (entries t) i; body = u; value = None }) (flats_of t))
+        (edited (before (entries t) i) (ones_of (what_at (entries t) i)) 1 below ns)
+        (entries (split_node t i place (take d body) v))) (sym q)
+        (subst (λ es. Renewed d t.level
+        (edited i 1 1 (record {
+          addr = addr_at (entries t) i;
+          body = body_above place (take d body);
+          value = None;
+        }) (flats_of t)) (edited (before (entries t) i) (ones_of (what_at (entries t) i)) 1 below ns) es)
+        (sym (listed-chained (split_at (entries t) i place (body_above place (take d body))
+        (body_address place (body_at (entries t) i)) (body_below place (body_at (entries t) i))
+        (entry_below place (take d body) (value v)))
+        ∙ split-content (entries t) i place (body_above place (take d body))
+        (body_address place (body_at (entries t) i)) (body_below place (body_at (entries t) i))
+        (entry_below place (take d body) (value v))))
         (changed d ws ns t o i l (body_above place (take d body)) (node below) (is_body-above d t.level place (take d body) b.fields) (omega (arith, two.lower)))))
 
     -- the record of the node is shorter by a word where the entry was a point
-    pub parent_long : (shared : List ℕ) → shared ≡ body_above place body → length (record_of d t.level (edited i 1 1 (record { addr = old.addr; body = take d shared; value = None }) (flats_of t))) + 1 ≡ length ws + (if old.child then 1 else 0)
+    pub parent_long : (shared : List ℕ) → shared ≡ body_above place body →
+        length (record_of d t.level (edited i 1 1 (record { addr = old.addr; body = take d shared; value = None })
+        (flats_of t))) + 1 ≡ length ws + (if old.child then 1 else 0)
     parent_long shared s =
         let below : PlainNode = node_of place (pair_entries place (body_at (entries t) i) (what_at (entries t) i) (take d body) v) in
         let a = length-changed d ws ns t o i _ _ _ l (parent_new shared s) in
@@ -118,7 +148,8 @@ module _ (d : ℕ) (ws : List ℕ) (ns : List PlainNode) (t : PlainNode) (o : Is
 
 -- ---- the children
 
-module _ {P : Type 0} (d : ℕ) (ws : List ℕ) (ss : List (SlotOf P)) (t : PlainNode) (o : IsOld d ws (nodes_of ss) t) (i : ℕ) (old : OldEntry) (r : IsOldEntry d t i old) (l : i < length (entries t)) (rs : List (SlotOf P)) (same : rs ≡ ss) where
+module _ {P : Type 0} (d : ℕ) (ws : List ℕ) (ss : List (SlotOf P)) (t : PlainNode) (o : IsOld d ws (nodes_of ss) t)
+    (i : ℕ) (old : OldEntry) (r : IsOldEntry d t i old) (l : i < length (entries t)) (rs : List (SlotOf P)) (same : rs ≡ ss) where
   fits : old.front + (if old.child then 1 else 0) ≤ length rs
   fits = omega (arith, front_fits d ws (nodes_of ss) t o i l, r.front, r.kind, length-nodes ss, ap (λ (u : List (SlotOf P)). length u) same)
 
@@ -138,7 +169,9 @@ module _ {P : Type 0} (d : ℕ) (ws : List ℕ) (ss : List (SlotOf P)) (t : Plai
       ∙ ap (λ u. take (ones_of (what_at (entries t) i)) (drop (before (entries t) i) (nodes_of u))) same
       ∙ own_nodes d ws (nodes_of ss) t o i l
 
-  pub put_is : (ls vs : List (SlotOf P)) (s : SlotOf P) → ls ≡ (if old.child then remove rs old.front else rs) → vs ≡ insert ls old.front s → nodes_of vs ≡ edited (before (entries t) i) (ones_of (what_at (entries t) i)) 1 s.node (nodes_of ss)
+  pub put_is : (ls vs : List (SlotOf P)) (s : SlotOf P) → ls ≡ (if old.child then remove rs old.front else rs) →
+      vs ≡ insert ls old.front s → nodes_of vs ≡ edited (before (entries t) i) (ones_of (what_at (entries t) i)) 1
+      s.node (nodes_of ss)
   put_is ls vs s e f =
       ap nodes_of (f ∙ ap (λ u. insert u old.front s) e) ∙ nodes-put old.child rs old.front s fits
       ∙ ap (λ n. edited old.front n 1 s.node (nodes_of rs)) (sym r.kind)

@@ -1,5 +1,6 @@
 -- The entries of a node by the entries of its record.
-use Rattle.std.proofs.Common.{◌≡◌, ℕ, zero, suc, ◌+◌, ◌<◌, ◌^◌, List, [], ◌∷◌, take, length, Bool, true, false, not, cond, refl, arith, ap, sym, ◌∙◌, get_or, subst, slice_index_or}
+use Rattle.std.proofs.Common.{◌≡◌, ℕ, zero, suc, ◌+◌, ◌<◌, ◌^◌, List, [], ◌∷◌, take, length, Bool, true, false}
+use Rattle.std.proofs.Common.{not, cond, refl, arith, ap, sym, ◌∙◌, get_or, subst, slice_index_or}
 use Rattle.std.specs.Prelude.{Some, slice_get, position}
 use Rattle.std.specs.List.{position_or_len}
 use Rattle.std.proofs.lemmas.Option.{get_or_from_slice_get, slice_get-get_or}
@@ -21,7 +22,8 @@ use Rattle.ph_node.specs.declared.node.SlotOf.{SlotOf}
 
 many-as : (cube : Bool) (d : ℕ) (ws : List ℕ) → IsRecord cube d ws → length (entries_as cube d ws) ≡ (first_in ws).entries
 many-as true d ws r = length-entries d ws r
-many-as false d ws r = length-read (kinds d ws) (addresses d ws) (bodies d ws) (first_in ws).entries (length-kinds d ws) (length-addresses d ws) (length-parts (first_in ws).entries d _)
+many-as false d ws r = length-read (kinds d ws) (addresses d ws) (bodies d ws) (first_in ws).entries
+    (length-kinds d ws) (length-addresses d ws) (length-parts (first_in ws).entries d _)
 
 pub many : (d : ℕ) (ws : List ℕ) → IsRecord (has_cube d (first_in ws)) d ws → length (entries_in d ws) ≡ (first_in ws).entries
 many d ws r = many-as (has_cube d (first_in ws)) d ws r
@@ -53,8 +55,11 @@ kind_of (read_point a b) = 0
 kind_of (read_child a b) = 1
 
 -- an entry of points, and one of children
-point_filled : (es : List Read) (vs : List ℕ) (ns : List PlainNode) (i a : ℕ) (b : List ℕ) → children_in es ≡ length ns → points_in es ≡ length vs → i < length es → get_or es i no_read ≡ read_point a b
-    → (points_in (take i es) < length vs) × (get_or (listed (filled es vs ns)) i no_entry ≡ record { addr = a; body = b; what = value (slice_index_or vs (points_in (take i es)) 0) })
+point_filled : (es : List Read) (vs : List ℕ) (ns : List PlainNode) (i a : ℕ) (b : List ℕ) →
+    children_in es ≡ length ns → points_in es ≡ length vs → i < length es → get_or es i no_read ≡ read_point a b
+    → (points_in (take i es) < length vs) ×
+    (get_or (listed (filled es vs ns)) i no_entry ≡
+    record { addr = a; body = b; what = value (slice_index_or vs (points_in (take i es)) 0) })
 point_filled [] vs ns i a b h k l e = absurd (omega (arith, l))
 point_filled (read_point a' b' ∷ es) [] ns i a b h k l e = absurd (omega (arith, k))
 point_filled (read_point a' b' ∷ es) (v ∷ vs) ns zero a b h k l e =
@@ -62,18 +67,26 @@ point_filled (read_point a' b' ∷ es) (v ∷ vs) ns zero a b h k l e =
 point_filled (read_point a' b' ∷ es) (v ∷ vs) ns (suc i) a b h k l e =
     let t = point_filled es vs ns i a b h (omega (arith, k)) (omega (arith, l)) e in (omega (arith, t.0), t.1)
 point_filled (read_child a' b' ∷ es) vs [] i a b h k l e = absurd (omega (arith, h))
-point_filled (read_child a' b' ∷ es) vs (n ∷ ns) zero a b h k l e = absurd (let z : kind_of (read_child a' b') ≡ kind_of (read_point a b) = ap kind_of e in omega (arith, z))
+point_filled (read_child a' b' ∷ es) vs (n ∷ ns) zero a b h k l e =
+    absurd (let z : kind_of (read_child a' b') ≡ kind_of (read_point a b) = ap kind_of e in omega (arith, z))
 point_filled (read_child a' b' ∷ es) vs (n ∷ ns) (suc i) a b h k l e = point_filled es vs ns i a b (omega (arith, h)) k (omega (arith, l)) e
 
-child_filled : (es : List Read) (vs : List ℕ) (ns : List PlainNode) (i a : ℕ) (b : List ℕ) (x : PlainNode) → children_in es ≡ length ns → points_in es ≡ length vs → i < length es → get_or es i no_read ≡ read_child a b
-    → (children_in (take i es) < length ns) × (x ≡ get_or ns (children_in (take i es)) x → get_or (listed (filled es vs ns)) i no_entry ≡ record { addr = a; body = b; what = node x })
+child_filled : (es : List Read) (vs : List ℕ) (ns : List PlainNode) (i a : ℕ) (b : List ℕ) (x : PlainNode) →
+    children_in es ≡ length ns → points_in es ≡ length vs → i < length es → get_or es i no_read ≡ read_child a b
+    → (children_in (take i es) < length ns) ×
+    (x ≡ get_or ns (children_in (take i es)) x →
+    get_or (listed (filled es vs ns)) i no_entry ≡ record { addr = a; body = b; what = node x })
 child_filled [] vs ns i a b x h k l e = absurd (omega (arith, l))
 child_filled (read_point a' b' ∷ es) [] ns i a b x h k l e = absurd (omega (arith, k))
-child_filled (read_point a' b' ∷ es) (v ∷ vs) ns zero a b x h k l e = absurd (let z : kind_of (read_point a' b') ≡ kind_of (read_child a b) = ap kind_of e in omega (arith, z))
+child_filled (read_point a' b' ∷ es) (v ∷ vs) ns zero a b x h k l e =
+    absurd (let z : kind_of (read_point a' b') ≡ kind_of (read_child a b) = ap kind_of e in omega (arith, z))
 child_filled (read_point a' b' ∷ es) (v ∷ vs) ns (suc i) a b x h k l e = child_filled es vs ns i a b x h (omega (arith, k)) (omega (arith, l)) e
 child_filled (read_child a' b' ∷ es) vs [] i a b x h k l e = absurd (omega (arith, h))
-child_filled (read_child a' b' ∷ es) vs (n ∷ ns) zero a b x h k l e =
-    (omega arith, λ f. ap {B = Entry} (λ (m : PlainNode). record { addr = a'; body = b'; what = node m }) (sym f) ∙ ap {B = Entry} (λ (r : Read). record { addr = read_address r; body = body_of r; what = node x }) e)
+child_filled (read_child a' b' ∷ es) vs (n ∷ ns) zero a b x h k l e = (
+  omega arith,
+  λ f. ap {B = Entry} (λ (m : PlainNode). record { addr = a'; body = b'; what = node m }) (sym f) ∙
+      ap {B = Entry} (λ (r : Read). record { addr = read_address r; body = body_of r; what = node x }) e,
+)
 child_filled (read_child a' b' ∷ es) vs (n ∷ ns) (suc i) a b x h k l e =
     let t = child_filled es vs ns i a b x (omega (arith, h)) k (omega (arith, l)) e in (omega (arith, t.0), t.1)
 
@@ -97,7 +110,10 @@ module _ (d : ℕ) (ws : List ℕ) (ns : List PlainNode) (t : PlainNode) (is : u
   pub place_is : (p : ℕ → Bool) → position (λ e. p e.addr) (entries t) ≡ position (λ r. p (read_address r)) (entries_in d ws)
   place_is p =
       ap (λ u. position (λ e. p e.addr) (entries u)) (sym is)
-      ∙ rw (place_filled p (entries_in d ws) (values_in d ws) ns kept.packed.whole.0 kept.packed.whole.1, len_filled (entries_in d ws) (values_in d ws) ns kept.packed.whole.0 kept.packed.whole.1) refl
+      ∙ rw (
+        place_filled p (entries_in d ws) (values_in d ws) ns kept.packed.whole.0 kept.packed.whole.1,
+        len_filled (entries_in d ws) (values_in d ws) ns kept.packed.whole.0 kept.packed.whole.1,
+      ) refl
 
   module _ (i : ℕ) (l : i < length (entries t)) where
     below : i < length (entries_in d ws)
@@ -107,14 +123,23 @@ module _ (d : ℕ) (ws : List ℕ) (ns : List PlainNode) (t : PlainNode) (is : u
     get_is e h = slice_get-get_or (entries t) i no_entry l ∙ ap Some (ap (λ u. get_or (entries u) i no_entry) (sym is) ∙ h)
 
     pub point_is : (c : Bool) (a : ℕ) (b : List ℕ) → c ≡ false → slice_get (entries_in d ws) i ≡ Some (read c a b)
-        → (points_in (take i (entries_in d ws)) < length (values_in d ws)) × (slice_get (entries t) i ≡ Some (record { addr = a; body = b; what = value (slice_index_or (values_in d ws) (points_in (take i (entries_in d ws))) 0) }))
+        → (points_in (take i (entries_in d ws)) < length (values_in d ws)) ×
+        (slice_get (entries t) i ≡ Some
+        (record {
+          addr = a;
+          body = b;
+          what =
+              value (slice_index_or (values_in d ws) (points_in (take i (entries_in d ws))) 0);
+        }))
     point_is c a b f e =
         let g : get_or (entries_in d ws) i no_read ≡ read_point a b = get_or_from_slice_get (entries_in d ws) i (read c a b) no_read e ∙ ap (λ s. read s a b) f in
         let q = point_filled (entries_in d ws) (values_in d ws) ns i a b kept.packed.whole.0 kept.packed.whole.1 below g in
         (q.0, get_is _ q.1)
 
     pub child_is : (c : Bool) (a : ℕ) (b : List ℕ) (x : PlainNode) → c ≡ true → slice_get (entries_in d ws) i ≡ Some (read c a b)
-        → (children_in (take i (entries_in d ws)) < length ns) × (x ≡ get_or ns (children_in (take i (entries_in d ws))) x → slice_get (entries t) i ≡ Some (record { addr = a; body = b; what = node x }))
+        → (children_in (take i (entries_in d ws)) < length ns) ×
+        (x ≡ get_or ns (children_in (take i (entries_in d ws))) x →
+        slice_get (entries t) i ≡ Some (record { addr = a; body = b; what = node x }))
     child_is c a b x f e =
         let g : get_or (entries_in d ws) i no_read ≡ read_child a b = get_or_from_slice_get (entries_in d ws) i (read c a b) no_read e ∙ ap (λ s. read s a b) f in
         let q = child_filled (entries_in d ws) (values_in d ws) ns i a b x kept.packed.whole.0 kept.packed.whole.1 below g in
@@ -124,12 +149,14 @@ module _ (d : ℕ) (ws : List ℕ) (ns : List PlainNode) (t : PlainNode) (is : u
   node_is = subst (λ u. AreKept d u.level 0 (entries u)) is kept.node.rise
 
 -- what is kept of one entry
-kept-get : (d level least : ℕ) (es : List Entry) (i : ℕ) → AreKept d level least es → i < length es → ((get_or es i no_entry).addr < 2 ^ d) × IsBody d level (get_or es i no_entry).body
+kept-get : (d level least : ℕ) (es : List Entry) (i : ℕ) → AreKept d level least es → i < length es →
+    ((get_or es i no_entry).addr < 2 ^ d) × IsBody d level (get_or es i no_entry).body
 kept-get d level least [] i k l = absurd (omega (arith, l))
 kept-get d level least (e ∷ es) zero k l = (k.1, k.2)
 kept-get d level least (e ∷ es) (suc i) k l = kept-get d level (e.addr + 1) es i k.3 (omega (arith, l))
 
-pub kept-at : (d level : ℕ) (es : List Entry) (i : ℕ) (e : Entry) → AreKept d level 0 es → i < length es → slice_get es i ≡ Some e → (e.addr < 2 ^ d) × IsBody d level e.body
+pub kept-at : (d level : ℕ) (es : List Entry) (i : ℕ) (e : Entry) → AreKept d level 0 es → i < length es →
+    slice_get es i ≡ Some e → (e.addr < 2 ^ d) × IsBody d level e.body
 kept-at d level es i e k l h =
     let q : get_or es i no_entry ≡ e = get_or_from_slice_get es i e no_entry h in
     let p : ((get_or es i no_entry).addr < 2 ^ d) × IsBody d level (get_or es i no_entry).body = kept-get d level 0 es i k l in

@@ -27,8 +27,6 @@ mod splits;
 mod spots;
 #[cfg(test)]
 mod tests;
-#[cfg(test)]
-mod twins;
 
 pub use node::{Node, NodeOf, Slot, SlotOf};
 pub use ph_coord::{Dim, Dims};

@@ -47,6 +47,7 @@ impl<P: Dims> NodeOf<P> {
     }
 
     /// What an entry has.
+    #[inline(always)]
     pub(crate) fn old_entry(&self, spot: Spot) -> OldEntry
         requires { IsSpot (entries self.now) spot }
         ensures { IsOldEntry P.D self.now spot.place result }

@@ -63,6 +63,7 @@ impl<'t, P: Dims> Entries<P> for PairOf<'t, P> {
 
 /// The record of a child at a level, which has an old entry and a point with a body, by their digits below it. Its words have room
 /// for what the old entry holds, where that is a child.
+#[inline(always)]
 pub(crate) fn pair_below<P: Dims>(
     alloc: Global,
     level: u32,
@@ -89,6 +90,7 @@ pub(crate) fn pair_below<P: Dims>(
 }
 
 // Two entries in the order of their addresses.
+#[inline(always)]
 fn in_order<'t, P: Dims>(old: &'t Written, new: &'t Written) -> PairOf<'t, P>
     requires old { IsPadded P.D old.now.entry.body }
     requires new { IsPadded P.D new.now.entry.body }
@@ -107,6 +109,7 @@ fn in_order<'t, P: Dims>(old: &'t Written, new: &'t Written) -> PairOf<'t, P>
 }
 
 // The entry of a body below a place.
+#[inline(always)]
 fn written_below(dims: usize, place: u32, child: bool, body: &[u64; 16], value: u64) -> Written
     requires place { place < 64 }
     requires few { dims ≤ 16 }

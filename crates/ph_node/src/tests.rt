@@ -2,6 +2,8 @@
 
 ghost use Rattle.std.specs.Prelude.{◌≡◌, ◌<◌};
 
+mod twins;
+
 use crate::{NoMemory, Node, NodeOf, NodeRef, Spot, What};
 use ph_steps::Steps;
 use std::alloc::Global;

@@ -2,14 +2,8 @@
 #![tactic(auto)]
 
 mod backs;
-#[cfg(test)]
-mod cubes;
 mod items;
-#[cfg(test)]
-mod puts;
 mod records;
-#[cfg(test)]
-mod resizes;
 #[cfg(test)]
 mod tests;
 

@@ -8,6 +8,41 @@ use ph_cube::by_dims as cube_calls;
 use ph_linear::by_dims as linear_calls;
 use std::alloc::Global;
 
+// A body whose last fields are zero.
+macro_rules! body {
+    ($x:expr) => {
+        body!($x, 0, 0)
+    };
+    ($x:expr, $y:expr) => {
+        body!($x, $y, 0)
+    };
+    ($x:expr, $y:expr, $z:expr) => {
+        [$x, $y, $z, 0, 0, 0, 0, 0, 0, 0, 0, 0, 0, 0, 0, 0]
+    };
+}
+
+// An edit of an entry at a place, where so many entries go and so many come.
+macro_rules! edit_at {
+    ($place:expr, $less:expr, $more:expr, $addr:expr, $child:literal, $body:expr, $value:expr) => {
+        Edit {
+            place: $place,
+            less: $less,
+            more: $more,
+            entry: Packed {
+                addr: $addr,
+                child: $child,
+                body: $body,
+                rank: 0,
+            },
+            value: $value,
+        }
+    };
+}
+
+mod cubes;
+mod puts;
+mod resizes;
+
 fn point(addr: u32, fields: (u64, u64), value: u64) -> Item {
     Item {
         addr,

@@ -1,18 +1,9 @@
-use Rattle.std.proofs.Common.{◌≡◌, ◌<◌, ◌≤◌, ℕ, sym, ◌∙◌, arith, List, length, Bool, false}
+use Rattle.std.proofs.Common.{◌≡◌, ◌<◌, ◌≤◌, ℕ, sym, ◌∙◌, arith, List, length}
 use Rattle.std.specs.Prelude.{◌==◌, nat_le}
-use Rattle.std.specs.List.{position_or_len}
-use Rattle.ph_specs.specs.Layout.{read_address, entries_as}
-use Rattle.ph_specs.specs.Record.{first_in}
-use Rattle.ph_specs.proofs.lemmas.ReadColumns.{length-parts}
-use Rattle.ph_linear.specs.Linear.{kinds, addresses, bodies}
-use Rattle.ph_linear.proofs.Columns.{length-kinds, length-addresses}
-use Rattle.ph_linear.proofs.Entries.{place-read}
-use Rattle.ph_linear.proofs.Halving.{rise, found, missed, place-entries}
+use Rattle.ph_linear.specs.Linear.{addresses}
+use Rattle.ph_linear.proofs.Columns.{length-addresses}
+use Rattle.ph_linear.proofs.Halving.{rise, found, missed, place-entries, place-there}
 use Rattle.ph_linear.proofs.searches.search_among.Goals as goal
-
-place-there : (p : ℕ → Bool) (d : ℕ) (words : List ℕ) → position_or_len (λ r. p (read_address r)) (entries_as false d words) ≡ position_or_len p (addresses d words)
-place-there p d words =
-    place-read p (kinds d words) (addresses d words) (bodies d words) (length-addresses d words ∙ sym (length-kinds d words)) (length-parts (first_in words).entries d _ ∙ sym (length-kinds d words))
 
 pub returns-then-i-count-clause-absent : goal.returns-then-i-count-clause-absent
 returns-then-i-count-clause-absent c =
@@ -41,7 +32,8 @@ pub returns-else-address_at-addr-clause-absent : goal.returns-else-address_at-ad
 returns-else-address_at-addr-clause-absent c =
     let words = c.args.words.now in
     let xs : List ℕ = addresses c.args.dims words in
-    missed xs c.args.addr c.place_of-i.result (rise c.args.dims words c.requires.record) c.place_of-i.ensures.value (λ l e. c.if-address_at-addr.false (c.address_at.ensures.value ∙ e))
+    missed xs c.args.addr c.place_of-i.result (rise c.args.dims words c.requires.record) c.place_of-i.ensures.value
+    (λ l e. c.if-address_at-addr.false (c.address_at.ensures.value ∙ e))
     ∙ sym (place-entries (λ x. x == c.args.addr) c.args.dims words)
 
 pub returns-else-address_at-addr-clause-place : goal.returns-else-address_at-addr-clause-place

@@ -12,6 +12,16 @@ returns-clause-padded c = subst (λ b. IsPadded c.args.dims b) (sym c.body_below
 
 pub returns-clause-entry : goal.returns-clause-entry
 returns-clause-entry c =
-    ap {B = Flat} (λ (a : ℕ). record { addr = a; body = take c.args.dims c.body_below.result; value = if c.args.child then None else Some c.args.value }) c.body_address.ensures.value
-    ∙ ap {B = Flat} (λ (b : List ℕ). record { addr = body_address c.args.place (take c.args.dims c.args.body.now); body = b; value = if c.args.child then None else Some c.args.value })
+    ap {B = Flat} (λ (a : ℕ). record {
+      addr = a;
+      body = take c.args.dims c.body_below.result;
+      value = if c.args.child then None else
+          Some c.args.value;
+    }) c.body_address.ensures.value
+    ∙ ap {B = Flat} (λ (b : List ℕ).
+    record {
+      addr = body_address c.args.place (take c.args.dims c.args.body.now);
+      body = b;
+      value = if c.args.child then None else Some c.args.value;
+    })
     (ap (λ u. take c.args.dims u) c.body_below.ensures ∙ take-below c.args.place c.args.dims c.args.body.now)

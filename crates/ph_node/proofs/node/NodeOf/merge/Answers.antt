@@ -28,14 +28,16 @@ use Rattle.ph_node.proofs.node.NodeOf.merge.Goals.{After-D-3, After-put_entry}
 
 pub value-slot-requires : goal.value-slot-requires
 value-slot-requires g c =
-    front_in _ _ c.self.inside.block.values _ (old _ _ _ _ c.self.view_is c.self.invariant) c.args.spot.place c.old_entry-old.result c.old_entry-old.ensures c.requires.spot.within c.requires.child
+    front_in _ _ c.self.inside.block.values _ (old _ _ _ _ c.self.view_is c.self.invariant) c.args.spot.place
+    c.old_entry-old.result c.old_entry-old.ensures c.requires.spot.within c.requires.child
 
 pub entry_beside-other-requires-clause-two : goal.entry_beside-other-requires-clause-two
 entry_beside-other-requires-clause-two g c =
     let o = old _ _ _ _ c.self.view_is c.self.invariant in
     let q = c.requires in
     two c.args.self.now c.args.spot.place c.args.j q.child q.one q.point c.value-slot.result.now.node
-    (child_is _ _ c.self.inside.block.values _ o c.args.spot.place c.old_entry-old.result c.old_entry-old.ensures q.spot.within q.child c.value-slot.result.now c.value-slot.ensures)
+    (child_is _ _ c.self.inside.block.values _ o c.args.spot.place c.old_entry-old.result c.old_entry-old.ensures
+    q.spot.within q.child c.value-slot.result.now c.value-slot.ensures)
 
 pub join-requires-clause-known : goal.join-requires-clause-known
 join-requires-clause-known g c =
@@ -44,11 +46,25 @@ join-requires-clause-known g c =
     (refl, subst (λ n. Each (λ x. x < 2 ^ 62) (take n c.old_entry-old.result.body)) (sym c.D.ensures) w.1)
 
 -- the edit is one of the node
-node_edit : (g : Over) (c : After-D-3 g) → IsEdit g.P.Dims.D c.args.self.now (record { place = c.args.spot.place; less = 1; more = 1; entry = record { addr = c.old_entry-old.result.addr; child = c.entry_beside-other.result.child; body = c.join.new.known ++ drop c.D.result c.old_entry-old.result.body; rank = 0 }; value = c.entry_beside-other.result.value })
+node_edit : (g : Over) (c : After-D-3 g) →
+    IsEdit g.P.Dims.D c.args.self.now
+    (record {
+      place = c.args.spot.place;
+      less = 1;
+      more = 1;
+      entry = record {
+        addr = c.old_entry-old.result.addr;
+        child = c.entry_beside-other.result.child;
+        body = c.join.new.known ++ drop c.D.result c.old_entry-old.result.body;
+        rank = 0;
+      };
+      value = c.entry_beside-other.result.value;
+    })
 node_edit g c =
     let q = c.requires in
     let o = old _ _ _ _ c.self.view_is c.self.invariant in
-    let is = child_is _ _ c.self.inside.block.values _ o c.args.spot.place c.old_entry-old.result c.old_entry-old.ensures q.spot.within q.child c.value-slot.result.now c.value-slot.ensures in
+    let is = child_is _ _ c.self.inside.block.values _ o c.args.spot.place c.old_entry-old.result
+    c.old_entry-old.ensures q.spot.within q.child c.value-slot.result.now c.value-slot.ensures in
     record {
       within = omega (arith, q.spot.within);
       few = omega arith;
@@ -56,40 +72,157 @@ node_edit g c =
       address = address_low _ _ _ _ o c.args.spot.place q.spot.within _ c.old_entry-old.ensures.addr;
       front = front_at _ _ _ _ o c.args.spot.place q.spot.within _ c.old_entry-old.ensures.addr;
       behind = behind_at _ _ _ _ o c.args.spot.place q.spot.within _ c.old_entry-old.ensures.addr;
-      rise = rise_new _ _ _ _ _ (merged_new c.args.self.now c.args.spot.place c.args.j q.child q.one q.point c.value-slot.result.now.node is _ _ _ o c.old_entry-old.result c.entry_beside-other.result c.old_entry-old.ensures c.entry_beside-other.ensures q.spot.within _ _ _ _ c.D.ensures c.D-2.ensures c.level.ensures.value c.join.ensures);
-      padded = merged_padded c.args.self.now c.args.spot.place c.args.j q.child q.one q.point c.value-slot.result.now.node is _ _ _ o c.old_entry-old.result c.entry_beside-other.result c.old_entry-old.ensures c.entry_beside-other.ensures q.spot.within _ _ _ _ c.D.ensures c.D-2.ensures c.level.ensures.value c.join.ensures;
+      rise = rise_new _ _ _ _ _ (merged_new c.args.self.now c.args.spot.place c.args.j q.child q.one q.point
+          c.value-slot.result.now.node is _ _ _ o c.old_entry-old.result c.entry_beside-other.result
+          c.old_entry-old.ensures c.entry_beside-other.ensures q.spot.within _ _ _ _ c.D.ensures c.D-2.ensures
+          c.level.ensures.value c.join.ensures);
+      padded = merged_padded c.args.self.now c.args.spot.place c.args.j q.child q.one q.point
+          c.value-slot.result.now.node is _ _ _ o c.old_entry-old.result c.entry_beside-other.result
+          c.old_entry-old.ensures c.entry_beside-other.ensures q.spot.within _ _ _ _ c.D.ensures c.D-2.ensures
+          c.level.ensures.value c.join.ensures;
     }
 
 -- its record, and how long that is
-record_new : (g : Over) (c : After-D-3 g) → record_with c.D-3.result c.lift_child.new.block.words (record { place = c.args.spot.place; less = 1; more = 1; entry = record { addr = c.old_entry-old.result.addr; child = c.entry_beside-other.result.child; body = c.join.new.known ++ drop c.D.result c.old_entry-old.result.body; rank = 0 }; value = c.entry_beside-other.result.value }) ≡ record_of g.P.Dims.D c.args.self.now.level (edit_flats g.P.Dims.D c.args.self.now (record { place = c.args.spot.place; less = 1; more = 1; entry = record { addr = c.old_entry-old.result.addr; child = c.entry_beside-other.result.child; body = c.join.new.known ++ drop c.D.result c.old_entry-old.result.body; rank = 0 }; value = c.entry_beside-other.result.value }))
+record_new : (g : Over) (c : After-D-3 g) →
+    record_with c.D-3.result c.lift_child.new.block.words
+    (record {
+      place = c.args.spot.place;
+      less = 1;
+      more = 1;
+      entry = record {
+        addr = c.old_entry-old.result.addr;
+        child = c.entry_beside-other.result.child;
+        body = c.join.new.known ++ drop c.D.result c.old_entry-old.result.body;
+        rank = 0;
+      };
+      value = c.entry_beside-other.result.value;
+    }) ≡ record_of g.P.Dims.D c.args.self.now.level
+    (edit_flats g.P.Dims.D c.args.self.now
+    (record {
+      place = c.args.spot.place;
+      less = 1;
+      more = 1;
+      entry = record {
+        addr = c.old_entry-old.result.addr;
+        child = c.entry_beside-other.result.child;
+        body = c.join.new.known ++ drop c.D.result c.old_entry-old.result.body;
+        rank = 0;
+      };
+      value = c.entry_beside-other.result.value;
+    }))
 record_new g c =
-    ap (λ k. record_with k c.lift_child.new.block.words (record { place = c.args.spot.place; less = 1; more = 1; entry = record { addr = c.old_entry-old.result.addr; child = c.entry_beside-other.result.child; body = c.join.new.known ++ drop c.D.result c.old_entry-old.result.body; rank = 0 }; value = c.entry_beside-other.result.value })) c.D-3.ensures
-    ∙ ap (λ ws. record_with g.P.Dims.D ws (record { place = c.args.spot.place; less = 1; more = 1; entry = record { addr = c.old_entry-old.result.addr; child = c.entry_beside-other.result.child; body = c.join.new.known ++ drop c.D.result c.old_entry-old.result.body; rank = 0 }; value = c.entry_beside-other.result.value })) c.lift_child.ensures.words
-    ∙ record_is _ _ _ _ c.self.view_is c.self.invariant (record { place = c.args.spot.place; less = 1; more = 1; entry = record { addr = c.old_entry-old.result.addr; child = c.entry_beside-other.result.child; body = c.join.new.known ++ drop c.D.result c.old_entry-old.result.body; rank = 0 }; value = c.entry_beside-other.result.value })
+    ap (λ k. record_with k c.lift_child.new.block.words
+    (record {
+      place = c.args.spot.place;
+      less = 1;
+      more = 1;
+      entry = record {
+        addr = c.old_entry-old.result.addr;
+        child = c.entry_beside-other.result.child;
+        body = c.join.new.known ++ drop c.D.result c.old_entry-old.result.body;
+        rank = 0;
+      };
+      value = c.entry_beside-other.result.value;
+    })) c.D-3.ensures
+    ∙ ap (λ ws. record_with g.P.Dims.D ws
+    (record {
+      place = c.args.spot.place;
+      less = 1;
+      more = 1;
+      entry = record {
+        addr = c.old_entry-old.result.addr;
+        child = c.entry_beside-other.result.child;
+        body = c.join.new.known ++ drop c.D.result c.old_entry-old.result.body;
+        rank = 0;
+      };
+      value = c.entry_beside-other.result.value;
+    })) c.lift_child.ensures.words
+    ∙ record_is _ _ _ _ c.self.view_is c.self.invariant
+    (record {
+      place = c.args.spot.place;
+      less = 1;
+      more = 1;
+      entry = record {
+        addr = c.old_entry-old.result.addr;
+        child = c.entry_beside-other.result.child;
+        body = c.join.new.known ++ drop c.D.result c.old_entry-old.result.body;
+        rank = 0;
+      };
+      value = c.entry_beside-other.result.value;
+    })
 
-record_length : (g : Over) (c : After-D-3 g) → length (record_with c.D-3.result c.lift_child.new.block.words (record { place = c.args.spot.place; less = 1; more = 1; entry = record { addr = c.old_entry-old.result.addr; child = c.entry_beside-other.result.child; body = c.join.new.known ++ drop c.D.result c.old_entry-old.result.body; rank = 0 }; value = c.entry_beside-other.result.value })) + (if c.entry_beside-other.result.child then 1 else 0) ≡ length c.lift_child.new.block.words + 1
+record_length : (g : Over) (c : After-D-3 g) →
+    length (record_with c.D-3.result c.lift_child.new.block.words
+    (record {
+      place = c.args.spot.place;
+      less = 1;
+      more = 1;
+      entry = record {
+        addr = c.old_entry-old.result.addr;
+        child = c.entry_beside-other.result.child;
+        body = c.join.new.known ++ drop c.D.result c.old_entry-old.result.body;
+        rank = 0;
+      };
+      value = c.entry_beside-other.result.value;
+    })) + (if c.entry_beside-other.result.child then 1 else 0) ≡
+    length c.lift_child.new.block.words + 1
 record_length g c =
     let q = c.requires in
     let o = old _ _ _ _ c.self.view_is c.self.invariant in
-    let is = child_is _ _ c.self.inside.block.values _ o c.args.spot.place c.old_entry-old.result c.old_entry-old.ensures q.spot.within q.child c.value-slot.result.now c.value-slot.ensures in
-    omega (arith, ap (λ u. length u) (record_new g c), merged_long c.args.self.now c.args.spot.place c.args.j q.child q.one q.point c.value-slot.result.now.node is _ _ _ o c.old_entry-old.result c.entry_beside-other.result c.old_entry-old.ensures c.entry_beside-other.ensures q.spot.within _ _ _ _ c.D.ensures c.D-2.ensures c.level.ensures.value c.join.ensures, ap (λ u. length u) c.lift_child.ensures.words)
+    let is = child_is _ _ c.self.inside.block.values _ o c.args.spot.place c.old_entry-old.result
+    c.old_entry-old.ensures q.spot.within q.child c.value-slot.result.now c.value-slot.ensures in
+    omega (
+      arith,
+      ap (λ u. length u) (record_new g c),
+      merged_long c.args.self.now c.args.spot.place c.args.j q.child
+          q.one q.point c.value-slot.result.now.node is _ _ _ o c.old_entry-old.result c.entry_beside-other.result
+          c.old_entry-old.ensures c.entry_beside-other.ensures q.spot.within _ _ _ _ c.D.ensures c.D-2.ensures
+          c.level.ensures.value c.join.ensures,
+      ap (λ u. length u) c.lift_child.ensures.words,
+    )
 
 pub put_entry-requires-clause-edit : goal.put_entry-requires-clause-edit
 put_entry-requires-clause-edit g c =
-    subst (λ ws. IsRecordEdit c.D-3.result ws (record { place = c.args.spot.place; less = 1; more = 1; entry = record { addr = c.old_entry-old.result.addr; child = c.entry_beside-other.result.child; body = c.join.new.known ++ drop c.D.result c.old_entry-old.result.body; rank = 0 }; value = c.entry_beside-other.result.value })) (sym c.lift_child.ensures.words)
-    (subst (λ d. IsRecordEdit d c.self.inside.block.words (record { place = c.args.spot.place; less = 1; more = 1; entry = record { addr = c.old_entry-old.result.addr; child = c.entry_beside-other.result.child; body = c.join.new.known ++ drop c.D.result c.old_entry-old.result.body; rank = 0 }; value = c.entry_beside-other.result.value })) (sym c.D-3.ensures)
+    subst (λ ws. IsRecordEdit c.D-3.result ws
+    (record {
+      place = c.args.spot.place;
+      less = 1;
+      more = 1;
+      entry = record {
+        addr = c.old_entry-old.result.addr;
+        child = c.entry_beside-other.result.child;
+        body = c.join.new.known ++ drop c.D.result c.old_entry-old.result.body;
+        rank = 0;
+      };
+      value = c.entry_beside-other.result.value;
+    })) (sym c.lift_child.ensures.words)
+    (subst (λ d. IsRecordEdit d c.self.inside.block.words
+    (record {
+      place = c.args.spot.place;
+      less = 1;
+      more = 1;
+      entry = record {
+        addr = c.old_entry-old.result.addr;
+        child = c.entry_beside-other.result.child;
+        body = c.join.new.known ++ drop c.D.result c.old_entry-old.result.body;
+        rank = 0;
+      };
+      value = c.entry_beside-other.result.value;
+    })) (sym c.D-3.ensures)
     (record_edit _ _ _ _ c.self.view_is c.self.invariant _ (node_edit g (goal.at.put_entry-requires-clause-edit g c).After-D-3)))
 
 pub put_entry-requires-clause-address : goal.put_entry-requires-clause-address
 put_entry-requires-clause-address g c =
     let q = c.requires in
-    spot-there _ _ _ _ _ _ c.self.view_is c.self.invariant c.lift_child.ensures.words c.D-3.ensures c.args.spot q.spot ∙ ap Some (q.spot.address ∙ c.old_entry-old.ensures.addr)
+    spot-there _ _ _ _ _ _ c.self.view_is c.self.invariant c.lift_child.ensures.words c.D-3.ensures c.args.spot
+    q.spot ∙ ap Some (q.spot.address ∙ c.old_entry-old.ensures.addr)
 
 pub put_entry-requires-clause-was : goal.put_entry-requires-clause-was
 put_entry-requires-clause-was g c h =
     let q = c.requires in
     let o = old _ _ _ _ c.self.view_is c.self.invariant in
-    let is = child_is _ _ c.self.inside.block.values _ o c.args.spot.place c.old_entry-old.result c.old_entry-old.ensures q.spot.within q.child c.value-slot.result.now c.value-slot.ensures in
+    let is = child_is _ _ c.self.inside.block.values _ o c.args.spot.place c.old_entry-old.result
+    c.old_entry-old.ensures q.spot.within q.child c.value-slot.result.now c.value-slot.ensures in
     kind-there _ _ _ _ _ _ c.self.view_is c.self.invariant c.lift_child.ensures.words c.D-3.ensures c.args.spot.place q.spot.within ∙ ap Some (ap is_node (sym is))
 
 pub put_entry-requires-clause-long : goal.put_entry-requires-clause-long
@@ -99,49 +232,122 @@ put_entry-requires-clause-long g c h =
 
 pub lift_child-requires-clause-within : goal.lift_child-requires-clause-within
 lift_child-requires-clause-within g c =
-    front_in _ _ c.self.inside.block.values _ (old _ _ _ _ c.self.view_is c.self.invariant) c.args.spot.place c.old_entry-old.result c.old_entry-old.ensures c.requires.spot.within c.requires.child
+    front_in _ _ c.self.inside.block.values _ (old _ _ _ _ c.self.view_is c.self.invariant) c.args.spot.place
+    c.old_entry-old.result c.old_entry-old.ensures c.requires.spot.within c.requires.child
 
 pub lift_child-requires-clause-one : goal.lift_child-requires-clause-one
 lift_child-requires-clause-one g c h =
     let q = c.requires in
     let o = old _ _ _ _ c.self.view_is c.self.invariant in
-    let is = child_is _ _ c.self.inside.block.values _ o c.args.spot.place c.old_entry-old.result c.old_entry-old.ensures q.spot.within q.child c.value-slot.result.now c.value-slot.ensures in
-    subst (λ (n : PlainNode). length (nodes_held (entries n)) ≡ 1) (child_at _ _ c.self.inside.block.values _ o c.args.spot.place c.old_entry-old.result c.old_entry-old.ensures q.spot.within q.child c.value-slot.result.now c.value-slot.ensures)
-    (kids_one c.args.self.now c.args.spot.place c.args.j q.child q.one q.point c.value-slot.result.now.node is _ _ _ o c.old_entry-old.result c.entry_beside-other.result c.old_entry-old.ensures c.entry_beside-other.ensures q.spot.within h)
+    let is = child_is _ _ c.self.inside.block.values _ o c.args.spot.place c.old_entry-old.result
+    c.old_entry-old.ensures q.spot.within q.child c.value-slot.result.now c.value-slot.ensures in
+    subst (λ (n : PlainNode). length (nodes_held (entries n)) ≡ 1)
+    (child_at _ _ c.self.inside.block.values _ o c.args.spot.place c.old_entry-old.result c.old_entry-old.ensures
+    q.spot.within q.child c.value-slot.result.now c.value-slot.ensures)
+    (kids_one c.args.self.now c.args.spot.place c.args.j q.child q.one q.point c.value-slot.result.now.node is _ _ _ o
+    c.old_entry-old.result c.entry_beside-other.result c.old_entry-old.ensures c.entry_beside-other.ensures q.spot.within h)
 
 -- the children that are left
-left : (g : Over) (c : After-put_entry g) → nodes_of c.put_entry.new.block.values ≡ edited (before (entries c.args.self.now) c.args.spot.place) (ones_of (what_at (entries c.args.self.now) c.args.spot.place)) (ones_of (other_what (what_at (entries c.args.self.now) c.args.spot.place) c.args.j)) (node_in (other_what (what_at (entries c.args.self.now) c.args.spot.place) c.args.j)) (nodes_of c.self.inside.block.values)
+left : (g : Over) (c : After-put_entry g) →
+    nodes_of c.put_entry.new.block.values ≡ edited (before (entries c.args.self.now) c.args.spot.place)
+    (ones_of (what_at (entries c.args.self.now) c.args.spot.place))
+    (ones_of (other_what (what_at (entries c.args.self.now) c.args.spot.place) c.args.j))
+    (node_in (other_what (what_at (entries c.args.self.now) c.args.spot.place) c.args.j)) (nodes_of c.self.inside.block.values)
 left g c =
     let q = c.requires in
     let o = old _ _ _ _ c.self.view_is c.self.invariant in
-    let is = child_is _ _ c.self.inside.block.values _ o c.args.spot.place c.old_entry-old.result c.old_entry-old.ensures q.spot.within q.child c.value-slot.result.now c.value-slot.ensures in
-    let at = child_at _ _ c.self.inside.block.values _ o c.args.spot.place c.old_entry-old.result c.old_entry-old.ensures q.spot.within q.child c.value-slot.result.now c.value-slot.ensures in
-    lifted c.args.self.now c.args.spot.place c.args.j q.child q.one q.point c.value-slot.result.now.node is _ _ _ o c.old_entry-old.result c.entry_beside-other.result c.old_entry-old.ensures c.entry_beside-other.ensures q.spot.within _
-    (ap nodes_of c.put_entry.ensures.same.0 ∙ c.lift_child.ensures.nodes ∙ ap (λ (n : PlainNode). edited c.old_entry-old.result.front 1 (if c.entry_beside-other.result.child then 1 else 0) (node_at (nodes_held (entries n)) 0) (nodes_of c.self.inside.block.values)) (sym at))
+    let is = child_is _ _ c.self.inside.block.values _ o c.args.spot.place c.old_entry-old.result
+    c.old_entry-old.ensures q.spot.within q.child c.value-slot.result.now c.value-slot.ensures in
+    let at = child_at _ _ c.self.inside.block.values _ o c.args.spot.place c.old_entry-old.result
+    c.old_entry-old.ensures q.spot.within q.child c.value-slot.result.now c.value-slot.ensures in
+    lifted c.args.self.now c.args.spot.place c.args.j q.child q.one q.point c.value-slot.result.now.node is _ _ _ o
+    c.old_entry-old.result c.entry_beside-other.result c.old_entry-old.ensures c.entry_beside-other.ensures q.spot.within _
+    (ap nodes_of c.put_entry.ensures.same.0 ∙ c.lift_child.ensures.nodes ∙
+    ap (λ (n : PlainNode). edited c.old_entry-old.result.front 1
+    (if c.entry_beside-other.result.child then 1 else 0) (node_at (nodes_held (entries n)) 0)
+    (nodes_of c.self.inside.block.values)) (sym at))
 
 -- the record is that of the node with the edit
-made : (g : Over) (c : After-put_entry g) → c.put_entry.new.block.words ≡ record_of g.P.Dims.D c.args.self.now.level (edit_flats g.P.Dims.D c.args.self.now (record { place = c.args.spot.place; less = 1; more = 1; entry = record { addr = c.old_entry-old.result.addr; child = c.entry_beside-other.result.child; body = c.join.new.known ++ drop c.D.result c.old_entry-old.result.body; rank = 0 }; value = c.entry_beside-other.result.value }))
+made : (g : Over) (c : After-put_entry g) →
+    c.put_entry.new.block.words ≡ record_of g.P.Dims.D c.args.self.now.level
+    (edit_flats g.P.Dims.D c.args.self.now
+    (record {
+      place = c.args.spot.place;
+      less = 1;
+      more = 1;
+      entry = record {
+        addr = c.old_entry-old.result.addr;
+        child = c.entry_beside-other.result.child;
+        body = c.join.new.known ++ drop c.D.result c.old_entry-old.result.body;
+        rank = 0;
+      };
+      value = c.entry_beside-other.result.value;
+    }))
 made g c =
     c.put_entry.ensures.words
-    ∙ ap (λ k. record_with k c.lift_child.new.block.words (record { place = c.args.spot.place; less = 1; more = 1; entry = record { addr = c.old_entry-old.result.addr; child = c.entry_beside-other.result.child; body = c.join.new.known ++ drop c.D.result c.old_entry-old.result.body; rank = 0 }; value = c.entry_beside-other.result.value })) c.D-3.ensures
-    ∙ ap (λ ws. record_with g.P.Dims.D ws (record { place = c.args.spot.place; less = 1; more = 1; entry = record { addr = c.old_entry-old.result.addr; child = c.entry_beside-other.result.child; body = c.join.new.known ++ drop c.D.result c.old_entry-old.result.body; rank = 0 }; value = c.entry_beside-other.result.value })) c.lift_child.ensures.words
-    ∙ record_is _ _ _ _ c.self.view_is c.self.invariant (record { place = c.args.spot.place; less = 1; more = 1; entry = record { addr = c.old_entry-old.result.addr; child = c.entry_beside-other.result.child; body = c.join.new.known ++ drop c.D.result c.old_entry-old.result.body; rank = 0 }; value = c.entry_beside-other.result.value })
+    ∙ ap (λ k. record_with k c.lift_child.new.block.words
+    (record {
+      place = c.args.spot.place;
+      less = 1;
+      more = 1;
+      entry = record {
+        addr = c.old_entry-old.result.addr;
+        child = c.entry_beside-other.result.child;
+        body = c.join.new.known ++ drop c.D.result c.old_entry-old.result.body;
+        rank = 0;
+      };
+      value = c.entry_beside-other.result.value;
+    })) c.D-3.ensures
+    ∙ ap (λ ws. record_with g.P.Dims.D ws
+    (record {
+      place = c.args.spot.place;
+      less = 1;
+      more = 1;
+      entry = record {
+        addr = c.old_entry-old.result.addr;
+        child = c.entry_beside-other.result.child;
+        body = c.join.new.known ++ drop c.D.result c.old_entry-old.result.body;
+        rank = 0;
+      };
+      value = c.entry_beside-other.result.value;
+    })) c.lift_child.ensures.words
+    ∙ record_is _ _ _ _ c.self.view_is c.self.invariant
+    (record {
+      place = c.args.spot.place;
+      less = 1;
+      more = 1;
+      entry = record {
+        addr = c.old_entry-old.result.addr;
+        child = c.entry_beside-other.result.child;
+        body = c.join.new.known ++ drop c.D.result c.old_entry-old.result.body;
+        rank = 0;
+      };
+      value = c.entry_beside-other.result.value;
+    })
 
 pub invariant_of-self : goal.invariant_of-self
 invariant_of-self g c =
     let q = c.requires in
     let o = old _ _ _ _ c.self.view_is c.self.invariant in
-    let is = child_is _ _ c.self.inside.block.values _ o c.args.spot.place c.old_entry-old.result c.old_entry-old.ensures q.spot.within q.child c.value-slot.result.now c.value-slot.ensures in
+    let is = child_is _ _ c.self.inside.block.values _ o c.args.spot.place c.old_entry-old.result
+    c.old_entry-old.ensures q.spot.within q.child c.value-slot.result.now c.value-slot.ensures in
     let now = (goal.at.invariant_of-self g c).After-put_entry in
     subst (IsRecorded g.P.Dims.D c.put_entry.new.block.words) (sym (left g now))
-    (kept_new _ _ _ _ _ (merged_new c.args.self.now c.args.spot.place c.args.j q.child q.one q.point c.value-slot.result.now.node is _ _ _ o c.old_entry-old.result c.entry_beside-other.result c.old_entry-old.ensures c.entry_beside-other.ensures q.spot.within _ _ _ _ c.D.ensures c.D-2.ensures c.level.ensures.value c.join.ensures) _ (made g now))
+    (kept_new _ _ _ _ _ (merged_new c.args.self.now c.args.spot.place c.args.j q.child q.one q.point
+    c.value-slot.result.now.node is _ _ _ o c.old_entry-old.result c.entry_beside-other.result
+    c.old_entry-old.ensures c.entry_beside-other.ensures q.spot.within _ _ _ _ c.D.ensures c.D-2.ensures
+    c.level.ensures.value c.join.ensures) _ (made g now))
 
 pub returns-clause-node : goal.returns-clause-node
 returns-clause-node g c =
     let q = c.requires in
     let o = old _ _ _ _ c.self.view_is c.self.invariant in
-    let is = child_is _ _ c.self.inside.block.values _ o c.args.spot.place c.old_entry-old.result c.old_entry-old.ensures q.spot.within q.child c.value-slot.result.now c.value-slot.ensures in
+    let is = child_is _ _ c.self.inside.block.values _ o c.args.spot.place c.old_entry-old.result
+    c.old_entry-old.ensures q.spot.within q.child c.value-slot.result.now c.value-slot.ensures in
     let now = (goal.at.returns-clause-node g c).After-put_entry in
     ap (λ ns. unpacked g.P.Dims.D c.put_entry.new.block.words ns) (left g now)
-    ∙ seen_new _ _ _ _ _ (merged_new c.args.self.now c.args.spot.place c.args.j q.child q.one q.point c.value-slot.result.now.node is _ _ _ o c.old_entry-old.result c.entry_beside-other.result c.old_entry-old.ensures c.entry_beside-other.ensures q.spot.within _ _ _ _ c.D.ensures c.D-2.ensures c.level.ensures.value c.join.ensures) _ (made g now)
+    ∙ seen_new _ _ _ _ _ (merged_new c.args.self.now c.args.spot.place c.args.j q.child q.one q.point
+    c.value-slot.result.now.node is _ _ _ o c.old_entry-old.result c.entry_beside-other.result
+    c.old_entry-old.ensures c.entry_beside-other.ensures q.spot.within _ _ _ _ c.D.ensures c.D-2.ensures
+    c.level.ensures.value c.join.ensures) _ (made g now)
     ∙ node_of-entries (merge_node c.args.self.now c.args.spot.place c.args.j)

@@ -14,7 +14,8 @@ use Rattle.ph_node.specs.Slots.{nodes_of}
 use Rattle.ph_node.specs.Split.{body_at, split_node}
 use Rattle.ph_node.proofs.Addressed.{address_low, front_at, behind_at}
 use Rattle.ph_node.proofs.Filled.{padded-above, padded-filled}
-use Rattle.ph_node.proofs.Halves.{lower, part_there, addresses_differ, child_new, child_room, parent_new, parent_long, pair_entries, front_within, place_left, kids_are, put_is}
+use Rattle.ph_node.proofs.Halves.{lower, part_there, addresses_differ, child_new, child_room, parent_new}
+use Rattle.ph_node.proofs.Halves.{parent_long, pair_entries, front_within, place_left, kids_are, put_is}
 use Rattle.ph_node.proofs.Lists.{rise_new, kept_new, seen_new}
 use Rattle.ph_node.proofs.NodeEdits.{record_edit, record_is}
 use Rattle.ph_node.proofs.OldNodes.{old}
@@ -27,24 +28,44 @@ pub pair_below-requires-clause-low : goal.pair_below-requires-clause-low
 pair_below-requires-clause-low g c =
     let q = c.requires in
     let o = old _ _ _ _ c.self.view_is c.self.invariant in
-    omega (arith, o.kept.low, lower _ _ _ _ o c.args.spot.place c.old_entry-old.result c.old_entry-old.ensures q.spot.within c.place_apart-level.result c.args.v c.args.body.now q.body c.place_apart-level.ensures)
+    omega (
+      arith,
+      o.kept.low,
+      lower _ _ _ _ o c.args.spot.place c.old_entry-old.result c.old_entry-old.ensures
+          q.spot.within c.place_apart-level.result c.args.v c.args.body.now q.body c.place_apart-level.ensures,
+    )
 
 pub pair_below-requires-clause-differ : goal.pair_below-requires-clause-differ
 pair_below-requires-clause-differ g c =
     let q = c.requires in
-    addresses_differ _ _ _ _ (old _ _ _ _ c.self.view_is c.self.invariant) c.args.spot.place c.old_entry-old.result c.old_entry-old.ensures q.spot.within c.place_apart-level.result c.args.v c.args.body.now q.body c.place_apart-level.ensures
+    addresses_differ _ _ _ _ (old _ _ _ _ c.self.view_is c.self.invariant) c.args.spot.place c.old_entry-old.result
+    c.old_entry-old.ensures q.spot.within c.place_apart-level.result c.args.v c.args.body.now q.body
+    c.place_apart-level.ensures
 
 pub body_above-requires : goal.body_above-requires
 body_above-requires g c =
     let q = c.requires in
     let o = old _ _ _ _ c.self.view_is c.self.invariant in
-    omega (arith, o.kept.low, lower _ _ _ _ o c.args.spot.place c.old_entry-old.result c.old_entry-old.ensures q.spot.within c.place_apart-level.result c.args.v c.args.body.now q.body c.place_apart-level.ensures)
+    omega (
+      arith,
+      o.kept.low,
+      lower _ _ _ _ o c.args.spot.place c.old_entry-old.result c.old_entry-old.ensures
+          q.spot.within c.place_apart-level.result c.args.v c.args.body.now q.body c.place_apart-level.ensures,
+    )
 
 pub pair_below-requires-clause-body_padded : goal.pair_below-requires-clause-body_padded
 pair_below-requires-clause-body_padded g c = padded-filled g.P.Dims.D c.args.body.now c.requires.body.fields.0 c.requires.body.filled
 
 -- the edit is one of the node
-node_edit : (g : Over) (c : After-D g) → IsEdit g.P.Dims.D c.args.self.now (record { place = c.args.spot.place; less = 1; more = 1; entry = record { addr = c.old_entry-old.result.addr; child = true; body = c.body_above.result; rank = 0 }; value = 0 })
+node_edit : (g : Over) (c : After-D g) →
+    IsEdit g.P.Dims.D c.args.self.now
+    (record {
+      place = c.args.spot.place;
+      less = 1;
+      more = 1;
+      entry = record { addr = c.old_entry-old.result.addr; child = true; body = c.body_above.result; rank = 0 };
+      value = 0;
+    })
 node_edit g c =
     let q = c.requires in
     let i : ℕ = c.args.spot.place in
@@ -56,21 +77,69 @@ node_edit g c =
       address = address_low _ _ _ _ o i q.spot.within _ c.old_entry-old.ensures.addr;
       front = front_at _ _ _ _ o i q.spot.within _ c.old_entry-old.ensures.addr;
       behind = behind_at _ _ _ _ o i q.spot.within _ c.old_entry-old.ensures.addr;
-      rise = rise_new _ _ _ _ _ (parent_new _ _ _ _ o c.args.spot.place c.old_entry-old.result c.old_entry-old.ensures q.spot.within c.place_apart-level.result c.args.v c.args.body.now q.body c.place_apart-level.ensures c.body_above.result c.body_above.ensures);
-      padded = subst (λ b. IsPadded g.P.Dims.D b) (sym c.body_above.ensures) (padded-above g.P.Dims.D c.place_apart-level.result c.args.body.now (padded-filled g.P.Dims.D c.args.body.now q.body.fields.0 q.body.filled));
+      rise = rise_new _ _ _ _ _ (parent_new _ _ _ _ o c.args.spot.place c.old_entry-old.result c.old_entry-old.ensures
+          q.spot.within c.place_apart-level.result c.args.v c.args.body.now q.body c.place_apart-level.ensures
+          c.body_above.result c.body_above.ensures);
+      padded = subst (λ b. IsPadded g.P.Dims.D b) (sym c.body_above.ensures)
+          (padded-above g.P.Dims.D c.place_apart-level.result c.args.body.now
+          (padded-filled g.P.Dims.D c.args.body.now q.body.fields.0 q.body.filled));
     }
 
 -- its record, and how long that is
-record_new : (g : Over) (c : After-D g) → record_with c.D.result c.self.inside.block.words (record { place = c.args.spot.place; less = 1; more = 1; entry = record { addr = c.old_entry-old.result.addr; child = true; body = c.body_above.result; rank = 0 }; value = 0 }) ≡ record_of g.P.Dims.D c.args.self.now.level (edit_flats g.P.Dims.D c.args.self.now (record { place = c.args.spot.place; less = 1; more = 1; entry = record { addr = c.old_entry-old.result.addr; child = true; body = c.body_above.result; rank = 0 }; value = 0 }))
+record_new : (g : Over) (c : After-D g) →
+    record_with c.D.result c.self.inside.block.words
+    (record {
+      place = c.args.spot.place;
+      less = 1;
+      more = 1;
+      entry = record { addr = c.old_entry-old.result.addr; child = true; body = c.body_above.result; rank = 0 };
+      value = 0;
+    }) ≡ record_of g.P.Dims.D c.args.self.now.level
+    (edit_flats g.P.Dims.D c.args.self.now
+    (record {
+      place = c.args.spot.place;
+      less = 1;
+      more = 1;
+      entry = record { addr = c.old_entry-old.result.addr; child = true; body = c.body_above.result; rank = 0 };
+      value = 0;
+    }))
 record_new g c =
-    ap (λ k. record_with k c.self.inside.block.words (record { place = c.args.spot.place; less = 1; more = 1; entry = record { addr = c.old_entry-old.result.addr; child = true; body = c.body_above.result; rank = 0 }; value = 0 })) c.D.ensures
-    ∙ record_is _ _ _ _ c.self.view_is c.self.invariant (record { place = c.args.spot.place; less = 1; more = 1; entry = record { addr = c.old_entry-old.result.addr; child = true; body = c.body_above.result; rank = 0 }; value = 0 })
+    ap (λ k. record_with k c.self.inside.block.words
+    (record {
+      place = c.args.spot.place;
+      less = 1;
+      more = 1;
+      entry = record { addr = c.old_entry-old.result.addr; child = true; body = c.body_above.result; rank = 0 };
+      value = 0;
+    })) c.D.ensures
+    ∙ record_is _ _ _ _ c.self.view_is c.self.invariant
+    (record {
+      place = c.args.spot.place;
+      less = 1;
+      more = 1;
+      entry = record { addr = c.old_entry-old.result.addr; child = true; body = c.body_above.result; rank = 0 };
+      value = 0;
+    })
 
-record_length : (g : Over) (c : After-D g) → length (record_with c.D.result c.self.inside.block.words (record { place = c.args.spot.place; less = 1; more = 1; entry = record { addr = c.old_entry-old.result.addr; child = true; body = c.body_above.result; rank = 0 }; value = 0 })) + 1 ≡ length c.self.inside.block.words + (if c.old_entry-old.result.child then 1 else 0)
+record_length : (g : Over) (c : After-D g) →
+    length (record_with c.D.result c.self.inside.block.words
+    (record {
+      place = c.args.spot.place;
+      less = 1;
+      more = 1;
+      entry = record { addr = c.old_entry-old.result.addr; child = true; body = c.body_above.result; rank = 0 };
+      value = 0;
+    })) + 1 ≡ length c.self.inside.block.words + (if c.old_entry-old.result.child then 1 else 0)
 record_length g c =
     let q = c.requires in
     let o = old _ _ _ _ c.self.view_is c.self.invariant in
-    omega (arith, ap (λ u. length u) (record_new g c), parent_long _ _ _ _ o c.args.spot.place c.old_entry-old.result c.old_entry-old.ensures q.spot.within c.place_apart-level.result c.args.v c.args.body.now q.body c.place_apart-level.ensures c.body_above.result c.body_above.ensures)
+    omega (
+      arith,
+      ap (λ u. length u) (record_new g c),
+      parent_long _ _ _ _ o c.args.spot.place c.old_entry-old.result
+          c.old_entry-old.ensures q.spot.within c.place_apart-level.result c.args.v c.args.body.now q.body
+          c.place_apart-level.ensures c.body_above.result c.body_above.ensures,
+    )
 
 one-at-most : (b : Bool) → (if b then 1 else 0) ≤ 1
 one-at-most true = omega arith
@@ -78,7 +147,14 @@ one-at-most false = omega arith
 
 pub put_entry-requires-clause-edit : goal.put_entry-requires-clause-edit
 put_entry-requires-clause-edit g c =
-    subst (λ d. IsRecordEdit d c.self.inside.block.words (record { place = c.args.spot.place; less = 1; more = 1; entry = record { addr = c.old_entry-old.result.addr; child = true; body = c.body_above.result; rank = 0 }; value = 0 })) (sym c.D.ensures)
+    subst (λ d. IsRecordEdit d c.self.inside.block.words
+    (record {
+      place = c.args.spot.place;
+      less = 1;
+      more = 1;
+      entry = record { addr = c.old_entry-old.result.addr; child = true; body = c.body_above.result; rank = 0 };
+      value = 0;
+    })) (sym c.D.ensures)
     (record_edit _ _ _ _ c.self.view_is c.self.invariant _ (node_edit g (goal.at.put_entry-requires-clause-edit g c).After-D))
 
 pub put_entry-requires-clause-address : goal.put_entry-requires-clause-address
@@ -92,14 +168,24 @@ put_entry-requires-clause-long g c h =
 
 pub take_child-requires-clause-within : goal.take_child-requires-clause-within
 take_child-requires-clause-within g c h =
-    front_within _ _ c.self.inside.block.values _ (old _ _ _ _ c.self.view_is c.self.invariant) c.args.spot.place c.old_entry-old.result c.old_entry-old.ensures c.requires.spot.within c.put_entry.new.block.values c.put_entry.ensures.same.0 h
+    front_within _ _ c.self.inside.block.values _ (old _ _ _ _ c.self.view_is c.self.invariant) c.args.spot.place
+    c.old_entry-old.result c.old_entry-old.ensures c.requires.spot.within c.put_entry.new.block.values
+    c.put_entry.ensures.same.0 h
 
 pub take_child-requires-clause-room : goal.take_child-requires-clause-room
 take_child-requires-clause-room g c h =
     let q = c.requires in
     let o = old _ _ _ _ c.self.view_is c.self.invariant in
     let k : ◌≡◌ {A = ℕ} (if c.old_entry-old.result.child then 1 else 0) 1 = ap {B = ℕ} (λ (b : Bool). if b then 1 else 0) h in
-    omega (arith, child_room _ _ _ _ o c.args.spot.place c.old_entry-old.result c.old_entry-old.ensures q.spot.within c.place_apart-level.result c.args.v c.args.body.now q.body c.place_apart-level.ensures q.above _ c.in_ok-words.ensures.room, ap (λ u. length u) c.in_ok-words.ensures.words, k, ap (λ b. b.spare) c.of-below.ensures)
+    omega (
+      arith,
+      child_room _ _ _ _ o c.args.spot.place c.old_entry-old.result c.old_entry-old.ensures q.spot.within
+          c.place_apart-level.result c.args.v c.args.body.now q.body c.place_apart-level.ensures q.above _
+          c.in_ok-words.ensures.room,
+      ap (λ u. length u) c.in_ok-words.ensures.words,
+      k,
+      ap (λ b. b.spare) c.of-below.ensures,
+    )
 
 pub take_child-requires-clause-free : goal.take_child-requires-clause-free
 take_child-requires-clause-free g c h =
@@ -108,50 +194,102 @@ take_child-requires-clause-free g c h =
 
 pub insert-requires-clause-rank : goal.insert-requires-clause-rank
 insert-requires-clause-rank g c =
-    place_left _ _ c.self.inside.block.values _ (old _ _ _ _ c.self.view_is c.self.invariant) c.args.spot.place c.old_entry-old.result c.old_entry-old.ensures c.requires.spot.within c.put_entry.new.block.values c.put_entry.ensures.same.0 _ c.take_child.ensures.left
+    place_left _ _ c.self.inside.block.values _ (old _ _ _ _ c.self.view_is c.self.invariant) c.args.spot.place
+    c.old_entry-old.result c.old_entry-old.ensures c.requires.spot.within c.put_entry.new.block.values
+    c.put_entry.ensures.same.0 _ c.take_child.ensures.left
 
 pub invariant_of-node : goal.invariant_of-node
 invariant_of-node g c =
     let q = c.requires in
     let o = old _ _ _ _ c.self.view_is c.self.invariant in
-    let k = kids_are _ _ c.self.inside.block.values _ o c.args.spot.place c.old_entry-old.result c.old_entry-old.ensures q.spot.within c.put_entry.new.block.values c.put_entry.ensures.same.0 _ c.take_child.ensures.taken in
+    let k = kids_are _ _ c.self.inside.block.values _ o c.args.spot.place c.old_entry-old.result
+    c.old_entry-old.ensures q.spot.within c.put_entry.new.block.values c.put_entry.ensures.same.0 _
+    c.take_child.ensures.taken in
     subst (IsRecorded g.P.Dims.D c.take_child.new.to.words) (sym k)
-    (kept_new _ _ _ _ _ (child_new _ _ _ _ o c.args.spot.place c.old_entry-old.result c.old_entry-old.ensures q.spot.within c.place_apart-level.result c.args.v c.args.body.now q.body c.place_apart-level.ensures q.above) _ (c.take_child.ensures.words ∙ ap (λ b. b.words) c.of-below.ensures ∙ c.in_ok-words.ensures.words))
+    (kept_new _ _ _ _ _ (child_new _ _ _ _ o c.args.spot.place c.old_entry-old.result c.old_entry-old.ensures
+    q.spot.within c.place_apart-level.result c.args.v c.args.body.now q.body c.place_apart-level.ensures q.above)
+    _ (c.take_child.ensures.words ∙ ap (λ b. b.words) c.of-below.ensures ∙ c.in_ok-words.ensures.words))
 
 -- the node that the entry holds
-seen : (g : Over) (c : After-insert g) → unpacked g.P.Dims.D c.take_child.new.to.words (nodes_of c.take_child.new.to.values) ≡ node_of c.place_apart-level.result (pair_entries c.place_apart-level.result (body_at (entries c.args.self.now) c.args.spot.place) (what_at (entries c.args.self.now) c.args.spot.place) (take g.P.Dims.D c.args.body.now) c.args.v)
+seen : (g : Over) (c : After-insert g) →
+    unpacked g.P.Dims.D c.take_child.new.to.words (nodes_of c.take_child.new.to.values) ≡
+    node_of c.place_apart-level.result
+    (pair_entries c.place_apart-level.result (body_at (entries c.args.self.now) c.args.spot.place)
+    (what_at (entries c.args.self.now) c.args.spot.place) (take g.P.Dims.D c.args.body.now) c.args.v)
 seen g c =
     let q = c.requires in
     let o = old _ _ _ _ c.self.view_is c.self.invariant in
-    ap (λ ns. unpacked g.P.Dims.D c.take_child.new.to.words ns) (kids_are _ _ c.self.inside.block.values _ o c.args.spot.place c.old_entry-old.result c.old_entry-old.ensures q.spot.within c.put_entry.new.block.values c.put_entry.ensures.same.0 _ c.take_child.ensures.taken)
-    ∙ seen_new _ _ _ _ _ (child_new _ _ _ _ o c.args.spot.place c.old_entry-old.result c.old_entry-old.ensures q.spot.within c.place_apart-level.result c.args.v c.args.body.now q.body c.place_apart-level.ensures q.above) _ (c.take_child.ensures.words ∙ ap (λ b. b.words) c.of-below.ensures ∙ c.in_ok-words.ensures.words)
+    ap (λ ns. unpacked g.P.Dims.D c.take_child.new.to.words ns)
+    (kids_are _ _ c.self.inside.block.values _ o c.args.spot.place c.old_entry-old.result c.old_entry-old.ensures
+    q.spot.within c.put_entry.new.block.values c.put_entry.ensures.same.0 _ c.take_child.ensures.taken)
+    ∙ seen_new _ _ _ _ _ (child_new _ _ _ _ o c.args.spot.place c.old_entry-old.result c.old_entry-old.ensures
+    q.spot.within c.place_apart-level.result c.args.v c.args.body.now q.body c.place_apart-level.ensures q.above)
+    _ (c.take_child.ensures.words ∙ ap (λ b. b.words) c.of-below.ensures ∙ c.in_ok-words.ensures.words)
 
 -- the children with it
-put : (g : Over) (c : After-insert g) → nodes_of c.insert.new.self.values ≡ edited (before (entries c.args.self.now) c.args.spot.place) (ones_of (what_at (entries c.args.self.now) c.args.spot.place)) 1 (node_of c.place_apart-level.result (pair_entries c.place_apart-level.result (body_at (entries c.args.self.now) c.args.spot.place) (what_at (entries c.args.self.now) c.args.spot.place) (take g.P.Dims.D c.args.body.now) c.args.v)) (nodes_of c.self.inside.block.values)
+put : (g : Over) (c : After-insert g) →
+    nodes_of c.insert.new.self.values ≡ edited (before (entries c.args.self.now) c.args.spot.place)
+    (ones_of (what_at (entries c.args.self.now) c.args.spot.place)) 1
+    (node_of c.place_apart-level.result
+    (pair_entries c.place_apart-level.result (body_at (entries c.args.self.now) c.args.spot.place)
+    (what_at (entries c.args.self.now) c.args.spot.place) (take g.P.Dims.D c.args.body.now) c.args.v))
+    (nodes_of c.self.inside.block.values)
 put g c =
     let o = old _ _ _ _ c.self.view_is c.self.invariant in
-    put_is _ _ c.self.inside.block.values _ o c.args.spot.place c.old_entry-old.result c.old_entry-old.ensures c.requires.spot.within c.put_entry.new.block.values c.put_entry.ensures.same.0 _ _ _ c.take_child.ensures.left c.insert.ensures.values
-    ∙ ap (λ n. edited (before (entries c.args.self.now) c.args.spot.place) (ones_of (what_at (entries c.args.self.now) c.args.spot.place)) 1 n (nodes_of c.self.inside.block.values)) (seen g c)
+    put_is _ _ c.self.inside.block.values _ o c.args.spot.place c.old_entry-old.result c.old_entry-old.ensures
+    c.requires.spot.within c.put_entry.new.block.values c.put_entry.ensures.same.0 _ _ _ c.take_child.ensures.left
+    c.insert.ensures.values
+    ∙ ap (λ n. edited (before (entries c.args.self.now) c.args.spot.place)
+    (ones_of (what_at (entries c.args.self.now) c.args.spot.place)) 1 n (nodes_of c.self.inside.block.values)) (seen g c)
 
 -- the record is that of the node with the edit
-made : (g : Over) (c : After-insert g) → c.insert.new.self.words ≡ record_of g.P.Dims.D c.args.self.now.level (edit_flats g.P.Dims.D c.args.self.now (record { place = c.args.spot.place; less = 1; more = 1; entry = record { addr = c.old_entry-old.result.addr; child = true; body = c.body_above.result; rank = 0 }; value = 0 }))
+made : (g : Over) (c : After-insert g) →
+    c.insert.new.self.words ≡ record_of g.P.Dims.D c.args.self.now.level
+    (edit_flats g.P.Dims.D c.args.self.now
+    (record {
+      place = c.args.spot.place;
+      less = 1;
+      more = 1;
+      entry = record { addr = c.old_entry-old.result.addr; child = true; body = c.body_above.result; rank = 0 };
+      value = 0;
+    }))
 made g c =
     c.insert.ensures.same.0 ∙ c.take_child.ensures.same ∙ c.put_entry.ensures.words
-    ∙ ap (λ k. record_with k c.self.inside.block.words (record { place = c.args.spot.place; less = 1; more = 1; entry = record { addr = c.old_entry-old.result.addr; child = true; body = c.body_above.result; rank = 0 }; value = 0 })) c.D.ensures
-    ∙ record_is _ _ _ _ c.self.view_is c.self.invariant (record { place = c.args.spot.place; less = 1; more = 1; entry = record { addr = c.old_entry-old.result.addr; child = true; body = c.body_above.result; rank = 0 }; value = 0 })
+    ∙ ap (λ k. record_with k c.self.inside.block.words
+    (record {
+      place = c.args.spot.place;
+      less = 1;
+      more = 1;
+      entry = record { addr = c.old_entry-old.result.addr; child = true; body = c.body_above.result; rank = 0 };
+      value = 0;
+    })) c.D.ensures
+    ∙ record_is _ _ _ _ c.self.view_is c.self.invariant
+    (record {
+      place = c.args.spot.place;
+      less = 1;
+      more = 1;
+      entry = record { addr = c.old_entry-old.result.addr; child = true; body = c.body_above.result; rank = 0 };
+      value = 0;
+    })
 
 pub invariant_of-self : goal.invariant_of-self
 invariant_of-self g c =
     let q = c.requires in
     let o = old _ _ _ _ c.self.view_is c.self.invariant in
     subst (IsRecorded g.P.Dims.D c.insert.new.self.words) (sym (put g c))
-    (kept_new _ _ _ _ _ (parent_new _ _ _ _ o c.args.spot.place c.old_entry-old.result c.old_entry-old.ensures q.spot.within c.place_apart-level.result c.args.v c.args.body.now q.body c.place_apart-level.ensures c.body_above.result c.body_above.ensures) _ (made g c))
+    (kept_new _ _ _ _ _ (parent_new _ _ _ _ o c.args.spot.place c.old_entry-old.result c.old_entry-old.ensures
+    q.spot.within c.place_apart-level.result c.args.v c.args.body.now q.body c.place_apart-level.ensures
+    c.body_above.result c.body_above.ensures) _ (made g c))
 
 pub returns-clause-ok : goal.returns-clause-ok
 returns-clause-ok g c =
     let q = c.requires in
     let o = old _ _ _ _ c.self.view_is c.self.invariant in
     ap (λ ns. unpacked g.P.Dims.D c.insert.new.self.words ns) (put g c)
-    ∙ seen_new _ _ _ _ _ (parent_new _ _ _ _ o c.args.spot.place c.old_entry-old.result c.old_entry-old.ensures q.spot.within c.place_apart-level.result c.args.v c.args.body.now q.body c.place_apart-level.ensures c.body_above.result c.body_above.ensures) _ (made g c)
+    ∙ seen_new _ _ _ _ _ (parent_new _ _ _ _ o c.args.spot.place c.old_entry-old.result c.old_entry-old.ensures
+    q.spot.within c.place_apart-level.result c.args.v c.args.body.now q.body c.place_apart-level.ensures
+    c.body_above.result c.body_above.ensures) _ (made g c)
     ∙ node_of-entries (split_node c.args.self.now c.args.spot.place c.place_apart-level.result (take g.P.Dims.D c.args.body.now) c.args.v)
-    ∙ ap (λ k. split_node c.args.self.now c.args.spot.place k (take g.P.Dims.D c.args.body.now) c.args.v) (sym (part_there _ _ _ _ o c.args.spot.place c.old_entry-old.result c.old_entry-old.ensures q.spot.within c.place_apart-level.result c.args.v c.args.body.now q.body c.place_apart-level.ensures))
+    ∙ ap (λ k. split_node c.args.self.now c.args.spot.place k (take g.P.Dims.D c.args.body.now) c.args.v)
+    (sym (part_there _ _ _ _ o c.args.spot.place c.old_entry-old.result c.old_entry-old.ensures q.spot.within
+    c.place_apart-level.result c.args.v c.args.body.now q.body c.place_apart-level.ensures))

@@ -4,37 +4,6 @@
 use ph_bits::{Edit, Packed};
 use ph_cube::by_dims::{insert_point, remove_point};
 
-// A body of at most three fields.
-macro_rules! body {
-    ($x:expr) => {
-        body!($x, 0, 0)
-    };
-    ($x:expr, $y:expr) => {
-        body!($x, $y, 0)
-    };
-    ($x:expr, $y:expr, $z:expr) => {
-        [$x, $y, $z, 0, 0, 0, 0, 0, 0, 0, 0, 0, 0, 0, 0, 0]
-    };
-}
-
-// An edit by which a point at a place comes or goes.
-macro_rules! edit_at {
-    ($place:expr, $less:expr, $more:expr, $addr:expr, $body:expr, $value:expr) => {
-        Edit {
-            place: $place,
-            less: $less,
-            more: $more,
-            entry: Packed {
-                addr: $addr,
-                child: false,
-                body: $body,
-                rank: 0,
-            },
-            value: $value,
-        }
-    };
-}
-
 // Each row is a place and its address, the body and the value of a point, and the records without it and with it: the point is put
 // into the one, and taken out of the other.
 macro_rules! try_rows {
@@ -43,11 +12,11 @@ macro_rules! try_rows {
     )*) => {
         $({
             let mut words = [$($without,)* u64::MAX];
-            let edit = edit_at!($place, 0, 1, $addr, body!($($field),*), $value);
+            let edit = edit_at!($place, 0, 1, $addr, false, body!($($field),*), $value);
             insert_point(&mut words, $dims, &edit, $addr);
             assert!($rt; words[..] == [$($with),*]);
             let mut words = [$($with),*];
-            let edit = edit_at!($place, 1, 0, $addr, [9; 16], 0);
+            let edit = edit_at!($place, 1, 0, $addr, false, [9; 16], 0);
             let len = remove_point(&mut words, $dims, &edit, $addr);
             assert!($rt; words[..len] == [$($without),*]);
         })*

@@ -1,7 +1,7 @@
 use Rattle.std.proofs.Common.{length, ap, ◌∙◌}
 use Rattle.ph_specs.specs.Node.{entries}
 use Rattle.ph_node.specs.Relaid.{is_relaid}
-use Rattle.ph_node.proofs.twins.drop_at.Goals as goal
+use Rattle.ph_node.proofs.tests.twins.drop_at.Goals as goal
 
 pub drop_entry-requires-clause-room : goal.drop_entry-requires-clause-room
 drop_entry-requires-clause-room g c h =

@@ -4,7 +4,7 @@ use Rattle.ph_node.specs.Recorded.{IsRecorded}
 use Rattle.ph_node.specs.Slots.{nodes_of}
 use Rattle.ph_node.proofs.PointEdits.{less_edit, less_record, less_kept}
 use Rattle.ph_node.proofs.Resized.{shorter_with}
-use Rattle.ph_node.proofs.twins.drop_anew.Goals as goal
+use Rattle.ph_node.proofs.tests.twins.drop_anew.Goals as goal
 
 pub lay_out-requires-clause-edit : goal.lay_out-requires-clause-edit
 lay_out-requires-clause-edit g c =

@@ -5,7 +5,7 @@ use Rattle.ph_specs.proofs.laws.Unpacked.{child_nodes}
 use Rattle.ph_bits.specs.Block.{room_of}
 use Rattle.ph_node.proofs.Listings.{length-nodes}
 use Rattle.ph_node.proofs.OldNodes.{nodes_are}
-use Rattle.ph_node.proofs.twins.spare_for.Goals as goal
+use Rattle.ph_node.proofs.tests.twins.spare_for.Goals as goal
 
 pub returns : goal.returns
 returns g c _ =

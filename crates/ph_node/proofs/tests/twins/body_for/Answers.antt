@@ -6,7 +6,7 @@ use Rattle.ph_specs.specs.PutTree.{body_below}
 use Rattle.ph_node.specs.Bodies.{IsBodyArray}
 use Rattle.ph_node.proofs.Filled.{filled-below, filled-behind}
 use Rattle.ph_node.proofs.Resized.{front_is}
-use Rattle.ph_node.proofs.twins.body_for.Goals as goal
+use Rattle.ph_node.proofs.tests.twins.body_for.Goals as goal
 
 -- some numbers, with zeros behind them
 made : (d level : ℕ) (fs : List ℕ) → length fs ≡ d → IsBodyArray d level (body_below level (fs ++ drop d (replicate 16 0)))
@@ -28,4 +28,6 @@ returns g c =
     let long : length fs ≡ d =
     c.scatter.auto.fields ∙ length-take-le c.D.result (replicate 16 0) (omega (arith, c.D.ensures, c.requires.few)) ∙ c.D.ensures
     in
-    subst (IsBodyArray d c.args.level) (sym (c.body_below.ensures ∙ ap (λ k. body_below c.args.level (fs ++ drop k (replicate 16 0))) c.D.ensures)) (made d c.args.level fs long)
+    subst (IsBodyArray d c.args.level)
+    (sym (c.body_below.ensures ∙ ap (λ k. body_below c.args.level (fs ++ drop k (replicate 16 0))) c.D.ensures))
+    (made d c.args.level fs long)

@@ -5,7 +5,7 @@ use Rattle.ph_node.specs.Slots.{nodes_of}
 use Rattle.ph_node.proofs.Listings.{length-nodes}
 use Rattle.ph_node.proofs.OldNodes.{children-are}
 use Rattle.ph_node.proofs.PointEdits.{more_record, more_kept}
-use Rattle.ph_node.proofs.twins.add_anew.Goals as goal
+use Rattle.ph_node.proofs.tests.twins.add_anew.Goals as goal
 
 -- what holds whether there was memory or not
 either : {A E : Type 0} (P : List ℕ → Type 0) (us xs ys : List ℕ) (r : Result A E) → OnOk r (us ≡ xs) → OnErr r (us ≡ ys) → P xs → P ys → P us
@@ -23,6 +23,7 @@ add_anew-requires-clause-children g c =
 pub invariant_of-node : goal.invariant_of-node
 invariant_of-node g c =
     let kids = nodes_of c.node.inside.block.values in
-    let new = more_kept _ _ _ _ c.node.view_is c.node.invariant c.args.i c.args.addr c.args.v c.args.body c.requires.absent c.requires.place c.requires.address c.requires.body _ refl in
+    let new = more_kept _ _ _ _ c.node.view_is c.node.invariant c.args.i c.args.addr c.args.v c.args.body
+    c.requires.absent c.requires.place c.requires.address c.requires.body _ refl in
     subst (λ ss. IsRecorded g.P.Dims.D c.add_anew.new.block.words (nodes_of ss)) (sym c.add_anew.ensures.values)
     (either (λ ws. IsRecorded g.P.Dims.D ws kids) _ _ _ c.add_anew.result c.add_anew.ensures.words c.add_anew.ensures.kept new c.node.invariant)

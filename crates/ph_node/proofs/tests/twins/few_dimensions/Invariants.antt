@@ -1,4 +1,4 @@
-use Rattle.ph_node.proofs.twins.few_dimensions.Given as goal
+use Rattle.ph_node.proofs.tests.twins.few_dimensions.Given as goal
 
 abbrev pub ghosts-there_and_back-V-Ledger : goal.ghosts-there_and_back-V-Ledger
 ghosts-there_and_back-V-Ledger g a = record { name = a.visits.name; parts = a.visits.parts }

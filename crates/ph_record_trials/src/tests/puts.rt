@@ -4,24 +4,6 @@ use ph_bits::{Edit, Packed};
 use ph_cube::by_dims as cube;
 use ph_linear::by_dims as linear;
 
-// An edit of the entry at a place.
-macro_rules! edit_at {
-    ($place:expr, $addr:expr, $child:expr, $x:expr, $y:expr, $value:expr) => {
-        Edit {
-            place: $place,
-            less: 1,
-            more: 1,
-            entry: Packed {
-                addr: $addr,
-                child: $child,
-                body: [$x, $y, 0, 0, 0, 0, 0, 0, 0, 0, 0, 0, 0, 0, 0, 0],
-                rank: 0,
-            },
-            value: $value,
-        }
-    };
-}
-
 // A call of a layout: one of a cube record also gets the address.
 macro_rules! put {
     (linear, $put:ident, $words:ident, $addr:expr, $edit:ident) => {
@@ -42,11 +24,11 @@ macro_rules! try_rows {
     )*) => {
         $({
             let mut words = [$($point),*];
-            let edit = edit_at!($place, $addr, true, $cx, $cy, 0);
+            let edit = edit_at!($place, 1, 1, $addr, true, body!($cx, $cy), 0);
             let len = put!($layout, put_child, words, $addr, edit);
             assert!($rt; words[..len] == [$($child),*]);
             let mut words = [$($child,)* u64::MAX];
-            let edit = edit_at!($place, $addr, false, $px, $py, $value);
+            let edit = edit_at!($place, 1, 1, $addr, false, body!($px, $py), $value);
             put!($layout, put_point, words, $addr, edit);
             assert!($rt; words[..] == [$($point),*]);
         })*
@@ -74,7 +56,7 @@ fn cube_entries_put(rt: HostRuntime) {
 
 #[test]
 fn child_gets_another_body(rt: HostRuntime) {
-    let edit = edit_at!(1, 1, true, 3, 0, 0);
+    let edit = edit_at!(1, 1, 1, 1, true, body!(3, 0), 0);
     let mut words = [0x0200000003000001, 0x43b1c80000000000, 5, 7];
     let len = put!(linear, put_child, words, 1, edit);
     assert!(rt; words[..len] == [0x0200000003000001, 0x43b6480000000000, 5, 7]);

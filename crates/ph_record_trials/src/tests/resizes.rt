@@ -3,24 +3,6 @@
 use ph_bits::{Edit, Packed};
 use ph_linear::by_dims as linear;
 
-// An edit by a point entry.
-macro_rules! edit_by {
-    ($place:expr, $less:expr, $more:expr, $addr:expr, $body:expr, $value:expr) => {
-        Edit {
-            place: $place,
-            less: $less,
-            more: $more,
-            entry: Packed {
-                addr: $addr,
-                child: false,
-                body: $body,
-                rank: 0,
-            },
-            value: $value,
-        }
-    };
-}
-
 // Each row is a place and its address, the body and the value of the point, the record with it, the record without it, how many
 // words that has, and as many words more as the other has.
 macro_rules! try_rows {
@@ -30,11 +12,11 @@ macro_rules! try_rows {
     )*) => {
         $({
             let mut words = [$($with),*];
-            let edit = edit_by!($place, 1, 0, $addr, [$($field),*], $value);
+            let edit = edit_at!($place, 1, 0, $addr, false, [$($field),*], $value);
             let len = linear::remove_point(&mut words, $dims, &edit);
             assert!($rt; words[..len] == [$($without),*]);
             let mut words = [$($without,)* $($spare),*];
-            let edit = edit_by!($place, 0, 1, $addr, [$($field),*], $value);
+            let edit = edit_at!($place, 0, 1, $addr, false, [$($field),*], $value);
             linear::insert_point(&mut words, $dims, $len, &edit);
             assert!($rt; words[..] == [$($with),*]);
         })*
