@@ -1,5 +1,5 @@
 -- The room that a node takes by the number of its entries.
-use Rattle.std.proofs.Common.{◌≡◌, ℕ, zero, suc, ◌+◌, ◌*◌, ◌^◌, ◌<◌, ◌≤◌, refl, ◌∙◌, ap, arith, length, inl, inr, ltb-true, ltb-false}
+use Rattle.std.proofs.Common.{◌≡◌, ℕ, zero, suc, ◌+◌, ◌*◌, ◌^◌, ◌<◌, ◌≤◌, refl, ◌∙◌, ap, arith, length, inl, inr, false, ltb-true, ltb-false, le-ltb}
 use Rattle.std.specs.Prelude.{nat_lt, if◌then◌else◌}
 use Rattle.std.proofs.Math.Nat.{mul-le-mul_left, pow-suc}
 use Rattle.std.proofs.lemmas.List.{length-append}
@@ -22,9 +22,6 @@ entry_digits dims level = 1 + dims + dims * level
 -- the digits of n entries in the smaller layout
 abbrev pub least_digits : ℕ → ℕ → ℕ → ℕ
 least_digits dims level n = if is_cube dims level n then cube_digits dims level else linear_digits dims level n
-
-lesser-low : (low c m : ℕ) → low ≤ c → low ≤ m → low ≤ (if nat_lt c m then c else m)
-lesser-low low c m h k = elim (either (nat_lt c m)) [ inl s ↦ rw s h | inr s ↦ rw s k ]
 
 lesser-high : (c m : ℕ) → (if nat_lt c m then c else m) ≤ m
 lesser-high c m =
@@ -53,17 +50,8 @@ cube-entry dims level =
     let l : (2 + dims * level) * suc dims ≤ (2 + dims * level) * 2 ^ dims = mul-le-mul_left (2 + dims * level) (pow-above dims) in
     omega (arith, l)
 
-pub least-entry : (dims level n : ℕ) → 1 ≤ n → entry_digits dims level ≤ least_digits dims level n
-least-entry dims level n h =
-    let l : entry_digits dims level * 1 ≤ entry_digits dims level * n = mul-le-mul_left (entry_digits dims level) h in
-    lesser-low (entry_digits dims level) (cube_digits dims level) (linear_digits dims level n) (cube-entry dims level) (omega (arith, l))
-
 pub least-few : (dims level n : ℕ) → least_digits dims level n ≤ linear_digits dims level n
 least-few dims level n = lesser-high (cube_digits dims level) (linear_digits dims level n)
-
-pub least-pair : (dims level : ℕ) → least_digits dims level 2 ≤ entry_digits dims level + entry_digits dims level
-least-pair dims level =
-    omega (arith, least-few dims level 2)
 
 pub least-more : (dims level m n : ℕ) → m ≤ n + 1 → least_digits dims level m ≤ least_digits dims level n + entry_digits dims level
 least-more dims level m n h =
@@ -89,14 +77,25 @@ length-flat (point a body v rest) = ap suc (length-flat rest)
 length-flat (child a body level chain rest) = ap suc (length-flat rest)
 
 -- a word, then the table in the smaller layout, then a word for each entry, be it a point or a child
-pub room-are : (dims level least : ℕ) (e : Entries) → AreRising dims level least (flat e) → room_of_entries dims level e ≡ 1 + words_for (least_digits dims level (count e)) + count e
+pub room-are : (dims level least : ℕ) (e : Entries) → AreRising dims level least (flat e) →
+    room_of_entries dims level e ≡ 1 + words_for (least_digits dims level (count e)) + count e
 room-are dims level least e h =
     let cube = is_cube dims level (length (flat e)) in
-    let t : length (words_of (table cube dims level (flat e))) ≡ words_for (least_digits dims level (length (flat e))) = length-words_of (table cube dims level (flat e)) ∙ ap words_for (table-digits cube dims level least (flat e) h) in
-    let n : words_for (least_digits dims level (length (flat e))) ≡ words_for (least_digits dims level (count e)) = ap (λ n. words_for (least_digits dims level n)) (length-flat e) in
+    let t : length (words_of (table cube dims level (flat e))) ≡
+    words_for (least_digits dims level (length (flat e))) = length-words_of (table cube dims level (flat e)) ∙
+    ap words_for (table-digits cube dims level least (flat e) h) in
+    let n : words_for (least_digits dims level (length (flat e))) ≡ words_for (least_digits dims level (count e)) =
+    ap (λ n. words_for (least_digits dims level n)) (length-flat e) in
     omega (arith, length-append (words_of (table cube dims level (flat e))) (values (flat e)), t, n, children-few (flat e), length-flat e)
 
--- a node with an entry takes the words of an entry
-pub some-room : (dims level least : ℕ) (e : Entries) → AreRising dims level least (flat e) → 1 ≤ count e → 2 + words_for (entry_digits dims level) ≤ room_of_entries dims level e
-some-room dims level least e h l =
-    omega (arith, room-are dims level least e h, l, words-rise (entry_digits dims level) (least_digits dims level (count e)) (least-entry dims level (count e) l))
+-- two entries never take less in the cube
+pub pair-linear : (dims level : ℕ) → is_cube dims level 2 ≡ false
+pair-linear zero level = le-ltb (cube_digits 0 level) (linear_digits 0 level 2) (omega arith)
+pair-linear (suc d) level =
+    let fields : ℕ = suc d * level in
+    let l : (2 + fields) * suc (suc d) ≤ (2 + fields) * 2 ^ suc d = mul-le-mul_left (2 + fields) (pow-above (suc d)) in
+    let two : fields * 2 ≤ fields * suc (suc d) = mul-le-mul_left fields (omega arith) in
+    le-ltb (cube_digits (suc d) level) (linear_digits (suc d) level 2) (omega (arith, l, two))
+
+pub one-linear : (dims level : ℕ) → is_cube dims level 1 ≡ false
+one-linear dims level = le-ltb (cube_digits dims level) (linear_digits dims level 1) (omega (arith, cube-entry dims level))

@@ -1,14 +1,14 @@
 -- The words and the children of nodes that a removal and a move want room for.
-use Rattle.std.specs.Prelude.{ℕ, ◌+◌, ◌*◌, ◌==◌, max, if◌then◌else◌, List, length, ℤ, Option, Some, None}
+use Rattle.std.specs.Prelude.{ℕ, ◌+◌, ◌*◌, ◌==◌, Bool, true, if◌then◌else◌, List, length, ℤ, Option, Some, None}
 use Rattle.ph_specs.specs.Digits.{words_for}
 use Rattle.ph_specs.specs.ZOrder.{address}
 use Rattle.ph_specs.specs.Node.{Entries, end, point, child, PlainNode, flat}
 use Rattle.ph_specs.specs.Shape.{digits_below, digits_between}
 use Rattle.ph_specs.specs.Lawful.{count}
-use Rattle.ph_specs.specs.Pack.{children, record_of}
+use Rattle.ph_specs.specs.Pack.{children, is_cube, record_of}
 use Rattle.ph_specs.specs.PutTree.{same_digits}
 use Rattle.ph_specs.specs.DelTree.{del_entries}
-use Rattle.ph_node.specs.Relaid.{is_relaid}
+use Rattle.ph_node.specs.Relaid.{differ, is_relaid}
 
 -- the words of the record of entries at a level, and a word for each child
 abbrev pub room_of_entries : ℕ → ℕ → Entries → ℕ
@@ -46,25 +46,33 @@ spare_wanted_in width dims (Some n) p =
 
 -- ---- a move
 
--- the most room that a node takes on the way of a point below a node at a level
-abbrev pub longest_below : ℕ → ℕ → ℕ → Entries → List ℤ → ℕ
-longest_below width dims level end p = 0
-longest_below width dims level (point a body v rest) p =
-    if a == address width p level then 0 else longest_below width dims level rest p
-longest_below width dims level (child a body below chain rest) p =
-    if a == address width p level then
-    (if same_digits body (digits_between width level below p) then max (room_of_entries dims below chain) (longest_below width dims below chain p) else 0)
-    else longest_below width dims level rest p
-
--- the most room that a node takes on the way of a point from a node on
-abbrev pub longest : ℕ → ℕ → PlainNode → List ℤ → ℕ
-longest width dims n p =
-    max (room_of_entries dims n.level n.chain) (longest_below width dims n.level n.chain p)
-
-abbrev pub longest_in : ℕ → ℕ → Option PlainNode → List ℤ → ℕ
-longest_in width dims None p = 0
-longest_in width dims (Some n) p = longest width dims n p
-
 -- by how many words a put lets the room grow that a removal wants
 abbrev pub more_words : ℕ → ℕ → ℕ
 more_words width dims = words_for (1 + dims + dims * width) + 1
+
+-- whether a node of n entries at a level, or one with an entry more, changes its layout when an entry goes
+abbrev pub is_relaid_near : ℕ → ℕ → ℕ → Bool
+is_relaid_near dims level n = if is_relaid dims level n then true else differ (is_cube dims level n) (is_cube dims level (n + 1))
+
+-- the room that a node at a level may want to lose an entry, once a put at another point may have added one
+abbrev pub spare_room : ℕ → ℕ → ℕ → Entries → ℕ
+spare_room width dims level e =
+    if is_relaid_near dims level (count e) then room_of_entries dims level e + more_words width dims else 0
+
+-- the room that the removal of a point may want behind a put, below a node at a level that may want so much: the node at which the point's way ends tells
+abbrev pub left_below : ℕ → ℕ → ℕ → ℕ → Entries → List ℤ → ℕ
+left_below width dims room level end p = 0
+left_below width dims room level (point a body v rest) p =
+    if a == address width p level then (if same_digits body (digits_below width level p) then room else 0) else left_below width dims room level rest p
+left_below width dims room level (child a body below chain rest) p =
+    if a == address width p level then
+    (if same_digits body (digits_between width level below p) then left_below width dims (spare_room width dims below chain) below chain p else 0)
+    else left_below width dims room level rest p
+
+-- the same from a node on, and in a tree
+abbrev pub spare_left : ℕ → ℕ → PlainNode → List ℤ → ℕ
+spare_left width dims n p = left_below width dims (spare_room width dims n.level n.chain) n.level n.chain p
+
+abbrev pub spare_left_in : ℕ → ℕ → Option PlainNode → List ℤ → ℕ
+spare_left_in width dims None p = 0
+spare_left_in width dims (Some n) p = spare_left width dims n p

@@ -1,13 +1,13 @@
 //! Moving the value at one point to another.
 
-ghost use Rattle.std.specs.Prelude.{◌≡◌, ◌+◌, ◌*◌, ◌^◌, ◌≤◌, Some};
+ghost use Rattle.std.specs.Prelude.{◌≡◌, ◌+◌, ◌*◌, ◌^◌, ◌<◌, ◌≤◌, Some};
 ghost use Rattle.ph_specs.specs.Coordinate.{IsPoint};
 ghost use Rattle.ph_specs.specs.Lawful.{IsLawful};
 ghost use Rattle.ph_specs.specs.PutTree.{find_tree, put_tree};
 ghost use Rattle.ph_specs.specs.DelTree.{del_tree};
 ghost use Rattle.ph_tree.specs.Moves.{IsMoveOf};
 ghost use Rattle.ph_tree.specs.Opened.{opened_in};
-ghost use Rattle.ph_tree.specs.Rooms.{longest_in, more_words};
+ghost use Rattle.ph_tree.specs.Rooms.{spare_left_in};
 
 use crate::find::Found;
 use crate::key::KeyOf;
@@ -34,7 +34,7 @@ pub enum Moved {
 
 // Puts the value at one point of a tree to another, and then takes the first out, where no row is at the other. The put sees
 // whether one is there, and then takes no memory. Else all memory is taken before the first change: the put takes the block for
-// the removal, with the most room that a node on the way of the first point takes, and what the put may add to one.
+// the removal, where the node of the first point may want one then.
 pub(crate) fn move_in<P: Dims, V: Ledger, C: Ledger>(
     root: &mut Option<NodeOf<P>>,
     alloc: Global,
@@ -49,11 +49,10 @@ pub(crate) fn move_in<P: Dims, V: Ledger, C: Ledger>(
     requires width { from.now.width ≡ to.now.width }
     requires wide { 1 ≤ to.now.width }
     requires point { IsPoint to.now.width P.D to.now.point }
-    requires place { IsPoint from.now.width P.D from.now.point }
     requires lawful { IsLawful to.now.width P.D root.old }
     requires found { find_tree from.now.width P.D root.old from.now.point ≡ Some found.value }
-    requires longest { found.longest ≡ longest_in from.now.width P.D root.old from.now.point }
-    requires short { found.longest ≤ 2 ^ 20 + 2 ^ 16 }
+    requires room { found.room ≡ spare_left_in from.now.width P.D root.old from.now.point }
+    requires limit { found.room < 2 ^ 21 }
     ensures done { IsMoveOf (find_tree to.now.width P.D root.old to.now.point) root.old
         (del_tree from.now.width P.D (put_tree to.now.width P.D root.old to.now.point found.value) from.now.point)
         root.new changes.old changes.new result }
@@ -71,7 +70,7 @@ pub(crate) fn move_in<P: Dims, V: Ledger, C: Ledger>(
         room: true,
         fresh: true,
         former: 0,
-        spare: Spare::new(alloc, found.longest + more_words(to.width(), P::D)),
+        spare: Spare::new(alloc, found.room),
     };
     match put_in(root, alloc, &mut put, visits, changes) {
         Ok(Put::New) => {
@@ -88,14 +87,4 @@ pub(crate) fn move_in<P: Dims, V: Ledger, C: Ledger>(
         Ok(Put::Old(_)) => Ok(Moved::Taken),
         Err(_) => Err(NoMemory),
     }
-}
-
-// By how many words a put at a point of a width lets the room grow, at most, that a removal wants.
-fn more_words(width: u32, dims: usize) -> usize
-    requires width { width ≤ 62 }
-    requires dims { dims ≤ 16 }
-    ensures value { result ≡ more_words width dims }
-    ensures limit { result ≤ 17 }
-{
-    (1 + dims + dims * width as usize + 63) / 64 + 1
 }

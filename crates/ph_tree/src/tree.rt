@@ -14,7 +14,7 @@ ghost use Rattle.ph_tree.specs.Rooms.{spare_wanted_in};
 
 use crate::compare::is_same_node;
 use crate::error::PutError;
-use crate::find::{find_in, find_long};
+use crate::find::{find_in, find_spare};
 use crate::key::KeyOf;
 use crate::moves::{Moved, move_in};
 use crate::puts::{PutOf, put_in};
@@ -298,7 +298,7 @@ impl<const D: usize> PhTree<D> {
         ensures later { visits.old ≤ visits.new }
     {
         let old = KeyOf::new(self.width, from.as_slice());
-        let Some(found) = find_long(&self.root, &old, visits) else {
+        let Some(found) = find_spare(&self.root, &old, visits) else {
             return Ok(Moved::Absent);
         };
         if from == to {

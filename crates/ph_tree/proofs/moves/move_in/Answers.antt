@@ -1,11 +1,10 @@
-use Rattle.std.proofs.Common.{◌≡◌, ℕ, ◌+◌, ◌^◌, ◌≤◌, arith, lt-ltb, sym, ap, ◌∙◌, subst, refl, true}
+use Rattle.std.proofs.Common.{◌≡◌, ℕ, ◌^◌, ◌≤◌, arith, lt-ltb, sym, ap, ◌∙◌, subst, refl}
 use Rattle.std.specs.Prelude.{Option, Some, None}
-use Rattle.ph_specs.specs.Coordinate.{is_point}
 use Rattle.ph_specs.specs.Lawful.{IsLawful}
 use Rattle.ph_specs.specs.PutTree.{find_tree, put_tree}
 use Rattle.ph_specs.proofs.laws.PutTree.{lawful-put_tree}
 use Rattle.ph_bits.specs.Block.{Block}
-use Rattle.ph_tree.specs.Rooms.{spare_wanted_in, longest_in, more_words}
+use Rattle.ph_tree.specs.Rooms.{spare_wanted_in, spare_left_in}
 use Rattle.ph_tree.specs.Spare.{IsRoomy}
 use Rattle.ph_tree.proofs.Rooms.{room-between}
 use Rattle.ph_tree.proofs.Trees.{new_absent}
@@ -33,7 +32,9 @@ del_in-requires g c =
     let at = (goal.at.del_in-requires g c).In-Ok-New in
     record {
       lawful = subst (λ (n : ℕ). IsLawful n g.P.Dims.D c.put_in.new.root) (sym c.requires.width)
-          (subst (IsLawful k.width g.P.Dims.D) (sym (between g at)) (lawful-put_tree k.width g.P.Dims.D c.args.root.now k.point c.args.found.value c.requires.wide c.requires.point (lt-ltb c.args.found.value (2 ^ 64) (omega arith)) c.requires.lawful));
+          (subst (IsLawful k.width g.P.Dims.D) (sym (between g at))
+          (lawful-put_tree k.width g.P.Dims.D c.args.root.now k.point c.args.found.value c.requires.wide
+          c.requires.point (lt-ltb c.args.found.value (2 ^ 64) (omega arith)) c.requires.lawful));
     }
 
 pub unreachable-requires : goal.unreachable-requires
@@ -44,16 +45,15 @@ unreachable-requires g c =
     let f = c.args.from.now in
     let t = c.args.root.now in
     let v = c.args.found.value in
-    let more = more_words k.width D in
-    let at_from = subst (λ (n : ℕ). is_point n D f.point ≡ true) c.requires.width c.requires.place in
     let there = subst (λ (n : ℕ). find_tree n D t f.point ≡ Some v) c.requires.width c.requires.found in
-    let longest = sym (c.requires.longest ∙ ap (λ n. longest_in n D t f.point) c.requires.width) in
-    let wide = room-between k.width D t f.point k.point v v c.requires.wide c.requires.some at_from c.requires.point c.requires.lawful there (free g at) in
-    let enough : spare_wanted_in k.width D (put_tree k.width D t k.point v) f.point ≤ c.args.found.longest + more = subst (λ n. spare_wanted_in k.width D (put_tree k.width D t k.point v) f.point ≤ n + more) longest wide in
-    let made = subst (λ u. spare_wanted_in k.width D u f.point ≤ c.args.found.longest + more) (sym (between g at)) enough in
-    let wanted = subst (λ n. spare_wanted_in n D c.put_in.new.root f.point ≤ c.args.found.longest + more) (sym c.requires.width) made in
-    let few : c.more_words.result ≡ more_words c.args.to.now.width g.P.Dims.D = c.more_words.ensures.value ∙ ap (λ n. more_words n c.D.result) c.width.ensures.value ∙ ap (more_words c.args.to.now.width) c.D.ensures in
-    let room : c.args.found.longest + more_words c.args.to.now.width g.P.Dims.D ≡ c.new.result.room = omega (arith, few, c.new.ensures.room) in
+    let may = sym (c.requires.room ∙ ap (λ n. spare_left_in n D t f.point) c.requires.width) in
+    let wide = room-between k.width D t f.point k.point v v c.requires.point c.requires.lawful there in
+    let enough : spare_wanted_in k.width D (put_tree k.width D t k.point v) f.point ≤ c.args.found.room =
+    subst (λ n. spare_wanted_in k.width D (put_tree k.width D t k.point v) f.point ≤ n) may wide in
+    let made = subst (λ u. spare_wanted_in k.width D u f.point ≤ c.args.found.room) (sym (between g at)) enough in
+    let wanted = subst (λ n. spare_wanted_in n D c.put_in.new.root f.point ≤ c.args.found.room) (sym c.requires.width) made in
     let put = rw c.in-Ok-New.field-0-is at c.in-Ok-New.ensures in
-    let no = c.in-Err-del_in.ensures.roomy (roomy-less c.put_in.new.put.spare.block _ _ (subst (λ n. spare_wanted_in f.width D c.put_in.new.root f.point ≤ n) room wanted) (put.roomy refl)) in
+    let no = c.in-Err-del_in.ensures.roomy
+    (roomy-less c.put_in.new.put.spare.block _ _
+    (subst (λ n. spare_wanted_in f.width D c.put_in.new.root f.point ≤ n) (sym c.new.ensures.room) wanted) (put.roomy refl)) in
     cc

@@ -8,9 +8,17 @@ use Rattle.ph_tree.proofs.tree.PhTree.del.Goals.{After-del_in}
 use Rattle.ph_tree.proofs.tree.PhTree.del.Goals as goal
 
 -- the key is that of the point
-keyed : (g : Over) (c : After-del_in g) → IsKeyed g.row.D c.self.inside.width c.self.inside.max c.self.inside.len c.self.inside.root c.args.self.now c.args.p.now c.new-key.result
+keyed : (g : Over) (c : After-del_in g) →
+    IsKeyed g.row.D c.self.inside.width c.self.inside.max c.self.inside.len c.self.inside.root c.args.self.now
+    c.args.p.now c.new-key.result
 keyed g c =
-    record { seen = c.self.view_is; tree = c.self.invariant; at = c.requires; width = c.new-key.ensures.width; point = c.new-key.ensures.point ∙ c.as_slice.ensures.value }
+    record {
+      seen = c.self.view_is;
+      tree = c.self.invariant;
+      at = c.requires;
+      width = c.new-key.ensures.width;
+      point = c.new-key.ensures.point ∙ c.as_slice.ensures.value;
+    }
 
 pub overflow_sub-self : goal.overflow_sub-self
 overflow_sub-self g c =

@@ -9,9 +9,17 @@ use Rattle.ph_tree.proofs.tree.PhTree.get.Goals.{After-find_in}
 use Rattle.ph_tree.proofs.tree.PhTree.get.Goals as goal
 
 -- the key is that of the point
-keyed : (g : Over) (c : After-find_in g) → IsKeyed g.row.D c.self.inside.width c.self.inside.max c.self.inside.len c.self.inside.root c.args.self.now c.args.p.now c.new-key.result
+keyed : (g : Over) (c : After-find_in g) →
+    IsKeyed g.row.D c.self.inside.width c.self.inside.max c.self.inside.len c.self.inside.root c.args.self.now
+    c.args.p.now c.new-key.result
 keyed g c =
-    record { seen = c.self.view_is; tree = c.self.invariant; at = c.requires; width = c.new-key.ensures.width; point = c.new-key.ensures.point ∙ c.as_slice.ensures.value }
+    record {
+      seen = c.self.view_is;
+      tree = c.self.invariant;
+      at = c.requires;
+      width = c.new-key.ensures.width;
+      point = c.new-key.ensures.point ∙ c.as_slice.ensures.value;
+    }
 
 -- the node that is visited is the root
 root : (g : Over) (c : After-find_in g) → c.self.inside.root ≡ Some (shown c.visit.result)

@@ -10,9 +10,17 @@ use Rattle.ph_tree.proofs.tree.PhTree.put.Goals.{After-put_in}
 use Rattle.ph_tree.proofs.tree.PhTree.put.Goals as goal
 
 -- the key is that of the point
-keyed : (g : Over) (c : After-put_in g) → IsKeyed g.row.D c.self.inside.width c.self.inside.max c.self.inside.len c.self.inside.root c.args.self.now c.args.p c.new-key.result
+keyed : (g : Over) (c : After-put_in g) →
+    IsKeyed g.row.D c.self.inside.width c.self.inside.max c.self.inside.len c.self.inside.root c.args.self.now
+    c.args.p c.new-key.result
 keyed g c =
-    record { seen = c.self.view_is; tree = c.self.invariant; at = c.requires; width = c.new-key.ensures.width; point = c.new-key.ensures.point ∙ c.as_slice.ensures.value }
+    record {
+      seen = c.self.view_is;
+      tree = c.self.invariant;
+      at = c.requires;
+      width = c.new-key.ensures.width;
+      point = c.new-key.ensures.point ∙ c.as_slice.ensures.value;
+    }
 
 pub invariant_of-self : goal.invariant_of-self
 invariant_of-self g c =

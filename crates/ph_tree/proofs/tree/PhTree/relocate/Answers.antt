@@ -10,22 +10,46 @@ use Rattle.ph_tree.proofs.Walks.{answered_as, on_ok, on_err, always_ok, either_w
 use Rattle.ph_tree.proofs.Trees.{IsKeyed, found_is, opened_few}
 use Rattle.ph_tree.proofs.Shifted.{IsMove, opened_between, moved, taken_moved, stays_there, none_there, answer_absent, answer_same, answer_taken, answer_done}
 use Rattle.ph_tree.proofs.tree.PhTree.relocate.Given.{Over}
-use Rattle.ph_tree.proofs.tree.PhTree.relocate.Goals.{After-find_long, After-move_in}
+use Rattle.ph_tree.proofs.tree.PhTree.relocate.Goals.{After-find_spare, After-move_in}
 use Rattle.ph_tree.proofs.tree.PhTree.relocate.Goals as goal
 
 -- the one key is that of the old point
-old_keyed : (g : Over) (c : After-find_long g) → IsKeyed g.row.D c.self.inside.width c.self.inside.max c.self.inside.len c.self.inside.root c.args.self.now c.args.from.now c.new-old.result
+old_keyed : (g : Over) (c : After-find_spare g) →
+    IsKeyed g.row.D c.self.inside.width c.self.inside.max c.self.inside.len c.self.inside.root c.args.self.now
+    c.args.from.now c.new-old.result
 old_keyed g c =
-    record { seen = c.self.view_is; tree = c.self.invariant; at = c.requires.from; width = c.new-old.ensures.width; point = c.new-old.ensures.point ∙ c.as_slice.ensures.value }
+    record {
+      seen = c.self.view_is;
+      tree = c.self.invariant;
+      at = c.requires.from;
+      width = c.new-old.ensures.width;
+      point = c.new-old.ensures.point ∙ c.as_slice.ensures.value;
+    }
 
 -- the two keys at the move
-old_moved : (g : Over) (c : After-move_in g) → IsKeyed g.row.D c.self.inside.width c.self.inside.max c.self.inside.len c.self.inside.root c.args.self.now c.args.from.now c.new-old.result
+old_moved : (g : Over) (c : After-move_in g) →
+    IsKeyed g.row.D c.self.inside.width c.self.inside.max c.self.inside.len c.self.inside.root c.args.self.now
+    c.args.from.now c.new-old.result
 old_moved g c =
-    record { seen = c.self.view_is; tree = c.self.invariant; at = c.requires.from; width = c.new-old.ensures.width; point = c.new-old.ensures.point ∙ c.as_slice.ensures.value }
+    record {
+      seen = c.self.view_is;
+      tree = c.self.invariant;
+      at = c.requires.from;
+      width = c.new-old.ensures.width;
+      point = c.new-old.ensures.point ∙ c.as_slice.ensures.value;
+    }
 
-new_moved : (g : Over) (c : After-move_in g) → IsKeyed g.row.D c.self.inside.width c.self.inside.max c.self.inside.len c.self.inside.root c.args.self.now c.args.to.now c.new-new.result
+new_moved : (g : Over) (c : After-move_in g) →
+    IsKeyed g.row.D c.self.inside.width c.self.inside.max c.self.inside.len c.self.inside.root c.args.self.now
+    c.args.to.now c.new-new.result
 new_moved g c =
-    record { seen = c.self.view_is; tree = c.self.invariant; at = c.requires.to; width = c.new-new.ensures.width; point = c.new-new.ensures.point ∙ c.as_slice-2.ensures.value }
+    record {
+      seen = c.self.view_is;
+      tree = c.self.invariant;
+      at = c.requires.to;
+      width = c.new-new.ensures.width;
+      point = c.new-new.ensures.point ∙ c.as_slice-2.ensures.value;
+    }
 
 -- the row that moves
 there : (g : Over) (c : After-move_in g) → find c.args.self.now.table c.args.from.now ≡ Some c.in-Some.found.value
@@ -37,20 +61,26 @@ few_visits g c =
     let few = opened_few (old_moved g c) in
     let few_new = opened_few (new_moved g c) in
     let few_more = opened_between (old_moved g c) (new_moved g c) (there g c) in
-    omega (arith, few, few_new, few_more, c.find_long.ensures.cost, c.move_in.ensures.visits)
+    omega (arith, few, few_new, few_more, c.find_spare.ensures.cost, c.move_in.ensures.visits)
 
 -- what the tree finds at the new point is what the table has there
-none_found : (g : Over) (c : After-move_in g) → find c.args.self.now.table c.args.to.now ≡ None → find_tree c.new-new.result.width g.row.D c.self.inside.root c.new-new.result.point ≡ None
+none_found : (g : Over) (c : After-move_in g) → find c.args.self.now.table c.args.to.now ≡ None →
+    find_tree c.new-new.result.width g.row.D c.self.inside.root c.new-new.result.point ≡ None
 none_found g c none = found_is (new_moved g c) ∙ none
 
-some_found : (g : Over) (c : After-move_in g) → IsSome (find c.args.self.now.table c.args.to.now) → IsSome (find_tree c.new-new.result.width g.row.D c.self.inside.root c.new-new.result.point)
+some_found : (g : Over) (c : After-move_in g) → IsSome (find c.args.self.now.table c.args.to.now) →
+    IsSome (find_tree c.new-new.result.width g.row.D c.self.inside.root c.new-new.result.point)
 some_found g c some = subst IsSome (sym (found_is (new_moved g c))) some
 
 -- what is made, if anything is, is the tree with the row moved
-row_moved : (g : Over) (c : After-move_in g) → OnOk c.move_in.result (IsMove g.row.D c.self.inside.width c.self.inside.max c.self.inside.len c.args.self.now c.args.from.now c.args.to.now c.move_in.new.root)
+row_moved : (g : Over) (c : After-move_in g) →
+    OnOk c.move_in.result (IsMove g.row.D c.self.inside.width c.self.inside.max c.self.inside.len c.args.self.now
+    c.args.from.now c.args.to.now c.move_in.new.root)
 row_moved g c =
     elim (none_or_some (find c.args.self.now.table c.args.to.now)) [
-      | inl none ↦ on_ok c.move_in.result (moved (old_moved g c) (new_moved g c) (there g c) (sym c.eq.ensures ∙ c.if-eq.false) none) (c.move_in.ensures.done.moved (none_found g c none))
+      | inl none ↦ on_ok c.move_in.result
+          (moved (old_moved g c) (new_moved g c) (there g c) (sym c.eq.ensures ∙ c.if-eq.false) none)
+          (c.move_in.ensures.done.moved (none_found g c none))
       | inr some ↦ always_ok c.move_in.result (taken_moved c.self.view_is c.self.invariant some (c.move_in.ensures.done.held (some_found g c some)))
     ]
 
@@ -58,7 +88,7 @@ row_moved g c =
 
 pub returns-in_default-clause-done : goal.returns-in_default-clause-done
 returns-in_default-clause-done g c =
-    let none = sym (found_is (old_keyed g (goal.at.returns-in_default-clause-done g c).After-find_long)) ∙ c.in_default.ensures.found in
+    let none = sym (found_is (old_keyed g (goal.at.returns-in_default-clause-done g c).After-find_spare)) ∙ c.in_default.ensures.found in
     record {
       moved = none_there c.args.self.now c.args.from.now c.args.to.now none;
       answer = answer_absent c.args.self.now.table c.args.from.now c.args.to.now none;
@@ -75,13 +105,13 @@ returns-in_default-clause-done g c =
 
 pub returns-in_default-clause-limit : goal.returns-in_default-clause-limit
 returns-in_default-clause-limit g c =
-    omega (arith, opened_few (old_keyed g (goal.at.returns-in_default-clause-limit g c).After-find_long), c.find_long.ensures.cost)
+    omega (arith, opened_few (old_keyed g (goal.at.returns-in_default-clause-limit g c).After-find_spare), c.find_spare.ensures.cost)
 
 -- ---- both are the same point
 
 pub returns-then-eq-clause-done : goal.returns-then-eq-clause-done
 returns-then-eq-clause-done g c =
-    let k = old_keyed g (goal.at.returns-then-eq-clause-done g c).After-find_long in
+    let k = old_keyed g (goal.at.returns-then-eq-clause-done g c).After-find_spare in
     let there = sym (found_is k) ∙ c.in-Some.ensures.found in
     let test = sym c.eq.ensures ∙ c.if-eq.true in
     let same = same_from_test c.args.from.now c.args.to.now test in
@@ -101,7 +131,7 @@ returns-then-eq-clause-done g c =
 
 pub returns-then-eq-clause-limit : goal.returns-then-eq-clause-limit
 returns-then-eq-clause-limit g c =
-    omega (arith, opened_few (old_keyed g (goal.at.returns-then-eq-clause-limit g c).After-find_long), c.find_long.ensures.cost)
+    omega (arith, opened_few (old_keyed g (goal.at.returns-then-eq-clause-limit g c).After-find_spare), c.find_spare.ensures.cost)
 
 -- ---- the move
 
@@ -110,14 +140,19 @@ invariant_of-self g c =
     let at = (goal.at.invariant_of-self g c).After-move_in in
     either_way c.move_in.result
     (on_ok c.move_in.result (λ m. m.tree) (row_moved g at))
-    (on_err c.move_in.result (λ same. subst (λ t. IsTree g.row.D c.self.inside.width t c.self.inside.max c.self.inside.len) (sym same) c.self.invariant) c.move_in.ensures.done.err)
+    (on_err c.move_in.result (λ same. subst
+    (λ t. IsTree g.row.D c.self.inside.width t c.self.inside.max c.self.inside.len) (sym same) c.self.invariant)
+    c.move_in.ensures.done.err)
 
 answered : (g : Over) (c : After-move_in g) → IfOk c.move_in.result (λ a. a ≡ move_answer c.args.self.now.table c.args.from.now c.args.to.now)
 answered g c =
     let other = sym c.eq.ensures ∙ c.if-eq.false in
     elim (none_or_some (find c.args.self.now.table c.args.to.now)) [
-      | inl none ↦ answered_as c.move_in.result Done _ (answer_done c.args.self.now.table c.args.from.now c.args.to.now c.in-Some.found.value (there g c) other none) (c.move_in.ensures.done.done (none_found g c none))
-      | inr some ↦ rw (c.move_in.ensures.done.taken (some_found g c some)) (answer_taken c.args.self.now.table c.args.from.now c.args.to.now c.in-Some.found.value (there g c) other some)
+      | inl none ↦ answered_as c.move_in.result Done _
+          (answer_done c.args.self.now.table c.args.from.now c.args.to.now c.in-Some.found.value (there g c) other
+          none) (c.move_in.ensures.done.done (none_found g c none))
+      | inr some ↦ rw (c.move_in.ensures.done.taken (some_found g c some))
+          (answer_taken c.args.self.now.table c.args.from.now c.args.to.now c.in-Some.found.value (there g c) other some)
     ]
 
 pub returns-clause-done : goal.returns-clause-done
