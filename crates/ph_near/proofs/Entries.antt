@@ -1,5 +1,6 @@
 -- The entries of opened nodes.
-use Rattle.std.proofs.Common.{◌≡◌, inl, inr, ℕ, zero, suc, ◌+◌, ◌-◌, ◌<◌, ◌≤◌, ◌^◌, refl, sym, ◌∙◌, ap, subst, arith, true, false, List, [], ◌∷◌, ◌++◌, length, map, drop, replicate}
+use Rattle.std.proofs.Common.{◌≡◌, inl, inr, ℕ, zero, suc, ◌+◌, ◌-◌, ◌<◌, ◌≤◌, ◌^◌, refl, sym, ◌∙◌, ap, subst}
+use Rattle.std.proofs.Common.{arith, true, false, List, [], ◌∷◌, ◌++◌, length, map, drop, replicate}
 use Rattle.std.specs.Prelude.{ℤ, Some, slice_get}
 use Rattle.std.specs.List.{AllByRecursion as Each}
 use Rattle.std.specs.List.Sorted.{IsPermutation}
@@ -53,11 +54,15 @@ zeros-body (suc d) w = (ap suc (zeros-body d w).0, (pow_pos w, (zeros-body d w).
 
 -- ---- the entries of a node
 
-pub items-more : (w level i : ℕ) (above : List ℕ) (e : Entries) → i < length (listed e) → drop i (items_below w level above e) ≡ entry_item w level above (entry_at (listed e) i) ∷ drop (i + 1) (items_below w level above e)
+pub items-more : (w level i : ℕ) (above : List ℕ) (e : Entries) → i < length (listed e) →
+    drop i (items_below w level above e) ≡ entry_item w level above (entry_at (listed e) i) ∷
+    drop (i + 1) (items_below w level above e)
 items-more w level i above e l =
     by_entries i above e l ∙ ap (λ j. entry_item w level above (entry_at (listed e) i) ∷ drop j (items_below w level above e)) (let s : suc i ≡ i + 1 = omega arith in s)
   where
-    by_entries : (i : ℕ) (above : List ℕ) (e : Entries) → i < length (listed e) → drop i (items_below w level above e) ≡ entry_item w level above (entry_at (listed e) i) ∷ drop (suc i) (items_below w level above e)
+    by_entries : (i : ℕ) (above : List ℕ) (e : Entries) → i < length (listed e) →
+        drop i (items_below w level above e) ≡ entry_item w level above (entry_at (listed e) i) ∷
+        drop (suc i) (items_below w level above e)
     by_entries i above end l = absurd (omega (arith, l))
     by_entries zero above (point a body v rest) l = refl
     by_entries zero above (child a body below chain rest) l = refl
@@ -109,7 +114,9 @@ module _ {w d : ℕ} (o : OpenedOf PlainNode d) (h : IsOpened w d o) (i : ℕ) (
   )
 
   -- the digits that are joined
-  pub joined-is : (s : Spot) → IsSpot (entries (shown o.node)) s → s.place ≡ i → joined_digits (shown o.node) s o.known ≡ put_together (shown o.node).level (addr_at (entries (shown o.node)) i) o.known (body_at (entries (shown o.node)) i)
+  pub joined-is : (s : Spot) → IsSpot (entries (shown o.node)) s → s.place ≡ i →
+      joined_digits (shown o.node) s o.known ≡ put_together (shown o.node).level (addr_at (entries (shown o.node)) i)
+      o.known (body_at (entries (shown o.node)) i)
   joined-is s a e =
       ap (λ t. put_together level t (body_above level o.known) (body_at (entries (shown o.node)) s.place)) a.address
       ∙ ap (λ k. put_together level (addr_at (entries (shown o.node)) k) (body_above level o.known) (body_at (entries (shown o.node)) k)) e
@@ -117,7 +124,10 @@ module _ {w d : ℕ} (o : OpenedOf PlainNode d) (h : IsOpened w d o) (i : ℕ) (
 
   module _ (center : List ℕ) (q : IsBody d w center) where
     -- how far it is
-    pub place-distance : entry_gap (shown o.node).level (put_together (shown o.node).level (addr_at (entries (shown o.node)) i) o.known (body_at (entries (shown o.node)) i)) center (what_at (entries (shown o.node)) i) ≡ item_distance w (map (coordinate w) center) (place_item w o i)
+    pub place-distance : entry_gap (shown o.node).level
+        (put_together (shown o.node).level (addr_at (entries (shown o.node)) i) o.known
+        (body_at (entries (shown o.node)) i)) center (what_at (entries (shown o.node)) i) ≡
+        item_distance w (map (coordinate w) center) (place_item w o i)
     place-distance = entry-distance w level joined center what (omega (arith, h.level)) q.1
 
     pub place-small : w ≤ 62 → d ≤ 16 → item_distance w (map (coordinate w) center) (place_item w o i) < 2 ^ 128
@@ -128,30 +138,41 @@ module _ {w d : ℕ} (o : OpenedOf PlainNode d) (h : IsOpened w d o) (i : ℕ) (
     abbrev least : ℕ
     least = gaps_above (shown o.node).level (corner_of (shown o.node).level (addr_at (entries (shown o.node)) i) o.known) center
 
-    above-is : put_together (shown o.node).level (addr_at (entries (shown o.node)) i) (body_above (shown o.node).level o.known) (body_at (entries (shown o.node)) i) ≡ joined
+    above-is : put_together (shown o.node).level (addr_at (entries (shown o.node)) i)
+        (body_above (shown o.node).level o.known) (body_at (entries (shown o.node)) i) ≡ joined
     above-is = ap (λ t. put_together level (addr_at (entries (shown o.node)) i) t body) (sym (above-zeros level o.known h.above.zeros))
 
     -- no nearer than its address tells
-    pub place-least : gaps_above (shown o.node).level (corner_of (shown o.node).level (addr_at (entries (shown o.node)) i) o.known) center ≤ item_distance w (map (coordinate w) center) (place_item w o i)
+    pub place-least : gaps_above (shown o.node).level
+        (corner_of (shown o.node).level (addr_at (entries (shown o.node)) i) o.known) center ≤ item_distance w
+        (map (coordinate w) center) (place_item w o i)
     place-least = subst (λ n. least ≤ n) place-distance (by_kind what entry-is.held)
       where
         by_kind : (t : What) → IsLawfulWhat d level body t → least ≤ entry_gap level joined center t
         by_kind (value v) k =
-            subst (λ n. least ≤ n) (ap (λ t. squares_apart t center) above-is) (row-least level (addr_at (entries (shown o.node)) i) o.known body center (sym long) entry-body.1)
+            subst (λ n. least ≤ n) (ap (λ t. squares_apart t center) above-is)
+            (row-least level (addr_at (entries (shown o.node)) i) o.known body center (sym long) entry-body.1)
         by_kind (node n) k =
-            let e = child-least level (addr_at (entries (shown o.node)) i) o.known body center (omega (arith, k.0)) (sym long) entry-body.1 ∙ ap (λ t. entry_gap level t center (node n)) above-is in omega (arith, e)
+            let e = child-least level (addr_at (entries (shown o.node)) i) o.known body center (omega (arith, k.0))
+            (sym long) entry-body.1 ∙ ap (λ t. entry_gap level t center (node n)) above-is in omega (arith, e)
 
     -- of a child just as far
-    pub place-child : is_node (what_at (entries (shown o.node)) i) ≡ true → gaps_above (shown o.node).level (corner_of (shown o.node).level (addr_at (entries (shown o.node)) i) o.known) center ≡ item_distance w (map (coordinate w) center) (place_item w o i)
+    pub place-child : is_node (what_at (entries (shown o.node)) i) ≡ true →
+        gaps_above (shown o.node).level (corner_of (shown o.node).level (addr_at (entries (shown o.node)) i) o.known)
+        center ≡ item_distance w (map (coordinate w) center) (place_item w o i)
     place-child c = by_kind what entry-is.held c ∙ place-distance
       where
         by_kind : (t : What) → IsLawfulWhat d level body t → is_node t ≡ true → least ≡ entry_gap level joined center t
         by_kind (value v) k c = absurd (let no : false ≡ true = c in cc)
         by_kind (node n) k c =
-            child-least level (addr_at (entries (shown o.node)) i) o.known body center (omega (arith, k.0)) (sym long) entry-body.1 ∙ ap (λ t. entry_gap level t center (node n)) above-is
+            child-least level (addr_at (entries (shown o.node)) i) o.known body center (omega (arith, k.0)) (sym long)
+            entry-body.1 ∙ ap (λ t. entry_gap level t center (node n)) above-is
 
     -- a row that was found
-    pub place-found : {v : ℕ} (f : Found d) → f.known ≡ joined → f.distance ≡ item_distance w (map (coordinate w) center) (found (row (map (coordinate w) f.known) f.value)) → f.value ≡ v → value v ≡ what_at (entries (shown o.node)) i → IsFound w d (map (coordinate w) center) f × (place_item w o i ≡ found_item w f)
+    pub place-found : {v : ℕ} (f : Found d) → f.known ≡ joined →
+        f.distance ≡ item_distance w (map (coordinate w) center) (found (row (map (coordinate w) f.known) f.value)) →
+        f.value ≡ v → value v ≡ what_at (entries (shown o.node)) i → IsFound w d (map (coordinate w) center) f ×
+        (place_item w o i ≡ found_item w f)
     place-found f e k u t = (
       record { far = k; known = subst (IsBody d w) (sym e) joined-body },
       ap (what_item w (level - 1) joined) (sym t) ∙ (λ j. found (row (map (coordinate w) (sym e j)) (sym u j))),
@@ -174,7 +195,9 @@ module _ {w d : ℕ} (o : OpenedOf PlainNode d) (h : IsOpened w d o) (i : ℕ) (
       record {
         level = subst (λ m. m.level < w) (sym s) (omega (arith, held.0, h.level));
         lawful = subst (λ m. IsLawfulFrom d m.level 0 m.chain) (sym s) held.2;
-        above = subst (λ m. IsAbove d m.level new.known) (sym s) (subst (IsAbove d n.level) (sym k) (above-child d level n.level (addr_at (entries (shown o.node)) i) o.known body held.0 h.above entry-body held.1));
+        above = subst (λ m. IsAbove d m.level new.known) (sym s)
+            (subst (IsAbove d n.level) (sym k)
+            (above-child d level n.level (addr_at (entries (shown o.node)) i) o.known body held.0 h.above entry-body held.1));
         known = subst (IsBody d w) (sym k) joined-body;
       },
       ap (what_item w (level - 1) joined) (sym e) ∙ (λ j. best.node (placed_at w (level - 1) (sym k j) (sym s j))),
@@ -186,9 +209,12 @@ entered-items w o place =
     ap (λ ks. items_below w (shown o.node).level ks (shown o.node).chain) (offsets-coordinate w o.known)
 
 -- the least distance that the halves tell
-pub least-told : {d : ℕ} (level addr : ℕ) (known center : List ℕ) (h : Halves d) → length known ≡ d → length center ≡ d → AreHalves level known center h → AreSmall h → halves_sum addr h.low h.high ≡ gaps_above level (corner_of level addr known) center
+pub least-told : {d : ℕ} (level addr : ℕ) (known center : List ℕ) (h : Halves d) → length known ≡ d →
+    length center ≡ d → AreHalves level known center h → AreSmall h →
+    halves_sum addr h.low h.high ≡ gaps_above level (corner_of level addr known) center
 least-told level addr known center h l m k s =
-    halves-gaps level addr h.low h.high known center (s.lows ∙ sym l) (s.highs ∙ sym l) (m ∙ sym l) (λ i t. k.low i (omega (arith, t, l))) (λ i t. k.high i (omega (arith, t, l)))
+    halves-gaps level addr h.low h.high known center (s.lows ∙ sym l) (s.highs ∙ sym l) (m ∙ sym l)
+    (λ i t. k.low i (omega (arith, t, l))) (λ i t. k.high i (omega (arith, t, l)))
 
 -- ---- more nodes are opened
 
@@ -216,7 +242,8 @@ module _ {d : ℕ} (w : ℕ) (q : List ℤ) (os : List (OpenedOf PlainNode d)) (
       λ j. place_item w (later-at x.opened h.0.opened j) x.place ∷ later-line items h.1 j
 
 -- the node that was opened last
-pub last-at : {d : ℕ} (os : List (OpenedOf PlainNode d)) (o : OpenedOf PlainNode d) (k : ℕ) → k ≡ length os → (k < length (os ++ o ∷ [])) × (opened_at (os ++ o ∷ []) k ≡ o)
+pub last-at : {d : ℕ} (os : List (OpenedOf PlainNode d)) (o : OpenedOf PlainNode d) (k : ℕ) → k ≡ length os →
+    (k < length (os ++ o ∷ [])) × (opened_at (os ++ o ∷ []) k ≡ o)
 last-at os o k e = subst (λ k. (k < length (os ++ o ∷ [])) × (opened_at (os ++ o ∷ []) k ≡ o)) (sym e) (by_list os)
   where
     by_list : (xs : List (OpenedOf PlainNode _)) → (length xs < length (xs ++ o ∷ [])) × (opened_at (xs ++ o ∷ []) (length xs) ≡ o)
@@ -225,11 +252,14 @@ last-at os o k e = subst (λ k. (k < length (os ++ o ∷ [])) × (opened_at (os 
 
 -- ---- an entry is treated
 
-module _ {w d n : ℕ} {q : List ℤ} (os : List (OpenedOf PlainNode d)) (at : ℕ) (o : OpenedOf PlainNode d) (place : ℕ) {old new : List (Found d)} {was now : List Waiting} (inside : (at < length os) × (opened_at os at ≡ o)) (t : IsTreated n w q at o place old new was now) where
+module _ {w d n : ℕ} {q : List ℤ} (os : List (OpenedOf PlainNode d)) (at : ℕ) (o : OpenedOf PlainNode d) (place : ℕ)
+    {old new : List (Found d)} {was now : List Waiting} (inside : (at < length os) × (opened_at os at ≡ o))
+    (t : IsTreated n w q at o place old new was now) where
   pub treated-kept : (others : List Item) → IsKept w n q old (place_item w o place ∷ (others ++ line_of w os was)) new (others ++ line_of w os now)
   treated-kept others = by_case t
     where
-      tried : (line line' : List Waiting) → line' ≡ line → IsTried n w q (place_item w o place) old new → IsKept w n q old (place_item w o place ∷ (others ++ line_of w os line)) new (others ++ line_of w os line')
+      tried : (line line' : List Waiting) → line' ≡ line → IsTried n w q (place_item w o place) old new →
+          IsKept w n q old (place_item w o place ∷ (others ++ line_of w os line)) new (others ++ line_of w os line')
       tried line line' e (inl k) =
           subst (λ is. IsKept w n q old (place_item w o place ∷ (others ++ line_of w os line)) new (others ++ line_of w os is)) (sym e)
           (subst (λ fs. IsKept w n q old (place_item w o place ∷ (others ++ line_of w os line)) fs (others ++ line_of w os line)) (sym k.0)
@@ -243,11 +273,15 @@ module _ {w d n : ℕ} {q : List ℤ} (os : List (OpenedOf PlainNode d)) (at : �
       by_case (inr k) =
           let x : Waiting = k.1.0 in
           let here : item_at w os k.1.0 ≡ place_item w o place = (λ j. place_item w (opened_at os (k.1.1 j)) (k.1.2 j)) ∙ ap (λ u. place_item w u place) inside.1 in
-          let moved : IsPermutation (place_item w o place ∷ line_of w os was) (line_of w os now) = subst (λ y. IsPermutation (y ∷ line_of w os was) (line_of w os now)) here (IsPermutation-map (item_at w os) (x ∷ was) now k.1.4) in
+          let moved : IsPermutation (place_item w o place ∷ line_of w os was) (line_of w os now) =
+          subst (λ y. IsPermutation (y ∷ line_of w os was) (line_of w os now)) here
+          (IsPermutation-map (item_at w os) (x ∷ was) now k.1.4) in
           subst (λ fs. IsKept w n q old (place_item w o place ∷ (others ++ line_of w os was)) fs (others ++ line_of w os now)) (sym k.0)
           (kept-moved (place_item w o place ∷ (others ++ line_of w os was)) (others ++ line_of w os now)
           (IsPermutation-trans (place_item w o place ∷ (others ++ line_of w os was)) (others ++ place_item w o place ∷ line_of w os was) (others ++ line_of w os now)
-          (IsPermutation-sym (others ++ place_item w o place ∷ line_of w os was) (place_item w o place ∷ (others ++ line_of w os was)) (IsPermutation-middle others (place_item w o place) (line_of w os was)))
+          (IsPermutation-sym (others ++ place_item w o place ∷ line_of w os was)
+          (place_item w o place ∷ (others ++ line_of w os was))
+          (IsPermutation-middle others (place_item w o place) (line_of w os was)))
           (IsPermutation-append_right others (place_item w o place ∷ line_of w os was) (line_of w os now) moved)))
 
   pub treated-waits : AreWaiting w q os was → AreWaiting w q os now
@@ -256,8 +290,13 @@ module _ {w d n : ℕ} {q : List ℤ} (os : List (OpenedOf PlainNode d)) (at : �
       by_case : IsTreated n w q at o place old new was now → AreWaiting w q os now
       by_case (inl k) = subst (AreWaiting w q os) (sym k.0) h
       by_case (inr k) =
-          Each-moved (k.1.0 ∷ was) now k.1.4
-          (record { opened = subst (λ m. m < length os) (sym k.1.1) inside.0; child = subst (λ u. IsChild w q u k.1.0) (sym (ap (opened_at os) k.1.1 ∙ inside.1)) k.1.3 }, h)
+          Each-moved (k.1.0 ∷ was) now k.1.4 (
+            record {
+              opened = subst (λ m. m < length os) (sym k.1.1) inside.0;
+              child = subst (λ u. IsChild w q u k.1.0) (sym (ap (opened_at os) k.1.1 ∙ inside.1)) k.1.3;
+            },
+            h,
+          )
         where
           Each-moved : (xs ys : List Waiting) → IsPermutation xs ys → AreWaiting w q os xs → AreWaiting w q os ys
           Each-moved xs ys p e = Each-permutation (IsWaiting w q os) xs ys p e

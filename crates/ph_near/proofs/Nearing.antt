@@ -4,7 +4,8 @@ use Rattle.std.specs.Prelude.{ℤ}
 use Rattle.std.specs.List.{AllByRecursion as Each}
 use Rattle.std.specs.List.Sorted.{IsPermutation}
 use Rattle.std.specs.BinaryHeap.{IsUpperBound}
-use Rattle.std.proofs.lemmas.List.Sorted.{IsPermutation-refl, IsPermutation-sym, IsPermutation-trans, IsPermutation-middle, IsPermutation-append_left, IsPermutation-append_right, IsPermutation-map, length_permutation}
+use Rattle.std.proofs.lemmas.List.Sorted.{IsPermutation-refl, IsPermutation-sym, IsPermutation-trans, IsPermutation-middle}
+use Rattle.std.proofs.lemmas.List.Sorted.{IsPermutation-append_left, IsPermutation-append_right, IsPermutation-map, length_permutation}
 use Rattle.ph_specs.specs.BestFirst.{Item, item_distance}
 use Rattle.ph_specs.specs.Table.{Row}
 use Rattle.ph_specs.proofs.lemmas.RowsBehind.{Each-append, Each-each}
@@ -26,7 +27,8 @@ fewer w xs ys p =
 
 module _ {w d n : ℕ} {q : List ℤ} {table : List Row} {rows : List (Found d)} {before now : ℕ} where
   -- what waits in another order
-  nearing-moved : {line : List Item} (other : List Item) → IsPermutation line other → IsNearing w n q table rows line before now → IsNearing w n q table rows other before now
+  nearing-moved : {line : List Item} (other : List Item) → IsPermutation line other →
+      IsNearing w n q table rows line before now → IsNearing w n q table rows other before now
   nearing-moved {line} other p h = record {
     wide = h.wide;
     narrow = h.narrow;
@@ -34,7 +36,10 @@ module _ {w d n : ℕ} {q : List ℤ} {table : List Row} {rows : List (Found d)}
     opened = h.opened;
     far = h.far;
     over = h.over;
-    searching = searching-order w d n q table (record { listed = []; opened = h.opened; queue = all_items w line h.far rows h.over }) (all_items w other h.far rows h.over) (IsPermutation-append_left (h.far ++ map (found_item w) (rows ++ h.over)) line other p) h.searching;
+    searching = searching-order w d n q table
+        (record { listed = []; opened = h.opened; queue = all_items w line h.far rows h.over })
+        (all_items w other h.far rows h.over)
+        (IsPermutation-append_left (h.far ++ map (found_item w) (rows ++ h.over)) line other p) h.searching;
     found = h.found;
     few = h.few;
     full = h.full;
@@ -44,7 +49,8 @@ module _ {w d n : ℕ} {q : List ℤ} {table : List Row} {rows : List (Found d)}
   }
 
   -- an item that n rows are nearer than
-  nearing-dropped : (i : Item) (line : List Item) → IsBeyond n rows (item_distance w q i) → IsNearing w n q table rows (i ∷ line) before now → IsNearing w n q table rows line before now
+  nearing-dropped : (i : Item) (line : List Item) → IsBeyond n rows (item_distance w q i) →
+      IsNearing w n q table rows (i ∷ line) before now → IsNearing w n q table rows line before now
   nearing-dropped i line b h = record {
     wide = h.wide;
     narrow = h.narrow;
@@ -52,7 +58,9 @@ module _ {w d n : ℕ} {q : List ℤ} {table : List Row} {rows : List (Found d)}
     opened = h.opened;
     far = i ∷ h.far;
     over = h.over;
-    searching = searching-order w d n q table (record { listed = []; opened = h.opened; queue = all_items w (i ∷ line) h.far rows h.over }) (all_items w line (i ∷ h.far) rows h.over) (behind i line (h.far ++ map (found_item w) (rows ++ h.over))) h.searching;
+    searching = searching-order w d n q table
+        (record { listed = []; opened = h.opened; queue = all_items w (i ∷ line) h.far rows h.over })
+        (all_items w line (i ∷ h.far) rows h.over) (behind i line (h.far ++ map (found_item w) (rows ++ h.over))) h.searching;
     found = h.found;
     few = h.few;
     full = inr b.full;
@@ -62,7 +70,8 @@ module _ {w d n : ℕ} {q : List ℤ} {table : List Row} {rows : List (Found d)}
   }
 
   -- a row that is ranked
-  module _ (x : Found d) (i : Item) (line : List Item) {new : List (Found d)} (f : IsFound w d q x) (e : i ≡ found_item w x) (a : IsAdded n x rows new) (h : IsNearing w n q table rows (i ∷ line) before now) where
+  module _ (x : Found d) (i : Item) (line : List Item) {new : List (Found d)} (f : IsFound w d q x)
+      (e : i ≡ found_item w x) (a : IsAdded n x rows new) (h : IsNearing w n q table rows (i ∷ line) before now) where
     moved : IsPermutation (x ∷ (rows ++ h.over)) (new ++ (a.out ++ h.over))
     moved =
         subst (IsPermutation ((x ∷ rows) ++ h.over)) (append_assoc new a.out h.over) (IsPermutation-append_left h.over (x ∷ rows) (new ++ a.out) a.moved)
@@ -70,9 +79,11 @@ module _ {w d n : ℕ} {q : List ℤ} {table : List Row} {rows : List (Found d)}
     abbrev found_items : List Item
     found_items = map (found_item w) (rows ++ h.over)
 
-    items-moved : IsPermutation (found_item w x ∷ (line ++ (h.far ++ map (found_item w) (rows ++ h.over)))) (line ++ (h.far ++ map (found_item w) (new ++ (a.out ++ h.over))))
+    items-moved : IsPermutation (found_item w x ∷ (line ++ (h.far ++ map (found_item w) (rows ++ h.over))))
+        (line ++ (h.far ++ map (found_item w) (new ++ (a.out ++ h.over))))
     items-moved =
-        IsPermutation-trans (found_item w x ∷ (line ++ (h.far ++ found_items))) (line ++ (found_item w x ∷ (h.far ++ found_items))) (line ++ (h.far ++ map (found_item w) (new ++ (a.out ++ h.over))))
+        IsPermutation-trans (found_item w x ∷ (line ++ (h.far ++ found_items)))
+        (line ++ (found_item w x ∷ (h.far ++ found_items))) (line ++ (h.far ++ map (found_item w) (new ++ (a.out ++ h.over))))
         (behind (found_item w x) line (h.far ++ found_items))
         (IsPermutation-append_right line (found_item w x ∷ (h.far ++ found_items)) (h.far ++ map (found_item w) (new ++ (a.out ++ h.over)))
         (IsPermutation-trans (found_item w x ∷ (h.far ++ found_items)) (h.far ++ (found_item w x ∷ found_items)) (h.far ++ map (found_item w) (new ++ (a.out ++ h.over)))
@@ -103,8 +114,11 @@ module _ {w d n : ℕ} {q : List ℤ} {table : List Row} {rows : List (Found d)}
       opened = h.opened;
       far = h.far;
       over = a.out ++ h.over;
-      searching = searching-order w d n q table (record { listed = []; opened = h.opened; queue = all_items w (i ∷ line) h.far rows h.over }) (all_items w line h.far new (a.out ++ h.over))
-          (subst (λ i. IsPermutation (i ∷ (line ++ (h.far ++ map (found_item w) (rows ++ h.over)))) (line ++ (h.far ++ map (found_item w) (new ++ (a.out ++ h.over))))) (sym e) items-moved) h.searching;
+      searching = searching-order w d n q table
+          (record { listed = []; opened = h.opened; queue = all_items w (i ∷ line) h.far rows h.over })
+          (all_items w line h.far new (a.out ++ h.over))
+          (subst (λ i. IsPermutation (i ∷ (line ++ (h.far ++ map (found_item w) (rows ++ h.over))))
+          (line ++ (h.far ++ map (found_item w) (new ++ (a.out ++ h.over))))) (sym e) items-moved) h.searching;
       found = Each-permutation (IsFound w d q) (x ∷ (rows ++ h.over)) (new ++ (a.out ++ h.over)) moved (f, h.found);
       few = a.few;
       full = still-full;
@@ -125,8 +139,13 @@ module _ {w d n : ℕ} {q : List ℤ} {rows : List (Found d)} where
   pub kept-dropped : (i : Item) (line : List Item) → IsBeyond n rows (item_distance w q i) → IsKept w n q rows (i ∷ line) rows line
   kept-dropped i line b = record { nearing = λ table before now h. nearing-dropped i line b h; nodes = omega (arith, length-append (nodes_of w i) (nodes_in w line)) }
 
-  pub kept-added : (x : Found d) (i : Item) (line : List Item) {new : List (Found d)} → IsFound w d q x → i ≡ found_item w x → IsAdded n x rows new → IsKept w n q rows (i ∷ line) new line
-  kept-added x i line f e a = record { nearing = λ table before now h. nearing-added x i line f e a h; nodes = omega (arith, length-append (nodes_of w i) (nodes_in w line)) }
+  pub kept-added : (x : Found d) (i : Item) (line : List Item) {new : List (Found d)} → IsFound w d q x →
+      i ≡ found_item w x → IsAdded n x rows new → IsKept w n q rows (i ∷ line) new line
+  kept-added x i line f e a = record {
+    nearing = λ table before now h. nearing-added x i line f e a h;
+    nodes = omega (arith, length-append (nodes_of w i) (nodes_in w line));
+  }
 
-  pub kept-then : {line mid line' : List Item} {some new : List (Found d)} → IsKept w n q rows line some mid → IsKept w n q some mid new line' → IsKept w n q rows line new line'
+  pub kept-then : {line mid line' : List Item} {some new : List (Found d)} → IsKept w n q rows line some mid →
+      IsKept w n q some mid new line' → IsKept w n q rows line new line'
   kept-then h k = record { nearing = λ table before now t. k.nearing table before now (h.nearing table before now t); nodes = omega (arith, h.nodes, k.nodes) }

@@ -1,10 +1,9 @@
 -- The frames of a path, as a walk goes on.
-use Rattle.std.proofs.Common.{◌≡◌, ℕ, zero, suc, ◌+◌, ◌<◌, ◌≤◌, List, [], ◌∷◌, ◌++◌, length, drop, false, refl, sym, ◌∙◌, ap, arith, add-one}
+use Rattle.std.proofs.Common.{◌≡◌, ℕ, zero, suc, ◌+◌, ◌<◌, ◌≤◌, List, [], ◌∷◌, ◌++◌, length, drop, refl, sym, ◌∙◌, ap, arith, add-one}
 use Rattle.std.specs.Prelude.{Option, Some, None, slice_get}
-use Rattle.ph_specs.specs.Node.{Entries, Entry, What, value, node, PlainNode, chained, in_front, entries}
+use Rattle.ph_specs.specs.Node.{Entries, Entry, What, node, PlainNode, chained, in_front, entries}
 use Rattle.ph_specs.specs.EntryEdits.{what_at}
 use Rattle.ph_specs.specs.PutTree.{body_above}
-use Rattle.ph_node.specs.Kinds.{is_node}
 use Rattle.ph_node.specs.Merge.{addr_at}
 use Rattle.ph_node.specs.Shown.{shown}
 use Rattle.ph_node.specs.Split.{body_at}
@@ -40,15 +39,13 @@ drop-at {X = X} es i x g = by_suc es i g ∙ ap {B = List X} (λ n. x ∷ drop n
 pub entry-first : (es : List Entry) (i : ℕ) (x : Entry) → slice_get es i ≡ Some x → chained (drop i es) ≡ in_front x.addr x.body x.what (chained (drop (i + 1) es))
 entry-first es i x g = ap chained (drop-at es i x g)
 
--- an entry that is no child is a point
-pub point-of : (o : What) → is_node o ≡ false → (n : ℕ) × (o ≡ value n)
-point-of (value n) e = (n, refl)
-point-of (node n) e = absurd cc
-
 -- the entry that stands at a spot
-pub read-entry : (es : List Entry) (s : Spot) {i : ℕ} {o : What} → s.place ≡ i → IsSpot es s → o ≡ what_at es s.place → slice_get es i ≡ Some (record { addr = s.addr; body = body_at es s.place; what = o })
+pub read-entry : (es : List Entry) (s : Spot) {i : ℕ} {o : What} → s.place ≡ i → IsSpot es s →
+    o ≡ what_at es s.place → slice_get es i ≡ Some (record { addr = s.addr; body = body_at es s.place; what = o })
 read-entry es s at h e =
-    ap (slice_get es) (sym at) ∙ here es s.place h.within ∙ ap {B = Option Entry} (λ a. Some (record { addr = a; body = body_at es s.place; what = what_at es s.place })) (sym h.address)
+    ap (slice_get es) (sym at) ∙ here es s.place h.within ∙
+    ap {B = Option Entry} (λ a. Some (record { addr = a; body = body_at es s.place; what = what_at es s.place }))
+    (sym h.address)
     ∙ ap {B = Option Entry} (λ o. Some (record { addr = s.addr; body = body_at es s.place; what = o })) (sym e)
   where
     here : (es : List Entry) (i : ℕ) → i < length es → slice_get es i ≡ Some (record { addr = addr_at es i; body = body_at es i; what = what_at es i })
@@ -74,21 +71,28 @@ module _ {M X : Type 0} (below : ℕ → List ℕ → Entries → List X) (b : �
 
   -- behind an entry of the last frame's node, which was joined to the digits
   module _ (f : FrameOf PlainNode M) (fs : List (FrameOf PlainNode M)) (i : ℕ) (l : b ≤ (shown f.node).level) (h : AreOver b fs) where
-    pub found-behind : below (shown f.node).level (body_above (shown f.node).level old) (chained (drop i (entries (shown f.node)))) ++ found below old fs ≡ found below new (record f { place = i } ∷ fs)
+    pub found-behind : below (shown f.node).level (body_above (shown f.node).level old)
+        (chained (drop i (entries (shown f.node)))) ++ found below old fs ≡ found below new (record f { place = i } ∷ fs)
     found-behind =
         sym (ap (λ t. t ++ found below new fs) (in-kept (record f { place = i }) l) ∙ ap (λ t. found_in below old (record f { place = i }) ++ t) (found-kept fs h))
 
-    pub counted-behind : length (below (shown f.node).level (body_above (shown f.node).level old) (chained (drop i (entries (shown f.node))))) + counted below old fs ≡ counted below new (record f { place = i } ∷ fs)
+    pub counted-behind : length (below (shown f.node).level (body_above (shown f.node).level old)
+        (chained (drop i (entries (shown f.node))))) + counted below old fs ≡ counted below new (record f { place = i } ∷ fs)
     counted-behind =
-        sym (ap (λ t. length t + counted below new fs) (in-kept (record f { place = i }) l) ∙ ap (λ t. length (found_in below old (record f { place = i })) + t) (counted-kept fs h))
+        sym (ap (λ t. length t + counted below new fs) (in-kept (record f { place = i }) l) ∙
+        ap (λ t. length (found_in below old (record f { place = i })) + t) (counted-kept fs h))
 
-pub path-kept : {M : Type 0} (b : ℕ) (IsOld IsNew : FrameOf PlainNode M → Type 0) → ((f : FrameOf PlainNode M) → b ≤ (shown f.node).level → IsOld f → IsNew f) → (fs : List (FrameOf PlainNode M)) → AreOver b fs → IsPath IsOld fs → IsPath IsNew fs
+pub path-kept : {M : Type 0} (b : ℕ) (IsOld IsNew : FrameOf PlainNode M → Type 0) →
+    ((f : FrameOf PlainNode M) → b ≤ (shown f.node).level → IsOld f → IsNew f) → (fs : List (FrameOf PlainNode M)) →
+    AreOver b fs → IsPath IsOld fs → IsPath IsNew fs
 path-kept b IsOld IsNew k [] h p = tt
 path-kept b IsOld IsNew k (f ∷ fs) h p = (k f (omega (arith, h.0)) p.0, p.1, path-kept b IsOld IsNew k fs h.1 p.2)
 
 -- ---- how many there are
 
-pub few-frames : {M : Type 0} (w b : ℕ) (IsFrame : FrameOf PlainNode M → Type 0) → ((f : FrameOf PlainNode M) → IsFrame f → (shown f.node).level < w) → (fs : List (FrameOf PlainNode M)) → b < w → AreOver b fs → IsPath IsFrame fs → length fs + b + 1 ≤ w
+pub few-frames : {M : Type 0} (w b : ℕ) (IsFrame : FrameOf PlainNode M → Type 0) →
+    ((f : FrameOf PlainNode M) → IsFrame f → (shown f.node).level < w) → (fs : List (FrameOf PlainNode M)) → b < w →
+    AreOver b fs → IsPath IsFrame fs → length fs + b + 1 ≤ w
 few-frames w b IsFrame low [] l h k = omega (arith, l)
 few-frames w b IsFrame low (f ∷ fs) l h k =
     let ih : length fs + (shown f.node).level + 1 ≤ w = few-frames w (shown f.node).level IsFrame low fs (low f k.0) k.1 k.2 in

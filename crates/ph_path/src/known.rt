@@ -74,6 +74,7 @@ impl<P: Dims> KnownOf<P> {
     }
 
     /// The same of an entry that is a child at the level `low`.
+    #[inline(always)]
     pub fn join_child(&mut self, node: NodeRefOf<'_, NodeOf<P>>, spot: Spot, low: u32)
         requires level { (shown node).level < self.old.width }
         requires spot { IsSpot (entries (shown node)) spot }

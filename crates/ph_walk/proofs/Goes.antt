@@ -1,5 +1,6 @@
 -- How a walk goes on.
-use Rattle.std.proofs.Common.{◌≡◌, ℕ, suc, ◌+◌, ◌-◌, ◌<◌, ◌≤◌, List, [], ◌∷◌, ◌++◌, length, replicate, refl, sym, ◌∙◌, ap, subst, arith, cond, Bool, true, false, append-nil}
+use Rattle.std.proofs.Common.{◌≡◌, ℕ, suc, ◌+◌, ◌-◌, ◌<◌, ◌≤◌, List, [], ◌∷◌, ◌++◌, length, replicate, refl}
+use Rattle.std.proofs.Common.{sym, ◌∙◌, ap, subst, arith, cond, Bool, true, false, append-nil}
 use Rattle.std.specs.Prelude.{ℤ, Option, Some, None, IfSome, slice_get}
 use Rattle.ph_specs.specs.Lawful.{HasZerosFrom, IsBody, IsLawful, put_together}
 use Rattle.ph_specs.specs.Node.{value, node, Entry, PlainNode, entries}
@@ -14,12 +15,16 @@ use Rattle.ph_path.specs.Path.{AreOver, entry_steps, path_steps, root_steps}
 use Rattle.ph_path.proofs.Knowns.{above-top}
 use Rattle.ph_path.proofs.Paths.{few-frames}
 use Rattle.ph_walk.specs.Area.{Area, IsNote, kept_below, touched_below, AreOut, IsNext, TouchesRoot}
-use Rattle.ph_walk.specs.Walk.{Frame, Walk, walk_of, path_rows, path_nodes, root_rows, root_nodes, IsEntered, IsFrame, IsWalk, IsStep}
+use Rattle.ph_walk.specs.Walk.{Frame, Walk, walk_of, path_rows, path_nodes, root_rows, root_nodes}
+use Rattle.ph_walk.specs.Walk.{IsEntered, IsBehind, IsFrame, IsWalk, IsStep}
 use Rattle.ph_walk.specs.declared.area.Masks.{Masks}
 use Rattle.ph_walk.specs.declared.walk.Step.TheVariants.{Found}
-use Rattle.ph_walk.proofs.Steps.{HasEntered, entered, rest-walk as behind-walk, nothing-left, lawful, after-walk, found-rows, found-nodes, found-steps, held, child-over, below-rows, below-nodes, below-steps}
+use Rattle.ph_walk.proofs.Steps.{HasEntered, entered, rest-walk as behind-walk, nothing-left, lawful, same-above, after-walk, found-rows}
+use Rattle.ph_walk.proofs.Steps.{found-nodes, found-steps, held, child-over, below-rows, below-nodes, below-steps}
 
-module _ {A : Type 0} {area : A} {d : ℕ} {a : Area} {IsNoted : ℕ → List ℕ → Masks → Type 0} {k : Known} {root : Option PlainNode} {path : List Frame} {old : Walk A} (h : IsWalk d a IsNoted k root path) (v : walk_of d area a k root path ≡ old) where
+module _ {A : Type 0} {area : A} {d : ℕ} {a : Area} {IsNoted : ℕ → List ℕ → Masks → Type 0} {k : Known}
+    {root : Option PlainNode} {path : List Frame} {old : Walk A} (h : IsWalk d a IsNoted k root path)
+    (v : walk_of d area a k root path ≡ old) where
   -- the walk went on, and nothing was found
   abbrev GoesOn : Known → Option PlainNode → List Frame → Type 0
   GoesOn k root path = (old.rest ≡ (walk_of d area a k root path).rest) × ((walk_of d area a k root path).steps < old.steps)
@@ -86,8 +91,12 @@ module _ {A : Type 0} {area : A} {d : ℕ} {a : Area} {IsNoted : ℕ → List �
           let none : List ℕ = replicate d 0 in
           let x : Placed = record { node = n; region = node_region a.width (a.width - 1) none } in
           let q : path_nodes a k.digits path ≡ 0 = ap (path_nodes a k.digits) p in
-          let z : root_nodes d a root ≡ suc (length (touched_below a n.level (replicate d 0) n.chain)) = ap (root_nodes d a) e ∙ ap (λ t. length (cond t (x ∷ touched_below a n.level none n.chain) (touched_below a n.level none n.chain))) start in
-          let y : length (touched_below a n.level (body_above n.level k.digits) n.chain) ≡ length (touched_below a n.level (replicate d 0) n.chain) = ap (λ t. length (touched_below a n.level t n.chain)) none-known in
+          let z : root_nodes d a root ≡ suc (length (touched_below a n.level (replicate d 0) n.chain)) =
+          ap (root_nodes d a) e ∙ ap (λ t. length
+          (cond t (x ∷ touched_below a n.level none n.chain) (touched_below a n.level none n.chain))) start in
+          let y : length (touched_below a n.level (body_above n.level k.digits) n.chain) ≡
+          length (touched_below a n.level (replicate d 0) n.chain) =
+          ap (λ t. length (touched_below a n.level t n.chain)) none-known in
           omega (arith, was-visits, q, z, y, got.nodes)
 
   -- ---- the last frame
@@ -112,7 +121,8 @@ module _ {A : Type 0} {area : A} {d : ℕ} {a : Area} {IsNoted : ℕ → List �
     top-steps = was-steps ∙ ap (λ t. path_steps t + root_steps root) p
 
     -- nothing is left in it
-    module _ (out : AreOut a (shown f.node).level (body_above (shown f.node).level k.digits) (entries (shown f.node)) f.place (length (entries (shown f.node)))) {new : List Frame} (into : new ≡ fs) where
+    module _ (out : AreOut a (shown f.node).level (body_above (shown f.node).level k.digits) (entries (shown f.node))
+        f.place (length (entries (shown f.node)))) {new : List Frame} (into : new ≡ fs) where
       none : (path_rows a k.digits (f ∷ fs) ≡ path_rows a k.digits fs) × (path_nodes a k.digits (f ∷ fs) ≡ path_nodes a k.digits fs)
       none = nothing-left d a IsNoted k root f fs top-walk out
 
@@ -130,11 +140,14 @@ module _ {A : Type 0} {area : A} {d : ℕ} {a : Area} {IsNoted : ℕ → List �
           omega (arith, top-visits, none.1, s)
 
     -- an entry that may matter
-    module _ {i : ℕ} {x : Entry} (at : slice_get (entries (shown f.node)) i ≡ Some x) (next : IsNext a (shown f.node).level (body_above (shown f.node).level k.digits) (entries (shown f.node)) f.place i) where
-      pub child-below : {n : PlainNode} → x.what ≡ node n → (r : NodeRefOf PlainNode) → shown r ≡ n → ((shown r).level < (shown f.node).level) × IsBody d (shown f.node).level x.body × HasZerosFrom (shown r).level x.body
+    module _ {i : ℕ} {x : Entry} (at : slice_get (entries (shown f.node)) i ≡ Some x)
+        (next : IsNext a (shown f.node).level (body_above (shown f.node).level k.digits) (entries (shown f.node)) f.place i) where
+      pub child-below : {n : PlainNode} → x.what ≡ node n → (r : NodeRefOf PlainNode) → shown r ≡ n →
+          ((shown r).level < (shown f.node).level) × IsBody d (shown f.node).level x.body × HasZerosFrom (shown r).level x.body
       child-below {n = n} is r shows =
           let q = held d a IsNoted k root f fs top-walk i x at next n is in
-          subst (λ n. (n.level < (shown f.node).level) × IsBody d (shown f.node).level x.body × HasZerosFrom n.level x.body) (sym shows) (q.0, (lawful d a IsNoted k root f fs top-walk i x at next).body, q.1)
+          subst (λ n. (n.level < (shown f.node).level) × IsBody d (shown f.node).level x.body ×
+          HasZerosFrom n.level x.body) (sym shows) (q.0, (lawful d a IsNoted k root f fs top-walk i x at next).body, q.1)
 
       abbrev onto : Known
       onto = known_at k.width (put_together (shown f.node).level x.addr (body_above (shown f.node).level k.digits) x.body)
@@ -142,37 +155,101 @@ module _ {A : Type 0} {area : A} {d : ℕ} {a : Area} {IsNoted : ℕ → List �
       abbrev on : List Frame
       on = record { node = f.node; place = i + 1; note = f.note } ∷ fs
 
+      -- the path behind it is as good as the one on which the frame goes on
+      record IsOnto (new : List Frame) : Type 0 where
+        walk : IsWalk d a IsNoted onto root new
+        rows : path_rows a onto.digits new ≡ path_rows a onto.digits on
+        nodes : path_nodes a onto.digits new ≡ path_nodes a onto.digits on
+        steps : path_steps new ≤ path_steps on
+        long : length new ≤ suc (length fs)
+        over : (b : ℕ) → AreOver b on → AreOver b new
+
+      abbrev IsDone : Type 0
+      IsDone =
+          AreOut a (shown f.node).level (body_above (shown f.node).level k.digits) (entries (shown f.node)) (i + 1)
+          (length (entries (shown f.node)))
+
+      onto-by : (t : Bool) → (t ≡ true → IsDone) → (new : List Frame) → IsBehind f (i + 1) t (f ∷ fs) new → IsOnto new
+      onto-by false done new into =
+          subst IsOnto (sym into)
+          (record {
+            walk = after-walk d a IsNoted k root f fs top-walk i x at next;
+            rows = refl;
+            nodes = refl;
+            steps = omega arith;
+            long = omega arith;
+            over = λ b o. o;
+          })
+      onto-by true done new into =
+          let after = after-walk d a IsNoted k root f fs top-walk i x at next in
+          let out = subst (λ t. AreOut a (shown f.node).level t (entries (shown f.node)) (i + 1) (length (entries (shown f.node))))
+          (sym (same-above d a IsNoted k root f fs top-walk i x at next (shown f.node).level (omega arith))) (done refl) in
+          let none = nothing-left d a IsNoted onto root (record { node = f.node; place = i + 1; note = f.note }) fs after out in
+          subst IsOnto (sym into)
+          (record {
+            walk = behind-walk d a IsNoted onto root (record { node = f.node; place = i + 1; note = f.note }) fs after;
+            rows = sym none.0;
+            nodes = sym none.1;
+            steps = omega arith;
+            long = omega arith;
+            over = λ b o. o.1;
+          })
+
       -- and the walk behind it, as the code has it
-      module _ {c : Known} (joined : c ≡ known_at k.width (put_together (shown f.node).level x.addr (body_above (shown f.node).level k.digits) x.body)) {new : List Frame} (into : new ≡ record { node = f.node; place = i + 1; note = f.note } ∷ fs) where
-        moved-to : (P : Known → List Frame → Type 0) → P onto on → P c new
-        moved-to P p = subst (λ c. P c new) (sym joined) (subst (P onto) (sym into) p)
+      module _ {c : Known} (joined : c ≡
+          known_at k.width (put_together (shown f.node).level x.addr (body_above (shown f.node).level k.digits)
+          x.body)) {t : Bool} (done : t ≡ true → AreOut a (shown f.node).level (body_above (shown f.node).level k.digits)
+          (entries (shown f.node)) (i + 1) (length (entries (shown f.node)))) (new : List Frame)
+          (into : IsBehind f (i + 1) t path new) where
+        stands : IsOnto new
+        stands = onto-by t done new (subst (λ o. IsBehind f (i + 1) t o new) p into)
+
+        joined-to : (P : Known → Type 0) → P onto → P c
+        joined-to P p = subst P (sym joined) p
 
         pub new-walk : IsWalk d a IsNoted c root new
-        new-walk = moved-to (λ c new. IsWalk d a IsNoted c root new) (after-walk d a IsNoted k root f fs top-walk i x at next)
+        new-walk = joined-to (λ c. IsWalk d a IsNoted c root new) stands.walk
 
         -- a point
         module _ {u : ℕ} (is : x.what ≡ value u) where
-          less : path_steps on + root_steps root < old.steps
-          less = let l : path_steps on < path_steps (f ∷ fs) = found-steps d a IsNoted k root f fs top-walk i x at next u is in omega (arith, l, top-steps)
+          less : path_steps new + root_steps root < old.steps
+          less =
+              let l : path_steps on < path_steps (f ∷ fs) = found-steps d a IsNoted k root f fs top-walk i x at next u is in
+              omega (arith, l, top-steps, stands.steps)
 
-          rest-by : (t : Bool) → a.belongs (point_at onto.width onto.digits) ≡ t → old.rest ≡ cond t (row (point_at a.width onto.digits) u ∷ path_rows a onto.digits on) (path_rows a onto.digits on) ++ root_rows d a root
+          rest-by : (t : Bool) → a.belongs (point_at onto.width onto.digits) ≡ t →
+              old.rest ≡ cond t (row (point_at a.width onto.digits) u ∷ path_rows a onto.digits new)
+              (path_rows a onto.digits new) ++ root_rows d a root
           rest-by t e =
-              top-rest ∙ ap (λ r. r ++ root_rows d a root) (found-rows d a IsNoted k root f fs top-walk i x at next u is t (ap (λ w. a.belongs (point_at w onto.digits)) (sym h.width) ∙ e))
+              top-rest ∙ ap (λ r. r ++ root_rows d a root)
+              (found-rows d a IsNoted k root f fs top-walk i x at next u is t
+              (ap (λ w. a.belongs (point_at w onto.digits)) (sym h.width) ∙ e)
+              ∙ ap (λ r. cond t (row (point_at a.width onto.digits) u ∷ r) r) (sym stands.rows))
 
-          pub row-found : {T : Type 0} (told : A → List ℤ → T) {t : T} → (a.belongs (point_at c.width c.digits) ≡ true) × (t ≡ told area (point_at c.width c.digits)) → IsStep (told old.area) old (walk_of d area a c root new) (Found u t)
+          pub row-found : {T : Type 0} (told : A → List ℤ → T) {t : T} →
+              (a.belongs (point_at c.width c.digits) ≡ true) × (t ≡ told area (point_at c.width c.digits)) →
+              IsStep (told old.area) old (walk_of d area a c root new) (Found u t)
           row-found told {t = t} =
-              moved-to (λ c new. (a.belongs (point_at c.width c.digits) ≡ true) × (t ≡ told area (point_at c.width c.digits)) → IsStep (told old.area) old (walk_of d area a c root new) (Found u t))
-              (λ q. (rest-by true q.0 ∙ ap (λ w. row (point_at w onto.digits) u ∷ path_rows a onto.digits on ++ root_rows d a root) (sym h.width), q.1 ∙ ap (λ t. told t.area (point_at onto.width onto.digits)) v, less))
+              joined-to (λ c. (a.belongs (point_at c.width c.digits) ≡ true) ×
+              (t ≡ told area (point_at c.width c.digits)) →
+              IsStep (told old.area) old (walk_of d area a c root new) (Found u t))
+              (λ q. (
+                rest-by true q.0 ∙ ap (λ w. row (point_at w onto.digits) u ∷ path_rows a onto.digits new ++
+                    root_rows d a root) (sym h.width),
+                q.1 ∙ ap (λ t. told t.area (point_at onto.width onto.digits)) v,
+                less,
+              ))
 
           pub row-passed : a.belongs (point_at c.width c.digits) ≡ false → GoesOn c root new
           row-passed =
-              moved-to (λ c new. a.belongs (point_at c.width c.digits) ≡ false → GoesOn c root new)
+              joined-to (λ c. a.belongs (point_at c.width c.digits) ≡ false → GoesOn c root new)
               (λ q. (rest-by false q, less))
 
           pub row-visits : (walk_of d area a c root new).visits ≡ old.visits
           row-visits =
-              moved-to (λ c new. (walk_of d area a c root new).visits ≡ old.visits)
-              (ap (λ t. t + root_nodes d a root) (sym (found-nodes d a IsNoted k root f fs top-walk i x at next u is)) ∙ sym top-visits)
+              joined-to (λ c. (walk_of d area a c root new).visits ≡ old.visits)
+              (ap (λ t. t + root_nodes d a root)
+              (stands.nodes ∙ sym (found-nodes d a IsNoted k root f fs top-walk i x at next u is)) ∙ sym top-visits)
 
         -- a child
         module _ {n : PlainNode} (is : x.what ≡ node n) (r : NodeRefOf PlainNode) (shows : shown r ≡ n) where
@@ -187,9 +264,8 @@ module _ {A : Type 0} {area : A} {d : ℕ} {a : Area} {IsNoted : ℕ → List �
 
           pub child-room : length new < 62
           child-room =
-              let m : length new ≡ suc (length fs) = ap (λ t. length t) into in
               let q : k.width ≡ a.width = h.width in
-              omega (arith, few, m, below, q, h.known.narrow)
+              omega (arith, few, stands.long, below, q, h.known.narrow)
 
           module _ (m : Option Masks) (deep : List Frame) (noted : IsNote a IsNoted (shown r).level c.digits m) (down : IsEntered m r new deep) where
             got-deep : HasEntered d a IsNoted c root n new deep
@@ -197,7 +273,7 @@ module _ {A : Type 0} {area : A} {d : ℕ} {a : Area} {IsNoted : ℕ → List �
                 entered d a IsNoted c root r n new deep m new-walk shows
                 (omega (arith, below, top-walk.way.0.level))
                 (held d a IsNoted k root f fs top-walk i x at next n is).3
-                (subst (AreOver n.level) (sym into) (child-over d a IsNoted k root f fs top-walk i x at next n is))
+                (stands.over n.level (child-over d a IsNoted k root f fs top-walk i x at next n is))
                 noted down
 
             pub deep-walk : IsWalk d a IsNoted c root deep
@@ -205,14 +281,22 @@ module _ {A : Type 0} {area : A} {d : ℕ} {a : Area} {IsNoted : ℕ → List �
 
             pub deep-step : GoesOn c root deep
             deep-step =
-                let l : suc (suc (entry_steps n.chain + path_steps on)) ≤ path_steps (f ∷ fs) = below-steps d a IsNoted k root f fs top-walk i x at next n is in
-                let s : path_steps new ≡ path_steps on = ap path_steps into in (
+                let l : suc (suc (entry_steps n.chain + path_steps on)) ≤ path_steps (f ∷ fs) = below-steps d a IsNoted k root f fs top-walk i x at next n is in (
                   top-rest ∙ ap (λ t. t ++ root_rows d a root)
-                      (moved-to (λ c new. path_rows a k.digits (f ∷ fs) ≡ kept_below a n.level (body_above n.level c.digits) n.chain ++ path_rows a c.digits new) (below-rows d a IsNoted k root f fs top-walk i x at next n is) ∙ sym got-deep.rows),
-                  omega (arith, l, s, top-steps, got-deep.steps),
+                      (joined-to (λ c. path_rows a k.digits (f ∷ fs) ≡
+                      kept_below a n.level (body_above n.level c.digits) n.chain ++ path_rows a c.digits new)
+                      (below-rows d a IsNoted k root f fs top-walk i x at next n is ∙
+                      ap (λ r. kept_below a n.level (body_above n.level onto.digits) n.chain ++ r) (sym stands.rows))
+                      ∙ sym got-deep.rows),
+                  omega (arith, l, stands.steps, top-steps, got-deep.steps),
                 )
 
             pub deep-visits : suc ((walk_of d area a c root deep).visits) ≡ old.visits
             deep-visits =
-                let e : path_nodes a k.digits (f ∷ fs) ≡ suc (length (touched_below a n.level (body_above n.level c.digits) n.chain) + path_nodes a c.digits new) = moved-to (λ c new. path_nodes a k.digits (f ∷ fs) ≡ suc (length (touched_below a n.level (body_above n.level c.digits) n.chain) + path_nodes a c.digits new)) (below-nodes d a IsNoted k root f fs top-walk i x at next n is) in
+                let e : path_nodes a k.digits (f ∷ fs) ≡
+                suc (length (touched_below a n.level (body_above n.level c.digits) n.chain) + path_nodes a
+                c.digits new) = joined-to (λ c. path_nodes a k.digits (f ∷ fs) ≡
+                suc (length (touched_below a n.level (body_above n.level c.digits) n.chain) + path_nodes a
+                c.digits new)) (below-nodes d a IsNoted k root f fs top-walk i x at next n is ∙
+                ap (λ t. suc (length (touched_below a n.level (body_above n.level onto.digits) n.chain) + t)) (sym stands.nodes)) in
                 omega (arith, top-visits, e, got-deep.nodes)

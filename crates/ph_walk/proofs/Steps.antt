@@ -1,5 +1,6 @@
 -- A step of a walk.
-use Rattle.std.proofs.Common.{◌≡◌, ℕ, suc, ◌+◌, ◌-◌, ◌<◌, ◌≤◌, List, [], ◌∷◌, ◌++◌, length, drop, refl, sym, ◌∙◌, ap, subst, arith, cond, Bool, true, false, inl, inr, append_assoc}
+use Rattle.std.proofs.Common.{◌≡◌, ℕ, suc, ◌+◌, ◌-◌, ◌<◌, ◌≤◌, List, [], ◌∷◌, ◌++◌, length, drop, refl, sym, ◌∙◌}
+use Rattle.std.proofs.Common.{ap, subst, arith, cond, Bool, true, false, inl, inr, append_assoc}
 use Rattle.std.specs.Prelude.{Option, Some, None, slice_get}
 use Rattle.std.proofs.Math.ListN.{drop_of_length-le}
 use Rattle.std.proofs.Math.Seq.{drop-length}
@@ -39,16 +40,26 @@ module _ (d : ℕ) (a : Area) (IsNoted : ℕ → List ℕ → Masks → Type 0) 
     pub nodes : path_nodes a k.digits path ≡ length (touched_below a n.level (body_above n.level k.digits) n.chain) + path_nodes a k.digits fs
     pub steps : path_steps path ≤ suc (entry_steps n.chain + path_steps fs)
 
-  pub entered : (r : NodeRefOf PlainNode) (n : PlainNode) (fs path : List Frame) (m : Option Masks) → IsWalk d a IsNoted k root fs → shown r ≡ n → n.level < a.width → IsLawfulFrom d n.level 0 n.chain → AreOver n.level fs → IsNote a IsNoted (shown r).level k.digits m → IsEntered m r fs path → HasEntered n fs path
+  pub entered : (r : NodeRefOf PlainNode) (n : PlainNode) (fs path : List Frame) (m : Option Masks) →
+      IsWalk d a IsNoted k root fs → shown r ≡ n → n.level < a.width → IsLawfulFrom d n.level 0 n.chain →
+      AreOver n.level fs → IsNote a IsNoted (shown r).level k.digits m → IsEntered m r fs path → HasEntered n fs path
   entered r n fs path m h e l q o i j =
-      subst (λ n. HasEntered n fs path) e (by_note m (subst (λ n. n.level < a.width) (sym e) l) (subst (λ n. IsLawfulFrom d n.level 0 n.chain) (sym e) q) (subst (λ n. AreOver n.level fs) (sym e) o) i j)
+      subst (λ n. HasEntered n fs path) e
+      (by_note m (subst (λ n. n.level < a.width) (sym e) l)
+      (subst (λ n. IsLawfulFrom d n.level 0 n.chain) (sym e) q) (subst (λ n. AreOver n.level fs) (sym e) o) i j)
     where
-      by_note : (m : Option Masks) → (shown r).level < a.width → IsLawfulFrom d (shown r).level 0 (shown r).chain → AreOver (shown r).level fs → IsNote a IsNoted (shown r).level k.digits m → IsEntered m r fs path → HasEntered (shown r) fs path
+      by_note : (m : Option Masks) → (shown r).level < a.width → IsLawfulFrom d (shown r).level 0 (shown r).chain →
+          AreOver (shown r).level fs → IsNote a IsNoted (shown r).level k.digits m → IsEntered m r fs path →
+          HasEntered (shown r) fs path
       by_note None l q o i j =
           let above : IsAbove d (shown r).level (body_above (shown r).level k.digits) = above-digits (shown r).level h.known in
           let room : small a.width (body_above (shown r).level k.digits) = small-digits (shown r).level h.width h.known in
-          let x : kept_below a (shown r).level (body_above (shown r).level k.digits) (shown r).chain ≡ [] = none-kept d a h.exact (shown r).level (shown r).level (body_above (shown r).level k.digits) (shown r).chain (omega arith) l above room q i in
-          let y : length (touched_below a (shown r).level (body_above (shown r).level k.digits) (shown r).chain) ≡ 0 = ap length (none-touched d a h.exact (shown r).level (shown r).level (body_above (shown r).level k.digits) (shown r).chain (omega arith) l above room q i) in
+          let x : kept_below a (shown r).level (body_above (shown r).level k.digits) (shown r).chain ≡ [] =
+          none-kept d a h.exact (shown r).level (shown r).level (body_above (shown r).level k.digits)
+          (shown r).chain (omega arith) l above room q i in
+          let y : length (touched_below a (shown r).level (body_above (shown r).level k.digits) (shown r).chain) ≡ 0 =
+          ap length (none-touched d a h.exact (shown r).level (shown r).level
+          (body_above (shown r).level k.digits) (shown r).chain (omega arith) l above room q i) in
           let p : path_nodes a k.digits path ≡ path_nodes a k.digits fs = ap (path_nodes a k.digits) j in
           let s : path_steps path ≡ path_steps fs = ap path_steps j in
           record {
@@ -59,12 +70,25 @@ module _ (d : ℕ) (a : Area) (IsNoted : ℕ → List ℕ → Masks → Type 0) 
           }
       by_note (Some m) l q o i j =
           let whole : chained (drop 0 (entries (shown r))) ≡ (shown r).chain = chained-listed (shown r).chain in
-          let p : path_nodes a k.digits path ≡ length (touched_below a (shown r).level (body_above (shown r).level k.digits) (chained (drop 0 (entries (shown r))))) + path_nodes a k.digits fs = ap (path_nodes a k.digits) j in
-          let y : length (touched_below a (shown r).level (body_above (shown r).level k.digits) (chained (drop 0 (entries (shown r))))) ≡ length (touched_below a (shown r).level (body_above (shown r).level k.digits) (shown r).chain) = ap (λ e. length (touched_below a (shown r).level (body_above (shown r).level k.digits) e)) whole in
+          let p : path_nodes a k.digits path ≡
+          length (touched_below a (shown r).level (body_above (shown r).level k.digits)
+          (chained (drop 0 (entries (shown r))))) + path_nodes a k.digits fs = ap (path_nodes a k.digits) j in
+          let y : length (touched_below a (shown r).level (body_above (shown r).level k.digits)
+          (chained (drop 0 (entries (shown r))))) ≡
+          length (touched_below a (shown r).level (body_above (shown r).level k.digits) (shown r).chain) =
+          ap (λ e. length (touched_below a (shown r).level (body_above (shown r).level k.digits) e)) whole in
           let s : path_steps path ≡ suc (entry_steps (chained (drop 0 (entries (shown r)))) + path_steps fs) = ap path_steps j in
           let t : entry_steps (chained (drop 0 (entries (shown r)))) ≡ entry_steps (shown r).chain = ap entry_steps whole in
           record {
-            walk = subst (IsWalk d a IsNoted k root) (sym j) (record { width = h.width; known = h.known; exact = h.exact; tree = h.tree; start = h.start; way = (record { level = l; lawful = q; noted = i }, o, h.way) });
+            walk = subst (IsWalk d a IsNoted k root) (sym j)
+                (record {
+                  width = h.width;
+                  known = h.known;
+                  exact = h.exact;
+                  tree = h.tree;
+                  start = h.start;
+                  way = (record { level = l; lawful = q; noted = i }, o, h.way);
+                });
             rows = ap (path_rows a k.digits) j ∙ ap (λ e. kept_below a (shown r).level (body_above (shown r).level k.digits) e ++ path_rows a k.digits fs) whole;
             nodes = omega (arith, p, y);
             steps = omega (arith, s, t);
@@ -82,7 +106,8 @@ module _ (d : ℕ) (a : Area) (IsNoted : ℕ → List ℕ → Masks → Type 0) 
 
 -- ---- the last frame
 
-module _ (d : ℕ) (a : Area) (IsNoted : ℕ → List ℕ → Masks → Type 0) (k : Known) (root : Option PlainNode) (f : Frame) (fs : List Frame) (h : IsWalk d a IsNoted k root (f ∷ fs)) where
+module _ (d : ℕ) (a : Area) (IsNoted : ℕ → List ℕ → Masks → Type 0) (k : Known) (root : Option PlainNode) (f : Frame)
+    (fs : List Frame) (h : IsWalk d a IsNoted k root (f ∷ fs)) where
   abbrev level : ℕ
   level = (shown f.node).level
 
@@ -104,25 +129,34 @@ module _ (d : ℕ) (a : Area) (IsNoted : ℕ → List ℕ → Masks → Type 0) 
   pub rest-walk : IsWalk d a IsNoted k root fs
   rest-walk = record { width = h.width; known = h.known; exact = h.exact; tree = h.tree; start = h.start; way = h.way.2 }
 
-  past-to : (i : ℕ) → f.place ≤ i → AreOut a (shown f.node).level (body_above (shown f.node).level k.digits) (entries (shown f.node)) f.place i → (kept_below a level above (left_in f) ≡ kept_below a level above (chained (drop i es))) × (touched_below a level above (left_in f) ≡ touched_below a level above (chained (drop i es)))
+  past-to : (i : ℕ) → f.place ≤ i →
+      AreOut a (shown f.node).level (body_above (shown f.node).level k.digits) (entries (shown f.node)) f.place i →
+      (kept_below a level above (left_in f) ≡ kept_below a level above (chained (drop i es))) ×
+      (touched_below a level above (left_in f) ≡ touched_below a level above (chained (drop i es)))
   past-to i l o = past d a h.exact level above h.way.0.level is_above room es f.place i l each-lawful o
 
   -- in which nothing is left
-  pub nothing-left : AreOut a (shown f.node).level (body_above (shown f.node).level k.digits) (entries (shown f.node)) f.place (length (entries (shown f.node))) → (path_rows a k.digits (f ∷ fs) ≡ path_rows a k.digits fs) × (path_nodes a k.digits (f ∷ fs) ≡ path_nodes a k.digits fs)
+  pub nothing-left : AreOut a (shown f.node).level (body_above (shown f.node).level k.digits) (entries (shown f.node))
+      f.place (length (entries (shown f.node))) → (path_rows a k.digits (f ∷ fs) ≡ path_rows a k.digits fs) ×
+      (path_nodes a k.digits (f ∷ fs) ≡ path_nodes a k.digits fs)
   nothing-left o =
       elim (cases_lt f.place (length es)) [
         | inl l ↦ gone (length es) (past-to (length es) (omega (arith, l)) o) (ap chained (drop-length es))
         | inr l ↦ gone f.place (refl, refl) (ap chained (drop_of_length-le es l))
       ]
     where
-      gone : (i : ℕ) → (kept_below a level above (left_in f) ≡ kept_below a level above (chained (drop i es))) × (touched_below a level above (left_in f) ≡ touched_below a level above (chained (drop i es))) → chained (drop i es) ≡ chained [] → (path_rows a k.digits (f ∷ fs) ≡ path_rows a k.digits fs) × (path_nodes a k.digits (f ∷ fs) ≡ path_nodes a k.digits fs)
+      gone : (i : ℕ) → (kept_below a level above (left_in f) ≡ kept_below a level above (chained (drop i es))) ×
+          (touched_below a level above (left_in f) ≡ touched_below a level above (chained (drop i es))) →
+          chained (drop i es) ≡ chained [] → (path_rows a k.digits (f ∷ fs) ≡ path_rows a k.digits fs) ×
+          (path_nodes a k.digits (f ∷ fs) ≡ path_nodes a k.digits fs)
       gone i q e =
           let z : length (touched_below a level above (left_in f)) ≡ 0 = ap length (q.1 ∙ ap (touched_below a level above) e) in
           (ap (λ t. t ++ path_rows a k.digits fs) (q.0 ∙ ap (kept_below a level above) e), omega (arith, z))
 
   -- ---- an entry that may matter
 
-  module _ (i : ℕ) (x : Entry) (at : slice_get (entries (shown f.node)) i ≡ Some x) (next : IsNext a (shown f.node).level (body_above (shown f.node).level k.digits) (entries (shown f.node)) f.place i) where
+  module _ (i : ℕ) (x : Entry) (at : slice_get (entries (shown f.node)) i ≡ Some x)
+      (next : IsNext a (shown f.node).level (body_above (shown f.node).level k.digits) (entries (shown f.node)) f.place i) where
     abbrev joined : List ℕ
     joined = put_together (shown f.node).level x.addr (body_above (shown f.node).level k.digits) x.body
 
@@ -141,20 +175,34 @@ module _ (d : ℕ) (a : Area) (IsNoted : ℕ → List ℕ → Masks → Type 0) 
     in-width : (shown f.node).level < k.width
     in-width = let e : k.width ≡ a.width = h.width in omega (arith, e, h.way.0.level)
 
-    same-above : (c : ℕ) → (shown f.node).level ≤ c → body_above c (put_together (shown f.node).level x.addr (body_above (shown f.node).level k.digits) x.body) ≡ body_above c k.digits
+    pub same-above : (c : ℕ) → (shown f.node).level ≤ c →
+        body_above c (put_together (shown f.node).level x.addr (body_above (shown f.node).level k.digits) x.body) ≡
+        body_above c k.digits
     same-above c l = joined-above d k.width level x.addr k.digits x.body in-width h.known.digits lawful.body c l
 
     pub after-walk : IsWalk d a IsNoted after root moved
     after-walk =
         let q = h.known in
-        let here : IsFrame d a IsNoted k.digits (record { node = f.node; place = i + 1; note = f.note }) = record { level = h.way.0.level; lawful = h.way.0.lawful; noted = h.way.0.noted } in
+        let here : IsFrame d a IsNoted k.digits (record { node = f.node; place = i + 1; note = f.note }) =
+        record { level = h.way.0.level; lawful = h.way.0.lawful; noted = h.way.0.noted } in
         record {
           width = h.width;
-          known = record { some = q.some; few = q.few; wide = q.wide; narrow = q.narrow; digits = joined-body d k.width level x.addr k.digits x.body in-width q.digits lawful.body };
+          known = record {
+            some = q.some;
+            few = q.few;
+            wide = q.wide;
+            narrow = q.narrow;
+            digits = joined-body d k.width level x.addr k.digits x.body in-width q.digits lawful.body;
+          };
           exact = h.exact;
           tree = h.tree;
           start = h.start;
-          way = (frame-kept d a IsNoted level k.digits joined same-above (record { node = f.node; place = i + 1; note = f.note }) (omega arith) here, h.way.1, way-kept d a IsNoted level k.digits joined same-above fs h.way.1 h.way.2);
+          way = (
+            frame-kept d a IsNoted level k.digits joined same-above
+                (record { node = f.node; place = i + 1; note = f.note }) (omega arith) here,
+            h.way.1,
+            way-kept d a IsNoted level k.digits joined same-above fs h.way.1 h.way.2,
+          );
         }
 
     rows-behind : kept_below a level above behind ++ path_rows a k.digits fs ≡ path_rows a joined moved
@@ -177,7 +225,11 @@ module _ (d : ℕ) (a : Area) (IsNoted : ℕ → List ℕ → Masks → Type 0) 
 
     -- a point
     module _ (v : ℕ) (is : x.what ≡ value v) where
-      pub found-rows : (t : Bool) → a.belongs (point_at a.width (put_together (shown f.node).level x.addr (body_above (shown f.node).level k.digits) x.body)) ≡ t → path_rows a k.digits (f ∷ fs) ≡ cond t (row (point_at a.width (put_together (shown f.node).level x.addr (body_above (shown f.node).level k.digits) x.body)) v ∷ path_rows a joined moved) (path_rows a joined moved)
+      pub found-rows : (t : Bool) → a.belongs
+          (point_at a.width (put_together (shown f.node).level x.addr (body_above (shown f.node).level k.digits)
+          x.body)) ≡ t → path_rows a k.digits (f ∷ fs) ≡
+          cond t (row (point_at a.width (put_together (shown f.node).level x.addr
+          (body_above (shown f.node).level k.digits) x.body)) v ∷ path_rows a joined moved) (path_rows a joined moved)
       found-rows t e =
           ap (λ r. r ++ path_rows a k.digits fs) (first-rows ∙ value-rows d a h.exact level above h.way.0.level is_above room x lawful behind v is t e)
           ∙ front t (row (point_at a.width joined) v) (kept_below a level above behind) (path_rows a k.digits fs)
@@ -189,7 +241,8 @@ module _ (d : ℕ) (a : Area) (IsNoted : ℕ → List ℕ → Masks → Type 0) 
 
       pub found-nodes : path_nodes a k.digits (f ∷ fs) ≡ path_nodes a joined moved
       found-nodes =
-          ap (λ t. length t + path_nodes a k.digits fs) (first-nodes ∙ value-nodes d a h.exact level above h.way.0.level is_above room x lawful behind v is) ∙ nodes-behind
+          ap (λ t. length t + path_nodes a k.digits fs)
+          (first-nodes ∙ value-nodes d a h.exact level above h.way.0.level is_above room x lawful behind v is) ∙ nodes-behind
 
       pub found-steps : path_steps moved < path_steps (f ∷ fs)
       found-steps =
@@ -217,12 +270,17 @@ module _ (d : ℕ) (a : Area) (IsNoted : ℕ → List ℕ → Masks → Type 0) 
       pub below-nodes : path_nodes a k.digits (f ∷ fs) ≡ suc (length (touched_below a n.level (body_above n.level joined) n.chain) + path_nodes a joined moved)
       below-nodes =
           let touched : a.touches (node_region a.width (level - 1) joined) ≡ true = subst (MayHold a level joined) is (next.may x at) in
-          let q : length (touched_below a level above (left_in f)) ≡ suc (length (touched_below a n.level joined n.chain) + length (touched_below a level above behind)) = ap length first-nodes ∙ child-nodes d a h.exact level above h.way.0.level is_above room x lawful behind n is touched in
-          let e : length (touched_below a n.level (body_above n.level joined) n.chain) ≡ length (touched_below a n.level joined n.chain) = ap (λ t. length (touched_below a n.level t n.chain)) all-known in
+          let q : length (touched_below a level above (left_in f)) ≡
+          suc (length (touched_below a n.level joined n.chain) + length (touched_below a level above behind)) =
+          ap length first-nodes ∙ child-nodes d a h.exact level above h.way.0.level is_above room x lawful behind
+          n is touched in
+          let e : length (touched_below a n.level (body_above n.level joined) n.chain) ≡
+          length (touched_below a n.level joined n.chain) = ap (λ t. length (touched_below a n.level t n.chain)) all-known in
           let s : length (touched_below a level above behind) + path_nodes a k.digits fs ≡ path_nodes a joined moved = nodes-behind in
           omega (arith, q, e, s)
 
       pub below-steps : suc (suc (entry_steps n.chain + path_steps moved)) ≤ path_steps (f ∷ fs)
       below-steps =
-          let e : entry_steps (in_front x.addr x.body x.what behind) ≡ suc (suc (entry_steps n.chain + entry_steps behind)) = ap (λ o. entry_steps (in_front x.addr x.body o behind)) is in
+          let e : entry_steps (in_front x.addr x.body x.what behind) ≡
+          suc (suc (entry_steps n.chain + entry_steps behind)) = ap (λ o. entry_steps (in_front x.addr x.body o behind)) is in
           omega (arith, first-steps, e)

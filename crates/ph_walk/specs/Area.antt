@@ -74,6 +74,10 @@ IsFound a n digits place o =
     MatchOption o (AreOut a n.level (body_above n.level digits) (entries n) place (length (entries n)))
     (λ s. IsNext a n.level (body_above n.level digits) (entries n) place s.place)
 
+-- no entry of a node from a place on holds anything of it
+abbrev pub AreDone : Area → PlainNode → List ℕ → ℕ → Type 0
+AreDone a n digits place = AreOut a n.level (body_above n.level digits) (entries n) place (length (entries n))
+
 -- what is told of the point with the known digits, if it belongs to the set
 abbrev pub IsTold : {T : Type 0} → Area → (List ℤ → T) → Known → Option T → Type 0
 IsTold a told k o =

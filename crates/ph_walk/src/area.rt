@@ -1,11 +1,11 @@
 //! Sets of points, as a walk asks for them.
-ghost use Rattle.std.specs.Prelude.{◌≡◌, ◌<◌, ◌+◌, ◌^◌, IfSome};
+ghost use Rattle.std.specs.Prelude.{◌≡◌, ◌<◌, ◌+◌, ◌^◌, true, IfSome};
 ghost use Rattle.ph_specs.specs.Lawful.{IsLawfulFrom};
 ghost use Rattle.ph_specs.specs.Node.{entries};
 ghost use Rattle.ph_specs.specs.PutTree.{body_above};
 ghost use Rattle.ph_node.specs.Shown.{shown};
 ghost use Rattle.ph_node.specs.Spots.{IsSpot};
-ghost use Rattle.ph_walk.specs.Area.{IsNote, IsFound, IsTold};
+ghost use Rattle.ph_walk.specs.Area.{IsNote, IsFound, AreDone, IsTold};
 
 use ph_coord::Dims;
 use ph_node::{NodeOf, NodeRefOf, Spot};
@@ -56,6 +56,21 @@ pub trait Area<P: Dims> {
         ensures found { IsFound (points self.now) (shown node.now) known.now.digits place result }
         ensures spot { IfSome result (λ s. IsSpot (entries (shown node.now)) s) }
         ensures room { IfSome result (λ s. s.place + 1 < 2 ^ 64) };
+
+    /// Whether no entry behind one holds a point of the set. It answers no where that is not known at once.
+    fn is_last(
+        &self,
+        known: &KnownOf<P>,
+        node: &NodeRefOf<'_, NodeOf<P>>,
+        spot: Spot,
+        note: Masks,
+    ) -> bool
+        requires width { known.now.width ≡ (points self.now).width }
+        requires level { (shown node.now).level < known.now.width }
+        requires lawful { IsLawfulFrom P.D (shown node.now).level 0 (shown node.now).chain }
+        requires noted { IsNoted self.now (shown node.now).level (body_above (shown node.now).level known.now.digits) note }
+        requires spot { IsSpot (entries (shown node.now)) spot }
+        ensures { result ≡ true → AreDone (points self.now) (shown node.now) known.now.digits (spot.place + 1) };
 
     /// What is told of the point with the known digits; None where it does not belong to the set.
     fn test(&self, known: &KnownOf<P>) -> Option<Self::Told>

@@ -5,7 +5,7 @@ ghost use Rattle.ph_specs.specs.Lawful.{IsLawful, rows};
 ghost use Rattle.ph_specs.specs.WorkSets.{placed};
 ghost use Rattle.ph_path.specs.Path.{IsPath};
 ghost use Rattle.ph_walk.specs.Area.{IsArea, kept, touched, TouchesRoot};
-ghost use Rattle.ph_walk.specs.Walk.{IsStep, IsEntered, IsFrame, path_rows, path_nodes};
+ghost use Rattle.ph_walk.specs.Walk.{IsStep, IsEntered, IsBehind, IsFrame, path_rows, path_nodes};
 
 use crate::area::{Area, Masks};
 use ph_coord::{Dim, Dims, Row, Width};
@@ -26,7 +26,7 @@ enum Step<T> {
     Done,
 }
 
-/// A walk. The root is there until it is visited.
+/// A walk. The root is there until it is visited. A walk takes no memory; it has room for the 62 nodes that a way can have.
 #[derive(Drop)]
 pub struct WalkOf<'t, P: Dims, A: Area<P>> {
     root: Option<&'t NodeOf<P>>,
@@ -115,10 +115,8 @@ impl<'t, P: Dims, A: Area<P>> WalkOf<'t, P, A> {
             self.path.leave();
             return Step::Moved;
         };
-        self.path.set_last(FrameOf {
-            place: spot.place + 1,
-            ..frame
-        });
+        let is_last = self.area.is_last(&self.known, &node, spot, frame.note);
+        pass(&mut self.path, frame, spot.place + 1, is_last);
         match node.what(spot) {
             WhatOf::Value(value) => {
                 self.known.join(node, spot);
@@ -158,6 +156,23 @@ impl<'t, const D: usize, A: Area<Dim<D>>> WalkOf<'t, Dim<D>, A> {
                 Step::Done => return None,
             }
         }
+    }
+}
+
+// Leaves an entry of the last frame behind: it goes on at a place, or goes itself where its node is done.
+#[inline(always)]
+fn pass<'t, P: Dims>(
+    path: &mut WayOf<'t, NodeOf<P>>,
+    frame: FrameOf<'t, NodeOf<P>, Masks>,
+    place: usize,
+    is_last: bool,
+)
+    ensures { IsBehind frame.entry place is_last path.old path.new }
+{
+    if is_last {
+        path.leave();
+    } else {
+        path.set_last(FrameOf { place, ..frame });
     }
 }
 

@@ -65,8 +65,13 @@ module _ {d w b : ℕ} {above : List ℕ} {lo hi : List ℤ} (t : At w d b above
     may-by (value v) h f = tt
     may-by (node n) h f = child-fits n h ∙ f
 
+  -- between a place and itself nothing stands
+  pub out-none : (es : List Entry) (p : ℕ) → AreOut (window_of w lo hi) b above es p p
+  out-none es p j x r s g = absurd (omega (arith, r, s))
+
   -- what the masks pass over holds nothing of the window, and what they let through may
-  module _ (es : List Entry) (each : (j : ℕ) (x : Entry) → slice_get es j ≡ Some x → IsLawfulEntry d b x) (p q : ℕ) (y : p ≤ q) (h : AreOut (window_of w lo hi) b above es p q) where
+  module _ (es : List Entry) (each : (j : ℕ) (x : Entry) → slice_get es j ≡ Some x → IsLawfulEntry d b x) (p q : ℕ)
+      (y : p ≤ q) (h : AreOut (window_of w lo hi) b above es p q) where
     shut-out : (i : ℕ) → AreShut l u es q i → AreOut (window_of w lo hi) b above es p i
     shut-out i s = out-then (window_of w lo hi) b above es p q i h (λ j x r v g. none-by x (each j x g) x.what (each j x g).held (s j x r v g))
 
@@ -85,7 +90,9 @@ module _ {d w b : ℕ} {above : List ℕ} {lo hi : List ℤ} (t : At w d b above
           }
 
       -- and over a point outside
-      pub out-on : (x : Entry) → slice_get es i ≡ Some x → is_node x.what ≡ false → is_between lo hi (point_at w (put_together b x.addr above x.body)) ≡ false → AreOut (window_of w lo hi) b above es p (i + 1)
+      pub out-on : (x : Entry) → slice_get es i ≡ Some x → is_node x.what ≡ false →
+          is_between lo hi (point_at w (put_together b x.addr above x.body)) ≡ false →
+          AreOut (window_of w lo hi) b above es p (i + 1)
       out-on x at kind out =
           out-then (window_of w lo hi) b above es p i (i + 1) next-on.out (out-one (window_of w lo hi) b above es i x at (none x.what kind))
         where

@@ -1,5 +1,6 @@
 -- A walk that goes on behind a point: what is left at a node.
-use Rattle.std.proofs.Common.{◌≡◌, ℕ, suc, ◌+◌, ◌-◌, ◌<◌, ◌≤◌, List, [], ◌∷◌, ◌++◌, length, drop, refl, sym, ◌∙◌, ap, subst, arith, Bool, true, false, append_assoc, get_or}
+use Rattle.std.proofs.Common.{◌≡◌, ℕ, suc, ◌+◌, ◌-◌, ◌<◌, ◌≤◌, List, [], ◌∷◌, ◌++◌, length, drop, refl, sym}
+use Rattle.std.proofs.Common.{◌∙◌, ap, subst, arith, Bool, true, false, append_assoc, get_or}
 use Rattle.std.specs.Prelude.{ℤ, Option, Some, None, filter, slice_get, position, nat_le}
 use Rattle.std.proofs.Math.Seq.{drop-length}
 use Rattle.std.proofs.lemmas.Option.{get_or_from_slice_get}
@@ -94,7 +95,9 @@ module _ {d : ℕ} {m : Mark} {c : Corners} {k : Known} {fs : List Frame} {n : P
 
   inside : is_in w (node_region w n.level above) l ≡ true
   inside =
-      same-in w n.level (point_at w above) l (ap (from_place (n.level + 1)) (offsets-coordinate w above) ∙ ap (from_place (n.level + 1)) h.held ∙ above-from n.level m.digits ∙ sym (ap (from_place (n.level + 1)) (offsets-coordinate w m.digits)))
+      same-in w n.level (point_at w above) l
+      (ap (from_place (n.level + 1)) (offsets-coordinate w above) ∙ ap (from_place (n.level + 1)) h.held ∙
+      above-from n.level m.digits ∙ sym (ap (from_place (n.level + 1)) (offsets-coordinate w m.digits)))
 
   -- nothing is left where the window does not meet the node, or where all addresses are smaller
   pub unmet : (points_of c).touches (node_region c.width n.level (body_above n.level k.digits)) ≡ false → left n.chain ≡ []
@@ -110,7 +113,8 @@ module _ {d : ℕ} {m : Mark} {c : Corners} {k : Known} {fs : List Frame} {n : P
   pub exhausted : position (λ e. nat_le a e.addr) (entries n) ≡ None → left n.chain ≡ []
   exhausted f =
       whole
-      ∙ skip-rest d w n.level above lo hi l here inside (entries n) 0 (length (entries n)) (omega arith) (λ i e p q g. (entries-at i e g, none-position a (entries n) f i e g))
+      ∙ skip-rest d w n.level above lo hi l here inside (entries n) 0 (length (entries n)) (omega arith)
+      (λ i e p q g. (entries-at i e g, none-position a (entries n) f i e g))
       ∙ ap (λ z. left (chained z)) (drop-length (entries n))
 
   pub same-here : left n.chain ≡ [] → IsResumed d m c n k fs k fs
@@ -126,7 +130,8 @@ module _ {d : ℕ} {m : Mark} {c : Corners} {k : Known} {fs : List Frame} {n : P
   module _ {r : NodeRefOf PlainNode} {j : ℕ} {x : Entry} {note : Masks} (q : IsFirst m c k n r j x note) where
     from-first : left n.chain ≡ left (chained (drop j (entries n)))
     from-first =
-        whole ∙ skip-rest d w n.level above lo hi l here inside (entries n) 0 j (omega arith) (λ i e p z f. (entries-at i e f, before-position a (entries n) j q.first i e z f))
+        whole ∙ skip-rest d w n.level above lo hi l here inside (entries n) 0 j (omega arith)
+        (λ i e p z f. (entries-at i e f, before-position a (entries n) j q.first i e z f))
 
     lawful-j : IsLawfulFrom d n.level x.addr (chained (drop j (entries n))) × IsLawfulFrom d n.level (x.addr + 1) (chained (drop (suc j) (entries n)))
     lawful-j = lawful-from d n.level 0 j n.chain x h.lawful q.entry
@@ -146,8 +151,12 @@ module _ {d : ℕ} {m : Mark} {c : Corners} {k : Known} {fs : List Frame} {n : P
             lawful = subst (λ t. IsLawfulFrom d t.level 0 t.chain) (sym q.shows) h.lawful;
             noted = subst (λ t. HasMasks c t.level (body_above t.level k.digits) note) (sym q.shows) q.noted;
           } in
-          let z : n.level ≤ (shown r).level = let e : (shown r).level ≡ n.level = ap (λ t. t.level) q.shows in omega (arith, e) in
-          (frame-kept d (points_of c) (HasMasks c) n.level k.digits K kept (record { node = r; place = i; note = note }) z f, subst (λ t. AreOver t.level fs) (sym q.shows) h.over, way-kept d (points_of c) (HasMasks c) n.level k.digits K kept fs h.over h.way)
+          let z : n.level ≤ (shown r).level = let e : (shown r).level ≡ n.level = ap (λ t. t.level) q.shows in omega (arith, e) in (
+            frame-kept d (points_of c) (HasMasks c) n.level k.digits K kept
+                (record { node = r; place = i; note = note }) z f,
+            subst (λ t. AreOver t.level fs) (sym q.shows) h.over,
+            way-kept d (points_of c) (HasMasks c) n.level k.digits K kept fs h.over h.way,
+          )
 
       pub framed-rows : path_rows (points_of c) K (framed_at i) ≡ rows (chained (drop i (entries n))) ++ path_rows (points_of c) k.digits fs
       framed-rows =
@@ -214,7 +223,8 @@ module _ {d : ℕ} {m : Mark} {c : Corners} {k : Known} {fs : List Frame} {n : P
       module _ {v : ℕ} (is : x.what ≡ value v) where
         pub point-ahead : before w l (point_at w K) ≡ true → IsResumed d m c n k fs joined (framed_at j)
         point-ahead f =
-            framed K kept j (split ∙ ahead-rest d w n.level above lo hi l here inside x others own.address own.body lawful-others same v is f ∙ sym (ap rows (entry-first (entries n) j x q.entry)))
+            framed K kept j (split ∙ ahead-rest d w n.level above lo hi l here inside x others own.address own.body
+            lawful-others same v is f ∙ sym (ap rows (entry-first (entries n) j x q.entry)))
 
         pub point-passed : before w l (point_at w K) ≡ false → IsResumed d m c n k fs joined (framed_at (j + 1))
         point-passed f =
@@ -259,22 +269,29 @@ module _ {d : ℕ} {m : Mark} {c : Corners} {k : Known} {fs : List Frame} {n : P
             child-meets w d n.level y.level x.addr above x.body lo hi y.chain end 0 here (omega arith, own.address, own.body, held.0, held.1, held.2, held.3, tt) ∙ o
 
         -- where the child has rows that are left, in frames that are on the path now
-        child-more : (e : Known) (new : List Frame) → is_open w lo hi n.level above x.addr ≡ true → e.width ≡ k.width → IsPath (IsFrame d (points_of c) (HasMasks c) e.digits) new
+        child-more : (e : Known) (new : List Frame) → is_open w lo hi n.level above x.addr ≡ true →
+            e.width ≡ k.width → IsPath (IsFrame d (points_of c) (HasMasks c) e.digits) new
             → path_rows (points_of c) e.digits new ≡ low-rest ++ path_rows (points_of c) K top
             → path_nodes (points_of c) e.digits new ≤ length (touched_below (points_of c) y.level K y.chain) + path_nodes (points_of c) K top
             → IsResumed d m c n k fs e new
         child-more e new o p z rs ns =
             let s : nodes (chained (drop j (entries n))) ≤ nodes (chained (entries n)) = fewer-nodes (points_of c) n.level above (entries n) j in
-            let u : nodes (chained (drop j (entries n))) ≡ suc (length (touched_below (points_of c) y.level K y.chain) + nodes others) = ap nodes (entry-first (entries n) j x q.entry) ∙ child-nodes d (points_of c) exact n.level above h.level here.known here.room x own others y is (child-met o) in
+            let u : nodes (chained (drop j (entries n))) ≡
+            suc (length (touched_below (points_of c) y.level K y.chain) + nodes others) =
+            ap nodes (entry-first (entries n) j x q.entry) ∙ child-nodes d (points_of c) exact n.level above
+            h.level here.known here.room x own others y is (child-met o) in
             record {
               width = p;
               way = z;
-              rows = rs ∙ ap (λ t. low-rest ++ t) (framed-rows K kept (j + 1)) ∙ sym (append_assoc low-rest (rows others) (path_rows (points_of c) k.digits fs)) ∙ ap (λ t. t ++ path_rows (points_of c) k.digits fs) (sym child-left);
+              rows = rs ∙ ap (λ t. low-rest ++ t) (framed-rows K kept (j + 1)) ∙
+                  sym (append_assoc low-rest (rows others) (path_rows (points_of c) k.digits fs)) ∙
+                  ap (λ t. t ++ path_rows (points_of c) k.digits fs) (sym child-left);
               nodes = omega (arith, ns, framed-nodes K kept (j + 1), s, u, chain-whole);
             }
 
         -- the child's region holds the point
-        pub child-ready : {e : Known} {new : List Frame} {p : PlainNode} {b : ℕ} → e ≡ joined → new ≡ top → p ≡ y → b ≡ p.level → body_above b e.digits ≡ body_above b m.digits → IsReady d m c e new p
+        pub child-ready : {e : Known} {new : List Frame} {p : PlainNode} {b : ℕ} → e ≡ joined → new ≡ top → p ≡ y →
+            b ≡ p.level → body_above b e.digits ≡ body_above b m.digits → IsReady d m c e new p
         child-ready {e} {new} {p} {b} to into s f held' =
             subst (λ e. IsReady d m c e new p) (sym to) (subst (λ new. IsReady d m c joined new p) (sym into) (subst (IsReady d m c joined top) (sym s) (record {
               mark = h.mark;
@@ -289,12 +306,17 @@ module _ {d : ℕ} {m : Mark} {c : Corners} {k : Known} {fs : List Frame} {n : P
               way = top-way;
             })))
 
-        pub child-resumed : {e : Known} {new : List Frame} {p : PlainNode} {z : Known} {deep : List Frame} → is_open w lo hi n.level above x.addr ≡ true → e ≡ joined → new ≡ top → p ≡ y → IsResumed d m c p e new z deep → IsResumed d m c n k fs z deep
+        pub child-resumed : {e : Known} {new : List Frame} {p : PlainNode} {z : Known} {deep : List Frame} →
+            is_open w lo hi n.level above x.addr ≡ true → e ≡ joined → new ≡ top → p ≡ y →
+            IsResumed d m c p e new z deep → IsResumed d m c n k fs z deep
         child-resumed {e} {new} {p} {z} {deep} o to into s i =
-            let f : IsResumed d m c y joined top z deep = subst (λ p. IsResumed d m c p joined top z deep) s (subst (λ new. IsResumed d m c p joined new z deep) into (subst (λ e. IsResumed d m c p e new z deep) to i)) in
+            let f : IsResumed d m c y joined top z deep = subst (λ p. IsResumed d m c p joined top z deep) s
+            (subst (λ new. IsResumed d m c p joined new z deep) into (subst (λ e. IsResumed d m c p e new z deep) to i)) in
             child-more z deep o f.width f.way
             (f.rows ∙ ap (λ t. rest_of w lo hi l y.level t y.chain ++ path_rows (points_of c) K top) all-known)
-            (let u : length (touched_below (points_of c) y.level (body_above y.level K) y.chain) ≡ length (touched_below (points_of c) y.level K y.chain) = ap (λ t. length (touched_below (points_of c) y.level t y.chain)) all-known in omega (arith, f.nodes, u))
+            (let u : length (touched_below (points_of c) y.level (body_above y.level K) y.chain) ≡
+            length (touched_below (points_of c) y.level K y.chain) =
+            ap (λ t. length (touched_below (points_of c) y.level t y.chain)) all-known in omega (arith, f.nodes, u))
 
         -- the region of the child does not hold the point
         module _ (apart : body_above y.level K ≡ body_above y.level m.digits → ⊥) where
@@ -305,7 +327,9 @@ module _ {d : ℕ} {m : Mark} {c : Corners} {k : Known} {fs : List Frame} {n : P
               by_test false e = refl
               by_test true e =
                   let s : from_place (y.level + 1) (offsets w (point_at w K)) ≡ from_place (y.level + 1) (offsets w l) = in-same w y.level (point_at w K) l e in
-                  let u : from_place (y.level + 1) K ≡ from_place (y.level + 1) m.digits = sym (ap (from_place (y.level + 1)) (offsets-coordinate w K)) ∙ s ∙ ap (from_place (y.level + 1)) (offsets-coordinate w m.digits) in
+                  let u : from_place (y.level + 1) K ≡ from_place (y.level + 1) m.digits =
+                  sym (ap (from_place (y.level + 1)) (offsets-coordinate w K)) ∙ s ∙ ap (from_place (y.level + 1))
+                  (offsets-coordinate w m.digits) in
                   absurd (apart (above-same y.level y.level K m.digits (omega arith) u))
 
           own-point : IsPoint w d (point_at w K)
@@ -323,12 +347,27 @@ module _ {d : ℕ} {m : Mark} {c : Corners} {k : Known} {fs : List Frame} {n : P
               ∙ ap (λ t. window lo hi (rows_behind w y.level t y.chain)) (sym all-known)
 
           -- all of it comes later, and it is entered
-          pub child-entered : {e : Known} {new : List Frame} {b : ℕ} (deep : List Frame) (p : NodeRefOf PlainNode) (o : Option Masks) → is_open w lo hi n.level above x.addr ≡ true → e ≡ joined → new ≡ top → shown p ≡ y → before w l (point_at w K) ≡ true → b ≡ (shown p).level → IsNote (points_of c) (HasMasks c) b e.digits o → IsEntered o p new deep → IsResumed d m c n k fs e deep
+          pub child-entered : {e : Known} {new : List Frame} {b : ℕ} (deep : List Frame) (p : NodeRefOf PlainNode)
+              (o : Option Masks) → is_open w lo hi n.level above x.addr ≡ true → e ≡ joined → new ≡ top →
+              shown p ≡ y → before w l (point_at w K) ≡ true → b ≡ (shown p).level →
+              IsNote (points_of c) (HasMasks c) b e.digits o → IsEntered o p new deep → IsResumed d m c n k fs e deep
           child-entered {e} {new} {b} deep p o opens to into s f v g i =
-              let z' : IsNote (points_of c) (HasMasks c) (shown p).level K o = noted-at (points_of c) (HasMasks c) K o v (subst (λ e. IsNote (points_of c) (HasMasks c) b e.digits o) to g) in
+              let z' : IsNote (points_of c) (HasMasks c) (shown p).level K o = noted-at (points_of c) (HasMasks c) K o
+              v (subst (λ e. IsNote (points_of c) (HasMasks c) b e.digits o) to g) in
               let z : HasEntered d (points_of c) (HasMasks c) joined None y top deep =
-              entered d (points_of c) (HasMasks c) joined None p y top deep o (record { width = h.same; known = joined-known; exact = exact; tree = tt; start = tt; way = top-way }) s (omega (arith, held.0, h.level)) held.3 top-over z' (subst (λ new. IsEntered o p new deep) into i) in
-              let u : length (touched_below (points_of c) y.level (body_above y.level K) y.chain) ≡ length (touched_below (points_of c) y.level K y.chain) = ap (λ t. length (touched_below (points_of c) y.level t y.chain)) all-known in
+              entered d (points_of c) (HasMasks c) joined None p y top deep o
+              (record {
+                width = h.same;
+                known = joined-known;
+                exact = exact;
+                tree = tt;
+                start = tt;
+                way = top-way;
+              }) s (omega (arith, held.0, h.level)) held.3 top-over z'
+              (subst (λ new. IsEntered o p new deep) into i) in
+              let u : length (touched_below (points_of c) y.level (body_above y.level K) y.chain) ≡
+              length (touched_below (points_of c) y.level K y.chain) =
+              ap (λ t. length (touched_below (points_of c) y.level t y.chain)) all-known in
               subst (λ e. IsResumed d m c n k fs e deep) (sym to)
               (child-more joined deep opens refl z.walk.way (z.rows ∙ ap (λ t. t ++ path_rows (points_of c) K top) (sym (child-later f))) (omega (arith, z.nodes, u)))
 
@@ -339,13 +378,17 @@ module _ {d : ℕ} {m : Mark} {c : Corners} {k : Known} {fs : List Frame} {n : P
   pub address-at : {b t : ℕ} → b ≡ n.level → t ≡ address m.width (point_at m.width m.digits) b → t ≡ address c.width (point_at c.width m.digits) n.level
   address-at {b = b} e g = g ∙ ap (λ w. address w (point_at w m.digits) b) h.width ∙ ap (address c.width (point_at c.width m.digits)) e
 
-  pub first-at : {b t : ℕ} {o : Option ℕ} → b ≡ n.level → t ≡ address m.width (point_at m.width m.digits) b → o ≡ position (λ e. nat_le t e.addr) (entries n) → position (λ e. nat_le (address c.width (point_at c.width m.digits) n.level) e.addr) (entries n) ≡ o
+  pub first-at : {b t : ℕ} {o : Option ℕ} → b ≡ n.level → t ≡ address m.width (point_at m.width m.digits) b →
+      o ≡ position (λ e. nat_le t e.addr) (entries n) →
+      position (λ e. nat_le (address c.width (point_at c.width m.digits) n.level) e.addr) (entries n) ≡ o
   first-at e g f = sym (ap (λ t. position (λ e. nat_le t e.addr) (entries n)) (address-at e g)) ∙ sym f
 
   -- no masks, where the window does not meet the node
-  pub unmet-at : {b : ℕ} (o : Option Masks) → b ≡ n.level → IsNote (points_of c) (HasMasks c) b k.digits o → o ≡ None → (points_of c).touches (node_region c.width n.level (body_above n.level k.digits)) ≡ false
+  pub unmet-at : {b : ℕ} (o : Option Masks) → b ≡ n.level → IsNote (points_of c) (HasMasks c) b k.digits o →
+      o ≡ None → (points_of c).touches (node_region c.width n.level (body_above n.level k.digits)) ≡ false
   unmet-at o e f i =
-      none_of ((points_of c).touches (node_region c.width n.level (body_above n.level k.digits)) ≡ false) (HasMasks c n.level (body_above n.level k.digits)) i (noted-at (points_of c) (HasMasks c) k.digits o e f)
+      none_of ((points_of c).touches (node_region c.width n.level (body_above n.level k.digits)) ≡ false)
+      (HasMasks c n.level (body_above n.level k.digits)) i (noted-at (points_of c) (HasMasks c) k.digits o e f)
 
 first-above : (es : List Entry) (a j : ℕ) (x : Entry) → position (λ e. nat_le a e.addr) es ≡ Some j → slice_get es j ≡ Some x → (x.addr ≡ a → ⊥) → a < x.addr
 first-above es a j x p g n =
@@ -356,9 +399,11 @@ first-above es a j x p g n =
     strictly : (a x : ℕ) → a ≤ x → (a ≡ x → ⊥) → a < x
     strictly a x l n = grind (arith, l, n)
 
-pub found-first : {d : ℕ} {m : Mark} {c : Corners} {k : Known} {fs : List Frame} {r : NodeRefOf PlainNode} {b t j : ℕ} {o : Option Masks} {p : Option ℕ} {spot : Spot} {held : What} {note : Masks}
+pub found-first : {d : ℕ} {m : Mark} {c : Corners} {k : Known} {fs : List Frame} {r : NodeRefOf PlainNode} {b t j : ℕ}
+    {o : Option Masks} {p : Option ℕ} {spot : Spot} {held : What} {note : Masks}
     → IsReady d m c k fs (shown r) → b ≡ (shown r).level → IsNote (points_of c) (HasMasks c) b k.digits o → o ≡ Some note
-    → t ≡ address m.width (point_at m.width m.digits) b → p ≡ position (λ e. nat_le t e.addr) (entries (shown r)) → p ≡ Some j → spot.place ≡ j → IsSpot (entries (shown r)) spot → held ≡ what_at (entries (shown r)) spot.place
+    → t ≡ address m.width (point_at m.width m.digits) b → p ≡ position (λ e. nat_le t e.addr) (entries (shown r)) →
+    p ≡ Some j → spot.place ≡ j → IsSpot (entries (shown r)) spot → held ≡ what_at (entries (shown r)) spot.place
     → IsFirst m c k (shown r) r j (record { addr = spot.addr; body = body_at (entries (shown r)) spot.place; what = held }) note
 found-first {c = c} {k = k} {r = r} {o = o} {spot = spot} h e f i g p q at s w =
     record {
@@ -368,24 +413,37 @@ found-first {c = c} {k = k} {r = r} {o = o} {spot = spot} h e f i g p q at s w =
       noted = some_of _ _ i (noted-at (points_of c) (HasMasks c) k.digits o e f);
     }
 
-module _ {d : ℕ} {m : Mark} {c : Corners} {k : Known} {fs : List Frame} {n : PlainNode} (h : IsReady d m c k fs n) {r : NodeRefOf PlainNode} {j : ℕ} {x : Entry} {note : Masks} (q : IsFirst m c k n r j x note) where
+module _ {d : ℕ} {m : Mark} {c : Corners} {k : Known} {fs : List Frame} {n : PlainNode} (h : IsReady d m c k fs n)
+    {r : NodeRefOf PlainNode} {j : ℕ} {x : Entry} {note : Masks} (q : IsFirst m c k n r j x note) where
   -- an entry that is not at the point's address is behind it
-  pub entry-behind : {b t : ℕ} → b ≡ n.level → t ≡ address m.width (point_at m.width m.digits) b → (x.addr ≡ t → ⊥) → address c.width (point_at c.width m.digits) n.level < x.addr
+  pub entry-behind : {b t : ℕ} → b ≡ n.level → t ≡ address m.width (point_at m.width m.digits) b → (x.addr ≡ t → ⊥) →
+      address c.width (point_at c.width m.digits) n.level < x.addr
   entry-behind e g f =
       first-above (entries n) (address c.width (point_at c.width m.digits) n.level) j x q.first q.entry (λ s. f (s ∙ sym (address-at h e g)))
 
   -- whether the joined digits come behind the point
-  pub behind-is : {e : Known} {t : Bool} → e ≡ known_at k.width (put_together n.level x.addr (body_above n.level k.digits) x.body) → t ≡ before m.width (point_at m.width m.digits) (point_at m.width e.digits) → before c.width (point_at c.width m.digits) (point_at c.width (put_together n.level x.addr (body_above n.level k.digits) x.body)) ≡ t
+  pub behind-is : {e : Known} {t : Bool} →
+      e ≡ known_at k.width (put_together n.level x.addr (body_above n.level k.digits) x.body) →
+      t ≡ before m.width (point_at m.width m.digits) (point_at m.width e.digits) →
+      before c.width (point_at c.width m.digits)
+      (point_at c.width (put_together n.level x.addr (body_above n.level k.digits) x.body)) ≡ t
   behind-is to f =
-      sym (ap (λ w. before w (point_at w m.digits) (point_at w (put_together n.level x.addr (body_above n.level k.digits) x.body))) h.width) ∙ sym (ap (λ (e : Known). before m.width (point_at m.width m.digits) (point_at m.width e.digits)) to) ∙ sym f
+      sym (ap (λ w. before w (point_at w m.digits)
+      (point_at w (put_together n.level x.addr (body_above n.level k.digits) x.body))) h.width) ∙
+      sym (ap (λ (e : Known). before m.width (point_at m.width m.digits) (point_at m.width e.digits)) to) ∙ sym f
 
   -- a region that does not hold the point
-  pub apart-is : {e : Known} {b l : ℕ} → e ≡ known_at k.width (put_together n.level x.addr (body_above n.level k.digits) x.body) → l ≡ b → (body_above l e.digits ≡ body_above l m.digits → ⊥) → body_above b (put_together n.level x.addr (body_above n.level k.digits) x.body) ≡ body_above b m.digits → ⊥
+  pub apart-is : {e : Known} {b l : ℕ} →
+      e ≡ known_at k.width (put_together n.level x.addr (body_above n.level k.digits) x.body) → l ≡ b →
+      (body_above l e.digits ≡ body_above l m.digits → ⊥) →
+      body_above b (put_together n.level x.addr (body_above n.level k.digits) x.body) ≡ body_above b m.digits → ⊥
   apart-is {e = e} {b = b} to s f p =
       f (subst (λ t. body_above t e.digits ≡ body_above t m.digits) (sym s) (ap (λ (e : Known). body_above b e.digits) to ∙ p))
 
-pub resumed-at : {d : ℕ} {m : Mark} {c : Corners} {n : PlainNode} {k : Known} {fs : List Frame} {e z : Known} {p q : List Frame} → z ≡ e → q ≡ p → IsResumed d m c n k fs e p → IsResumed d m c n k fs z q
-resumed-at {d = d} {m = m} {c = c} {n = n} {k = k} {fs = fs} {e = e} {q = q} to into i = subst (λ z. IsResumed d m c n k fs z q) (sym to) (subst (IsResumed d m c n k fs e) (sym into) i)
+pub resumed-at : {d : ℕ} {m : Mark} {c : Corners} {n : PlainNode} {k : Known} {fs : List Frame} {e z : Known}
+    {p q : List Frame} → z ≡ e → q ≡ p → IsResumed d m c n k fs e p → IsResumed d m c n k fs z q
+resumed-at {d = d} {m = m} {c = c} {n = n} {k = k} {fs = fs} {e = e} {q = q} to into i =
+    subst (λ z. IsResumed d m c n k fs z q) (sym to) (subst (IsResumed d m c n k fs e) (sym into) i)
 
 pub room-at : {d : ℕ} {m : Mark} {c : Corners} {k : Known} {fs : List Frame} {n : PlainNode} → IsReady d m c k fs n → (length fs < 62) × (length fs + n.level < 62)
 room-at {d = d} {c = c} {k = k} {fs = fs} {n = n} h =

@@ -1,5 +1,6 @@
 -- Looking for the next entry that fits.
-use Rattle.std.proofs.Common.{◌≡◌, ℕ, zero, suc, ◌+◌, ◌<◌, ◌≤◌, List, [], ◌∷◌, length, refl, sym, ◌∙◌, ap, subst, arith, cond, Bool, true, false, leb-true, leb-false, ltb-false, get_or, inl, inr}
+use Rattle.std.proofs.Common.{◌≡◌, ℕ, zero, suc, ◌+◌, ◌<◌, ◌≤◌, List, [], ◌∷◌, length, refl, sym, ◌∙◌, ap, subst, arith}
+use Rattle.std.proofs.Common.{cond, Bool, true, false, leb-true, leb-false, ltb-false, get_or, inl, inr}
 use Rattle.std.specs.Prelude.{Option, Some, None, MatchOption, nat_le, nat_lt, slice_get, position}
 use Rattle.std.specs.List.{position_or_len}
 use Rattle.std.proofs.lemmas.Bool.{cases_lt, le-leb, lt-leb, lt-ltb}
@@ -103,9 +104,11 @@ shut_if : (s : Bool) → (s ≡ true → ⊥) → s ≡ false
 shut_if true n = absurd (n refl)
 shut_if false n = refl
 
-module _ (l u : ℕ) (es : List Entry) (r : Rising 0 es) (p s : ℕ) (x : Entry) (at : slice_get es s ≡ Some x) (bad : fits_masks x.addr l u ≡ false) (before : AreShut l u es p s) where
+module _ (l u : ℕ) (es : List Entry) (r : Rising 0 es) (p s : ℕ) (x : Entry) (at : slice_get es s ≡ Some x)
+    (bad : fits_masks x.addr l u ≡ false) (before : AreShut l u es p s) where
   -- an entry that does not come before the one at hand, at an address below which nothing fits
-  behind-shut : (k : ℕ) → ((a : ℕ) → x.addr < a → fits_masks a l u ≡ true → k ≤ a) → (j : ℕ) (e : Entry) → p ≤ j → slice_get es j ≡ Some e → e.addr < k → fits_masks e.addr l u ≡ false
+  behind-shut : (k : ℕ) → ((a : ℕ) → x.addr < a → fits_masks a l u ≡ true → k ≤ a) → (j : ℕ) (e : Entry) → p ≤ j →
+      slice_get es j ≡ Some e → e.addr < k → fits_masks e.addr l u ≡ false
   behind-shut k f j e q g h =
       elim (cases_lt j s) [
         | inl i ↦ before j e q i g
@@ -153,13 +156,21 @@ module _ (l u : ℕ) (es : List Entry) (r : Rising 0 es) (p s : ℕ) (x : Entry)
         ]
       ]
 
+-- behind the upper mask itself nothing fits
+pub behind-upper : (l u : ℕ) (es : List Entry) → Rising 0 es → (s : ℕ) (x : Entry) → slice_get es s ≡ Some x →
+    x.addr ≡ u → AreShut l u es (s + 1) (length es)
+behind-upper l u es r s x at h j e q m g =
+    let v : x.addr < e.addr = later 0 es s j x e r at g (omega (arith, q)) in
+    shut_if (fits_masks e.addr l u) (λ t. let w : e.addr ≤ u = (fits-between e.addr l u t).1 in omega (arith, v, w, h))
+
 -- ---- below the lower mask
 
 below-lower : (l u : ℕ) (e : Entry) → e.addr < l → fits_masks e.addr l u ≡ false
 below-lower l u e h =
     shut_if (fits_masks e.addr l u) (λ t. let w : l ≤ e.addr = (fits-between e.addr l u t).0 in omega (arith, w, h))
 
-pub lower-passed : (l u : ℕ) (es : List Entry) (o : Option ℕ) → o ≡ position (λ e. nat_le l e.addr) es → MatchOption o (AreShut l u es 0 (length es)) (λ i. IsPassed l u es 0 i)
+pub lower-passed : (l u : ℕ) (es : List Entry) (o : Option ℕ) → o ≡ position (λ e. nat_le l e.addr) es →
+    MatchOption o (AreShut l u es 0 (length es)) (λ i. IsPassed l u es 0 i)
 lower-passed l u es None p = λ j e q m g. below-lower l u e (none-position l es (sym p) j e g)
 lower-passed l u es (Some i) p =
     record { behind = omega arith; shut = λ j e q m g. below-lower l u e (before-position l es i (sym p) j e m g) }

@@ -14,7 +14,7 @@ ghost use Rattle.ph_node.specs.Kinds.{is_node};
 ghost use Rattle.ph_node.specs.Shown.{shown};
 ghost use Rattle.ph_node.specs.Spots.{IsSpot, joined_digits};
 ghost use Rattle.ph_path.specs.Known.{point_at};
-ghost use Rattle.ph_walk.specs.Area.{IsFound};
+ghost use Rattle.ph_walk.specs.Area.{IsFound, AreDone};
 ghost use Rattle.ph_window.specs.Corners.{corners_at, points_of, HasMasks};
 
 use crate::seek::seek;
@@ -77,6 +77,7 @@ impl<P: Dims> CornersOf<P> {
     }
 
     // The masks of the window in a node at a level, below the digits that are known.
+    #[inline(always)]
     fn masks(&self, known: &KnownOf<P>, level: u32) -> Option<(u32, u32)>
         requires width { known.now.width ≡ self.now.width }
         requires level { level < known.now.width }
@@ -106,6 +107,31 @@ impl<P: Dims> CornersOf<P> {
         }
         let dims = P::D;
         !node.lies_between(spot, digits, &self.low[..dims], &self.high[..dims])
+    }
+
+    // Whether an entry stands at the last address that fits the masks. In many dimensions that is rare, and it answers no.
+    #[inline(always)]
+    fn is_last_to_fit(
+        &self,
+        known: &KnownOf<P>,
+        node: NodeRefOf<'_, NodeOf<P>>,
+        spot: Spot,
+        note: Masks,
+    ) -> bool
+        requires width { known.now.width ≡ self.now.width }
+        requires level { (shown node).level < known.now.width }
+        requires lawful { IsLawfulFrom P.D (shown node).level 0 (shown node).chain }
+        requires masks { HasMasks self.now (shown node).level (body_above (shown node).level known.now.digits) note }
+        requires spot { IsSpot (entries (shown node)) spot }
+        ensures { result ≡ true → AreDone (points_of self.now) (shown node.entry) known.now.digits (spot.place + 1) }
+    {
+        // Uses that make known that the digits and the corners fit the width.
+        let digits = known.digits();
+        let _low = &self.low;
+        if digits.len() > FEW_DIMS {
+            return false;
+        }
+        spot.addr == note.upper
     }
 
     // Whether the point with the known digits is in the window.
@@ -138,6 +164,14 @@ impl<P: Dims> CornersOf<P> {
         // Uses that make known that the digits and the corners fit the width.
         let _digits = known.digits();
         let _low = &self.low;
+        // The first entry stands before the loop, since it is mostly the one, and what a loop readies for its later turns costs more.
+        let Some(spot) = seek(FrameOf { node, place, note }) else {
+            return None;
+        };
+        if !self.rules_out(known, node, spot) {
+            return Some(spot);
+        }
+        place = spot.place + 1;
         while let Some(spot) = seek(FrameOf { node, place, note }) {
             if !self.rules_out(known, node, spot) {
                 return Some(spot);
@@ -159,6 +193,7 @@ impl<P: Dims> Area<P> for CornersOf<P> {
 
     ghost IsNoted = { HasMasks };
 
+    #[inline(always)]
     fn note(&self, known: &KnownOf<P>, level: u32) -> Option<Masks> {
         let Some((lower, upper)) = self.masks(known, level) else {
             return None;
@@ -174,6 +209,17 @@ impl<P: Dims> Area<P> for CornersOf<P> {
         note: Masks,
     ) -> Option<Spot> {
         self.first_open(known, *node, place, note)
+    }
+
+    #[inline(always)]
+    fn is_last(
+        &self,
+        known: &KnownOf<P>,
+        node: &NodeRefOf<'_, NodeOf<P>>,
+        spot: Spot,
+        note: Masks,
+    ) -> bool {
+        self.is_last_to_fit(known, *node, spot, note)
     }
 
     fn test(&self, known: &KnownOf<P>) -> Option<()> {

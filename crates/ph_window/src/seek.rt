@@ -24,6 +24,7 @@ pub(crate) fn fits(addr: u32, lower: u32, upper: u32) -> bool
 }
 
 // The first entry at or behind the frame's place whose address fits.
+#[inline(always)]
 pub(crate) fn seek<P: Dims>(frame: FrameOf<'_, NodeOf<P>, Masks>) -> Option<Spot>
     requires masks { bit_and frame.note.lower frame.note.upper ≡ frame.note.lower }
     requires upper { frame.note.upper < 2 ^ P.D }
@@ -44,6 +45,7 @@ pub(crate) fn seek<P: Dims>(frame: FrameOf<'_, NodeOf<P>, Masks>) -> Option<Spot
 }
 
 // The frame's place, or a later one before which no address has the digits of the lower mask.
+#[inline(always)]
 fn first_place<P: Dims>(frame: FrameOf<'_, NodeOf<P>, Masks>) -> Option<usize>
     requires { frame.note.lower < 2 ^ P.D }
     ensures { MatchOption result
@@ -62,8 +64,42 @@ fn first_place<P: Dims>(frame: FrameOf<'_, NodeOf<P>, Masks>) -> Option<usize>
     frame.node.next_at_or_after(frame.note.lower)
 }
 
-// The same, from a place on before which nothing fits.
-fn seek_from<P: Dims>(frame: FrameOf<'_, NodeOf<P>, Masks>, mut place: usize) -> Option<Spot>
+// The same, from a place on before which nothing fits. The first entry stands before the loop, since it is mostly the one.
+#[inline(always)]
+fn seek_from<P: Dims>(frame: FrameOf<'_, NodeOf<P>, Masks>, place: usize) -> Option<Spot>
+    requires masks { bit_and frame.note.lower frame.note.upper ≡ frame.note.lower }
+    requires upper { frame.note.upper < 2 ^ P.D }
+    requires lawful { IsLawfulFrom P.D (shown frame.node).level 0 (shown frame.node).chain }
+    requires passed { IsPassed frame.note.lower frame.note.upper (entries (shown frame.node)) frame.place place }
+    ensures found { MatchOption result
+        (AreShut frame.entry.note.lower frame.entry.note.upper (entries (shown frame.entry.node))
+        frame.entry.place (length (entries (shown frame.entry.node))))
+        (λ s.
+        IsNextEntry frame.entry.note.lower frame.entry.note.upper (entries (shown frame.entry.node))
+        frame.entry.place s.place) }
+    ensures spot { IfSome result (λ s. IsSpot (entries (shown frame.entry.node)) s) }
+    ensures room { IfSome result (λ s. s.place + 1 < 2 ^ 64) }
+{
+    let node = frame.node;
+    if place >= node.len() {
+        return None;
+    }
+    let spot = node.spot(place);
+    if fits(spot.addr, frame.note.lower, frame.note.upper) {
+        return Some(spot);
+    }
+    let Some(next) = next_address(spot.addr, frame.note.lower, frame.note.upper) else {
+        return None;
+    };
+    let Some(found) = place_from(node, place + 1, next) else {
+        return None;
+    };
+    seek_on(frame, found)
+}
+
+// The same by a loop.
+#[inline(always)]
+fn seek_on<P: Dims>(frame: FrameOf<'_, NodeOf<P>, Masks>, mut place: usize) -> Option<Spot>
     requires masks { bit_and frame.note.lower frame.note.upper ≡ frame.note.lower }
     requires upper { frame.note.upper < 2 ^ P.D }
     requires lawful { IsLawfulFrom P.D (shown frame.node).level 0 (shown frame.node).chain }

@@ -19,8 +19,10 @@ returns-then-distance-limit-clause-treated g c =
     let o = c.args.from.now in
     let i = c.args.place in
     let there = c.requires.place in
-    let told = c.least-distance.ensures ∙ least-told (shown o.node).level c.spot-spot.result.addr o.known c.args.center.now c.args.halves.now c.requires.opened.known.0 c.requires.point.0 c.requires.halves c.requires.small
-    ∙ ap (λ a. gaps_above (shown o.node).level (corner_of (shown o.node).level a o.known) c.args.center.now) (c.spot-spot.ensures.spot.address ∙ ap (addr_at (entries (shown o.node))) c.spot-spot.ensures.place) in
+    let told = c.least-distance.ensures ∙ least-told (shown o.node).level c.spot-spot.result.addr o.known
+    c.args.center.now c.args.halves.now c.requires.opened.known.0 c.requires.point.0 c.requires.halves c.requires.small
+    ∙ ap (λ a. gaps_above (shown o.node).level (corner_of (shown o.node).level a o.known) c.args.center.now)
+    (c.spot-spot.ensures.spot.address ∙ ap (addr_at (entries (shown o.node))) c.spot-spot.ensures.place) in
     inl (
       refl,
       inl (
@@ -34,7 +36,12 @@ returns-then-distance-limit-clause-treated g c =
 pub returns-then-not-is_child-clause-treated : goal.returns-then-not-is_child-clause-treated
 returns-then-not-is_child-clause-treated g c =
     on_ok_weaker c.find.result
-    (λ t. inl (refl, subst (λ i. IsTried {d = g.row.D} c.args.ranking.now.n c.args.w (map (coordinate c.args.w) c.args.center.now) (place_item c.args.w c.args.from.now i) (heap_items c.args.ranking.now.rows) (heap_items c.find.new.ranking.rows)) c.spot-spot.ensures.place t))
+    (λ t. inl (
+      refl,
+      subst (λ i. IsTried {d = g.row.D} c.args.ranking.now.n c.args.w
+          (map (coordinate c.args.w) c.args.center.now) (place_item c.args.w c.args.from.now i)
+          (heap_items c.args.ranking.now.rows) (heap_items c.find.new.ranking.rows)) c.spot-spot.ensures.place t,
+    ))
     c.find.ensures.tried
 
 pub returns-in-Ok-clause-treated : goal.returns-in-Ok-clause-treated
@@ -43,8 +50,27 @@ returns-in-Ok-clause-treated g c =
     let o = c.args.from.now in
     let i = c.args.place in
     let there = c.requires.place in
-    let told = c.least-distance.ensures ∙ least-told (shown o.node).level c.spot-spot.result.addr o.known c.args.center.now c.args.halves.now c.requires.opened.known.0 c.requires.point.0 c.requires.halves c.requires.small
-    ∙ ap (λ a. gaps_above (shown o.node).level (corner_of (shown o.node).level a o.known) c.args.center.now) (c.spot-spot.ensures.spot.address ∙ ap (addr_at (entries (shown o.node))) c.spot-spot.ensures.place) in
-    let child : is_node (what_at (entries (shown c.args.from.now.node)) c.args.place) ≡ true = ap (λ k. is_node (what_at (entries (shown o.node)) k)) (sym c.spot-spot.ensures.place) ∙ sym c.is_child.ensures ∙ c.if-not-is_child.false in
+    let told = c.least-distance.ensures ∙ least-told (shown o.node).level c.spot-spot.result.addr o.known
+    c.args.center.now c.args.halves.now c.requires.opened.known.0 c.requires.point.0 c.requires.halves c.requires.small
+    ∙ ap (λ a. gaps_above (shown o.node).level (corner_of (shown o.node).level a o.known) c.args.center.now)
+    (c.spot-spot.ensures.spot.address ∙ ap (addr_at (entries (shown o.node))) c.spot-spot.ensures.place) in
+    let child : is_node (what_at (entries (shown c.args.from.now.node)) c.args.place) ≡ true =
+    ap (λ k. is_node (what_at (entries (shown o.node)) k)) (sym c.spot-spot.ensures.place) ∙
+    sym c.is_child.ensures ∙ c.if-not-is_child.false in
     let far = told ∙ place-child o c.requires.opened i there c.args.center.now c.requires.point child in
-    inr (refl, (record { distance = c.least-distance.result; opened = c.args.at; place = c.args.place }, refl, refl, record { place = there; child = child; far = far; small = subst (λ n. n < 2 ^ 128) (sym far) (place-small o c.requires.opened i there c.args.center.now c.requires.point narrow c.requires.few) }, c.in-Ok.ensures.permutation))
+    inr (
+      refl,
+      (
+        record { distance = c.least-distance.result; opened = c.args.at; place = c.args.place },
+        refl,
+        refl,
+        record {
+          place = there;
+          child = child;
+          far = far;
+          small = subst (λ n. n < 2 ^ 128) (sym far)
+              (place-small o c.requires.opened i there c.args.center.now c.requires.point narrow c.requires.few);
+        },
+        c.in-Ok.ensures.permutation,
+      ),
+    )

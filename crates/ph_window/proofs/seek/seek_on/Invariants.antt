@@ -1,7 +1,7 @@
 use Rattle.std.proofs.Common.{◌-◌, ◌≤◌, length}
 use Rattle.ph_specs.specs.Node.{entries}
 use Rattle.ph_window.specs.Seek.{AreShut}
-use Rattle.ph_window.proofs.seek.seek_from.Given as goal
+use Rattle.ph_window.proofs.seek.seek_on.Given as goal
 
 abbrev pub invariant-loop-place : goal.invariant-loop-place
 invariant-loop-place g l = record {
