@@ -8,3 +8,4 @@ mod Meetings
 mod Overs
 mod Pairs
 mod Rooted
+mod KeptRows

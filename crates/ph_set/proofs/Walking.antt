@@ -1,5 +1,6 @@
 -- Entries of a node one by one.
-use Rattle.std.proofs.Common.{◌≡◌, ◌≢◌, ℕ, zero, suc, ◌+◌, ◌-◌, ◌<◌, ◌≤◌, inl, inr, cond, not, Bool, true, false, ltb-false, List, [], ◌∷◌, ◌++◌, length, take, drop, refl, sym, ◌∙◌, ap, subst, arith, length-append}
+use Rattle.std.proofs.Common.{◌≡◌, ◌≢◌, ℕ, zero, suc, ◌+◌, ◌-◌, ◌<◌, ◌≤◌, inl, inr, cond, not, Bool, true, false, ltb-false, List}
+use Rattle.std.proofs.Common.{[], ◌∷◌, ◌++◌, length, take, drop, refl, sym, ◌∙◌, ap, subst, arith, length-append}
 use Rattle.std.specs.Prelude.{Option, Some, None, slice_get, position, nat_le, nat_lt}
 use Rattle.std.specs.List.{AllByRecursion as Each}
 use Rattle.std.proofs.lemmas.List.{take-append-drop}
@@ -65,11 +66,13 @@ stretch-rest from to es l = take-whole (to - from) (drop from es) (short from to
 
 pub whole-rows : (w : ℕ) (ds : List ℕ) (n : PlainNode) (k : ℕ) → k ≡ length (entries n) → rows_in w n.level ds (stretch 0 k (entries n)) ≡ part_rows w ds (node n)
 whole-rows w ds n k e =
-    ap (rows_in w n.level ds) (stretch-rest 0 k (entries n) (omega (arith, e))) ∙ ap (λ c. part_rows w ds (node (record { level = n.level; chain = c }))) (chained-listed n.chain)
+    ap (rows_in w n.level ds) (stretch-rest 0 k (entries n) (omega (arith, e))) ∙
+    ap (λ c. part_rows w ds (node (record { level = n.level; chain = c }))) (chained-listed n.chain)
 
 pub whole-nodes : (w : ℕ) (ds : List ℕ) (n : PlainNode) (k : ℕ) → k ≡ length (entries n) → nodes_in w n.level ds (stretch 0 k (entries n)) ≡ part_nodes w ds (node n)
 whole-nodes w ds n k e =
-    ap (nodes_in w n.level ds) (stretch-rest 0 k (entries n) (omega (arith, e))) ∙ ap (λ c. part_nodes w ds (node (record { level = n.level; chain = c }))) (chained-listed n.chain)
+    ap (nodes_in w n.level ds) (stretch-rest 0 k (entries n) (omega (arith, e))) ∙
+    ap (λ c. part_nodes w ds (node (record { level = n.level; chain = c }))) (chained-listed n.chain)
 
 -- ---- an entry that is looked at
 
@@ -78,7 +81,8 @@ wide-digits w d ds o l h = wider d w 62 ds l (h.long, h.small)
 
 module _ (w d : ℕ) (ds : List ℕ) (n : PlainNode) (h : IsPart w d ds (node n)) (s : Spot) (i : ℕ) (e : s.place ≡ i) (at : IsSpot (entries n) s) where
   pub entry-is : IsLawfulEntry d n.level (entry_at (entries n) i)
-  entry-is = entry-lawful d n.level 0 i n.chain (entry_at (entries n) i) h.held.2 (entry-there (entries n) i (let m : s.place < length (entries n) = at.within in omega (arith, m, e)))
+  entry-is = entry-lawful d n.level 0 i n.chain (entry_at (entries n) i) h.held.2
+      (entry-there (entries n) i (let m : s.place < length (entries n) = at.within in omega (arith, m, e)))
 
   module _ (new : List ℕ) (o : What) (made : new ≡ joined_digits n s ds) (held : o ≡ what_at (entries n) s.place) where
     pub new-digits : new ≡ behind n.level ds (entry_at (entries n) i)
@@ -96,20 +100,24 @@ module _ (w d : ℕ) (ds : List ℕ) (n : PlainNode) (h : IsPart w d ds (node n)
 
     pub new-height : height o ≤ n.level
     new-height =
-        subst (λ t. height t ≤ n.level) (sym new-held) (behind-height w d n.level ds h.held.0 (record { long = h.long; zeros = h.held.1 }) h.small (entry_at (entries n) i) entry-is)
+        subst (λ t. height t ≤ n.level) (sym new-held)
+        (behind-height w d n.level ds h.held.0 (record { long = h.long; zeros = h.held.1 }) h.small
+        (entry_at (entries n) i) entry-is)
 
 -- the digits behind an entry, as a visit of it makes them
 pub spot-behind : (w d : ℕ) (ds : List ℕ) (n : PlainNode) → IsPart w d ds (node n) → (s : Spot) → IsSpot (entries n) s
     → behind n.level ds (entry_at (entries n) s.place) ≡ joined_digits n s ds
 spot-behind w d ds n h s at =
-    ap (λ a. put_together n.level a ds (body_at (entries n) s.place)) (sym at.address) ∙ ap (λ t. put_together n.level s.addr t (body_at (entries n) s.place)) (sym (above-whole n.level ds h.held.1))
+    ap (λ a. put_together n.level a ds (body_at (entries n) s.place)) (sym at.address) ∙
+    ap (λ t. put_together n.level s.addr t (body_at (entries n) s.place)) (sym (above-whole n.level ds h.held.1))
 
 -- the rows and the nodes of an entry in front of those of a stretch
 pub step-rows : (w c from to : ℕ) (ds new : List ℕ) (o : What) (es : List Entry) → from < to → to ≤ length es → new ≡ behind c ds (entry_at es from)
     → o ≡ (entry_at es from).what → rows_in w c ds (stretch from to es) ≡ part_rows w new o ++ rows_in w c ds (stretch (from + 1) to es)
 step-rows w c from to ds new o es l m e f =
     ap (rows_in w c ds) (stretch-step from to es l m) ∙ rows-first w c ds (entry_at es from) (stretch (from + 1) to es)
-    ∙ ap (λ t. part_rows w t (entry_at es from).what ++ rows_in w c ds (stretch (from + 1) to es)) (sym e) ∙ ap (λ t. part_rows w new t ++ rows_in w c ds (stretch (from + 1) to es)) (sym f)
+    ∙ ap (λ t. part_rows w t (entry_at es from).what ++ rows_in w c ds (stretch (from + 1) to es)) (sym e) ∙
+    ap (λ t. part_rows w new t ++ rows_in w c ds (stretch (from + 1) to es)) (sym f)
 
 pub entry-count : (w c : ℕ) (ds : List ℕ) (o : What) → length (entry_nodes w c ds o) ≡ openings o + length (part_nodes w ds o)
 entry-count w c ds (value v) = refl
@@ -119,10 +127,14 @@ pub step-nodes : (w c from to : ℕ) (ds new : List ℕ) (o : What) (es : List E
     → o ≡ (entry_at es from).what
     → length (nodes_in w c ds (stretch from to es)) ≡ openings o + length (part_nodes w new o) + length (nodes_in w c ds (stretch (from + 1) to es))
 step-nodes w c from to ds new o es l m e f =
-    let a : length (nodes_in w c ds (stretch from to es)) ≡ length (entry_nodes w c (behind c ds (entry_at es from)) (entry_at es from).what ++ nodes_in w c ds (stretch (from + 1) to es)) =
+    let a : length (nodes_in w c ds (stretch from to es)) ≡
+    length (entry_nodes w c (behind c ds (entry_at es from)) (entry_at es from).what ++
+    nodes_in w c ds (stretch (from + 1) to es)) =
     ap (λ t. length (nodes_in w c ds t)) (stretch-step from to es l m) ∙ ap (λ t. length t) (nodes-first w c ds (entry_at es from) (stretch (from + 1) to es)) in
     let b : length (entry_nodes w c (behind c ds (entry_at es from)) (entry_at es from).what) ≡ openings o + length (part_nodes w new o) =
-    entry-count w c (behind c ds (entry_at es from)) (entry_at es from).what ∙ ap (λ t. openings (entry_at es from).what + length (part_nodes w t (entry_at es from).what)) (sym e) ∙ ap (λ t. openings t + length (part_nodes w new t)) (sym f) in
+    entry-count w c (behind c ds (entry_at es from)) (entry_at es from).what ∙
+    ap (λ t. openings (entry_at es from).what + length (part_nodes w t (entry_at es from).what)) (sym e) ∙
+    ap (λ t. openings t + length (part_nodes w new t)) (sym f) in
     omega (arith, a, b, length-append (entry_nodes w c (behind c ds (entry_at es from)) (entry_at es from).what) (nodes_in w c ds (stretch (from + 1) to es)))
 
 -- ---- addresses rise
@@ -138,7 +150,11 @@ lawful-rising d b least (child a body c chain rest) h = (h.0, lawful-rising d b 
 
 pub rising-from : (least : ℕ) (es : List Entry) → Rising least es → Each (λ e. least ≤ e.addr) es
 rising-from least [] h = tt
-rising-from least (e ∷ es) h = (h.0, Each-each es (λ f l. let m : e.addr + 1 ≤ f.addr = l in let n : least ≤ e.addr = h.0 in omega (arith, m, n)) (rising-from (e.addr + 1) es h.1))
+rising-from least (e ∷ es) h = (
+  h.0,
+  Each-each es (λ f l. let m : e.addr + 1 ≤ f.addr = l in let n : least ≤ e.addr = h.0 in omega (arith, m, n))
+      (rising-from (e.addr + 1) es h.1),
+)
 
 -- behind entry i, and in front of it
 pub rising-behind : (least : ℕ) (es : List Entry) (i : ℕ) → Rising least es → i < length es
@@ -167,7 +183,8 @@ cut-absent a least [] h n = record { within = omega arith; front = tt; back = tt
 cut-absent a least (e ∷ es) h n =
     elim (cases_lt e.addr a) [
       | inl l ↦
-          let p : place_for a (e ∷ es) ≡ suc (place_for a es) = ap {B = ℕ} (λ b. cond (not b) (1 + place_for a es) 0) (lt-leb a e.addr l) ∙ (let o : 1 + place_for a es ≡ suc (place_for a es) = omega arith in o) in
+          let p : place_for a (e ∷ es) ≡ suc (place_for a es) = ap {B = ℕ} (λ b. cond (not b) (1 + place_for a es) 0)
+          (lt-leb a e.addr l) ∙ (let o : 1 + place_for a es ≡ suc (place_for a es) = omega arith in o) in
           let ih : IsCut a (place_for a es) es = cut-absent a (e.addr + 1) es h.1 n.1 in
           let m : place_for a es ≤ length es = ih.within in
           subst (λ i. IsCut a i (e ∷ es)) (sym p) (record { within = omega (arith, m); front = (l, ih.front); back = ih.back })
@@ -175,7 +192,15 @@ cut-absent a least (e ∷ es) h n =
           let p : place_for a (e ∷ es) ≡ 0 = ap {B = ℕ} (λ b. cond (not b) (1 + place_for a es) 0) (le-leb a e.addr l) in
           let d : e.addr ≢ a = eqb-false e.addr a n.0 in
           subst (λ i. IsCut a i (e ∷ es)) (sym p)
-          (record { within = omega arith; front = tt; back = (omega (arith, l, d), Each-each es (λ f m. let k : e.addr + 1 ≤ f.addr = m in omega (arith, k, l)) (rising-from (e.addr + 1) es h.1)) })
+          (record {
+            within = omega arith;
+            front = tt;
+            back = (
+              omega (arith, l, d),
+              Each-each es
+                  (λ f m. let k : e.addr + 1 ≤ f.addr = m in omega (arith, k, l)) (rising-from (e.addr + 1) es h.1),
+            );
+          })
     ]
 
 pub cut-place : (a i least : ℕ) (es : List Entry) → Rising least es → None ≡ position (has_address a) es → i ≡ place_for a es → IsCut a i es
@@ -192,7 +217,8 @@ next-of a [] = record { within = omega arith; front = tt; here = λ l. absurd (o
 next-of a (e ∷ es) =
     elim (cases_lt e.addr a) [
       | inl l ↦
-          let p : place_for a (e ∷ es) ≡ suc (place_for a es) = ap {B = ℕ} (λ b. cond (not b) (1 + place_for a es) 0) (lt-leb a e.addr l) ∙ (let o : 1 + place_for a es ≡ suc (place_for a es) = omega arith in o) in
+          let p : place_for a (e ∷ es) ≡ suc (place_for a es) = ap {B = ℕ} (λ b. cond (not b) (1 + place_for a es) 0)
+          (lt-leb a e.addr l) ∙ (let o : 1 + place_for a es ≡ suc (place_for a es) = omega arith in o) in
           let ih : IsNext a (place_for a es) es = next-of a es in
           let m : place_for a es ≤ length es = ih.within in
           subst (λ i. IsNext a i (e ∷ es)) (sym p) (record { within = omega (arith, m); front = (l, ih.front); here = λ u. ih.here (omega (arith, u)) })
@@ -228,4 +254,5 @@ cut-entry i es l =
 
 pub cut-between : (i : ℕ) (es : List Entry) → es ≡ stretch 0 i es ++ stretch i (length es) es
 cut-between i es =
-    sym (take-append-drop i es) ∙ ap (λ t. take i es ++ t) (sym (stretch-rest i (length es) es (omega arith))) ∙ ap (λ t. t ++ stretch i (length es) es) (sym (stretch-front i es))
+    sym (take-append-drop i es) ∙ ap (λ t. take i es ++ t) (sym (stretch-rest i (length es) es (omega arith))) ∙
+    ap (λ t. t ++ stretch i (length es) es) (sym (stretch-front i es))
