@@ -50,7 +50,13 @@ Least e command b now_b = (most : ℕ) (files : Files) (fault : Bool) → IsAtLe
 
 -- A command that was done, and whose replies were given to a sink. `after` is the engine that it leads to, and `now` the one that is
 -- left where a write failed.
-pub done-all : (most : ℕ) (e after now : Engine) (command : Asked) (replies : List Reply) (b now_b : Beside) (result : Result Answer Stop) → LeavesFiles b now_b → now_b.changes ≡ b.changes → OnOk result (now ≡ after) → OnErr result (now ≡ cut_engine e command after) → Does e command after replies → Most e command b now_b → OnOk result (Least e command b now_b) → IfOk result (λ answer. refuses answer ≡ is_refusal (replies_text replies)) → OnOk result (Given b.sink now_b.sink (replies_text replies)) → IfErr result (λ stop. stop ≡ WriteFault) → OnErr result (WritesFront b.sink now_b.sink (replies_text replies)) → DoneOr most e command b now_b now result
+pub done-all : (most : ℕ) (e after now : Engine) (command : Asked) (replies : List Reply) (b now_b : Beside)
+    (result : Result Answer Stop) → LeavesFiles b now_b → now_b.changes ≡ b.changes → OnOk result (now ≡ after) →
+    OnErr result (now ≡ cut_engine e command after) → Does e command after replies → Most e command b now_b →
+    OnOk result (Least e command b now_b) →
+    IfOk result (λ answer. refuses answer ≡ is_refusal (replies_text replies)) →
+    OnOk result (Given b.sink now_b.sink (replies_text replies)) → IfErr result (λ stop. stop ≡ WriteFault) →
+    OnErr result (WritesFront b.sink now_b.sink (replies_text replies)) → DoneOr most e command b now_b now result
 done-all most e after now command replies b now_b (Ok answer) l still x w d u v a t s f = record {
   fault = false;
   found = None;
@@ -79,14 +85,21 @@ done-all most e after now command replies b now_b (Err WriteFault) l still x w d
 done-all most e after now command replies b now_b (Err NoMemory) l still x w d u v a t s f = absurd (let clash : NoMemory ≡ WriteFault = s in cc)
 
 -- what was said of a reply was told
-pub tells-said : (sink now_sink : Taken) (reply : Told) (result : Result Answer Stop) → IfOk result (λ answer. refuses answer ≡ is_refusal (reply_text (reply_of reply))) → OnOk result (Given sink now_sink (reply_text (reply_of reply))) → IfErr result (λ stop. stop ≡ WriteFault) → OnErr result (WritesFront sink now_sink (reply_text (reply_of reply))) → Tells sink now_sink reply result
+pub tells-said : (sink now_sink : Taken) (reply : Told) (result : Result Answer Stop) →
+    IfOk result (λ answer. refuses answer ≡ is_refusal (reply_text (reply_of reply))) →
+    OnOk result (Given sink now_sink (reply_text (reply_of reply))) → IfErr result (λ stop. stop ≡ WriteFault) →
+    OnErr result (WritesFront sink now_sink (reply_text (reply_of reply))) → Tells sink now_sink reply result
 tells-said sink now_sink reply (Ok answer) good told fault front = (told, good)
 tells-said sink now_sink reply (Err stop) good told fault front = (fault, front)
 
 -- a command of one reply, once this was given to a sink
-pub done-said : (most : ℕ) (e now : Engine) (command : Asked) (reply : Told) (b now_b : Beside) (result : Result Answer Stop) → LeavesFiles b now_b → now_b.changes ≡ b.changes → now ≡ cut_engine e command now → Does e command now (reply_of reply ∷ []) → Most e command b now_b → Least e command b now_b → Tells b.sink now_b.sink reply result → DoneOr most e command b now_b now result
+pub done-said : (most : ℕ) (e now : Engine) (command : Asked) (reply : Told) (b now_b : Beside)
+    (result : Result Answer Stop) → LeavesFiles b now_b → now_b.changes ≡ b.changes → now ≡ cut_engine e command now →
+    Does e command now (reply_of reply ∷ []) → Most e command b now_b → Least e command b now_b →
+    Tells b.sink now_b.sink reply result → DoneOr most e command b now_b now result
 done-said most e now command reply b now_b (Ok answer) l still p d u v t =
-    done-all most e now now command (reply_of reply ∷ []) b now_b (Ok answer) l still refl tt d u v (rw (one-text (reply_of reply)) t.1) (rw (one-text (reply_of reply)) t.0) tt tt
+    done-all most e now now command (reply_of reply ∷ []) b now_b (Ok answer) l still refl tt d u v
+    (rw (one-text (reply_of reply)) t.1) (rw (one-text (reply_of reply)) t.0) tt tt
 done-said most e now command reply b now_b (Err stop) l still p d u v t =
     done-all most e now now command (reply_of reply ∷ []) b now_b (Err stop) l still tt p d u tt tt tt t.0 (rw (one-text (reply_of reply)) t.1)
 
@@ -95,9 +108,14 @@ cut-same : (e : Engine) (page : Bool) → e ≡ (if page then e else e)
 cut-same e true = refl
 cut-same e false = refl
 
-pub done-refused : (most : ℕ) (s : Slot) (command : Asked) (reply : Told) (sink now_sink : Taken) (files : Option Files) (filings visits changes : ℕ) (result : Result Answer Stop) → Begun s command s (reply_of reply) → Tells sink now_sink reply result → DoneOr most (engine_of s) command (beside_sink sink files filings visits changes) (beside_sink now_sink files filings visits changes) (engine_of s) result
+pub done-refused : (most : ℕ) (s : Slot) (command : Asked) (reply : Told) (sink now_sink : Taken)
+    (files : Option Files) (filings visits changes : ℕ) (result : Result Answer Stop) →
+    Begun s command s (reply_of reply) → Tells sink now_sink reply result →
+    DoneOr most (engine_of s) command (beside_sink sink files filings visits changes)
+    (beside_sink now_sink files filings visits changes) (engine_of s) result
 done-refused most s command reply sink now_sink files filings visits changes result h t =
-    done-said most (engine_of s) (engine_of s) command reply _ _ result (record { files = refl; filings = refl }) refl (cut-same (engine_of s) (is_page command)) h.does (h.most visits changes) (h.least visits changes) t
+    done-said most (engine_of s) (engine_of s) command reply _ _ result (record { files = refl; filings = refl }) refl
+    (cut-same (engine_of s) (is_page command)) h.does (h.most visits changes) (h.least visits changes) t
 
 -- ---- commands that know both slots
 
@@ -115,10 +133,16 @@ select-unrefused most e files fault which = let k = kind-of-select (current e).k
 compare-unrefused : (most : ℕ) (e : Engine) (files : Files) (fault : Bool) → refusal most e files fault Asked.Compare ≡ None
 compare-unrefused most e files fault = let k = kind-of-compare (current e).kind in rw (k.0, k.1) refl
 
-pub select-done : (most : ℕ) (e now : Engine) (which : Which) (reply : Told) (sink now_sink : Taken) (files : Option Files) (filings visits changes : ℕ) (result : Result Answer Stop) → now ≡ record e { current = which } → reply_of reply ≡ Reply.Using which → Tells sink now_sink reply result → DoneOr most e (Asked.Select which) (beside_sink sink files filings visits changes) (beside_sink now_sink files filings visits changes) now result
+pub select-done : (most : ℕ) (e now : Engine) (which : Which) (reply : Told) (sink now_sink : Taken)
+    (files : Option Files) (filings visits changes : ℕ) (result : Result Answer Stop) →
+    now ≡ record e { current = which } → reply_of reply ≡ Reply.Using which → Tells sink now_sink reply result →
+    DoneOr most e (Asked.Select which) (beside_sink sink files filings visits changes)
+    (beside_sink now_sink files filings visits changes) now result
 select-done most e now which reply sink now_sink files filings visits changes result is said told =
-    done-said most e now (Asked.Select which) reply (beside_sink sink files filings visits changes) (beside_sink now_sink files filings visits changes) result (record { files = refl; filings = refl }) refl refl
-    (λ most files fault. ap (λ r. unless_refused r e files (Asked.Select which)) (select-unrefused most e files fault which) ∙ (λ i. outcome (sym is i) files (sym said i ∷ [])))
+    done-said most e now (Asked.Select which) reply (beside_sink sink files filings visits changes)
+    (beside_sink now_sink files filings visits changes) result (record { files = refl; filings = refl }) refl refl
+    (λ most files fault. ap (λ r. unless_refused r e files (Asked.Select which))
+    (select-unrefused most e files fault which) ∙ (λ i. outcome (sym is i) files (sym said i ∷ [])))
     (λ most files fault. record { few_visits = omega arith; few_changes = omega arith })
     (λ most files fault. rw (select-unrefused most e files fault which) (record { enough_visits = omega arith; enough_changes = omega arith })) told
 
@@ -126,10 +150,20 @@ least-of-same : (test : Bool) (n v now_v : ℕ) → v ≤ now_v → (test ≡ tr
 least-of-same true n v now_v l h = let e = h refl in omega (arith, e)
 least-of-same false n v now_v l h = omega (arith, l)
 
-pub compare-done : (most : ℕ) (e : Engine) (reply : Told) (sink now_sink : Taken) (files : Option Files) (filings visits now_visits changes : ℕ) (result : Result Answer Stop) → Compares e visits now_visits (reply_of reply) → Tells sink now_sink reply result → DoneOr most e Asked.Compare (beside_sink sink files filings visits changes) (beside_sink now_sink files filings now_visits changes) e result
+pub compare-done : (most : ℕ) (e : Engine) (reply : Told) (sink now_sink : Taken) (files : Option Files)
+    (filings visits now_visits changes : ℕ) (result : Result Answer Stop) →
+    Compares e visits now_visits (reply_of reply) → Tells sink now_sink reply result →
+    DoneOr most e Asked.Compare (beside_sink sink files filings visits changes)
+    (beside_sink now_sink files filings now_visits changes) e result
 compare-done most e reply sink now_sink files filings visits now_visits changes result h told =
     let n = nodes_of e.a + nodes_of e.b in
-    done-said most e e Asked.Compare reply (beside_sink sink files filings visits changes) (beside_sink now_sink files filings now_visits changes) result (record { files = refl; filings = refl }) refl refl
-    (λ most files fault. ap (λ r. unless_refused r e files Asked.Compare) (compare-unrefused most e files fault) ∙ ap (λ r. outcome e files (r ∷ [])) (sym (h.2 ∙ ap (λ t. if t then Reply.Same else Reply.Differ) h.1.same)))
+    done-said most e e Asked.Compare reply (beside_sink sink files filings visits changes)
+    (beside_sink now_sink files filings now_visits changes) result (record { files = refl; filings = refl }) refl refl
+    (λ most files fault. ap (λ r. unless_refused r e files Asked.Compare) (compare-unrefused most e files fault) ∙
+    ap (λ r. outcome e files (r ∷ [])) (sym (h.2 ∙ ap (λ t. if t then Reply.Same else Reply.Differ) h.1.same)))
     (λ most files fault. record { few_visits = h.1.few; few_changes = omega arith })
-    (λ most files fault. rw (compare-unrefused most e files fault) (record { enough_visits = least-of-same (same_slots e.a e.b) n visits now_visits h.1.later h.1.all; enough_changes = omega arith })) told
+    (λ most files fault. rw (compare-unrefused most e files fault)
+    (record {
+      enough_visits = least-of-same (same_slots e.a e.b) n visits now_visits h.1.later h.1.all;
+      enough_changes = omega arith;
+    })) told

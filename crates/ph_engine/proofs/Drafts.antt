@@ -11,7 +11,8 @@ use Rattle.ph_engine.specs.DraftLaws.{stays_itself, stays_on}
 use Rattle.ph_engine.specs.Drafting.{Shelf, draft_bytes, draft_name, drafted, Follows, Filled, Unfilled}
 
 -- a draft of the same name whose bytes grew
-grown : (draft now : Option Draft) (bytes : List ℕ) → Stays (draft_name draft) (draft_name now) → Appends (draft_bytes draft) (draft_bytes now) bytes → Grows draft now bytes
+grown : (draft now : Option Draft) (bytes : List ℕ) → Stays (draft_name draft) (draft_name now) →
+    Appends (draft_bytes draft) (draft_bytes now) bytes → Grows draft now bytes
 grown None now bytes h k = tt
 grown (Some d) None bytes h k = absurd k
 grown (Some d) (Some e) bytes h k =
@@ -19,22 +20,30 @@ grown (Some d) (Some e) bytes h k =
     let grew : e.1 ≡ d.1 ++ bytes = k in
     λ i. Some (title i, grew i)
 
-module _ (loan now_loan late : ℕ) (before now : Shelf) (works : Bool) (h : Follows (drafted loan before.files before.draft before.faults 0 true) (drafted now_loan now.files now.draft now.faults late works)) where
-  pub filled : (bytes : List ℕ) → Appends (draft_bytes before.draft) (draft_bytes now.draft) bytes → (works ≡ true → now.begun ≡ true) → works ≡ true → Filled before now bytes
+module _ (loan now_loan late : ℕ) (before now : Shelf) (works : Bool)
+    (h : Follows (drafted loan before.files before.draft before.faults 0 true)
+    (drafted now_loan now.files now.draft now.faults late works)) where
+  pub filled : (bytes : List ℕ) → Appends (draft_bytes before.draft) (draft_bytes now.draft) bytes →
+      (works ≡ true → now.begun ≡ true) → works ≡ true → Filled before now bytes
   filled bytes k b w = record { later = h.later; begun_still = b w; stays = h.files; grows = grown before.draft now.draft bytes h.name k }
 
   -- a write failed before
   pub fell : works ≡ false → Unfilled before now
   fell w = record { later = h.later; rose = h.fell refl w; stays = h.files }
 
-pub unfilled : (loan now_loan late : ℕ) (before now : Shelf) (works : Bool) → Follows (drafted loan before.files before.draft before.faults 0 true) (drafted now_loan now.files now.draft now.faults late works) → Rose (before.faults + 0) (now.faults + late) → Unfilled before now
+pub unfilled : (loan now_loan late : ℕ) (before now : Shelf) (works : Bool) →
+    Follows (drafted loan before.files before.draft before.faults 0 true)
+    (drafted now_loan now.files now.draft now.faults late works) → Rose (before.faults + 0) (now.faults + late) →
+    Unfilled before now
 unfilled loan now_loan late before now true h r = let n = (h.none refl).1 in record { later = h.later; rose = omega (arith, r, n); stays = h.files }
 unfilled loan now_loan late before now false h r = fell loan now_loan late before now false h refl
 
 -- ---- a file that is begun, filled and finished
 
 -- where the files are told, it is among them
-pub entered : (told begun full now_told : Option Map) (d0 d1 d2 : Option Draft) (name bytes : List ℕ) (files : Map) → (IsSome told → IsSome d0) → Begins d0 d1 name → Stays told begun → Grows d1 d2 bytes → Stays begun full → Gains full d2 now_told → told ≡ Some files → now_told ≡ Some (enter name bytes files)
+pub entered : (told begun full now_told : Option Map) (d0 d1 d2 : Option Draft) (name bytes : List ℕ) (files : Map) →
+    (IsSome told → IsSome d0) → Begins d0 d1 name → Stays told begun → Grows d1 d2 bytes → Stays begun full →
+    Gains full d2 now_told → told ≡ Some files → now_told ≡ Some (enter name bytes files)
 entered None begun full now_told d0 d1 d2 name bytes files law b s1 g s2 gain e = absurd (let no : None ≡ Some files = e in cc)
 entered (Some old) begun full now_told None d1 d2 name bytes files law b s1 g s2 gain e = absurd (let no : false ≡ true = law refl in cc)
 entered (Some old) begun full now_told (Some d) d1 d2 name bytes files law b s1 g s2 gain e =
@@ -45,7 +54,11 @@ entered (Some old) begun full now_told (Some d) d1 d2 name bytes files law b s1 
 
 -- the files fail behind calls that did not
 pub unfilled_behind : (a b c : Shelf) → Stays a.files b.files → a.faults ≤ b.faults → Unfilled b c → Unfilled a c
-unfilled_behind a b c s l h = record { later = omega (arith, l, h.later); rose = let r = h.rose in omega (arith, l, r); stays = stays_on a.files b.files c.files s h.stays }
+unfilled_behind a b c s l h = record {
+  later = omega (arith, l, h.later);
+  rose = let r = h.rose in omega (arith, l, r);
+  stays = stays_on a.files b.files c.files s h.stays;
+}
 
 pub call_failed : (before now : Shelf) → Stays before.files now.files → (before.faults ≤ now.faults) × Rose before.faults now.faults → Unfilled before now
 call_failed before now s h = record { later = h.0; rose = h.1; stays = s }

@@ -14,7 +14,8 @@ use Rattle.ph_specs.specs.Past.{without_past}
 use Rattle.ph_specs.specs.Command.{Command}
 use Rattle.ph_specs.specs.Named.{Named, lookup, enter}
 use Rattle.ph_specs.specs.Reply.{Reply}
-use Rattle.ph_specs.specs.Refusals.{or_else, refusal, fetch, short_enough, bytes_of, refuse_if, refuse_if_bad, has_file_fault, is_full, is_too_far_back, table_read, read_length}
+use Rattle.ph_specs.specs.Refusals.{or_else, refusal, fetch, short_enough, bytes_of, refuse_if, refuse_if_bad}
+use Rattle.ph_specs.specs.Refusals.{has_file_fault, is_full, is_too_far_back, table_read, read_length}
 use Rattle.ph_specs.specs.SavedTable.{read_snapshot}
 use Rattle.ph_specs.specs.Snapshot.{snap}
 use Rattle.ph_specs.specs.State.{Slot, Engine, Files, current, outcome}
@@ -27,7 +28,8 @@ use Rattle.ph_specs.specs.declared.Kind.TheVariants.{Points, Boxes}
 use Rattle.ph_script.specs.declared.reply.Reply.{Reply as Told}
 use Rattle.ph_script.specs.Meaning.{reply_of}
 use Rattle.ph_engine.specs.Beside.{aside, beside_sink, Filings, Tells, IsTold, StillTells}
-use Rattle.ph_engine.specs.Doing.{is_on_slot, Begun, Does, DoneOr, Knows, ServedOr, Leads, MakesNodes, HoldsFound, file_read, rows_loaded, rows_read, is_page, cut_engine, starved_engine, takes_memory, uses_files}
+use Rattle.ph_engine.specs.Doing.{is_on_slot, Begun, Does, DoneOr, Knows, ServedOr, Leads, MakesNodes, HoldsFound, file_read}
+use Rattle.ph_engine.specs.Doing.{rows_loaded, rows_read, is_page, cut_engine, starved_engine, takes_memory, uses_files}
 use Rattle.ph_engine.specs.Drafting.{Shelf, Unfilled}
 use Rattle.ph_engine.specs.Filing.{Filed, Unfiled, FiledOr, Entered, LoadsNodes, LoadsOr, TellsUnfetched, read_table, read_reply}
 use Rattle.ph_engine.specs.Refusing.{early_refusal, late_refusal}
@@ -44,7 +46,10 @@ use Rattle.ph_engine.proofs.Refused.{refusal-parts, alone}
 -- ---- once the reply was given to a sink
 
 module _ (most : ℕ) (e now : Engine) (command : Command) (told now_told : Option Files) (f now_f v now_v c now_c : ℕ) (sink now_sink : Taken) where
-  filed-said : (reply : Told) (result : Result Answer Stop) → now ≡ cut_engine e command now → Filed most e command (aside told f v c) (aside now_told now_f now_v now_c) now (reply_of reply) → Says sink now_sink reply result → DoneOr most e command (beside_sink sink told f v c) (beside_sink now_sink now_told now_f now_v now_c) now result
+  filed-said : (reply : Told) (result : Result Answer Stop) → now ≡ cut_engine e command now →
+      Filed most e command (aside told f v c) (aside now_told now_f now_v now_c) now (reply_of reply) →
+      Says sink now_sink reply result →
+      DoneOr most e command (beside_sink sink told f v c) (beside_sink now_sink now_told now_f now_v now_c) now result
   filed-said reply (Ok answer) p h t = record {
     fault = h.fault;
     found = h.found;
@@ -72,7 +77,9 @@ module _ (most : ℕ) (e now : Engine) (command : Command) (told now_told : Opti
   }
   filed-said reply (Err NoMemory) p h t = absurd (let clash : NoMemory ≡ WriteFault = t.0 in cc)
 
-  unfiled-said : (stop : Stop) → stop ≡ NoMemory → now_sink ≡ sink → Unfiled most e command (aside told f v c) (aside now_told now_f now_v now_c) now → DoneOr most e command (beside_sink sink told f v c) (beside_sink now_sink now_told now_f now_v now_c) now (Err stop)
+  unfiled-said : (stop : Stop) → stop ≡ NoMemory → now_sink ≡ sink →
+      Unfiled most e command (aside told f v c) (aside now_told now_f now_v now_c) now →
+      DoneOr most e command (beside_sink sink told f v c) (beside_sink now_sink now_told now_f now_v now_c) now (Err stop)
   unfiled-said WriteFault s k h = absurd (let clash : WriteFault ≡ NoMemory = s in cc)
   unfiled-said NoMemory s k h = record {
     fault = h.fault;
@@ -86,7 +93,10 @@ module _ (most : ℕ) (e now : Engine) (command : Command) (told now_told : Opti
     most_work = h.most_work;
   }
 
-  pub done-filed : {E : Type 0} (reply : Result Told E) (result : Result Answer Stop) → is_page command ≡ false → FiledOr most e command (aside told f v c) (aside now_told now_f now_v now_c) now reply → ToldOr sink now_sink reply result → DoneOr most e command (beside_sink sink told f v c) (beside_sink now_sink now_told now_f now_v now_c) now result
+  pub done-filed : {E : Type 0} (reply : Result Told E) (result : Result Answer Stop) → is_page command ≡ false →
+      FiledOr most e command (aside told f v c) (aside now_told now_f now_v now_c) now reply →
+      ToldOr sink now_sink reply result →
+      DoneOr most e command (beside_sink sink told f v c) (beside_sink now_sink now_told now_f now_v now_c) now result
   done-filed (Ok reply) result page h t = filed-said reply result (rw page refl) h t
   done-filed (Err error) (Ok answer) page h t = absurd t
   done-filed (Err error) (Err stop) page h t = unfiled-said stop t.0 t.1 h
@@ -96,7 +106,12 @@ module _ (most : ℕ) (e now : Engine) (command : Command) (told now_told : Opti
 pub leaves-filings : (command : Command) (f : ℕ) → Filings (uses_files command) 0 f f
 leaves-filings command f = record { told = inr (omega arith); later = omega arith; quiet = λ _. refl }
 
-pub filed-quietly : (most : ℕ) (e now : Engine) (command : Command) (reply : Reply) (told : Option Files) (f v now_v c now_c : ℕ) → Does e command now (reply ∷ []) → ((most : ℕ) (files : Files) (fault : Bool) → IsAtMost (work_of most e files fault command) v now_v c now_c) → ((most : ℕ) (files : Files) (fault : Bool) → IsAtLeast (work_of most e files fault command) v now_v c now_c) → ((files : Files) → MakesNodes (current e) files command c now_c) → Filed most e command (aside told f v c) (aside told f now_v now_c) now reply
+pub filed-quietly : (most : ℕ) (e now : Engine) (command : Command) (reply : Reply) (told : Option Files)
+    (f v now_v c now_c : ℕ) → Does e command now (reply ∷ []) →
+    ((most : ℕ) (files : Files) (fault : Bool) → IsAtMost (work_of most e files fault command) v now_v c now_c) →
+    ((most : ℕ) (files : Files) (fault : Bool) → IsAtLeast (work_of most e files fault command) v now_v c now_c) →
+    ((files : Files) → MakesNodes (current e) files command c now_c) →
+    Filed most e command (aside told f v c) (aside told f now_v now_c) now reply
 filed-quietly most e now command reply told f v now_v c now_c does few enough made = record {
   fault = false;
   found = None;
@@ -108,11 +123,17 @@ filed-quietly most e now command reply told f v now_v c now_c does few enough ma
 }
 
 -- a command that makes a slot another one
-pub filed-begun : (most : ℕ) (s now : Slot) (command : Command) (reply : Reply) (told : Option Files) (f v c : ℕ) → Begun s command now reply → Filed most (engine_of s) command (aside told f v c) (aside told f v c) (engine_of now) reply
-filed-begun most s now command reply told f v c h = filed-quietly most (engine_of s) (engine_of now) command reply told f v v c c h.does (h.most v c) (h.least v c) (λ files rows is. omega arith)
+pub filed-begun : (most : ℕ) (s now : Slot) (command : Command) (reply : Reply) (told : Option Files) (f v c : ℕ) →
+    Begun s command now reply → Filed most (engine_of s) command (aside told f v c) (aside told f v c) (engine_of now) reply
+filed-begun most s now command reply told f v c h = filed-quietly most (engine_of s) (engine_of now) command reply
+    told f v v c c h.does (h.most v c) (h.least v c) (λ files rows is. omega arith)
 
 -- a command about the rows of a table
-pub filed-served : {E : Type 0} (most : ℕ) (kind : Kind) (t now : AnyTable) (cursors : Named Cursor) (command : Command) (result : Result Told E) (told : Option Files) (f v now_v c now_c : ℕ) → IsPlain command → early_refusal (slot_of kind t cursors) command ≡ None → ServedOr t command now v now_v c now_c result → FiledOr most (engine_of (slot_of kind t cursors)) command (aside told f v c) (aside told f now_v now_c) (engine_of (slot_of kind now cursors)) result
+pub filed-served : {E : Type 0} (most : ℕ) (kind : Kind) (t now : AnyTable) (cursors : Named Cursor)
+    (command : Command) (result : Result Told E) (told : Option Files) (f v now_v c now_c : ℕ) → IsPlain command →
+    early_refusal (slot_of kind t cursors) command ≡ None → ServedOr t command now v now_v c now_c result →
+    FiledOr most (engine_of (slot_of kind t cursors)) command (aside told f v c) (aside told f now_v now_c)
+    (engine_of (slot_of kind now cursors)) result
 filed-served most kind t now cursors command (Ok reply) told f v now_v c now_c p u h =
     filed-quietly most (engine_of (slot_of kind t cursors)) (engine_of (slot_of kind now cursors)) command (reply_of reply) told f v now_v c now_c
     (does-at kind t now cursors command (reply_of reply) p u (h.does cursors))
@@ -137,7 +158,11 @@ tells-one before now r (inl h) = inr (omega (arith, r, h))
 tells-one before now r (inr h) = inl (omega (arith, r, h))
 
 pub failed-once : (before now : ℕ) → before ≤ now → Rose before now → Filings true 1 before now
-failed-once before now l r = record { told = tells-one before now r (cases_lt before (2 ^ 64 - 1)); later = l; quiet = λ no. absurd (let clash : true ≡ false = no in cc) }
+failed-once before now l r = record {
+  told = tells-one before now r (cases_lt before (2 ^ 64 - 1));
+  later = l;
+  quiet = λ no. absurd (let clash : true ≡ false = no in cc);
+}
 
 pub failed-never : (before now : ℕ) → before ≤ now → Filings true 0 before now
 failed-never before now l = record { told = inr (omega (arith, l)); later = l; quiet = λ no. absurd (let clash : true ≡ false = no in cc) }
@@ -153,6 +178,15 @@ still-told (Some old) now_told files s k = s ∙ ap Some k
 
 -- ---- commands that write a file
 
+-- a command that is refused for no cause before its file at a slot of either kind
+pub never-early : (command : Command) → ((s : Slot) → early_refusal (record s { kind = Points }) command ≡ None) →
+    ((s : Slot) → early_refusal (record s { kind = Boxes }) command ≡ None) → (s : Slot) → early_refusal s command ≡ None
+never-early command points boxes s = by-kind s.kind
+  where
+    by-kind : (kind : Kind) → early_refusal (record s { kind = kind }) command ≡ None
+    by-kind Points = points s
+    by-kind Boxes = boxes s
+
 -- A command makes a file of these bytes and has this reply, is refused only where the files fail, and visits all nodes.
 pub record IsStore (command : Command) (name : List ℕ) (bytes : Slot → List ℕ) (reply : Slot → Reply) : Type 0 where
   pub on_slot : is_on_slot command ≡ true
@@ -164,7 +198,8 @@ pub record IsStore (command : Command) (name : List ℕ) (bytes : Slot → List 
 
 module _ (command : Command) (name : List ℕ) (bytes : Slot → List ℕ) (reply : Slot → Reply) (k : IsStore command name bytes reply) where
   store-refusal : (most : ℕ) (s : Slot) (files : Files) (fault : Bool) → refusal most (engine_of s) files fault command ≡ refuse_if fault Reply.ErrorFile None
-  store-refusal most s files fault = refusal-parts most (engine_of s) files fault command k.on_slot ∙ ap (λ r. or_else r (late_refusal most s files fault command)) (k.early s) ∙ k.late most s files fault
+  store-refusal most s files fault = refusal-parts most (engine_of s) files fault command k.on_slot ∙
+      ap (λ r. or_else r (late_refusal most s files fault command)) (k.early s) ∙ k.late most s files fault
 
   store-does : (most : ℕ) (s : Slot) (files : Files) → act most (engine_of s) files false command ≡ outcome (engine_of s) (enter name (bytes s) files) (reply s ∷ [])
   store-does most s files = ap (λ r. unless_refused r (engine_of s) files command) (store-refusal most s files false) ∙ k.makes s files
@@ -173,17 +208,24 @@ module _ (command : Command) (name : List ℕ) (bytes : Slot → List ℕ) (repl
   store-fails most s files = ap (λ r. unless_refused r (engine_of s) files command) (store-refusal most s files true)
 
   -- the files that it leads to: those that are told now, where some were told
-  entered-leads : (most : ℕ) (s : Slot) (told now_told : Option Files) → ((files : Files) → told ≡ Some files → now_told ≡ Some (enter name (bytes s) files)) → (files : Files) → Leads (act most (engine_of s) files false command) (engine_of s) files told now_told (reply s ∷ [])
+  entered-leads : (most : ℕ) (s : Slot) (told now_told : Option Files) →
+      ((files : Files) → told ≡ Some files → now_told ≡ Some (enter name (bytes s) files)) → (files : Files) →
+      Leads (act most (engine_of s) files false command) (engine_of s) files told now_told (reply s ∷ [])
   entered-leads most s told now_told h files = record { after = enter name (bytes s) files; is = store-does most s files; told_files = h files }
 
-  unfilled-leads : (most : ℕ) (s : Slot) (told now_told : Option Files) → Stays told now_told → (files : Files) → Leads (act most (engine_of s) files true command) (engine_of s) files told now_told (Reply.ErrorFile ∷ [])
+  unfilled-leads : (most : ℕ) (s : Slot) (told now_told : Option Files) → Stays told now_told → (files : Files) →
+      Leads (act most (engine_of s) files true command) (engine_of s) files told now_told (Reply.ErrorFile ∷ [])
   unfilled-leads most s told now_told h files = record { after = files; is = store-fails most s files; told_files = stays-told told now_told files h }
 
   module _ (most : ℕ) (s : Slot) (before now : Shelf) (v now_v c : ℕ) where
-    store-most : (files : Files) (fault : Bool) → now_v ≤ v + length (all_nodes s.width s.dims s.table) → IsAtMost (work_of most (engine_of s) files fault command) v now_v c c
+    store-most : (files : Files) (fault : Bool) → now_v ≤ v + length (all_nodes s.width s.dims s.table) →
+        IsAtMost (work_of most (engine_of s) files fault command) v now_v c c
     store-most files fault few = rw (k.costs s files) (record { few_visits = few; few_changes = omega arith })
 
-    pub stored-filed : now_v ≡ v + length (all_nodes s.width s.dims s.table) → Entered before now name (bytes s) (length (bytes s)) → Filed most (engine_of s) command (aside before.files before.faults v c) (aside now.files now.faults now_v c) (engine_of s) (reply s)
+    pub stored-filed : now_v ≡ v + length (all_nodes s.width s.dims s.table) →
+        Entered before now name (bytes s) (length (bytes s)) →
+        Filed most (engine_of s) command (aside before.files before.faults v c) (aside now.files now.faults now_v c)
+        (engine_of s) (reply s)
     stored-filed all h = record {
       fault = false;
       found = None;
@@ -194,7 +236,9 @@ module _ (command : Command) (name : List ℕ) (bytes : Slot → List ℕ) (repl
       nodes = λ files x rows is. omega arith;
     }
 
-    pub unstored-filed : v ≤ now_v → now_v ≤ v + length (all_nodes s.width s.dims s.table) → Unfilled before now → Filed most (engine_of s) command (aside before.files before.faults v c) (aside now.files now.faults now_v c) (engine_of s) Reply.ErrorFile
+    pub unstored-filed : v ≤ now_v → now_v ≤ v + length (all_nodes s.width s.dims s.table) → Unfilled before now →
+        Filed most (engine_of s) command (aside before.files before.faults v c) (aside now.files now.faults now_v c)
+        (engine_of s) Reply.ErrorFile
     unstored-filed later few h = record {
       fault = true;
       found = None;
@@ -211,21 +255,24 @@ store-save : (name : List ℕ) → IsStore (Command.Save name) name (λ s. snap 
 store-save name = record {
   on_slot = refl;
   uses = refl;
-  early = λ s. by-kind s.kind s.width s.dims s.max s.table s.cursors s.depth s.past;
+  early = never-early (Command.Save name) (λ s. refl) (λ s. refl);
   late = λ most s files fault. refl;
   makes = λ s files. refl;
   costs = λ s files. refl;
 }
-  where
-    by-kind : (kind : Kind) (width dims max : ℕ) (table : List Row) (cursors : Named Cursor) (depth : ℕ) (past : List (List Row)) → early_refusal (record { kind = kind; dims = dims; width = width; max = max; table = table; cursors = cursors; depth = depth; past = past }) (Command.Save name) ≡ None
-    by-kind Points width dims max table cursors depth past = refl
-    by-kind Boxes width dims max table cursors depth past = refl
 
 module _ (most : ℕ) (s : Slot) (name : List ℕ) (before now : Shelf) (v now_v c : ℕ) where
-  pub saved-filed : (count : ℕ) → now_v ≡ v + length (all_nodes s.width s.dims s.table) → Entered before now name (snap s.kind s.dims s.width s.table) count → Filed most (engine_of s) (Command.Save name) (aside before.files before.faults v c) (aside now.files now.faults now_v c) (engine_of s) (Reply.Saved count)
-  saved-filed count all h = rw h.counted (stored-filed (Command.Save name) name _ _ (store-save name) most s before now v now_v c all (record { counted = refl; later = h.later; entered = h.entered }))
+  pub saved-filed : (count : ℕ) → now_v ≡ v + length (all_nodes s.width s.dims s.table) →
+      Entered before now name (snap s.kind s.dims s.width s.table) count →
+      Filed most (engine_of s) (Command.Save name) (aside before.files before.faults v c)
+      (aside now.files now.faults now_v c) (engine_of s) (Reply.Saved count)
+  saved-filed count all h = rw h.counted
+      (stored-filed (Command.Save name) name _ _ (store-save name) most s before now v now_v c all
+      (record { counted = refl; later = h.later; entered = h.entered }))
 
-  pub unsaved-filed : v ≤ now_v → now_v ≤ v + length (all_nodes s.width s.dims s.table) → Unfilled before now → Filed most (engine_of s) (Command.Save name) (aside before.files before.faults v c) (aside now.files now.faults now_v c) (engine_of s) Reply.ErrorFile
+  pub unsaved-filed : v ≤ now_v → now_v ≤ v + length (all_nodes s.width s.dims s.table) → Unfilled before now →
+      Filed most (engine_of s) (Command.Save name) (aside before.files before.faults v c)
+      (aside now.files now.faults now_v c) (engine_of s) Reply.ErrorFile
   unsaved-filed later few h = unstored-filed (Command.Save name) name _ _ (store-save name) most s before now v now_v c later few h
 
 -- ---- commands that read a file
@@ -246,11 +293,13 @@ pub record IsFetch (command : Command) (name : List ℕ) : Type 0 where
 pub fetched : (most : ℕ) (files : Files) (name bytes : List ℕ) → lookup name files ≡ Some bytes → length bytes ≤ most → fetch most files name ≡ Some bytes
 fetched most files name bytes l h = ap (short_enough most) l ∙ ap (λ b. if b then Some bytes else None) (le-leb (length bytes) most h)
 
-pub unfetched : (most : ℕ) (files : Files) (name bytes : List ℕ) (fault : FetchFault) → (fault ≡ by.NoMemory → ⊥) → (fault ≡ by.Failed → ⊥) → Fetches (Some files) name most bytes (Err fault) → is_none (fetch most files name) ≡ true
+pub unfetched : (most : ℕ) (files : Files) (name bytes : List ℕ) (fault : FetchFault) → (fault ≡ by.NoMemory → ⊥) →
+    (fault ≡ by.Failed → ⊥) → Fetches (Some files) name most bytes (Err fault) → is_none (fetch most files name) ≡ true
 unfetched most files name bytes by.Failed n m h = absurd (m refl)
 unfetched most files name bytes by.Absent n m h = ap (λ x. is_none (short_enough most x)) h
 unfetched most files name bytes by.NoMemory n m h = absurd (n refl)
-unfetched most files name bytes by.Over n m h = ap (λ x. is_none (short_enough most x)) h.1 ∙ ap (λ b. is_none (if b then Some h.0 else None)) (lt-leb (length h.0) most h.2)
+unfetched most files name bytes by.Over n m h = ap (λ x. is_none (short_enough most x)) h.1 ∙
+    ap (λ b. is_none (if b then Some h.0 else None)) (lt-leb (length h.0) most h.2)
 
 none-least : (r : Option Reply) (n : ℕ) → n ≡ 0 → least_unless r n ≡ 0
 none-least (Some r) n h = refl
@@ -263,23 +312,32 @@ module _ (command : Command) (name : List ℕ) (k : IsFetch command name) where
 
   -- what it is refused for behind a file that could not be read
   abbrev rest_refusal : Slot → Files → Option Reply
-  rest_refusal s files = refuse_if_bad (table_read s files command) (refuse_if (is_full s files command) Reply.ErrorFull (refuse_if (is_too_far_back s command) Reply.ErrorPast None))
+  rest_refusal s files = refuse_if_bad (table_read s files command)
+      (refuse_if (is_full s files command) Reply.ErrorFull (refuse_if (is_too_far_back s command) Reply.ErrorPast None))
 
-  fetch-refusal : (most : ℕ) (s : Slot) (files : Files) (fault : Bool) → refusal most (engine_of s) files fault command ≡ refuse_if (fault || is_none (fetch most files name)) Reply.ErrorFile (rest_refusal s files)
+  fetch-refusal : (most : ℕ) (s : Slot) (files : Files) (fault : Bool) →
+      refusal most (engine_of s) files fault command ≡ refuse_if (fault || is_none (fetch most files name))
+      Reply.ErrorFile (rest_refusal s files)
   fetch-refusal most s files fault =
       refusal-parts most (engine_of s) files fault command k.on_slot ∙ ap (λ r. or_else r (late_refusal most s files fault command)) (k.early s)
       ∙ ap (λ b. refuse_if b Reply.ErrorFile (rest_refusal s files)) (k.faulty most files fault)
 
-  none-fetched : (most : ℕ) (s : Slot) (files : Files) (fault : Bool) → (fault || is_none (fetch most files name)) ≡ true → act most (engine_of s) files fault command ≡ outcome (engine_of s) files (Reply.ErrorFile ∷ [])
+  none-fetched : (most : ℕ) (s : Slot) (files : Files) (fault : Bool) →
+      (fault || is_none (fetch most files name)) ≡ true →
+      act most (engine_of s) files fault command ≡ outcome (engine_of s) files (Reply.ErrorFile ∷ [])
   none-fetched most s files fault h =
       ap (λ r. unless_refused r (engine_of s) files command) (fetch-refusal most s files fault ∙ ap (λ b. refuse_if b Reply.ErrorFile (rest_refusal s files)) h)
 
-  pub fetched-act : (most : ℕ) (s : Slot) (files : Files) (bytes : List ℕ) → lookup name files ≡ Some bytes → length bytes ≤ most → act most (engine_of s) files false command ≡ unless_refused (rest_refusal s files) (engine_of s) files command
+  pub fetched-act : (most : ℕ) (s : Slot) (files : Files) (bytes : List ℕ) → lookup name files ≡ Some bytes →
+      length bytes ≤ most → act most (engine_of s) files false command ≡ unless_refused (rest_refusal s files)
+      (engine_of s) files command
   fetched-act most s files bytes l h =
       ap (λ r. unless_refused r (engine_of s) files command)
       (fetch-refusal most s files false ∙ ap (λ x. refuse_if (is_none x) Reply.ErrorFile (rest_refusal s files)) (fetched most files name bytes l h))
 
-  unread : (most : ℕ) (s : Slot) (told now_told : Option Files) (files : Files) (fault : Bool) → Stays told now_told → (fault || is_none (fetch most files name)) ≡ true → Leads (act most (engine_of s) files fault command) (engine_of s) files told now_told (Reply.ErrorFile ∷ [])
+  unread : (most : ℕ) (s : Slot) (told now_told : Option Files) (files : Files) (fault : Bool) → Stays told now_told →
+      (fault || is_none (fetch most files name)) ≡ true →
+      Leads (act most (engine_of s) files fault command) (engine_of s) files told now_told (Reply.ErrorFile ∷ [])
   unread most s told now_told files fault st h = record { after = files; is = none-fetched most s files fault h; told_files = stays-told told now_told files st }
 
   -- the bytes of a file that is too long
@@ -292,13 +350,18 @@ module _ (command : Command) (name : List ℕ) (k : IsFetch command name) where
 
   long-there : (most : ℕ) (files : Files) → lookup name files ≡ Some (long_bytes most) → (false || is_none (fetch most files name)) ≡ true
   long-there most files h =
-      ap (λ x. is_none (short_enough most x)) h ∙ ap (λ b. is_none (if b then Some (long_bytes most) else None)) (lt-leb (length (long_bytes most)) most (omega (arith, length-replicate {A = ℕ} (suc most) 0)))
+      ap (λ x. is_none (short_enough most x)) h ∙ ap (λ b. is_none (if b then Some (long_bytes most) else None))
+      (lt-leb (length (long_bytes most)) most (omega (arith, length-replicate {A = ℕ} (suc most) 0)))
 
-  absent : (most : ℕ) (bytes : List ℕ) (told : Option Files) (files : Files) → Fetches told name most bytes (Err by.Absent) → Knows command told None files → (false || is_none (fetch most files name)) ≡ true
+  absent : (most : ℕ) (bytes : List ℕ) (told : Option Files) (files : Files) →
+      Fetches told name most bytes (Err by.Absent) → Knows command told None files →
+      (false || is_none (fetch most files name)) ≡ true
   absent most bytes told files g (inl e) = none-there most files (let at : Fetches (Some files) name most bytes (Err by.Absent) = rw e at g in at)
   absent most bytes told files g (inr h) = none-there most files (holds None files h)
 
-  over : (most : ℕ) (bytes : List ℕ) (told : Option Files) (files : Files) → Fetches told name most bytes (Err by.Over) → Knows command told (Some (long_bytes most)) files → (false || is_none (fetch most files name)) ≡ true
+  over : (most : ℕ) (bytes : List ℕ) (told : Option Files) (files : Files) →
+      Fetches told name most bytes (Err by.Over) → Knows command told (Some (long_bytes most)) files →
+      (false || is_none (fetch most files name)) ≡ true
   over most bytes told files g (inl e) = unfetched most files name bytes by.Over (λ no. cc) (λ no. cc) (rw e at g)
   over most bytes told files g (inr h) = long-there most files (holds (Some (long_bytes most)) files h)
 
@@ -320,7 +383,14 @@ module _ (command : Command) (name : List ℕ) (k : IsFetch command name) where
     has-fetched told files g (inr h) = holds (Some bytes) files h
 
     -- a file was read, and what was to be done with its bytes is done
-    pub fetched-filed : (told now_told : Option Files) (now : Engine) (reply : Reply) → Fetches told name most bytes (Ok tt) → Stays told now_told → now_f ≡ f → ((files : Files) → lookup name files ≡ Some bytes → act most (engine_of s) files false command ≡ outcome now files (reply ∷ [])) → ((files : Files) → lookup name files ≡ Some bytes → IsAtMost (work_of most (engine_of s) files false command) v now_v c now_c) → v ≤ now_v → c ≤ now_c → ((files : Files) → lookup name files ≡ Some bytes → MakesNodes s files command c now_c) → Filed most (engine_of s) command (aside told f v c) (aside now_told now_f now_v now_c) now reply
+    pub fetched-filed : (told now_told : Option Files) (now : Engine) (reply : Reply) →
+        Fetches told name most bytes (Ok tt) → Stays told now_told → now_f ≡ f →
+        ((files : Files) → lookup name files ≡ Some bytes →
+        act most (engine_of s) files false command ≡ outcome now files (reply ∷ [])) →
+        ((files : Files) → lookup name files ≡ Some bytes →
+        IsAtMost (work_of most (engine_of s) files false command) v now_v c now_c) → v ≤ now_v → c ≤ now_c →
+        ((files : Files) → lookup name files ≡ Some bytes → MakesNodes s files command c now_c) →
+        Filed most (engine_of s) command (aside told f v c) (aside now_told now_f now_v now_c) now reply
     fetched-filed told now_told now reply g st e does few h i made = record {
       fault = false;
       found = Some bytes;
@@ -332,7 +402,10 @@ module _ (command : Command) (name : List ℕ) (k : IsFetch command name) where
     }
 
     -- no file could be read
-    unfetched-filed : (told now_told : Option Files) (fault : FetchFault) → (fault ≡ by.NoMemory → ⊥) → Fetches told name most bytes (Err fault) → FetchCounts f now_f (Err fault) → Stays told now_told → now_v ≡ v → now_c ≡ c → Filed most (engine_of s) command (aside told f v c) (aside now_told now_f now_v now_c) (engine_of s) Reply.ErrorFile
+    unfetched-filed : (told now_told : Option Files) (fault : FetchFault) → (fault ≡ by.NoMemory → ⊥) →
+        Fetches told name most bytes (Err fault) → FetchCounts f now_f (Err fault) → Stays told now_told → now_v ≡ v →
+        now_c ≡ c → Filed most (engine_of s) command (aside told f v c) (aside now_told now_f now_v now_c)
+        (engine_of s) Reply.ErrorFile
     unfetched-filed told now_told by.Failed n g counts st h i = record {
       fault = true;
       found = None;
@@ -362,7 +435,12 @@ module _ (command : Command) (name : List ℕ) (k : IsFetch command name) where
     }
     unfetched-filed told now_told by.NoMemory n g counts st h i = absurd (n refl)
 
-    starved : (told now_told : Option Files) (found : Option (List ℕ)) (now : Engine) (part : ℕ) → Stays told now_told → now_f ≡ f → ((files : Files) → Knows command told found files → now ≡ starved_engine (engine_of s) files command part) → ((files : Files) → Knows command told found files → IsAtMost (work_of most (engine_of s) files false command) v now_v c now_c) → Unfiled most (engine_of s) command (aside told f v c) (aside now_told now_f now_v now_c) now
+    starved : (told now_told : Option Files) (found : Option (List ℕ)) (now : Engine) (part : ℕ) →
+        Stays told now_told → now_f ≡ f →
+        ((files : Files) → Knows command told found files → now ≡ starved_engine (engine_of s) files command part) →
+        ((files : Files) → Knows command told found files →
+        IsAtMost (work_of most (engine_of s) files false command) v now_v c now_c) →
+        Unfiled most (engine_of s) command (aside told f v c) (aside now_told now_f now_v now_c) now
     starved told now_told found now part st e is few = record {
       fault = false;
       found = found;
@@ -374,13 +452,21 @@ module _ (command : Command) (name : List ℕ) (k : IsFetch command name) where
       most_work = few;
     }
 
-    pub unfetched-filed-or : {E : Type 0} (told now_told : Option Files) (fault : FetchFault) (result : Result Told E) → TellsUnfetched fault result → Fetches told name most bytes (Err fault) → FetchCounts f now_f (Err fault) → Stays told now_told → now_v ≡ v → now_c ≡ c → FiledOr most (engine_of s) command (aside told f v c) (aside now_told now_f now_v now_c) (engine_of s) result
+    pub unfetched-filed-or : {E : Type 0} (told now_told : Option Files) (fault : FetchFault)
+        (result : Result Told E) → TellsUnfetched fault result → Fetches told name most bytes (Err fault) →
+        FetchCounts f now_f (Err fault) → Stays told now_told → now_v ≡ v → now_c ≡ c →
+        FiledOr most (engine_of s) command (aside told f v c) (aside now_told now_f now_v now_c) (engine_of s) result
     unfetched-filed-or told now_told fault (Ok reply) t g counts st h i = rw t.1 (unfetched-filed told now_told fault t.0 g counts st h i)
     unfetched-filed-or told now_told fault (Err error) t g counts st h i =
         starved told now_told None (engine_of s) 0 st (rw t at counts) (λ files x. sym (k.none_in s files)) (λ files x. fetch-idle files false h i)
 
     -- memory was missing behind a file that was read
-    pub fetched-starved : (told now_told : Option Files) (now : Engine) (part : ℕ) → Fetches told name most bytes (Ok tt) → Stays told now_told → now_f ≡ f → ((files : Files) → lookup name files ≡ Some bytes → now ≡ starved_engine (engine_of s) files command part) → ((files : Files) → lookup name files ≡ Some bytes → IsAtMost (work_of most (engine_of s) files false command) v now_v c now_c) → Unfiled most (engine_of s) command (aside told f v c) (aside now_told now_f now_v now_c) now
+    pub fetched-starved : (told now_told : Option Files) (now : Engine) (part : ℕ) →
+        Fetches told name most bytes (Ok tt) → Stays told now_told → now_f ≡ f →
+        ((files : Files) → lookup name files ≡ Some bytes → now ≡ starved_engine (engine_of s) files command part) →
+        ((files : Files) → lookup name files ≡ Some bytes →
+        IsAtMost (work_of most (engine_of s) files false command) v now_v c now_c) →
+        Unfiled most (engine_of s) command (aside told f v c) (aside now_told now_f now_v now_c) now
     fetched-starved told now_told now part g st e is few =
         starved told now_told (Some bytes) now part st e (λ files x. is files (has-fetched told files g x)) (λ files x. few files (has-fetched told files g x))
 
@@ -391,28 +477,35 @@ fetch-load name = record {
   on_slot = refl;
   reads = refl;
   uses = refl;
-  early = λ s. by-kind s.kind s.width s.dims s.max s.table s.cursors s.depth s.past;
+  early = never-early (Command.Load name) (λ s. refl) (λ s. refl);
   faulty = λ most files fault. refl;
   takes = λ s. refl;
   none_in = λ s files. refl;
   least_visits = λ s files. refl;
   least_changes = λ s files. refl;
 }
-  where
-    by-kind : (kind : Kind) (width dims max : ℕ) (table : List Row) (cursors : Named Cursor) (depth : ℕ) (past : List (List Row)) → early_refusal (record { kind = kind; dims = dims; width = width; max = max; table = table; cursors = cursors; depth = depth; past = past }) (Command.Load name) ≡ None
-    by-kind Points width dims max table cursors depth past = refl
-    by-kind Boxes width dims max table cursors depth past = refl
 
 -- what a load does with what it has read
-by-read : (kind : Kind) (t : AnyTable) (cursors : Named Cursor) (files : Files) (name : List ℕ) (read : Result (List Row) Reply) → table_read (slot_of kind t cursors) files (Command.Load name) ≡ read → unless_refused (refuse_if_bad read (refuse_if (nat_lt t.tree.max (read_length read)) Reply.ErrorFull None)) (engine_of (slot_of kind t cursors)) files (Command.Load name) ≡ outcome (engine_of (slot_of kind (read_table t read) cursors)) files (read_reply t.tree.max read ∷ [])
+by-read : (kind : Kind) (t : AnyTable) (cursors : Named Cursor) (files : Files) (name : List ℕ)
+    (read : Result (List Row) Reply) → table_read (slot_of kind t cursors) files (Command.Load name) ≡ read →
+    unless_refused (refuse_if_bad read (refuse_if (nat_lt t.tree.max (read_length read)) Reply.ErrorFull None))
+    (engine_of (slot_of kind t cursors)) files (Command.Load name) ≡
+    outcome (engine_of (slot_of kind (read_table t read) cursors)) files (read_reply t.tree.max read ∷ [])
 by-read kind t cursors files name (Err fault) h = refl
 by-read kind t cursors files name (Ok rows) h =
-    elim (nat_lt t.tree.max (length rows)) as (λ b. unless_refused (refuse_if b Reply.ErrorFull None) (engine_of (slot_of kind t cursors)) files (Command.Load name) ≡ outcome (engine_of (slot_of kind (if b then t else table_at t.dims (without_past t.tree rows)) cursors)) files ((if b then Reply.ErrorFull else Reply.Loaded (length rows)) ∷ [])) [
+    elim (nat_lt t.tree.max (length rows))
+    as (λ b. unless_refused (refuse_if b Reply.ErrorFull None) (engine_of (slot_of kind t cursors)) files
+    (Command.Load name) ≡ outcome (engine_of
+    (slot_of kind (if b then t else table_at t.dims (without_past t.tree rows)) cursors)) files
+    ((if b then Reply.ErrorFull else Reply.Loaded (length rows)) ∷ [])) [
       | true ↦ refl
       | false ↦ ap (load_outcome (engine_of (slot_of kind t cursors)) files) h
     ]
 
-load-does : (most : ℕ) (kind : Kind) (t : AnyTable) (cursors : Named Cursor) (files : Files) (name bytes : List ℕ) → length bytes ≤ most → lookup name files ≡ Some bytes → let read = read_snapshot kind t.dims t.tree.width bytes in act most (engine_of (slot_of kind t cursors)) files false (Command.Load name) ≡ outcome (engine_of (slot_of kind (read_table t read) cursors)) files (read_reply t.tree.max read ∷ [])
+load-does : (most : ℕ) (kind : Kind) (t : AnyTable) (cursors : Named Cursor) (files : Files) (name bytes : List ℕ) →
+    length bytes ≤ most → lookup name files ≡ Some bytes → let read = read_snapshot kind t.dims t.tree.width bytes in
+    act most (engine_of (slot_of kind t cursors)) files false (Command.Load name) ≡
+    outcome (engine_of (slot_of kind (read_table t read) cursors)) files (read_reply t.tree.max read ∷ [])
 load-does most kind t cursors files name bytes short l =
     let s = slot_of kind t cursors in
     let read = table_read s files (Command.Load name) in
@@ -422,7 +515,8 @@ load-does most kind t cursors files name bytes short l =
     ∙ ap (λ x. outcome (engine_of (slot_of kind (read_table t x) cursors)) files (read_reply t.tree.max x ∷ [])) is
 
 module _ (most : ℕ) (kind : Kind) (t : AnyTable) (cursors : Named Cursor) (name bytes : List ℕ) (f now_f v c now_c : ℕ) where
-  load-most : 16 * now_c ≤ 16 * c + length bytes → (files : Files) → lookup name files ≡ Some bytes → IsAtMost (work_of most (engine_of (slot_of kind t cursors)) files false (Command.Load name)) v v c now_c
+  load-most : 16 * now_c ≤ 16 * c + length bytes → (files : Files) → lookup name files ≡ Some bytes →
+      IsAtMost (work_of most (engine_of (slot_of kind t cursors)) files false (Command.Load name)) v v c now_c
   load-most few files l = rw l (record { few_visits = omega arith; few_changes = omega (arith, few) })
 
   -- the rows that a load has read are those of the bytes
@@ -430,15 +524,25 @@ module _ (most : ℕ) (kind : Kind) (t : AnyTable) (cursors : Named Cursor) (nam
   rows-in (Ok xs) rows h = cc
   rows-in (Err fault) rows h = absurd (let no : None ≡ Some rows = h in cc)
 
-  read-rows : (files : Files) → lookup name files ≡ Some bytes → (rows : List Row) → rows_loaded (slot_of kind t cursors) files (Command.Load name) ≡ Some rows → read_snapshot kind t.dims t.tree.width bytes ≡ Ok rows
-  read-rows files l rows h = ap (λ x. read_snapshot kind t.dims t.tree.width (bytes_of x)) (sym l) ∙ rows-in (table_read (slot_of kind t cursors) files (Command.Load name)) rows h
+  read-rows : (files : Files) → lookup name files ≡ Some bytes → (rows : List Row) →
+      rows_loaded (slot_of kind t cursors) files (Command.Load name) ≡ Some rows →
+      read_snapshot kind t.dims t.tree.width bytes ≡ Ok rows
+  read-rows files l rows h = ap (λ x. read_snapshot kind t.dims t.tree.width (bytes_of x)) (sym l) ∙
+      rows-in (table_read (slot_of kind t cursors) files (Command.Load name)) rows h
 
-  pub read-filed-or : {E : Type 0} (told now_told : Option Files) (now : AnyTable) (result : Result Told E) → Fetches told name most bytes (Ok tt) → length bytes ≤ most → Stays told now_told → now_f ≡ f → LoadsOr kind t bytes now result → c ≤ now_c → 16 * now_c ≤ 16 * c + length bytes → LoadsNodes kind t bytes result c now_c → FiledOr most (engine_of (slot_of kind t cursors)) (Command.Load name) (aside told f v c) (aside now_told now_f v now_c) (engine_of (slot_of kind now cursors)) result
+  pub read-filed-or : {E : Type 0} (told now_told : Option Files) (now : AnyTable) (result : Result Told E) →
+      Fetches told name most bytes (Ok tt) → length bytes ≤ most → Stays told now_told → now_f ≡ f →
+      LoadsOr kind t bytes now result → c ≤ now_c → 16 * now_c ≤ 16 * c + length bytes →
+      LoadsNodes kind t bytes result c now_c →
+      FiledOr most (engine_of (slot_of kind t cursors)) (Command.Load name) (aside told f v c)
+      (aside now_told now_f v now_c) (engine_of (slot_of kind now cursors)) result
   read-filed-or told now_told now (Ok reply) g short st e h later few made =
-      fetched-filed (Command.Load name) name (fetch-load name) most (slot_of kind t cursors) bytes f now_f v v c now_c told now_told (engine_of (slot_of kind now cursors)) (reply_of reply) g st e
+      fetched-filed (Command.Load name) name (fetch-load name) most (slot_of kind t cursors) bytes f now_f v v c now_c
+      told now_told (engine_of (slot_of kind now cursors)) (reply_of reply) g st e
       (λ files l. load-does most kind t cursors files name bytes short l ∙ (λ i. outcome (engine_of (slot_of kind (sym h.0 i) cursors)) files (sym h.1 i ∷ [])))
       (load-most few) (omega arith) later (λ files l rows is. made rows (read-rows files l rows is))
   read-filed-or told now_told now (Err error) g short st e h later few made =
-      fetched-starved (Command.Load name) name (fetch-load name) most (slot_of kind t cursors) bytes f now_f v v c now_c told now_told (engine_of (slot_of kind now cursors)) 0 g st e
+      fetched-starved (Command.Load name) name (fetch-load name) most (slot_of kind t cursors) bytes f now_f v v c
+      now_c told now_told (engine_of (slot_of kind now cursors)) 0 g st e
       (λ files l. ap (λ x. engine_of (slot_of kind x cursors)) h)
       (load-most few)

@@ -1,69 +1,112 @@
--- The commands of a slot in three groups. A command of a group is one of those that the group has.
-use Rattle.std.proofs.Common.{◌≡◌, ℕ, Bool, true, List, refl}
+-- The commands of a slot in groups. A command of a group is one of those that the group has.
+use Rattle.std.proofs.Common.{◌≡◌, ℕ, Bool, true, false, List, refl}
 use Rattle.ph_script.specs.declared.coords.Coord.{Coord}
 use Rattle.ph_script.specs.declared.command.Command.{Command}
 use Rattle.ph_script.specs.declared.command.Command.TheVariants as by
 use Rattle.ph_script.specs.Meaning.{command_of}
 use Rattle.ph_specs.specs.declared.Kind.{Kind}
-use Rattle.ph_engine.specs.Doing.{is_tried, is_sure, is_listed}
+use Rattle.ph_engine.specs.Doing.{is_on_row, is_tried, is_sure, is_listed}
 
-pub all-tried : (c : Command) → is_tried (command_of c) ≡ true → ((at : List Coord) (value : ℕ) → c ≡ by.Put at value → ⊥) → ((at : List Coord) → c ≡ by.Del at → ⊥) → ((from : List Coord) (to : List Coord) → c ≡ by.Relocate from to → ⊥) → ((file : List ℕ) → c ≡ by.Load file → ⊥) → ((file : List ℕ) (header : Bool) → c ≡ by.Import file header → ⊥) → ((count : ℕ) → c ≡ by.Keep count → ⊥) → ((count : ℕ) → c ≡ by.Back count → ⊥) → ⊥
-all-tried (by.Begin kind k width max) h n1 n2 n3 n4 n5 n6 n7 = absurd cc
-all-tried (by.Put at value) h n1 n2 n3 n4 n5 n6 n7 = n1 at value refl
-all-tried (by.Get at) h n1 n2 n3 n4 n5 n6 n7 = absurd cc
-all-tried (by.Del at) h n1 n2 n3 n4 n5 n6 n7 = n2 at refl
-all-tried (by.Relocate from to) h n1 n2 n3 n4 n5 n6 n7 = n3 from to refl
-all-tried by.Count h n1 n2 n3 n4 n5 n6 n7 = absurd cc
-all-tried by.Clear h n1 n2 n3 n4 n5 n6 n7 = absurd cc
-all-tried (by.Window lo hi) h n1 n2 n3 n4 n5 n6 n7 = absurd cc
-all-tried (by.Cursor name lo hi) h n1 n2 n3 n4 n5 n6 n7 = absurd cc
-all-tried (by.Page name count) h n1 n2 n3 n4 n5 n6 n7 = absurd cc
-all-tried (by.Near q count) h n1 n2 n3 n4 n5 n6 n7 = absurd cc
-all-tried (by.Within q r) h n1 n2 n3 n4 n5 n6 n7 = absurd cc
-all-tried (by.Overlap bounds) h n1 n2 n3 n4 n5 n6 n7 = absurd cc
-all-tried (by.Inside bounds) h n1 n2 n3 n4 n5 n6 n7 = absurd cc
-all-tried (by.Covers bounds) h n1 n2 n3 n4 n5 n6 n7 = absurd cc
-all-tried (by.Save file) h n1 n2 n3 n4 n5 n6 n7 = absurd cc
-all-tried (by.Load file) h n1 n2 n3 n4 n5 n6 n7 = n4 file refl
-all-tried (by.Import file header) h n1 n2 n3 n4 n5 n6 n7 = n5 file header refl
-all-tried (by.Export file) h n1 n2 n3 n4 n5 n6 n7 = absurd cc
-all-tried by.Stats h n1 n2 n3 n4 n5 n6 n7 = absurd cc
-all-tried (by.Select which) h n1 n2 n3 n4 n5 n6 n7 = absurd cc
-all-tried by.Same h n1 n2 n3 n4 n5 n6 n7 = absurd cc
-all-tried by.Join h n1 n2 n3 n4 n5 n6 n7 = absurd cc
-all-tried (by.Combine operation) h n1 n2 n3 n4 n5 n6 n7 = absurd cc
-all-tried (by.Keep count) h n1 n2 n3 n4 n5 n6 n7 = n6 count refl
-all-tried (by.Back count) h n1 n2 n3 n4 n5 n6 n7 = n7 count refl
+-- a command that is none about a row is told by what it is not
+pub no-row : (c : Command) → ((at : List Coord) (value : ℕ) → c ≡ by.Put at value → ⊥) →
+    ((at : List Coord) → c ≡ by.Get at → ⊥) → ((at : List Coord) → c ≡ by.Del at → ⊥) →
+    ((from : List Coord) (to : List Coord) → c ≡ by.Relocate from to → ⊥) → is_on_row (command_of c) ≡ false
+no-row (by.Begin kind k width max) n1 n2 n3 n4 = refl
+no-row (by.Put at value) n1 n2 n3 n4 = absurd (n1 at value refl)
+no-row (by.Get at) n1 n2 n3 n4 = absurd (n2 at refl)
+no-row (by.Del at) n1 n2 n3 n4 = absurd (n3 at refl)
+no-row (by.Relocate from to) n1 n2 n3 n4 = absurd (n4 from to refl)
+no-row by.Count n1 n2 n3 n4 = refl
+no-row by.Clear n1 n2 n3 n4 = refl
+no-row (by.Window lo hi) n1 n2 n3 n4 = refl
+no-row (by.Cursor name lo hi) n1 n2 n3 n4 = refl
+no-row (by.Page name count) n1 n2 n3 n4 = refl
+no-row (by.Near q count) n1 n2 n3 n4 = refl
+no-row (by.Within q r) n1 n2 n3 n4 = refl
+no-row (by.Overlap bounds) n1 n2 n3 n4 = refl
+no-row (by.Inside bounds) n1 n2 n3 n4 = refl
+no-row (by.Covers bounds) n1 n2 n3 n4 = refl
+no-row (by.Save file) n1 n2 n3 n4 = refl
+no-row (by.Load file) n1 n2 n3 n4 = refl
+no-row (by.Import file header) n1 n2 n3 n4 = refl
+no-row (by.Export file) n1 n2 n3 n4 = refl
+no-row by.Stats n1 n2 n3 n4 = refl
+no-row (by.Select which) n1 n2 n3 n4 = refl
+no-row by.Same n1 n2 n3 n4 = refl
+no-row by.Join n1 n2 n3 n4 = refl
+no-row (by.Combine operation) n1 n2 n3 n4 = refl
+no-row (by.Keep count) n1 n2 n3 n4 = refl
+no-row (by.Back count) n1 n2 n3 n4 = refl
 
-pub all-sure : (c : Command) → is_sure (command_of c) ≡ true → ((kind : Kind) (k : ℕ) (width : ℕ) (max : ℕ) → c ≡ by.Begin kind k width max → ⊥) → ((at : List Coord) → c ≡ by.Get at → ⊥) → (c ≡ by.Count → ⊥) → (c ≡ by.Clear → ⊥) → ((name : List ℕ) (lo : List Coord) (hi : List Coord) → c ≡ by.Cursor name lo hi → ⊥) → ((file : List ℕ) → c ≡ by.Save file → ⊥) → ((file : List ℕ) → c ≡ by.Export file → ⊥) → ⊥
-all-sure (by.Begin kind k width max) h n1 n2 n3 n4 n5 n6 n7 = n1 kind k width max refl
-all-sure (by.Put at value) h n1 n2 n3 n4 n5 n6 n7 = absurd cc
-all-sure (by.Get at) h n1 n2 n3 n4 n5 n6 n7 = n2 at refl
-all-sure (by.Del at) h n1 n2 n3 n4 n5 n6 n7 = absurd cc
-all-sure (by.Relocate from to) h n1 n2 n3 n4 n5 n6 n7 = absurd cc
-all-sure by.Count h n1 n2 n3 n4 n5 n6 n7 = n3 refl
-all-sure by.Clear h n1 n2 n3 n4 n5 n6 n7 = n4 refl
-all-sure (by.Window lo hi) h n1 n2 n3 n4 n5 n6 n7 = absurd cc
-all-sure (by.Cursor name lo hi) h n1 n2 n3 n4 n5 n6 n7 = n5 name lo hi refl
-all-sure (by.Page name count) h n1 n2 n3 n4 n5 n6 n7 = absurd cc
-all-sure (by.Near q count) h n1 n2 n3 n4 n5 n6 n7 = absurd cc
-all-sure (by.Within q r) h n1 n2 n3 n4 n5 n6 n7 = absurd cc
-all-sure (by.Overlap bounds) h n1 n2 n3 n4 n5 n6 n7 = absurd cc
-all-sure (by.Inside bounds) h n1 n2 n3 n4 n5 n6 n7 = absurd cc
-all-sure (by.Covers bounds) h n1 n2 n3 n4 n5 n6 n7 = absurd cc
-all-sure (by.Save file) h n1 n2 n3 n4 n5 n6 n7 = n6 file refl
-all-sure (by.Load file) h n1 n2 n3 n4 n5 n6 n7 = absurd cc
-all-sure (by.Import file header) h n1 n2 n3 n4 n5 n6 n7 = absurd cc
-all-sure (by.Export file) h n1 n2 n3 n4 n5 n6 n7 = n7 file refl
-all-sure by.Stats h n1 n2 n3 n4 n5 n6 n7 = absurd cc
-all-sure (by.Select which) h n1 n2 n3 n4 n5 n6 n7 = absurd cc
-all-sure by.Same h n1 n2 n3 n4 n5 n6 n7 = absurd cc
-all-sure by.Join h n1 n2 n3 n4 n5 n6 n7 = absurd cc
-all-sure (by.Combine operation) h n1 n2 n3 n4 n5 n6 n7 = absurd cc
-all-sure (by.Keep count) h n1 n2 n3 n4 n5 n6 n7 = absurd cc
-all-sure (by.Back count) h n1 n2 n3 n4 n5 n6 n7 = absurd cc
+pub all-tried : (c : Command) → is_tried (command_of c) ≡ true →
+    ((file : List ℕ) → c ≡ by.Load file → ⊥) →
+    ((file : List ℕ) (header : Bool) → c ≡ by.Import file header → ⊥) → ((count : ℕ) → c ≡ by.Keep count → ⊥) →
+    ((count : ℕ) → c ≡ by.Back count → ⊥) → ⊥
+all-tried (by.Begin kind k width max) h n1 n2 n3 n4 = absurd cc
+all-tried (by.Put at value) h n1 n2 n3 n4 = absurd cc
+all-tried (by.Get at) h n1 n2 n3 n4 = absurd cc
+all-tried (by.Del at) h n1 n2 n3 n4 = absurd cc
+all-tried (by.Relocate from to) h n1 n2 n3 n4 = absurd cc
+all-tried by.Count h n1 n2 n3 n4 = absurd cc
+all-tried by.Clear h n1 n2 n3 n4 = absurd cc
+all-tried (by.Window lo hi) h n1 n2 n3 n4 = absurd cc
+all-tried (by.Cursor name lo hi) h n1 n2 n3 n4 = absurd cc
+all-tried (by.Page name count) h n1 n2 n3 n4 = absurd cc
+all-tried (by.Near q count) h n1 n2 n3 n4 = absurd cc
+all-tried (by.Within q r) h n1 n2 n3 n4 = absurd cc
+all-tried (by.Overlap bounds) h n1 n2 n3 n4 = absurd cc
+all-tried (by.Inside bounds) h n1 n2 n3 n4 = absurd cc
+all-tried (by.Covers bounds) h n1 n2 n3 n4 = absurd cc
+all-tried (by.Save file) h n1 n2 n3 n4 = absurd cc
+all-tried (by.Load file) h n1 n2 n3 n4 = n1 file refl
+all-tried (by.Import file header) h n1 n2 n3 n4 = n2 file header refl
+all-tried (by.Export file) h n1 n2 n3 n4 = absurd cc
+all-tried by.Stats h n1 n2 n3 n4 = absurd cc
+all-tried (by.Select which) h n1 n2 n3 n4 = absurd cc
+all-tried by.Same h n1 n2 n3 n4 = absurd cc
+all-tried by.Join h n1 n2 n3 n4 = absurd cc
+all-tried (by.Combine operation) h n1 n2 n3 n4 = absurd cc
+all-tried (by.Keep count) h n1 n2 n3 n4 = n3 count refl
+all-tried (by.Back count) h n1 n2 n3 n4 = n4 count refl
 
-pub all-lists : (c : Command) → is_listed (command_of c) ≡ true → ((lo : List Coord) (hi : List Coord) → c ≡ by.Window lo hi → ⊥) → ((name : List ℕ) (count : ℕ) → c ≡ by.Page name count → ⊥) → ((q : List Coord) (count : ℕ) → c ≡ by.Near q count → ⊥) → ((q : List Coord) (r : ℕ) → c ≡ by.Within q r → ⊥) → ((bounds : List Coord) → c ≡ by.Overlap bounds → ⊥) → ((bounds : List Coord) → c ≡ by.Inside bounds → ⊥) → ((bounds : List Coord) → c ≡ by.Covers bounds → ⊥) → (c ≡ by.Stats → ⊥) → ⊥
+pub all-sure : (c : Command) → is_sure (command_of c) ≡ true →
+    ((kind : Kind) (k : ℕ) (width : ℕ) (max : ℕ) → c ≡ by.Begin kind k width max → ⊥) →
+    (c ≡ by.Count → ⊥) → (c ≡ by.Clear → ⊥) →
+    ((name : List ℕ) (lo : List Coord) (hi : List Coord) → c ≡ by.Cursor name lo hi → ⊥) →
+    ((file : List ℕ) → c ≡ by.Save file → ⊥) → ((file : List ℕ) → c ≡ by.Export file → ⊥) → ⊥
+all-sure (by.Begin kind k width max) h n1 n2 n3 n4 n5 n6 = n1 kind k width max refl
+all-sure (by.Put at value) h n1 n2 n3 n4 n5 n6 = absurd cc
+all-sure (by.Get at) h n1 n2 n3 n4 n5 n6 = absurd cc
+all-sure (by.Del at) h n1 n2 n3 n4 n5 n6 = absurd cc
+all-sure (by.Relocate from to) h n1 n2 n3 n4 n5 n6 = absurd cc
+all-sure by.Count h n1 n2 n3 n4 n5 n6 = n2 refl
+all-sure by.Clear h n1 n2 n3 n4 n5 n6 = n3 refl
+all-sure (by.Window lo hi) h n1 n2 n3 n4 n5 n6 = absurd cc
+all-sure (by.Cursor name lo hi) h n1 n2 n3 n4 n5 n6 = n4 name lo hi refl
+all-sure (by.Page name count) h n1 n2 n3 n4 n5 n6 = absurd cc
+all-sure (by.Near q count) h n1 n2 n3 n4 n5 n6 = absurd cc
+all-sure (by.Within q r) h n1 n2 n3 n4 n5 n6 = absurd cc
+all-sure (by.Overlap bounds) h n1 n2 n3 n4 n5 n6 = absurd cc
+all-sure (by.Inside bounds) h n1 n2 n3 n4 n5 n6 = absurd cc
+all-sure (by.Covers bounds) h n1 n2 n3 n4 n5 n6 = absurd cc
+all-sure (by.Save file) h n1 n2 n3 n4 n5 n6 = n5 file refl
+all-sure (by.Load file) h n1 n2 n3 n4 n5 n6 = absurd cc
+all-sure (by.Import file header) h n1 n2 n3 n4 n5 n6 = absurd cc
+all-sure (by.Export file) h n1 n2 n3 n4 n5 n6 = n6 file refl
+all-sure by.Stats h n1 n2 n3 n4 n5 n6 = absurd cc
+all-sure (by.Select which) h n1 n2 n3 n4 n5 n6 = absurd cc
+all-sure by.Same h n1 n2 n3 n4 n5 n6 = absurd cc
+all-sure by.Join h n1 n2 n3 n4 n5 n6 = absurd cc
+all-sure (by.Combine operation) h n1 n2 n3 n4 n5 n6 = absurd cc
+all-sure (by.Keep count) h n1 n2 n3 n4 n5 n6 = absurd cc
+all-sure (by.Back count) h n1 n2 n3 n4 n5 n6 = absurd cc
+
+pub all-lists : (c : Command) → is_listed (command_of c) ≡ true →
+    ((lo : List Coord) (hi : List Coord) → c ≡ by.Window lo hi → ⊥) →
+    ((name : List ℕ) (count : ℕ) → c ≡ by.Page name count → ⊥) →
+    ((q : List Coord) (count : ℕ) → c ≡ by.Near q count → ⊥) → ((q : List Coord) (r : ℕ) → c ≡ by.Within q r → ⊥) →
+    ((bounds : List Coord) → c ≡ by.Overlap bounds → ⊥) → ((bounds : List Coord) → c ≡ by.Inside bounds → ⊥) →
+    ((bounds : List Coord) → c ≡ by.Covers bounds → ⊥) → (c ≡ by.Stats → ⊥) → ⊥
 all-lists (by.Begin kind k width max) h n1 n2 n3 n4 n5 n6 n7 n8 = absurd cc
 all-lists (by.Put at value) h n1 n2 n3 n4 n5 n6 n7 n8 = absurd cc
 all-lists (by.Get at) h n1 n2 n3 n4 n5 n6 n7 n8 = absurd cc

@@ -3,7 +3,9 @@ use Rattle.std.proofs.Common.{◌≡◌, ◌+◌, ◌*◌, ℕ, zero, suc, arith
 use Rattle.std.specs.Prelude.{◌==◌, ◌&&◌, nat_le, if◌then◌else◌, slice_index, Option, Some, None}
 use Rattle.ph_specs.specs.declared.Kind.{Kind}
 use Rattle.ph_specs.specs.declared.Kind.TheVariants.{Points, Boxes}
-use Rattle.ph_specs.specs.Load.{Fault, bad_magic, bad_header, bad_dims, bad_short, bad_node, bad_extra, Place, first_failed, header_tests_1, header_tests, has_magic, has_byte, is_flag, is_width, dims_fit, named_width, first_fits, rest_fits, record_fault, records_fault, next_first, next_record, places_of, places_at_start, body_fault, fault_by}
+use Rattle.ph_specs.specs.Load.{Fault, bad_magic, bad_header, bad_dims, bad_short, bad_node, bad_extra, Place, first_failed, header_tests_1}
+use Rattle.ph_specs.specs.Load.{header_tests, has_magic, has_byte, is_flag, is_width, dims_fit, named_width, first_fits, rest_fits}
+use Rattle.ph_specs.specs.Load.{record_fault, records_fault, next_first, next_record, places_of, places_at_start, body_fault, fault_by}
 use Rattle.ph_specs.specs.Program.{check_line, named_kind, own_fault, words_unless, words_of_file}
 use Rattle.ph_specs.specs.Record.{record_words}
 use Rattle.ph_specs.specs.Refusals.{fetch}
@@ -31,7 +33,9 @@ four-other true true true true at e = cc
 
 record-other : (kind : Kind) (width dims : ℕ) (place : Place) (at : ℕ) (bytes : List ℕ) → IsOther (record_fault kind width dims place at bytes)
 record-other kind width dims place at bytes =
-    four-other (nat_le 8 (length bytes)) (first_fits width dims place (next_first bytes)) (nat_le (8 * record_words dims (next_first bytes)) (length bytes)) (rest_fits kind width dims place (next_record dims bytes)) at
+    four-other (nat_le 8 (length bytes)) (first_fits width dims place (next_first bytes))
+    (nat_le (8 * record_words dims (next_first bytes)) (length bytes))
+    (rest_fits kind width dims place (next_record dims bytes)) at
 
 or-rest : (first rest : Option Fault) → IsOther first → IsOther rest → IsOther (elim first [ Some f ↦ Some f | None ↦ rest ])
 or-rest (Some f) rest h k e = h e
@@ -50,7 +54,9 @@ records-other (suc most) kind width dims (p ∷ places) at bytes e =
 
 -- ---- the header
 
-six-other : (a b c d e g : Bool) → (b ≡ true → g ≡ true) → IsOther (first_failed ((a, bad_magic) ∷ (b, bad_header 4) ∷ (c, bad_header 5) ∷ (d, bad_header 6) ∷ (e, bad_header 7) ∷ (g, bad_dims) ∷ []))
+six-other : (a b c d e g : Bool) → (b ≡ true → g ≡ true) →
+    IsOther (first_failed ((a, bad_magic) ∷ (b, bad_header 4) ∷ (c, bad_header 5) ∷ (d, bad_header 6) ∷
+    (e, bad_header 7) ∷ (g, bad_dims) ∷ []))
 six-other false b c d e g h k = cc
 six-other true false c d e g h k = cc
 six-other true true false d e g h k = cc
@@ -72,26 +78,43 @@ kind-again zero h = refl
 kind-again (suc zero) h = refl
 kind-again (suc (suc n)) h = absurd (omega (arith, leb-true (suc (suc n)) 1 h))
 
-own-header : (bytes : List ℕ) (width own : ℕ) → width ≡ own → has_byte bytes 4 is_flag ≡ true → ((slice_index bytes 4 == kind_byte (named_kind bytes)) && (slice_index bytes 5 == slice_index bytes 5) && (width == own)) ≡ true
+own-header : (bytes : List ℕ) (width own : ℕ) → width ≡ own → has_byte bytes 4 is_flag ≡ true →
+    ((slice_index bytes 4 == kind_byte (named_kind bytes)) && (slice_index bytes 5 == slice_index bytes 5) &&
+    (width == own)) ≡ true
 own-header bytes width own e h =
     and-made _ _ (and-made _ _ (kind-again (slice_index bytes 4) (flag-low bytes h)) (eq-eqb (slice_index bytes 5) (slice_index bytes 5) refl)) (eq-eqb width own e)
 
 own-other : (bytes : List ℕ) → IsOther (own_fault bytes)
 own-other bytes = by-magic (has_magic 1 bytes) refl
   where
-    by-magic : (m : Bool) → has_magic 1 bytes ≡ m → IsOther (elim m as (λ x. Option Fault) [ true ↦ fault_by (header_tests_1 (named_kind bytes) (slice_index bytes 5) (if m then 32 else slice_index bytes 6) bytes) (named_kind bytes) (if m then 32 else slice_index bytes 6) (slice_index bytes 5) (slice_index bytes 6) bytes | false ↦ fault_by (header_tests (named_kind bytes) (slice_index bytes 5) (if m then 32 else slice_index bytes 6) bytes) (named_kind bytes) (if m then 32 else slice_index bytes 6) (slice_index bytes 5) (slice_index bytes 7) bytes ])
+    by-magic : (m : Bool) → has_magic 1 bytes ≡ m →
+        IsOther (elim m as (λ x. Option Fault) [
+          | true ↦ fault_by (header_tests_1 (named_kind bytes) (slice_index bytes 5)
+              (if m then 32 else slice_index bytes 6) bytes) (named_kind bytes) (if m then 32 else slice_index bytes 6)
+              (slice_index bytes 5) (slice_index bytes 6) bytes
+          | false ↦
+              fault_by (header_tests (named_kind bytes) (slice_index bytes 5) (if m then 32 else slice_index bytes 6) bytes)
+              (named_kind bytes) (if m then 32 else slice_index bytes 6) (slice_index bytes 5) (slice_index bytes 7) bytes
+        ])
     by-magic true e =
-        or-rest (first_failed (header_tests_1 (named_kind bytes) (slice_index bytes 5) 32 bytes)) (body_fault (named_kind bytes) 32 (slice_index bytes 5) (slice_index bytes 6) bytes)
-        (six-other (has_magic 1 bytes) (has_byte bytes 4 is_flag) (has_byte bytes 5 (dims_fit 8 (slice_index bytes 4))) (has_byte bytes 6 is_flag) (has_byte bytes 7 (λ b. b == 0)) _ (own-header bytes 32 32 refl))
+        or-rest (first_failed (header_tests_1 (named_kind bytes) (slice_index bytes 5) 32 bytes))
+        (body_fault (named_kind bytes) 32 (slice_index bytes 5) (slice_index bytes 6) bytes)
+        (six-other (has_magic 1 bytes) (has_byte bytes 4 is_flag)
+        (has_byte bytes 5 (dims_fit 8 (slice_index bytes 4))) (has_byte bytes 6 is_flag)
+        (has_byte bytes 7 (λ b. b == 0)) _ (own-header bytes 32 32 refl))
         (records-other (length bytes) (named_kind bytes) 32 (slice_index bytes 5) (places_at_start (slice_index bytes 6)) 8 (drop 8 bytes))
     by-magic false e =
-        or-rest (first_failed (header_tests (named_kind bytes) (slice_index bytes 5) (slice_index bytes 6) bytes)) (body_fault (named_kind bytes) (slice_index bytes 6) (slice_index bytes 5) (slice_index bytes 7) bytes)
-        (six-other (has_magic 2 bytes) (has_byte bytes 4 is_flag) (has_byte bytes 5 (dims_fit 16 (slice_index bytes 4))) (has_byte bytes 6 is_width) (has_byte bytes 7 is_flag) _ (own-header bytes (slice_index bytes 6) (slice_index bytes 6) refl))
+        or-rest (first_failed (header_tests (named_kind bytes) (slice_index bytes 5) (slice_index bytes 6) bytes))
+        (body_fault (named_kind bytes) (slice_index bytes 6) (slice_index bytes 5) (slice_index bytes 7) bytes)
+        (six-other (has_magic 2 bytes) (has_byte bytes 4 is_flag)
+        (has_byte bytes 5 (dims_fit 16 (slice_index bytes 4))) (has_byte bytes 6 is_width)
+        (has_byte bytes 7 is_flag) _ (own-header bytes (slice_index bytes 6) (slice_index bytes 6) refl))
         (records-other (length bytes) (named_kind bytes) (slice_index bytes 6) (slice_index bytes 5) (places_at_start (slice_index bytes 7)) 8 (drop 8 bytes))
 
 -- ---- the line
 
-line-other : (first : Option Fault) (kind : Kind) (dims width : ℕ) (bytes : List ℕ) → IsOther first → line_of (words_unless first kind dims width bytes) ≡ reply_text Reply.BadDims → ⊥
+line-other : (first : Option Fault) (kind : Kind) (dims width : ℕ) (bytes : List ℕ) → IsOther first →
+    line_of (words_unless first kind dims width bytes) ≡ reply_text Reply.BadDims → ⊥
 line-other (Some bad_magic) kind dims width bytes h e = let clash : 109 ≡ 100 = ap (λ l. slice_index l 4) e in omega (arith, clash)
 line-other (Some (bad_header at)) kind dims width bytes h e = let clash : 104 ≡ 100 = ap (λ l. slice_index l 4) e in omega (arith, clash)
 line-other (Some bad_dims) kind dims width bytes h e = h refl

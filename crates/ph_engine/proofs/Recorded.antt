@@ -19,7 +19,7 @@ use Rattle.ph_specs.specs.Table.{Row}
 use Rattle.ph_specs.specs.Window.{Cursor}
 use Rattle.ph_specs.specs.WorkSets.{all_nodes}
 use Rattle.ph_specs.specs.declared.Kind.{Kind}
-use Rattle.ph_specs.specs.declared.Kind.TheVariants.{Points, Boxes}
+use Rattle.ph_specs.specs.declared.Kind.TheVariants.{Boxes}
 use Rattle.ph_script.specs.declared.reply.Reply.{Reply as Told}
 use Rattle.ph_script.specs.Meaning.{reply_of}
 use Rattle.ph_import.specs.Imported.{with_some, IsPart}
@@ -28,30 +28,38 @@ use Rattle.ph_engine.specs.Doing.{first_rows, has_none, rows_put, with_first}
 use Rattle.ph_engine.specs.Beside.{aside}
 use Rattle.ph_engine.specs.Drafting.{Shelf, Unfilled}
 use Rattle.ph_engine.specs.Filing.{Entered, Filed, FiledOr, SameFrame}
-use Rattle.ph_engine.specs.Recording.{import_changes, import_visits, ImportsOr, TellsRecord, imported_table, imported_reply, is_overfull, table_with, table_with_some, table_with_first}
-use Rattle.ph_engine.specs.Refusing.{early_refusal}
+use Rattle.ph_engine.specs.Recording.{import_changes, import_visits, ImportsOr, TellsRecord, imported_table}
+use Rattle.ph_engine.specs.Recording.{imported_reply, is_overfull, table_with, table_with_some, table_with_first}
 use Rattle.ph_engine.specs.Slots.{AnyTable, table_at, slot_of, engine_of}
 use Rattle.ph_engine.specs.Working.{import_bounds, work_of, IsAtMost}
 use Rattle.ph_engine.proofs.Pairings.{boxes-put-all}
-use Rattle.ph_engine.proofs.Filed.{IsFetch, IsStore, fetched-act, fetched-filed, fetched-starved, stored-filed, unstored-filed}
+use Rattle.ph_engine.proofs.Filed.{IsFetch, IsStore, fetched-act, fetched-filed, fetched-starved, never-early, stored-filed, unstored-filed}
 use Rattle.ph_engine.proofs.Slotted.{of-kind-still}
 
 -- ---- import
 
 -- a slot with some first rows
-some-slot : (kind : Kind) (t : AnyTable) (cursors : Named Cursor) (rows : List Row) → slot_of kind (table_with_some t rows) cursors ≡ with_past (slot_of kind t cursors) (with_some (past_in (slot_of kind t cursors)) rows)
+some-slot : (kind : Kind) (t : AnyTable) (cursors : Named Cursor) (rows : List Row) →
+    slot_of kind (table_with_some t rows) cursors ≡ with_past (slot_of kind t cursors)
+    (with_some (past_in (slot_of kind t cursors)) rows)
 some-slot kind t cursors [] = refl
 some-slot kind t cursors (r ∷ rows) = refl
 
 -- the engine with some first rows is that of the table with them
-full-first : (kind : Kind) (t : AnyTable) (cursors : Named Cursor) (part : ℕ) (rows : List Row) → engine_of (slot_of kind (table_with_first t part (Ok rows)) cursors) ≡ with_first (engine_of (slot_of kind t cursors)) part (rows_put (slot_of kind t cursors) (Ok rows))
+full-first : (kind : Kind) (t : AnyTable) (cursors : Named Cursor) (part : ℕ) (rows : List Row) →
+    engine_of (slot_of kind (table_with_first t part (Ok rows)) cursors) ≡
+    with_first (engine_of (slot_of kind t cursors)) part (rows_put (slot_of kind t cursors) (Ok rows))
 full-first kind t cursors part rows =
-    elim (is_overfull t rows || has_none t.tree.table) as (λ b. engine_of (slot_of kind (if b then t else table_with_some t (first_rows part rows)) cursors) ≡ with_first (engine_of (slot_of kind t cursors)) part (if b then None else Some rows)) [
+    elim (is_overfull t rows || has_none t.tree.table)
+    as (λ b. engine_of (slot_of kind (if b then t else table_with_some t (first_rows part rows)) cursors) ≡
+    with_first (engine_of (slot_of kind t cursors)) part (if b then None else Some rows)) [
       | true ↦ refl
       | false ↦ ap engine_of (some-slot kind t cursors (first_rows part rows))
     ]
 
-some-first : (kind : Kind) (t : AnyTable) (cursors : Named Cursor) (part : ℕ) (read : Result (List Row) Reply) → engine_of (slot_of kind (table_with_first t part read) cursors) ≡ with_first (engine_of (slot_of kind t cursors)) part (rows_put (slot_of kind t cursors) read)
+some-first : (kind : Kind) (t : AnyTable) (cursors : Named Cursor) (part : ℕ) (read : Result (List Row) Reply) →
+    engine_of (slot_of kind (table_with_first t part read) cursors) ≡ with_first (engine_of (slot_of kind t cursors))
+    part (rows_put (slot_of kind t cursors) read)
 some-first kind t cursors part (Ok rows) = full-first kind t cursors part rows
 some-first kind t cursors part (Err fault) = refl
 
@@ -75,32 +83,42 @@ fetch-import name header = record {
   on_slot = refl;
   reads = refl;
   uses = refl;
-  early = λ s. by-kind s.kind s.width s.dims s.max s.table s.cursors s.depth s.past;
+  early = never-early (Command.Import name header) (λ s. refl) (λ s. refl);
   faulty = λ most files fault. refl;
   takes = λ s. refl;
   none_in = λ s files. none-first s (import_rows s files name header);
   least_visits = λ s files. no-least-visits s (import_rows s files name header);
   least_changes = λ s files. no-least-changes s (import_rows s files name header);
 }
-  where
-    by-kind : (kind : Kind) (width dims max : ℕ) (table : List Row) (cursors : Named Cursor) (depth : ℕ) (past : List (List Row)) → early_refusal (record { kind = kind; dims = dims; width = width; max = max; table = table; cursors = cursors; depth = depth; past = past }) (Command.Import name header) ≡ None
-    by-kind Points width dims max table cursors depth past = refl
-    by-kind Boxes width dims max table cursors depth past = refl
 
 -- what an import does with what it has read
-by-read : (kind : Kind) (t : AnyTable) (cursors : Named Cursor) (files : Files) (name : List ℕ) (header : Bool) (read : Result (List Row) Reply) → import_rows (slot_of kind t cursors) files name header ≡ read → let table = put_all_read t.tree.width t.tree.table read in unless_refused (refuse_if_bad table (refuse_if (nat_lt t.tree.max (read_length table)) Reply.ErrorFull None)) (engine_of (slot_of kind t cursors)) files (Command.Import name header) ≡ outcome (engine_of (slot_of kind (imported_table t read) cursors)) files (imported_reply t read ∷ [])
+by-read : (kind : Kind) (t : AnyTable) (cursors : Named Cursor) (files : Files) (name : List ℕ) (header : Bool)
+    (read : Result (List Row) Reply) → import_rows (slot_of kind t cursors) files name header ≡ read →
+    let table = put_all_read t.tree.width t.tree.table read in
+    unless_refused (refuse_if_bad table (refuse_if (nat_lt t.tree.max (read_length table)) Reply.ErrorFull None))
+    (engine_of (slot_of kind t cursors)) files (Command.Import name header) ≡
+    outcome (engine_of (slot_of kind (imported_table t read) cursors)) files (imported_reply t read ∷ [])
 by-read kind t cursors files name header (Err fault) h = refl
 by-read kind t cursors files name header (Ok rows) h =
-    elim (is_overfull t rows) as (λ b. unless_refused (refuse_if b Reply.ErrorFull None) (engine_of (slot_of kind t cursors)) files (Command.Import name header) ≡ outcome (engine_of (slot_of kind (if b then t else table_with t rows) cursors)) files ((if b then Reply.ErrorFull else Reply.Imported (length rows)) ∷ [])) [
+    elim (is_overfull t rows) as (λ b. unless_refused (refuse_if b Reply.ErrorFull None)
+    (engine_of (slot_of kind t cursors)) files (Command.Import name header) ≡
+    outcome (engine_of (slot_of kind (if b then t else table_with t rows) cursors)) files
+    ((if b then Reply.ErrorFull else Reply.Imported (length rows)) ∷ [])) [
       | true ↦ refl
       | false ↦ ap (import_outcome (engine_of (slot_of kind t cursors)) files) h
     ]
 
 -- the rows of a file are those of its bytes
-read-is : (kind : Kind) (t : AnyTable) (cursors : Named Cursor) (files : Files) (name bytes : List ℕ) (header : Bool) → lookup name files ≡ Some bytes → import_rows (slot_of kind t cursors) files name header ≡ csv_rows t.tree.width t.dims kind header bytes
+read-is : (kind : Kind) (t : AnyTable) (cursors : Named Cursor) (files : Files) (name bytes : List ℕ)
+    (header : Bool) → lookup name files ≡ Some bytes → import_rows (slot_of kind t cursors) files name header ≡
+    csv_rows t.tree.width t.dims kind header bytes
 read-is kind t cursors files name bytes header l = ap (λ x. csv_rows t.tree.width t.dims kind header (bytes_of x)) l
 
-import-does : (most : ℕ) (kind : Kind) (t : AnyTable) (cursors : Named Cursor) (files : Files) (name bytes : List ℕ) (header : Bool) → length bytes ≤ most → lookup name files ≡ Some bytes → let read = csv_rows t.tree.width t.dims kind header bytes in act most (engine_of (slot_of kind t cursors)) files false (Command.Import name header) ≡ outcome (engine_of (slot_of kind (imported_table t read) cursors)) files (imported_reply t read ∷ [])
+import-does : (most : ℕ) (kind : Kind) (t : AnyTable) (cursors : Named Cursor) (files : Files) (name bytes : List ℕ)
+    (header : Bool) → length bytes ≤ most → lookup name files ≡ Some bytes →
+    let read = csv_rows t.tree.width t.dims kind header bytes in act most (engine_of (slot_of kind t cursors)) files
+    false (Command.Import name header) ≡ outcome (engine_of (slot_of kind (imported_table t read) cursors)) files
+    (imported_reply t read ∷ [])
 import-does most kind t cursors files name bytes header short l =
     let s = slot_of kind t cursors in
     fetched-act (Command.Import name header) name (fetch-import name header) most s files bytes l short
@@ -108,16 +126,27 @@ import-does most kind t cursors files name bytes header short l =
     ∙ ap (λ x. outcome (engine_of (slot_of kind (imported_table t x) cursors)) files (imported_reply t x ∷ [])) (read-is kind t cursors files name bytes header l)
 
 module _ (most : ℕ) (kind : Kind) (t : AnyTable) (cursors : Named Cursor) (name bytes : List ℕ) (header : Bool) (f now_f v now_v c now_c : ℕ) where
-  import-most : now_v ≤ v + import_visits t (csv_rows t.tree.width t.dims kind header bytes) → now_c ≤ c + import_changes t (csv_rows t.tree.width t.dims kind header bytes) → (files : Files) → lookup name files ≡ Some bytes → IsAtMost (work_of most (engine_of (slot_of kind t cursors)) files false (Command.Import name header)) v now_v c now_c
+  import-most : now_v ≤ v + import_visits t (csv_rows t.tree.width t.dims kind header bytes) →
+      now_c ≤ c + import_changes t (csv_rows t.tree.width t.dims kind header bytes) → (files : Files) →
+      lookup name files ≡ Some bytes →
+      IsAtMost (work_of most (engine_of (slot_of kind t cursors)) files false (Command.Import name header)) v now_v c now_c
   import-most few less files l = rw l (record { few_visits = few; few_changes = less })
 
-  pub imported-filed-or : {E : Type 0} (told now_told : Option Files) (now : AnyTable) (result : Result Told E) → Fetches told name most bytes (Ok tt) → length bytes ≤ most → Stays told now_told → now_f ≡ f → ImportsOr t (csv_rows t.tree.width t.dims kind header bytes) now result → v ≤ now_v → now_v ≤ v + import_visits t (csv_rows t.tree.width t.dims kind header bytes) → c ≤ now_c → now_c ≤ c + import_changes t (csv_rows t.tree.width t.dims kind header bytes) → FiledOr most (engine_of (slot_of kind t cursors)) (Command.Import name header) (aside told f v c) (aside now_told now_f now_v now_c) (engine_of (slot_of kind now cursors)) result
+  pub imported-filed-or : {E : Type 0} (told now_told : Option Files) (now : AnyTable) (result : Result Told E) →
+      Fetches told name most bytes (Ok tt) → length bytes ≤ most → Stays told now_told → now_f ≡ f →
+      ImportsOr t (csv_rows t.tree.width t.dims kind header bytes) now result → v ≤ now_v →
+      now_v ≤ v + import_visits t (csv_rows t.tree.width t.dims kind header bytes) → c ≤ now_c →
+      now_c ≤ c + import_changes t (csv_rows t.tree.width t.dims kind header bytes) →
+      FiledOr most (engine_of (slot_of kind t cursors)) (Command.Import name header) (aside told f v c)
+      (aside now_told now_f now_v now_c) (engine_of (slot_of kind now cursors)) result
   imported-filed-or told now_told now (Ok reply) g short st e h later few kept less =
-      fetched-filed (Command.Import name header) name (fetch-import name header) most (slot_of kind t cursors) bytes f now_f v now_v c now_c told now_told (engine_of (slot_of kind now cursors)) (reply_of reply) g st e
+      fetched-filed (Command.Import name header) name (fetch-import name header) most (slot_of kind t cursors) bytes f
+      now_f v now_v c now_c told now_told (engine_of (slot_of kind now cursors)) (reply_of reply) g st e
       (λ files l. import-does most kind t cursors files name bytes header short l ∙ (λ i. outcome (engine_of (slot_of kind (sym h.0 i) cursors)) files (sym h.1 i ∷ [])))
       (import-most few less) later kept (λ files l rows is. absurd (let no : None ≡ Some rows = is in cc))
   imported-filed-or told now_told now (Err error) g short st e h later few kept less =
-      fetched-starved (Command.Import name header) name (fetch-import name header) most (slot_of kind t cursors) bytes f now_f v now_v c now_c told now_told (engine_of (slot_of kind now cursors)) h.0 g st e
+      fetched-starved (Command.Import name header) name (fetch-import name header) most (slot_of kind t cursors) bytes
+      f now_f v now_v c now_c told now_told (engine_of (slot_of kind now cursors)) h.0 g st e
       (λ files l.
       ap (λ x. engine_of (slot_of kind x cursors)) h.1
       ∙ ap (λ read. engine_of (slot_of kind (table_with_first t h.0 read) cursors)) (sym (read-is kind t cursors files name bytes header l))
@@ -125,9 +154,14 @@ module _ (most : ℕ) (kind : Kind) (t : AnyTable) (cursors : Named Cursor) (nam
       (import-most few less)
 
 -- a text without rows
-pub imports-none : {E : Type 0} (t : AnyTable) (read : Result (List Row) Reply) (fault : CsvFault) (result : Result Told E) → IsFault read fault → TellsRecord fault result → ImportsOr t read t result
+pub imports-none : {E : Type 0} (t : AnyTable) (read : Result (List Row) Reply) (fault : CsvFault)
+    (result : Result Told E) → IsFault read fault → TellsRecord fault result → ImportsOr t read t result
 imports-none t read fault (Ok reply) f h = let is : read ≡ Err (reply_of reply) = h read f in (ap (imported_table t) (sym is), ap (imported_reply t) (sym is))
-imports-none t (Ok rows) fault (Err error) f h = (0, elim (is_overfull t rows || has_none t.tree.table) as (λ b. t ≡ (if b then t else table_with_some t (first_rows 0 rows))) [ true ↦ refl | false ↦ refl ])
+imports-none t (Ok rows) fault (Err error) f h = (
+  0,
+  elim (is_overfull t rows || has_none t.tree.table)
+      as (λ b. t ≡ (if b then t else table_with_some t (first_rows 0 rows))) [ true ↦ refl | false ↦ refl ],
+)
 imports-none t (Err fault) by (Err error) f h = (0, refl)
 
 -- ---- rows of a kind
@@ -138,7 +172,12 @@ boxes-take (suc n) [] h = h
 boxes-take (suc n) (r ∷ rows) h = (h.0, boxes-take n rows h.1)
 
 frame-with : (kind : Kind) (t : AnyTable) (rows : List Row) → (kind ≡ Boxes → AreBoxes rows) → SameFrame kind t (table_with t rows)
-frame-with kind t rows h = record { width = refl; dims = refl; of_kind = of-kind-still kind t (table_with t rows) refl (λ e b c. (boxes-put-all t.tree.width rows t.tree.table b (h e), tt)) }
+frame-with kind t rows h = record {
+  width = refl;
+  dims = refl;
+  of_kind = of-kind-still kind t (table_with t rows) refl
+      (λ e b c. (boxes-put-all t.tree.width rows t.tree.table b (h e), tt));
+}
 
 frame-still : (kind : Kind) (t : AnyTable) → SameFrame kind t t
 frame-still kind t = record { width = refl; dims = refl; of_kind = λ k. k }
@@ -148,9 +187,11 @@ frame-some kind t [] h = frame-still kind t
 frame-some kind t (r ∷ rows) h = frame-with kind t (r ∷ rows) h
 
 -- an import keeps the frame of a table, where the rows that it reads are of the kind
-pub rows-frame : {E : Type 0} (kind : Kind) (t now : AnyTable) (rows : List Row) (result : Result Told E) → (kind ≡ Boxes → AreBoxes rows) → ImportsOr t (Ok rows) now result → SameFrame kind t now
+pub rows-frame : {E : Type 0} (kind : Kind) (t now : AnyTable) (rows : List Row) (result : Result Told E) →
+    (kind ≡ Boxes → AreBoxes rows) → ImportsOr t (Ok rows) now result → SameFrame kind t now
 rows-frame kind t now rows (Ok reply) b h =
-    rw h.0 (elim (is_overfull t rows) as (λ full. SameFrame kind t (if full then t else table_with t rows)) [ true ↦ frame-still kind t | false ↦ frame-with kind t rows b ])
+    rw h.0 (elim (is_overfull t rows) as (λ full. SameFrame kind t (if full then t else table_with t rows))
+    [ true ↦ frame-still kind t | false ↦ frame-with kind t rows b ])
 rows-frame kind t now rows (Err error) b h =
     rw h.1 (elim (is_overfull t rows || has_none t.tree.table) as (λ full. SameFrame kind t (if full then t else table_with_some t (first_rows h.0 rows))) [
       | true ↦ frame-still kind t
@@ -158,13 +199,17 @@ rows-frame kind t now rows (Err error) b h =
     ])
 
 -- memory was missing for some of the rows
-part-put : {E : Type 0} (t : AnyTable) (now : Past) (rows : List Row) (error : E) → (is_overfull t rows || has_none t.tree.table) ≡ false → IsPart t.tree now rows → ImportsOr {E = E} t (Ok rows) (table_at t.dims now) (Err error)
+part-put : {E : Type 0} (t : AnyTable) (now : Past) (rows : List Row) (error : E) →
+    (is_overfull t rows || has_none t.tree.table) ≡ false → IsPart t.tree now rows →
+    ImportsOr {E = E} t (Ok rows) (table_at t.dims now) (Err error)
 part-put t now rows error none h =
     let front : first_rows h.part rows ≡ take h.part rows = take-take h.part (length rows - 1) rows (omega (arith, h.few)) in
     (h.part, ap (table_at t.dims) h.state ∙ ap (λ x. table_with_some t x) (sym front) ∙ sym (ap (λ b. if b then t else table_with_some t (first_rows h.part rows)) none))
 
 -- or before the first of them
-unput : {E : Type 0} (t : AnyTable) (now : Past) (rows : List Row) (error : E) → (is_overfull t rows || has_none t.tree.table) ≡ true → now ≡ t.tree → ImportsOr {E = E} t (Ok rows) (table_at t.dims now) (Err error)
+unput : {E : Type 0} (t : AnyTable) (now : Past) (rows : List Row) (error : E) →
+    (is_overfull t rows || has_none t.tree.table) ≡ true → now ≡ t.tree →
+    ImportsOr {E = E} t (Ok rows) (table_at t.dims now) (Err error)
 unput t now rows error first same =
     (0, ap (table_at t.dims) same ∙ sym (ap (λ b. if b then t else table_with_some t (first_rows 0 rows)) first))
 
@@ -180,7 +225,10 @@ either-true false = refl
 none-behind : (a b : Bool) → a ≡ false → b ≡ false → (a || b) ≡ false
 none-behind a b h k = ap (λ x. x || b) h ∙ k
 
-pub starved-put : {E : Type 0} (t : AnyTable) (now : Past) (rows : List Row) (error : E) → (t.tree.max < length (put_all t.tree.width t.tree.table rows) → now ≡ t.tree) → (t.tree.table ≡ [] → now ≡ t.tree) → ((t.tree.table ≡ [] → ⊥) → IsPart t.tree now rows) → ImportsOr {E = E} t (Ok rows) (table_at t.dims now) (Err error)
+pub starved-put : {E : Type 0} (t : AnyTable) (now : Past) (rows : List Row) (error : E) →
+    (t.tree.max < length (put_all t.tree.width t.tree.table rows) → now ≡ t.tree) →
+    (t.tree.table ≡ [] → now ≡ t.tree) → ((t.tree.table ≡ [] → ⊥) → IsPart t.tree now rows) →
+    ImportsOr {E = E} t (Ok rows) (table_at t.dims now) (Err error)
 starved-put t now rows error full empty part =
     elim (some-or-none t.tree.table) [
       | inl none ↦ unput t now rows error (ap (λ xs. is_overfull t rows || has_none xs) none ∙ either-true (is_overfull t rows)) (empty none)
@@ -196,19 +244,20 @@ store-export : (name : List ℕ) → IsStore (Command.Export name) name (λ s. c
 store-export name = record {
   on_slot = refl;
   uses = refl;
-  early = λ s. by-kind s.kind s.width s.dims s.max s.table s.cursors s.depth s.past;
+  early = never-early (Command.Export name) (λ s. refl) (λ s. refl);
   late = λ most s files fault. refl;
   makes = λ s files. refl;
   costs = λ s files. refl;
 }
-  where
-    by-kind : (kind : Kind) (width dims max : ℕ) (table : List Row) (cursors : Named Cursor) (depth : ℕ) (past : List (List Row)) → early_refusal (record { kind = kind; dims = dims; width = width; max = max; table = table; cursors = cursors; depth = depth; past = past }) (Command.Export name) ≡ None
-    by-kind Points width dims max table cursors depth past = refl
-    by-kind Boxes width dims max table cursors depth past = refl
 
 module _ (most : ℕ) (s : Slot) (name : List ℕ) (before now : Shelf) (v now_v c : ℕ) where
-  pub exported-filed : (count : ℕ) → count ≡ length s.table → now_v ≡ v + length (all_nodes s.width s.dims s.table) → Entered before now name (csv_text s.table) (length (csv_text s.table)) → Filed most (engine_of s) (Command.Export name) (aside before.files before.faults v c) (aside now.files now.faults now_v c) (engine_of s) (Reply.Exported count)
+  pub exported-filed : (count : ℕ) → count ≡ length s.table → now_v ≡ v + length (all_nodes s.width s.dims s.table) →
+      Entered before now name (csv_text s.table) (length (csv_text s.table)) →
+      Filed most (engine_of s) (Command.Export name) (aside before.files before.faults v c)
+      (aside now.files now.faults now_v c) (engine_of s) (Reply.Exported count)
   exported-filed count n all h = rw n (stored-filed (Command.Export name) name _ _ (store-export name) most s before now v now_v c all h)
 
-  pub unexported-filed : v ≤ now_v → now_v ≤ v + length (all_nodes s.width s.dims s.table) → Unfilled before now → Filed most (engine_of s) (Command.Export name) (aside before.files before.faults v c) (aside now.files now.faults now_v c) (engine_of s) Reply.ErrorFile
+  pub unexported-filed : v ≤ now_v → now_v ≤ v + length (all_nodes s.width s.dims s.table) → Unfilled before now →
+      Filed most (engine_of s) (Command.Export name) (aside before.files before.faults v c)
+      (aside now.files now.faults now_v c) (engine_of s) Reply.ErrorFile
   unexported-filed later few h = unstored-filed (Command.Export name) name _ _ (store-export name) most s before now v now_v c later few h

@@ -1,11 +1,16 @@
 -- The refusals that are told without files come before the others.
 use Rattle.std.proofs.Common.{◌≡◌, ℕ, Bool, true, false, refl, sym, ap, ◌∙◌, arith}
-use Rattle.std.specs.Prelude.{Option, Some, None}
+use Rattle.std.specs.Prelude.{Option, Some, None, List, ℤ, not}
+use Rattle.std.specs.List.{list_all}
+use Rattle.ph_specs.specs.Coordinate.{is_box}
+use Rattle.ph_specs.specs.declared.Kind.{Kind}
+use Rattle.ph_specs.specs.declared.Kind.TheVariants.{Points, Boxes}
 use Rattle.ph_specs.specs.Command.{Command}
 use Rattle.ph_specs.specs.Reply.{Reply}
 use Rattle.ph_specs.specs.State.{Slot, Engine, Files, current}
-use Rattle.ph_specs.specs.Refusals.{refusal, slot_refusal, slots_refusal, or_else, refuse_if, has_wrong_dims, has_wrong_kind, is_out_of_range, is_reversed, lacks_cursor, has_too_many_cursors}
-use Rattle.ph_engine.specs.Refusing.{early_refusal, late_refusal}
+use Rattle.ph_specs.specs.Refusals.{refusal, slot_refusal, slots_refusal, or_else, refuse_if, has_wrong_dims, boxes_of}
+use Rattle.ph_specs.specs.Refusals.{has_wrong_kind, is_out_of_range, is_reversed, lacks_cursor, has_too_many_cursors}
+use Rattle.ph_engine.specs.Refusing.{early_refusal, late_refusal, names_points_outside, names_reversed}
 use Rattle.ph_script.specs.declared.command.Command.{Command as Written}
 use Rattle.ph_script.specs.Meaning.{command_of}
 use Rattle.ph_engine.specs.Slots.{engine_of}
@@ -16,7 +21,8 @@ refuse-or : (b : Bool) (r : Reply) (x y : Option Reply) → refuse_if b r (or_el
 refuse-or true r x y = refl
 refuse-or false r x y = refl
 
-slot-parts : (most : ℕ) (s : Slot) (files : Files) (fault : Bool) (cmd : Command) → slot_refusal most s files fault cmd ≡ or_else (early_refusal s cmd) (late_refusal most s files fault cmd)
+slot-parts : (most : ℕ) (s : Slot) (files : Files) (fault : Bool) (cmd : Command) →
+    slot_refusal most s files fault cmd ≡ or_else (early_refusal s cmd) (late_refusal most s files fault cmd)
 slot-parts most s files fault cmd =
     let late = late_refusal most s files fault cmd in
     ap (refuse_if (has_wrong_dims cmd) Reply.ErrorDims)
@@ -59,7 +65,8 @@ alone e Command.Compare h = absurd cc
 alone e Command.Join h = absurd cc
 alone e (Command.Combine operation) h = absurd cc
 
-pub refusal-parts : (most : ℕ) (e : Engine) (files : Files) (fault : Bool) (cmd : Command) → is_on_slot cmd ≡ true → refusal most e files fault cmd ≡ or_else (early_refusal (current e) cmd) (late_refusal most (current e) files fault cmd)
+pub refusal-parts : (most : ℕ) (e : Engine) (files : Files) (fault : Bool) (cmd : Command) → is_on_slot cmd ≡ true →
+    refusal most e files fault cmd ≡ or_else (early_refusal (current e) cmd) (late_refusal most (current e) files fault cmd)
 refusal-parts most e files fault cmd on =
     ap (λ r. or_else r (slot_refusal most (current e) files fault cmd)) (alone e cmd on).0 ∙ slot-parts most (current e) files fault cmd
 
@@ -68,41 +75,82 @@ pub refused-begun : (s : Slot) (cmd : Command) (r : Reply) → is_on_slot cmd �
 refused-begun s cmd r on h = record {
   does = λ most files fault. rw (refusal-parts most (engine_of s) files fault cmd on, h) refl;
   most = λ visits changes most files fault. record { few_visits = omega arith; few_changes = omega arith };
-  least = λ visits changes most files fault. rw (refusal-parts most (engine_of s) files fault cmd on, h) (record { enough_visits = omega arith; enough_changes = omega arith });
+  least = λ visits changes most files fault. rw (refusal-parts most (engine_of s) files fault cmd on, h)
+      (record { enough_visits = omega arith; enough_changes = omega arith });
 }
 
 -- a command that is not refused at all
-pub unrefused : (most : ℕ) (s : Slot) (files : Files) (fault : Bool) (cmd : Command) → is_on_slot cmd ≡ true → early_refusal s cmd ≡ None → late_refusal most s files fault cmd ≡ None → refusal most (engine_of s) files fault cmd ≡ None
+pub unrefused : (most : ℕ) (s : Slot) (files : Files) (fault : Bool) (cmd : Command) → is_on_slot cmd ≡ true →
+    early_refusal s cmd ≡ None → late_refusal most s files fault cmd ≡ None → refusal most (engine_of s) files fault cmd ≡ None
 unrefused most s files fault cmd on h k = refusal-parts most (engine_of s) files fault cmd on ∙ ap (λ r. or_else r (late_refusal most s files fault cmd)) h ∙ k
 
--- what is known of a command that is not refused so
-right-dims : (a : Bool) (later : Option Reply) → refuse_if a Reply.ErrorDims later ≡ None → a ≡ false
-right-dims true later h = absurd cc
-right-dims false later h = refl
+-- ---- commands about the row at a point
 
+kind-of-get : (kind : Kind) (p : List ℤ) → has_wrong_kind kind (Command.Get p) ≡ false
+kind-of-get Points p = refl
+kind-of-get Boxes p = refl
+
+kind-of-move : (kind : Kind) (p q : List ℤ) → has_wrong_kind kind (Command.Relocate p q) ≡ false
+kind-of-move Points p q = refl
+kind-of-move Boxes p q = refl
+
+put-as-get : (kind : Kind) (p : List ℤ) (v : ℕ) →
+    (has_wrong_kind kind (Command.Get p) ≡ has_wrong_kind kind (Command.Put p v))
+    × (boxes_of kind (Command.Get p) ≡ boxes_of kind (Command.Put p v))
+put-as-get Points p v = (refl, refl)
+put-as-get Boxes p v = (refl, refl)
+
+del-as-get : (kind : Kind) (p : List ℤ) →
+    (has_wrong_kind kind (Command.Get p) ≡ has_wrong_kind kind (Command.Del p))
+    × (boxes_of kind (Command.Get p) ≡ boxes_of kind (Command.Del p))
+del-as-get Points p = (refl, refl)
+del-as-get Boxes p = (refl, refl)
+
+-- the two causes for which such a command is refused
+abbrev pub point_cause : Bool → Bool → Option Reply
+point_cause outside reversed = refuse_if outside Reply.ErrorRange (refuse_if reversed Reply.ErrorReversed None)
+
+pub early-get : (s : Slot) (p : List ℤ) →
+    point_cause (names_points_outside s.width (Command.Get p)) (names_reversed s.kind (Command.Get p)) ≡ early_refusal s (Command.Get p)
+early-get s p =
+    ap (λ b. refuse_if b Reply.ErrorKind (point_cause (names_points_outside s.width (Command.Get p)) (names_reversed s.kind (Command.Get p))))
+    (sym (kind-of-get s.kind p))
+
+pub early-move : (s : Slot) (p q : List ℤ) →
+    point_cause (names_points_outside s.width (Command.Relocate p q)) (names_reversed s.kind (Command.Relocate p q)) ≡ early_refusal s (Command.Relocate p q)
+early-move s p q =
+    ap (λ b. refuse_if b Reply.ErrorKind
+    (point_cause (names_points_outside s.width (Command.Relocate p q)) (names_reversed s.kind (Command.Relocate p q))))
+    (sym (kind-of-move s.kind p q))
+
+-- a put and a removal are refused as a get is
+pub early-put : (s : Slot) (p : List ℤ) (v : ℕ) → early_refusal s (Command.Get p) ≡ early_refusal s (Command.Put p v)
+early-put s p v =
+    let same = put-as-get s.kind p v in
+    λ i. refuse_if (same.0 i) Reply.ErrorKind (point_cause (is_out_of_range s (Command.Get p)) (not (list_all is_box (same.1 i))))
+
+pub early-del : (s : Slot) (p : List ℤ) → early_refusal s (Command.Get p) ≡ early_refusal s (Command.Del p)
+early-del s p =
+    let same = del-as-get s.kind p in
+    λ i. refuse_if (same.0 i) Reply.ErrorKind (point_cause (is_out_of_range s (Command.Get p)) (not (list_all is_box (same.1 i))))
+
+-- ---- commands that are not refused
+
+-- what is known of a command that is not refused so
 right-range : (a b c : Bool) (later : Option Reply) → refuse_if a Reply.ErrorDims (refuse_if b Reply.ErrorKind (refuse_if c Reply.ErrorRange later)) ≡ None → c ≡ false
 right-range true b c later h = absurd cc
 right-range false true c later h = absurd cc
 right-range false false true later h = absurd cc
 right-range false false false later h = refl
 
-pub has-dims : (s : Slot) (cmd : Command) → early_refusal s cmd ≡ None → has_wrong_dims cmd ≡ false
-has-dims s cmd h = right-dims (has_wrong_dims cmd) _ h
-
-right-bounds : (a b c d : Bool) (later : Option Reply) → refuse_if a Reply.ErrorDims (refuse_if b Reply.ErrorKind (refuse_if c Reply.ErrorRange (refuse_if d Reply.ErrorReversed later))) ≡ None → d ≡ false
+right-bounds : (a b c d : Bool) (later : Option Reply) →
+    refuse_if a Reply.ErrorDims (refuse_if b Reply.ErrorKind
+    (refuse_if c Reply.ErrorRange (refuse_if d Reply.ErrorReversed later))) ≡ None → d ≡ false
 right-bounds true b c d later h = absurd cc
 right-bounds false true c d later h = absurd cc
 right-bounds false false true d later h = absurd cc
 right-bounds false false false true later h = absurd cc
 right-bounds false false false false later h = refl
-
-right-kind : (a b : Bool) (later : Option Reply) → refuse_if a Reply.ErrorDims (refuse_if b Reply.ErrorKind later) ≡ None → b ≡ false
-right-kind true b later h = absurd cc
-right-kind false true later h = absurd cc
-right-kind false false later h = refl
-
-pub of-kind : (s : Slot) (cmd : Command) → early_refusal s cmd ≡ None → has_wrong_kind s.kind cmd ≡ false
-of-kind s cmd h = right-kind (has_wrong_dims cmd) (has_wrong_kind s.kind cmd) _ h
 
 pub unreversed : (s : Slot) (cmd : Command) → early_refusal s cmd ≡ None → is_reversed s cmd ≡ false
 unreversed s cmd h = right-bounds (has_wrong_dims cmd) (has_wrong_kind s.kind cmd) (is_out_of_range s cmd) (is_reversed s cmd) _ h
@@ -110,7 +158,10 @@ unreversed s cmd h = right-bounds (has_wrong_dims cmd) (has_wrong_kind s.kind cm
 pub in-range : (s : Slot) (cmd : Command) → early_refusal s cmd ≡ None → is_out_of_range s cmd ≡ false
 in-range s cmd h = right-range (has_wrong_dims cmd) (has_wrong_kind s.kind cmd) (is_out_of_range s cmd) _ h
 
-right-cursor : (a b c d e : Bool) (later : Option Reply) → refuse_if a Reply.ErrorDims (refuse_if b Reply.ErrorKind (refuse_if c Reply.ErrorRange (refuse_if d Reply.ErrorReversed (refuse_if e Reply.ErrorCursor later)))) ≡ None → (e ≡ false) × (later ≡ None)
+right-cursor : (a b c d e : Bool) (later : Option Reply) →
+    refuse_if a Reply.ErrorDims (refuse_if b Reply.ErrorKind
+    (refuse_if c Reply.ErrorRange (refuse_if d Reply.ErrorReversed (refuse_if e Reply.ErrorCursor later)))) ≡ None →
+    (e ≡ false) × (later ≡ None)
 right-cursor true b c d e later h = absurd cc
 right-cursor false true c d e later h = absurd cc
 right-cursor false false true d e later h = absurd cc
@@ -126,7 +177,9 @@ pub has-cursor : (s : Slot) (cmd : Command) → early_refusal s cmd ≡ None →
 has-cursor s cmd h = (right-cursor (has_wrong_dims cmd) (has_wrong_kind s.kind cmd) (is_out_of_range s cmd) (is_reversed s cmd) (lacks_cursor s cmd) _ h).0
 
 pub has-room : (s : Slot) (cmd : Command) → early_refusal s cmd ≡ None → has_too_many_cursors s cmd ≡ false
-has-room s cmd h = right-cursors (has_too_many_cursors s cmd) (right-cursor (has_wrong_dims cmd) (has_wrong_kind s.kind cmd) (is_out_of_range s cmd) (is_reversed s cmd) (lacks_cursor s cmd) _ h).1
+has-room s cmd h = right-cursors (has_too_many_cursors s cmd)
+    (right-cursor (has_wrong_dims cmd) (has_wrong_kind s.kind cmd) (is_out_of_range s cmd) (is_reversed s cmd)
+    (lacks_cursor s cmd) _ h).1
 
 -- an arm of a command that is not refused
 pub unrefused-arm : (s now : Slot) (cmd arm : Written) → s ≡ now → cmd ≡ arm → None ≡ early_refusal now (command_of cmd) → early_refusal s (command_of arm) ≡ None

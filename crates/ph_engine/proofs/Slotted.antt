@@ -55,19 +55,24 @@ boxes-taken (suc n) [] h = tt
 boxes-taken (suc n) (rows ∷ past) h = (h.0, boxes-taken n past h.1)
 
 -- an edit puts the table from before it in front of the past
-edited : (n : ℕ) (now before : List Row) (past : List (List Row)) → AreBoxes now → AreBoxes before → AllByRecursion AreBoxes past → AreBoxes now × AllByRecursion AreBoxes (take n (before ∷ past))
+edited : (n : ℕ) (now before : List Row) (past : List (List Row)) → AreBoxes now → AreBoxes before →
+    AllByRecursion AreBoxes past → AreBoxes now × AllByRecursion AreBoxes (take n (before ∷ past))
 edited n now before past h k l = (h, boxes-taken n (before ∷ past) (k, l))
 
 -- refused or not, a command on points leaves the width and the dimensions, and where a slot of the kind does not refuse it, the kind
 pub record KeepsFrame (kind : Kind) (t : AnyTable) (command : Command) : Type 0 where
   pub same : (r : Option Reply) → let s = current (unless_refused r (engine_of (slot_of Points t [])) [] command).engine in (s.width ≡ t.tree.width) × (s.dims ≡ t.dims)
-  pub boxes : (r : Option Reply) → kind ≡ Boxes → AreBoxes t.tree.table → AllByRecursion AreBoxes t.tree.past → HasBoxes (current (unless_refused r (engine_of (slot_of Points t [])) [] command).engine)
+  pub boxes : (r : Option Reply) → kind ≡ Boxes → AreBoxes t.tree.table → AllByRecursion AreBoxes t.tree.past →
+      HasBoxes (current (unless_refused r (engine_of (slot_of Points t [])) [] command).engine)
 
-pub of-kind-still : (kind : Kind) (t now : AnyTable) → now.dims ≡ t.dims → (kind ≡ Boxes → AreBoxes t.tree.table → AllByRecursion AreBoxes t.tree.past → AreBoxes now.tree.table × AllByRecursion AreBoxes now.tree.past) → IsOfKind kind t → IsOfKind kind now
+pub of-kind-still : (kind : Kind) (t now : AnyTable) → now.dims ≡ t.dims →
+    (kind ≡ Boxes → AreBoxes t.tree.table → AllByRecursion AreBoxes t.tree.past →
+    AreBoxes now.tree.table × AllByRecursion AreBoxes now.tree.past) → IsOfKind kind t → IsOfKind kind now
 of-kind-still Points t now d b h = h
 of-kind-still Boxes t now d b h = let k = b refl h.1 h.2 in (rw d h.0, k.0, k.1)
 
-pub same-frame : {E : Type 0} (kind : Kind) (t now : AnyTable) (command : Command) (outcome : Result Told E) (v now_v c now_c : ℕ) → KeepsFrame kind t command → ServedOr t command now v now_v c now_c outcome → SameFrame kind t now
+pub same-frame : {E : Type 0} (kind : Kind) (t now : AnyTable) (command : Command) (outcome : Result Told E)
+    (v now_v c now_c : ℕ) → KeepsFrame kind t command → ServedOr t command now v now_v c now_c outcome → SameFrame kind t now
 same-frame kind t now command (Ok reply) v now_v c now_c k h =
     let does = h.does [] 0 [] false in
     let r = refusal 0 (engine_of (slot_of Points t [])) [] false command in
@@ -75,74 +80,100 @@ same-frame kind t now command (Ok reply) v now_v c now_c k h =
     record {
       width = sym (ap (λ o. (current o.engine).width) does) ∙ (k.same r).0;
       dims = dims;
-      of_kind = of-kind-still kind t now dims (λ e b c. let k = k.boxes r e b c in (subst AreBoxes (ap (λ o. (current o.engine).table) does) k.0, subst (AllByRecursion AreBoxes) (ap (λ o. (current o.engine).past) does) k.1));
+      of_kind = of-kind-still kind t now dims
+          (λ e b c. let k = k.boxes r e b c in (
+            subst AreBoxes (ap (λ o. (current o.engine).table) does) k.0,
+            subst (AllByRecursion AreBoxes) (ap (λ o. (current o.engine).past) does) k.1,
+          ));
     }
 same-frame kind t now command (Err error) v now_v c now_c k h =
     record { width = ap (λ x. x.tree.width) h.stays; dims = ap (λ x. x.dims) h.stays; of_kind = λ o. rw h.stays o }
 
 -- a point of a command that a slot of boxes does not refuse is a box
-box-of : (t : AnyTable) (cursors : Named Cursor) (kind : Kind) (command : Command) (p : List ℤ) → boxes_of Boxes command ≡ p ∷ [] → kind ≡ Boxes → early_refusal (slot_of kind t cursors) command ≡ None → IsBox p
+box-of : (t : AnyTable) (cursors : Named Cursor) (kind : Kind) (command : Command) (p : List ℤ) →
+    boxes_of Boxes command ≡ p ∷ [] → kind ≡ Boxes → early_refusal (slot_of kind t cursors) command ≡ None → IsBox p
 box-of t cursors kind command p e k h =
-    is-box (is_box p) (ap (λ ps. not (list_all is_box ps)) (sym e) ∙ ap (λ x. not (list_all is_box (boxes_of x command))) (sym k) ∙ unreversed (slot_of kind t cursors) command h)
+    is-box (is_box p) (ap (λ ps. not (list_all is_box ps)) (sym e) ∙
+    ap (λ x. not (list_all is_box (boxes_of x command))) (sym k) ∙ unreversed (slot_of kind t cursors) command h)
 
 module _ (kind : Kind) (t : AnyTable) (cursors : Named Cursor) where
   pub put-frame : (p : List ℤ) (v : ℕ) → early_refusal (slot_of kind t cursors) (Command.Put p v) ≡ None → KeepsFrame kind t (Command.Put p v)
   put-frame p v h = record { same = stays; boxes = boxed }
     where
-      stays : (r : Option Reply) → let s = current (unless_refused r (engine_of (slot_of Points t [])) [] (Command.Put p v)).engine in (s.width ≡ t.tree.width) × (s.dims ≡ t.dims)
+      stays : (r : Option Reply) → let s =
+          current (unless_refused r (engine_of (slot_of Points t [])) [] (Command.Put p v)).engine in
+          (s.width ≡ t.tree.width) × (s.dims ≡ t.dims)
       stays (Some r) = (refl, refl)
       stays None = (refl, refl)
 
-      boxed : (r : Option Reply) → kind ≡ Boxes → AreBoxes t.tree.table → AllByRecursion AreBoxes t.tree.past → HasBoxes (current (unless_refused r (engine_of (slot_of Points t [])) [] (Command.Put p v)).engine)
+      boxed : (r : Option Reply) → kind ≡ Boxes → AreBoxes t.tree.table → AllByRecursion AreBoxes t.tree.past →
+          HasBoxes (current (unless_refused r (engine_of (slot_of Points t [])) [] (Command.Put p v)).engine)
       boxed (Some r) e b c = (b, c)
-      boxed None e b c = edited t.tree.depth _ t.tree.table t.tree.past (boxes-put t.tree.width t.tree.table p v (box-of t cursors kind (Command.Put p v) p refl e h) b) b c
+      boxed None e b c = edited t.tree.depth _ t.tree.table t.tree.past
+          (boxes-put t.tree.width t.tree.table p v (box-of t cursors kind (Command.Put p v) p refl e h) b) b c
 
   pub del-frame : (p : List ℤ) → KeepsFrame kind t (Command.Del p)
   del-frame p = record { same = stays; boxes = boxed }
     where
-      stays : (r : Option Reply) → let s = current (unless_refused r (engine_of (slot_of Points t [])) [] (Command.Del p)).engine in (s.width ≡ t.tree.width) × (s.dims ≡ t.dims)
+      stays : (r : Option Reply) → let s =
+          current (unless_refused r (engine_of (slot_of Points t [])) [] (Command.Del p)).engine in
+          (s.width ≡ t.tree.width) × (s.dims ≡ t.dims)
       stays (Some r) = (refl, refl)
       stays None = (refl, refl)
 
-      boxed : (r : Option Reply) → kind ≡ Boxes → AreBoxes t.tree.table → AllByRecursion AreBoxes t.tree.past → HasBoxes (current (unless_refused r (engine_of (slot_of Points t [])) [] (Command.Del p)).engine)
+      boxed : (r : Option Reply) → kind ≡ Boxes → AreBoxes t.tree.table → AllByRecursion AreBoxes t.tree.past →
+          HasBoxes (current (unless_refused r (engine_of (slot_of Points t [])) [] (Command.Del p)).engine)
       boxed (Some r) e b c = (b, c)
-      boxed None e b c = elim (has t.tree.table p) as (λ x. HasBoxes (with_past (slot_of Points t []) (if x then after_edit t.tree (del t.tree.table p) else t.tree))) [ true ↦ edited t.tree.depth _ t.tree.table t.tree.past (boxes-del t.tree.table p b) b c | false ↦ (b, c) ]
+      boxed None e b c = elim (has t.tree.table p)
+          as (λ x. HasBoxes (with_past (slot_of Points t [])
+          (if x then after_edit t.tree (del t.tree.table p) else t.tree)))
+          [ true ↦ edited t.tree.depth _ t.tree.table t.tree.past (boxes-del t.tree.table p b) b c | false ↦ (b, c) ]
 
   pub move-frame : (p q : List ℤ) → early_refusal (slot_of kind t cursors) (Command.Relocate p q) ≡ None → KeepsFrame kind t (Command.Relocate p q)
   move-frame p q h = record { same = stays; boxes = boxed }
     where
-      stays : (r : Option Reply) → let s = current (unless_refused r (engine_of (slot_of Points t [])) [] (Command.Relocate p q)).engine in (s.width ≡ t.tree.width) × (s.dims ≡ t.dims)
+      stays : (r : Option Reply) → let s =
+          current (unless_refused r (engine_of (slot_of Points t [])) [] (Command.Relocate p q)).engine in
+          (s.width ≡ t.tree.width) × (s.dims ≡ t.dims)
       stays (Some r) = (refl, refl)
       stays None = (refl, refl)
 
       target : kind ≡ Boxes → IsBox q
-      target e = second-box (is_box p) (is_box q) (ap (λ x. not (list_all is_box (boxes_of x (Command.Relocate p q)))) (sym e) ∙ unreversed (slot_of kind t cursors) (Command.Relocate p q) h)
+      target e = second-box (is_box p) (is_box q)
+          (ap (λ x. not (list_all is_box (boxes_of x (Command.Relocate p q)))) (sym e) ∙
+          unreversed (slot_of kind t cursors) (Command.Relocate p q) h)
 
-      boxed : (r : Option Reply) → kind ≡ Boxes → AreBoxes t.tree.table → AllByRecursion AreBoxes t.tree.past → HasBoxes (current (unless_refused r (engine_of (slot_of Points t [])) [] (Command.Relocate p q)).engine)
+      boxed : (r : Option Reply) → kind ≡ Boxes → AreBoxes t.tree.table → AllByRecursion AreBoxes t.tree.past →
+          HasBoxes (current (unless_refused r (engine_of (slot_of Points t [])) [] (Command.Relocate p q)).engine)
       boxed (Some r) e b c = (b, c)
-      boxed None e b c = elim (has t.tree.table p && not (has t.tree.table q)) as (λ x. HasBoxes (with_past (slot_of Points t []) (if x then after_edit t.tree (move t.tree.width t.tree.table p q) else t.tree))) [ true ↦ edited t.tree.depth _ t.tree.table t.tree.past (boxes-move t.tree.width t.tree.table p q (target e) b) b c | false ↦ (b, c) ]
+      boxed None e b c = elim (has t.tree.table p && not (has t.tree.table q))
+          as (λ x. HasBoxes (with_past (slot_of Points t [])
+          (if x then after_edit t.tree (move t.tree.width t.tree.table p q) else t.tree))) [
+            | true ↦ edited t.tree.depth _ t.tree.table t.tree.past
+                (boxes-move t.tree.width t.tree.table p q (target e) b) b c
+            | false ↦ (b, c)
+          ]
 
   pub clear-frame : KeepsFrame kind t Command.Clear
   clear-frame = record { same = stays; boxes = boxed }
     where
-      stays : (r : Option Reply) → let s = current (unless_refused r (engine_of (slot_of Points t [])) [] Command.Clear).engine in (s.width ≡ t.tree.width) × (s.dims ≡ t.dims)
+      stays : (r : Option Reply) → let s =
+          current (unless_refused r (engine_of (slot_of Points t [])) [] Command.Clear).engine in
+          (s.width ≡ t.tree.width) × (s.dims ≡ t.dims)
       stays (Some r) = (refl, refl)
       stays None = (refl, refl)
 
-      boxed : (r : Option Reply) → kind ≡ Boxes → AreBoxes t.tree.table → AllByRecursion AreBoxes t.tree.past → HasBoxes (current (unless_refused r (engine_of (slot_of Points t [])) [] Command.Clear).engine)
+      boxed : (r : Option Reply) → kind ≡ Boxes → AreBoxes t.tree.table → AllByRecursion AreBoxes t.tree.past →
+          HasBoxes (current (unless_refused r (engine_of (slot_of Points t [])) [] Command.Clear).engine)
       boxed (Some r) e b c = (b, c)
       boxed None e b c = (tt, tt)
-
--- a slot in which a question about boxes is not refused is one of boxes
-pub kind-of-boxes : (kind : Kind) (t : AnyTable) → (kind ≡ Points → ⊥) → IsOfKind kind t → IsOfKind Boxes t
-kind-of-boxes Points t n h = absurd (n refl)
-kind-of-boxes Boxes t n h = h
 
 -- a cursor that serves in a table serves in such a one
 cursor-kept : (kind : Kind) (t now : AnyTable) (c : AnyCursor) → SameFrame kind t now → IsCursorIn t c → IsCursorIn now c
 cursor-kept kind t now c f h = record { dims = h.dims ∙ sym f.dims; lo = rw (f.width, f.dims) h.lo; hi = rw (f.width, f.dims) h.hi; last = rw (f.width, f.dims) h.last }
 
-cursors-kept : (kind : Kind) (t now : AnyTable) (held : List Held) → SameFrame kind t now → AllByRecursion (λ h. IsCursorIn t h.cursor) held → AllByRecursion (λ h. IsCursorIn now h.cursor) held
+cursors-kept : (kind : Kind) (t now : AnyTable) (held : List Held) → SameFrame kind t now →
+    AllByRecursion (λ h. IsCursorIn t h.cursor) held → AllByRecursion (λ h. IsCursorIn now h.cursor) held
 cursors-kept kind t now [] f h = h
 cursors-kept kind t now (x ∷ held) f h = (cursor-kept kind t now x.cursor f h.0, cursors-kept kind t now held f h.1)
 
@@ -198,7 +229,8 @@ few-entered false n h k = less n h (λ e. absurd (let f : false ≡ true = k e i
     less : (n : ℕ) → n ≤ 16 → (n ≡ 16 → ⊥) → n + 1 ≤ 16
     less n h k = omega arith
 
-pub slot-entered : (kind : Kind) (t : AnyTable) (h : Held) (held : List Held) → IsSlot kind t held → IsCursorIn t h.cursor → (length held ≡ 16 → has_name h.name (named held) ≡ true) → IsSlot kind t (entered h held)
+pub slot-entered : (kind : Kind) (t : AnyTable) (h : Held) (held : List Held) → IsSlot kind t held →
+    IsCursorIn t h.cursor → (length held ≡ 16 → has_name h.name (named held) ≡ true) → IsSlot kind t (entered h held)
 slot-entered kind t h held s c room =
     let sorted = names-sorted kind t held s in
     record {

@@ -1,5 +1,6 @@
 -- What a command of the code does, by the definition of commands.
-use Rattle.std.specs.Prelude.{◌≡◌, ◌⊎◌, ◌<◌, ◌≤◌, ℕ, ◌+◌, ◌-◌, Bool, true, false, not, ◌&&◌, ◌||◌, nat_lt, if◌then◌else◌, List, [], ◌∷◌, length, take, Option, Some, None, is_none, Result, Ok, Err}
+use Rattle.std.specs.Prelude.{◌≡◌, ◌⊎◌, ◌<◌, ◌≤◌, ℕ, ◌+◌, ◌-◌, Bool, true, false, not, ◌&&◌, ◌||◌, nat_lt, if◌then◌else◌}
+use Rattle.std.specs.Prelude.{List, [], ◌∷◌, length, take, Option, Some, None, is_none, Result, Ok, Err}
 use Rattle.ph_io.specs.Giving.{Taken, Given}
 use Rattle.ph_specs.specs.Command.{Command}
 use Rattle.ph_specs.specs.Reply.{Reply, replies_text}
@@ -65,11 +66,16 @@ is_on_slot Command.Join = false
 is_on_slot (Command.Combine operation) = false
 is_on_slot _ = true
 
--- the commands of one reply that may want memory
+-- the commands about the row at a point
+abbrev pub is_on_row : Command → Bool
+is_on_row (Command.Put p v) = true
+is_on_row (Command.Get p) = true
+is_on_row (Command.Del p) = true
+is_on_row (Command.Relocate p q) = true
+is_on_row _ = false
+
+-- the other commands of one reply that may want memory
 abbrev pub is_tried : Command → Bool
-is_tried (Command.Put p v) = true
-is_tried (Command.Del p) = true
-is_tried (Command.Relocate p q) = true
 is_tried (Command.Load name) = true
 is_tried (Command.Import name header) = true
 is_tried (Command.Keep n) = true
@@ -79,7 +85,6 @@ is_tried _ = false
 -- and those that want none, on one slot
 abbrev pub is_sure : Command → Bool
 is_sure (Command.Begin kind k width max) = true
-is_sure (Command.Get p) = true
 is_sure Command.Count = true
 is_sure Command.Clear = true
 is_sure (Command.Cursor name lo hi) = true

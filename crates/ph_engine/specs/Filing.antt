@@ -57,6 +57,11 @@ pub record QuietOr {E : Type 0} (e : Engine) (command : Command) (visits now_vis
   pub filed : (most : ℕ) (files : Option Files) (filings : ℕ)
       → FiledOr most e command (aside files filings visits changes) (aside files filings now_visits now_changes) now result
 
+-- A command that asks for no file and changes nothing has this reply.
+pub record Shows (s : Slot) (command : Command) (visits now_visits : ℕ) (reply : Reply) : Type 0 where
+  pub filed : (most : ℕ) (files : Option Files) (filings changes : ℕ)
+      → Filed most (engine_of s) command (aside files filings visits changes) (aside files filings now_visits changes) (engine_of s) reply
+
 -- A command on a slot has this reply, whatever was counted of changes, of which it makes none, and however many bytes a file may have.
 pub record Replies (s : Slot) (command : Command) (b now_b : Beside) (now : Slot) (reply : Reply) : Type 0 where
   pub filed : (most changes : ℕ) → Filed most (engine_of s) command (with_changes changes b) (with_changes changes now_b) (engine_of now) reply

@@ -19,20 +19,26 @@ use std::alloc::Global;
 use std::sync::ledger::Ledger;
 
 // The point at these coordinates, which are in the width.
+#[inline(always)]
 pub(crate) fn point_at<const D: usize>(w: Width, at: &Coords<'_>) -> Point<D>
     requires dims { length at.now ≡ D }
     requires range { list_all (fits w) (numbers_of at.now) ≡ true }
     ensures value { result ≡ numbers_of at.now }
     ensures point { IsPoint w D result }
 {
+    // So many coordinates as the compiler knows, so that no loop is left.
+    let Some(coords) = at.as_slice().first_chunk::<D>() else {
+        unreachable!()
+    };
     let mut numbers = [0; D];
-    for (i, coord) in at.as_slice().iter().enumerate() {
-        numbers[i] = number_at(w, coord);
+    for i in 0..D {
+        numbers[i] = number_at(w, &coords[i]);
     }
     Point::new(numbers)
 }
 
 // A coordinate that is in the width.
+#[inline(always)]
 fn number_at(w: Width, coord: &Coord) -> i64
     requires { fits w (number_of_coord coord.now) ≡ true }
     ensures { result ≡ number_of_coord coord.now }

@@ -119,6 +119,7 @@ impl Engine {
     }
 
     // The same by way of a text, which is filled with the reply.
+    #[inline(always)]
     pub(crate) fn exec_by<O: Sink, F: Files, V: Ledger, C: Ledger>(
         &mut self,
         alloc: Global,

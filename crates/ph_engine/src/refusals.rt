@@ -2,6 +2,7 @@
 ghost use Rattle.std.specs.Prelude.{◌≡◌, ◌&&◌, nat_le, length};
 ghost use Rattle.std.specs.List.{list_all};
 ghost use Rattle.ph_specs.specs.Coordinate.{at_most, fits, is_box};
+ghost use Rattle.ph_specs.specs.Command.Command.{Get as AskGet, Relocate as AskRelocate};
 ghost use Rattle.ph_specs.specs.Refusals.{most_dims, has_wrong_dims as asks_wrong_dims, has_wrong_kind as asks_wrong_kind};
 ghost use Rattle.ph_specs.specs.Load.{is_width};
 ghost use Rattle.ph_script.specs.Meaning.{command_of, number_of_coord, numbers_of, reply_of};
@@ -95,10 +96,10 @@ pub(crate) fn is_out_of_range(w: Width, cmd: &Command<'_>) -> bool
         | Command::Within { q: at, .. }
         | Command::Overlap { bounds: at }
         | Command::Inside { bounds: at }
-        | Command::Covers { bounds: at } => !are_in_range(w, at),
+        | Command::Covers { bounds: at } => is_outside(w, at),
         Command::Relocate { from: p, to: q }
         | Command::Window { lo: p, hi: q }
-        | Command::Cursor { lo: p, hi: q, .. } => !(are_in_range(w, p) && are_in_range(w, q)),
+        | Command::Cursor { lo: p, hi: q, .. } => are_outside(w, p, q),
         Command::Begin { .. }
         | Command::Count
         | Command::Clear
@@ -133,6 +134,22 @@ pub(crate) fn is_reversed(kind: Kind, cmd: &Command<'_>) -> bool
     }
 }
 
+// Whether a point is none of the kind.
+#[inline(always)]
+pub(crate) fn is_no_box(kind: Kind, at: &Coords<'_>) -> bool
+    ensures { result ≡ names_reversed kind (AskGet (numbers_of at.now)) }
+{
+    kind == Kind::Boxes && !is_box(at)
+}
+
+// Whether one of two points is none of the kind.
+#[inline(always)]
+pub(crate) fn are_no_boxes(kind: Kind, from: &Coords<'_>, to: &Coords<'_>) -> bool
+    ensures { result ≡ names_reversed kind (AskRelocate (numbers_of from.now) (numbers_of to.now)) }
+{
+    kind == Kind::Boxes && !(is_box(from) && is_box(to))
+}
+
 fn is_box(at: &Coords<'_>) -> bool
     ensures { result ≡ is_box (numbers_of at.now) }
 {
@@ -164,18 +181,37 @@ fn number(coord: &Coord) -> i128
     }
 }
 
+// Whether a point has a coordinate outside of the width.
+#[inline(always)]
+pub(crate) fn is_outside(w: Width, at: &Coords<'_>) -> bool
+    ensures { result ≡ names_points_outside w (AskGet (numbers_of at.now)) }
+{
+    !are_in_range(w, at)
+}
+
+// Whether one of two points has one.
+#[inline(always)]
+pub(crate) fn are_outside(w: Width, from: &Coords<'_>, to: &Coords<'_>) -> bool
+    ensures { result ≡ names_points_outside w (AskRelocate (numbers_of from.now) (numbers_of to.now)) }
+{
+    !(are_in_range(w, from) && are_in_range(w, to))
+}
+
+#[inline(always)]
 fn are_in_range(w: Width, at: &Coords<'_>) -> bool
     ensures { result ≡ list_all (fits w) (numbers_of at.now) }
 {
     all_fit(w, at.as_slice())
 }
 
+#[inline(always)]
 fn all_fit(w: Width, coords: &[Coord]) -> bool
     ensures { result ≡ list_all (λ c. fits w (number_of_coord c)) coords.now }
 {
     coords.iter().all(|coord| is_in_range(w, coord))
 }
 
+#[inline(always)]
 fn is_in_range(w: Width, coord: &Coord) -> bool
     ensures { result ≡ fits w (number_of_coord coord.now) }
 {

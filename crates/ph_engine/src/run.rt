@@ -17,7 +17,7 @@ use crate::engine::Engine;
 use crate::output::say;
 use crate::status::{Answer, Limits, Status, Stop};
 use ph_io::{Failed, Files, Sink, Source};
-use ph_script::{Bad, CoordBuffer, Line, Lines, Reply, Text, read_command};
+use ph_script::{Bad, CoordBuffer, Line, Lines, Reply, Text, read_command, read_plain_command};
 use ph_steps::Steps;
 use std::alloc::Global;
 use std::sync::ledger::Ledger;
@@ -227,6 +227,44 @@ fn finish<O: Sink, F: Files, V: Ledger, C: Ledger>(
 
 // Answers a line, and tells whether it was refused.
 fn answer<O: Sink, F: Files, V: Ledger, C: Ledger>(
+    alloc: Global,
+    out: &mut O,
+    text: &mut Text,
+    coords: &mut CoordBuffer,
+    files: &mut F,
+    eng: &mut Engine,
+    limits: &Limits,
+    line: Line<'_>,
+    visits: &mut Steps<V>,
+    changes: &mut Steps<C>,
+) -> Result<bool, Stop>
+    requires short { IsShort line }
+    requires file { limits.now.file_bytes < 2 ^ 63 }
+    ensures answered { ServesLine limits.now.file_bytes
+        (standing_by O.Sink F.Files out.old files.old visits.old changes.old eng.old) line.entry
+        (standing_by O.Sink F.Files out.new files.new visits.new changes.new eng.new) result }
+    ensures filings { F.faults files.old ≤ F.faults files.new }
+    ensures cause { StopHasCause (O.faults out.old) (O.faults out.new) result }
+{
+    let Line::Text(bytes) = line else {
+        return refuse(out, text, &Reply::ErrorLong);
+    };
+    match read_plain_command(bytes, eng.dims(), coords) {
+        Some(command) => match eng.exec_by(
+            alloc, &command, out, files, limits, text, visits, changes,
+        ) {
+            Ok(answer) => Ok(is_refused(answer)),
+            Err(stop) => Err(stop),
+        },
+        None => answer_other(
+            alloc, out, text, coords, files, eng, limits, line, visits, changes,
+        ),
+    }
+}
+
+// The same of a line that is not plain.
+#[inline(never)]
+fn answer_other<O: Sink, F: Files, V: Ledger, C: Ledger>(
     alloc: Global,
     out: &mut O,
     text: &mut Text,

@@ -10,7 +10,7 @@ ghost use Rattle.ph_script.specs.Meaning.{command_of, numbers_of, reply_of};
 ghost use Rattle.ph_script.specs.Fit.{HasDims};
 ghost use Rattle.ph_tree.specs.Stats.{stats_of};
 ghost use Rattle.ph_engine.specs.Causes.{refusal_reply};
-ghost use Rattle.ph_engine.specs.Doing.{Begun, DoneWith, DoneOr, is_on_slot, is_sure, is_tried, is_listed};
+ghost use Rattle.ph_engine.specs.Doing.{Begun, DoneWith, DoneOr, is_on_row, is_on_slot, is_sure, is_tried, is_listed};
 ghost use Rattle.ph_engine.specs.Filing.{FiledOr, QuietOr, Replies};
 ghost use Rattle.ph_engine.specs.Refusing.{early_refusal, cursor_refusal};
 ghost use Rattle.ph_engine.specs.Slots.{engine_of};
@@ -37,6 +37,7 @@ use std::marker::Model;
 use std::sync::ledger::Ledger;
 
 mod both;
+mod rows;
 
 /// A table of points or boxes, as a tree, and its cursors in the order of their names. Points have 1 to 16 dimensions, boxes 1 to 8, and
 /// each coordinate has 1 to 62 bits.
@@ -88,6 +89,7 @@ impl Slot {
     }
 
     // Does a command that is about this slot alone, as in an engine whose other slot is new.
+    #[inline(always)]
     pub(crate) fn exec<O: Sink, F: Files, V: Ledger, C: Ledger>(
         &mut self,
         alloc: Global,
@@ -108,14 +110,55 @@ impl Slot {
             (engine_of self.new) result }
         ensures cause { StopHasCause (O.faults out.old) (O.faults out.new) result }
     {
+        match cmd {
+            Command::Put { at, value } => {
+                let outcome = self.put(at, *value, visits, changes);
+                tell(out, text, &outcome)
+            }
+            Command::Get { at } => {
+                let reply = self.get(at, visits);
+                say(out, text, &reply)
+            }
+            Command::Del { at } => {
+                let outcome = self.del(at, visits, changes);
+                tell(out, text, &outcome)
+            }
+            Command::Relocate { from, to } => {
+                let outcome = self.relocate(from, to, visits, changes);
+                tell(out, text, &outcome)
+            }
+            _ => self.exec_other(alloc, cmd, out, files, limits, text, visits, changes),
+        }
+    }
+
+    // The same of a command about no single row. It is a call of its own, so that the short way of the others stays short.
+    #[inline(never)]
+    fn exec_other<O: Sink, F: Files, V: Ledger, C: Ledger>(
+        &mut self,
+        alloc: Global,
+        cmd: &Command<'_>,
+        out: &mut O,
+        files: &mut F,
+        limits: &Limits,
+        text: &mut Text,
+        visits: &mut Steps<V>,
+        changes: &mut Steps<C>,
+    ) -> Result<Answer, Stop>
+        requires dims { HasDims self.old.dims cmd.now }
+        requires file { limits.now.file_bytes < 2 ^ 63 }
+        requires slot { is_on_slot (command_of cmd.now) ≡ true }
+        requires other { is_on_row (command_of cmd.now) ≡ false }
+        ensures done { DoneOr limits.now.file_bytes (engine_of self.old) (command_of cmd.now)
+            (beside_by O.Sink F.Files out.old files.old visits.old changes.old)
+            (beside_by O.Sink F.Files out.new files.new visits.new changes.new)
+            (engine_of self.new) result }
+        ensures cause { StopHasCause (O.faults out.old) (O.faults out.new) result }
+    {
         if let Some(refusal) = self.refusal(cmd) {
             return say(out, text, &refusal.reply());
         }
         match cmd {
-            Command::Put { .. }
-            | Command::Del { .. }
-            | Command::Relocate { .. }
-            | Command::Load { .. }
+            Command::Load { .. }
             | Command::Import { .. }
             | Command::Keep { .. }
             | Command::Back { .. } => {
@@ -123,7 +166,6 @@ impl Slot {
                 tell(out, text, &outcome)
             }
             Command::Begin { .. }
-            | Command::Get { .. }
             | Command::Count
             | Command::Clear
             | Command::Cursor { .. }
@@ -140,9 +182,14 @@ impl Slot {
             | Command::Inside { .. }
             | Command::Covers { .. }
             | Command::Stats => self.list(alloc, cmd, out, text, visits),
-            Command::Select { .. } | Command::Same | Command::Join | Command::Combine { .. } => {
-                unreachable!()
-            }
+            Command::Put { .. }
+            | Command::Get { .. }
+            | Command::Del { .. }
+            | Command::Relocate { .. }
+            | Command::Select { .. }
+            | Command::Same
+            | Command::Join
+            | Command::Combine { .. } => { unreachable!() }
         }
     }
 
@@ -166,9 +213,6 @@ impl Slot {
             (engine_of self.new) result }
     {
         match cmd {
-            Command::Put { at, value } => self.tree.put(at, *value, visits, changes),
-            Command::Del { at } => self.tree.del(at, visits, changes),
-            Command::Relocate { from, to } => self.tree.relocate(from, to, visits, changes),
             Command::Load { file } => load_table(
                 &mut self.tree,
                 self.kind,
@@ -218,7 +262,6 @@ impl Slot {
                 width,
                 max,
             } => self.begin(alloc, *kind, *k, *width, *max),
-            Command::Get { at } => self.tree.get(at, visits),
             Command::Count => self.tree.count(),
             Command::Clear => self.tree.clear(alloc),
             Command::Cursor { name, lo, hi } => self.set_cursor(name, lo, hi),

@@ -1,5 +1,6 @@
 -- What is read in the places of each form.
-use Rattle.std.proofs.Common.{◌≡◌, ℕ, zero, suc, ◌+◌, ◌^◌, ◌<◌, ◌≤◌, List, [], ◌∷◌, ◌++◌, length, map, Bool, true, false, refl, sym, ap, ◌∙◌, subst, append_assoc, length-append, lit≤}
+use Rattle.std.proofs.Common.{◌≡◌, ℕ, zero, suc, ◌+◌, ◌^◌, ◌<◌, ◌≤◌, List, [], ◌∷◌, ◌++◌, length, map, Bool, true}
+use Rattle.std.proofs.Common.{false, refl, sym, ap, ◌∙◌, subst, append_assoc, length-append, lit≤}
 use Rattle.std.specs.Prelude.{ℤ, pos, codes, bytes_eq, Option, Some, None}
 use Rattle.std.specs.List.{cons_option}
 use Rattle.std.specs.Cmp.Lexicographic.{pointwise}
@@ -10,7 +11,9 @@ use Rattle.ph_specs.specs.Command.{Command, Place, form, number_fits, name_fits,
 use Rattle.ph_specs.specs.Command.Place.{Coordinate, Below, CursorName, FileName, OneOf}
 use Rattle.ph_script.specs.declared.coords.Coord.{Coord}
 use Rattle.ph_script.specs.declared.forms.Verb.{Verb}
-use Rattle.ph_script.specs.declared.forms.Verb.TheVariants.{Open, OpenBits, OpenMax, OpenBitsMax, Put, Get, Del, Relocate, Count, Clear, Window, Cursor, Page, Near, Within, Overlap, Inside, Covers, Save, Load, Import, ImportHeader, Export, Stats, Select, Same, Join, Combine, Keep, Back}
+use Rattle.ph_script.specs.declared.forms.Verb.TheVariants.{Open, OpenBits, OpenMax, OpenBitsMax, Put, Get, Del, Relocate, Count, Clear, Window}
+use Rattle.ph_script.specs.declared.forms.Verb.TheVariants.{Cursor, Page, Near, Within, Overlap, Inside, Covers, Save, Load, Import}
+use Rattle.ph_script.specs.declared.forms.Verb.TheVariants.{ImportHeader, Export, Stats, Select, Same, Join, Combine, Keep, Back}
 use Rattle.ph_script.specs.Meaning.{number_of_coord, numbers_of}
 use Rattle.ph_script.specs.Forms.{places_by, command_by}
 use Rattle.ph_script.specs.Parts.{coords_at, counts_at, name_from, file_from, second_from}
@@ -25,7 +28,8 @@ record Led (places : List Place) (ws : List (List ℕ)) (behind : List Place) (c
   counts : counts_at places ws ≡ ns ++ counts_at behind left
   same : numbers places ws ≡ zs ++ numbers behind left
 
-led-coordinate : (behind : List Place) (ws : List (List ℕ)) → pointwise number_fits (Coordinate ∷ behind) ws ≡ true → (c : Coord) × Led (Coordinate ∷ behind) ws behind (c ∷ []) [] (numbers_of (c ∷ []))
+led-coordinate : (behind : List Place) (ws : List (List ℕ)) → pointwise number_fits (Coordinate ∷ behind) ws ≡ true →
+    (c : Coord) × Led (Coordinate ∷ behind) ws behind (c ∷ []) [] (numbers_of (c ∷ []))
 led-coordinate behind [] h = absurd (let k : false ≡ true = h in cc)
 led-coordinate behind (w ∷ ws) h =
     let p = and_parts _ _ h in
@@ -42,26 +46,41 @@ led-count limit behind [] l h = absurd (let k : false ≡ true = h in cc)
 led-count limit behind (w ∷ ws) l h =
     let p = and_parts _ _ h in
     let k = keeps-count limit (number w) l p.0 in
-    record { kept = k.kept; below = k.below; led = record { left = ws; fits = p.1; coords = refl; counts = rw k.code refl; same = ap (λ z. cons_option z (numbers behind ws)) k.same } }
+    record {
+      kept = k.kept;
+      below = k.below;
+      led = record {
+        left = ws;
+        fits = p.1;
+        coords = refl;
+        counts = rw k.code refl;
+        same = ap (λ z. cons_option z (numbers behind ws)) k.same;
+      };
+    }
 
-led-fixed : (words : List (List ℕ)) (behind : List Place) (ws : List (List ℕ)) → pointwise number_fits (OneOf words ∷ behind) ws ≡ true → Led (OneOf words ∷ behind) ws behind [] [] []
+led-fixed : (words : List (List ℕ)) (behind : List Place) (ws : List (List ℕ)) →
+    pointwise number_fits (OneOf words ∷ behind) ws ≡ true → Led (OneOf words ∷ behind) ws behind [] [] []
 led-fixed words behind [] h = absurd (let k : false ≡ true = h in cc)
 led-fixed words behind (w ∷ ws) h = record { left = ws; fits = h; coords = refl; counts = refl; same = refl }
 
-led-name : {behind : List Place} {ws : List (List ℕ)} {cs : List Coord} {ns : List ℕ} {zs : List ℤ} (word : List ℕ) → Led behind ws [] cs ns zs → Led (CursorName ∷ behind) (word ∷ ws) [] cs ns zs
+led-name : {behind : List Place} {ws : List (List ℕ)} {cs : List Coord} {ns : List ℕ} {zs : List ℤ} (word : List ℕ) →
+    Led behind ws [] cs ns zs → Led (CursorName ∷ behind) (word ∷ ws) [] cs ns zs
 led-name word l = record { left = l.left; fits = l.fits; coords = l.coords; counts = l.counts; same = l.same }
 
-led-file : {behind : List Place} {ws : List (List ℕ)} {cs : List Coord} {ns : List ℕ} {zs : List ℤ} (word : List ℕ) → Led behind ws [] cs ns zs → Led (FileName ∷ behind) (word ∷ ws) [] cs ns zs
+led-file : {behind : List Place} {ws : List (List ℕ)} {cs : List Coord} {ns : List ℕ} {zs : List ℤ} (word : List ℕ) →
+    Led behind ws [] cs ns zs → Led (FileName ∷ behind) (word ∷ ws) [] cs ns zs
 led-file word l = record { left = l.left; fits = l.fits; coords = l.coords; counts = l.counts; same = l.same }
 
 -- no number changes the name
-unnamed : (got : Option (List ℕ)) (dims : ℕ) (behind : List Place) (ws : List (List ℕ)) → ((vs : List (List ℕ)) → name_from got behind vs ≡ got) → name_from got (coordinates dims ++ behind) ws ≡ got
+unnamed : (got : Option (List ℕ)) (dims : ℕ) (behind : List Place) (ws : List (List ℕ)) →
+    ((vs : List (List ℕ)) → name_from got behind vs ≡ got) → name_from got (coordinates dims ++ behind) ws ≡ got
 unnamed got zero behind ws h = h ws
 unnamed got (suc dims) behind [] h = refl
 unnamed got (suc dims) behind (w ∷ ws) h = unnamed got dims behind ws h
 
 unnamed-corners : (got : Option (List ℕ)) (dims : ℕ) (ws : List (List ℕ)) → name_from got (coordinates dims ++ coordinates dims) ws ≡ got
-unnamed-corners got dims ws = unnamed got dims (coordinates dims) ws (λ vs. subst (λ ps. name_from got ps vs ≡ got) (append-nil (coordinates dims)) (unnamed got dims [] vs (λ us. refl)))
+unnamed-corners got dims ws = unnamed got dims (coordinates dims) ws
+    (λ vs. subst (λ ps. name_from got ps vs ≡ got) (append-nil (coordinates dims)) (unnamed got dims [] vs (λ us. refl)))
 
 unnamed-count : (got : Option (List ℕ)) (limit : ℕ) (ws : List (List ℕ)) → name_from got (Below limit ∷ []) ws ≡ got
 unnamed-count got limit [] = refl
@@ -73,16 +92,20 @@ unfiled-fixed got words [] = refl
 unfiled-fixed got words (w ∷ ws) = refl
 
 -- no number and no fixed word tells which of two words it was
-unsaid-count : (got : Bool) (limit : ℕ) (behind : List Place) (ws : List (List ℕ)) → ((vs : List (List ℕ)) → second_from got behind vs ≡ got) → second_from got (Below limit ∷ behind) ws ≡ got
+unsaid-count : (got : Bool) (limit : ℕ) (behind : List Place) (ws : List (List ℕ)) →
+    ((vs : List (List ℕ)) → second_from got behind vs ≡ got) → second_from got (Below limit ∷ behind) ws ≡ got
 unsaid-count got limit behind [] h = refl
 unsaid-count got limit behind (w ∷ ws) h = h ws
 
-unsaid-fixed : (got : Bool) (word : List ℕ) (limit : ℕ) (behind : List Place) (ws : List (List ℕ)) → ((vs : List (List ℕ)) → second_from got behind vs ≡ got) → second_from got (fixed word ∷ Below limit ∷ behind) ws ≡ got
+unsaid-fixed : (got : Bool) (word : List ℕ) (limit : ℕ) (behind : List Place) (ws : List (List ℕ)) →
+    ((vs : List (List ℕ)) → second_from got behind vs ≡ got) → second_from got (fixed word ∷ Below limit ∷ behind) ws ≡ got
 unsaid-fixed got word limit behind [] h = refl
 unsaid-fixed got word limit behind (w ∷ ws) h = unsaid-count got limit behind ws h
 
 -- one after another
-led-on : {places middle behind : List Place} {ws : List (List ℕ)} {cs ds : List Coord} {ns ms : List ℕ} {zs ys : List ℤ} → (a : Led places ws middle cs ns zs) → Led middle a.left behind ds ms ys → Led places ws behind (cs ++ ds) (ns ++ ms) (zs ++ ys)
+led-on : {places middle behind : List Place} {ws : List (List ℕ)} {cs ds : List Coord} {ns ms : List ℕ}
+    {zs ys : List ℤ} → (a : Led places ws middle cs ns zs) → Led middle a.left behind ds ms ys →
+    Led places ws behind (cs ++ ds) (ns ++ ms) (zs ++ ys)
 led-on {behind} {cs} {ds} {ns} {ms} {zs} {ys} a b =
     record {
       left = b.left;
@@ -106,18 +129,26 @@ led-point (suc dims) behind ws h =
 
 -- the parts in the places of each form are what it asks
 pub record Reads (verb : Verb) (dims : ℕ) (ws : List (List ℕ)) : Type 0 where
-  pub fit : IsFit verb dims (coords_at (places_by verb dims) ws) (counts_at (places_by verb dims) ws) (name_from None (places_by verb dims) ws) (file_from None (places_by verb dims) ws)
+  pub fit : IsFit verb dims (coords_at (places_by verb dims) ws) (counts_at (places_by verb dims) ws)
+      (name_from None (places_by verb dims) ws) (file_from None (places_by verb dims) ws)
   pub same : numbers (places_by verb dims) ws ≡ numbers_of (coords_at (places_by verb dims) ws) ++ map pos (counts_at (places_by verb dims) ws)
-  pub named : IsNamed verb (name_from None (places_by verb dims) ws) (file_from None (places_by verb dims) ws) (second_from false (places_by verb dims) ws) (texts (places_by verb dims) ws)
+  pub named : IsNamed verb (name_from None (places_by verb dims) ws) (file_from None (places_by verb dims) ws)
+      (second_from false (places_by verb dims) ws) (texts (places_by verb dims) ws)
 
-closing : (verb : Verb) (dims : ℕ) (ws : List (List ℕ)) {cs : List Coord} {ns : List ℕ} {zs : List ℤ} → Led (places_by verb dims) ws [] cs ns zs → IsFit verb dims cs ns (name_from None (places_by verb dims) ws) (file_from None (places_by verb dims) ws) → zs ≡ numbers_of cs ++ map pos ns → IsNamed verb (name_from None (places_by verb dims) ws) (file_from None (places_by verb dims) ws) (second_from false (places_by verb dims) ws) (texts (places_by verb dims) ws) → Reads verb dims ws
+closing : (verb : Verb) (dims : ℕ) (ws : List (List ℕ)) {cs : List Coord} {ns : List ℕ} {zs : List ℤ} →
+    Led (places_by verb dims) ws [] cs ns zs →
+    IsFit verb dims cs ns (name_from None (places_by verb dims) ws) (file_from None (places_by verb dims) ws) →
+    zs ≡ numbers_of cs ++ map pos ns →
+    IsNamed verb (name_from None (places_by verb dims) ws) (file_from None (places_by verb dims) ws)
+    (second_from false (places_by verb dims) ws) (texts (places_by verb dims) ws) → Reads verb dims ws
 closing verb dims ws {cs} {ns} {zs} l f e named =
     let a : coords_at (places_by verb dims) ws ≡ cs = l.coords ∙ append-nil cs in
     let b : counts_at (places_by verb dims) ws ≡ ns = l.counts ∙ append-nil ns in
     let n : numbers (places_by verb dims) ws ≡ zs = l.same ∙ append-nil zs in
     record { fit = rw (a, b) f; same = rw (a, b) (n ∙ e); named = named }
 
-led-get : (dims : ℕ) (ws : List (List ℕ)) → pointwise number_fits (coordinates dims) ws ≡ true → (at : List Coord) × Led (coordinates dims) ws [] at [] (numbers_of at) × (length at ≡ dims)
+led-get : (dims : ℕ) (ws : List (List ℕ)) → pointwise number_fits (coordinates dims) ws ≡ true →
+    (at : List Coord) × Led (coordinates dims) ws [] at [] (numbers_of at) × (length at ≡ dims)
 led-get dims ws h =
     let e = append-nil (coordinates dims) in
     let p = led-point dims [] ws (subst (λ ps. pointwise number_fits ps ws ≡ true) (sym e) h) in
@@ -159,14 +190,18 @@ reads OpenBits dims (w ∷ ws) h =
     let c = led-fixed (codes "bits" ∷ []) (count ∷ []) b.led.left b.led.fits in
     let d = led-count (2 ^ 32) [] c.left (lit≤ tt) c.fits in
     let second = bytes_eq w (codes "boxes") in
-    closing OpenBits dims (w ∷ ws) (led-on a (led-on b.led (led-on c d.led))) (refl, refl, b.below, d.below) refl (unsaid-count second (2 ^ 32) (fixed (codes "bits") ∷ count ∷ []) ws (λ vs. unsaid-fixed second (codes "bits") (2 ^ 32) [] vs (λ us. refl)))
+    closing OpenBits dims (w ∷ ws) (led-on a (led-on b.led (led-on c d.led))) (refl, refl, b.below, d.below) refl
+    (unsaid-count second (2 ^ 32) (fixed (codes "bits") ∷ count ∷ []) ws
+    (λ vs. unsaid-fixed second (codes "bits") (2 ^ 32) [] vs (λ us. refl)))
 reads OpenMax dims [] h = absurd (let k : false ≡ true = h in cc)
 reads OpenMax dims (w ∷ ws) h =
     let a = led-fixed (codes "points" ∷ codes "boxes" ∷ []) (count ∷ fixed (codes "max") ∷ value ∷ []) (w ∷ ws) h in
     let b = led-count (2 ^ 32) (fixed (codes "max") ∷ value ∷ []) a.left (lit≤ tt) a.fits in
     let c = led-fixed (codes "max" ∷ []) (value ∷ []) b.led.left b.led.fits in
     let d = led-count (2 ^ 64) [] c.left (lit≤ tt) c.fits in
-    closing OpenMax dims (w ∷ ws) (led-on a (led-on b.led (led-on c d.led))) (refl, refl, b.below, d.below) refl (unsaid-count (bytes_eq w (codes "boxes")) (2 ^ 32) (fixed (codes "max") ∷ value ∷ []) ws (λ vs. unsaid-fixed (bytes_eq w (codes "boxes")) (codes "max") (2 ^ 64) [] vs (λ us. refl)))
+    closing OpenMax dims (w ∷ ws) (led-on a (led-on b.led (led-on c d.led))) (refl, refl, b.below, d.below) refl
+    (unsaid-count (bytes_eq w (codes "boxes")) (2 ^ 32) (fixed (codes "max") ∷ value ∷ []) ws
+    (λ vs. unsaid-fixed (bytes_eq w (codes "boxes")) (codes "max") (2 ^ 64) [] vs (λ us. refl)))
 reads OpenBitsMax dims [] h = absurd (let k : false ≡ true = h in cc)
 reads OpenBitsMax dims (w ∷ ws) h =
     let a = led-fixed (codes "points" ∷ codes "boxes" ∷ []) (count ∷ fixed (codes "bits") ∷ count ∷ fixed (codes "max") ∷ value ∷ []) (w ∷ ws) h in
@@ -177,7 +212,9 @@ reads OpenBitsMax dims (w ∷ ws) h =
     let f = led-count (2 ^ 64) [] e.left (lit≤ tt) e.fits in
     let second = bytes_eq w (codes "boxes") in
     closing OpenBitsMax dims (w ∷ ws) (led-on a (led-on b.led (led-on c (led-on d.led (led-on e f.led))))) (refl, refl, b.below, d.below, f.below) refl
-    (unsaid-count second (2 ^ 32) (fixed (codes "bits") ∷ count ∷ fixed (codes "max") ∷ value ∷ []) ws (λ vs. unsaid-fixed second (codes "bits") (2 ^ 32) (fixed (codes "max") ∷ value ∷ []) vs (λ us. unsaid-fixed second (codes "max") (2 ^ 64) [] us (λ ts. refl))))
+    (unsaid-count second (2 ^ 32) (fixed (codes "bits") ∷ count ∷ fixed (codes "max") ∷ value ∷ []) ws
+    (λ vs. unsaid-fixed second (codes "bits") (2 ^ 32) (fixed (codes "max") ∷ value ∷ []) vs
+    (λ us. unsaid-fixed second (codes "max") (2 ^ 64) [] us (λ ts. refl))))
 reads Put dims ws h =
     let p = led-point dims (value ∷ []) ws h in
     let b = led-count (2 ^ 64) [] p.led.left (lit≤ tt) p.led.fits in
@@ -244,17 +281,32 @@ reads Back dims ws h =
     closing Back dims ws b.led (refl, refl, b.below) refl tt
 
 -- the same of places and parts that are these
-pub fit-of : (verb : Verb) (dims : ℕ) (places : List Place) (ws : List (List ℕ)) (cs : List Coord) (ns : List ℕ) (name file : Option (List ℕ)) → places ≡ places_by verb dims → pointwise number_fits places ws ≡ true → cs ≡ coords_at places ws → ns ≡ counts_at places ws → name ≡ name_from None places ws → file ≡ file_from None places ws → IsFit verb dims cs ns name file
+pub fit-of : (verb : Verb) (dims : ℕ) (places : List Place) (ws : List (List ℕ)) (cs : List Coord) (ns : List ℕ)
+    (name file : Option (List ℕ)) → places ≡ places_by verb dims → pointwise number_fits places ws ≡ true →
+    cs ≡ coords_at places ws → ns ≡ counts_at places ws → name ≡ name_from None places ws →
+    file ≡ file_from None places ws → IsFit verb dims cs ns name file
 fit-of verb dims places ws cs ns name file e h a b n f = rw (a, b, n, f, e) (reads verb dims ws (rw e at h)).fit
 
-pub same-of : (verb : Verb) (dims : ℕ) (places : List Place) (ws : List (List ℕ)) (cs : List Coord) (ns : List ℕ) → places ≡ places_by verb dims → pointwise number_fits places ws ≡ true → cs ≡ coords_at places ws → ns ≡ counts_at places ws → numbers places ws ≡ numbers_of cs ++ map pos ns
+pub same-of : (verb : Verb) (dims : ℕ) (places : List Place) (ws : List (List ℕ)) (cs : List Coord) (ns : List ℕ) →
+    places ≡ places_by verb dims → pointwise number_fits places ws ≡ true → cs ≡ coords_at places ws →
+    ns ≡ counts_at places ws → numbers places ws ≡ numbers_of cs ++ map pos ns
 same-of verb dims places ws cs ns e h a b = rw (a, b, e) (reads verb dims ws (rw e at h)).same
 
-named-of : (verb : Verb) (dims : ℕ) (places : List Place) (ws : List (List ℕ)) (name file : Option (List ℕ)) (second : Bool) → places ≡ places_by verb dims → pointwise number_fits places ws ≡ true → name ≡ name_from None places ws → file ≡ file_from None places ws → second ≡ second_from false places ws → IsNamed verb name file second (texts places ws)
+named-of : (verb : Verb) (dims : ℕ) (places : List Place) (ws : List (List ℕ)) (name file : Option (List ℕ))
+    (second : Bool) → places ≡ places_by verb dims → pointwise number_fits places ws ≡ true →
+    name ≡ name_from None places ws → file ≡ file_from None places ws → second ≡ second_from false places ws →
+    IsNamed verb name file second (texts places ws)
 named-of verb dims places ws name file second e h n f s = rw (n, f, s, e) (reads verb dims ws (rw e at h)).named
 
 -- the command of a form, where all its numbers and names fit
-pub does : (word : List ℕ) (verb : Verb) (dims : ℕ) (places read : List Place) (ws : List (List ℕ)) (cs : List Coord) (ns : List ℕ) (name file : Option (List ℕ)) (second : Bool) (made : Command) → places ≡ places_by verb dims → read ≡ places → pointwise number_fits read ws ≡ true → pointwise name_fits read ws ≡ true → cs ≡ coords_at read ws → ns ≡ counts_at read ws → name ≡ name_from None read ws → file ≡ file_from None read ws → second ≡ second_from false read ws → ((t : List (List ℕ)) → IsNamed verb name file second t → made ≡ command_by verb dims (numbers_of cs ++ map pos ns) t) → read_form (form word places (command_by verb dims)) ws ≡ Reading.Do made
+pub does : (word : List ℕ) (verb : Verb) (dims : ℕ) (places read : List Place) (ws : List (List ℕ)) (cs : List Coord)
+    (ns : List ℕ) (name file : Option (List ℕ)) (second : Bool) (made : Command) → places ≡ places_by verb dims →
+    read ≡ places → pointwise number_fits read ws ≡ true → pointwise name_fits read ws ≡ true →
+    cs ≡ coords_at read ws → ns ≡ counts_at read ws → name ≡ name_from None read ws → file ≡ file_from None read ws →
+    second ≡ second_from false read ws →
+    ((t : List (List ℕ)) → IsNamed verb name file second t →
+    made ≡ command_by verb dims (numbers_of cs ++ map pos ns) t) →
+    read_form (form word places (command_by verb dims)) ws ≡ Reading.Do made
 does word verb dims places read ws cs ns name file second made row e h k a b n f s makes =
     let fits : pointwise number_fits places ws ≡ true = rw e at h in
     let names : pointwise name_fits places ws ≡ true = rw e at k in

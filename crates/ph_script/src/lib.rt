@@ -28,6 +28,6 @@ pub use generator::Gen;
 pub use lines::{Line, Lines, NoMemory};
 pub use name::Name;
 pub use ph_specs::{SetOperation, Which};
-pub use read::read_command;
+pub use read::{read_command, read_plain_command};
 pub use reply::Reply;
 pub use text::{Text, reply_text, write_hit, write_pair, write_row, write_text};

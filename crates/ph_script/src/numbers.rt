@@ -1,5 +1,5 @@
 //! The numbers that words spell.
-ghost use Rattle.std.specs.Prelude.{◌≡◌, ◌+◌, ◌-◌, ◌<◌, ◌≤◌, ◌^◌, ◌==◌, ◌&&◌, ◌||◌, not, if◌then◌else◌, true, false};
+ghost use Rattle.std.specs.Prelude.{◌≡◌, ◌+◌, ◌<◌, ◌≤◌, ◌^◌, ◌==◌, ◌&&◌, ◌||◌, not, if◌then◌else◌, true, false};
 ghost use Rattle.std.specs.Prelude.{length, slice_index, pos, neg_ℤ, Some, IfSome};
 ghost use Rattle.ph_coord.specs.declared.number.Number.TheVariants.{Whole};
 ghost use Rattle.ph_coord.specs.Spelling.{number_of};

@@ -1,5 +1,5 @@
 //! The reading of a line.
-ghost use Rattle.std.specs.Prelude.{◌≡◌, ◌≤◌, ◌<◌, ◌^◌, ◌==◌, ◌++◌, [], ℕ, List, length, map, slice_index, pos, false, None, Some, IsSome, MatchResult};
+ghost use Rattle.std.specs.Prelude.{◌≡◌, ◌≤◌, ◌<◌, ◌^◌, ◌==◌, ◌++◌, [], ℕ, List, length, map, slice_index, pos, false, None, Some, IfSome, IsSome, MatchResult};
 ghost use Rattle.std.specs.Cmp.Lexicographic.{pointwise};
 ghost use Rattle.ph_specs.specs.Lines.{words};
 ghost use Rattle.ph_specs.specs.Command.{form, forms, number_fits, name_fits, read_form as by_form, read_words, Reading};
@@ -270,6 +270,26 @@ pub fn read_command<'c>(
         return Ok(Some(plain.command(dims, coords.as_slice(), number)));
     }
     read_other(line, dims, coords)
+}
+
+/// The command of a line of one of the most common kinds, plainly written. Where there is none, the line may still have a command.
+///
+/// It is that of `read_command`, without a place for the larger commands: what is done with it can be compiled with its reading.
+#[inline(always)]
+pub fn read_plain_command<'c>(
+    line: &'c [u8],
+    dims: u32,
+    coords: &'c mut CoordBuffer,
+) -> Option<Command<'c>>
+    requires dims { (1 ≤ dims) × (dims ≤ 16) }
+    ensures meaning { IfSome result (λ command. Reading.Do (command_of command) ≡ read_words dims (words line.now)) }
+    ensures dims { IfSome result (λ command. HasDims dims command) }
+{
+    let dims = dims as usize;
+    match read_plain(line, dims, coords) {
+        Some((plain, number)) => Some(plain.command(dims, coords.as_slice(), number)),
+        None => None,
+    }
 }
 
 // Reads a line that is not plain. What it answers lies in a place of its own first, so that the command of a plain line needs no place.

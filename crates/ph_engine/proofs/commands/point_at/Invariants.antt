@@ -4,4 +4,4 @@ use Rattle.ph_script.specs.Meaning.{numbers_of}
 use Rattle.ph_engine.proofs.commands.point_at.Given as goal
 
 abbrev pub invariant-loop-i : goal.invariant-loop-i
-invariant-loop-i g l = l.numbers ≡ padded g.row.D (pos 0) (take l.i (numbers_of l.coord-items))
+invariant-loop-i g l = l.numbers ≡ padded g.row.D (pos 0) (take l.i (numbers_of l.coords))

@@ -1,23 +1,25 @@
 use Rattle.std.proofs.Common.{sym}
 use Rattle.std.specs.Prelude.{Ok}
-use Rattle.ph_script.specs.Meaning.{numbers_of}
 use Rattle.ph_engine.specs.Slots.{any_table, named, slot_of}
 use Rattle.ph_engine.proofs.Filed.{filed-begun, filed-served}
 use Rattle.ph_engine.proofs.Groups.{all-sure}
-use Rattle.ph_engine.proofs.Plain.{plain-get, plain-count, plain-clear}
+use Rattle.ph_engine.proofs.Plain.{plain-count, plain-clear}
 use Rattle.ph_engine.proofs.Refused.{unrefused-arm}
 use Rattle.ph_engine.proofs.Slotted.{slot-keeps, same-frame, clear-frame}
 use Rattle.ph_engine.proofs.slot.Slot.reply.Goals as goal
 
 pub unreachable-requires : goal.unreachable-requires
-unreachable-requires g c = all-sure c.args.cmd.now c.requires.sure c.in_default.not-Begin c.in_default.not-Get c.in_default.not-Count c.in_default.not-Clear c.in_default.not-Cursor c.in_default.not-Save c.in_default.not-Export
+unreachable-requires g c = all-sure c.args.cmd.now c.requires.sure c.in_default.not-Begin
+    c.in_default.not-Count c.in_default.not-Clear c.in_default.not-Cursor c.in_default.not-Save c.in_default.not-Export
 
 pub invariant_of-self : goal.invariant_of-self
 invariant_of-self g c =
     let kind = c.self-in-Clear.inside.kind in
     let t = any_table c.self-in-Clear.inside.tree in
     let cursors = named c.self-in-Clear.inside.cursors.items in
-    slot-keeps kind t (any_table c.clear.new.self) c.self-in-Clear.inside.cursors.items (same-frame {E = ⊥} kind t (any_table c.clear.new.self) _ (Ok c.clear.result) 0 0 0 0 (clear-frame kind t cursors) (c.clear.ensures.served 0 0)) c.self-in-Clear.invariant
+    slot-keeps kind t (any_table c.clear.new.self) c.self-in-Clear.inside.cursors.items
+    (same-frame {E = ⊥} kind t (any_table c.clear.new.self) _ (Ok c.clear.result) 0 0 0 0
+    (clear-frame kind t cursors) (c.clear.ensures.served 0 0)) c.self-in-Clear.invariant
 
 pub returns-in-Begin : goal.returns-in-Begin
 returns-in-Begin g c = rw c.in-Begin.is (record { filed = λ most changes. filed-begun most _ _ _ _ _ _ _ changes c.begin.ensures })
@@ -26,26 +28,27 @@ pub returns-in-Cursor : goal.returns-in-Cursor
 returns-in-Cursor g c = rw c.in-Cursor.is (record { filed = λ most changes. filed-begun most _ _ _ _ _ _ _ changes c.set_cursor.ensures })
 
 pub returns-in-Save : goal.returns-in-Save
-returns-in-Save g c = rw (c.in-Save.is, ← c.self-in-Save.view_is) (record { filed = λ most changes. c.save_table.ensures.filed most changes (named c.self-in-Save.inside.cursors.items) })
+returns-in-Save g c = rw (c.in-Save.is, ← c.self-in-Save.view_is)
+    (record { filed = λ most changes. c.save_table.ensures.filed most changes (named c.self-in-Save.inside.cursors.items) })
 
 pub returns-in-Export : goal.returns-in-Export
-returns-in-Export g c = rw (c.in-Export.is, ← c.self-in-Export.view_is) (record { filed = λ most changes. c.export_table.ensures.filed most changes c.self-in-Export.inside.kind (named c.self-in-Export.inside.cursors.items) })
-
-pub returns-in-Get : goal.returns-in-Get
-returns-in-Get g c =
-    let kind = c.self.inside.kind in
-    let t = any_table c.self.inside.tree in
-    let cursors = named c.self.inside.cursors.items in
-    let unrefused = unrefused-arm (slot_of kind t cursors) c.args.self.now c.args.cmd.now _ c.self.view_is c.in-Get.is (sym c.requires.unrefused) in
-    rw (c.in-Get.is, ← c.self.view_is) (record { filed = λ most changes. filed-served {E = ⊥} most kind t t cursors _ (Ok c.get.result) _ _ _ _ changes changes (plain-get (numbers_of c.in-Get.at)) unrefused (c.get.ensures.served changes) })
+returns-in-Export g c = rw (c.in-Export.is, ← c.self-in-Export.view_is)
+    (record {
+      filed = λ most changes. c.export_table.ensures.filed most changes c.self-in-Export.inside.kind
+          (named c.self-in-Export.inside.cursors.items);
+    })
 
 pub returns-in-Count : goal.returns-in-Count
 returns-in-Count g c =
-    let kind = c.self-in-Count.inside.kind in
-    let t = any_table c.self-in-Count.inside.tree in
-    let cursors = named c.self-in-Count.inside.cursors.items in
-    let unrefused = unrefused-arm (slot_of kind t cursors) c.args.self.now c.args.cmd.now _ c.self-in-Count.view_is c.in-Count.is (sym c.requires.unrefused) in
-    rw (c.in-Count.is, ← c.self-in-Count.view_is) (record { filed = λ most changes. filed-served {E = ⊥} most kind t t cursors _ (Ok c.count.result) _ _ _ _ changes changes plain-count unrefused (c.count.ensures.served c.args.visits.now changes) })
+    let kind = c.self.inside.kind in
+    let t = any_table c.self.inside.tree in
+    let cursors = named c.self.inside.cursors.items in
+    let unrefused = unrefused-arm (slot_of kind t cursors) c.args.self.now c.args.cmd.now _ c.self.view_is c.in-Count.is (sym c.requires.unrefused) in
+    rw (c.in-Count.is, ← c.self.view_is)
+    (record {
+      filed = λ most changes. filed-served {E = ⊥} most kind t t cursors _ (Ok c.count.result) _ _ _ _
+          changes changes plain-count unrefused (c.count.ensures.served c.args.visits.now changes);
+    })
 
 pub returns-in-Clear : goal.returns-in-Clear
 returns-in-Clear g c =
@@ -53,4 +56,8 @@ returns-in-Clear g c =
     let t = any_table c.self-in-Clear.inside.tree in
     let cursors = named c.self-in-Clear.inside.cursors.items in
     let unrefused = unrefused-arm (slot_of kind t cursors) c.args.self.now c.args.cmd.now _ c.self-in-Clear.view_is c.in-Clear.is (sym c.requires.unrefused) in
-    rw (c.in-Clear.is, ← c.self-in-Clear.view_is) (record { filed = λ most changes. filed-served {E = ⊥} most kind t (any_table c.clear.new.self) cursors _ (Ok c.clear.result) _ _ _ _ changes changes plain-clear unrefused (c.clear.ensures.served c.args.visits.now changes) })
+    rw (c.in-Clear.is, ← c.self-in-Clear.view_is)
+    (record {
+      filed = λ most changes. filed-served {E = ⊥} most kind t (any_table c.clear.new.self) cursors _
+          (Ok c.clear.result) _ _ _ _ changes changes plain-clear unrefused (c.clear.ensures.served c.args.visits.now changes);
+    })

@@ -16,8 +16,11 @@ pub enter-requires-clause-room : goal.enter-requires-clause-room
 enter-requires-clause-room c k =
     let items = c.self.inside.cursors.items in
     let name = c.args.name.now in
-    let unrefused = subst (λ x. early_refusal x (Command.Cursor name (numbers_of c.args.lo.now) (numbers_of c.args.hi.now)) ≡ None) (sym c.self.view_is) c.requires.unrefused in
-    room-in (slot_of c.self.inside.kind (any_table c.self.inside.tree) (named items)) name (numbers_of c.args.lo.now) (numbers_of c.args.hi.now) unrefused (length-map items (λ h. (h.name, cursor_of h.cursor)) ∙ k)
+    let unrefused = subst (λ x. early_refusal x
+    (Command.Cursor name (numbers_of c.args.lo.now) (numbers_of c.args.hi.now)) ≡ None) (sym c.self.view_is)
+    c.requires.unrefused in
+    room-in (slot_of c.self.inside.kind (any_table c.self.inside.tree) (named items)) name (numbers_of c.args.lo.now)
+    (numbers_of c.args.hi.now) unrefused (length-map items (λ h. (h.name, cursor_of h.cursor)) ∙ k)
 
 pub invariant_of-self : goal.invariant_of-self
 invariant_of-self c =
@@ -25,13 +28,21 @@ invariant_of-self c =
     let items = c.self.inside.cursors.items in
     let s = slot_of c.self.inside.kind t (named items) in
     let name = c.args.name.now in
-    let unrefused = subst (λ x. early_refusal x (Command.Cursor name (numbers_of c.args.lo.now) (numbers_of c.args.hi.now)) ≡ None) (sym c.self.view_is) c.requires.unrefused in
+    let unrefused = subst (λ x. early_refusal x
+    (Command.Cursor name (numbers_of c.args.lo.now) (numbers_of c.args.hi.now)) ≡ None) (sym c.self.view_is)
+    c.requires.unrefused in
     let inside = corners-in s name (numbers_of c.args.lo.now) (numbers_of c.args.hi.now) unrefused in
     let lo : length (numbers_of c.args.lo.now) ≡ t.dims = length-map c.args.lo.now number_of_coord ∙ c.requires.lo ∙ ap (λ x. x.dims) (sym c.self.view_is) in
     let hi : length (numbers_of c.args.hi.now) ≡ t.dims = length-map c.args.hi.now number_of_coord ∙ c.requires.hi ∙ ap (λ x. x.dims) (sym c.self.view_is) in
     let is = c.cursor-cursor.ensures.cursor in
     let held : Held = record { name = name; cursor = c.cursor-cursor.result } in
-    rw c.enter.ensures (slot-entered c.self.inside.kind t held items c.self.invariant (record { dims = c.cursor-cursor.ensures.dims; lo = rw is (point-in t.tree.width t.dims _ lo inside.0); hi = rw is (point-in t.tree.width t.dims _ hi inside.1); last = rw is tt })
+    rw c.enter.ensures (slot-entered c.self.inside.kind t held items c.self.invariant
+    (record {
+      dims = c.cursor-cursor.ensures.dims;
+      lo = rw is (point-in t.tree.width t.dims _ lo inside.0);
+      hi = rw is (point-in t.tree.width t.dims _ hi inside.1);
+      last = rw is tt;
+    })
     (λ k. room-in s name (numbers_of c.args.lo.now) (numbers_of c.args.hi.now) unrefused (length-map items (λ h. (h.name, cursor_of h.cursor)) ∙ k)))
 
 pub returns : goal.returns
@@ -40,7 +51,13 @@ returns c =
     let items = c.self.inside.cursors.items in
     let s = slot_of c.self.inside.kind t (named items) in
     let name = c.args.name.now in
-    let unrefused = subst (λ x. early_refusal x (Command.Cursor name (numbers_of c.args.lo.now) (numbers_of c.args.hi.now)) ≡ None) (sym c.self.view_is) c.requires.unrefused in
+    let unrefused = subst (λ x. early_refusal x
+    (Command.Cursor name (numbers_of c.args.lo.now) (numbers_of c.args.hi.now)) ≡ None) (sym c.self.view_is)
+    c.requires.unrefused in
     let held : Held = record { name = name; cursor = c.cursor-cursor.result } in
-    let is : named c.enter.new.cursors.items ≡ enter name (record { lo = numbers_of c.args.lo.now; hi = numbers_of c.args.hi.now; last = None }) (named items) = ap (λ xs. named xs) c.enter.ensures ∙ sym (under-entered (λ h. h.name) (λ h. cursor_of h.cursor) held items) ∙ ap (λ x. enter name x (named items)) c.cursor-cursor.ensures.cursor in
+    let is : named c.enter.new.cursors.items ≡
+    enter name (record { lo = numbers_of c.args.lo.now; hi = numbers_of c.args.hi.now; last = None })
+    (named items) = ap (λ xs. named xs) c.enter.ensures ∙
+    sym (under-entered (λ h. h.name) (λ h. cursor_of h.cursor) held items) ∙ ap (λ x. enter name x (named items))
+    c.cursor-cursor.ensures.cursor in
     rw (← c.self.view_is) (cursor-begun s name (numbers_of c.args.lo.now) (numbers_of c.args.hi.now) (named c.enter.new.cursors.items) unrefused is)
