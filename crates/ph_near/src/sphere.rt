@@ -9,7 +9,7 @@ ghost use Rattle.ph_node.specs.Kinds.{is_node};
 ghost use Rattle.ph_node.specs.Shown.{shown};
 ghost use Rattle.ph_node.specs.Split.{body_at};
 ghost use Rattle.ph_node.specs.Spots.{IsSpot, joined_digits};
-ghost use Rattle.ph_walk.specs.Area.{IsFound, AreDone, IsTold};
+ghost use Rattle.ph_walk.specs.Area.{IsFound, IsTold};
 ghost use Rattle.ph_near.specs.BallSphere.{sphere_at, center_of, points_of, reaches, IsOut};
 
 use crate::beyond::{is_point_beyond, is_region_beyond};
@@ -125,16 +125,6 @@ impl<P: Dims> SphereOf<P> {
         None
     }
 
-    // Whether an entry is the last one of its node.
-    #[inline(always)]
-    fn is_at_end(&self, known: &KnownOf<P>, node: NodeRefOf<'_, NodeOf<P>>, spot: Spot) -> bool
-        requires spot { IsSpot (entries (shown node)) spot }
-        ensures { result ≡ true → AreDone (points_of self.now) (shown node.entry) known.now.digits (spot.place + 1) }
-    {
-        let _ = known;
-        node.len() <= spot.place + 1
-    }
-
     // The distance of the point with the known digits, where it is within the radius.
     fn distance_within(&self, known: &KnownOf<P>) -> Option<u128>
         requires width { known.now.width ≡ self.now.width }
@@ -181,12 +171,12 @@ impl<P: Dims> Area<P> for SphereOf<P> {
     #[inline(always)]
     fn is_last(
         &self,
-        known: &KnownOf<P>,
+        _known: &KnownOf<P>,
         node: &NodeRefOf<'_, NodeOf<P>>,
         spot: Spot,
         _note: Masks,
     ) -> bool {
-        self.is_at_end(known, *node, spot)
+        node.len() <= spot.place + 1
     }
 
     fn test(&self, known: &KnownOf<P>) -> Option<u128> {
