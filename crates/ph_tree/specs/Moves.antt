@@ -34,16 +34,18 @@ pub record IsMoveOf {T : Type 0} (found : Option ℕ) (was after now : T) (befor
   pub kept : before ≤ later
   pub made : found ≡ None → OnOk result (before + 1 ≤ later)
 
--- what a move does to a table
-pub record IsMoved (was now : TreeTable) (from to : List ℤ) (before later : ℕ) (result : Result Moved AllocError) : Type 0 where
-  pub moved : OnOk result (now ≡ with_moved was from to)
-  pub answer : IfOk result (λ a. a ≡ move_answer was.table from to)
+-- What a move does to what keeps a table. Of the three states `was` is the one before it, `after` is that with the row moved, and `now` is the one that
+-- it leaves.
+pub record IsMoved {T : Type 0} (table : List Row) (from to : List ℤ) (was after now : T) (before later : ℕ)
+    (result : Result Moved AllocError) : Type 0 where
+  pub moved : OnOk result (now ≡ after)
+  pub answer : IfOk result (λ a. a ≡ move_answer table from to)
   pub err : OnErr result (now ≡ was)
-  pub absent : find was.table from ≡ None → IsOk result
-  pub taken : IsSome (find was.table to) → IsOk result
+  pub absent : find table from ≡ None → IsOk result
+  pub taken : IsSome (find table to) → IsOk result
   pub changes : later ≤ before + 4
   pub spared : OnErr result (later ≡ before)
-  pub idle : find was.table from ≡ None → later ≡ before
-  pub held : IsSome (find was.table to) → later ≡ before
+  pub idle : find table from ≡ None → later ≡ before
+  pub held : IsSome (find table to) → later ≡ before
   pub kept : before ≤ later
-  pub made : IsSome (find was.table from) → find was.table to ≡ None → OnOk result (before + 1 ≤ later)
+  pub made : IsSome (find table from) → find table to ≡ None → OnOk result (before + 1 ≤ later)

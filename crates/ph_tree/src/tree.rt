@@ -1,16 +1,16 @@
 //! The tree: a table in nodes.
 
-ghost use Rattle.std.specs.Prelude.{◌≡◌, ◌≢◌, ◌+◌, ◌-◌, ◌*◌, ◌^◌, ◌<◌, ◌≤◌, ◌↔◌, [], length, None, IfOk, OnOk, OnErr, IsErrOf, IsSome, IsOk, IsTrue, false};
+ghost use Rattle.std.specs.Prelude.{◌≡◌, ◌≢◌, ◌+◌, ◌-◌, ◌*◌, ◌^◌, ◌<◌, ◌≤◌, ◌↔◌, [], length, None, IsTrue, false};
 ghost use Rattle.std.specs.Option.{option_copied};
 ghost use Rattle.ph_specs.specs.Coordinate.{IsPoint};
 ghost use Rattle.ph_specs.specs.Lawful.{IsLawful, rows};
 ghost use Rattle.ph_specs.specs.Table.{IsTable, find};
 ghost use Rattle.ph_specs.specs.Shape.{shape};
 ghost use Rattle.ph_specs.specs.WorkSets.{all_nodes, path};
-ghost use Rattle.ph_table.specs.Rows.{put_answer};
 ghost use Rattle.ph_tree.specs.Tree.{with_row, without_row};
-ghost use Rattle.ph_tree.specs.Moves.{IsMoved};
-ghost use Rattle.ph_tree.specs.Rooms.{spare_wanted_in};
+ghost use Rattle.ph_tree.specs.Puts.{IsPutRow};
+ghost use Rattle.ph_tree.specs.Removals.{IsRemovedRow};
+ghost use Rattle.ph_tree.specs.Moves.{IsMoved, with_moved};
 
 use crate::compare::is_same_node;
 use crate::error::PutError;
@@ -202,19 +202,10 @@ impl<const D: usize> PhTree<D> {
         changes: &mut Steps<C>,
     ) -> Result<Put, PutError>
         requires { IsPoint self.old.width D p }
-        ensures put { OnOk result (self.new ≡ with_row self.old p.entry v) }
-        ensures answer { IfOk result (λ a. a ≡ put_answer (find self.old.table p.entry)) }
-        ensures err { OnErr result (self.new ≡ self.old) }
-        ensures full { IsErrOf result PutError.Full ↔ ((find self.old.table p.entry ≡ None) × (length self.old.table ≡ self.old.max)) }
-        ensures present { IsSome (find self.old.table p.entry) → IsOk result }
+        ensures done { IsPutRow self.old.table self.old.max p.entry self.old (with_row self.old p.entry v) self.new changes.old changes.new result }
         ensures visits { visits.new ≤ visits.old + 2 * length (path self.old.width D self.old.table p.entry) }
         ensures limit { visits.new ≤ visits.old + 2 * self.old.width }
         ensures later { visits.old ≤ visits.new }
-        ensures changes { changes.new ≤ changes.old + 2 }
-        ensures spared { OnErr result (changes.new ≡ changes.old) }
-        ensures kept { changes.old ≤ changes.new }
-        ensures made { IfOk result (λ a. a ≡ Put.New → changes.old + 1 ≤ changes.new) }
-        ensures replaced { IsSome (find self.old.table p.entry) → changes.new ≡ changes.old + 1 }
     {
         let key = KeyOf::new(self.width, p.as_slice());
         let room = self.len < self.max;
@@ -250,19 +241,10 @@ impl<const D: usize> PhTree<D> {
         changes: &mut Steps<C>,
     ) -> Result<Option<u64>, NoMemory>
         requires { IsPoint self.old.width D p.now }
-        ensures del { OnOk result (self.new ≡ without_row self.old p.now) }
-        ensures answer { IfOk result (λ a. a ≡ find self.old.table p.now) }
-        ensures err { OnErr result (self.new ≡ self.old) }
-        ensures absent { find self.old.table p.now ≡ None → IsOk result }
-        ensures lean { spare_wanted_in self.old.width D (shape self.old.width self.old.table) p.now ≡ 0 → IsOk result }
+        ensures done { IsRemovedRow self.old.width D self.old.table p.now self.old (without_row self.old p.now) self.new changes.old changes.new result }
         ensures visits { visits.new ≤ visits.old + 2 * length (path self.old.width D self.old.table p.now) }
         ensures limit { visits.new ≤ visits.old + 2 * self.old.width }
         ensures later { visits.old ≤ visits.new }
-        ensures changes { changes.new ≤ changes.old + 2 }
-        ensures idle { find self.old.table p.now ≡ None → changes.new ≡ changes.old }
-        ensures spared { OnErr result (changes.new ≡ changes.old) }
-        ensures kept { changes.old ≤ changes.new }
-        ensures made { IsSome (find self.old.table p.now) → OnOk result (changes.old + 1 ≤ changes.new) }
     {
         let key = KeyOf::new(self.width, p.as_slice());
         let mut removal = Removal {
@@ -293,7 +275,7 @@ impl<const D: usize> PhTree<D> {
     ) -> Result<Moved, NoMemory>
         requires from { IsPoint self.old.width D from.now }
         requires to { IsPoint self.old.width D to.now }
-        ensures done { IsMoved self.old self.new from.now to.now changes.old changes.new result }
+        ensures done { IsMoved self.old.table from.now to.now self.old (with_moved self.old from.now to.now) self.new changes.old changes.new result }
         ensures limit { visits.new ≤ visits.old + 6 * self.old.width }
         ensures later { visits.old ≤ visits.new }
     {

@@ -1,8 +1,9 @@
 -- What a tree that keeps its last edits is seen as.
-use Rattle.std.specs.Prelude.{◌≡◌, ◌≤◌, ℕ, length, Option}
+use Rattle.std.specs.Prelude.{◌≡◌, ◌≤◌, ◌+◌, ◌↔◌, ℕ, Bool, true, false, [], length, Option, Result, Ok, OnOk, OnErr}
 use Rattle.std.specs.List.{AllByRecursion as Each}
+use Rattle.std.specs.declared.alloc.AllocError.{AllocError}
 use Rattle.circular_buffer.specs.Buffer.{Buffer}
-use Rattle.ph_specs.specs.Past.{Past}
+use Rattle.ph_specs.specs.Past.{Past, back}
 use Rattle.ph_tree.specs.Tree.{TreeTable}
 use Rattle.ph_undo.specs.Steps.{past_of, IsStep, AreChanges}
 use Rattle.ph_undo.specs.Rings.{steps_in, room_in}
@@ -26,3 +27,15 @@ pub record IsKept (D : ℕ) (t : TreeTable) (depth : ℕ) (ring : Option (Buffer
   pub points : Each (IsStep t.width) (steps_in ring)
   pub fit : Each (λ table. length table ≤ t.max) (past_of t.width t.table (steps_in ring))
   pub changes : AreChanges t.width t.table (steps_in ring)
+
+-- What it does to a tree with its past to take the last edit back: `was` is before it, and `now` is what it leaves. `before` and `later` are the changes
+-- that were counted.
+pub record IsTakenBack (was now : Past) (before later : ℕ) (result : Result Bool AllocError) : Type 0 where
+  pub none : result ≡ Ok false ↔ (was.past ≡ [])
+  pub stays : was.past ≡ [] → now ≡ was
+  pub back : OnOk result (now ≡ back was 1)
+  pub err : OnErr result (now ≡ was)
+  pub changes : later ≤ before + 4
+  pub spared : OnErr result (later ≡ before)
+  pub kept : before ≤ later
+  pub made : result ≡ Ok true → before + 1 ≤ later

@@ -1,15 +1,13 @@
 //! A tree with its last edits.
 
-ghost use Rattle.std.specs.Prelude.{◌≡◌, ◌+◌, ◌*◌, ◌≤◌, ◌↔◌, [], length, None, Ok, true, false, IfOk, OnOk, OnErr, IsErrOf, IsSome, IsOk};
+ghost use Rattle.std.specs.Prelude.{◌≡◌, ◌+◌, ◌*◌, ◌≤◌, [], length, OnOk, OnErr, IsOk};
 ghost use Rattle.ph_specs.specs.Coordinate.{IsPoint};
-ghost use Rattle.ph_specs.specs.Past.{without_past, keep, back, put_kept, del_kept, move_kept};
-ghost use Rattle.ph_specs.specs.Shape.{shape};
-ghost use Rattle.ph_specs.specs.Table.{find};
+ghost use Rattle.ph_specs.specs.Past.{without_past, keep, put_kept, del_kept, move_kept};
 ghost use Rattle.ph_specs.specs.WorkSets.{path};
-ghost use Rattle.ph_table.specs.Rows.{put_answer};
-ghost use Rattle.ph_tree.specs.Moves.{move_answer};
-ghost use Rattle.ph_tree.specs.Rooms.{spare_wanted_in};
-ghost use Rattle.ph_undo.specs.Kept.{tree_of};
+ghost use Rattle.ph_tree.specs.Puts.{IsPutRow};
+ghost use Rattle.ph_tree.specs.Removals.{IsRemovedRow};
+ghost use Rattle.ph_tree.specs.Moves.{IsMoved};
+ghost use Rattle.ph_undo.specs.Kept.{tree_of, IsTakenBack};
 
 use crate::ring::{
     Ring, count, drop_all, drop_newest, newest, note_move, note_put, note_removal, ring_of,
@@ -128,19 +126,10 @@ impl<const D: usize> Kept<D> {
         changes: &mut Steps<C>,
     ) -> Result<Put, PutError>
         requires { IsPoint self.old.width D p }
-        ensures put { OnOk result (self.new ≡ put_kept self.old p.entry v) }
-        ensures answer { IfOk result (λ a. a ≡ put_answer (find self.old.table p.entry)) }
-        ensures err { OnErr result (self.new ≡ self.old) }
-        ensures full { IsErrOf result PutError.Full ↔ ((find self.old.table p.entry ≡ None) × (length self.old.table ≡ self.old.max)) }
-        ensures present { IsSome (find self.old.table p.entry) → IsOk result }
+        ensures done { IsPutRow self.old.table self.old.max p.entry self.old (put_kept self.old p.entry v) self.new changes.old changes.new result }
         ensures visits { visits.new ≤ visits.old + 2 * length (path self.old.width D self.old.table p.entry) }
         ensures limit { visits.new ≤ visits.old + 2 * self.old.width }
         ensures later { visits.old ≤ visits.new }
-        ensures changes { changes.new ≤ changes.old + 2 }
-        ensures spared { OnErr result (changes.new ≡ changes.old) }
-        ensures kept { changes.old ≤ changes.new }
-        ensures made { IfOk result (λ a. a ≡ Put.New → changes.old + 1 ≤ changes.new) }
-        ensures replaced { IsSome (find self.old.table p.entry) → changes.new ≡ changes.old + 1 }
     {
         // Uses that make known that the tree is a table, with at most so many rows.
         let _root = self.tree.root();
@@ -160,19 +149,10 @@ impl<const D: usize> Kept<D> {
         changes: &mut Steps<C>,
     ) -> Result<Option<u64>, NoMemory>
         requires { IsPoint self.old.width D p.now }
-        ensures del { OnOk result (self.new ≡ del_kept self.old p.now) }
-        ensures answer { IfOk result (λ a. a ≡ find self.old.table p.now) }
-        ensures err { OnErr result (self.new ≡ self.old) }
-        ensures absent { find self.old.table p.now ≡ None → IsOk result }
-        ensures lean { spare_wanted_in self.old.width D (shape self.old.width self.old.table) p.now ≡ 0 → IsOk result }
+        ensures done { IsRemovedRow self.old.width D self.old.table p.now self.old (del_kept self.old p.now) self.new changes.old changes.new result }
         ensures visits { visits.new ≤ visits.old + 2 * length (path self.old.width D self.old.table p.now) }
         ensures limit { visits.new ≤ visits.old + 2 * self.old.width }
         ensures later { visits.old ≤ visits.new }
-        ensures changes { changes.new ≤ changes.old + 2 }
-        ensures idle { find self.old.table p.now ≡ None → changes.new ≡ changes.old }
-        ensures spared { OnErr result (changes.new ≡ changes.old) }
-        ensures kept { changes.old ≤ changes.new }
-        ensures made { IsSome (find self.old.table p.now) → OnOk result (changes.old + 1 ≤ changes.new) }
     {
         // Uses that make known that the tree is a table, with at most so many rows.
         let _root = self.tree.root();
@@ -196,19 +176,9 @@ impl<const D: usize> Kept<D> {
     ) -> Result<Moved, NoMemory>
         requires from { IsPoint self.old.width D from.now }
         requires to { IsPoint self.old.width D to.now }
-        ensures moved { OnOk result (self.new ≡ move_kept self.old from.now to.now) }
-        ensures answer { IfOk result (λ a. a ≡ move_answer self.old.table from.now to.now) }
-        ensures err { OnErr result (self.new ≡ self.old) }
-        ensures absent { find self.old.table from.now ≡ None → IsOk result }
-        ensures taken { IsSome (find self.old.table to.now) → IsOk result }
+        ensures done { IsMoved self.old.table from.now to.now self.old (move_kept self.old from.now to.now) self.new changes.old changes.new result }
         ensures limit { visits.new ≤ visits.old + 6 * self.old.width }
         ensures later { visits.old ≤ visits.new }
-        ensures changes { changes.new ≤ changes.old + 4 }
-        ensures spared { OnErr result (changes.new ≡ changes.old) }
-        ensures idle { find self.old.table from.now ≡ None → changes.new ≡ changes.old }
-        ensures held { IsSome (find self.old.table to.now) → changes.new ≡ changes.old }
-        ensures kept { changes.old ≤ changes.new }
-        ensures made { IsSome (find self.old.table from.now) → find self.old.table to.now ≡ None → OnOk result (changes.old + 1 ≤ changes.new) }
     {
         // Uses that make known that the tree is a table, with at most so many rows.
         let _root = self.tree.root();
@@ -227,16 +197,9 @@ impl<const D: usize> Kept<D> {
         visits: &mut Steps<V>,
         changes: &mut Steps<C>,
     ) -> Result<bool, NoMemory>
-        ensures none { result ≡ Ok false ↔ (self.old.past ≡ []) }
-        ensures stays { self.old.past ≡ [] → self.new ≡ self.old }
-        ensures back { OnOk result (self.new ≡ back self.old 1) }
-        ensures err { OnErr result (self.new ≡ self.old) }
+        ensures done { IsTakenBack self.old self.new changes.old changes.new result }
         ensures visits { visits.new ≤ visits.old + 6 * self.old.width }
         ensures later { visits.old ≤ visits.new }
-        ensures changes { changes.new ≤ changes.old + 4 }
-        ensures spared { OnErr result (changes.new ≡ changes.old) }
-        ensures kept { changes.old ≤ changes.new }
-        ensures made { result ≡ Ok true → changes.old + 1 ≤ changes.new }
         ensures idle { self.old.past ≡ [] → (visits.new ≡ visits.old) × (changes.new ≡ changes.old) }
     {
         let Some(step) = newest(&self.ring) else {

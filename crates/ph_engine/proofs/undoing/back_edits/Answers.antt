@@ -12,12 +12,13 @@ loop-step-preserved g c =
     let more : c.loop-step._step < length c.args.kept.now.past = omega (arith, c.loop-step-test.true, c.requires) in
     let some = some-past c.args.kept.now c.loop-step._step more in
     let told = c.in_ok-back_one.field-0 in
-    let counted = c.in_ok-back_one.ensures.made (told-true (Ok told) told refl (λ e. some (ap (λ k. k.past) (sym so_far.state) ∙ c.in_ok-back_one.ensures.none.0 e))) in
+    let done = c.in_ok-back_one.ensures.done in
+    let counted = done.made (told-true (Ok told) told refl (λ e. some (ap (λ k. k.past) (sym so_far.state) ∙ done.none.0 e))) in
     record {
-      state = c.in_ok-back_one.ensures.back ∙ ap (λ k. back k 1) so_far.state ∙ back-next c.args.kept.now c.loop-step._step more;
+      state = done.back ∙ ap (λ k. back k 1) so_far.state ∙ back-next c.args.kept.now c.loop-step._step more;
       visits = visits-next c.args.visits.now c.loop-step.visits c.back_one.new.visits c.args.kept.now.width
           c.loop-step.kept.width c.loop-step._step so_far.visits one.visits width;
       later = omega (arith, so_far.later, one.later);
-      changes = omega (arith, so_far.changes, one.changes);
+      changes = omega (arith, so_far.changes, one.done.changes);
       made = omega (arith, so_far.made, counted);
     }

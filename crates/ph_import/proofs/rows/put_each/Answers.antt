@@ -11,7 +11,7 @@ unreachable-requires g c =
     let row : Row = get_or c.args.rows.now c.loop-row.row-index c.row-item.result in
     let full : (find c.loop-row.kept.table c.row.inside.point ≡ None) ×
     (length c.loop-row.kept.table ≡ c.loop-row.kept.max) =
-    c.put.ensures.full.0 (c.in-Err-Full.is ∙ ap Err c.in-Err-Full.field-0-is) in
+    c.put.ensures.done.full.0 (c.in-Err-Full.is ∙ ap Err c.in-Err-Full.field-0-is) in
     let at : c.row.inside.point ≡ row.point = ap (λ r. r.point) c.row.view_is ∙ ap (λ r. r.point) c.row-item.is in
     let state = c.loop-row.invariant.state in
     let some = take c.loop-row.row-index c.args.rows.now in

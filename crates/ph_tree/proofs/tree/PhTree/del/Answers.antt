@@ -1,5 +1,7 @@
-use Rattle.std.proofs.Common.{sym, ◌∙◌, refl, arith}
+use Rattle.std.proofs.Common.{sym, ◌∙◌, ap, refl, arith}
+use Rattle.std.proofs.lemmas.Result.{err_from_is_err_and}
 use Rattle.ph_specs.specs.Table.{find}
+use Rattle.ph_tree.specs.Tree.{tree_table}
 use Rattle.ph_tree.proofs.Walks.{not_none, some_none}
 use Rattle.ph_tree.proofs.Trees.{IsKeyed, found_is, wanted_is, opened_is, opened_few}
 use Rattle.ph_tree.proofs.Fewer.{removal}
@@ -32,15 +34,25 @@ pub invariant_of-self-in-None : goal.invariant_of-self-in-None
 invariant_of-self-in-None g c =
     (removal (keyed g (goal.at.invariant_of-self-in-None g c).After-del_in) c.in_ok-value.ensures.del.del c.in_ok-value.ensures.del.answer).kept c.in-None.is
 
-pub returns-in_err-value-clause-absent : goal.returns-in_err-value-clause-absent
-returns-in_err-value-clause-absent g c none =
-    let k = keyed g (goal.at.returns-in_err-value-clause-absent g c).After-del_in in
-    absurd (let no = c.in_err-value.ensures.del.absent (found_is k ∙ none) in cc)
-
-pub returns-in_err-value-clause-lean : goal.returns-in_err-value-clause-lean
-returns-in_err-value-clause-lean g c none =
-    let k = keyed g (goal.at.returns-in_err-value-clause-lean g c).After-del_in in
-    absurd (let no = c.in_err-value.ensures.roomy (wanted_is k ∙ none) in cc)
+pub returns-in_err-value-clause-done : goal.returns-in_err-value-clause-done
+returns-in_err-value-clause-done g c =
+    let k = keyed g (goal.at.returns-in_err-value-clause-done g c).After-del_in in
+    let ensured = c.in_err-value.ensures in
+    let del = ensured.del in
+    let is = err_from_is_err_and c.from_residual.result c.from_residual.ensures.1 in
+    rw is.1
+    (record {
+      del = tt;
+      answer = tt;
+      err = ap (λ t. tree_table g.row.D c.self.inside.width t c.self.inside.max) del.err ∙ c.self.view_is;
+      absent = λ none. absurd (let no = del.absent (found_is k ∙ none) in cc);
+      lean = λ none. absurd (let no = ensured.roomy (wanted_is k ∙ none) in cc);
+      changes = del.changes;
+      idle = λ _. del.spared;
+      spared = del.spared;
+      kept = del.kept;
+      made = λ _. tt;
+    })
 
 pub returns-in_err-value-clause-visits : goal.returns-in_err-value-clause-visits
 returns-in_err-value-clause-visits g c =
@@ -57,19 +69,21 @@ returns-in-Some g c =
     let del = ensured.del in
     let row = removal k del.del del.answer in
     record {
-      del = row.table;
-      answer = sym c.in-Some.is ∙ row.answer;
-      err = tt;
-      absent = λ _. refl;
-      lean = λ _. refl;
+      done = record {
+        del = row.table;
+        answer = sym c.in-Some.is ∙ row.answer;
+        err = tt;
+        absent = λ _. refl;
+        lean = λ _. refl;
+        changes = omega arith;
+        idle = λ none. some_none (sym c.in-Some.is ∙ row.answer ∙ none);
+        spared = tt;
+        kept = del.kept;
+        made = λ _. del.made (rw c.in-Some.is refl);
+      };
       visits = omega (arith, ensured.visits, opened_is k);
       limit = omega (arith, ensured.visits, opened_few k);
       later = ensured.later;
-      changes = omega arith;
-      idle = λ none. some_none (sym c.in-Some.is ∙ row.answer ∙ none);
-      spared = tt;
-      kept = del.kept;
-      made = λ _. del.made (rw c.in-Some.is refl);
     }
 
 pub returns : goal.returns
@@ -79,17 +93,19 @@ returns g c =
     let del = ensured.del in
     let row = removal k del.del del.answer in
     record {
-      del = row.table;
-      answer = sym c.in-None.is ∙ row.answer;
-      err = tt;
-      absent = λ _. refl;
-      lean = λ _. refl;
+      done = record {
+        del = row.table;
+        answer = sym c.in-None.is ∙ row.answer;
+        err = tt;
+        absent = λ _. refl;
+        lean = λ _. refl;
+        changes = omega arith;
+        idle = λ none. del.idle (found_is k ∙ none);
+        spared = tt;
+        kept = del.kept;
+        made = λ some. absurd (not_none (find c.args.self.now.table c.args.p.now) (sym row.answer ∙ c.in-None.is) some);
+      };
       visits = omega (arith, ensured.visits, opened_is k);
       limit = omega (arith, ensured.visits, opened_few k);
       later = ensured.later;
-      changes = omega arith;
-      idle = λ none. del.idle (found_is k ∙ none);
-      spared = tt;
-      kept = del.kept;
-      made = λ some. absurd (not_none (find c.args.self.now.table c.args.p.now) (sym row.answer ∙ c.in-None.is) some);
     }

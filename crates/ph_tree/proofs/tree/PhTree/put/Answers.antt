@@ -42,19 +42,21 @@ returns-in-Ok-New g c =
     let ensured = rw c.in-Ok-New.field-0-is at c.in-Ok-New.ensures in
     let put = ensured.put in
     record {
-      put = put_table k (omega arith) (put.put refl);
-      answer = put.answer ∙ ap put_answer (found_is k);
-      err = tt;
-      full = full_when k no_error put.full put.refused;
-      present = λ _. refl;
+      done = record {
+        put = put_table k (omega arith) (put.put refl);
+        answer = put.answer ∙ ap put_answer (found_is k);
+        err = tt;
+        full = full_when k no_error put.full put.refused;
+        present = λ _. refl;
+        changes = omega arith;
+        spared = tt;
+        kept = put.kept;
+        made = put.made;
+        replaced = λ some. put.replaced refl (subst IsSome (sym (found_is k)) some);
+      };
       visits = omega (arith, ensured.visits, opened_is k);
       limit = omega (arith, ensured.visits, opened_few k);
       later = ensured.later;
-      changes = omega arith;
-      spared = tt;
-      kept = put.kept;
-      made = put.made;
-      replaced = λ some. put.replaced refl (subst IsSome (sym (found_is k)) some);
     }
 
 pub returns-in-Ok-Old : goal.returns-in-Ok-Old
@@ -63,19 +65,21 @@ returns-in-Ok-Old g c =
     let ensured = rw c.in-Ok-Old.field-0-is at c.in-Ok-Old.ensures in
     let put = ensured.put in
     record {
-      put = put_table k (omega arith) (put.put refl);
-      answer = put.answer ∙ ap put_answer (found_is k);
-      err = tt;
-      full = full_when k no_error put.full put.refused;
-      present = λ _. refl;
+      done = record {
+        put = put_table k (omega arith) (put.put refl);
+        answer = put.answer ∙ ap put_answer (found_is k);
+        err = tt;
+        full = full_when k no_error put.full put.refused;
+        present = λ _. refl;
+        changes = omega arith;
+        spared = tt;
+        kept = put.kept;
+        made = put.made;
+        replaced = λ some. put.replaced refl (subst IsSome (sym (found_is k)) some);
+      };
       visits = omega (arith, ensured.visits, opened_is k);
       limit = omega (arith, ensured.visits, opened_few k);
       later = ensured.later;
-      changes = omega arith;
-      spared = tt;
-      kept = put.kept;
-      made = put.made;
-      replaced = λ some. put.replaced refl (subst IsSome (sym (found_is k)) some);
     }
 
 pub returns : goal.returns
@@ -85,17 +89,19 @@ returns g c =
     let put = ensured.put in
     let none : find c.args.self.now.table c.args.p ≡ None = sym (found_is k) ∙ put.absent in
     record {
-      put = tt;
-      answer = tt;
-      err = ap (λ t. tree_table g.row.D c.self.inside.width t c.self.inside.max) put.err ∙ c.self.view_is;
-      full = full_when k (λ _. put.absent) put.full put.refused;
-      present = λ some. rw none at some;
+      done = record {
+        put = tt;
+        answer = tt;
+        err = ap (λ t. tree_table g.row.D c.self.inside.width t c.self.inside.max) put.err ∙ c.self.view_is;
+        full = full_when k (λ _. put.absent) put.full put.refused;
+        present = λ some. rw none at some;
+        changes = omega arith;
+        spared = put.spared;
+        kept = put.kept;
+        made = tt;
+        replaced = λ some. absurd (not_none (find c.args.self.now.table c.args.p) none some);
+      };
       visits = omega (arith, ensured.visits, opened_is k);
       limit = omega (arith, ensured.visits, opened_few k);
       later = ensured.later;
-      changes = omega arith;
-      spared = put.spared;
-      kept = put.kept;
-      made = tt;
-      replaced = λ some. absurd (not_none (find c.args.self.now.table c.args.p) none some);
     }

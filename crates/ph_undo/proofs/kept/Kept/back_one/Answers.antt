@@ -1,10 +1,10 @@
-use Rattle.std.proofs.Common.{◌≡◌, [], ◌∙◌, Ok, Err, false, drop, sym, ap, subst, refl, arith, rules}
+use Rattle.std.proofs.Common.{◌≡◌, [], ◌∙◌, drop, sym, ap, subst, refl, arith, rules}
 use Rattle.ph_specs.specs.Past.{back}
 use Rattle.ph_undo.specs.Rings.{steps_in}
-use Rattle.ph_undo.specs.Kept.{IsKept}
+use Rattle.ph_undo.specs.Kept.{kept_of, IsKept}
 use Rattle.ph_undo.proofs.Noted.{first-none, first-some, first_point, first_fits, first_changes, is_kept-back, kept-back, past-some, past-none, back-none}
 use Rattle.ph_undo.proofs.kept.Kept.back_one.Given.{Over}
-use Rattle.ph_undo.proofs.kept.Kept.back_one.Goals.{In_default, In-Err}
+use Rattle.ph_undo.proofs.kept.Kept.back_one.Goals.{In_default, After-take_back}
 use Rattle.ph_undo.proofs.kept.Kept.back_one.Goals as goal
 
 -- ---- nothing is kept
@@ -14,11 +14,18 @@ no_past g c =
     sym (ap (λ k. k.past) c.self.view_is) ∙ past-none {D = g.row.D} c.self.inside.tree c.self.inside.ring
     (first-none (steps_in c.self.inside.ring) (sym c.newest.ensures ∙ c.in_default.is))
 
-pub returns-in_default-clause-none : goal.returns-in_default-clause-none
-returns-in_default-clause-none g c = (λ _. no_past g c, λ _. refl)
-
-pub returns-in_default-clause-back : goal.returns-in_default-clause-back
-returns-in_default-clause-back g c = back-none c.args.self.now (no_past g c)
+pub returns-in_default-clause-done : goal.returns-in_default-clause-done
+returns-in_default-clause-done g c =
+    record {
+      none = (λ _. no_past g c, λ _. refl);
+      stays = λ _. refl;
+      back = back-none c.args.self.now (no_past g c);
+      err = tt;
+      changes = omega arith;
+      spared = tt;
+      kept = omega arith;
+      made = λ e. absurd (let no = e in cc);
+    }
 
 -- ---- the newest inverse
 
@@ -48,28 +55,46 @@ invariant_of-self g c =
     c.self.inside.ring c.self.invariant is c.take_back.new.tree c.in-Ok.ensures.undone c.drop_newest.new.ring
     c.drop_newest.ensures.steps c.drop_newest.ensures.room
 
-pub returns-in-Ok-clause-back : goal.returns-in-Ok-clause-back
-returns-in-Ok-clause-back g c =
+some_past : (g : Over) (c : After-take_back g) → c.args.self.now.past ≡ [] → ⊥
+some_past g c e =
     let is = first-some (steps_in c.self.inside.ring) c.in-Some.step (sym c.newest.ensures ∙ c.in-Some.is) in
-    kept-back c.self.inside.tree c.self.inside.depth c.in-Some.step (drop 1 (steps_in c.self.inside.ring))
-    c.self.inside.ring is c.take_back.new.tree c.in-Ok.ensures.undone c.drop_newest.new.ring c.drop_newest.ensures.steps
-    ∙ ap (λ k. back k 1) c.self.view_is
+    past-some c.self.inside.tree c.in-Some.step (drop 1 (steps_in c.self.inside.ring)) c.self.inside.ring is (ap (λ k. k.past) c.self.view_is ∙ e)
+
+pub returns-in-Ok-clause-done : goal.returns-in-Ok-clause-done
+returns-in-Ok-clause-done g c =
+    let some = some_past g (goal.at.returns-in-Ok-clause-done g c).After-take_back in
+    let is = first-some (steps_in c.self.inside.ring) c.in-Some.step (sym c.newest.ensures ∙ c.in-Some.is) in
+    record {
+      none = (λ e. absurd (let no = e in cc), λ e. absurd (some e));
+      stays = λ e. absurd (some e);
+      back = kept-back c.self.inside.tree c.self.inside.depth c.in-Some.step (drop 1 (steps_in c.self.inside.ring))
+          c.self.inside.ring is c.take_back.new.tree c.in-Ok.ensures.undone c.drop_newest.new.ring c.drop_newest.ensures.steps
+          ∙ ap (λ k. back k 1) c.self.view_is;
+      err = tt;
+      changes = c.in-Ok.ensures.changes;
+      spared = tt;
+      kept = c.in-Ok.ensures.kept;
+      made = λ _. c.in-Ok.ensures.made;
+    }
 
 -- ---- memory was missing
 
 pub invariant_of-self-in-Err : goal.invariant_of-self-in-Err
 invariant_of-self-in-Err g c = subst (λ t. IsKept g.row.D t c.self.inside.depth c.self.inside.ring) (sym c.in-Err.ensures.err) c.self.invariant
 
-some_past : (g : Over) (c : In-Err g) → c.args.self.now.past ≡ [] → ⊥
-some_past g c e =
-    let is = first-some (steps_in c.self.inside.ring) c.in-Some.step (sym c.newest.ensures ∙ c.in-Some.is) in
-    past-some c.self.inside.tree c.in-Some.step (drop 1 (steps_in c.self.inside.ring)) c.self.inside.ring is (ap (λ k. k.past) c.self.view_is ∙ e)
-
-pub returns-in-Err-clause-none : goal.returns-in-Err-clause-none
-returns-in-Err-clause-none g c = (λ e. absurd (no e), λ e. absurd (some_past g c e))
-  where
-    no : Err c.in-Err.error ≡ Ok false → ⊥
-    no e = cc
+pub returns-in-Err-clause-done : goal.returns-in-Err-clause-done
+returns-in-Err-clause-done g c =
+    let some = some_past g (goal.at.returns-in-Err-clause-done g c).After-take_back in
+    record {
+      none = (λ e. absurd (let no = e in cc), λ e. absurd (some e));
+      stays = λ e. absurd (some e);
+      back = tt;
+      err = ap (λ t. kept_of t c.self.inside.depth c.self.inside.ring) c.in-Err.ensures.err ∙ c.self.view_is;
+      changes = c.in-Err.ensures.changes;
+      spared = c.in-Err.ensures.spared;
+      kept = c.in-Err.ensures.kept;
+      made = λ e. absurd (let no = e in cc);
+    }
 
 pub returns-in-Err-clause-idle : goal.returns-in-Err-clause-idle
-returns-in-Err-clause-idle g c e = absurd (some_past g c e)
+returns-in-Err-clause-idle g c e = absurd (some_past g (goal.at.returns-in-Err-clause-idle g c).After-take_back e)

@@ -1,11 +1,14 @@
 use Rattle.std.proofs.Common.{◌≡◌, ◌∙◌, sym, ap, subst, arith}
-use Rattle.std.specs.Prelude.{Some}
+use Rattle.std.specs.Prelude.{Some, Ok}
+use Rattle.std.proofs.lemmas.Result.{err_from_is_err_and}
 use Rattle.ph_specs.specs.Coordinate.{IsPoint}
 use Rattle.ph_specs.specs.Past.{del_kept}
 use Rattle.ph_specs.specs.Table.{find, del}
 use Rattle.ph_specs.proofs.laws.Edits.{del-absent}
+use Rattle.ph_tree.specs.Removals.{IsRemovedRow}
 use Rattle.ph_undo.specs.Kept.{kept_of, IsKept}
 use Rattle.ph_undo.specs.declared.step.Step.TheVariants.{Restore}
+use Rattle.ph_undo.proofs.Carried.{del-carried}
 use Rattle.ph_undo.proofs.WhichRemovals.{del-edit, del-idle}
 use Rattle.ph_undo.proofs.Noted.{IsNoted, noted, with_table}
 use Rattle.ph_undo.proofs.Undone.{del-undone}
@@ -14,7 +17,7 @@ use Rattle.ph_undo.proofs.kept.Kept.del.Goals.{After-note_removal, In_default}
 use Rattle.ph_undo.proofs.kept.Kept.del.Goals as goal
 
 found : (g : Over) (c : After-note_removal g) → find c.self.inside.tree.table c.args.p.now ≡ Some c.in-Some.value
-found g c = sym c.in_ok-gone.ensures.answer ∙ c.in-Some.is
+found g c = sym c.in_ok-gone.ensures.done.answer ∙ c.in-Some.is
 
 del_noted : (g : Over) (c : After-note_removal g) →
     IsNoted g.row.D c.self.inside.tree (del c.self.inside.tree.table c.args.p.now) c.self.inside.depth
@@ -30,26 +33,39 @@ del_noted g c =
 -- no row was there
 stays : (g : Over) (c : In_default g) → c.del.new.self ≡ c.self.inside.tree
 stays g c =
-    c.in_ok-gone.ensures.del
-    ∙ ap (with_table c.self.inside.tree) (del-absent c.self.inside.tree.table c.args.p.now (sym c.in_ok-gone.ensures.answer ∙ c.in_default.is))
+    c.in_ok-gone.ensures.done.del
+    ∙ ap (with_table c.self.inside.tree) (del-absent c.self.inside.tree.table c.args.p.now (sym c.in_ok-gone.ensures.done.answer ∙ c.in_default.is))
 
 pub invariant_of-self-in-Some : goal.invariant_of-self-in-Some
 invariant_of-self-in-Some g c =
-    subst (λ t. IsKept g.row.D t c.self.inside.depth c.note_removal.new.ring) (sym c.in_ok-gone.ensures.del) (del_noted g c).kept
+    subst (λ t. IsKept g.row.D t c.self.inside.depth c.note_removal.new.ring) (sym c.in_ok-gone.ensures.done.del) (del_noted g c).kept
 
 pub invariant_of-self-in_default : goal.invariant_of-self-in_default
 invariant_of-self-in_default g c =
     subst (λ t. IsKept g.row.D t c.self.inside.depth c.self.inside.ring) (sym (stays g c)) c.self.invariant
 
-pub returns-in-Some-clause-del : goal.returns-in-Some-clause-del
-returns-in-Some-clause-del g c =
-    ap (λ t. kept_of t c.self.inside.depth c.note_removal.new.ring) c.in_ok-gone.ensures.del
+pub returns-in-Some-clause-done : goal.returns-in-Some-clause-done
+returns-in-Some-clause-done g c =
+    let done = c.in_ok-gone.ensures.done in
+    let k = c.args.self.now in
+    let left = kept_of c.del.new.self c.self.inside.depth c.note_removal.new.ring in
+    subst (λ o. IsRemovedRow k.width g.row.D k.table c.args.p.now k (del_kept k c.args.p.now) left c.args.changes.now c.del.new.changes (Ok o)) c.in-Some.is
+    (del-carried c.self.view_is left g.row.D c.args.p.now _ done
+    (ap (λ t. kept_of t c.self.inside.depth c.note_removal.new.ring) done.del
     ∙ (del_noted g c).view
-    ∙ del-edit (kept_of c.self.inside.tree c.self.inside.depth c.self.inside.ring) c.args.p.now c.in-Some.value (found g c)
-    ∙ ap (λ k. del_kept k c.args.p.now) c.self.view_is
+    ∙ del-edit (kept_of c.self.inside.tree c.self.inside.depth c.self.inside.ring) c.args.p.now c.in-Some.value (found g c)) tt)
 
-pub returns-in_default-clause-del : goal.returns-in_default-clause-del
-returns-in_default-clause-del g c =
-    ap (λ t. kept_of t c.self.inside.depth c.self.inside.ring) (stays g c)
-    ∙ del-idle (kept_of c.self.inside.tree c.self.inside.depth c.self.inside.ring) c.args.p.now (sym c.in_ok-gone.ensures.answer ∙ c.in_default.is)
-    ∙ ap (λ k. del_kept k c.args.p.now) c.self.view_is
+pub returns-in_default-clause-done : goal.returns-in_default-clause-done
+returns-in_default-clause-done g c =
+    let done = c.in_ok-gone.ensures.done in
+    del-carried c.self.view_is (kept_of c.del.new.self c.self.inside.depth c.self.inside.ring) g.row.D c.args.p.now _ done
+    (ap (λ t. kept_of t c.self.inside.depth c.self.inside.ring) (stays g c)
+    ∙ del-idle (kept_of c.self.inside.tree c.self.inside.depth c.self.inside.ring) c.args.p.now (sym done.answer ∙ c.in_default.is)) tt
+
+pub returns-in_err-gone-clause-done : goal.returns-in_err-gone-clause-done
+returns-in_err-gone-clause-done g c =
+    let done = c.in_err-gone.ensures.done in
+    let is = err_from_is_err_and c.from_residual.result c.from_residual.ensures.1 in
+    rw is.1
+    (del-carried c.self.view_is (kept_of c.del.new.self c.self.inside.depth c.self.inside.ring) g.row.D c.args.p.now _ done tt
+    (ap (λ t. kept_of t c.self.inside.depth c.self.inside.ring) done.err))

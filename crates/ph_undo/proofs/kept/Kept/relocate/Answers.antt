@@ -1,4 +1,5 @@
 use Rattle.std.proofs.Common.{◌≡◌, ◌∙◌, sym, ap, subst, arith, Bool, true, false, cond, ◌∷◌, take, inl, inr}
+use Rattle.std.proofs.lemmas.Result.{err_from_is_err_and}
 use Rattle.ph_specs.specs.Coordinate.{IsPoint}
 use Rattle.ph_specs.specs.Past.{move_kept}
 use Rattle.ph_specs.specs.Table.{find, move}
@@ -6,6 +7,7 @@ use Rattle.ph_specs.proofs.laws.Put.{either}
 use Rattle.ph_undo.specs.Kept.{kept_of, IsKept}
 use Rattle.ph_undo.specs.Rings.{steps_in, room_in}
 use Rattle.ph_undo.specs.declared.step.Step.TheVariants.{Return}
+use Rattle.ph_undo.proofs.Carried.{move-carried}
 use Rattle.ph_undo.proofs.Noted.{noted, with_table, is_kept-same, kept-same}
 use Rattle.ph_undo.proofs.Undone.{move-undone, move-changes}
 use Rattle.ph_undo.proofs.WhichMoves.{moved-is, steps-move, move-edit, move-idle, move-stays, moves_by}
@@ -73,8 +75,16 @@ pub invariant_of-self-2 : goal.invariant_of-self-2
 invariant_of-self-2 g c =
     subst (λ t. IsKept g.row.D t c.self.inside.depth c.note_move.new.ring) (sym c.in_ok-moved.ensures.done.moved) (left g c).kept
 
-pub returns-clause-moved : goal.returns-clause-moved
-returns-clause-moved g c =
-    ap (λ t. kept_of t c.self.inside.depth c.note_move.new.ring) c.in_ok-moved.ensures.done.moved
-    ∙ (left g c).view
-    ∙ ap (λ k. move_kept k c.args.from.now c.args.to.now) c.self.view_is
+pub returns-clause-done : goal.returns-clause-done
+returns-clause-done g c =
+    let done = c.in_ok-moved.ensures.done in
+    move-carried c.self.view_is (kept_of c.relocate.new.self c.self.inside.depth c.note_move.new.ring) c.args.from.now c.args.to.now _ done
+    (ap (λ t. kept_of t c.self.inside.depth c.note_move.new.ring) done.moved ∙ (left g c).view) tt
+
+pub returns-in_err-moved-clause-done : goal.returns-in_err-moved-clause-done
+returns-in_err-moved-clause-done g c =
+    let done = c.in_err-moved.ensures.done in
+    let is = err_from_is_err_and c.from_residual.result c.from_residual.ensures.1 in
+    rw is.1
+    (move-carried c.self.view_is (kept_of c.relocate.new.self c.self.inside.depth c.self.inside.ring) c.args.from.now c.args.to.now _ done tt
+    (ap (λ t. kept_of t c.self.inside.depth c.self.inside.ring) done.err))
