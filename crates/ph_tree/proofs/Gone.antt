@@ -1,18 +1,17 @@
 -- A removal by the step that it takes at a node.
-use Rattle.std.proofs.Common.{length, ◌≡◌, ◌≢◌, ℕ, zero, suc, ◌+◌, ◌-◌, ◌<◌, ◌≤◌, List, [], ◌∷◌, Bool, true, false}
-use Rattle.std.proofs.Common.{not, cond, refl, arith, ap, sym, ◌∙◌, subst, ne_eqb, eq-eqb, lt-ltb}
-use Rattle.std.specs.Prelude.{ℤ, Some, None, Option, slice_get, position, unwrap_or, ◌==◌, if◌then◌else◌}
+use Rattle.std.proofs.Common.{length, ◌≡◌, ℕ, zero, suc, ◌+◌, ◌-◌, ◌<◌, ◌≤◌, List, [], ◌∷◌}
+use Rattle.std.proofs.Common.{not, cond, inl, inr, refl, arith, ap, sym, ◌∙◌, subst, ne_eqb, eq-eqb, lt-ltb}
+use Rattle.std.specs.Prelude.{ℤ, Some, None, Option, slice_get, position, unwrap_or}
 use Rattle.std.specs.List.{position_or_len}
 use Rattle.ph_specs.specs.ZOrder.{address}
 use Rattle.ph_specs.specs.Node.{Entries, end, point, child, Entry, What, value, node, PlainNode, entries, listed, node_of}
 use Rattle.ph_specs.specs.Shape.{digits_below, digits_between}
 use Rattle.ph_specs.specs.Lawful.{IsLawful, IsLawfulFrom, count, put_together}
-use Rattle.ph_specs.specs.PutTree.{same_digits, find_node, find_tree}
-use Rattle.ph_specs.specs.DelTree.{del_entries, merged_child, del_node, del_tree}
+use Rattle.ph_specs.specs.PutTree.{find_node, find_tree}
+use Rattle.ph_specs.specs.DelTree.{del_node, del_tree}
 use Rattle.ph_specs.specs.EntryEdits.{has_address, with_child, what_at, without, merged}
 use Rattle.ph_specs.proofs.lemmas.PointDigits.{same_digits-refl}
 use Rattle.ph_specs.proofs.laws.EntryLists.{listed-chained}
-use Rattle.ph_specs.proofs.laws.Unpacked.{child_nodes}
 use Rattle.ph_specs.proofs.laws.EntryEdits as laws
 use Rattle.ph_specs.proofs.laws.DelEntries.{IsEntryAt, IsLawfulChild, lawful-child, del_node-none, del_node-point}
 use Rattle.ph_specs.proofs.laws.DelEntries.{del_node-other_point, del_node-other_child, del_node-child, del_node-pair}
@@ -26,9 +25,9 @@ use Rattle.ph_node.specs.declared.reads.NodeRefOf.{NodeRefOf}
 use Rattle.ph_node.specs.declared.spots.Spot.{Spot}
 use Rattle.ph_tree.specs.declared.step.StepOf.{StepOf}
 use Rattle.ph_tree.specs.declared.step.StepOf.TheVariants.{Absent, Same, Below, Other}
-use Rattle.ph_tree.specs.Step.{IsAt, IsApart, IsStep, IsOwn, IsAmong}
+use Rattle.ph_tree.specs.Step.{IsAt, IsApart, IsStep, IsOnly}
 use Rattle.ph_tree.proofs.Steps.{what_got, body_got, within, spot_at}
-use Rattle.ph_tree.proofs.Walks.{no_entry, not_same, least-address, IsStepAt, step_as, below_digits, way_below}
+use Rattle.ph_tree.proofs.Walks.{no_entry, not_same, least-address, IsStepAt, IsMissing, step_as, below_digits, way_below}
 
 -- ---- the place of an entry
 
@@ -83,6 +82,11 @@ empty (x ∷ es) e = absurd (omega (arith, e))
 
 -- ---- what is found among the entries
 
+-- the entry at a spot is the point, with this value
+abbrev pub IsOwn : ℕ → List ℤ → PlainNode → Spot → ℕ → Type 0
+IsOwn w p n s v =
+    (x : Entry) × IsAt w p n s x × (x.what ≡ value v) × (x.body ≡ digits_below w n.level p)
+
 module _ (w dims : ℕ) (p : List ℤ) (t : PlainNode) (ok : IsLawfulFrom dims t.level 0 t.chain) where
   module _ (spot : Spot) (v : ℕ) (s : IsOwn w p t spot v) where
     pub own_found : find_node w t p ≡ Some v
@@ -93,22 +97,11 @@ module _ (w dims : ℕ) (p : List ℤ) (t : PlainNode) (ok : IsLawfulFrom dims t
     own_del =
         sym (del_node-point w t p spot.place s.0 v (entry_at w dims p t spot s.0 ok s.1) s.2 (same_digits-refl s.0.body (digits_below w t.level p) s.3))
 
-    own_inside : spot.place < length (entries t)
-    own_inside = within (entries t) spot.place s.0 s.1.0
-
     pub own_length : length (entries (del_node w t p)) + 1 ≡ length (entries t)
     own_length =
         let e : length (entries (del_node w t p)) ≡ length (without (entries t) spot.place) =
         ap (λ u. length (entries u)) (sym own_del) ∙ length-node t.level (without (entries t) spot.place) in
-        omega (arith, e, length-without (entries t) spot.place own_inside)
-
-    -- where entries are left, there are two
-    pub own_many : 1 ≤ length (entries (del_node w t p)) → 2 ≤ length (entries t)
-    own_many l = omega (arith, l, own_length)
-
-    -- the only entry leaves nothing
-    pub own_last : length (entries t) ≡ 1 → del_tree w dims (Some t) p ≡ None
-    own_last l = del_tree-none w dims t p (empty (entries (del_node w t p)) (omega (arith, l, own_length)))
+        omega (arith, e, length-without (entries t) spot.place (within (entries t) spot.place s.0 s.1.0))
 
   other_del_by : (spot : Spot) (x : Entry) (held : What) → IsAt w p t spot x → x.what ≡ held → IsApart w p t.level x.body held → del_node w t p ≡ t
   other_del_by spot x (value u) at q a =
@@ -117,60 +110,20 @@ module _ (w dims : ℕ) (p : List ℤ) (t : PlainNode) (ok : IsLawfulFrom dims t
       del_node-other_child w t p spot.place x m (entry_at w dims p t spot x ok at) q (not_same x.body (digits_between w t.level m.level p) a)
 
   -- a node of so many entries in which none is the point keeps so many
-  pub none_among : (many : ℕ) → position (has_address (address w p t.level)) (entries t) ≡ None → many ≤ length (entries t) → many ≤ length (entries (del_node w t p))
-  none_among many n l =
-      let e : length (entries (del_node w t p)) ≡ length (entries t) = ap (λ u. length (entries u)) (del_node-none w t p n) in omega (arith, l, e)
+  module _ (many : ℕ) (l : many ≤ length (entries t)) where
+    pub none_many : position (has_address (address w p t.level)) (entries t) ≡ None → many ≤ length (entries (del_node w t p))
+    none_many n = subst (λ u. many ≤ length (entries u)) (sym (del_node-none w t p n)) l
 
-  pub other_among : (spot : Spot) (many : ℕ) (x : Entry) (u : ℕ) → IsAt w p t spot x → x.what ≡ value u →
-      (x.body ≡ digits_below w t.level p → ⊥) → many ≤ length (entries t) → many ≤ length (entries (del_node w t p))
-  other_among spot many x u at q a l =
-      let e : length (entries (del_node w t p)) ≡ length (entries t) = ap (λ u. length (entries u)) (other_del_by spot x (value u) at q a) in omega (arith, l, e)
+    pub other_many : (spot : Spot) (x : Entry) (u : ℕ) → IsAt w p t spot x → x.what ≡ value u →
+        (x.body ≡ digits_below w t.level p → ⊥) → many ≤ length (entries (del_node w t p))
+    other_many spot x u at q a = subst (λ n. many ≤ length (entries n)) (sym (other_del_by spot x (value u) at q a)) l
 
-  pub child_among : (spot : Spot) (many : ℕ) (x : Entry) (m : PlainNode) → IsAt w p t spot x → x.what ≡ node m →
-      many ≤ length (entries t) → many ≤ length (entries (del_node w t p))
-  child_among spot many x m at q l =
-      omega (arith, l, length-del_node-child w t p spot.place x m (entry_at w dims p t spot x ok at) q)
+    pub child_many : (spot : Spot) (x : Entry) (m : PlainNode) → IsAt w p t spot x → x.what ≡ node m → many ≤ length (entries (del_node w t p))
+    child_many spot x m at q = omega (arith, l, length-del_node-child w t p spot.place x m (entry_at w dims p t spot x ok at) q)
 
-  -- one of another number of entries
-  pub other_number : (n many : ℕ) → n ≡ length (entries t) → n ≢ many → many ≤ length (entries t) → many ≤ length (entries (del_node w t p))
-  other_number n many e d l = omega (arith, e, d, l, length-del_node w t p)
-
--- ---- a node of children alone
-
-few-children : (e : Entries) → length (child_nodes e) ≤ length (listed e)
-few-children end = omega arith
-few-children (point a body v rest) = omega (arith, few-children rest)
-few-children (child a body c chain rest) = omega (arith, few-children rest)
-
-merged-long : (a c : ℕ) (body : List ℕ) (chain rest : Entries) → length (listed (merged_child a body c chain rest)) ≡ suc (length (listed rest))
-merged-long a c body end rest = refl
-merged-long a c body (point d low v end) rest = refl
-merged-long a c body (point d low v (point d' low' v' more)) rest = refl
-merged-long a c body (point d low v (child d' low' e' chain' more)) rest = refl
-merged-long a c body (child d low e chain end) rest = refl
-merged-long a c body (child d low e chain (point d' low' v' more)) rest = refl
-merged-long a c body (child d low e chain (child d' low' e' chain' more)) rest = refl
-
-either-long : (t : Bool) (x y : Entries) (n : ℕ) → length (listed x) ≡ n → length (listed y) ≡ n → length (listed (if t then x else y)) ≡ n
-either-long true x y n h k = h
-either-long false x y n h k = k
-
-kept-children : (w b : ℕ) (p : List ℤ) (e : Entries) → length (child_nodes e) ≡ length (listed e) → length (listed (del_entries w b e p)) ≡ length (listed e)
-kept-children w b p end h = refl
-kept-children w b p (point a body v rest) h = absurd (omega (arith, h, few-children rest))
-kept-children w b p (child a body c chain rest) h =
-    let ih : length (listed (del_entries w b rest p)) ≡ length (listed rest) = kept-children w b p rest (omega (arith, h)) in
-    either-long (a == address w p b)
-    (if same_digits body (digits_between w b c p) then merged_child a body c (del_entries w c chain p) rest else child a body c chain rest)
-    (child a body c chain (del_entries w b rest p))
-    (suc (length (listed rest)))
-    (either-long (same_digits body (digits_between w b c p)) (merged_child a body c (del_entries w c chain p) rest)
-    (child a body c chain rest) (suc (length (listed rest))) (merged-long a c body (del_entries w c chain p) rest) refl)
-    (ap suc ih)
-
-pub children_among : (w : ℕ) (p : List ℤ) (t : PlainNode) (many : ℕ) →
-    length (child_nodes t.chain) ≡ length (entries t) → many ≤ length (entries t) → many ≤ length (entries (del_node w t p))
-children_among w p t many h l = omega (arith, l, kept-children w t.level p t.chain h)
+-- one of two entries or more keeps one
+pub left_one : (w : ℕ) (p : List ℤ) (t : PlainNode) → 2 ≤ length (entries t) → 1 ≤ length (entries (del_node w t p))
+left_one w p t l = omega (arith, l, length-del_node w t p)
 
 -- ---- steps
 
@@ -199,32 +152,40 @@ module _ {dims w o : ℕ} {p : List ℤ} {t : PlainNode} {found : StepOf PlainNo
   other_del {spot = spot} is =
       let s = step_as k is in sym (other_del_by w dims p t k.lawful spot s.0 s.0.what s.1 refl s.2)
 
+  pub missing_del : IsMissing found → t ≡ del_node w t p
+  missing_del (inl is) = absent_del is.1
+  missing_del (inr is) = other_del is.1
+
   module _ {spot : Spot} {v : ℕ} (is : found ≡ Same spot v) where
-    same_own : IsOwn w p t spot v
+    pub same_own : IsOwn w p t spot v
     same_own = let s = step_as k is in (s.0, s.1, s.2, s.3)
 
     pub same_del : node_of t.level (without (entries t) spot.place) ≡ del_node w t p
     same_del = own_del w dims p t k.lawful spot v same_own
 
-    pub same_many : 1 ≤ length (entries (del_node w t p)) → 2 ≤ length (entries t)
-    same_many = own_many w dims p t k.lawful spot v same_own
+    pub same_length : length (entries (del_node w t p)) + 1 ≡ length (entries t)
+    same_length = own_length w dims p t k.lawful spot v same_own
 
   module _ {spot : Spot} {rank : ℕ} {m : NodeRefOf PlainNode} (is : found ≡ Below spot rank m) where
     abbrev nearer : IsStep w p t (Below spot rank m) o
     nearer = step_as k is
 
-    pub below_lawful : IsLawfulChild dims t.level nearer.0 (shown m)
+    below_lawful : IsLawfulChild dims t.level nearer.0 (shown m)
     below_lawful = lawful-child dims t.level 0 t.chain spot.place nearer.0 (shown m) k.lawful nearer.1.0 nearer.2
 
-    -- a child keeps two entries where it has more, or where none is the point
-    pub below_left : {n : PlainNode} → shown m ≡ n → IsAmong w p (shown m) 2 None → 2 ≤ length (entries (del_node w n p))
-    below_left e h = subst (λ u. 2 ≤ length (entries (del_node w u p))) e (h below_lawful.many)
+    pub below_many : {n : PlainNode} → shown m ≡ n → 2 ≤ length (entries n)
+    below_many e = subst (λ u. 2 ≤ length (entries u)) e below_lawful.many
 
-    pub below_del : {n : PlainNode} → shown m ≡ n → IsAmong w p (shown m) 2 None → with_child t spot.place (del_node w n p) ≡ del_node w t p
-    below_del e h =
-        subst (λ u. with_child t spot.place (del_node w u p) ≡ del_node w t p) e
-        (sym (del_node-child w t p spot.place nearer.0 (shown m)
-        (entry_at w dims p t spot nearer.0 k.lawful nearer.1) nearer.2 (below_digits k is) (h below_lawful.many)))
+    -- a node that leads to the point keeps its entries
+    pub below_left : (many : ℕ) → many ≤ length (entries t) → many ≤ length (entries (del_node w t p))
+    below_left many l = child_many w dims p t k.lawful many l spot nearer.0 (shown m) nearer.1 nearer.2
+
+    -- a child that keeps two entries is kept
+    pub below_del : {n : PlainNode} → shown m ≡ n → 2 ≤ length (entries (del_node w n p)) → with_child t spot.place (del_node w n p) ≡ del_node w t p
+    below_del e =
+        subst (λ u. 2 ≤ length (entries (del_node w u p)) → with_child t spot.place (del_node w u p) ≡ del_node w t p) e
+        (λ l. sym (del_node-child w t p spot.place nearer.0 (shown m)
+        (entry_at w dims p t spot nearer.0 k.lawful nearer.1) nearer.2 (below_digits k is) l))
 
     pub merges : {own : Spot} {v : ℕ} → (length (entries (shown m)) ≡ 2) × IsOwn w p (shown m) own v → Merges w p t spot own.place v
     merges {own = own} {v = v} (two, y) =
@@ -265,21 +226,22 @@ module _ (w dims : ℕ) (p : List ℤ) (n s : PlainNode) (is : s ≡ n) (t : Opt
   ok_root : IsLawful w dims (Some n)
   ok_root = subst (IsLawful w dims) (sym root) ok
 
-  -- one with more entries, or where none is the point, keeps one
-  pub root_left : IsAmong w p s 1 None → 1 ≤ length (entries (del_node w n p))
-  root_left h =
-      subst (λ u. 1 ≤ length (entries u) → 1 ≤ length (entries (del_node w u p))) is h (omega (arith, ok_root.1, length-count n.chain))
+  pub root_some : 1 ≤ length (entries s)
+  root_some = subst (λ u. 1 ≤ length (entries u)) (sym is) (omega (arith, ok_root.1, length-count n.chain))
 
-  pub root_kept : IsAmong w p s 1 None → (u : PlainNode) → u ≡ del_node w n p → Some u ≡ del_tree w dims t p
-  root_kept h u e =
-      ap (λ (m : PlainNode). Some m) e ∙ sym (del_tree-some w dims n p (root_left h)) ∙ ap (λ o. del_tree w dims o p) root
+  module _ (h : IsOnly w p s None) where
+    pub root_left : 1 ≤ length (entries (del_node w n p))
+    root_left = subst (λ u. 1 ≤ length (entries (del_node w u p))) is h
 
-  module _ (spot : Spot) (v : ℕ) (h : (length (entries s) ≡ 1) × IsOwn w p s spot v) where
+    pub root_kept : (u : PlainNode) → u ≡ del_node w n p → Some u ≡ del_tree w dims t p
+    root_kept u e =
+        ap (λ (m : PlainNode). Some m) e ∙ sym (del_tree-some w dims n p root_left) ∙ ap (λ o. del_tree w dims o p) root
+
+  module _ (v : ℕ) (h : IsOnly w p s (Some v)) where
     pub last_found : Some v ≡ find_tree w dims t p
-    last_found =
-        sym (own_found w dims p n ok_root.2 spot v (subst (λ u. IsOwn w p u spot v) is h.1)) ∙ ap (λ o. find_tree w dims o p) root
+    last_found = sym (subst (λ u. find_node w u p ≡ Some v) is h.0) ∙ ap (λ o. find_tree w dims o p) root
 
     pub last_gone : None ≡ del_tree w dims t p
     last_gone =
-        sym (own_last w dims p n ok_root.2 spot v (subst (λ u. IsOwn w p u spot v) is h.1)
-        (subst (λ u. length (entries u) ≡ 1) is h.0)) ∙ ap (λ o. del_tree w dims o p) root
+        let none : length (entries (del_node w n p)) ≡ 0 = subst (λ u. length (entries (del_node w u p)) ≡ 0) is h.1 in
+        sym (del_tree-none w dims n p (empty (entries (del_node w n p)) none)) ∙ ap (λ o. del_tree w dims o p) root

@@ -1,5 +1,5 @@
 -- A removal by other names, and as it is seen from the node above.
-use Rattle.std.proofs.Common.{◌≡◌, ℕ, ◌∙◌, Option, Result, ap, subst}
+use Rattle.std.proofs.Common.{◌≡◌, ℕ, ◌∙◌, Option, Result, None, Ok, ap, sym, subst, refl, arith}
 use Rattle.std.specs.declared.alloc.AllocError.{AllocError}
 use Rattle.ph_tree.specs.Removals.{IsRemoval}
 use Rattle.ph_tree.proofs.Walks.{on_ok, on_err}
@@ -26,3 +26,18 @@ module _ {T : Type 0} {was after now : T} {before later : ℕ} {result : Result 
     kept = r.kept;
     made = r.made;
   })
+
+-- no point is found, and nothing changes
+pub unfound : {T : Type 0} {was after : T} {found : Option ℕ} {changes : ℕ} → found ≡ None → was ≡ after →
+    IsRemoval found was after was changes changes (Ok None)
+unfound none same = record {
+  answer = sym none;
+  del = same;
+  err = tt;
+  absent = λ _. refl;
+  changes = omega arith;
+  idle = λ _. refl;
+  spared = tt;
+  kept = omega arith;
+  made = λ some. absurd cc;
+}

@@ -20,7 +20,7 @@ use Rattle.ph_node.specs.declared.spots.Spot.{Spot}
 use Rattle.ph_tree.specs.declared.step.StepOf.{StepOf}
 use Rattle.ph_tree.specs.declared.step.StepOf.TheVariants.{Absent, Same, Below, Other}
 use Rattle.ph_tree.specs.Opened.{opened_below}
-use Rattle.ph_tree.specs.Step.{IsApart, IsStep, opened_for}
+use Rattle.ph_tree.specs.Step.{IsApart, IsStep, IsLeading, opened_for}
 use Rattle.ph_tree.proofs.Steps.{what_got, spot_at, put_back, same_node}
 
 abbrev pub no_entry : Entry
@@ -86,6 +86,10 @@ pub step_at : {dims w o : ℕ} {p : List ℤ} {s t : PlainNode} {found : StepOf 
 step_at {dims = dims} {w = w} {o = o} {p = p} {found = found} e ok h =
     record { lawful = ok; step = subst (λ u. IsStep w p u found o) e h }
 
+-- a step that finds no point, and no child that leads to it
+abbrev pub IsMissing : StepOf PlainNode → Type 0
+IsMissing found = ((i : ℕ) × (found ≡ Absent i)) ⊎ ((spot : Spot) × (found ≡ Other spot))
+
 -- what a node has of the child that the point leads to
 pub record IsWayBelow (dims w : ℕ) (p : List ℤ) (t : PlainNode) (i : ℕ) (m : PlainNode) (o : ℕ) : Type 0 where
   pub lower : m.level < t.level
@@ -148,6 +152,10 @@ module _ {dims w o : ℕ} {p : List ℤ} {t : PlainNode} {found : StepOf PlainNo
     pub below_rank : rank ≡ before (entries t) spot.place
     below_rank = nearer.5
 
+    pub below_leading : IsLeading w p t spot rank
+    below_leading =
+        record { entry = nearer.0; below = shown m; at = nearer.1; child = nearer.2; body = nearer.3; place = nearer.5 }
+
     -- the child as it is lent
     pub below_lent : {n : PlainNode} → node n ≡ what_at (entries t) spot.place → shown m ≡ n
     below_lent {n = n} h = same_node (shown m) n (what_at (entries t) spot.place) below_what (sym h)
@@ -194,6 +202,37 @@ module _ {dims w o : ℕ} {p : List ℤ} {t : PlainNode} {found : StepOf PlainNo
     pub other_opened : opened_below w t.level t.chain p ≡ o
     other_opened =
         opened-at w dims t.level 0 t.chain spot.place other.0 p k.lawful other.1.0 other.1.1 ∙ opened_as other.0.what other.2 ∙ sym other.3
+
+  -- no entry, or one of which the point is no part
+  pub missing_found : IsMissing found → find_node w t p ≡ None
+  missing_found (inl is) = absent_found is.1
+  missing_found (inr is) = other_found is.1
+
+  pub missing_opened : IsMissing found → opened_below w t.level t.chain p ≡ o
+  missing_opened (inl is) = absent_opened is.1
+  missing_opened (inr is) = other_opened is.1
+
+-- ---- an entry that leads to the point
+
+module _ {w : ℕ} {p : List ℤ} {t : PlainNode} {spot : Spot} {rank : ℕ} (h : IsLeading w p t spot rank) where
+  leading_what : what_at (entries t) spot.place ≡ node h.below
+  leading_what = what_got (entries t) spot.place h.entry h.at.0 ∙ h.child
+
+  pub leading_node : IsNode (what_at (entries t) spot.place)
+  leading_node = subst IsNode (sym leading_what) tt
+
+  pub leading_spot : IsSpot (entries t) spot
+  leading_spot = spot_at w p t spot h.entry h.at
+
+  -- a step comes to it
+  pub leading_step : {dims : ℕ} → IsLawfulFrom dims t.level 0 t.chain → (m : NodeRefOf PlainNode) → node (shown m) ≡ what_at (entries t) spot.place →
+      IsStepAt dims w p t (Below spot rank m) 1
+  leading_step ok m lent =
+      let e : h.below ≡ shown m = same_node h.below (shown m) (what_at (entries t) spot.place) leading_what (sym lent) in
+      record {
+        lawful = ok;
+        step = (h.entry, h.at, h.child ∙ ap node e, h.body ∙ ap (λ u. digits_between w t.level u.level p) e, refl, h.place);
+      }
 
 -- ---- what an answer tells
 

@@ -1,5 +1,5 @@
 -- The room that a removal wants, and that it may want behind a put, by the step that is taken at a node.
-use Rattle.std.proofs.Common.{length, ◌≡◌, ◌≢◌, ℕ, zero, suc, ◌+◌, ◌≤◌, List, cond, refl, arith, ap, sym, ◌∙◌, ne_eqb, eq-eqb}
+use Rattle.std.proofs.Common.{length, ◌≡◌, ◌≢◌, ℕ, zero, suc, ◌+◌, ◌≤◌, List, cond, refl, arith, ap, sym, ◌∙◌, subst, ne_eqb, eq-eqb}
 use Rattle.std.specs.Prelude.{◌==◌, ℤ, Option, Some, None, slice_get, unwrap_or}
 use Rattle.ph_specs.specs.ZOrder.{address}
 use Rattle.ph_specs.specs.Node.{Entries, end, point, child, Entry, What, value, node, PlainNode, entries, listed}
@@ -15,9 +15,9 @@ use Rattle.ph_node.specs.declared.spots.Spot.{Spot}
 use Rattle.ph_tree.specs.declared.step.StepOf.{StepOf}
 use Rattle.ph_tree.specs.declared.step.StepOf.TheVariants.{Same, Below}
 use Rattle.ph_tree.specs.Rooms.{relaid_room, spare_room, wanted_below, spare_wanted, spare_wanted_in, left_below, spare_left}
-use Rattle.ph_tree.specs.Step.{IsAmong, IsStep}
+use Rattle.ph_tree.specs.Step.{IsOnly, IsStep}
 use Rattle.ph_tree.proofs.Walks.{no_entry, least-address, IsStepAt, step_as, below_digits}
-use Rattle.ph_tree.proofs.Gone.{length-count, below_left, root_left}
+use Rattle.ph_tree.proofs.Gone.{length-count, root_left}
 
 -- ---- a number by the entry at the point's address
 
@@ -106,10 +106,11 @@ module _ {dims w o : ℕ} {p : List ℤ} {t : PlainNode} {found : StepOf PlainNo
         ∙ ap (λ z. cond z (cond (count (del_entries w (shown m).level (shown m).chain p) == 1) 0 (spare_wanted w dims (shown m) p)) 0) (below_digits k is)
 
     -- a child that keeps two entries wants what is wanted
-    pub child_wanted : {n : PlainNode} → shown m ≡ n → IsAmong w p (shown m) 2 None → spare_wanted w dims t p ≡ spare_wanted w dims n p
+    pub child_wanted : {n : PlainNode} → shown m ≡ n → 2 ≤ length (entries (del_node w n p)) → spare_wanted w dims t p ≡ spare_wanted w dims n p
     child_wanted e h =
+        let kept : 2 ≤ length (entries (del_node w (shown m) p)) = subst (λ u. 2 ≤ length (entries (del_node w u p))) (sym e) h in
         let many : 2 ≤ count (del_entries w (shown m).level (shown m).chain p) =
-        omega (arith, below_left k is refl h, length-count (del_entries w (shown m).level (shown m).chain p)) in
+        omega (arith, kept, length-count (del_entries w (shown m).level (shown m).chain p)) in
         below_wanted
         ∙ ap (λ z. cond z 0 (spare_wanted w dims (shown m) p)) (ne_eqb (count (del_entries w (shown m).level (shown m).chain p)) 1 (many_not_one _ many))
         ∙ ap (λ u. spare_wanted w dims u p) e
@@ -127,7 +128,7 @@ not_zero n l e = omega (arith, l, e)
 
 -- one that keeps an entry wants what its node does
 pub root_wanted : (w dims : ℕ) (p : List ℤ) (n s : PlainNode) → s ≡ n → (t : Option PlainNode) → Some n ≡ t →
-    IsLawful w dims t → IsAmong w p s 1 None → spare_wanted_in w dims t p ≡ spare_wanted w dims n p
+    IsLawful w dims t → IsOnly w p s None → spare_wanted_in w dims t p ≡ spare_wanted w dims n p
 root_wanted w dims p n s is t root ok h =
     let left : 1 ≤ length (entries (del_node w n p)) = root_left w dims p n s is t root ok h in
     let some : 1 ≤ count (del_entries w n.level n.chain p) = omega (arith, left, length-count (del_entries w n.level n.chain p)) in

@@ -3,6 +3,7 @@ use Rattle.std.specs.Prelude.{◌≡◌, ◌≤◌, ℕ, List, length, ℤ, posi
 use Rattle.ph_specs.specs.ZOrder.{address}
 use Rattle.ph_specs.specs.Node.{Entry, What, value, node, PlainNode, entries}
 use Rattle.ph_specs.specs.Shape.{digits_below, digits_between}
+use Rattle.ph_specs.specs.PutTree.{find_node}
 use Rattle.ph_specs.specs.DelTree.{del_node}
 use Rattle.ph_specs.specs.EntryEdits.{has_address}
 use Rattle.ph_node.specs.OneEdit.{before}
@@ -43,12 +44,16 @@ IsStep width p n (Below s rank m) opened =
 IsStep width p n (Other s) opened =
     (x : Entry) × IsAt width p n s x × IsApart width p n.level x.body x.what × (opened ≡ opened_for x.what)
 
--- the entry at a spot is the point, with this value
-abbrev pub IsOwn : ℕ → List ℤ → PlainNode → Spot → ℕ → Type 0
-IsOwn width p n s v =
-    (x : Entry) × IsAt width p n s x × (x.what ≡ value v) × (x.body ≡ digits_below width n.level p)
+-- an entry stands at a spot, which is the point's address, and is a child, at its place among the children, that has the point's digits above its level
+pub record IsLeading (width : ℕ) (p : List ℤ) (n : PlainNode) (s : Spot) (rank : ℕ) : Type 0 where
+  pub entry : Entry
+  pub below : PlainNode
+  pub at : IsAt width p n s entry
+  pub child : entry.what ≡ node below
+  pub body : entry.body ≡ digits_between width n.level below.level p
+  pub place : rank ≡ before (entries n) s.place
 
--- what is found in a node of so many entries: which one is the point, and its value. Where nothing is found, so many entries are left without the point
-abbrev pub IsAmong : ℕ → List ℤ → PlainNode → ℕ → Option (Spot × ℕ) → Type 0
-IsAmong width p n many None = many ≤ length (entries n) → many ≤ length (entries (del_node width n p))
-IsAmong width p n many (Some found) = (length (entries n) ≡ many) × IsOwn width p n found.0 found.1
+-- the value of the point, where it is the only entry of a node. Else the node keeps an entry without the point
+abbrev pub IsOnly : ℕ → List ℤ → PlainNode → Option ℕ → Type 0
+IsOnly width p n None = 1 ≤ length (entries (del_node width n p))
+IsOnly width p n (Some v) = (find_node width n p ≡ Some v) × (length (entries (del_node width n p)) ≡ 0)

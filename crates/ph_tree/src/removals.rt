@@ -16,7 +16,7 @@ ghost use Rattle.ph_tree.specs.Placed.{value_gone};
 ghost use Rattle.ph_tree.specs.Removals.{IsRemoval};
 ghost use Rattle.ph_tree.specs.Rooms.{relaid_room, spare_wanted, spare_wanted_in};
 ghost use Rattle.ph_tree.specs.Spares.{HasRoom};
-ghost use Rattle.ph_tree.specs.Step.{IsAmong};
+ghost use Rattle.ph_tree.specs.Step.{IsLeading, IsOnly};
 
 use crate::key::KeyOf;
 use crate::records::relaid_room;
@@ -62,7 +62,7 @@ impl Removal {
 }
 
 // What came of a removal below the root. The value that went stays in the removal, so that this is one number: only then
-// the compiler makes a loop of `del_at`.
+// the compiler makes a loop of `del_below`.
 #[derive(Clone, Copy)]
 pub(crate) enum Removed {
     // The point is not there.
@@ -109,8 +109,8 @@ pub(crate) fn del_in<P: Dims, V: Ledger, C: Ledger>(
     let Some(mut node) = root.take() else {
         return Ok(None);
     };
-    match point_among(node.visit(visits), 1, key) {
-        Some((_, value)) => {
+    match only_point(node.visit(visits), key) {
+        Some(value) => {
             node.dissolve(changes);
             Ok(Some(value))
         }
@@ -147,17 +147,52 @@ pub(crate) fn del_at<P: Dims, V: Ledger, C: Ledger>(
             let room = relaid_room(node);
             drop_point(cur, spot, value, room, removal, changes)
         }
-        StepOf::Below(spot, rank, below) => match point_among(below, 2, key) {
-            Some((own, value)) => {
+        StepOf::Below(spot, rank, _) => {
+            del_below(cur, spot, rank, key, removal, visits, changes)
+        }
+        StepOf::Other(_) => Removed::Nothing,
+    }
+}
+
+// Takes a point out from below an entry of a node: a child, at its place among the children, that has the point's digits above
+// its level. Where the child has the point and one entry more, that one takes the child's place.
+fn del_below<P: Dims, V: Ledger, C: Ledger>(
+    cur: &mut NodeOf<P>,
+    spot: Spot,
+    rank: usize,
+    key: &KeyOf<P>,
+    removal: &mut Removal,
+    visits: &mut Steps<V>,
+    changes: &mut Steps<C>,
+) -> Removed
+    requires lawful { IsLawfulFrom P.D cur.old.level 0 cur.old.chain }
+    requires level { cur.old.level < key.now.width }
+    requires leads { IsLeading key.now.width key.now.point cur.old spot rank }
+    ensures del { IsRemoval (find_node key.now.width cur.old key.now.point)
+        cur.old (del_node key.now.width cur.old key.now.point) cur.new
+        changes.old changes.new (value_gone result removal.new.value) }
+    ensures roomy { HasRoom removal.old (spare_wanted key.now.width P.D cur.old key.now.point) → IsOk (value_gone result removal.new.value) }
+    ensures visits { visits.new + 1 ≤ visits.old + 2 * opened_below key.now.width cur.old.level cur.old.chain key.now.point }
+    ensures later { visits.old ≤ visits.new }
+{
+    let slot = cur.child_mut(spot, rank);
+    let child = slot.node_mut();
+    let below = child.visit(visits);
+    match step(below, key, visits) {
+        StepOf::Absent(_) | StepOf::Other(_) => Removed::Nothing,
+        StepOf::Same(own, value) => {
+            let pair = below.len() == 2;
+            if pair {
                 drop_child(cur, spot, own.place, value, removal, changes);
                 Removed::Gone
+            } else {
+                let room = relaid_room(below);
+                drop_point(child, own, value, room, removal, changes)
             }
-            None => {
-                let slot = cur.child_mut(spot, rank);
-                del_at(slot.node_mut(), key, removal, visits, changes)
-            }
-        },
-        StepOf::Other(_) => Removed::Nothing,
+        }
+        StepOf::Below(next, place, _) => {
+            del_below(child, next, place, key, removal, visits, changes)
+        }
     }
 }
 
@@ -211,40 +246,24 @@ fn drop_child<P: Dims, C: Ledger>(
     removal.value = value;
 }
 
-// The entry that is a point and its value, in a visited node of so many entries. Where all of them are children, none is looked for.
+// The value of the point, where it is the only entry of a visited node.
 #[inline(always)]
-fn point_among<P: Dims>(
-    node: NodeRefOf<'_, NodeOf<P>>,
-    entries: usize,
-    key: &KeyOf<P>,
-) -> Option<(Spot, u64)>
+fn only_point<P: Dims>(node: NodeRefOf<'_, NodeOf<P>>, key: &KeyOf<P>) -> Option<u64>
     requires lawful { IsLawfulFrom P.D (shown node).level 0 (shown node).chain }
     requires level { (shown node).level < key.now.width }
-    ensures { IsAmong key.now.width key.now.point (shown node.entry) entries result }
+    requires some { 1 ≤ length (entries (shown node)) }
+    ensures { IsOnly key.now.width key.now.point (shown node.entry) result }
 {
-    if node.len() != entries {
+    if node.len() != 1 {
         return None;
     }
-    if node.children().len() == entries {
-        return None;
-    }
-    point_in(node, key)
-}
-
-// The entry that is a point and its value, in a visited node.
-#[inline(always)]
-fn point_in<P: Dims>(node: NodeRefOf<'_, NodeOf<P>>, key: &KeyOf<P>) -> Option<(Spot, u64)>
-    requires lawful { IsLawfulFrom P.D (shown node).level 0 (shown node).chain }
-    requires level { (shown node).level < key.now.width }
-    ensures { IsAmong key.now.width key.now.point (shown node.entry) (length (entries (shown node.entry))) result }
-{
     let Ok(spot) = node.search(key.address(node.level())) else {
         return None;
     };
     match node.what(spot) {
         WhatOf::Value(value) => {
             if node.is_below(spot, key.offsets()) {
-                Some((spot, value))
+                Some(value)
             } else {
                 None
             }

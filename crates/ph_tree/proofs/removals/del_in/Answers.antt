@@ -4,27 +4,31 @@ use Rattle.ph_specs.specs.DelTree.{del_node}
 use Rattle.ph_specs.specs.Node.{PlainNode}
 use Rattle.ph_specs.specs.PutTree.{find_tree}
 use Rattle.ph_tree.specs.Spares.{HasRoom}
-use Rattle.ph_tree.proofs.Gone.{root_left, root_kept, last_found, last_gone}
+use Rattle.ph_tree.proofs.Gone.{root_some, root_left, root_kept, last_found, last_gone}
 use Rattle.ph_tree.proofs.RemovalCases.{lifted}
 use Rattle.ph_tree.proofs.Walks.{some_none}
 use Rattle.ph_tree.proofs.Wanted.{root_wanted}
 use Rattle.ph_tree.proofs.removals.del_in.Goals as goal
 
+pub only_point-requires-clause-some : goal.only_point-requires-clause-some
+only_point-requires-clause-some g c =
+    root_some c.args.key.now.width g.P.Dims.D c.args.key.now.point c.in-Some.node _ c.visit.ensures.shows _ c.in-Some.ensures.value c.requires.lawful
+
 pub del_at-found-requires-clause-left : goal.del_at-found-requires-clause-left
 del_at-found-requires-clause-left g c =
     root_left c.args.key.now.width g.P.Dims.D c.args.key.now.point c.in-Some.node _ c.visit.ensures.shows _ c.in-Some.ensures.value c.requires.lawful c.in-None.ensures
 
-pub returns-in-Some-point_among-clause-del : goal.returns-in-Some-point_among-clause-del
-returns-in-Some-point_among-clause-del g c =
+pub returns-in-Some-only_point-clause-del : goal.returns-in-Some-only_point-clause-del
+returns-in-Some-only_point-clause-del g c =
     let last = last_found c.args.key.now.width g.P.Dims.D c.args.key.now.point c.in-Some.node _ c.visit.ensures.shows
-    _ c.in-Some.ensures.value c.requires.lawful c.in-Some-point_among.field-0-0 c.in-Some-point_among.value
-    c.in-Some-point_among.ensures in
+    _ c.in-Some.ensures.value c.requires.lawful c.in-Some-only_point.value
+    c.in-Some-only_point.ensures in
     record {
       answer = last;
       del = c.take.ensures.after
           ∙ last_gone c.args.key.now.width g.P.Dims.D c.args.key.now.point c.in-Some.node _ c.visit.ensures.shows _
-          c.in-Some.ensures.value c.requires.lawful c.in-Some-point_among.field-0-0 c.in-Some-point_among.value
-          c.in-Some-point_among.ensures;
+          c.in-Some.ensures.value c.requires.lawful c.in-Some-only_point.value
+          c.in-Some-only_point.ensures;
       err = tt;
       absent = λ _. refl;
       changes = omega (arith, c.dissolve.ensures);
