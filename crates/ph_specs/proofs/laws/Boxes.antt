@@ -126,50 +126,41 @@ flip false true = refl
 flip false false = refl
 
 module _ (w k d : ℕ) (lo hi : List ℤ) (e : k * 2 ≡ d) (low : length lo ≡ k) (high : length hi ≡ k) where
+  -- a box in a window that is open below its low corner and above its high one
+  between-open : (x y l g : List ℤ) → length x ≡ k → length y ≡ k → length l ≡ k → length g ≡ k →
+      list_all (fits w) l ≡ true → list_all (fits w) g ≡ true →
+      is_between (replicate (length x) (least w) ++ x) (y ++ replicate (length y) (greatest w)) (l ++ g) ≡ (at_most l y && at_most x g)
+  between-open x y l g p q m n f h =
+      let a : at_most (replicate (length x) (least w)) l ≡ true = subst (λ j. at_most (replicate j (least w)) l ≡ true) (m ∙ sym p) (from-least w l f) in
+      let b : at_most g (replicate (length y) (greatest w)) ≡ true = subst (λ j. at_most g (replicate j (greatest w)) ≡ true) (n ∙ sym q) (to-greatest w g h) in
+      ap (λ t. t && at_most (l ++ g) (y ++ replicate (length y) (greatest w)))
+      (at_most-joined (replicate (length x) (least w)) l x g
+      (length-replicate (length x) (least w) ∙ p ∙ sym m) ∙
+      true-left (at_most (replicate (length x) (least w)) l) (at_most x g) a)
+      ∙ ap (λ t. at_most x g && t) (at_most-joined l y g (replicate (length y) (greatest w)) (m ∙ sym q) ∙
+      true-right (at_most l y) (at_most g (replicate (length y) (greatest w))) b)
+      ∙ flip (at_most x g) (at_most l y)
+
+  -- such a window answers a question about the low corner and about the high one
+  open-window : (x y : List ℤ) (asks : List ℤ → Bool) → length x ≡ k → length y ≡ k →
+      ((l g : List ℤ) → length l ≡ k → length g ≡ k → asks (l ++ g) ≡ (at_most l y && at_most x g)) →
+      IsWindowFor w d asks (replicate (length x) (least w) ++ x) (y ++ replicate (length y) (greatest w))
+  open-window x y asks p q f box at b =
+      let z : Halved w k box = halved w k d box e at in
+      subst (λ t. is_between (replicate (length x) (least w) ++ x) (y ++ replicate (length y) (greatest w)) t ≡ asks t) (sym z.joined)
+      (between-open x y z.low z.high p q z.low_long z.high_long z.low_fits z.high_fits ∙ sym (f z.low z.high z.low_long z.high_long))
+
   pub overlaps-window : IsWindowFor w d (overlaps (lo ++ hi)) (overlaps_low w lo hi) (overlaps_high w lo hi)
-  overlaps-window box p b =
-      let x : Halved w k box = halved w k d box e p in
-      subst (λ z. is_between (overlaps_low w lo hi) (overlaps_high w lo hi) z ≡ overlaps (lo ++ hi) z) (sym x.joined)
-      (by_halves x.low x.high x.low_long x.high_long x.low_fits x.high_fits)
-    where
-      by_halves : (l g : List ℤ) → length l ≡ k → length g ≡ k → list_all (fits w) l ≡ true →
-          list_all (fits w) g ≡ true → is_between (overlaps_low w lo hi) (overlaps_high w lo hi) (l ++ g) ≡
-          overlaps (lo ++ hi) (l ++ g)
-      by_halves l g m n f h =
-          let a : at_most (replicate (length lo) (least w)) l ≡ true = subst (λ j. at_most (replicate j (least w)) l ≡ true) (m ∙ sym low) (from-least w l f) in
-          let b : at_most g (replicate (length hi) (greatest w)) ≡ true = subst (λ j. at_most g (replicate j (greatest w)) ≡ true) (n ∙ sym high) (to-greatest w g h) in
-          let c = corners-joined lo hi (low ∙ sym high) in
-          let o = corners-joined l g (m ∙ sym n) in
-          ap (λ t. t && at_most (l ++ g) (overlaps_high w lo hi))
-          (at_most-joined (replicate (length lo) (least w)) l lo g
-          (length-replicate (length lo) (least w) ∙ low ∙ sym m) ∙
-          true-left (at_most (replicate (length lo) (least w)) l) (at_most lo g) a)
-          ∙ ap (λ t. at_most lo g && t) (at_most-joined l hi g (replicate (length hi) (greatest w)) (m ∙ sym high) ∙
-          true-right (at_most l hi) (at_most g (replicate (length hi) (greatest w))) b)
-          ∙ flip (at_most lo g) (at_most l hi)
-          ∙ sym (λ i. at_most (o.0 i) (c.1 i) && at_most (c.0 i) (o.1 i))
+  overlaps-window =
+      let c = corners-joined lo hi (low ∙ sym high) in
+      open-window lo hi (overlaps (lo ++ hi)) low high
+      (λ l g m n. let o = corners-joined l g (m ∙ sym n) in (λ i. at_most (o.0 i) (c.1 i) && at_most (c.0 i) (o.1 i)))
 
   pub covers-window : IsWindowFor w d (covers (lo ++ hi)) (covers_low w lo hi) (covers_high w lo hi)
-  covers-window box p b =
-      let x : Halved w k box = halved w k d box e p in
-      subst (λ z. is_between (covers_low w lo hi) (covers_high w lo hi) z ≡ covers (lo ++ hi) z) (sym x.joined)
-      (by_halves x.low x.high x.low_long x.high_long x.low_fits x.high_fits)
-    where
-      by_halves : (l g : List ℤ) → length l ≡ k → length g ≡ k → list_all (fits w) l ≡ true →
-          list_all (fits w) g ≡ true → is_between (covers_low w lo hi) (covers_high w lo hi) (l ++ g) ≡ covers (lo ++ hi) (l ++ g)
-      by_halves l g m n f h =
-          let a : at_most (replicate (length hi) (least w)) l ≡ true = subst (λ j. at_most (replicate j (least w)) l ≡ true) (m ∙ sym high) (from-least w l f) in
-          let b : at_most g (replicate (length lo) (greatest w)) ≡ true = subst (λ j. at_most g (replicate j (greatest w)) ≡ true) (n ∙ sym low) (to-greatest w g h) in
-          let c = corners-joined lo hi (low ∙ sym high) in
-          let o = corners-joined l g (m ∙ sym n) in
-          ap (λ t. t && at_most (l ++ g) (covers_high w lo hi))
-          (at_most-joined (replicate (length hi) (least w)) l hi g
-          (length-replicate (length hi) (least w) ∙ high ∙ sym m) ∙
-          true-left (at_most (replicate (length hi) (least w)) l) (at_most hi g) a)
-          ∙ ap (λ t. at_most hi g && t) (at_most-joined l lo g (replicate (length lo) (greatest w)) (m ∙ sym low) ∙
-          true-right (at_most l lo) (at_most g (replicate (length lo) (greatest w))) b)
-          ∙ flip (at_most hi g) (at_most l lo)
-          ∙ sym (λ i. at_most (o.0 i) (c.0 i) && at_most (c.1 i) (o.1 i))
+  covers-window =
+      let c = corners-joined lo hi (low ∙ sym high) in
+      open-window hi lo (covers (lo ++ hi)) high low
+      (λ l g m n. let o = corners-joined l g (m ∙ sym n) in (λ i. at_most (o.0 i) (c.0 i) && at_most (c.1 i) (o.1 i)))
 
   -- of a box, the other bounds follow
   pub inside-window : IsWindowFor w d (is_inside (lo ++ hi)) (inside_low w lo hi) (inside_high w lo hi)
