@@ -5,7 +5,7 @@ ghost use Rattle.ph_specs.specs.Coordinate.{IsPoint};
 
 use crate::{SetFault, common, minus, union};
 use ph_coord::{Point, Width};
-use ph_steps::Steps;
+use ph_steps::Counters;
 use ph_tree::PhTree;
 use rand_core::{Rng, SeedableRng};
 use rand_xoshiro::Xoshiro256PlusPlus;
@@ -14,13 +14,6 @@ use std::marker::Brand;
 use std::process::Abort;
 use std::sync::ledger::{Blank, Ledger};
 use std::test::Fail;
-
-// What edits and set operations count.
-#[derive(Drop)]
-struct Counters<V: Ledger, C: Ledger> {
-    visits: Steps<V>,
-    changes: Steps<C>,
-}
 
 // Random rows: from which seed on, how many, and the numbers that their coordinates are drawn from, cut to the width.
 #[derive(Clone, Copy)]
@@ -329,10 +322,7 @@ fn trials<V: Ledger, C: Ledger>(
     requires visits { (visits.name ≡ V.name) × (visits.parts ≡ V.parts) × (0 < visits.parts) }
     requires changes { (changes.name ≡ C.name) × (changes.parts ≡ C.parts) × (0 < changes.parts) }
 {
-    let mut counters: Counters<V, C> = Counters {
-        visits: Steps::new(visits),
-        changes: Steps::new(changes),
-    };
+    let mut counters: Counters<V, C> = Counters::new(visits, changes);
     for case in cases() {
         trial::<1, 32, V, C>(rt, alloc, case, &mut counters)?;
         trial::<2, 62, V, C>(rt, alloc, case, &mut counters)?;

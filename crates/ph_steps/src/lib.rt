@@ -45,3 +45,25 @@ impl<L: Ledger> Steps<L> {
         self.book.add(&mut self.share, 1);
     }
 }
+
+/// What edits of a tree count: the nodes that they visit, and those that they change.
+#[derive(Drop)]
+pub struct Counters<V: Ledger, C: Ledger> {
+    pub visits: Steps<V>,
+    pub changes: Steps<C>,
+}
+
+impl<V: Ledger, C: Ledger> Counters<V, C> {
+    /// Both at 0, each of a blank for its ledger.
+    pub fn new(visits: Blank, changes: Blank) -> Counters<V, C>
+        requires visits { (visits.name ≡ V.name) × (visits.parts ≡ V.parts) × (0 < visits.parts) }
+        requires changes { (changes.name ≡ C.name) × (changes.parts ≡ C.parts) × (0 < changes.parts) }
+        ensures visits { result.visits ≡ 0 }
+        ensures changes { result.changes ≡ 0 }
+    {
+        Counters {
+            visits: Steps::new(visits),
+            changes: Steps::new(changes),
+        }
+    }
+}

@@ -6,32 +6,12 @@ ghost use Rattle.ph_specs.specs.Coordinate.{IsBox, IsPoint};
 
 use ph_box::join_box;
 use ph_coord::{Point, Width};
-use ph_steps::Steps;
+use ph_steps::Counters;
 use ph_tree::PhTree;
 use std::alloc::Global;
 use std::process::Abort;
-use std::sync::ledger::{Blank, Ledger};
+use std::sync::ledger::Ledger;
 use std::test::Fail;
-
-// What edits and joins count.
-#[derive(Drop)]
-pub(super) struct Counters<V: Ledger, C: Ledger> {
-    pub visits: Steps<V>,
-    pub changes: Steps<C>,
-}
-
-impl<V: Ledger, C: Ledger> Counters<V, C> {
-    // Both at 0.
-    pub(super) fn new(visits: Blank, changes: Blank) -> Counters<V, C>
-        requires visits { (visits.name ≡ V.name) × (visits.parts ≡ V.parts) × (0 < visits.parts) }
-        requires changes { (changes.name ≡ C.name) × (changes.parts ≡ C.parts) × (0 < changes.parts) }
-    {
-        Counters {
-            visits: Steps::new(visits),
-            changes: Steps::new(changes),
-        }
-    }
-}
 
 // The low and the high corner of a box.
 pub(super) type Corners<const K: usize> = ([i64; K], [i64; K]);

@@ -3,8 +3,9 @@
 ghost use Rattle.std.specs.Prelude.{◌≡◌, ◌*◌, ◌<◌, ◌≤◌};
 ghost use Rattle.ph_specs.specs.Boxes.{AreBoxes};
 
-use super::boxes::{Counters, tree_of};
+use super::boxes::tree_of;
 use crate::Join;
+use ph_steps::Counters;
 use ph_tree::PhTree;
 use std::alloc::Global;
 use std::marker::Brand;

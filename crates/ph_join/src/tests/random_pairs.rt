@@ -3,10 +3,10 @@
 ghost use Rattle.std.specs.Prelude.{◌≡◌, ◌*◌, ◌<◌, ◌≤◌};
 ghost use Rattle.ph_specs.specs.Boxes.{AreBoxes};
 
-use super::boxes::{Corners, Counters, tree_of};
+use super::boxes::{Corners, tree_of};
 use crate::Join;
 use ph_coord::Row;
-use ph_steps::Steps;
+use ph_steps::{Counters, Steps};
 use ph_tree::PhTree;
 use ph_window::Window;
 use rand_core::{Rng, SeedableRng};

@@ -2,8 +2,9 @@
 
 ghost use Rattle.std.specs.Prelude.{◌≡◌, ◌<◌};
 
-use super::trees::{Counters, empty, point};
+use super::trees::{empty, point};
 use crate::Kept;
+use ph_steps::Counters;
 use std::alloc::Global;
 use std::marker::Brand;
 use std::process::Abort;

@@ -3,9 +3,10 @@
 ghost use Rattle.std.specs.Prelude.{◌≡◌, ◌<◌, ◌≤◌};
 ghost use Rattle.ph_specs.specs.Coordinate.{IsPoint};
 
-use super::trees::{Counters, empty, point};
+use super::trees::{empty, point};
 use crate::Kept;
 use ph_coord::{Point, Row, Width};
+use ph_steps::Counters;
 use rand_core::{Rng, SeedableRng};
 use rand_xoshiro::Xoshiro256PlusPlus;
 use std::alloc::Global;

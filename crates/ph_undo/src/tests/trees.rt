@@ -1,35 +1,13 @@
-//! Trees whose edits are kept, and what the edits count.
+//! Trees whose edits are kept.
 
-ghost use Rattle.std.specs.Prelude.{◌≡◌, ◌<◌, ◌≤◌};
+ghost use Rattle.std.specs.Prelude.{◌≡◌, ◌≤◌};
 ghost use Rattle.ph_specs.specs.Coordinate.{IsPoint};
 
 use crate::Kept;
 use ph_coord::{Point, Width};
-use ph_steps::Steps;
 use ph_tree::PhTree;
 use std::alloc::Global;
 use std::process::Abort;
-use std::sync::ledger::{Blank, Ledger};
-
-// What edits count.
-#[derive(Drop)]
-pub(super) struct Counters<V: Ledger, C: Ledger> {
-    pub visits: Steps<V>,
-    pub changes: Steps<C>,
-}
-
-impl<V: Ledger, C: Ledger> Counters<V, C> {
-    // Both at 0.
-    pub(super) fn new(visits: Blank, changes: Blank) -> Counters<V, C>
-        requires visits { (visits.name ≡ V.name) × (visits.parts ≡ V.parts) × (0 < visits.parts) }
-        requires changes { (changes.name ≡ C.name) × (changes.parts ≡ C.parts) × (0 < changes.parts) }
-    {
-        Counters {
-            visits: Steps::new(visits),
-            changes: Steps::new(changes),
-        }
-    }
-}
 
 // The empty tree of width 32, of which nothing is kept.
 pub(super) fn empty<const D: usize>(rt: &impl Abort, alloc: Global, max: u64) -> Kept<D>
