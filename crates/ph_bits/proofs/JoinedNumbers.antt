@@ -1,13 +1,14 @@
 -- The numbers that a row of fields makes behind digits that are known.
-use Rattle.std.proofs.Common.{◌≡◌, ℕ, ◌+◌, ◌-◌, ◌*◌, ◌/◌, ◌%◌, ◌^◌, ◌<◌, ◌≤◌, zero, suc, List, [], ◌∷◌, sym, ◌∙◌, ap, subst, arith, length, get_or}
+use Rattle.std.proofs.Common.{◌≡◌, ℕ, ◌+◌, ◌-◌, ◌*◌, ◌/◌, ◌%◌, ◌^◌, ◌<◌, ◌≤◌, zero, suc, List, [], ◌∷◌, sym, ◌∙◌, ap, subst, arith, length, drop, get_or}
 use Rattle.std.proofs.Math.Nat.{div-mul-le_self, mul-mod_left}
+use Rattle.std.proofs.Math.Pow.{pow_mono}
 use Rattle.std.proofs.lemmas.List.{get_or-map}
 use Rattle.ph_specs.specs.Digits.{digits_at}
-use Rattle.ph_specs.specs.Lawful.{put_together}
+use Rattle.ph_specs.specs.Lawful.{IsBody, put_together}
 use Rattle.ph_specs.specs.PutTree.{body_above}
 use Rattle.ph_specs.proofs.laws.LawfulRows.{put_together-small}
 use Rattle.ph_specs.proofs.lemmas.Joined.{length-put_together, get-put_together}
-use Rattle.ph_digits.proofs.Joins.{above-long}
+use Rattle.ph_digits.proofs.Joins.{above-long, kept-at, small-at}
 use Rattle.ph_bits.specs.Fields.{digits_row}
 use Rattle.ph_bits.proofs.RowPlaces.{length-row, row-at}
 
@@ -27,6 +28,12 @@ joined-small level x d y l h k m = by_digit d k
     by_digit zero k = by_small 0
     by_digit (suc zero) k = by_small 1
     by_digit (suc (suc d)) k = absurd (omega (arith, k))
+
+-- its digits above a level, a digit there and the digits below fit a word together
+pub sum-fits : (level i n above digit below : ℕ) (xs known : List ℕ) → drop i xs ≡ drop i known → IsBody n 62 known →
+    level ≤ 61 → above ≤ get_or xs i 0 → digit ≤ 2 ^ 61 → below < 2 ^ level → above + digit + below < 2 ^ 64
+sum-fits level i n above digit below xs known e k l a d b =
+    omega (arith, a, d, b, kept-at i xs known e, small-at 62 n i known k, pow_mono {i = level} {j = 61} l)
 
 module _ (ws known : List ℕ) (at level a : ℕ) where
   abbrev row : List ℕ

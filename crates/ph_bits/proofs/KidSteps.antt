@@ -6,6 +6,8 @@
 --     to_space, of_space      places as room for such an array
 --     at_type      what a call of the values is made at
 --     words_stay, words_go      a start and two words, which calls that show or lend values take behind the reference
+--     shown_stay, shown_go      the same with a `&` to the values in front
+--     both_stay, both_go      the references of the values and of the places, which calls that move a value take in front
 use Rattle.std.proofs.Common.{◌≡◌, ℕ, zero, suc, ◌+◌, ◌*◌, ◌<◌, refl, sym, arith, List, [], ◌∷◌, length, replicate, slice_index_or, slice_set, subst, Option, None}
 use Rattle.std.proofs.Common.{drop as behind}
 use seplogic.Ra.Ura.{Ura}
@@ -17,7 +19,7 @@ use types.Kit.{‵, ◌⊛◌, given, learn, by, some, pick, show, check, ◌$�
 use borrow.Table.OneValue.{part_out}
 use denote.RattleType.{RattleType}
 use denote.Laws.{Is, Typed, shows}
-use denote.Builtin.{usize}
+use denote.Builtin.{usize, RefOf}
 use denote.Exit.{yes}
 use denote.Param.{param, layout, layouts}
 use denote.Param.Laws.{Laws, param_laws}
@@ -26,10 +28,11 @@ use lib.Dec.{T}
 use mir.Syntax.{ty_int, ty_array, w64, Args, a_type}
 use mir.Val.{Val, vstruct, vnil}
 use denote.Shadow.{makes_shadow}
-use denote.Signature.{plain}
+use denote.Signature.{Slot, plain, mut_ref_to}
 use denote.Struct.Struct.{Struct}
 use denote.Struct.Owning.{shape}
-use denote.Triple.Walked.{Stays, AllGo, stay_dropped, Goes-dropped}
+use denote.Triple.End.{Kepts}
+use denote.Triple.Walked.{Stays, AllGo, stay_dropped, stay_ref, Goes-dropped, Goes-ref}
 use prog.Memory.{divides, size, align}
 use Rattle.std.proofs.RcSteps.{Good}
 use denote.Memory.{lone, mem, part_at, shared_of}
@@ -41,6 +44,7 @@ use Rattle.std.proofs.ptr.Rows as Rows
 use Rattle.ph_bits.specs.Memory.{places}
 use Rattle.ph_bits.proofs.PlaceSteps.{emptied}
 use Rattle.ph_bits.specs.contracts.kids.Kids as K
+use Rattle.ph_bits.specs.contracts.places.Places.{the_row as P}
 use Rattle.ph_bits.specs.contracts.places.Start.{the_row as S}
 use Rattle.ph_bits.proofs.Made.{mark}
 use Rattle.ph_bits.specs.Kids.{IsWord, word_sized, kids, lent}
@@ -213,3 +217,24 @@ pub words_go : {M : Type 1} {𝓤 : Ura M} (𝓛 : Logic 𝓤) →
 words_go 𝓛 =
     let word_goes = Goes-dropped 𝓛 2 (plain (λ _. usize)) yes (λ κs x w. refl) in
     (Goes-dropped 𝓛 2 (plain (λ _. S)) yes (λ κs x w. refl), (word_goes, (word_goes, tt)))
+
+-- the same with a `&` to the values in front
+abbrev pub shown_stay : (R : RattleType) → Stays {n = 2}
+    (RefOf (0 ∷ []) tt (plain (λ _. K.the_row R)) (λ _. tt) ∷ plain (λ _. S) ∷ plain (λ _. usize) ∷ plain (λ _. usize) ∷ [])
+    (yes, (yes, (yes, (yes, tt))))
+shown_stay R = (stay_dropped (RefOf (0 ∷ []) tt (plain (λ _. K.the_row R)) (λ _. tt)) yes, words_stay)
+
+pub shown_go : (R : RattleType) {M : Type 1} {𝓤 : Ura M} (𝓛 : Logic 𝓤) → AllGo 𝓛 2
+    (RefOf (0 ∷ []) tt (plain (λ _. K.the_row R)) (λ _. tt) ∷ plain (λ _. S) ∷ plain (λ _. usize) ∷ plain (λ _. usize) ∷ [])
+    (yes, (yes, (yes, (yes, tt)))) (shown_stay R)
+shown_go R 𝓛 = (Goes-dropped 𝓛 2 (RefOf (0 ∷ []) tt (plain (λ _. K.the_row R)) (λ _. tt)) yes (λ κs x w. refl), words_go 𝓛)
+
+-- the `&mut`s of the values and of the places, in front of what a call takes behind them
+abbrev pub both_stay : (R : RattleType) (ss : List (Slot 3)) (ks : Kepts ss) → Stays ss ks → Stays {n = 3}
+    (mut_ref_to (0 ∷ []) tt (plain (λ _. K.the_row R)) ∷ mut_ref_to (1 ∷ []) tt (plain (λ _. P)) ∷ ss) (yes, (yes, ks))
+both_stay R ss ks h = (stay_ref (0 ∷ []) tt (plain (λ _. K.the_row R)), (stay_ref (1 ∷ []) tt (plain (λ _. P)), h))
+
+pub both_go : (R : RattleType) {M : Type 1} {𝓤 : Ura M} (𝓛 : Logic 𝓤) (ss : List (Slot 3)) (ks : Kepts ss) (h : Stays ss ks) →
+    AllGo 𝓛 3 ss ks h → AllGo 𝓛 3
+    (mut_ref_to (0 ∷ []) tt (plain (λ _. K.the_row R)) ∷ mut_ref_to (1 ∷ []) tt (plain (λ _. P)) ∷ ss) (yes, (yes, ks)) (both_stay R ss ks h)
+both_go R 𝓛 ss ks h go = (Goes-ref 𝓛 3 0 tt (plain (λ _. K.the_row R)), (Goes-ref 𝓛 3 1 tt (plain (λ _. P)), go))

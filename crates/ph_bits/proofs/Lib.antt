@@ -6,6 +6,7 @@ mod Headers
 mod KidSharing
 mod KidSteps
 mod SlotLists
+mod BlockParts
 mod Shifts
 mod Stores
 mod FieldReads

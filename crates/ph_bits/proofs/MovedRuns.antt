@@ -57,6 +57,74 @@ pub moved-equal : (old new : List ℕ) (from from2 to to2 len len2 : ℕ) → fr
 moved-equal old new from from2 to to2 len len2 e f g o =
     subst (λ t. IsMoved old from2 to2 t new) g (subst (λ t. IsMoved old from2 t len new) f (subst (λ t. IsMoved old t to len new) e o))
 
+-- ---- a run of many digits: those that fill the word in which it begins, then whole words, then what is left
+
+-- how many digits fill the word, and how many words are whole
+abbrev pub filling : ℕ → ℕ
+filling to = (64 - to % 64) % 64
+
+abbrev pub whole_words : ℕ → ℕ → ℕ
+whole_words to len = (len - (64 - to % 64) % 64) / 64
+
+fills : (to : ℕ) → 64 * ((to + filling to) / 64) ≡ to + filling to
+fills to = omega arith
+
+parts-low : (to len : ℕ) → 64 ≤ len → filling to + 64 * whole_words to len ≤ len
+parts-low to len h = omega (arith, h)
+
+-- the first digits, then the words, then the rest
+parts-down : (old first mid new : List ℕ) (from to len front whole : ℕ) → length first ≡ length old →
+    length mid ≡ length old → length new ≡ length old → to ≤ from → from + len ≤ 64 * length old
+    → front + 64 * whole ≤ len → 64 * ((to + front) / 64) ≡ to + front
+    → IsMoved old from to front first → IsMoved first (from + front) (64 * ((to + front) / 64)) (64 * whole) mid →
+    IsMoved mid (from + (front + 64 * whole)) (to + (front + 64 * whole)) (len - (front + 64 * whole)) new
+    → IsMoved old from to len new
+parts-down old first mid new from to len front whole e f g o l m w p q r =
+    let two : IsMoved old from to (front + 64 * whole) mid =
+    moved-down old first mid from to front (64 * whole) e f o (omega (arith, l, m)) p
+    (moved-equal first mid (from + front) (from + front) (64 * ((to + front) / 64)) (to + front) (64 * whole) (64 * whole) refl w refl q) in
+    moved-equal old new from from to to (front + 64 * whole + (len - (front + 64 * whole))) len refl refl (omega (arith, m))
+    (moved-down old mid new from to (front + 64 * whole) (len - (front + 64 * whole)) f g o (omega (arith, l, m)) two r)
+
+-- the rest, then the words, then the first digits
+parts-up : (old last mid new : List ℕ) (from to len front whole : ℕ) → length last ≡ length old → length mid ≡ length old →
+    length new ≡ length old → from ≤ to → to + len ≤ 64 * length old
+    → front + 64 * whole ≤ len → 64 * ((to + front) / 64) ≡ to + front
+    → IsMoved old (from + (front + 64 * whole)) (to + (front + 64 * whole)) (len - (front + 64 * whole)) last →
+    IsMoved last (from + front) (64 * ((to + front) / 64)) (64 * whole) mid → IsMoved mid from to front new
+    → IsMoved old from to len new
+parts-up old last mid new from to len front whole e f g o l m w p q r =
+    let rest : ℕ = len - (front + 64 * whole) in
+    let two : IsMoved old (from + front) (to + front) (64 * whole + (len - (front + 64 * whole))) mid =
+    moved-up old last mid (from + front) (to + front) (64 * whole) rest e f (omega (arith, o)) (omega (arith, l, m))
+    (moved-equal old last (from + (front + 64 * whole)) (from + front + 64 * whole) (to + (front + 64 * whole))
+    (to + front + 64 * whole) rest rest (omega arith) (omega arith) refl p)
+    (moved-equal last mid (from + front) (from + front) (64 * ((to + front) / 64)) (to + front) (64 * whole) (64 * whole) refl w refl q) in
+    moved-equal old new from from to to (front + (64 * whole + (len - (front + 64 * whole)))) len refl refl (omega (arith, m))
+    (moved-up old mid new from to front (64 * whole + rest) f g o (omega (arith, l, m)) two r)
+
+pub many-down : (old first mid new : List ℕ) (from to len : ℕ) → length first ≡ length old →
+    length mid ≡ length first → length new ≡ length mid → to ≤ from → 64 ≤ len → from + len ≤ 64 * length old
+    → IsMoved old from to (filling to) first
+    → IsMoved first (from + filling to) (64 * ((to + filling to) / 64)) (64 * whole_words to len) mid
+    → IsMoved mid (from + (filling to + 64 * whole_words to len)) (to + (filling to + 64 * whole_words to len))
+    (len - (filling to + 64 * whole_words to len)) new
+    → IsMoved old from to len new
+many-down old first mid new from to len e f g o h l =
+    parts-down old first mid new from to len (filling to) (whole_words to len) e (f ∙ e) (g ∙ f ∙ e) o l (parts-low to len h) (fills to)
+
+pub many-up : (old last mid new : List ℕ) (from to len : ℕ) → length last ≡ length old →
+    length mid ≡ length last → length new ≡ length mid → from ≤ to → 64 ≤ len → to + len ≤ 64 * length old
+    → IsMoved old (from + (filling to + 64 * whole_words to len)) (to + (filling to + 64 * whole_words to len))
+    (len - (filling to + 64 * whole_words to len)) last
+    → IsMoved last (from + filling to) (64 * ((to + filling to) / 64)) (64 * whole_words to len) mid
+    → IsMoved mid from to (filling to) new
+    → IsMoved old from to len new
+many-up old last mid new from to len e f g o h l =
+    parts-up old last mid new from to len (filling to) (whole_words to len) e (f ∙ e) (g ∙ f ∙ e) o l (parts-low to len h) (fills to)
+
+-- ---- words
+
 -- a whole word that is stored
 pub word-stored : (ws : List ℕ) (place v : ℕ) → place < length ws → ((i : ℕ) → Fits w64 (slice_index_or ws i 0)) →
     v < 2 ^ 64 → slice_set ws place v ≡ with_digits ws (64 * place) 64 v

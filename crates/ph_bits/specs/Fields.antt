@@ -1,5 +1,5 @@
 -- Fields of words: the number of so many digits, rows of them, and how many of them are ones.
-use Rattle.std.specs.Prelude.{◌≡◌, ◌≤◌, ℕ, zero, suc, ◌+◌, ◌-◌, ◌*◌, ◌/◌, ◌%◌, ◌^◌, List, [], ◌∷◌, length, map}
+use Rattle.std.specs.Prelude.{◌≡◌, ◌≤◌, ℕ, zero, suc, ◌+◌, ◌-◌, ◌*◌, ◌/◌, ◌%◌, ◌^◌, List, [], ◌∷◌, length, map, take, drop, replicate}
 use Rattle.std.specs.Int.RustNames.{count_ones}
 use Rattle.ph_specs.specs.Digits.{field, number_of, pieces, digits_at}
 
@@ -32,3 +32,13 @@ digits_row words at width (suc n) = digits_at words at width ∷ digits_row word
 -- the last `width` digits of a number, of which the last `low` are zeros
 abbrev pub cut : ℕ → ℕ → ℕ → ℕ
 cut width low x = x % 2 ^ width / 2 ^ low * 2 ^ low
+
+-- what it takes of the two
+pub record IsCut (width low : ℕ) : Type 0 where
+  pub digits : width ≤ 63
+  pub zeros : low ≤ 63
+
+-- the first numbers of an array are those of a row of fields, and the others are zeros
+pub record IsRowIn (words : List ℕ) (at width count : ℕ) (body : List ℕ) : Type 0 where
+  pub fields : take count body ≡ digits_row words at width count
+  pub zeros : drop count body ≡ replicate (16 - count) 0

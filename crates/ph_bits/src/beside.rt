@@ -3,7 +3,7 @@
 ghost use Rattle.std.specs.Prelude.{◌≡◌, ◌+◌, ◌*◌, ◌^◌, ◌<◌, ◌≤◌, length, map};
 ghost use Rattle.ph_specs.specs.Digits.{field, number_of};
 ghost use Rattle.ph_specs.specs.PutTree.{same_digits};
-ghost use Rattle.ph_bits.specs.Fields.{cut, digits_row};
+ghost use Rattle.ph_bits.specs.Fields.{IsCut, cut, digits_row};
 
 use crate::fields::field;
 
@@ -29,8 +29,7 @@ pub fn is_row(words: &[u64], at: u64, width: u32, low: u32, numbers: &[u64]) -> 
 // The number that the digits of the numbers make together.
 #[inline(always)]
 fn packed(width: u32, low: u32, numbers: &[u64]) -> u64
-    requires width { width ≤ 63 }
-    requires low { low ≤ 63 }
+    requires cut { IsCut width low }
     requires inside { length numbers.now * width ≤ 64 }
     ensures { result ≡ number_of (map (field width) (map (cut width low) numbers.now)) }
 {
@@ -44,8 +43,7 @@ fn packed(width: u32, low: u32, numbers: &[u64]) -> u64
 // Whether the fields are the digits of the numbers, each by itself.
 #[inline(always)]
 fn are_fields(words: &[u64], at: u64, width: u32, low: u32, numbers: &[u64]) -> bool
-    requires width { width ≤ 63 }
-    requires low { low ≤ 63 }
+    requires cut { IsCut width low }
     requires few { length numbers.now ≤ 16 }
     requires inside { at + length numbers.now * width ≤ 64 * length words.now }
     requires near { at ≤ 2 ^ 62 }
@@ -63,8 +61,7 @@ fn are_fields(words: &[u64], at: u64, width: u32, low: u32, numbers: &[u64]) -> 
 // The last `width` digits of a number, of which the last `low` become zeros.
 #[inline(always)]
 fn cut(number: u64, width: u32, low: u32) -> u64
-    requires width { width ≤ 63 }
-    requires low { low ≤ 63 }
+    requires { IsCut width low }
     ensures value { result ≡ cut width low number }
     ensures limit { result < 2 ^ width }
 {

@@ -2,7 +2,7 @@
 
 ghost use Rattle.std.specs.Prelude.{◌≡◌, ◌+◌, ◌-◌, ◌*◌, ◌^◌, ◌≤◌, length, take, drop, replicate};
 ghost use Rattle.ph_specs.specs.Digits.{pieces};
-ghost use Rattle.ph_bits.specs.Fields.{digits_row};
+ghost use Rattle.ph_bits.specs.Fields.{IsRowIn, digits_row};
 
 use crate::fields::field;
 
@@ -49,8 +49,7 @@ fn fields_of(words: &[u64], at: u64, width: u32, count: usize) -> [u64; 16]
     requires few { count ≤ 16 }
     requires inside { at + count * width ≤ 64 * length words.now }
     requires near { at ≤ 2 ^ 62 }
-    ensures fields { take count result ≡ digits_row words.now at width count }
-    ensures zeros { drop count result ≡ replicate (16 - count) 0 }
+    ensures { IsRowIn words.now at width count result }
 {
     let mut body = [0; 16];
     for i in 0..count {

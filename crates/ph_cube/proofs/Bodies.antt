@@ -13,8 +13,9 @@ use Rattle.ph_bits.specs.Fields.{digits_row}
 use Rattle.ph_bits.specs.Packed.{read_body, IsBodyAt}
 use Rattle.ph_linear.proofs.Bodies.{body-read}
 use Rattle.ph_cube.specs.Cube.{bodies}
+use Rattle.ph_cube.specs.Stands.{StandsAt}
 use Rattle.ph_cube.proofs.Columns.{body-row}
-use Rattle.ph_cube.proofs.Entries.{StandsAt, entry-is}
+use Rattle.ph_cube.proofs.Entries.{entry-is}
 
 within : (i n d : ℕ) → i < n → i * d + d ≤ n * d
 within i n d l = grind (arith, l)

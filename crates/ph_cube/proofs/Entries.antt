@@ -12,15 +12,10 @@ use Rattle.ph_specs.proofs.lemmas.ReadColumns.{length-parts}
 use Rattle.ph_bits.specs.Fields.{ones_in}
 use Rattle.ph_linear.proofs.Entries.{no_read, address-read, kind-read}
 use Rattle.ph_cube.specs.Cube.{kinds, bodies, twos_in}
+use Rattle.ph_cube.specs.Stands.{StandsAt}
 use Rattle.ph_cube.proofs.Columns.{length-kinds, kind-digits}
 use Rattle.ph_cube.proofs.Places.{present, entry-at, children-at}
 use Rattle.ph_cube.proofs.Ranks.{present-ones, twos-digits, length-entries, kind-one}
-
--- an entry, by its address
-pub record StandsAt (d : ℕ) (words : List ℕ) (a i : ℕ) : Type 0 where
-  pub limit : a < 2 ^ d
-  pub place : ones_in words 64 (a * 2) ≡ i
-  pub some : 0 < ones_in words (64 + a * 2) 2
 
 module _ (d : ℕ) (words : List ℕ) (a i : ℕ) (r : IsRecord true d words) (h : Each (λ x. x < 2 ^ 64) words) where
   many : length (bodies d words) ≡ length (kinds d words)

@@ -145,37 +145,31 @@ place-next a (k ∷ ks) (b ∷ bs) (suc j) e l =
     skip (λ y. nat_le (a + suc j) y) (k == 0) (k == 2) a b (read_cube (a + 1) ks bs) (present ks j) (λ f. lt-leb (a + suc j) a (omega arith))
     (ap (λ s. position_or_len (λ r. nat_le s (read_address r)) (read_cube (a + 1) ks bs)) (sym z) ∙ place-next (a + 1) ks bs j (omega (arith, e)) (omega (arith, l)))
 
-pub place-at : (a : ℕ) (ks : List ℕ) (bs : List (List ℕ)) (j : ℕ) → length bs ≡ length ks → j < length ks →
-    (slice_index_or ks j 0 == 0) ≡ false → position_or_len (λ r. read_address r == a + j) (read_cube a ks bs) ≡ present ks j
-place-at a [] bs j e l h = absurd (omega (arith, l))
-place-at a (k ∷ ks) [] j e l h = absurd (omega (arith, e))
-place-at a (k ∷ ks) (b ∷ bs) zero e l h = here (k == 0) h
+-- the place of an address at which an entry stands or, where the test is true, none
+pub place-of : (t : Bool) (a : ℕ) (ks : List ℕ) (bs : List (List ℕ)) (j : ℕ) → length bs ≡ length ks → j < length ks →
+    (slice_index_or ks j 0 == 0) ≡ t → position_or_len (λ r. read_address r == a + j) (read_cube a ks bs) ≡
+    (if t then length (read_cube a ks bs) else present ks j)
+place-of t a [] bs j e l h = absurd (omega (arith, l))
+place-of t a (k ∷ ks) [] j e l h = absurd (omega (arith, e))
+place-of t a (k ∷ ks) (b ∷ bs) zero e l h = here (k == 0) t h
   where
-    here : (t : Bool) → t ≡ false →
+    here : (u t : Bool) → u ≡ t →
         position_or_len (λ r. read_address r == a + 0)
-        (if t then read_cube (a + 1) ks bs else read (k == 2) a b ∷ read_cube (a + 1) ks bs) ≡ 0
-    here true q = absurd (let f : mark true ≡ mark false = ap mark q in omega (arith, f))
-    here false q = stop (λ y. y == a + 0) (k == 2) a b (read_cube (a + 1) ks bs) (eq-eqb a (a + 0) (omega arith))
-place-at a (k ∷ ks) (b ∷ bs) (suc j) e l h =
+        (if u then read_cube (a + 1) ks bs else read (k == 2) a b ∷ read_cube (a + 1) ks bs) ≡
+        (if t then length (if u then read_cube (a + 1) ks bs else read (k == 2) a b ∷ read_cube (a + 1) ks bs) else 0)
+    here true true q = gone (a + 0) (a + 1) ks bs (omega arith)
+    here true false q = absurd (let f : mark true ≡ mark false = ap mark q in omega (arith, f))
+    here false true q = absurd (let f : mark false ≡ mark true = ap mark q in omega (arith, f))
+    here false false q = stop (λ y. y == a + 0) (k == 2) a b (read_cube (a + 1) ks bs) (eq-eqb a (a + 0) (omega arith))
+place-of t a (k ∷ ks) (b ∷ bs) (suc j) e l h =
     let z : a + 1 + j ≡ a + suc j = omega arith in
-    skip (λ y. y == a + suc j) (k == 0) (k == 2) a b (read_cube (a + 1) ks bs) (present ks j) (λ f. not-same a (a + suc j) (omega arith))
-    (ap (λ s. position_or_len (λ r. read_address r == s) (read_cube (a + 1) ks bs)) (sym z) ∙ place-at (a + 1) ks bs j (omega (arith, e)) (omega (arith, l)) h)
-
-pub place-none : (a : ℕ) (ks : List ℕ) (bs : List (List ℕ)) (j : ℕ) → length bs ≡ length ks → j < length ks →
-    (slice_index_or ks j 0 == 0) ≡ true → position_or_len (λ r. read_address r == a + j) (read_cube a ks bs) ≡
-    length (read_cube a ks bs)
-place-none a [] bs j e l h = absurd (omega (arith, l))
-place-none a (k ∷ ks) [] j e l h = absurd (omega (arith, e))
-place-none a (k ∷ ks) (b ∷ bs) zero e l h = here (k == 0) h
+    skip (λ y. y == a + suc j) (k == 0) (k == 2) a b (read_cube (a + 1) ks bs)
+    (if t then length (read_cube (a + 1) ks bs) else present ks j) (λ f. not-same a (a + suc j) (omega arith))
+    (ap (λ s. position_or_len (λ r. read_address r == s) (read_cube (a + 1) ks bs)) (sym z) ∙ place-of t (a + 1) ks bs j (omega (arith, e)) (omega (arith, l)) h)
+    ∙ on t
   where
-    here : (t : Bool) → t ≡ true →
-        position_or_len (λ r. read_address r == a + 0)
-        (if t then read_cube (a + 1) ks bs else read (k == 2) a b ∷ read_cube (a + 1) ks bs) ≡
-        length (if t then read_cube (a + 1) ks bs else read (k == 2) a b ∷ read_cube (a + 1) ks bs)
-    here true q = gone (a + 0) (a + 1) ks bs (omega arith)
-    here false q = absurd (let f : mark false ≡ mark true = ap mark q in omega (arith, f))
-place-none a (k ∷ ks) (b ∷ bs) (suc j) e l h =
-    let z : a + 1 + j ≡ a + suc j = omega arith in
-    skip (λ y. y == a + suc j) (k == 0) (k == 2) a b (read_cube (a + 1) ks bs) (length (read_cube (a + 1) ks bs)) (λ f. not-same a (a + suc j) (omega arith))
-    (ap (λ s. position_or_len (λ r. read_address r == s) (read_cube (a + 1) ks bs)) (sym z) ∙ place-none (a + 1) ks bs j (omega (arith, e)) (omega (arith, l)) h)
-    ∙ long (k == 0) (k == 2) a b (read_cube (a + 1) ks bs)
+    on : (t : Bool) → (if k == 0 then 0 else 1) + (if t then length (read_cube (a + 1) ks bs) else present ks j) ≡
+        (if t then length (if k == 0 then read_cube (a + 1) ks bs else read (k == 2) a b ∷ read_cube (a + 1) ks bs) else
+        (if k == 0 then 0 else 1) + present ks j)
+    on true = long (k == 0) (k == 2) a b (read_cube (a + 1) ks bs)
+    on false = refl

@@ -1,5 +1,5 @@
 -- A cube table in which what stands at an address became a child with another body, where the table lies.
-use Rattle.std.proofs.Common.{◌≡◌, ℕ, suc, ◌+◌, ◌*◌, ◌/◌, ◌^◌, ◌≤◌, ◌<◌, refl, sym, ◌∙◌, ap, subst, arith, List, []}
+use Rattle.std.proofs.Common.{◌≡◌, ℕ, ◌+◌, ◌*◌, ◌^◌, ◌≤◌, ◌<◌, refl, sym, ◌∙◌, ap, subst, arith, List}
 use Rattle.std.proofs.Common.{◌∷◌, ◌++◌, length, length-append, map, replicate, slice_index_or, true}
 use Rattle.std.specs.List.{AllByRecursion as Each}
 use Rattle.ph_specs.specs.Digits.{Field, field, number_of, digits_of, words_of}
@@ -14,7 +14,7 @@ use Rattle.ph_bits.specs.Edits.{edited_as, flats}
 use Rattle.ph_bits.specs.declared.edits.Edit.{Edit}
 use Rattle.ph_linear.specs.Edited.{IsOver, IsColumnOver, column_edited}
 use Rattle.ph_linear.specs.declared.copies.Column.{Column}
-use Rattle.ph_linear.proofs.Overs.{over-equal, over-next, over-table, column-same}
+use Rattle.ph_linear.proofs.Overs.{over-equal, over-next, over-table, column-same, table-inside, first-small}
 use Rattle.ph_cube.specs.Edited.{IsEditAt}
 use Rattle.ph_cube.proofs.EditedPlaces.{length-places, digits-kinds, digits-bodies}
 use Rattle.ph_cube.proofs.EditedTables.{table-old, long, kinds-edited, bodies-edited}
@@ -27,12 +27,6 @@ module _ (dims : ℕ) (words : List ℕ) (e : Edit) (addr : ℕ) (r : IsRecord t
   abbrev n : ℕ
   n = 2 ^ dims
 
-  abbrev es : List Flat
-  es = flats (entries_as true dims words) (values_as true dims words)
-
-  abbrev new_es : List Flat
-  new_es = edited_as true dims words e
-
   abbrev kind_list : List Flat → List Field
   kind_list fs = map place_kind (places (2 ^ dims) 0 fs)
 
@@ -43,17 +37,20 @@ module _ (dims : ℕ) (words : List ℕ) (e : Edit) (addr : ℕ) (r : IsRecord t
   kind-digits : (fs : List Flat) → digits_of (kind_list fs) ≡ n * 2
   kind-digits fs = digits-kinds (places n 0 fs) ∙ ap (λ t. t * 2) (length-places n 0 fs)
 
-  old-digits : digits_of (cube_table dims b es) ≡ n * 2 + n * (dims * b)
+  old-digits : digits_of (cube_table dims b (flats (entries_as true dims words) (values_as true dims words))) ≡ n * 2 + n * (dims * b)
   old-digits =
+      let es : List Flat = flats (entries_as true dims words) (values_as true dims words) in
       digits_of-append (kind_list es) (row_list es) ∙ ap (λ t. t + digits_of (row_list es)) (kind-digits es) ∙
       ap (λ t. n * 2 + t) (digits-bodies dims b n 0 es (long dims words e addr r h k))
 
   new-digits : AreRising dims (first_in words).level 0 (edited_as true dims words e) →
       digits_of (cube_table dims (first_in words).level (edited_as true dims words e)) ≡ n * 2 + n * (dims * b)
-  new-digits up = table-digits true dims b 0 new_es up ∙ omega arith
+  new-digits up = table-digits true dims b 0 (edited_as true dims words e) up ∙ omega arith
 
   row-digits : AreRising dims (first_in words).level 0 (edited_as true dims words e) → digits_of (row_list (edited_as true dims words e)) ≡ n * (dims * b)
-  row-digits up = left _ _ _ _ _ (new-digits up) (digits_of-append (kind_list new_es) (row_list new_es)) (kind-digits new_es)
+  row-digits up =
+      let new_es : List Flat = edited_as true dims words e in
+      left _ _ _ _ _ (new-digits up) (digits_of-append (kind_list new_es) (row_list new_es)) (kind-digits new_es)
     where
       left : (all x z y s : ℕ) → all ≡ y + s → all ≡ x + z → x ≡ y → z ≡ s
       left all x z y s p q f = omega (arith, p, q, f)
@@ -64,6 +61,7 @@ module _ (dims : ℕ) (words : List ℕ) (e : Edit) (addr : ℕ) (r : IsRecord t
       (row_list (edited_as true dims words e)) ≡
       number_of (cube_table dims (first_in words).level (edited_as true dims words e))
   by-columns up =
+      let new_es : List Flat = edited_as true dims words e in
       let a : ℕ = number_of (kind_list new_es) in
       sym
       (sym (table-number dims b 0 new_es)
@@ -82,11 +80,13 @@ module _ (dims : ℕ) (words : List ℕ) (e : Edit) (addr : ℕ) (r : IsRecord t
       → new ≡ slice_index_or words 0 0 ∷ words_of (cube_table dims (first_in words).level (edited_as true dims words e)) ++ values_as true dims words
   put-table mid new kinds rows at v body up kt bt ap1 al am ka kw kn ra rv rn lm ln nf p q =
       let old = table-old dims words e addr r h k in
+      let es : List Flat = flats (entries_as true dims words) (values_as true dims words) in
+      let new_es : List Flat = edited_as true dims words e in
       let w : ℕ = slice_index_or words 0 0 in
       let fs : List Field = cube_table dims b es in
       let gs : List Field = cube_table dims b new_es in
       let vs : List ℕ = values_as true dims words in
-      let room : 64 + (n * 2 + n * (dims * b)) ≤ 64 * length words = enough (digits_of fs) _ _ _ _ _ old-digits
+      let room : 64 + (n * 2 + n * (dims * b)) ≤ 64 * length words = table-inside (digits_of fs) _ _ _ _ _ old-digits
       (length-append (words_of fs) vs) (length-words_of fs) (ap length old.is) in
       let k1 : IsOver words 64 (n * 2) (number_of (kind_list new_es)) mid =
       over-equal words mid kinds.at 64 (kinds.count * kinds.width) (n * 2) _ (number_of (kind_list new_es)) ka
@@ -110,10 +110,3 @@ module _ (dims : ℕ) (words : List ℕ) (e : Edit) (addr : ℕ) (r : IsRecord t
       over-table w fs gs vs new (first-small words h) (new-digits up ∙ sym old-digits) old.fit
       (table-fit true dims b 0 new_es up) old.small nf (ln ∙ ap length old.is)
       (subst (λ t. IsOver t 64 (digits_of fs) (number_of gs) new) old.is k5)
-    where
-      enough : (d x y z j len : ℕ) → d ≡ x → y ≡ z + j → z ≡ (d + 63) / 64 → len ≡ suc y → 64 + x ≤ 64 * len
-      enough d x y z j len e f g i = omega (arith, e, f, g, i)
-
-      first-small : (ws : List ℕ) → Each (λ x. x < 2 ^ 64) ws → slice_index_or ws 0 0 < 2 ^ 64
-      first-small [] h = omega arith
-      first-small (x ∷ ws) h = h.0

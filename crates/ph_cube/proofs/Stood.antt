@@ -9,9 +9,9 @@ use Rattle.ph_bits.specs.Fields.{ones_in}
 use Rattle.ph_specs.specs.Layout.{IsRecord, entries_as, read_address}
 use Rattle.ph_specs.proofs.lemmas.ReadColumns.{length-parts}
 use Rattle.ph_cube.specs.Cube.{kinds, bodies}
+use Rattle.ph_cube.specs.Stands.{StandsAt}
 use Rattle.ph_cube.proofs.Columns.{length-kinds}
-use Rattle.ph_cube.proofs.Places.{present, place-at, place-none, place-next, entry-at}
-use Rattle.ph_cube.proofs.Entries.{StandsAt}
+use Rattle.ph_cube.proofs.Places.{present, place-of, place-next, entry-at}
 use Rattle.ph_cube.proofs.Ranks.{present-ones, kind-one, length-entries}
 use Rattle.ph_linear.proofs.Entries.{no_read, address-read}
 use Rattle.ph_specs.specs.Record.{first_in, read, read_cube}
@@ -27,35 +27,41 @@ told i j o p q = let e : suc j ≡ suc i = ap at (sym p ∙ q) in omega (arith, 
 gone : (i : ℕ) (o : Option ℕ) → o ≡ None → o ≡ Some i → 1 ≤ 0
 gone i o p q = let e : 0 ≡ suc i = ap at (sym p ∙ q) in omega (arith, e)
 
+module _ (d : ℕ) (words : List ℕ) (a : ℕ) (l : a < 2 ^ d) where
+  z : 0 + a ≡ a
+  z = omega arith
+
+  n : length (bodies d words) ≡ length (kinds d words)
+  n = length-parts (2 ^ d) d _ ∙ sym (length-kinds d words)
+
+  j : a < length (kinds d words)
+  j = subst (λ t. a < t) (sym (length-kinds d words)) l
+
+  -- an address without an entry, and one with an entry
+  pub none-stands : (slice_index_or (kinds d words) a 0 == 0) ≡ true → position (λ r. read_address r == a) (entries_as true d words) ≡ None
+  none-stands e =
+      let p : position_or_len (λ r. read_address r == a) (entries_as true d words) ≡ length (entries_as true d words) =
+      ap (λ t. position_or_len (λ r. read_address r == t) (entries_as true d words)) (sym z) ∙ place-of true 0 (kinds d words) (bodies d words) a n j e in
+      ap (λ t. cond (nat_lt t (length (entries_as true d words))) (Some t) None) p
+      ∙ ap (λ b. cond b (Some (length (entries_as true d words))) None) (le-ltb (length (entries_as true d words)) (length (entries_as true d words)) (omega arith))
+
+  pub one-stands : (slice_index_or (kinds d words) a 0 == 0) ≡ false →
+      position (λ r. read_address r == a) (entries_as true d words) ≡ Some (present (kinds d words) a)
+  one-stands e =
+      let k : ℕ = present (kinds d words) a in
+      let p : position_or_len (λ r. read_address r == a) (entries_as true d words) ≡ k =
+      ap (λ t. position_or_len (λ r. read_address r == t) (entries_as true d words)) (sym z) ∙ place-of false 0 (kinds d words) (bodies d words) a n j e in
+      let m : k < length (entries_as true d words) = (entry-at 0 (kinds d words) (bodies d words) a n j e).0 in
+      ap (λ t. cond (nat_lt t (length (entries_as true d words))) (Some t) None) p ∙ ap (λ b. cond b (Some k) None) (lt-ltb k (length (entries_as true d words)) m)
+
 pub stands : (d : ℕ) (words : List ℕ) (a i : ℕ) → IsRecord true d words → Each (λ x. x < 2 ^ 64) words → a < 2 ^ d →
     position (λ r. read_address r == a) (entries_as true d words) ≡ Some i → StandsAt d words a i
 stands d words a i r h l f = by (slice_index_or (kinds d words) a 0 == 0) refl
   where
-    z : 0 + a ≡ a
-    z = omega arith
-
-    n : length (bodies d words) ≡ length (kinds d words)
-    n = length-parts (2 ^ d) d _ ∙ sym (length-kinds d words)
-
-    j : a < length (kinds d words)
-    j = subst (λ t. a < t) (sym (length-kinds d words)) l
-
     by : (t : Bool) → (slice_index_or (kinds d words) a 0 == 0) ≡ t → StandsAt d words a i
-    by true e =
-        let p : position_or_len (λ r. read_address r == a) (entries_as true d words) ≡ length (entries_as true d words) =
-        ap (λ t. position_or_len (λ r. read_address r == t) (entries_as true d words)) (sym z) ∙ place-none 0 (kinds d words) (bodies d words) a n j e in
-        let q : position (λ r. read_address r == a) (entries_as true d words) ≡ None =
-        ap (λ t. cond (nat_lt t (length (entries_as true d words))) (Some t) None) p
-        ∙ ap (λ b. cond b (Some (length (entries_as true d words))) None) (le-ltb (length (entries_as true d words)) (length (entries_as true d words)) (omega arith)) in
-        absurd (omega (arith, gone i _ q f))
+    by true e = absurd (omega (arith, gone i _ (none-stands d words a l e) f))
     by false e =
-        let k : ℕ = present (kinds d words) a in
-        let p : position_or_len (λ r. read_address r == a) (entries_as true d words) ≡ k =
-        ap (λ t. position_or_len (λ r. read_address r == t) (entries_as true d words)) (sym z) ∙ place-at 0 (kinds d words) (bodies d words) a n j e in
-        let m : k < length (entries_as true d words) = (entry-at 0 (kinds d words) (bodies d words) a n j e).0 in
-        let q : position (λ r. read_address r == a) (entries_as true d words) ≡ Some k =
-        ap (λ t. cond (nat_lt t (length (entries_as true d words))) (Some t) None) p ∙ ap (λ b. cond b (Some k) None) (lt-ltb k (length (entries_as true d words)) m) in
-        let i : k ≡ i = told i k _ q f in
+        let i : present (kinds d words) a ≡ i = told i (present (kinds d words) a) _ (one-stands d words a l e) f in
         let o : ones_in words (64 + a * 2) 2 ≡ 1 = kind-one d words a r h l ∙ ap (λ t. if t then 0 else 1) e in
         record {
           limit = l;
@@ -84,32 +90,23 @@ kind-of a [] bs i x e l f = absurd (omega (arith, l))
 kind-of a (k ∷ ks) [] i x e l f = absurd (omega (arith, e))
 kind-of a (k ∷ ks) (b ∷ bs) i x e l f = by (k == 0) refl (λ j m g. kind-of (a + 1) ks bs j x (omega (arith, e)) m g) i l f
   where
+    more : (t : Bool) → (k == 0) ≡ t → (i n : ℕ) → Kind (a + 1) ks i x → (if t then 0 else 1) + i ≡ n → Kind a (k ∷ ks) n x
+    more t q i n h m = record {
+      at_kind = suc h.at_kind;
+      there = omega (arith, h.there);
+      inside = omega (arith, h.inside);
+      kind = h.kind;
+      front = ap (λ u. (if u then 0 else 1) + present ks h.at_kind) q ∙ ap (λ s. (if t then 0 else 1) + s) h.front ∙ m;
+    }
+
     by : (t : Bool) → (k == 0) ≡ t →
         ((j : ℕ) → j < length (read_cube (a + 1) ks bs) → read_address (get_or (read_cube (a + 1) ks bs) j no_read) ≡
         x → Kind (a + 1) ks j x) → (i : ℕ) →
         i < length (if t then read_cube (a + 1) ks bs else read (k == 2) a b ∷ read_cube (a + 1) ks bs)
         → read_address (get_or (if t then read_cube (a + 1) ks bs else read (k == 2) a b ∷ read_cube (a + 1) ks bs) i no_read) ≡ x → Kind a (k ∷ ks) i x
-    by true q ih i l f =
-        let h = ih i l f in
-        let n : 0 + present ks h.at_kind ≡ i = omega (arith, h.front) in
-        record {
-          at_kind = suc h.at_kind;
-          there = omega (arith, h.there);
-          inside = omega (arith, h.inside);
-          kind = h.kind;
-          front = ap (λ t. (if t then 0 else 1) + present ks h.at_kind) q ∙ n;
-        }
+    by true q ih i l f = more true q i i (ih i l f) (omega arith)
     by false q ih zero l f = record { at_kind = 0; there = sym f ∙ address-read (k == 2) a b ∙ omega arith; inside = omega arith; kind = q; front = refl }
-    by false q ih (suc i) l f =
-        let h = ih i (omega (arith, l)) f in
-        let n : 1 + present ks h.at_kind ≡ suc i = omega (arith, h.front) in
-        record {
-          at_kind = suc h.at_kind;
-          there = omega (arith, h.there);
-          inside = omega (arith, h.inside);
-          kind = h.kind;
-          front = ap (λ t. (if t then 0 else 1) + present ks h.at_kind) q ∙ n;
-        }
+    by false q ih (suc i) l f = more false q i (suc i) (ih i (omega (arith, l)) f) (omega arith)
 
 pub stands-at : (d : ℕ) (words : List ℕ) (a i : ℕ) → IsRecord true d words → Each (λ x. x < 2 ^ 64) words →
     i < (first_in words).entries → slice_get (map read_address (entries_as true d words)) i ≡ Some a → StandsAt d words a i

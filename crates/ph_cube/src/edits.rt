@@ -7,7 +7,7 @@ ghost use Rattle.ph_specs.specs.NodeSize.{points_in};
 ghost use Rattle.ph_specs.specs.Pack.{cube_digits, record_in};
 ghost use Rattle.ph_specs.specs.Record.{first_in};
 ghost use Rattle.ph_bits.specs.Edits.{edited_as};
-ghost use Rattle.ph_linear.specs.Edited.{IsColumn, IsOutline, with_table};
+ghost use Rattle.ph_linear.specs.Edited.{IsChanged, IsColumn, IsOutline, with_table};
 ghost use Rattle.ph_cube.specs.Edited.{IsEditAt, entries_below};
 
 use crate::parts::children_before;
@@ -200,8 +200,7 @@ fn put_table(words: &mut [u64], dims: usize, edit: &Edit, addr: u32) -> Outline
     requires record { IsRecord true dims words.old }
     requires edit { IsEditAt dims words.old edit.now addr }
     requires entries { AreRising dims (first_in words.old).level 0 (edited_as true dims words.old edit.now) }
-    ensures outline { IsOutline true dims words.old edit.now result }
-    ensures words { words.new ≡ with_table true dims words.old edit.now }
+    ensures { IsChanged true dims words.old edit.now result words.new }
 {
     let outline = outline_of(words, dims, edit, addr);
     put_columns(words, dims, edit, addr);

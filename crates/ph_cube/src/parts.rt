@@ -7,6 +7,7 @@ ghost use Rattle.ph_specs.specs.Layout.{IsRecord, entries_as};
 ghost use Rattle.ph_bits.specs.Fields.{ones_in};
 ghost use Rattle.ph_bits.specs.Packed.{rank_at, IsBodyAt};
 ghost use Rattle.ph_cube.specs.Cube.{twos_in, HIGH};
+ghost use Rattle.ph_cube.specs.Stands.{StandsAt};
 
 use ph_bits::{field, ones_before};
 use ph_linear::level_in;
@@ -16,9 +17,7 @@ use ph_linear::level_in;
 pub(crate) fn address_of(words: &[u64], dims: usize, i: usize) -> u64
     requires record { IsRecord true dims words.now }
     requires within { i < (first_in words.now).entries }
-    ensures limit { result < 2 ^ dims }
-    ensures place { ones_in words.now 64 (result * 2) ≡ i }
-    ensures some { 0 < ones_in words.now (64 + result * 2) 2 }
+    ensures { StandsAt dims words.now result i }
 {
     let mut addr = 0;
     let mut left = i as u64;
@@ -62,9 +61,7 @@ pub(crate) fn rank_of(words: &[u64], dims: usize, i: usize, addr: u64, child: bo
 pub(crate) fn body_of(words: &[u64], dims: usize, i: usize, addr: u64) -> u64
     requires record { IsRecord true dims words.now }
     requires within { i < (first_in words.now).entries }
-    requires limit { addr < 2 ^ dims }
-    requires place { ones_in words.now 64 (addr * 2) ≡ i }
-    requires some { 0 < ones_in words.now (64 + addr * 2) 2 }
+    requires stands { StandsAt dims words.now addr i }
     ensures { IsBodyAt dims (first_in words.now).level words.now (entries_as true dims words.now) i result }
 {
     let _ = i;

@@ -4,8 +4,8 @@ ghost use Rattle.std.specs.Prelude.{◌≡◌, ◌==◌, ◌+◌, ◌*◌, ◌^�
 ghost use Rattle.ph_specs.specs.Pack.{cube_digits};
 ghost use Rattle.ph_specs.specs.Record.{first_in};
 ghost use Rattle.ph_specs.specs.Layout.{IsRecord, entries_as, read_address, is_child as read_child_test};
-ghost use Rattle.ph_bits.specs.Fields.{ones_in};
 ghost use Rattle.ph_bits.specs.Packed.{read_of, rank_at, IsPadded};
+ghost use Rattle.ph_cube.specs.Stands.{StandsAt};
 
 use crate::parts::{address_of, body_of, child_at, rank_of};
 use crate::searches::find;
@@ -93,9 +93,7 @@ pub fn rank(words: &[u64], dims: usize, i: usize) -> usize
 fn entry_at(words: &[u64], dims: usize, i: usize, addr: u64) -> Packed
     requires record { IsRecord true dims words.now }
     requires within { i < (first_in words.now).entries }
-    requires limit { addr < 2 ^ dims }
-    requires place { ones_in words.now 64 (addr * 2) ≡ i }
-    requires some { 0 < ones_in words.now (64 + addr * 2) 2 }
+    requires stands { StandsAt dims words.now addr i }
     ensures entry { slice_get (entries_as true dims words.now) i ≡ Some (read_of dims result) }
     ensures zeros { IsPadded dims result.body }
     ensures rank { result.rank ≡ rank_at result.child (entries_as true dims words.now) i }

@@ -12,7 +12,7 @@ ghost use Rattle.ph_cube.specs.Written.{kind_number, is_there};
 
 use ph_bits::{Entries, Packed, Pen, Words};
 use ph_coord::Dims;
-use ph_linear::{first_of, put_values};
+use ph_linear::{begin, close};
 
 // The body of an absent address.
 const ABSENT: [u64; 16] = [0; 16];
@@ -27,15 +27,10 @@ pub fn write<P: Dims, E: Entries<P>>(words: &mut Words, level: u32, from: &E)
     ensures words { words.new.words ≡ record_in true P.D level (E.list from.now) }
     ensures places { IsSamePlaces words.old words.new }
 {
-    words.reset(0);
-    words.push(0);
-    let mut pen = Pen::new();
+    let mut pen = begin(words);
     let children = put_kinds::<P, E>(&mut pen, words, from);
     put_bodies::<P, E>(&mut pen, words, from, level);
-    pen.finish(words);
-    put_values::<P, E>(words, from);
-    let first = first_of(level, 1, from.count(), children);
-    words.set(0, first);
+    close::<P, E>(pen, words, from, level, true, children);
 }
 
 // The kinds of all addresses. Gives how many are children.

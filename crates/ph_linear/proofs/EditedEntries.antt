@@ -24,25 +24,27 @@ values-new true dims addr body v (suc more) = values-new true dims addr body v m
 values-new false dims addr body v zero = refl
 values-new false dims addr body v (suc more) = ap {B = List ℕ} (λ t. v ∷ t) (values-new false dims addr body v more)
 
+-- the entries of a record, with their values
+abbrev pub flats_as : Bool → ℕ → List ℕ → List Flat
+flats_as cube dims words = flats (entries_as cube dims words) (values_as cube dims words)
+
+-- of an edit of them: those in front of it, those that it leaves out, those behind it, and the new ones
+abbrev pub front_of : Bool → ℕ → List ℕ → Edit → List Flat
+front_of cube dims words e = take e.place (flats_as cube dims words)
+
+abbrev pub gone_of : Bool → ℕ → List ℕ → Edit → List Flat
+gone_of cube dims words e = take e.less (drop e.place (flats_as cube dims words))
+
+abbrev pub back_of : Bool → ℕ → List ℕ → Edit → List Flat
+back_of cube dims words e = drop (e.place + e.less) (flats_as cube dims words)
+
+abbrev pub new_of : ℕ → Edit → List Flat
+new_of dims e = replicate e.more (new_flat dims e.entry e.value)
+
 module _ (cube : Bool) (dims : ℕ) (words : List ℕ) (e : Edit) (r : IsRecord cube dims words)
     (h : Each (λ x. x < 2 ^ 64) words) (l : e.place + e.less ≤ (first_in words).entries) where
   abbrev n : ℕ
   n = (first_in words).entries
-
-  abbrev es : List Flat
-  es = flats (entries_as cube dims words) (values_as cube dims words)
-
-  abbrev front : List Flat
-  front = take e.place (flats (entries_as cube dims words) (values_as cube dims words))
-
-  abbrev gone : List Flat
-  gone = take e.less (drop e.place (flats (entries_as cube dims words) (values_as cube dims words)))
-
-  abbrev back : List Flat
-  back = drop (e.place + e.less) (flats (entries_as cube dims words) (values_as cube dims words))
-
-  abbrev new : List Flat
-  new = replicate e.more (new_flat dims e.entry e.value)
 
   pub table-old : IsTable cube dims words (flats (entries_as cube dims words) (values_as cube dims words))
   table-old = table-of cube dims words r h
@@ -54,19 +56,22 @@ module _ (cube : Bool) (dims : ℕ) (words : List ℕ) (e : Edit) (r : IsRecord 
       take e.place (flats (entries_as cube dims words) (values_as cube dims words)) ++
       (replicate e.more (new_flat dims e.entry e.value) ++
       drop (e.place + e.less) (flats (entries_as cube dims words) (values_as cube dims words)))
-  parts-new = edited-parts e.place e.less e.more (new_flat dims e.entry e.value) es place-low
+  parts-new = edited-parts e.place e.less e.more (new_flat dims e.entry e.value) (flats_as cube dims words) place-low
 
-  pub long-front : length front ≡ e.place
-  long-front = length-take-le e.place es place-low
+  pub long-front : length (front_of cube dims words e) ≡ e.place
+  long-front = length-take-le e.place (flats_as cube dims words) place-low
 
-  pub long-gone : length gone ≡ e.less
-  long-gone = length-take-le e.less (drop e.place es) (omega (arith, l, table-old.many, length-drop e.place es))
+  pub long-gone : length (gone_of cube dims words e) ≡ e.less
+  long-gone = length-take-le e.less (drop e.place (flats_as cube dims words)) (omega (arith, l, table-old.many, length-drop e.place (flats_as cube dims words)))
 
-  pub long-back : length back ≡ n - (e.place + e.less)
-  long-back = length-drop (e.place + e.less) es ∙ ap (λ t. t - (e.place + e.less)) table-old.many
+  pub long-back : length (back_of cube dims words e) ≡ n - (e.place + e.less)
+  long-back = length-drop (e.place + e.less) (flats_as cube dims words) ∙ ap (λ t. t - (e.place + e.less)) table-old.many
 
   pub length-new : length (edited_as cube dims words e) ≡ count_edited (first_in words).entries e
   length-new =
+      let front : List Flat = front_of cube dims words e in
+      let new : List Flat = new_of dims e in
+      let back : List Flat = back_of cube dims words e in
       ap length parts-new ∙ length-append front (new ++ back) ∙ ap (λ t. length front + t) (length-append new back)
       ∙ sum (length front) (length new) (length back) e.place e.more (n - (e.place + e.less)) long-front
       (length-replicate e.more (new_flat dims e.entry e.value)) long-back
@@ -80,6 +85,9 @@ module _ (cube : Bool) (dims : ℕ) (words : List ℕ) (e : Edit) (r : IsRecord 
       take (points_in (take e.place (entries_as cube dims words))) (values_as cube dims words) ++
       (new_values e ++ drop (points_in (take (e.place + e.less) (entries_as cube dims words))) (values_as cube dims words))
   values-edited =
+      let front : List Flat = front_of cube dims words e in
+      let new : List Flat = new_of dims e in
+      let back : List Flat = back_of cube dims words e in
       ap values parts-new ∙ values-append front (new ++ back) ∙ ap (λ t. values front ++ t) (values-append new back)
       ∙ ap (λ t. values front ++ (t ++ values back)) (values-new e.entry.child dims e.entry.addr e.entry.body e.value e.more)
       ∙ ap (λ t. t ++ (new_values e ++ values back)) (values-front (entries_as cube dims words) (values_as cube dims words) e.place table-old.points)

@@ -4,30 +4,25 @@ use Rattle.std.proofs.Common.{[], ◌∷◌, ◌++◌, length, take, drop, repli
 use Rattle.std.specs.Prelude.{Some, None, if◌then◌else◌}
 use Rattle.std.specs.List.{AllByRecursion as Each}
 use Rattle.std.proofs.lemmas.List.{append_assoc, append-nil, map-append}
-use mir.Val.{bool_byte}
 use Rattle.ph_specs.specs.Digits.{Field, field, number_after, digits_of}
 use Rattle.ph_specs.specs.Lawful.{IsBody}
-use Rattle.ph_specs.specs.Layout.{IsRecord, entries_as, values_as, AreRising}
+use Rattle.ph_specs.specs.Layout.{IsRecord, values_as, AreRising}
 use Rattle.ph_specs.specs.Node.{Flat}
 use Rattle.ph_specs.specs.Pack.{bodies, child_mark, linear_table}
 use Rattle.ph_specs.specs.Record.{first_in}
 use Rattle.ph_specs.proofs.lemmas.Columns.{digits_of-append}
-use Rattle.ph_bits.specs.Edits.{edited, edited_as, flats, new_flat}
+use Rattle.ph_bits.specs.Edits.{edited, edited_as, new_flat}
 use Rattle.ph_bits.specs.declared.edits.Edit.{Edit}
 use Rattle.ph_bits.specs.declared.entries.Packed.{Packed}
 use Rattle.ph_linear.specs.Edited.{column_edited}
 use Rattle.ph_linear.specs.Written.{kind_fields, address_fields, body_list}
 use Rattle.ph_linear.specs.declared.copies.Column.{Column}
-use Rattle.ph_linear.proofs.EditedEntries.{table-old, parts-new, long-front, long-gone, long-back}
+use Rattle.ph_linear.proofs.EditedEntries.{flats_as, front_of, gone_of, back_of, new_of, table-old, parts-new, long-front, long-gone, long-back}
 use Rattle.ph_linear.proofs.EditedLists.{whole-parts, bodies-append, digits-kinds, digits-addresses, digits-bodies, each-take, each-drop}
 use Rattle.ph_linear.proofs.OldTables.{long-bodies}
 use Rattle.ph_linear.proofs.Segments.{column-number}
 
 -- ---- the new entry
-
-pub byte : (t : Bool) → bool_byte t ≡ (if t then 1 else 0)
-byte true = refl
-byte false = refl
 
 mark-new : (t : Bool) (v : ℕ) → child_mark (if t then None else Some v) ≡ (if t then 1 else 0)
 mark-new true v = refl
@@ -64,55 +59,51 @@ module _ (dims : ℕ) (words : List ℕ) (e : Edit) (r : IsRecord false dims wor
   abbrev b : ℕ
   b = (first_in words).level
 
-  abbrev es : List Flat
-  es = flats (entries_as false dims words) (values_as false dims words)
-
-  abbrev front : List Flat
-  front = take e.place (flats (entries_as false dims words) (values_as false dims words))
-
-  abbrev gone : List Flat
-  gone = take e.less (drop e.place (flats (entries_as false dims words) (values_as false dims words)))
-
-  abbrev back : List Flat
-  back = drop (e.place + e.less) (flats (entries_as false dims words) (values_as false dims words))
-
-  abbrev new : List Flat
-  new = replicate e.more (new_flat dims e.entry e.value)
-
   -- any column
   column : (g : List Flat → List Field) (w : ℕ) (fs hs : List Field) (c : Column) (s : ℕ) → ((xs ys : List Flat) → g (xs ++ ys) ≡ g xs ++ g ys)
-      → digits_of (g front) ≡ length front * w → digits_of (g gone) ≡ length gone * w → digits_of (g back) ≡ length back * w
-      → linear_table dims b es ≡ fs ++ (g es ++ hs) → c.at ≡ 64 + digits_of fs → c.width ≡ w → c.count ≡ n
-      → number_after s (column_edited words c e (g new)) ≡ number_after s (g (edited_as false dims words e))
-  column g w fs hs c s q d1 d2 d3 t a cw cn =
+      → ((xs : List Flat) → Each (λ (t : Flat). length t.body ≡ dims) xs → digits_of (g xs) ≡ length xs * w)
+      → linear_table dims b (flats_as false dims words) ≡ fs ++ (g (flats_as false dims words) ++ hs)
+      → c.at ≡ 64 + digits_of fs → c.width ≡ w → c.count ≡ n
+      → number_after s (column_edited words c e (g (new_of dims e))) ≡ number_after s (g (edited_as false dims words e))
+  column g w fs hs c s q d t a cw cn =
+      let old = table-old false dims words e r h l in
+      let es : List Flat = flats_as false dims words in
+      let long : Each (λ (t : Flat). length t.body ≡ dims) (flats_as false dims words) = long-bodies dims words in
+      let front : List Flat = front_of false dims words e in
+      let gone : List Flat = gone_of false dims words e in
+      let back : List Flat = back_of false dims words e in
+      let new : List Flat = new_of dims e in
       let whole : g es ≡ g front ++ (g gone ++ g back) = ap g (whole-parts e.place e.less es) ∙ q front (gone ++ back) ∙ ap (λ u. g front ++ u) (q gone back) in
-      column-number words _ (linear_table dims b es) (values_as false dims words)
-      (table-old false dims words e r h l).is (table-old false dims words e r h l).fit
-      (table-old false dims words e r h l).small c e fs (g front) (g gone) (g back) hs (g new) s
-      (t ∙ ap (λ u. fs ++ (u ++ hs)) whole) a
-      (d1 ∙ ap (λ u. u * w) (long-front false dims words e r h l) ∙ ap (λ u. e.place * u) (sym cw))
-      (d2 ∙ ap (λ u. u * w) (long-gone false dims words e r h l) ∙ ap (λ u. e.less * u) (sym cw))
-      (d3 ∙ ap (λ u. u * w) (long-back false dims words e r h l) ∙ ap (λ u. (n - (e.place + e.less)) * u) (sym cw) ∙
-      ap (λ u. (u - (e.place + e.less)) * c.width) (sym cn))
+      column-number words _ (linear_table dims b es) (values_as false dims words) old.is old.fit old.small c e fs
+      (g front) (g gone) (g back) hs (g new) s (t ∙ ap (λ u. fs ++ (u ++ hs)) whole) a
+      (d front (each-take (λ (t : Flat). length t.body ≡ dims) e.place es long)
+      ∙ ap (λ u. u * w) (long-front false dims words e r h l) ∙ ap (λ u. e.place * u) (sym cw))
+      (d gone (each-take (λ (t : Flat). length t.body ≡ dims) e.less (drop e.place es)
+      (each-drop (λ (t : Flat). length t.body ≡ dims) e.place es long))
+      ∙ ap (λ u. u * w) (long-gone false dims words e r h l) ∙ ap (λ u. e.less * u) (sym cw))
+      (d back (each-drop (λ (t : Flat). length t.body ≡ dims) (e.place + e.less) es long)
+      ∙ ap (λ u. u * w) (long-back false dims words e r h l) ∙ ap (λ u. (n - (e.place + e.less)) * u) (sym cw)
+      ∙ ap (λ u. (u - (e.place + e.less)) * c.width) (sym cn))
       ∙ ap (number_after s) (sym (ap g (parts-new false dims words e r h l) ∙ q front (new ++ back) ∙ ap (λ u. g front ++ u) (q new back)))
 
   pub kinds-edited : (c : Column) (s : ℕ) → c.at ≡ 64 → c.width ≡ 1 → c.count ≡ (first_in words).entries
       → number_after s (column_edited words c e (replicate e.more (field c.width (if e.entry.child then 1 else 0)))) ≡
       number_after s (kind_fields (edited_as false dims words e))
   kinds-edited c s a cw cn =
+      let es : List Flat = flats_as false dims words in
       ap (λ t. number_after s (column_edited words c e t))
       (ap (λ t. replicate e.more (field t (if e.entry.child then 1 else 0))) cw ∙ kinds-new e.more dims e.entry e.value)
       ∙ column kind_fields 1 [] (address_fields dims es ++ bodies b (body_list es)) c s
-      (map-append (λ (t : Flat). field 1 (child_mark t.value))) (digits-kinds front) (digits-kinds gone) (digits-kinds back)
+      (map-append (λ (t : Flat). field 1 (child_mark t.value))) (λ xs _. digits-kinds xs)
       (append_assoc (kind_fields es) (address_fields dims es) (bodies b (body_list es))) (omega (arith, a)) cw cn
 
   pub addresses-edited : (c : Column) (s : ℕ) → c.at ≡ 64 + (first_in words).entries → c.width ≡ dims → c.count ≡ (first_in words).entries
       → number_after s (column_edited words c e (replicate e.more (field c.width e.entry.addr))) ≡ number_after s (address_fields dims (edited_as false dims words e))
   addresses-edited c s a cw cn =
+      let es : List Flat = flats_as false dims words in
       ap (λ t. number_after s (column_edited words c e t)) (ap (λ t. replicate e.more (field t e.entry.addr)) cw ∙ addresses-new e.more dims e.entry e.value)
       ∙ column (address_fields dims) dims (kind_fields es) (bodies b (body_list es)) c s
-      (map-append (λ (t : Flat). field dims t.addr)) (digits-addresses dims front) (digits-addresses dims gone)
-      (digits-addresses dims back)
+      (map-append (λ (t : Flat). field dims t.addr)) (λ xs _. digits-addresses dims xs)
       (append_assoc (kind_fields es) (address_fields dims es) (bodies b (body_list es)))
       (omega (arith, a, digits-kinds es, (table-old false dims words e r h l).many)) cw cn
 
@@ -122,17 +113,14 @@ module _ (dims : ℕ) (words : List ℕ) (e : Edit) (r : IsRecord false dims wor
       (bodies (first_in words).level (replicate e.more (take dims e.entry.body)))) ≡
       number_after s (bodies (first_in words).level (body_list (edited_as false dims words e)))
   bodies-edited c s a cw cn =
-      let long = long-bodies dims words in
+      let es : List Flat = flats_as false dims words in
       let d : digits_of (kind_fields es ++ address_fields dims es) ≡ n + n * dims = fill _ _ _ (length es) n dims
       (digits_of-append (kind_fields es) (address_fields dims es)) (digits-kinds es) (digits-addresses dims es)
       (table-old false dims words e r h l).many in
       ap (λ t. number_after s (column_edited words c e (bodies b t))) (bodies-new e.more dims e.entry e.value)
       ∙ column (λ u. bodies b (body_list u)) (dims * b) (kind_fields es ++ address_fields dims es) [] c s
       (λ xs ys. ap (bodies b) (map-append (λ (t : Flat). t.body) xs ys) ∙ bodies-append b (body_list xs) (body_list ys))
-      (digits-bodies dims b front (each-take (λ t. length t.body ≡ dims) e.place es long))
-      (digits-bodies dims b gone (each-take (λ t. length t.body ≡ dims) e.less (drop e.place es)
-      (each-drop (λ t. length t.body ≡ dims) e.place es long)))
-      (digits-bodies dims b back (each-drop (λ t. length t.body ≡ dims) (e.place + e.less) es long))
+      (digits-bodies dims b)
       (ap (λ t. (kind_fields es ++ address_fields dims es) ++ t) (sym (append-nil (bodies b (body_list es))))) (omega (arith, a, d)) cw cn
     where
       fill : (x y z m n d : ℕ) → x ≡ y + z → y ≡ m * 1 → z ≡ m * d → m ≡ n → x ≡ n + n * d

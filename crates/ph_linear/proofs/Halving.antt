@@ -5,7 +5,7 @@ use Rattle.std.specs.Prelude.{Some, None, position, ◌==◌, nat_le, count_by}
 use Rattle.std.specs.List.{position_or_len, AllByRecursion as Each}
 use Rattle.std.proofs.lemmas.List.Sums.{position_or_len_is, fails_before_first, passes_at_first}
 use Rattle.std.proofs.lemmas.Bool.{leb-true, leb-false, and_parts}
-use Rattle.std.proofs.lemmas.Nat.{and_mask}
+use Rattle.std.proofs.lemmas.Nat.{and_mask, div-add-mod'}
 use Rattle.std.proofs.lemmas.List.Quantifiers.{position-Some}
 use Rattle.std.proofs.Math.Nat.{mul-le-mul_left, pow-le-pow_right}
 use Rattle.ph_specs.specs.Digits.{digits_at, words_for}
@@ -26,6 +26,14 @@ below xs m a e l f i b = omega (arith, rises-most xs i m e (omega (arith, b)) l,
 
 pub above : (xs : List ℕ) (m a : ℕ) → rises_from 0 xs ≡ true → a ≤ slice_index_or xs m 0 → (i : ℕ) → m ≤ i → i < length xs → a ≤ slice_index_or xs i 0
 above xs m a e f i b l = omega (arith, rises-most xs m i e b l, f)
+
+-- some addresses lie within the record
+pub inside : (n d b len low high : ℕ) → high ≤ n → low ≤ high → 1 + words_for (linear_digits d b n) ≤ len → 64 + n + low * d + (high - low) * d ≤ 64 * len
+inside n d b len low high l o m =
+    let p : low * d + (high - low) * d ≡ high * d = let k : low + (high - low) ≡ high = omega (arith, o) in
+    let q : (low + (high - low)) * d ≡ high * d = ap (λ t. t * d) k in omega (arith, q) in
+    let u : d * high ≤ d * n = mul-le-mul_left d l in
+    omega (arith, p, u, m)
 
 -- an address among some that were read at once
 pub one-of : (dims : ℕ) (words : List ℕ) (low high x i : ℕ) → IsRecord false dims words → Each (λ x. x < 2 ^ 64) words → high ≤ (first_in words).entries → low ≤ high
@@ -50,12 +58,9 @@ one-of dims words low high x i r h l o e b =
     rest i n w l = let e : n ≡ i + 1 + (n - 1 - i) = omega (arith, l) in
         let f : n * w ≡ (i + 1 + (n - 1 - i)) * w = ap (λ t. t * w) e in omega (arith, f)
 
-    inside : (n d b len low high : ℕ) → high ≤ n → low ≤ high → 1 + words_for (linear_digits d b n) ≤ len → 64 + n + low * d + (high - low) * d ≤ 64 * len
-    inside n d b len low high l o m =
-        let p : low * d + (high - low) * d ≡ high * d = let k : low + (high - low) ≡ high = omega (arith, o) in
-        let q : (low + (high - low)) * d ≡ high * d = ap (λ t. t * d) k in omega (arith, q) in
-        let u : d * high ≤ d * n = mul-le-mul_left d l in
-        omega (arith, p, u, m)
+-- so many addresses have at most 64 digits together
+pub few-digits : (d n : ℕ) → n ≤ 64 / d → n * d ≤ 64
+few-digits d n h = let m : d * n ≤ d * (64 / d) = mul-le-mul_left d h in omega (arith, m, div-add-mod' 64 d)
 
 -- the same address, or none
 pub found : (xs : List ℕ) (a i : ℕ) → rises_from 0 xs ≡ true → i < length xs → slice_index_or xs i 0 ≡ a → Some i ≡ position (λ x. x == a) xs
@@ -99,6 +104,17 @@ place-entries p dims words =
     position-read p (kinds dims words) (addresses dims words) (bodies dims words)
     (length-addresses dims words ∙ sym (length-kinds dims words))
     (length-parts (first_in words).entries dims _ ∙ sym (length-kinds dims words))
+
+-- the first entry that passes, or none, by the place of its address
+pub some-next : (p : ℕ → Bool) (dims : ℕ) (words : List ℕ) (i : ℕ) → i ≡ position_or_len p (addresses dims words) →
+    i < (first_in words).entries → Some i ≡ position (λ r. p (read_address r)) (entries_as false dims words)
+some-next p dims words i e l =
+    next_some p (addresses dims words) i e (omega (arith, l, length-addresses dims words)) ∙ sym (place-entries p dims words)
+
+pub none-next : (p : ℕ → Bool) (dims : ℕ) (words : List ℕ) (i : ℕ) → i ≡ position_or_len p (addresses dims words) →
+    (first_in words).entries ≤ i → None ≡ position (λ r. p (read_address r)) (entries_as false dims words)
+none-next p dims words i e l =
+    next_none p (addresses dims words) i e (omega (arith, l, length-addresses dims words)) ∙ sym (place-entries p dims words)
 
 pub place-there : (p : ℕ → Bool) (d : ℕ) (words : List ℕ) → position_or_len (λ r. p (read_address r)) (entries_as false d words) ≡ position_or_len p (addresses d words)
 place-there p d words =

@@ -18,7 +18,7 @@ use Rattle.ph_bits.specs.Edits.{edited_as}
 use Rattle.ph_bits.specs.declared.edits.Edit.{Edit}
 use Rattle.ph_linear.specs.Edited.{IsOutline, column_edited, new_values}
 use Rattle.ph_linear.specs.Resized.{IsClosable, points_less, values_closed, with_less}
-use Rattle.ph_linear.specs.Runs.{start, run, AreColumns, AreColumnsOf, runs_without, with_fields}
+use Rattle.ph_linear.specs.Runs.{start, run, AreColumnsOf, runs_without, with_fields}
 use Rattle.ph_linear.specs.Written.{kind_fields, address_fields}
 use Rattle.ph_linear.specs.declared.copies.Column.{Column}
 use Rattle.ph_linear.specs.declared.outlines.Outline.{Outline}
@@ -28,7 +28,7 @@ use Rattle.ph_linear.proofs.EditedEntries.{length-new, values-put, points-within
 use Rattle.ph_linear.proofs.EditedTables.{kinds-edited, addresses-edited, bodies-edited}
 use Rattle.ph_linear.proofs.FieldWords.{words-equal}
 use Rattle.ph_linear.proofs.PutRecords.{points-more}
-use Rattle.ph_linear.proofs.RunNumbers.{column-runs, runs-meet, start-first}
+use Rattle.ph_linear.proofs.RunNumbers.{column-runs, runs-meet, start-first, starts, addresses-at, bodies-at}
 use Rattle.ph_linear.proofs.Writing.{table-number}
 
 -- how many digits are left of columns of n entries
@@ -53,9 +53,6 @@ module _ (dims : ℕ) (words : List ℕ) (e : Edit) (r : IsRecord false dims wor
   abbrev n : ℕ
   n = (first_in words).entries
 
-  abbrev b : ℕ
-  b = (first_in words).level
-
   abbrev es : List Flat
   es = edited_as false dims words e
 
@@ -67,6 +64,9 @@ module _ (dims : ℕ) (words : List ℕ) (e : Edit) (r : IsRecord false dims wor
 
   many-less : length (edited_as false dims words e) ≡ (first_in words).entries - 1
   many-less = length-new false dims words e r h l ∙ omega (arith, l, less, more)
+
+  table-less : digits_of gs ≡ (n - 1) * (1 + dims + dims * (first_in words).level)
+  table-less = table-digits false dims (first_in words).level 0 es up ∙ ap (linear_digits dims (first_in words).level) many-less
 
   place-low : e.place < (first_in words).entries
   place-low = omega (arith, l, less)
@@ -80,7 +80,7 @@ module _ (dims : ℕ) (words : List ℕ) (e : Edit) (r : IsRecord false dims wor
       let p : e.place < cs.kinds.count = omega (arith, place-low, cols.many) in
       let s = sizes cs.kinds.at cs.kinds.width cs.addresses.at cs.addresses.width cs.bodies.at cs.bodies.width
       cs.kinds.count e.place c.begin c.one c.addresses c.bodies p in
-      let t : digits_of gs ≡ (n - 1) * (1 + dims + dims * b) = table-digits false dims b 0 es up ∙ ap (linear_digits dims b) many-less in
+      let t : digits_of gs ≡ (n - 1) * (1 + dims + dims * (first_in words).level) = table-less in
       ap (λ k. digits_of (run words 64 (start cs.kinds e.place) ∷ run words (start cs.kinds (e.place + 1))
       (start cs.addresses e.place) ∷ run words (start cs.addresses (e.place + 1)) (start cs.bodies e.place) ∷
       run words (start cs.bodies (e.place + 1)) (start cs.bodies k) ∷ [])) m
@@ -136,20 +136,21 @@ module _ (dims : ℕ) (words : List ℕ) (e : Edit) (r : IsRecord false dims wor
       ∙ ap (λ t. number_after (number_after (number_after 0 (kind_fields es)) (column_edited words cs.addresses e t))
       bs) (sym (none Field (field cs.addresses.width e.entry.addr)))
       ∙ ap (λ t. number_after t bs) (addresses-edited dims words e r h l cs.addresses
-      (number_after 0 (kind_fields es)) (at-addresses c) cols.addresses_wide (c.addresses_many ∙ cols.many))
+      (number_after 0 (kind_fields es)) (addresses-at dims words cs cols) cols.addresses_wide (c.addresses_many ∙ cols.many))
       ∙ ap (λ t. number_after (number_after (number_after 0 (kind_fields es)) (address_fields dims es))
-      (column_edited words cs.bodies e (bodies b t))) (sym (none (List ℕ) (take dims e.entry.body)))
+      (column_edited words cs.bodies e (bodies (first_in words).level t))) (sym (none (List ℕ) (take dims e.entry.body)))
       ∙ bodies-edited dims words e r h l cs.bodies
-      (number_after (number_after 0 (kind_fields es)) (address_fields dims es)) (at-bodies c) cols.bodies_wide
+      (number_after (number_after 0 (kind_fields es)) (address_fields dims es)) (bodies-at dims words cs cols) cols.bodies_wide
       (c.bodies_many ∙ cols.many)
-      ∙ table-number dims b 0 es in
+      ∙ table-number dims (first_in words).level 0 es in
       let r0 = run words 64 (start cs.kinds p) in
       let r1 = run words (start cs.kinds (p + 1)) (start cs.addresses p) in
       let r3 = run words (start cs.bodies (p + 1)) (start cs.bodies cs.bodies.count) in
-      let i1 : start cs.kinds (p + 1) ≤ start cs.addresses 0 = omega (arith, k-end, kind-low) in
+      let next : e.place + 1 ≤ cs.kinds.count = omega (arith, place-low, cols.many) in
+      let i1 : start cs.kinds (p + 1) ≤ start cs.addresses 0 = omega (arith, k-end, starts cs.kinds (p + 1) cs.kinds.count next) in
       let i2 : start cs.addresses 0 ≤ start cs.addresses p = low cs.addresses p in
       let i3 : start cs.addresses p ≤ 64 * length words = omega (arith, o.bodies, o.until, o.inside) in
-      let i4 : start cs.addresses (p + 1) ≤ start cs.bodies 0 = omega (arith, a-end, address-low) in
+      let i4 : start cs.addresses (p + 1) ≤ start cs.bodies 0 = omega (arith, a-end, starts cs.addresses (p + 1) cs.kinds.count next) in
       let i5 : start cs.bodies 0 ≤ start cs.bodies p = low cs.bodies p in
       let i6 : start cs.bodies p ≤ 64 * length words = omega (arith, o.until, o.inside) in
       sym
@@ -166,24 +167,6 @@ module _ (dims : ℕ) (words : List ℕ) (e : Edit) (r : IsRecord false dims wor
       low : (c : Column) (i : ℕ) → start c 0 ≤ start c i
       low c i = omega arith
 
-      kind-low : start cs.kinds (e.place + 1) ≤ start cs.kinds cs.kinds.count
-      kind-low =
-          let m : cs.kinds.width * (e.place + 1) ≤ cs.kinds.width * cs.kinds.count = mul-le-mul_left cs.kinds.width (omega (arith, place-low, cols.many)) in
-          omega (arith, m)
-
-      address-low : start cs.addresses (e.place + 1) ≤ start cs.addresses cs.kinds.count
-      address-low =
-          let m : cs.addresses.width * (e.place + 1) ≤ cs.addresses.width * cs.kinds.count = mul-le-mul_left cs.addresses.width (omega (arith, place-low, cols.many)) in
-          omega (arith, m)
-
-      at-addresses : AreColumns words cs → cs.addresses.at ≡ 64 + (first_in words).entries
-      at-addresses c = c.addresses ∙ ap (λ t. cs.kinds.at + cs.kinds.count * t) c.one ∙ ap (λ t. cs.kinds.at + t * 1)
-          cols.many ∙ ap (λ t. t + n * 1) c.begin ∙ omega arith
-
-      at-bodies : AreColumns words cs → cs.bodies.at ≡ 64 + (first_in words).entries + (first_in words).entries * dims
-      at-bodies c = c.bodies ∙ ap (λ t. t + cs.kinds.count * cs.addresses.width) (at-addresses c) ∙
-          ap (λ t. 64 + n + cs.kinds.count * t) cols.addresses_wide ∙ ap (λ t. 64 + n + t * dims) cols.many
-
   -- ---- the values
 
   abbrev vs : List ℕ
@@ -194,10 +177,11 @@ module _ (dims : ℕ) (words : List ℕ) (e : Edit) (r : IsRecord false dims wor
 
   shorter : words_for (digits_of (runs_without words cs e.place)) ≤ words_for (linear_digits dims (first_in words).level (first_in words).entries)
   shorter =
-      let s : digits_of fs ≡ (n - 1) * (1 + dims + dims * b) = without-digits ∙ table-digits false dims b 0 es up ∙ ap (linear_digits dims b) many-less in
+      let s : digits_of fs ≡ (n - 1) * (1 + dims + dims * (first_in words).level) = without-digits ∙ table-less in
       let k : n - 1 ≤ n = omega arith in
-      let m : (1 + dims + dims * b) * (n - 1) ≤ (1 + dims + dims * b) * n = mul-le-mul_left (1 + dims + dims * b) k in
-      fewer (digits_of fs) (linear_digits dims b n) (omega (arith, s, m))
+      let m : (1 + dims + dims * (first_in words).level) * (n - 1) ≤ (1 + dims + dims * (first_in words).level) * n =
+      mul-le-mul_left (1 + dims + dims * (first_in words).level) k in
+      fewer (digits_of fs) (linear_digits dims (first_in words).level n) (omega (arith, s, m))
     where
       fewer : (x y : ℕ) → x ≤ y → (x + 63) / 64 ≤ (y + 63) / 64
       fewer x y l = omega (arith, l)
@@ -257,7 +241,7 @@ module _ (dims : ℕ) (words : List ℕ) (e : Edit) (r : IsRecord false dims wor
         ap (λ xs. slice_set xs 0 (first_word o.level 0 (o.count - 1) (o.count - 1 - points_less o ws))) all
             ∙ ap {B = List ℕ} (λ x. x ∷ words_of fs ++ values es)
             (ap (first_word o.level 0 (o.count - 1)) kids ∙ ap (λ i. first_word o.level 0 i (children es)) c ∙ ap (λ i. first_word i 0 (length es) (children es)) k.level)
-            ∙ ap {B = List ℕ} (λ xs. first_word b 0 (length es) (children es) ∷ xs ++ values es) (words-equal fs gs without-digits without-number),
+            ∙ ap {B = List ℕ} (λ xs. first_word (first_in words).level 0 (length es) (children es) ∷ xs ++ values es) (words-equal fs gs without-digits without-number),
       )
     where
       no-values : (child : Bool) → (if child then [] else replicate e.more e.value) ≡ []

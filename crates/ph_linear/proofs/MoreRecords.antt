@@ -17,7 +17,7 @@ use Rattle.ph_specs.proofs.lemmas.Numbers.{length-words_of}
 use Rattle.ph_bits.specs.Edits.{edited_as}
 use Rattle.ph_bits.specs.declared.edits.Edit.{Edit}
 use Rattle.ph_linear.specs.Edited.{IsOutline, column_edited, new_values}
-use Rattle.ph_linear.specs.Runs.{start, run, AreColumns, AreColumnsOf, digits_more, runs_with, with_fields}
+use Rattle.ph_linear.specs.Runs.{start, run, AreColumnsOf, digits_more, runs_with, with_fields}
 use Rattle.ph_linear.specs.Written.{kind_fields, address_fields}
 use Rattle.ph_linear.specs.declared.copies.Column.{Column}
 use Rattle.ph_linear.specs.declared.outlines.Outline.{Outline}
@@ -26,7 +26,7 @@ use Rattle.ph_linear.proofs.ClosedColumns.{ordered}
 use Rattle.ph_linear.proofs.EditedEntries.{length-new, values-put, points-within}
 use Rattle.ph_linear.proofs.EditedTables.{kinds-edited, addresses-edited, bodies-edited}
 use Rattle.ph_linear.proofs.FieldWords.{each-back, words-equal}
-use Rattle.ph_linear.proofs.RunNumbers.{column-runs, runs-meet, start-first, starts}
+use Rattle.ph_linear.proofs.RunNumbers.{column-runs, runs-meet, start-first, addresses-at, bodies-at, starts}
 use Rattle.ph_linear.proofs.OpenedColumns.{with-digits}
 use Rattle.ph_linear.proofs.Writing.{table-number, few}
 
@@ -124,11 +124,11 @@ module _ (dims : ℕ) (words : List ℕ) (e : Edit) (r : IsRecord false dims wor
       ∙ ap (λ t. number_after (number_after t addrs) bs) (kinds-edited dims words e r h l cs.kinds 0 c.begin c.one cols.many)
       ∙ ap (λ t. number_after (number_after (number_after 0 (kind_fields es)) (column_edited words cs.addresses e t)) bs) (sym (one-of Field fa))
       ∙ ap (λ t. number_after t bs) (addresses-edited dims words e r h l cs.addresses
-      (number_after 0 (kind_fields es)) (at-addresses c) cols.addresses_wide (c.addresses_many ∙ cols.many))
+      (number_after 0 (kind_fields es)) (addresses-at dims words cs cols) cols.addresses_wide (c.addresses_many ∙ cols.many))
       ∙ ap (λ t. number_after (number_after (number_after 0 (kind_fields es)) (address_fields dims es))
       (column_edited words cs.bodies e t)) (sym (ap (bodies b) (one-of (List ℕ) (take dims e.entry.body)) ∙ append-nil row))
       ∙ bodies-edited dims words e r h l cs.bodies
-      (number_after (number_after 0 (kind_fields es)) (address_fields dims es)) (at-bodies c) cols.bodies_wide
+      (number_after (number_after 0 (kind_fields es)) (address_fields dims es)) (bodies-at dims words cs cols) cols.bodies_wide
       (c.bodies_many ∙ cols.many)
       ∙ table-number dims b 0 es in
       let i1 : start cs.kinds p ≤ start cs.addresses 0 = omega (arith, k-end, starts cs.kinds p cs.kinds.count place-low) in
@@ -156,14 +156,6 @@ module _ (dims : ℕ) (words : List ℕ) (e : Edit) (r : IsRecord false dims wor
           one-of Field (field cs.kinds.width (if e.entry.child then 1 else 0))
           ∙ ap {B = List Field} (λ t. field cs.kinds.width (if t then 1 else 0) ∷ []) point
           ∙ ap {B = List Field} (λ t. field t 0 ∷ []) cols.columns.one
-
-      at-addresses : AreColumns words cs → cs.addresses.at ≡ 64 + (first_in words).entries
-      at-addresses c = c.addresses ∙ ap (λ t. cs.kinds.at + cs.kinds.count * t) c.one ∙ ap (λ t. cs.kinds.at + t * 1)
-          cols.many ∙ ap (λ t. t + n * 1) c.begin ∙ omega arith
-
-      at-bodies : AreColumns words cs → cs.bodies.at ≡ 64 + (first_in words).entries + (first_in words).entries * dims
-      at-bodies c = c.bodies ∙ ap (λ t. t + cs.kinds.count * cs.addresses.width) (at-addresses c) ∙
-          ap (λ t. 64 + n + cs.kinds.count * t) cols.addresses_wide ∙ ap (λ t. 64 + n + t * dims) cols.many
 
   -- ---- words that begin as the record does
 

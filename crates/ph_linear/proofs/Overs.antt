@@ -1,6 +1,6 @@
 -- Digits that are put in place of others.
 use Rattle.std.proofs.Common.{◌≡◌, ℕ, zero, suc, ◌+◌, ◌-◌, ◌*◌, ◌/◌, ◌%◌, ◌^◌, ◌≤◌, ◌<◌, refl, sym, ◌∙◌, ap, subst}
-use Rattle.std.proofs.Common.{arith, List, [], ◌∷◌, ◌++◌, length, length-append, map, take, slice_index_or}
+use Rattle.std.proofs.Common.{arith, List, [], ◌∷◌, ◌++◌, length, length-append, map, take, replicate, slice_index_or}
 use Rattle.std.specs.List.{AllByRecursion as Each}
 use Rattle.std.proofs.lemmas.List.{append-nil}
 use Rattle.std.proofs.lemmas.Nat.{mod-mul-add, pow-add}
@@ -15,7 +15,7 @@ use Rattle.ph_specs.proofs.lemmas.RowsBehind.{Each-append}
 use Rattle.ph_bits.specs.Fields.{number_in, IsPut}
 use Rattle.ph_bits.specs.declared.edits.Edit.{Edit}
 use Rattle.ph_linear.specs.declared.copies.Column.{Column}
-use Rattle.ph_linear.specs.Edited.{IsOver, IsColumnOver, stretch, column_edited}
+use Rattle.ph_linear.specs.Edited.{IsColumn, IsOver, IsColumnOver, stretch, column_edited}
 use Rattle.ph_linear.proofs.Segments.{segment}
 
 pub over-put : (old new : List ℕ) (at w v : ℕ) → IsPut old at w v new → IsOver old at w v new
@@ -94,6 +94,18 @@ over-column old new c e fs f l p less d o = record {
       where
         apart : (x y P K R z : ℕ) → R ≡ P * K → (x * P + y) * K + z ≡ x * R + (y * K + z)
         apart x y P K R z f = let g : x * R ≡ x * (P * K) = ap (λ t. x * t) f in omega (arith, g)
+
+-- the one field that is put
+pub over-field : (old new : List ℕ) (c : Column) (e : Edit) (v : ℕ) → length new ≡ length old →
+    c.at + c.count * c.width ≤ 64 * length old → e.place < c.count → e.less ≡ 1 → e.more ≡ 1
+    → IsPut old (c.at + e.place * c.width) c.width v new → IsColumnOver old c e (replicate e.more (field c.width v)) new
+over-field old new c e v f l p less more put =
+    let digits : digits_of (replicate e.more (field c.width v)) ≡ c.width =
+    ap (λ t. digits_of (replicate t (field c.width v))) more ∙ omega arith in
+    let number : number_of (replicate e.more (field c.width v)) ≡ v =
+    ap (λ t. number_of (replicate t (field c.width v))) more ∙ omega arith in
+    over-column old new c e (replicate e.more (field c.width v)) f l p less digits
+    (subst (λ t. IsOver old (c.at + e.place * c.width) c.width t new) (sym number) (over-put old new (c.at + e.place * c.width) c.width v put))
 
 -- ---- rows
 
@@ -210,10 +222,23 @@ over-table w fs gs vs new u d f g h k l o =
         ∙ ap (λ t. digits_at (w ∷ words_of t ++ vs) 64 (digits_of gs)) (sym (append-nil gs))
         ∙ segment w [] gs [] vs (subst Fit (sym (append-nil gs)) g) h
 
+-- words have room for their first word and for a table of so many digits
+pub table-inside : (d x y z k len : ℕ) → d ≡ x → y ≡ z + k → z ≡ (d + 63) / 64 → len ≡ suc y → 64 + x ≤ 64 * len
+table-inside d x y z k len e f g i = omega (arith, e, f, g, i)
+
+-- the first of small words is small
+pub first-small : (ws : List ℕ) → Each (λ x. x < 2 ^ 64) ws → slice_index_or ws 0 0 < 2 ^ 64
+first-small [] h = omega arith
+first-small (x ∷ ws) h = h.0
+
 -- ---- columns
 
 pub over-equal : (old new : List ℕ) (at at2 w w2 v v2 : ℕ) → at ≡ at2 → w ≡ w2 → v ≡ v2 → IsOver old at w v new → IsOver old at2 w2 v2 new
 over-equal old new at at2 w w2 v v2 e f g o = subst (λ t. IsOver old at2 w2 t new) g (subst (λ t. IsOver old at2 t v new) f (subst (λ t. IsOver old t w v new) e o))
+
+-- a column lies within as many other words
+pub column-stays : (old new : List ℕ) (c : Column) → IsColumn old c → length new ≡ length old → IsColumn new c
+column-stays old new c k e = record { inside = omega (arith, k.inside, e); near = k.near }
 
 -- a column whose digits are those of other words has the same fields with an edit
 pub column-same : (old mid : List ℕ) (c : Column) (e : Edit) (fs : List Field) → e.place + e.less ≤ c.count →

@@ -1,12 +1,11 @@
 -- A record that an entry comes into or goes out of, or in which one became a child or a point, where the record lies: its table is
 -- made, and a value goes or comes.
-use Rattle.std.proofs.Common.{◌≡◌, ℕ, zero, suc, ◌+◌, ◌-◌, ◌^◌, ◌≤◌, ◌<◌, refl, sym, ◌∙◌, ap, subst, arith, List, [], ◌∷◌, ◌++◌, length}
+use Rattle.std.proofs.Common.{◌≡◌, ℕ, zero, suc, ◌+◌, ◌-◌, ◌≤◌, ◌<◌, refl, sym, ◌∙◌, ap, subst, arith, List, [], ◌∷◌, ◌++◌, length}
 use Rattle.std.proofs.Common.{length-append, map, take, drop, replicate, slice_set, slice_index_or, Bool, true, false}
 use Rattle.std.specs.Prelude.{Some, slice_get, if◌then◌else◌}
-use Rattle.std.specs.List.{AllByRecursion as Each}
 use Rattle.std.proofs.lemmas.List.{length-drop, length-take-le, take_at}
 use Rattle.ph_specs.specs.Digits.{words_for, words_of}
-use Rattle.ph_specs.specs.Layout.{IsRecord, digits_as, entries_as, values_as, is_child, AreRising}
+use Rattle.ph_specs.specs.Layout.{digits_as, entries_as, values_as, is_child}
 use Rattle.ph_specs.specs.Node.{Flat}
 use Rattle.ph_specs.specs.NodeSize.{points_in}
 use Rattle.ph_specs.specs.Pack.{children, values, table, layout, first_word, cube_digits, linear_digits, record_in}
@@ -15,7 +14,7 @@ use Rattle.ph_specs.proofs.lemmas.LayoutTables.{children-few, table-digits}
 use Rattle.ph_specs.proofs.lemmas.Numbers.{length-words_of}
 use Rattle.ph_bits.specs.Edits.{edited_as, count_edited}
 use Rattle.ph_bits.specs.declared.edits.Edit.{Edit}
-use Rattle.ph_linear.specs.Edited.{IsOutline, IsOutlined, new_values, with_table, points_then, values_put, with_values}
+use Rattle.ph_linear.specs.Edited.{IsChanged, IsOutlined, new_values, with_table, points_then, values_put, with_values}
 use Rattle.ph_linear.specs.declared.outlines.Outline.{Outline}
 use Rattle.ph_linear.proofs.EditedEntries.{length-new, values-put, points-within}
 use Rattle.ph_linear.proofs.Writing.{few}
@@ -92,9 +91,7 @@ part-new new ws l e =
     ))
 
 -- a change of the record, of which the outline was known before
-module _ (cube : Bool) (dims : ℕ) (words : List ℕ) (e : Edit) (r : IsRecord cube dims words)
-    (h : Each (λ x. x < 2 ^ 64) words) (l : e.place + e.less ≤ (first_in words).entries) (o : Outline)
-    (k : IsOutline cube dims words e o) where
+module _ {cube : Bool} {dims : ℕ} {words : List ℕ} {e : Edit} {o : Outline} {new : List ℕ} (q : IsChanged cube dims words e o new) where
   abbrev es : List Flat
   es = edited_as cube dims words e
 
@@ -116,92 +113,91 @@ module _ (cube : Bool) (dims : ℕ) (words : List ℕ) (e : Edit) (r : IsRecord 
   counted n = record o { count = n }
 
   many : length (edited_as cube dims words e) ≡ count_edited (first_in words).entries e
-  many = length-new cube dims words e r h l
+  many = length-new cube dims words e q.whole q.fit q.within
 
-  long-front : AreRising dims (first_in words).level 0 (edited_as cube dims words e) →
-      digits_then (length (edited_as cube dims words e)) ≡ digits_as cube dims (first_in words) → length front ≡ o.values
-  long-front up same =
-      ap suc (length-words_of (table cube dims (first_in words).level es) ∙ ap words_for (table-digits cube dims (first_in words).level 0 es up ∙ same))
-      ∙ omega (arith, k.values)
+  long-front : digits_then (length (edited_as cube dims words e)) ≡ digits_as cube dims (first_in words) → length front ≡ o.values
+  long-front same =
+      ap suc (length-words_of (table cube dims (first_in words).level es) ∙ ap words_for (table-digits cube dims (first_in words).level 0 es q.rise ∙ same))
+      ∙ omega (arith, q.outline.values)
 
   order : o.front ≤ o.until
-  order = omega (arith, points-rise (entries_as cube dims words) e.place e.less, k.until, k.front)
+  order = omega (arith, points-rise (entries_as cube dims words) e.place e.less, q.outline.until, q.outline.front)
 
   -- a child has no value
   pub none : e.less ≡ 1 → slice_get (map is_child (entries_as cube dims words)) e.place ≡ Some true → o.until ≡ o.front
   none less was =
-      k.until ∙ ap (λ t. points_in (take (e.place + t) (entries_as cube dims words))) less ∙ (points-child (entries_as cube dims words) e.place was).1 ∙ sym k.front
+      q.outline.until ∙ ap (λ t. points_in (take (e.place + t) (entries_as cube dims words))) less
+      ∙ (points-child (entries_as cube dims words) e.place was).1 ∙ sym q.outline.front
 
   -- nor has an entry that only comes
   pub none-gone : e.less ≡ 0 → o.until ≡ o.front
   none-gone less =
-      let p : e.place + e.less ≡ e.place = omega (arith, less) in k.until ∙ ap (λ t. points_in (take t (entries_as cube dims words))) p ∙ sym k.front
+      let p : e.place + e.less ≡ e.place = omega (arith, less) in
+      q.outline.until ∙ ap (λ t. points_in (take t (entries_as cube dims words))) p ∙ sym q.outline.front
 
-  put : (new : List ℕ) → length front ≡ o.values → new_values e ≡ new → values_put o new (with_table cube dims words e) ≡ front ++ values es
-  put new g n =
-      ap (λ t. take (t + o.front) (front ++ vs) ++ (new ++ drop (t + o.until) (front ++ vs))) (sym g)
-      ∙ behind front new vs o.front o.until
+  put : (xs : List ℕ) → length front ≡ o.values → new_values e ≡ xs → values_put o xs (with_table cube dims words e) ≡ front ++ values es
+  put xs g n =
+      ap (λ t. take (t + o.front) (front ++ vs) ++ (xs ++ drop (t + o.until) (front ++ vs))) (sym g)
+      ∙ behind front xs vs o.front o.until
       ∙ ap (λ t. front ++ (take o.front vs ++ (t ++ drop o.until vs))) (sym n)
-      ∙ ap (λ t. front ++ t) (values-put cube dims words e r h l vs o.front o.until refl k.front k.until)
+      ∙ ap (λ t. front ++ t) (values-put cube dims words e q.whole q.fit q.within vs o.front o.until refl q.outline.front q.outline.until)
 
   -- the words with the new table fit the outline with as many entries as there are then, and with the new values they are the new record
-  entries-changed : (new ws : List ℕ) (n : ℕ) →
-      AreRising dims (first_in words).level 0 (edited_as cube dims words e) →
+  entries-changed : (xs ws : List ℕ) (n : ℕ) →
       digits_then (length (edited_as cube dims words e)) ≡ digits_as cube dims (first_in words)
-      → length (edited_as cube dims words e) ≡ n → new_values e ≡ new → ws ≡ with_table cube dims words e
-      → IsOutlined (counted n) new ws × (with_values (layout cube) (counted n) new ws ≡ record_in cube dims (first_in words).level (edited_as cube dims words e))
-  entries-changed new ws n up same m v p =
-      let g = long-front up same in
-      let q : values_put o new ws ≡ front ++ values es = ap (values_put o new) p ∙ put new g v in
+      → length (edited_as cube dims words e) ≡ n → new_values e ≡ xs → ws ≡ new
+      → IsOutlined (counted n) xs ws × (with_values (layout cube) (counted n) xs ws ≡ record_in cube dims (first_in words).level (edited_as cube dims words e))
+  entries-changed xs ws n same m v w =
+      let p : ws ≡ with_table cube dims words e = w ∙ q.made in
+      let g = long-front same in
+      let put-is : values_put o xs ws ≡ front ++ values es = ap (values_put o xs) p ∙ put xs g v in
       let f = children-few es in
       let long : length ws ≡ length front + length vs = ap length p ∙ length-append front vs in
-      let w : o.until ≤ length vs = omega (arith, k.until, points-within cube dims words e r h l (e.place + e.less)) in
-      let all : length (values_put o new ws) ≡ length front + length (values es) = ap length q ∙ length-append front (values es) in
-      let sum : length (values_put o new ws) ≡
-      o.values + o.front + (length new + (length ws - (o.values + o.until))) = length-put (o.values + o.front)
-      (o.values + o.until) new ws (omega (arith, long, g, w, order)) in
-      let points : points_then o new ws ≡ length (values es) = omega (arith, all, sum, g) in
-      let kids : n - points_then o new ws ≡ children es = omega (arith, points, f, m) in (
+      let within : o.until ≤ length vs =
+      omega (arith, q.outline.until, points-within cube dims words e q.whole q.fit q.within (e.place + e.less)) in
+      let all : length (values_put o xs ws) ≡ length front + length (values es) = ap length put-is ∙ length-append front (values es) in
+      let sum : length (values_put o xs ws) ≡
+      o.values + o.front + (length xs + (length ws - (o.values + o.until))) = length-put (o.values + o.front)
+      (o.values + o.until) xs ws (omega (arith, long, g, within, order)) in
+      let points : points_then o xs ws ≡ length (values es) = omega (arith, all, sum, g) in
+      let kids : n - points_then o xs ws ≡ children es = omega (arith, points, f, m) in (
         record {
           order = order;
-          first = omega (arith, k.values);
-          within = omega (arith, long, g, w);
+          first = omega (arith, q.outline.values);
+          within = omega (arith, long, g, within);
           points = omega (arith, points, f, m);
-          few = omega (arith, m, few dims (first_in words).level es r.few up);
-          low = omega (arith, k.level, r.low);
+          few = omega (arith, m, few dims (first_in words).level es q.whole.few q.rise);
+          low = omega (arith, q.outline.level, q.whole.low);
         },
-        ap (λ t. slice_set t 0 (first_word o.level (layout cube) n (n - points_then o new ws))) q
+        ap (λ t. slice_set t 0 (first_word o.level (layout cube) n (n - points_then o xs ws))) put-is
             ∙ ap {B = List ℕ} (λ t. t ∷ words_of (table cube dims (first_in words).level es) ++ values es)
             (ap (first_word o.level (layout cube) n) kids ∙ ap (λ t. first_word o.level (layout cube) t (children es))
-            (sym m) ∙ ap (λ t. first_word t (layout cube) (length es) (children es)) k.level),
+            (sym m) ∙ ap (λ t. first_word t (layout cube) (length es) (children es)) q.outline.level),
       )
 
   -- ---- an entry that stays
 
   same-many : e.less ≡ 1 → e.more ≡ 1 → length (edited_as cube dims words e) ≡ o.count
-  same-many less more = many ∙ omega (arith, l, less, more, k.count)
+  same-many less more = many ∙ omega (arith, q.within, less, more, q.outline.count)
 
-  values-changed : (new ws : List ℕ) → AreRising dims (first_in words).level 0 (edited_as cube dims words e) →
-      e.less ≡ 1 → e.more ≡ 1 → new_values e ≡ new → ws ≡ with_table cube dims words e
-      → IsOutlined o new ws × (with_values (layout cube) o new ws ≡ record_in cube dims (first_in words).level (edited_as cube dims words e))
-  values-changed new ws up less more n p =
-      entries-changed new ws o.count up (ap digits_then (same-many less more ∙ k.count)) (same-many less more) n p
+  values-changed : (xs ws : List ℕ) → e.less ≡ 1 → e.more ≡ 1 → new_values e ≡ xs → ws ≡ new
+      → IsOutlined o xs ws × (with_values (layout cube) o xs ws ≡ record_in cube dims (first_in words).level (edited_as cube dims words e))
+  values-changed xs ws less more n w =
+      entries-changed xs ws o.count (ap digits_then (same-many less more ∙ q.outline.count)) (same-many less more) n w
 
-  pub child-changed : (ws : List ℕ) → AreRising dims (first_in words).level 0 (edited_as cube dims words e) →
-      e.less ≡ 1 → e.more ≡ 1 → e.entry.child ≡ true → ws ≡ with_table cube dims words e
-      → IsOutlined o [] ws × (with_values (layout cube) o [] ws ≡ record_in cube dims (first_in words).level (edited_as cube dims words e))
-  child-changed ws up less more child p =
-      values-changed [] ws up less more (ap (λ t. if t then [] else replicate e.more e.value) child) p
+  pub child-changed : e.less ≡ 1 → e.more ≡ 1 → e.entry.child ≡ true
+      → IsOutlined o [] new × (with_values (layout cube) o [] new ≡ record_in cube dims (first_in words).level (edited_as cube dims words e))
+  child-changed less more child =
+      values-changed [] new less more (ap (λ t. if t then [] else replicate e.more e.value) child) refl
 
   -- the same where the words are all but the last of those that there are
-  pub point-changed : (new ws : List ℕ) → AreRising dims (first_in words).level 0 (edited_as cube dims words e) →
-      e.less ≡ 1 → e.more ≡ 1 → e.entry.child ≡ false → 1 ≤ length ws →
-      length new ≡ length (take (length ws - 1) ws) → new ≡ with_table cube dims words e
+  pub point-changed : (ws : List ℕ) → e.less ≡ 1 → e.more ≡ 1 → e.entry.child ≡ false → 1 ≤ length ws →
+      length new ≡ length (take (length ws - 1) ws)
       → IsOutlined o (e.value ∷ []) (part_lent new ws) ×
       (with_values (layout cube) o (e.value ∷ []) (part_lent new ws) ≡ record_in cube dims (first_in words).level
       (edited_as cube dims words e))
-  point-changed new ws up less more point some long p =
-      values-changed (e.value ∷ []) (part_lent new ws) up less more (one-value more point) (part-new new ws some long ∙ p)
+  point-changed ws less more point some long =
+      values-changed (e.value ∷ []) (part_lent new ws) less more (one-value more point) (part-new new ws some long)
 
   -- ---- an entry that comes or goes, with no other digits of the table
 
@@ -209,22 +205,21 @@ module _ (cube : Bool) (dims : ℕ) (words : List ℕ) (e : Edit) (r : IsRecord 
   no-values true m v z = refl
   no-values false m v z = ap (λ t. replicate t v) z
 
-  pub entry-gone : (ws : List ℕ) → AreRising dims (first_in words).level 0 (edited_as cube dims words e) →
-      digits_then (length (edited_as cube dims words e)) ≡ digits_as cube dims (first_in words)
-      → e.less ≡ 1 → e.more ≡ 0 → ws ≡ with_table cube dims words e
-      → IsOutlined (counted (o.count - 1)) [] ws ×
-      (with_values (layout cube) (counted (o.count - 1)) [] ws ≡ record_in cube dims (first_in words).level
+  pub entry-gone : digits_then (length (edited_as cube dims words e)) ≡ digits_as cube dims (first_in words)
+      → e.less ≡ 1 → e.more ≡ 0
+      → IsOutlined (counted (o.count - 1)) [] new ×
+      (with_values (layout cube) (counted (o.count - 1)) [] new ≡ record_in cube dims (first_in words).level
       (edited_as cube dims words e))
-  entry-gone ws up same less more p =
-      entries-changed [] ws (o.count - 1) up same (many ∙ omega (arith, l, less, more, k.count)) (no-values e.entry.child e.more e.value more) p
+  entry-gone same less more =
+      entries-changed [] new (o.count - 1) same (many ∙ omega (arith, q.within, less, more, q.outline.count))
+      (no-values e.entry.child e.more e.value more) refl
 
   -- the same where the words are all but the last of those that there are
-  pub point-come : (new ws : List ℕ) → AreRising dims (first_in words).level 0 (edited_as cube dims words e) →
-      digits_then (length (edited_as cube dims words e)) ≡ digits_as cube dims (first_in words)
-      → e.less ≡ 0 → e.more ≡ 1 → e.entry.child ≡ false → 1 ≤ length ws → length new ≡ length (take (length ws - 1) ws) → new ≡ with_table cube dims words e
+  pub point-come : (ws : List ℕ) → digits_then (length (edited_as cube dims words e)) ≡ digits_as cube dims (first_in words)
+      → e.less ≡ 0 → e.more ≡ 1 → e.entry.child ≡ false → 1 ≤ length ws → length new ≡ length (take (length ws - 1) ws)
       → IsOutlined (counted (o.count + 1)) (e.value ∷ []) (part_lent new ws) ×
       (with_values (layout cube) (counted (o.count + 1)) (e.value ∷ []) (part_lent new ws) ≡
       record_in cube dims (first_in words).level (edited_as cube dims words e))
-  point-come new ws up same less more point some long p =
-      entries-changed (e.value ∷ []) (part_lent new ws) (o.count + 1) up same
-      (many ∙ omega (arith, l, less, more, k.count)) (one-value more point) (part-new new ws some long ∙ p)
+  point-come ws same less more point some long =
+      entries-changed (e.value ∷ []) (part_lent new ws) (o.count + 1) same
+      (many ∙ omega (arith, q.within, less, more, q.outline.count)) (one-value more point) (part-new new ws some long)

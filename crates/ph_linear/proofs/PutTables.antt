@@ -1,5 +1,5 @@
 -- A linear table whose entry at a place became a child with another body, where the table lies.
-use Rattle.std.proofs.Common.{◌≡◌, ℕ, zero, suc, ◌+◌, ◌*◌, ◌/◌, ◌^◌, ◌≤◌, ◌<◌, refl, sym, ◌∙◌, ap, subst, arith, List, []}
+use Rattle.std.proofs.Common.{◌≡◌, ℕ, zero, suc, ◌+◌, ◌*◌, ◌^◌, ◌≤◌, ◌<◌, refl, sym, ◌∙◌, ap, subst, arith, List, []}
 use Rattle.std.proofs.Common.{◌∷◌, ◌++◌, length, length-append, map, take, replicate, slice_index_or, false}
 use Rattle.std.specs.Prelude.{Some, slice_get, if◌then◌else◌}
 use Rattle.std.specs.List.{AllByRecursion as Each}
@@ -18,11 +18,11 @@ use Rattle.ph_bits.specs.declared.edits.Edit.{Edit}
 use Rattle.ph_linear.specs.Edited.{IsOver, IsColumnOver, column_edited}
 use Rattle.ph_linear.specs.Written.{kind_fields, address_fields, body_list}
 use Rattle.ph_linear.specs.declared.copies.Column.{Column}
-use Rattle.ph_linear.proofs.EditedEntries.{table-old, length-new}
+use Rattle.ph_linear.proofs.EditedEntries.{flats_as, table-old, length-new}
 use Rattle.ph_linear.proofs.EditedLists.{digits-kinds, digits-addresses, digits-bodies}
 use Rattle.ph_linear.proofs.EditedTables.{kinds-edited, bodies-edited}
 use Rattle.ph_linear.proofs.OldTables.{long-bodies}
-use Rattle.ph_linear.proofs.Overs.{over-equal, over-same, over-next, over-table, column-same}
+use Rattle.ph_linear.proofs.Overs.{over-equal, over-same, over-next, over-table, column-same, table-inside, first-small}
 use Rattle.ph_linear.proofs.Segments.{segment-of}
 use Rattle.ph_linear.proofs.Writing.{table-number}
 
@@ -54,23 +54,21 @@ module _ (dims : ℕ) (words : List ℕ) (e : Edit) (r : IsRecord false dims wor
   abbrev b : ℕ
   b = (first_in words).level
 
-  abbrev es : List Flat
-  es = flats (entries_as false dims words) (values_as false dims words)
-
   abbrev new_es : List Flat
   new_es = edited_as false dims words e
 
   addresses-kept : e.less ≡ 1 → e.more ≡ 1 → slice_get (map read_address (entries_as false dims words)) e.place ≡ Some e.entry.addr
       → address_fields dims (edited_as false dims words e) ≡ address_fields dims (flats (entries_as false dims words) (values_as false dims words))
   addresses-kept less more at =
-      ap (λ t. address_fields dims (edited e.place t e.more (new_flat dims e.entry e.value) es)) less
-      ∙ ap (λ t. address_fields dims (edited e.place 1 t (new_flat dims e.entry e.value) es)) more
-      ∙ kept dims e.place (new_flat dims e.entry e.value) es
+      ap (λ t. address_fields dims (edited e.place t e.more (new_flat dims e.entry e.value) (flats_as false dims words))) less
+      ∙ ap (λ t. address_fields dims (edited e.place 1 t (new_flat dims e.entry e.value) (flats_as false dims words))) more
+      ∙ kept dims e.place (new_flat dims e.entry e.value) (flats_as false dims words)
       (ap (λ t. slice_get t e.place) (addresses-flats (entries_as false dims words) (values_as false dims words) (table-old false dims words e r h l).points) ∙ at)
 
   -- how many digits there are in the columns
-  old-digits : digits_of (linear_table dims b es) ≡ n * 1 + n * dims + n * (dims * b)
+  old-digits : digits_of (linear_table dims b (flats_as false dims words)) ≡ n * 1 + n * dims + n * (dims * b)
   old-digits =
+      let es : List Flat = flats_as false dims words in
       digits_of-append (kind_fields es ++ address_fields dims es) (bodies b (body_list es))
       ∙ ap (λ t. t + digits_of (bodies b (body_list es))) (digits_of-append (kind_fields es) (address_fields dims es))
       ∙ sum (digits_of (kind_fields es)) (digits_of (address_fields dims es)) (digits_of (bodies b (body_list es)))
@@ -130,11 +128,12 @@ module _ (dims : ℕ) (words : List ℕ) (e : Edit) (r : IsRecord false dims wor
       → new ≡ slice_index_or words 0 0 ∷ words_of (linear_table dims (first_in words).level (edited_as false dims words e)) ++ values_as false dims words
   put-table mid new kinds rows up less more at ka kw kn ra rv rn lm ln nf p q =
       let old = table-old false dims words e r h l in
+      let es : List Flat = flats_as false dims words in
       let w : ℕ = slice_index_or words 0 0 in
       let fs : List Field = linear_table dims b es in
       let gs : List Field = linear_table dims b new_es in
       let vs : List ℕ = values_as false dims words in
-      let room : 64 + (n * 1 + n * dims + n * (dims * b)) ≤ 64 * length words = enough (digits_of fs) _ _ _ _ _
+      let room : 64 + (n * 1 + n * dims + n * (dims * b)) ≤ 64 * length words = table-inside (digits_of fs) _ _ _ _ _
       old-digits (length-append (words_of fs) vs) (length-words_of fs) (ap length old.is) in
       let k1 : IsOver words 64 (n * 1) (number_of (kind_fields new_es)) mid =
       over-equal words mid kinds.at 64 (kinds.count * kinds.width) (n * 1) _ (number_of (kind_fields new_es)) ka
@@ -173,10 +172,3 @@ module _ (dims : ℕ) (words : List ℕ) (e : Edit) (r : IsRecord false dims wor
       over-table w fs gs vs new (first-small words h) (new-digits up less more ∙ sym old-digits) old.fit
       (table-fit false dims b 0 new_es up) old.small nf (ln ∙ ap length old.is)
       (subst (λ t. IsOver t 64 (digits_of fs) (number_of gs) new) old.is k5)
-    where
-      enough : (d x y z k len : ℕ) → d ≡ x → y ≡ z + k → z ≡ (d + 63) / 64 → len ≡ suc y → 64 + x ≤ 64 * len
-      enough d x y z k len e f g i = omega (arith, e, f, g, i)
-
-      first-small : (ws : List ℕ) → Each (λ x. x < 2 ^ 64) ws → slice_index_or ws 0 0 < 2 ^ 64
-      first-small [] h = omega arith
-      first-small (x ∷ ws) h = h.0

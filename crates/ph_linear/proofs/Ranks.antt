@@ -14,7 +14,7 @@ use Rattle.ph_bits.specs.Fields.{ones_in}
 use Rattle.ph_bits.specs.Packed.{rank_at}
 use Rattle.ph_specs.proofs.laws.TableFields.{both-counts}
 use Rattle.ph_specs.specs.Layout.{IsRecord, entries_as, read_address, is_child}
-use Rattle.ph_specs.specs.NodeSize.{children_in}
+use Rattle.ph_specs.specs.NodeSize.{children_in, points_in}
 use Rattle.ph_specs.proofs.laws.WordDigits.{digits-parts, digits-below}
 use Rattle.ph_linear.specs.Linear.{kinds, addresses, bodies}
 use Rattle.ph_linear.proofs.Columns.{length-kinds, length-addresses, kind-digits}
@@ -56,6 +56,12 @@ pub many : (dims : ℕ) (words : List ℕ) → length (entries_as false dims wor
 many dims words =
     length-read (kinds dims words) (addresses dims words) (bodies dims words) (first_in words).entries
     (length-kinds dims words) (length-addresses dims words) (length-parts (first_in words).entries dims _)
+
+-- the points in front of an entry, beside the ones
+pub points-ones : (dims : ℕ) (words : List ℕ) (i : ℕ) → IsRecord false dims words → Each (λ x. x < 2 ^ 64) words → i ≤ (first_in words).entries
+    → ones_in words 64 i + points_in (take i (entries_as false dims words)) ≡ i
+points-ones dims words i r h l =
+    omega (arith, both-counts (entries_as false dims words) i (omega (arith, many dims words, l)), children-ones dims words i r h l)
 
 -- the place of an entry among those of its kind, by the children in front of it
 pub ranked : (t : Bool) (rs : List Read) (i k r : ℕ) → i ≤ length rs → children_in (take i rs) ≡ k → r ≡ (if t then k else i - k) → r ≡ rank_at t rs i

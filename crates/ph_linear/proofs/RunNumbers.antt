@@ -6,8 +6,10 @@ use Rattle.ph_specs.specs.Digits.{Field, field, number_after, digits_at}
 use Rattle.ph_specs.proofs.laws.WordDigits.{digits-parts}
 use Rattle.ph_bits.specs.declared.edits.Edit.{Edit}
 use Rattle.ph_linear.specs.Edited.{stretch, column_edited}
-use Rattle.ph_linear.specs.Runs.{start, run}
+use Rattle.ph_specs.specs.Record.{first_in}
+use Rattle.ph_linear.specs.Runs.{start, run, AreColumnsOf}
 use Rattle.ph_linear.specs.declared.copies.Column.{Column}
+use Rattle.ph_linear.specs.declared.tables.Columns.{Columns}
 
 -- entries that lie in front of others begin no later
 pub starts : (c : Column) (i j : ℕ) → i ≤ j → start c i ≤ start c j
@@ -17,6 +19,21 @@ starts c i j l =
 
 pub start-first : (c : Column) → start c 0 ≡ c.at
 start-first c = omega arith
+
+-- where the columns of a record begin
+module _ (dims : ℕ) (words : List ℕ) (cs : Columns) (o : AreColumnsOf dims words cs) where
+  abbrev n : ℕ
+  n = (first_in words).entries
+
+  pub addresses-at : cs.addresses.at ≡ 64 + (first_in words).entries
+  addresses-at =
+      o.columns.addresses ∙ ap (λ t. cs.kinds.at + cs.kinds.count * t) o.columns.one ∙ ap (λ t. cs.kinds.at + t * 1) o.many ∙
+      ap (λ t. t + n * 1) o.columns.begin ∙ omega arith
+
+  pub bodies-at : cs.bodies.at ≡ 64 + (first_in words).entries + (first_in words).entries * dims
+  bodies-at =
+      o.columns.bodies ∙ ap (λ t. t + cs.kinds.count * cs.addresses.width) addresses-at ∙
+      ap (λ t. 64 + n + cs.kinds.count * t) o.addresses_wide ∙ ap (λ t. 64 + n + t * dims) o.many
 
 run-equal : (ws : List ℕ) (at at2 w w2 : ℕ) → at ≡ at2 → w ≡ w2 → field w (digits_at ws at w) ≡ field w2 (digits_at ws at2 w2)
 run-equal ws at at2 w w2 e f = ap (λ t. field w (digits_at ws t w)) e ∙ ap (λ t. field t (digits_at ws at2 t)) f

@@ -4,6 +4,7 @@ use Rattle.std.proofs.Common.{[], ◌∷◌, ◌++◌, length, map, take, Bool, 
 use Rattle.std.specs.Prelude.{Option, Some, None, slice_get, if◌then◌else◌}
 use Rattle.std.proofs.lemmas.List.{map-append, get_or-map}
 use Rattle.std.proofs.lemmas.Option.{get_or_from_slice_get}
+use mir.Val.{bool_byte}
 use Rattle.ph_specs.specs.Node.{Flat}
 use Rattle.ph_specs.specs.Lawful.{IsBody}
 use Rattle.ph_specs.specs.Digits.{field, number_after, words_of}
@@ -142,6 +143,31 @@ values-room es i v l e =
     ap length (values-more es i l ∙ ap (λ t. values (take i es) ++ value_in_front t []) e) in
     let a : length (values (take i es) ++ v ∷ []) ≡ length (values (take i es)) + 1 = length-append (values (take i es)) (v ∷ []) in
     omega (arith, h, m, a)
+
+-- ---- an entry that was read, by its kind as a byte
+
+pub byte : (t : Bool) → bool_byte t ≡ (if t then 1 else 0)
+byte true = refl
+byte false = refl
+
+pub byte-few : (t : Bool) → bool_byte t ≤ 1
+byte-few true = omega arith
+byte-few false = omega arith
+
+module _ (es : List Flat) (i : ℕ) (t : Bool) (a : ℕ) (b : List ℕ) (l : i < length es) (e : slice_get (map unvalued es) i ≡ Some (read t a b)) where
+  mark-byte : child_mark (get_or es i no_flat).value ≡ bool_byte t
+  mark-byte = (given es i t a b l e).same_kind ∙ sym (byte t)
+
+  -- its field behind those of the kinds in front of it
+  pub kind-put : (r n : ℕ) → n ≡ number_after r (kind_fields (take i es)) → n * 2 ^ 1 + bool_byte t ≡ number_after r (kind_fields (take (i + 1) es))
+  kind-put r n h =
+      ap (λ s. s * 2 ^ 1 + bool_byte t) h
+      ∙ ap (λ s. number_after r (kind_fields (take i es)) * 2 ^ 1 + s) (sym mark-byte)
+      ∙ sym (kinds-more r es i l)
+
+  -- the children with it
+  pub child-counted : (n : ℕ) → n ≡ children (take i es) → n + bool_byte t ≡ children (take (i + 1) es)
+  child-counted n h = ap (λ s. s + bool_byte t) h ∙ ap (λ s. children (take i es) + s) (sym mark-byte) ∙ sym (children-more es i l)
 
 -- a point has a value
 pub value-of : (w : Option ℕ) → child_mark w ≡ 0 → (v : ℕ) × (w ≡ Some v)

@@ -1,7 +1,9 @@
 -- The parts of a record with one edit, by those of the old one.
-use Rattle.std.specs.Prelude.{◌≡◌, ℕ, ◌+◌, ◌-◌, ◌*◌, ◌^◌, ◌≤◌, Bool, List, [], ◌∷◌, ◌++◌, length, take, drop, replicate, slice_index_or, slice_set, if◌then◌else◌}
+use Rattle.std.specs.Prelude.{◌≡◌, ℕ, ◌+◌, ◌-◌, ◌*◌, ◌^◌, ◌<◌, ◌≤◌, Bool, false, Some, if◌then◌else◌}
+use Rattle.std.specs.Prelude.{List, [], ◌∷◌, ◌++◌, length, map, take, drop, replicate, slice_get, slice_index_or, slice_set}
+use Rattle.std.specs.List.{AllByRecursion as Each}
 use Rattle.ph_specs.specs.Digits.{Field, field, number_of, digits_at, words_for, words_of}
-use Rattle.ph_specs.specs.Layout.{digits_as, entries_as, values_as}
+use Rattle.ph_specs.specs.Layout.{IsRecord, AreRising, digits_as, entries_as, read_address, values_as}
 use Rattle.ph_specs.specs.NodeSize.{points_in}
 use Rattle.ph_specs.specs.Pack.{first_word, table}
 use Rattle.ph_specs.specs.Record.{first_in}
@@ -53,6 +55,24 @@ pub record IsOutline (cube : Bool) (dims : ℕ) (words : List ℕ) (e : Edit) (o
 abbrev pub with_table : Bool → ℕ → List ℕ → Edit → List ℕ
 with_table cube dims words e =
     slice_index_or words 0 0 ∷ words_of (table cube dims (first_in words).level (edited_as cube dims words e)) ++ values_as cube dims words
+
+-- an edit of a linear record that puts another entry in place of one, at its address
+pub record IsPut (dims : ℕ) (words : List ℕ) (e : Edit) : Type 0 where
+  pub whole : IsRecord false dims words
+  pub within : e.place < (first_in words).entries
+  pub less : e.less ≡ 1
+  pub more : e.more ≡ 1
+  pub address : slice_get (map read_address (entries_as false dims words)) e.place ≡ Some e.entry.addr
+  pub rise : AreRising dims (first_in words).level 0 (edited_as false dims words e)
+
+-- its table was made that of the edit, and its outline had been read before
+pub record IsChanged (cube : Bool) (dims : ℕ) (words : List ℕ) (e : Edit) (o : Outline) (new : List ℕ) : Type 0 where
+  pub whole : IsRecord cube dims words
+  pub fit : Each (λ x. x < 2 ^ 64) words
+  pub within : e.place + e.less ≤ (first_in words).entries
+  pub rise : AreRising dims (first_in words).level 0 (edited_as cube dims words e)
+  pub outline : IsOutline cube dims words e o
+  pub made : new ≡ with_table cube dims words e
 
 -- how many values there are once vs stand in place of those between front and until
 abbrev pub points_then : Outline → List ℕ → List ℕ → ℕ

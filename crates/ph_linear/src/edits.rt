@@ -1,13 +1,13 @@
 //! Changing one entry of a linear record where the record lies.
 
-ghost use Rattle.std.specs.Prelude.{◌≡◌, ◌+◌, ◌-◌, ◌*◌, ◌^◌, ◌<◌, ◌≤◌, true, false, Some, length, map, take, slice_get};
+ghost use Rattle.std.specs.Prelude.{◌≡◌, ◌+◌, ◌-◌, ◌*◌, ◌<◌, ◌≤◌, true, false, Some, length, map, take, slice_get};
 ghost use Rattle.ph_specs.specs.Digits.{words_for};
 ghost use Rattle.ph_specs.specs.Layout.{IsRecord, AreRising, entries_as, read_address, is_child};
 ghost use Rattle.ph_specs.specs.NodeSize.{points_in};
 ghost use Rattle.ph_specs.specs.Pack.{linear_digits, record_in};
 ghost use Rattle.ph_specs.specs.Record.{first_in};
 ghost use Rattle.ph_bits.specs.Edits.{edited_as};
-ghost use Rattle.ph_linear.specs.Edited.{IsColumn, IsOutline, with_table};
+ghost use Rattle.ph_linear.specs.Edited.{IsChanged, IsColumn, IsOutline, IsPut, with_table};
 
 use crate::copies::Column;
 use crate::heads::{children_in, count_in, level_in};
@@ -119,14 +119,8 @@ pub fn put_point(words: &mut [u64], dims: usize, edit: &Edit)
 // Puts the kind and the body. Gives what the end of the change has to know of the record before it.
 #[inline(always)]
 fn put_table(words: &mut [u64], dims: usize, edit: &Edit) -> Outline
-    requires record { IsRecord false dims words.old }
-    requires within { edit.now.place < (first_in words.old).entries }
-    requires less { edit.now.less ≡ 1 }
-    requires more { edit.now.more ≡ 1 }
-    requires address { slice_get (map read_address (entries_as false dims words.old)) edit.now.place ≡ Some edit.now.entry.addr }
-    requires entries { AreRising dims (first_in words.old).level 0 (edited_as false dims words.old edit.now) }
-    ensures outline { IsOutline false dims words.old edit.now result }
-    ensures words { words.new ≡ with_table false dims words.old edit.now }
+    requires { IsPut dims words.old edit.now }
+    ensures { IsChanged false dims words.old edit.now result words.new }
 {
     let outline = outline_of(words, dims, edit);
     put_columns(words, dims, edit);
@@ -152,12 +146,7 @@ pub(crate) fn outline_of(old: &[u64], dims: usize, edit: &Edit) -> Outline
 // The kind and the body.
 #[inline(always)]
 fn put_columns(words: &mut [u64], dims: usize, edit: &Edit)
-    requires record { IsRecord false dims words.old }
-    requires within { edit.now.place < (first_in words.old).entries }
-    requires less { edit.now.less ≡ 1 }
-    requires more { edit.now.more ≡ 1 }
-    requires address { slice_get (map read_address (entries_as false dims words.old)) edit.now.place ≡ Some edit.now.entry.addr }
-    requires entries { AreRising dims (first_in words.old).level 0 (edited_as false dims words.old edit.now) }
+    requires { IsPut dims words.old edit.now }
     ensures { words.new ≡ with_table false dims words.old edit.now }
 {
     let kinds = kinds_of(words, dims);

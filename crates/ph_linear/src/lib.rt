@@ -17,7 +17,7 @@ mod writes;
 pub use copies::Column;
 pub use heads::{children_in, count_in, first_of, level_in};
 pub use outlines::{Outline, drop_value, put_value};
-pub use writes::put_values;
+pub use writes::{begin, close, put_values};
 
 /// The calls of records. The number of dimensions is an argument; all are inlined, so that it is a constant where the caller
 /// knows it.
@@ -27,6 +27,6 @@ pub mod by_dims {
     pub use crate::parts::rank_of;
     pub use crate::reads::{address, bits_of, body_at, entry, find_entry, is_child, rank};
     pub use crate::removes::remove_point;
-    pub use crate::searches::{find, next_at_or_after, search};
+    pub use crate::searches::{find, next_at_or_after, next_behind, search};
     pub use crate::writes::write;
 }

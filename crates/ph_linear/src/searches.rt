@@ -1,6 +1,7 @@
 //! Places of addresses in a linear record, by halving.
 
-ghost use Rattle.std.specs.Prelude.{◌≡◌, ◌+◌, ◌-◌, ◌*◌, ◌/◌, ◌%◌, ◌^◌, ◌<◌, ◌≤◌, ◌==◌, nat_le, None, Some, false, length, position, IfOk, IfErr};
+ghost use Rattle.std.specs.Prelude.{◌≡◌, ◌+◌, ◌-◌, ◌*◌, ◌/◌, ◌%◌, ◌^◌, ◌<◌, ◌≤◌, ◌==◌, nat_le};
+ghost use Rattle.std.specs.Prelude.{None, Some, false, length, map, position, slice_get, slice_index_or, IfOk, IfErr, IfSome};
 ghost use Rattle.std.specs.List.{position_or_len};
 ghost use Rattle.ph_specs.specs.Record.{first_in};
 ghost use Rattle.ph_specs.specs.Layout.{IsRecord, entries_as, read_address};
@@ -107,6 +108,47 @@ fn next_among(words: &[u64], dims: usize, count: u64, addr: u32) -> Option<usize
 {
     let i = place_of(words, dims, count, addr);
     if i < count { Some(i as usize) } else { None }
+}
+
+/// The same, where this is above the address of entry `place`. The addresses behind it, as many as have 64 digits together, are read
+/// at once and looked at one by one; a later one is searched for.
+#[inline(always)]
+pub fn next_behind(words: &[u64], dims: usize, place: usize, addr: u32) -> Option<usize>
+    requires record { IsRecord false dims words.now }
+    requires within { place < (first_in words.now).entries }
+    requires above { IfSome (slice_get (map read_address (entries_as false dims words.now)) place) (λ a. a < addr) }
+    ensures { result ≡ position (λ r. nat_le addr (read_address r)) (entries_as false dims words.now) }
+{
+    let count = count_in(words);
+    match near_place(words, dims, count, place as u64 + 1, addr) {
+        Some(i) => Some(i as usize),
+        None => next_among(words, dims, count, addr),
+    }
+}
+
+// The place of the first address that is at least `addr`, as that in front of `from` is not, if it is one of the next few.
+#[inline(always)]
+fn near_place(words: &[u64], dims: usize, count: u64, from: u64, addr: u32) -> Option<u64>
+    requires record { IsRecord false dims words.now }
+    requires count { count ≡ (first_in words.now).entries }
+    requires some { 1 ≤ from }
+    requires most { from ≤ count }
+    requires below { slice_index_or (addresses dims words.now) (from - 1) 0 < addr }
+    ensures within { IfSome result (λ i. i < count) }
+    ensures value { IfSome result (λ i. i ≡ position_or_len (λ a. nat_le addr a) (addresses dims words.now)) }
+{
+    let end = (from + 64 / dims as u64).min(count);
+    let next = field(
+        words,
+        64 + count + from * dims as u64,
+        ((end - from) * dims as u64) as u32,
+    );
+    for i in from..end {
+        if one_of(next, dims, end - 1 - i) >= addr as u64 {
+            return Some(i);
+        }
+    }
+    None
 }
 
 // How many addresses are less than `addr`.

@@ -1,10 +1,11 @@
 //! Writing a linear record: a column of kinds, one of addresses, one of bodies, and then the values.
 
-ghost use Rattle.std.specs.Prelude.{◌≡◌, ◌+◌, ◌*◌, ◌^◌, ◌<◌, ◌≤◌, ◌∷◌, ◌++◌, false, length};
-ghost use Rattle.ph_specs.specs.Digits.{number_after, words_for};
-ghost use Rattle.ph_specs.specs.Pack.{children, values, bodies, linear_digits, record_in};
+ghost use Rattle.std.specs.Prelude.{◌≡◌, ◌+◌, ◌*◌, ◌<◌, ◌≤◌, [], ◌∷◌, ◌++◌, false, length};
+ghost use Rattle.ph_specs.specs.Digits.{digits_of, number_after, words_for};
+ghost use Rattle.ph_specs.specs.Pack.{children as children_of, values, bodies, linear_digits, record_in, table};
 ghost use Rattle.ph_specs.specs.Layout.{AreRising};
 ghost use Rattle.ph_bits.specs.Block.{room_of, IsSamePlaces};
+ghost use Rattle.ph_bits.specs.Fields.{number_in};
 ghost use Rattle.ph_bits.specs.Written.{IsPen, digits_by, number_by};
 ghost use Rattle.ph_linear.specs.Written.{kind_fields, address_fields, body_list};
 
@@ -22,15 +23,52 @@ pub fn write<P: Dims, E: Entries<P>>(words: &mut Words, level: u32, from: &E)
     ensures words { words.new.words ≡ record_in false P.D level (E.list from.now) }
     ensures places { IsSamePlaces words.old words.new }
 {
-    words.reset(0);
-    words.push(0);
-    let mut pen = Pen::new();
+    let mut pen = begin(words);
     let children = put_kinds::<P, E>(&mut pen, words, from);
     put_addresses::<P, E>(&mut pen, words, from);
     put_bodies::<P, E>(&mut pen, words, from, level);
+    close::<P, E>(pen, words, from, level, false, children);
+}
+
+/// Begins a record in the room of a block, whatever it held before: a place for the first word, and a pen behind it.
+#[inline(always)]
+pub fn begin(words: &mut Words) -> Pen
+    requires { 0 < room_of words.old }
+    ensures pen { IsPen result }
+    ensures digits { digits_by words.new.words result ≡ 64 }
+    ensures number { number_by words.new.words result ≡ number_in (0 ∷ []) }
+    ensures places { IsSamePlaces words.old words.new }
+{
+    words.reset(0);
+    words.push(0);
+    Pen::new()
+}
+
+/// Ends a record whose tables a pen has written, which is a cube where the test is true: it puts the values behind them, and then
+/// the first word, which has the number of children.
+#[inline(always)]
+pub fn close<P: Dims, E: Entries<P>>(
+    pen: Pen,
+    words: &mut Words,
+    from: &E,
+    level: u32,
+    cube: bool,
+    children: u64,
+)
+    requires pen { IsPen pen }
+    requires few { P.D ≤ 16 }
+    requires low { level ≤ 61 }
+    requires entries { AreRising P.D level 0 (E.list from.now) }
+    requires digits { digits_by words.old.words pen ≡ 64 + digits_of (table cube P.D level (E.list from.now)) }
+    requires number { number_by words.old.words pen ≡ number_after (number_in (0 ∷ [])) (table cube P.D level (E.list from.now)) }
+    requires children { children ≡ children_of (E.list from.now) }
+    requires room { 1 + words_for (digits_of (table cube P.D level (E.list from.now))) + length (values (E.list from.now)) ≤ room_of words.old }
+    ensures words { words.new.words ≡ record_in cube P.D level (E.list from.now) }
+    ensures places { IsSamePlaces words.old words.new }
+{
     pen.finish(words);
     put_values::<P, E>(words, from);
-    let first = first_of(level, 0, from.count(), children);
+    let first = first_of(level, cube as u64, from.count(), children);
     words.set(0, first);
 }
 
@@ -42,7 +80,7 @@ fn put_kinds<P: Dims, E: Entries<P>>(pen: &mut Pen, words: &mut Words, from: &E)
     ensures digits { digits_by words.new.words pen.new ≡ digits_by words.old.words pen.old + length (E.list from.now) }
     ensures number { number_by words.new.words pen.new ≡ number_after (number_by words.old.words pen.old) (kind_fields (E.list from.now)) }
     ensures places { IsSamePlaces words.old words.new }
-    ensures children { result ≡ children (E.list from.now) }
+    ensures children { result ≡ children_of (E.list from.now) }
 {
     let mut children = 0;
     for i in 0..from.count() {

@@ -35,6 +35,14 @@ use Rattle.ph_node.proofs.Parts.{AreApart, apart, apart-place, child-kept}
 abbrev pub pair_entries : ℕ → List ℕ → What → List ℕ → ℕ → List Entry
 pair_entries place xs w ys v = inserted (entry_below place ys (value v)) (entry_below place xs w ∷ [])
 
+-- the child that holds what entry i held, and a point with a body
+abbrev pub half_node : PlainNode → ℕ → ℕ → List ℕ → ℕ → PlainNode
+half_node t i place ys v = node_of place (pair_entries place (body_at (entries t) i) (what_at (entries t) i) ys v)
+
+-- the children of a node whose entry i is a child
+abbrev pub nodes_with : PlainNode → ℕ → PlainNode → List PlainNode → List PlainNode
+nodes_with t i n ns = edited (before (entries t) i) (ones_of (what_at (entries t) i)) 1 n ns
+
 flats-pair : (place : ℕ) (xs ys : List ℕ) (w : What) (v : ℕ) →
     in_order (below_flat place xs (value_of w)) (below_flat place ys (Some v)) ≡ map flat_of (pair_entries place xs w ys v)
 flats-pair place xs ys w v =
@@ -109,25 +117,23 @@ module _ (d : ℕ) (ws : List ℕ) (ns : List PlainNode) (t : PlainNode) (o : Is
 
     pub parent_new : (shared : List ℕ) → shared ≡ body_above place body →
         Renewed d t.level (edited i 1 1 (record { addr = old.addr; body = take d shared; value = None }) (flats_of t))
-        (edited (before (entries t) i) (ones_of (what_at (entries t) i)) 1
-        (node_of place (pair_entries place (body_at (entries t) i) (what_at (entries t) i) (take d body) v)) ns)
-        (entries (split_node t i place (take d body) v))
+        (nodes_with t i (half_node t i place (take d body) v) ns) (entries (split_node t i place (take d body) v))
     parent_new shared s =
-        let below : PlainNode = node_of place (pair_entries place (body_at (entries t) i) (what_at (entries t) i) (take d body) v) in
+        let below : PlainNode = half_node t i place (take d body) v in
         let q : take d shared ≡ body_above place (take d body) = ap (λ u. take d u) s ∙ take-above place d body in
         subst (λ a. Renewed d t.level (edited i 1 1 (record { addr = a; body = take d shared; value = None })
-        (flats_of t)) (edited (before (entries t) i) (ones_of (what_at (entries t) i)) 1 below ns)
+        (flats_of t)) (nodes_with t i below ns)
         (entries (split_node t i place (take d body) v))) r.addr
         (subst (λ u. Renewed d t.level
         (edited i 1 1 (record { addr = addr_at (entries t) i; body = u; value = None }) (flats_of t))
-        (edited (before (entries t) i) (ones_of (what_at (entries t) i)) 1 below ns)
+        (nodes_with t i below ns)
         (entries (split_node t i place (take d body) v))) (sym q)
         (subst (λ es. Renewed d t.level
         (edited i 1 1 (record {
           addr = addr_at (entries t) i;
           body = body_above place (take d body);
           value = None;
-        }) (flats_of t)) (edited (before (entries t) i) (ones_of (what_at (entries t) i)) 1 below ns) es)
+        }) (flats_of t)) (nodes_with t i below ns) es)
         (sym (listed-chained (split_at (entries t) i place (body_above place (take d body))
         (body_address place (body_at (entries t) i)) (body_below place (body_at (entries t) i))
         (entry_below place (take d body) (value v)))
@@ -141,7 +147,7 @@ module _ (d : ℕ) (ws : List ℕ) (ns : List PlainNode) (t : PlainNode) (o : Is
         length (record_of d t.level (edited i 1 1 (record { addr = old.addr; body = take d shared; value = None })
         (flats_of t))) + 1 ≡ length ws + (if old.child then 1 else 0)
     parent_long shared s =
-        let below : PlainNode = node_of place (pair_entries place (body_at (entries t) i) (what_at (entries t) i) (take d body) v) in
+        let below : PlainNode = half_node t i place (take d body) v in
         let a = length-changed d ws ns t o i _ _ _ l (parent_new shared s) in
         let b = length-edited (before (entries t) i) (ones_of (what_at (entries t) i)) 1 below ns (front_fits d ws ns t o i l) in
         omega (arith, a, b, r.kind)
@@ -170,8 +176,7 @@ module _ {P : Type 0} (d : ℕ) (ws : List ℕ) (ss : List (SlotOf P)) (t : Plai
       ∙ own_nodes d ws (nodes_of ss) t o i l
 
   pub put_is : (ls vs : List (SlotOf P)) (s : SlotOf P) → ls ≡ (if old.child then remove rs old.front else rs) →
-      vs ≡ insert ls old.front s → nodes_of vs ≡ edited (before (entries t) i) (ones_of (what_at (entries t) i)) 1
-      s.node (nodes_of ss)
+      vs ≡ insert ls old.front s → nodes_of vs ≡ nodes_with t i s.node (nodes_of ss)
   put_is ls vs s e f =
       ap nodes_of (f ∙ ap (λ u. insert u old.front s) e) ∙ nodes-put old.child rs old.front s fits
       ∙ ap (λ n. edited old.front n 1 s.node (nodes_of rs)) (sym r.kind)

@@ -2,6 +2,7 @@
 pub mod Filled
 pub mod Lengths
 pub mod Merges
+pub mod Standing
 pub mod Turned
 mod Additions
 mod Addressed
@@ -26,12 +27,12 @@ mod PairLists
 mod Parts
 mod Places
 mod PointEdits
+mod PutEdits
 mod Reading
 mod RecordEdits
 mod Removed
 mod Resized
 mod Slotted
 mod Spliced
-mod Standing
 mod ValuePlaces
 mod Valued

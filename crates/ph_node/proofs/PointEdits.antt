@@ -1,11 +1,11 @@
 -- A point more or less in a node, as an edit of its record.
-use Rattle.std.proofs.Common.{◌≡◌, ℕ, ◌+◌, ◌-◌, ◌<◌, ◌≤◌, ◌^◌, List, length, map, take, replicate, true, false, arith, refl, ap, sym, ◌∙◌, subst}
+use Rattle.std.proofs.Common.{◌≡◌, ℕ, ◌+◌, ◌<◌, ◌≤◌, ◌^◌, List, length, map, take, true, false, arith, refl, ap, sym, ◌∙◌, subst}
 use Rattle.std.specs.Prelude.{Option, Some, None, MatchOption, position, slice_get}
 use Rattle.std.proofs.lemmas.List.{drop-replicate}
 use Rattle.ph_specs.specs.EntryEdits.{what_at, has_address, point_entry, inserted, without}
 use Rattle.ph_specs.specs.Layout.{is_child}
 use Rattle.ph_specs.specs.Node.{What, value, node, PlainNode, node_of, entries, Flat}
-use Rattle.ph_specs.specs.Pack.{pack}
+use Rattle.ph_specs.specs.Pack.{pack, record_of}
 use Rattle.ph_specs.specs.Record.{unpacked, entries_in, first_in}
 use Rattle.ph_specs.proofs.laws.EntryEdits.{absent-by}
 use Rattle.ph_specs.proofs.laws.Unpacked.{child_nodes}
@@ -14,8 +14,9 @@ use Rattle.ph_bits.specs.Edits.{new_flat}
 use Rattle.ph_bits.specs.declared.edits.Edit.{Edit}
 use Rattle.ph_node.specs.Bodies.{IsBodyArray}
 use Rattle.ph_node.specs.Kinds.{is_node}
-use Rattle.ph_node.specs.OneEdit.{IsEdit}
+use Rattle.ph_node.specs.OneEdit.{IsEdit, edit_flats}
 use Rattle.ph_node.specs.Places.{place_for}
+use Rattle.ph_node.specs.PointEdit.{IsNewPoint, less_edit, more_edit}
 use Rattle.ph_node.specs.RecordEdit.{IsRecordEdit, record_with}
 use Rattle.ph_node.specs.Recorded.{IsRecorded}
 use Rattle.ph_node.specs.Relaid.{is_relaid}
@@ -29,17 +30,8 @@ use Rattle.ph_node.proofs.Filled.{padded-filled}
 use Rattle.ph_node.proofs.Listings.{count_is}
 use Rattle.ph_node.proofs.Lists.{rise_new, kept_new, seen_new}
 use Rattle.ph_node.proofs.NodeEdits.{record_edit, record_is}
-use Rattle.ph_node.proofs.OldNodes.{IsOld, old, level_is, nodes_are}
+use Rattle.ph_node.proofs.OldNodes.{IsOld, old, level_is, nodes_are, children-are}
 use Rattle.ph_node.proofs.Removed.{removed}
-
--- what a call writes for a new point, and for one that goes
-abbrev pub more_edit : ℕ → ℕ → List ℕ → ℕ → Edit
-more_edit i a body v =
-    record { place = i; less = 0; more = 1; entry = record { addr = a; child = false; body = body; rank = 0 }; value = v }
-
-abbrev pub less_edit : Spot → Edit
-less_edit s =
-    record { place = s.place; less = 1; more = 0; entry = record { addr = s.addr; child = false; body = replicate 16 0; rank = 0 }; value = 0 }
 
 not-node : (w : What) → IsValue w → is_node w ≡ false
 not-node (value v) h = refl
@@ -50,7 +42,7 @@ module _ (d : ℕ) (ws : List ℕ) (ns : List PlainNode) (t : PlainNode) (is : u
   o = old d ws ns t is kept
 
   module _ (i a v : ℕ) (body : List ℕ) (absent : position (has_address a) (entries t) ≡ None)
-      (p : i ≡ place_for a (entries t)) (l : a < 2 ^ d) (b : IsBodyArray d t.level body) where
+      (p : i ≡ place_for a (entries t)) (l : a < 2 ^ d) (b : IsBodyArray d t.level body) (e : Edit) (made : e ≡ more_edit i a body v) where
     more-edit : IsEdit d t (more_edit i a body v)
     more-edit = record {
       within = omega (arith, place_within a (take d body) v d ws ns t o i absent p l b.fields);
@@ -63,19 +55,29 @@ module _ (d : ℕ) (ws : List ℕ) (ns : List PlainNode) (t : PlainNode) (is : u
       padded = padded-filled d body b.fields.0 b.filled;
     }
 
-    pub more_record : IsRecordEdit d ws (more_edit i a body v)
-    more_record = record_edit d ws ns t is kept (more_edit i a body v) more-edit
+    pub more_record : (k : ℕ) → length ns ≡ k → IsNewPoint d ws k e
+    more_record k m =
+        let new : IsNewPoint d ws k (more_edit i a body v) = record {
+          edit = record_edit d ws ns t is kept (more_edit i a body v) more-edit;
+          less = refl;
+          more = refl;
+          point = refl;
+          children = sym m ∙ children-are d ws ns t is kept;
+        } in
+        subst (λ x. IsNewPoint d ws k x) (sym made) new
 
-    pub more_kept : (us : List ℕ) → us ≡ record_with d ws (more_edit i a body v) → IsRecorded d us ns
-    more_kept us e =
-        kept_new _ _ _ _ _ (added a (take d body) v d ws ns t o i absent p l b.fields) us (e ∙ record_is d ws ns t is kept (more_edit i a body v))
+    written : (us : List ℕ) → us ≡ record_with d ws e → us ≡ record_of d t.level (edit_flats d t (more_edit i a body v))
+    written us f = f ∙ ap (λ x. record_with d ws x) made ∙ record_is d ws ns t is kept (more_edit i a body v)
 
-    pub more_seen : (us : List ℕ) → us ≡ record_with d ws (more_edit i a body v) →
+    pub more_kept : (us : List ℕ) → us ≡ record_with d ws e → IsRecorded d us ns
+    more_kept us f = kept_new _ _ _ _ _ (added a (take d body) v d ws ns t o i absent p l b.fields) us (written us f)
+
+    pub more_seen : (us : List ℕ) → us ≡ record_with d ws e →
         unpacked d us ns ≡ node_of t.level (inserted (point_entry a (take d body) v) (entries t))
-    more_seen us e =
-        seen_new _ _ _ _ _ (added a (take d body) v d ws ns t o i absent p l b.fields) us (e ∙ record_is d ws ns t is kept (more_edit i a body v))
+    more_seen us f = seen_new _ _ _ _ _ (added a (take d body) v d ws ns t o i absent p l b.fields) us (written us f)
 
-  module _ (s : Spot) (h : IsSpot (entries t) s) (point : IsValue (what_at (entries t) s.place)) (many : 2 ≤ length (entries t)) where
+  module _ (s : Spot) (h : IsSpot (entries t) s) (point : IsValue (what_at (entries t) s.place)) (many : 2 ≤ length (entries t))
+      (e : Edit) (made : e ≡ less_edit s) where
     abbrev gone : Flat
     gone = new_flat d (less_edit s).entry 0
 
@@ -91,19 +93,22 @@ module _ (d : ℕ) (ws : List ℕ) (ns : List PlainNode) (t : PlainNode) (is : u
       padded = drop-replicate d 16 0;
     }
 
-    pub less_record : IsRecordEdit d ws (less_edit s)
-    less_record = record_edit d ws ns t is kept (less_edit s) less-edit
+    pub less_record : IsRecordEdit d ws e
+    less_record = subst (λ x. IsRecordEdit d ws x) (sym made) (record_edit d ws ns t is kept (less_edit s) less-edit)
 
-    pub less_kept : (us : List ℕ) → us ≡ record_with d ws (less_edit s) → IsRecorded d us ns
-    less_kept us e =
-        kept_new _ _ _ _ _ (removed d ws ns t o s.place gone h.within point many) us (e ∙ record_is d ws ns t is kept (less_edit s))
+    left : (us : List ℕ) → us ≡ record_with d ws e → us ≡ record_of d t.level (edit_flats d t (less_edit s))
+    left us f = f ∙ ap (λ x. record_with d ws x) made ∙ record_is d ws ns t is kept (less_edit s)
 
-    pub less_seen : (us : List ℕ) → us ≡ record_with d ws (less_edit s) → unpacked d us ns ≡ node_of t.level (without (entries t) s.place)
-    less_seen us e =
-        seen_new _ _ _ _ _ (removed d ws ns t o s.place gone h.within point many) us (e ∙ record_is d ws ns t is kept (less_edit s))
+    pub less_kept : (us : List ℕ) → us ≡ record_with d ws e → IsRecorded d us ns
+    less_kept us f = kept_new _ _ _ _ _ (removed d ws ns t o s.place gone h.within point many) us (left us f)
 
-    pub less_was : slice_get (map is_child (entries_in d ws)) s.place ≡ Some false
-    less_was = kind-there d d ws ws ns t is kept refl refl s.place h.within ∙ ap Some (not-node (what_at (entries t) s.place) point)
+    pub less_seen : (us : List ℕ) → us ≡ record_with d ws e → unpacked d us ns ≡ node_of t.level (without (entries t) s.place)
+    less_seen us f = seen_new _ _ _ _ _ (removed d ws ns t o s.place gone h.within point many) us (left us f)
+
+    pub less_was : slice_get (map is_child (entries_in d ws)) e.place ≡ Some false
+    less_was =
+        ap (λ x. slice_get (map is_child (entries_in d ws)) x.place) made
+        ∙ kind-there d d ws ws ns t is kept refl refl s.place h.within ∙ ap Some (not-node (what_at (entries t) s.place) point)
 
   -- the room that a removal is handed, by the words and the children of the block
   pub less_room : (spare : Option Block) (k : ℕ) → k ≡ length ns →

@@ -17,9 +17,9 @@ use Rattle.ph_bits.specs.Packed.{rank_at, read_body}
 use Rattle.ph_linear.proofs.Entries.{no_read}
 use Rattle.ph_node.specs.Merge.{addr_at}
 use Rattle.ph_node.specs.Places.{place_for}
-use Rattle.ph_node.specs.Recorded.{IsRecorded}
+use Rattle.ph_node.specs.Recorded.{IsLaidOut, IsRecorded}
 use Rattle.ph_node.specs.Split.{body_at}
-use Rattle.ph_node.specs.Spots.{IsSpot}
+use Rattle.ph_node.specs.Spots.{IsSpot, IsSpotIn}
 use Rattle.ph_node.specs.declared.spots.Spot.{Spot}
 use Rattle.ph_node.proofs.Listings.{length_is, count_is, place_is, place_filled, point_is, child_is}
 use Rattle.ph_node.proofs.Merges.{got}
@@ -132,6 +132,13 @@ module _ (d e : ℕ) (ws us : List ℕ) (ns : List PlainNode) (t : PlainNode) (i
   -- an entry by its spot
   pub spot-there : (s : Spot) → IsSpot (entries t) s → slice_get (map read_address (entries_in e us)) s.place ≡ Some s.addr
   spot-there s h = address-is s.place h.within ∙ ap Some (sym h.address)
+
+  pub spot-in : (s : Spot) → IsSpot (entries t) s → IsSpotIn e us s
+  spot-in s h = record {
+    laid = subst (λ n. IsLaidOut n us) (sym g) (subst (λ u. IsLaidOut d u) (sym f) kept.laid);
+    within = within-there s.place h.within;
+    address = spot-there s h;
+  }
 
 -- ---- bodies beside numbers
 

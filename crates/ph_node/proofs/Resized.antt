@@ -1,5 +1,5 @@
 -- How long a record is with a point more or less.
-use Rattle.std.proofs.Common.{◌≡◌, ℕ, zero, suc, ◌+◌, ◌-◌, ◌<◌, ◌≤◌, List, [], ◌∷◌, ◌++◌, length, take, Bool, true, false, refl, ap, sym, ◌∙◌, arith}
+use Rattle.std.proofs.Common.{◌≡◌, ℕ, zero, suc, ◌+◌, ◌-◌, ◌^◌, ◌<◌, ◌≤◌, List, [], ◌∷◌, ◌++◌, length, take, Bool, true, false, refl, ap, sym, ◌∙◌, arith}
 use Rattle.std.specs.Prelude.{Option, Some, None, if◌then◌else◌}
 use Rattle.std.proofs.Math.Seq.{take-append_seam}
 use Rattle.std.proofs.lemmas.List.{length-drop}
@@ -10,11 +10,12 @@ use Rattle.ph_specs.specs.Pack.{is_cube, cube_digits, linear_digits, values, val
 use Rattle.ph_specs.specs.Record.{Read, read_point, read_child, first_in, has_cube, entries_in, values_in, table_digits}
 use Rattle.ph_bits.specs.Edits.{flats, flats_in, edited, edited_as, new_flat, least_digits, words_wanted}
 use Rattle.ph_bits.specs.declared.edits.Edit.{Edit}
+use Rattle.ph_node.specs.PointEdit.{IsNewPoint}
 use Rattle.ph_node.specs.RecordEdit.{IsRecordEdit, with_edit, words_with, record_with}
 use Rattle.ph_node.specs.Relaid.{differ, is_relaid}
 use Rattle.ph_node.proofs.Lengths.{record-long}
 use Rattle.ph_node.proofs.Listings.{many}
-use Rattle.ph_node.proofs.RecordEdits.{count_with}
+use Rattle.ph_node.proofs.RecordEdits.{count_with, few_with}
 use Rattle.ph_node.proofs.Removed.{shorter}
 use Rattle.ph_node.proofs.Spliced.{length-flats}
 
@@ -164,6 +165,19 @@ module _ (d : ℕ) (ws : List ℕ) (e : Edit) (h : IsRecordEdit d ws e) where
         ap (λ j. is_cube d (first_in ws).level j) many
         ∙ sym (ap (λ j. is_cube j (first_in ws).level (n - 1)) p) ∙ sym (ap (λ u. is_cube k (first_in u).level (n - 1)) q)
         ∙ same ∙ ap (λ j. has_cube j (first_in us)) p ∙ ap (λ u. has_cube d (first_in u)) q
+
+-- with a point more there are no more entries than addresses
+pub few_more : (d : ℕ) (ws : List ℕ) (k : ℕ) (e : Edit) → IsNewPoint d ws k e → (n dims : ℕ) (us : List ℕ) →
+    n ≡ (first_in us).entries → us ≡ ws → dims ≡ d → n + 1 ≤ 2 ^ dims
+few_more d ws k e q n dims us a b c =
+    omega (
+      arith,
+      a,
+      ap (λ u. (first_in u).entries) b,
+      count_more d ws e q.edit q.less q.more q.point,
+      few_with d ws e q.edit,
+      ap (λ d. 2 ^ d) c,
+    )
 
 -- and whether it is another once an entry goes
 pub relaid : (d k n : ℕ) (ws us : List ℕ) (b : Bool) → k ≡ d → us ≡ ws → n ≡ (first_in us).entries →

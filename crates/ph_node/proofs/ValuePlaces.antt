@@ -1,13 +1,19 @@
 -- Where the values of a record lie.
-use Rattle.std.proofs.Common.{ℕ, zero, suc, ◌<◌, ◌≤◌, List, [], ◌∷◌, length, map, take, arith}
+use Rattle.std.proofs.Common.{◌≡◌, ℕ, zero, suc, ◌+◌, ◌<◌, ◌≤◌, List, [], ◌∷◌, length, map, take, arith}
 use Rattle.std.specs.Prelude.{Option, Some, None}
 use Rattle.std.proofs.lemmas.List.{length-append}
 use Rattle.ph_specs.specs.Digits.{words_of}
 use Rattle.ph_specs.specs.EntryEdits.{what_at}
-use Rattle.ph_specs.specs.Node.{Entry, What, value, node, Flat}
+use Rattle.ph_specs.specs.Node.{Entry, What, value, node, PlainNode, Flat}
 use Rattle.ph_specs.specs.Pack.{values, value_in_front, record_of, table, is_cube}
-use Rattle.ph_node.specs.OneEdit.{value_of, flat_of}
+use Rattle.ph_node.specs.OneEdit.{value_of, flat_of, flats_of}
 use Rattle.ph_node.specs.Split.{IsValue}
+
+-- the words, the entries and the children of the record of a node, by its values
+pub record IsCounted (d : ℕ) (t : PlainNode) (words count children : ℕ) : Type 0 where
+  pub long : words ≡ length (record_of d t.level (flats_of t))
+  pub all : count ≡ length (values (flats_of t)) + children
+  pub fit : length (values (flats_of t)) ≤ words
 
 pub values-fit : (d level : ℕ) (fs : List Flat) → length (values fs) ≤ length (record_of d level fs)
 values-fit d level fs =

@@ -15,5 +15,6 @@ pub mod Merge
 pub mod OneEdit
 pub mod Pairs
 pub mod RecordEdit
+pub mod PointEdit
 pub mod Relaid
 pub mod Spots

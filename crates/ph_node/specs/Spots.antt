@@ -1,9 +1,12 @@
 -- Where an entry stands.
-use Rattle.std.specs.Prelude.{◌≡◌, ◌<◌, ℕ, List, length}
+use Rattle.std.specs.Prelude.{◌≡◌, ◌<◌, ℕ, List, Some, length, map, slice_get}
 use Rattle.ph_specs.specs.Node.{Entry, PlainNode, entries}
 use Rattle.ph_node.specs.Merge.{addr_at}
 use Rattle.ph_specs.specs.Lawful.{put_together}
+use Rattle.ph_specs.specs.Layout.{read_address}
+use Rattle.ph_specs.specs.Record.{first_in, entries_in}
 use Rattle.ph_specs.specs.PutTree.{body_above}
+use Rattle.ph_node.specs.Recorded.{IsLaidOut}
 use Rattle.ph_node.specs.Split.{body_at}
 use Rattle.ph_node.specs.declared.spots.Spot.{Spot}
 
@@ -11,6 +14,12 @@ use Rattle.ph_node.specs.declared.spots.Spot.{Spot}
 pub record IsSpot (es : List Entry) (s : Spot) : Type 0 where
   pub within : s.place < length es
   pub address : s.addr ≡ addr_at es s.place
+
+-- an entry of a record stands there
+pub record IsSpotIn (dims : ℕ) (words : List ℕ) (s : Spot) : Type 0 where
+  pub laid : IsLaidOut dims words
+  pub within : s.place < (first_in words).entries
+  pub address : slice_get (map read_address (entries_in dims words)) s.place ≡ Some s.addr
 
 -- the digits that are known behind an entry of a node, where these are known above the node
 abbrev pub joined_digits : PlainNode → Spot → List ℕ → List ℕ

@@ -8,8 +8,7 @@ ghost use Rattle.ph_node.specs.Places.{place_for};
 
 use crate::NoMemory;
 use crate::node::NodeOf;
-use crate::points::add_point;
-use ph_bits::{Edit, Packed};
+use crate::points::{add_point, more_edit};
 use ph_coord::Dims;
 use ph_steps::Steps;
 use std::sync::ledger::Ledger;
@@ -37,19 +36,7 @@ impl<P: Dims> NodeOf<P> {
         ensures err { OnErr result (self.new ≡ self.old) }
         ensures spared { OnErr result (changes.new ≡ changes.old) }
     {
-        let entry = Packed {
-            addr,
-            child: false,
-            body,
-            rank: 0,
-        };
-        let edit = Edit {
-            place: i,
-            less: 0,
-            more: 1,
-            entry,
-            value: v,
-        };
+        let edit = more_edit(i, addr, body, v);
         add_point(&mut self.block, &edit)?;
         changes.tick();
         Ok(())

@@ -1,6 +1,6 @@
 //! What edits read of a node.
 
-ghost use Rattle.std.specs.Prelude.{◌≡◌, ◌+◌, ◌<◌, ◌≤◌, length, take};
+ghost use Rattle.std.specs.Prelude.{◌≡◌, ◌+◌, ◌^◌, ◌<◌, ◌≤◌, length, take};
 ghost use Rattle.ph_specs.specs.EntryEdits.{what_at};
 ghost use Rattle.ph_specs.specs.Node.{entries};
 ghost use Rattle.ph_specs.specs.Pack.{values, record_of};
@@ -35,10 +35,12 @@ impl<P: Dims> NodeOf<P> {
     }
 
     /// Entry `i`, in the order of the addresses, as it stands in the node.
+    #[inline(always)]
     pub(crate) fn spot(&self, i: usize) -> Spot
         requires { i < length (entries self.now) }
         ensures place { result.place ≡ i }
         ensures spot { IsSpot (entries self.now) result }
+        ensures limit { result.addr < 2 ^ P.D }
     {
         Spot {
             place: i,

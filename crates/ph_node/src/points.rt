@@ -1,19 +1,59 @@
 //! A point into the record of a block, or out of it.
 
-ghost use Rattle.std.specs.Prelude.{◌≡◌, ◌+◌, ◌^◌, ◌≤◌, true, false, Some, MatchOption, length, map, slice_get, OnOk, OnErr};
+ghost use Rattle.std.specs.Prelude.{◌≡◌, ◌+◌, ◌^◌, ◌≤◌, true, false, Some, MatchOption, length, map, slice_get};
 ghost use Rattle.ph_specs.specs.Layout.{is_child};
 ghost use Rattle.ph_specs.specs.Pack.{is_cube};
 ghost use Rattle.ph_specs.specs.Record.{first_in, has_cube, entries_in};
 ghost use Rattle.ph_bits.specs.Block.{room_of};
+ghost use Rattle.ph_node.specs.PointEdit.{IsNewPoint, IsPointPut, less_edit, more_edit};
 ghost use Rattle.ph_node.specs.RecordEdit.{IsRecordEdit, with_edit, words_with, record_with};
 ghost use Rattle.ph_node.specs.Relaid.{is_relaid};
 
 use crate::moves::{make_room, move_into};
 use crate::node::SlotOf;
+use crate::spots::Spot;
 use crate::{NoMemory, records, rewrites};
-use ph_bits::{Block, Edit, Words};
+use ph_bits::{Block, Edit, Packed, Words};
 use ph_coord::Dims;
 use ph_linear::level_in;
+
+/// A point that comes to place `i`, as an edit.
+#[inline(always)]
+pub(crate) fn more_edit(i: usize, addr: u32, body: [u64; 16], v: u64) -> Edit
+    ensures { result ≡ more_edit i addr body v }
+{
+    Edit {
+        place: i,
+        less: 0,
+        more: 1,
+        entry: Packed {
+            addr,
+            child: false,
+            body,
+            rank: 0,
+        },
+        value: v,
+    }
+}
+
+/// A point that goes, as an edit.
+#[inline(always)]
+pub(crate) fn less_edit(spot: Spot) -> Edit
+    ensures { result ≡ less_edit spot }
+{
+    Edit {
+        place: spot.place,
+        less: 1,
+        more: 0,
+        entry: Packed {
+            addr: spot.addr,
+            child: false,
+            body: [0; 16],
+            rank: 0,
+        },
+        value: 0,
+    }
+}
 
 /// Puts a new point into the record of a block: where the record lies, or entry by entry into another block where its layout changes.
 ///
@@ -21,14 +61,8 @@ use ph_linear::level_in;
 /// changed.
 #[inline(always)]
 pub(crate) fn add_point<P: Dims>(block: &mut Block<SlotOf<P>>, edit: &Edit) -> Result<(), NoMemory>
-    requires edit { IsRecordEdit P.D block.old.words edit.now }
-    requires less { edit.now.less ≡ 0 }
-    requires more { edit.now.more ≡ 1 }
-    requires point { edit.now.entry.child ≡ false }
-    requires children { length block.old.values ≡ (first_in block.old.words).children }
-    ensures words { OnOk result (block.new.words ≡ record_with P.D block.old.words edit.now) }
-    ensures kept { OnErr result (block.new.words ≡ block.old.words) }
-    ensures values { block.new.values ≡ block.old.values }
+    requires { IsNewPoint P.D block.old.words (length block.old.values) edit.now }
+    ensures { IsPointPut P.D block.old edit.now result block.new }
 {
     let dims = P::D;
     let words = block.words();
@@ -43,16 +77,10 @@ pub(crate) fn add_point<P: Dims>(block: &mut Block<SlotOf<P>>, edit: &Edit) -> R
 // Puts the point in where the record lies.
 #[inline(always)]
 fn add_there<P: Dims>(block: &mut Block<SlotOf<P>>, edit: &Edit) -> Result<(), NoMemory>
-    requires edit { IsRecordEdit P.D block.old.words edit.now }
-    requires less { edit.now.less ≡ 0 }
-    requires more { edit.now.more ≡ 1 }
-    requires point { edit.now.entry.child ≡ false }
-    requires children { length block.old.values ≡ (first_in block.old.words).children }
+    requires new { IsNewPoint P.D block.old.words (length block.old.values) edit.now }
     requires layout { is_cube P.D (first_in block.old.words).level (length (with_edit P.D block.old.words edit.now))
         ≡ has_cube P.D (first_in block.old.words) }
-    ensures words { OnOk result (block.new.words ≡ record_with P.D block.old.words edit.now) }
-    ensures kept { OnErr result (block.new.words ≡ block.old.words) }
-    ensures values { block.new.values ≡ block.old.values }
+    ensures { IsPointPut P.D block.old edit.now result block.new }
 {
     let dims = P::D;
     let long = length_with(block, edit);
@@ -64,14 +92,8 @@ fn add_there<P: Dims>(block: &mut Block<SlotOf<P>>, edit: &Edit) -> Result<(), N
 /// Lays the record with the point out in another block.
 #[inline(never)]
 pub(crate) fn add_anew<P: Dims>(block: &mut Block<SlotOf<P>>, edit: &Edit) -> Result<(), NoMemory>
-    requires edit { IsRecordEdit P.D block.old.words edit.now }
-    requires less { edit.now.less ≡ 0 }
-    requires more { edit.now.more ≡ 1 }
-    requires point { edit.now.entry.child ≡ false }
-    requires children { length block.old.values ≡ (first_in block.old.words).children }
-    ensures words { OnOk result (block.new.words ≡ record_with P.D block.old.words edit.now) }
-    ensures kept { OnErr result (block.new.words ≡ block.old.words) }
-    ensures values { block.new.values ≡ block.old.values }
+    requires { IsNewPoint P.D block.old.words (length block.old.values) edit.now }
+    ensures { IsPointPut P.D block.old edit.now result block.new }
 {
     let room = length_with(block, edit) + block.count();
     let words = records::roomy(block.allocator(), room)?;
@@ -82,11 +104,7 @@ pub(crate) fn add_anew<P: Dims>(block: &mut Block<SlotOf<P>>, edit: &Edit) -> Re
 // How many words the record has with the point.
 #[inline(always)]
 fn length_with<P: Dims>(block: &Block<SlotOf<P>>, edit: &Edit) -> usize
-    requires edit { IsRecordEdit P.D block.now.words edit.now }
-    requires less { edit.now.less ≡ 0 }
-    requires more { edit.now.more ≡ 1 }
-    requires point { edit.now.entry.child ≡ false }
-    requires children { length block.now.values ≡ (first_in block.now.words).children }
+    requires { IsNewPoint P.D block.now.words (length block.now.values) edit.now }
     ensures value { result ≡ words_with P.D block.now.words edit.now }
     ensures limit { result + length block.now.values ≤ 2 ^ 20 + 2 ^ 16 }
 {

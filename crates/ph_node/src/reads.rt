@@ -130,6 +130,17 @@ impl<'t, P: Dims> NodeRefOf<'t, NodeOf<P>> {
         records::next_at_or_after(node.block.words(), P::D, addr)
     }
 
+    /// The same, where this is above the address of an entry: the entries behind it are looked at first.
+    #[inline(always)]
+    pub fn next_behind(&self, spot: Spot, addr: u32) -> Option<usize>
+        requires spot { IsSpot (entries (shown self.now)) spot }
+        requires above { spot.addr < addr }
+        ensures { result ≡ position (λ e. nat_le addr e.addr) (entries (shown self.now)) }
+    {
+        let node = self.node;
+        records::next_behind::<P>(node.block.words(), spot, addr)
+    }
+
     /// Entry `i`, in the order of the addresses, as it stands in the node.
     #[inline(always)]
     pub fn spot(&self, i: usize) -> Spot
@@ -139,10 +150,7 @@ impl<'t, P: Dims> NodeRefOf<'t, NodeOf<P>> {
         ensures limit { result.addr < 2 ^ P.D }
     {
         let node = self.node;
-        Spot {
-            place: i,
-            addr: records::address(node.block.words(), P::D, i),
-        }
+        node.spot(i)
     }
 
     /// Whether an entry is a child.

@@ -1,9 +1,9 @@
 //! Records of either layout.
 
-ghost use Rattle.std.specs.Prelude.{◌≡◌, ℕ, ◌+◌, ◌-◌, ◌*◌, ◌%◌, ◌<◌, ◌≤◌, ◌^◌, ◌==◌, nat_le, true};
-ghost use Rattle.std.specs.Prelude.{[], None, Some, length, map, drop, position, slice_get, slice_index_or, IfOk, IfErr};
+ghost use Rattle.std.specs.Prelude.{◌≡◌, ℕ, ◌+◌, ◌-◌, ◌*◌, ◌%◌, ◌<◌, ◌≤◌, ◌^◌, ◌==◌, nat_le, true, false};
+ghost use Rattle.std.specs.Prelude.{[], None, Some, length, map, position, slice_get, slice_index_or, IfOk, IfErr};
 ghost use Rattle.std.specs.List.{position_or_len};
-ghost use Rattle.ph_specs.specs.Layout.{read_address, is_child as read_child_test, AreRising};
+ghost use Rattle.ph_specs.specs.Layout.{read_address, entries_as, is_child as read_child_test, AreRising, IsRecord};
 ghost use Rattle.ph_specs.specs.Pack.{is_cube, values, record_of};
 ghost use Rattle.ph_specs.specs.Record.{first_in, has_cube, entries_in, values_in};
 ghost use Rattle.ph_bits.specs.Block.{room_of, IsSamePlaces, empty};
@@ -11,6 +11,7 @@ ghost use Rattle.ph_bits.specs.Edits.{least_digits, words_wanted};
 ghost use Rattle.ph_bits.specs.Packed.{read_of, rank_at, IsBodyAt, IsPadded};
 ghost use Rattle.ph_node.specs.Recorded.{IsLaidOut};
 ghost use Rattle.ph_node.specs.Relaid.{differ};
+ghost use Rattle.ph_node.specs.Spots.{IsSpotIn};
 
 use crate::NoMemory;
 use crate::spots::Spot;
@@ -20,6 +21,9 @@ use ph_cube::by_dims as cube;
 use ph_linear::{by_dims as linear, children_in, count_in, level_in};
 use std::alloc::Global;
 use std::cmp::min;
+
+// Among so many entries of a linear record an address is found as fast from the start as from an entry on.
+const FEW: usize = 8;
 
 /// The place of the entry at an address, or else the place that an entry there would have.
 #[inline(always)]
@@ -61,6 +65,33 @@ pub(crate) fn next_at_or_after(words: &[u64], dims: usize, addr: u32) -> Option<
     }
 }
 
+/// The same, where this is above the address of an entry. In a larger linear record the entries behind it are looked at first.
+#[inline(always)]
+pub(crate) fn next_behind<P: Dims>(words: &[u64], spot: Spot, addr: u32) -> Option<usize>
+    requires record { IsLaidOut P.D words.now }
+    requires within { spot.place < (first_in words.now).entries }
+    requires address { slice_get (map read_address (entries_in P.D words.now)) spot.place ≡ Some spot.addr }
+    requires above { spot.addr < addr }
+    ensures { result ≡ position (λ r. nat_le addr (read_address r)) (entries_in P.D words.now) }
+{
+    if count(words) <= FEW || has_cube(words, P::D) {
+        return next_at_or_after(words, P::D, addr);
+    }
+    next_near::<P>(words, spot, addr)
+}
+
+// The same in a linear record. It is compiled once for each number of dimensions, and stands beside the loop of a walk.
+#[inline(never)]
+fn next_near<P: Dims>(words: &[u64], spot: Spot, addr: u32) -> Option<usize>
+    requires record { IsRecord false P.D words.now }
+    requires within { spot.place < (first_in words.now).entries }
+    requires address { slice_get (map read_address (entries_as false P.D words.now)) spot.place ≡ Some spot.addr }
+    requires above { spot.addr < addr }
+    ensures { result ≡ position (λ r. nat_le addr (read_address r)) (entries_as false P.D words.now) }
+{
+    linear::next_behind(words, P::D, spot.place, addr)
+}
+
 /// Entry `i`.
 #[inline(always)]
 pub(crate) fn entry(words: &[u64], dims: usize, i: usize) -> Packed
@@ -97,9 +128,7 @@ pub(crate) fn address(words: &[u64], dims: usize, i: usize) -> u32
 /// Whether an entry is a child. Where all entries are of one kind, the first word tells.
 #[inline(always)]
 pub(crate) fn is_child(words: &[u64], dims: usize, spot: Spot) -> bool
-    requires record { IsLaidOut dims words.now }
-    requires within { spot.place < (first_in words.now).entries }
-    requires address { slice_get (map read_address (entries_in dims words.now)) spot.place ≡ Some spot.addr }
+    requires { IsSpotIn dims words.now spot }
     ensures { slice_get (map read_child_test (entries_in dims words.now)) spot.place ≡ Some result }
 {
     let children = children_in(words);
@@ -119,9 +148,7 @@ pub(crate) fn is_child(words: &[u64], dims: usize, spot: Spot) -> bool
 /// How many children, or points, there are in front of an entry.
 #[inline(always)]
 pub(crate) fn rank(words: &[u64], dims: usize, spot: Spot, child: bool) -> usize
-    requires record { IsLaidOut dims words.now }
-    requires within { spot.place < (first_in words.now).entries }
-    requires address { slice_get (map read_address (entries_in dims words.now)) spot.place ≡ Some spot.addr }
+    requires { IsSpotIn dims words.now spot }
     ensures { result ≡ rank_at child (entries_in dims words.now) spot.place }
 {
     let children = children_before(words, dims, spot);
@@ -135,9 +162,7 @@ pub(crate) fn rank(words: &[u64], dims: usize, spot: Spot, child: bool) -> usize
 // How many children there are in front of an entry.
 #[inline(always)]
 fn children_before(words: &[u64], dims: usize, spot: Spot) -> usize
-    requires record { IsLaidOut dims words.now }
-    requires within { spot.place < (first_in words.now).entries }
-    requires address { slice_get (map read_address (entries_in dims words.now)) spot.place ≡ Some spot.addr }
+    requires { IsSpotIn dims words.now spot }
     ensures { result ≡ rank_at true (entries_in dims words.now) spot.place }
 {
     if has_cube(words, dims) {
@@ -151,9 +176,7 @@ fn children_before(words: &[u64], dims: usize, spot: Spot) -> usize
 /// word tells both.
 #[inline(always)]
 pub(crate) fn ranked(words: &[u64], dims: usize, spot: Spot) -> (bool, usize)
-    requires record { IsLaidOut dims words.now }
-    requires within { spot.place < (first_in words.now).entries }
-    requires address { slice_get (map read_address (entries_in dims words.now)) spot.place ≡ Some spot.addr }
+    requires { IsSpotIn dims words.now spot }
     ensures kind { slice_get (map read_child_test (entries_in dims words.now)) spot.place ≡ Some result.0 }
     ensures rank { result.1 ≡ rank_at result.0 (entries_in dims words.now) spot.place }
 {
@@ -171,9 +194,7 @@ pub(crate) fn ranked(words: &[u64], dims: usize, spot: Spot) -> (bool, usize)
 /// The digit at which the body of an entry begins.
 #[inline(always)]
 pub(crate) fn body_at(words: &[u64], dims: usize, spot: Spot) -> u64
-    requires record { IsLaidOut dims words.now }
-    requires within { spot.place < (first_in words.now).entries }
-    requires address { slice_get (map read_address (entries_in dims words.now)) spot.place ≡ Some spot.addr }
+    requires { IsSpotIn dims words.now spot }
     ensures { IsBodyAt dims (first_in words.now).level words.now (entries_in dims words.now) spot.place result }
 {
     if has_cube(words, dims) {

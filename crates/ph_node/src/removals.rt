@@ -16,7 +16,7 @@ ghost use Rattle.ph_node.specs.Slots.{nodes_of};
 
 use crate::node::{NodeOf, SlotOf};
 use crate::olds::OldEntry;
-use crate::points::remove_point;
+use crate::points::{less_edit, remove_point};
 use crate::rewrites;
 use crate::spots::Spot;
 use ph_bits::{Block, Edit, Packed, Words};
@@ -43,19 +43,7 @@ impl<P: Dims> NodeOf<P> {
         ensures node { self.new ≡ node_of self.old.level (without (entries self.old) spot.place) }
         ensures cost { changes.new ≡ changes.old + 1 }
     {
-        let gone = Packed {
-            addr: spot.addr,
-            child: false,
-            body: [0; 16],
-            rank: 0,
-        };
-        let edit = Edit {
-            place: spot.place,
-            less: 1,
-            more: 0,
-            entry: gone,
-            value: 0,
-        };
+        let edit = less_edit(spot);
         remove_point(&mut self.block, &edit, spare);
         changes.tick();
     }

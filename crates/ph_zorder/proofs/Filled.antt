@@ -9,7 +9,7 @@ use Rattle.ph_specs.specs.Masks.{fits_masks, next_fitting, then_last, IsNext, Is
 use Rattle.ph_specs.proofs.lemmas.Places.{pow-next}
 use Rattle.ph_specs.proofs.lemmas.MaskDigits.{or-next, and-next}
 use Rattle.ph_specs.proofs.lemmas.Tests.{and-parts}
-use Rattle.ph_specs.proofs.laws.NextAddress.{Fits, fits, fit-test, FitsNext, fits-next, next-fits, half-small, back, bit, masked}
+use Rattle.ph_specs.proofs.laws.NextAddress.{Fits, fits, fit-test, FitsNext, fits-next, next-fits, half-small, back, bit, masked, not-next, filled-next, carried-front}
 use Rattle.ph_specs.proofs.laws.NextFitting.{next_fitting-least}
 use Rattle.std.proofs.Math.Pow.{pow_mono}
 use Rattle.std.proofs.Math.Nat.{mod-eq_of_lt}
@@ -55,15 +55,6 @@ fill-is n c f l (inl x) = x.1 ∙ sym (ap (filled n) x.0 ∙ filled-zero n)
 fill-is n c f l (inr x) = x.3 ∙ sym (filled-top n c x.0 l x.1 x.2)
 
 -- ---- digits that do not fit
-
-not-next : (n u c : ℕ) → c < 2 → u < 2 ^ n → 2 ^ suc n - 1 - (u * 2 + c) ≡ (2 ^ n - 1 - u) * 2 + (1 - c)
-not-next n u c p k =
-    let e : 2 ^ suc n ≡ 2 * 2 ^ n = ap (λ t. 2 ^ t) (let s : suc n ≡ n + 1 = omega arith in s) ∙ pow-next n in
-    omega (arith, e, p, k)
-
-filled-next : (n h u a c : ℕ) → a < 2 → c < 2 → u < 2 ^ n → bit_or (h * 2 + a) (2 ^ suc n - 1 - (u * 2 + c)) ≡ bit_or h (2 ^ n - 1 - u) * 2 + max a (1 - c)
-filled-next n h u a c p r k =
-    ap (λ t. bit_or (h * 2 + a) t) (not-next n u c r k) ∙ or-next h (2 ^ n - 1 - u) a (1 - c) p (omega (arith, r))
 
 without-next : (n h u a c : ℕ) → a < 2 → c < 2 → u < 2 ^ n → bit_and (h * 2 + a) (2 ^ suc n - 1 - (u * 2 + c)) ≡ bit_and h (2 ^ n - 1 - u) * 2 + min a (1 - c)
 without-next n h u a c p r k =
@@ -152,14 +143,7 @@ or-zero x = or_zero_r x
 
 -- the last digit is full: the digits in front of it are raised
 raised-front : (x l u b c : ℕ) → b < 2 → c < 2 → raised (x * 2 + 1) (l * 2 + b) (u * 2 + c) ≡ raised x l u * 2 + b
-raised-front x l u b c q r =
-    let s : x * 2 + 1 + 1 ≡ (x + 1) * 2 + 0 = omega arith in
-    let z : min 0 c ≡ 0 = omega arith in
-    let y : max 0 b ≡ b = omega arith in
-    ap (λ t. bit_or (bit_and t (u * 2 + c)) (l * 2 + b)) s
-    ∙ ap (λ t. bit_or t (l * 2 + b)) (and-next (x + 1) u 0 c (omega arith) r ∙ ap (λ t. bit_and (x + 1) u * 2 + t) z)
-    ∙ or-next (bit_and (x + 1) u) l 0 b (omega arith) q
-    ∙ ap (λ t. bit_or (bit_and (x + 1) u) l * 2 + t) y
+raised-front x l u b c q r = carried-front x l u b c q r
 
 -- the last digit rises
 raised-last : (n h l u b : ℕ) → b < 2 → h < 2 ^ n → u < 2 ^ n → Fits h l u → raised (bit_or h (2 ^ n - 1 - u) * 2 + 0) (l * 2 + b) (u * 2 + 1) ≡ h * 2 + 1
@@ -228,9 +212,6 @@ front n h l u b c x o q r i =
       found = λ k. some-last b (raised x l u) o (i.found (omega (arith, k, e))) ∙ ap {B = Option ℕ} (λ t. Some t) (sym (raised-front x l u b c q r));
       none = λ k. none-last b o (i.none (omega (arith, k, e)));
     }
-
-last-bit : (x a c : ℕ) → a < 2 → c < 2 → max a (1 - c) < 2
-last-bit x a c p r = omega (arith, p)
 
 -- a last digit that rises
 rises : (n h l u b : ℕ) → b < 2 → h < 2 ^ n → l < 2 ^ n → u < 2 ^ n → Fits h l u → (x : ℕ) →

@@ -12,7 +12,7 @@ ghost use Rattle.ph_node.specs.Split.{IsValue};
 ghost use Rattle.ph_node.specs.Spots.{IsSpot};
 
 use crate::{Dim, Dims, NoMemory, NodeOf, Spot, points};
-use ph_bits::{Edit, Packed, Words};
+use ph_bits::Words;
 use ph_digits::body_below;
 use ph_steps::Steps;
 use std::alloc::Global;
@@ -62,19 +62,7 @@ fn add_anew<P: Dims>(
     requires place { i ≡ place_for addr (entries node.old) }
     requires body { IsBodyArray P.D node.old.level body }
 {
-    let entry = Packed {
-        addr,
-        child: false,
-        body,
-        rank: 0,
-    };
-    let edit = Edit {
-        place: i,
-        less: 0,
-        more: 1,
-        entry,
-        value: v,
-    };
+    let edit = points::more_edit(i, addr, body, v);
     points::add_anew(&mut node.block, &edit)
 }
 
@@ -84,19 +72,7 @@ fn drop_anew<P: Dims>(node: &mut NodeOf<P>, spot: Spot) -> Result<(), NoMemory>
     requires point { IsValue (what_at (entries node.old) spot.place) }
     requires many { 2 ≤ length (entries node.old) }
 {
-    let gone = Packed {
-        addr: spot.addr,
-        child: false,
-        body: [0; 16],
-        rank: 0,
-    };
-    let edit = Edit {
-        place: spot.place,
-        less: 1,
-        more: 0,
-        entry: gone,
-        value: 0,
-    };
+    let edit = points::less_edit(spot);
     let room = node.block.len() + node.block.count();
     let words = Words::with_room(node.block.allocator(), room)?;
     points::lay_out(&mut node.block, &edit, words);

@@ -8,6 +8,12 @@ use Rattle.ph_bits.proofs.Packing.{packed-same, cuts-small}
 use Rattle.ph_bits.proofs.RowPlaces.{pieces-row}
 use Rattle.ph_bits.proofs.beside.is_row.Goals as goal
 
+pub packed-requires-clause-cut : goal.packed-requires-clause-cut
+packed-requires-clause-cut c = record { digits = c.requires.width; zeros = c.requires.low }
+
+pub are_fields-requires-clause-cut : goal.are_fields-requires-clause-cut
+are_fields-requires-clause-cut c = record { digits = c.requires.width; zeros = c.requires.low }
+
 pub returns-then-digits-le64 : goal.returns-then-digits-le64
 returns-then-digits-le64 c =
     let ws = c.args.words.now in

@@ -1,21 +1,15 @@
 use Rattle.std.proofs.Common.{◌∙◌, ◌+◌, ◌*◌, ◌-◌, ◌/◌, ◌%◌, ◌^◌, ap, arith, get_or, length, rules}
-use Rattle.std.proofs.Math.Pow.{pow_mono}
-use Rattle.ph_digits.proofs.Joins.{small-at, kept-at, kept-more, made-more, joined-all}
+use Rattle.ph_digits.proofs.Joins.{kept-more, made-more, joined-all}
 use Rattle.ph_bits.specs.Fields.{digits_row}
+use Rattle.ph_bits.proofs.JoinedNumbers.{sum-fits}
 use Rattle.ph_bits.proofs.RowPlaces.{length-row}
 use Rattle.ph_bits.proofs.joins.join_row.Goals as goal
 
 pub overflow_add-known-in-loop-i : goal.overflow_add-known-in-loop-i
 overflow_add-known-in-loop-i c =
-    omega (
-      arith,
-      c.digits_above.ensures.limit,
-      c.address_digit.ensures.limit,
-      c.piece-below.ensures.limit,
-      kept-at c.loop-i.i c.loop-i.known c.args.known.now c.loop-i.invariant.kept,
-      small-at 62 (length c.args.known.now) c.loop-i.i c.args.known.now c.requires.known,
-      pow_mono {i = c.args.level} {j = 61} c.requires.level,
-    )
+    let k = sum-fits c.args.level c.loop-i.i (length c.args.known.now) _ _ _ c.loop-i.known c.args.known.now c.loop-i.invariant.kept
+    c.requires.known c.requires.level c.digits_above.ensures.limit c.address_digit.ensures.limit c.piece-below.ensures.limit in
+    omega (arith, k)
 
 pub loop-i-preserved : goal.loop-i-preserved
 loop-i-preserved c =

@@ -1,30 +1,8 @@
-use Rattle.std.proofs.Common.{◌≡◌, ℕ, ◌+◌, ◌-◌, ◌*◌, ◌/◌, ◌%◌, ◌≤◌, List, length, refl, ◌∙◌, arith}
-use Rattle.ph_bits.specs.Moved.{IsMoved}
-use Rattle.ph_bits.proofs.MovedRuns.{moved-down, moved-equal}
+use Rattle.ph_bits.proofs.MovedRuns.{many-down}
 use Rattle.ph_bits.proofs.moves.move_many_down.Goals as goal
-
--- the three parts, the first of which ends where a word ends
-all : (old first mid new : List ℕ) (from to len front whole : ℕ) → length first ≡ length old →
-    length mid ≡ length old → length new ≡ length old → to ≤ from → from + len ≤ 64 * length old
-    → front + 64 * whole ≤ len → 64 * ((to + front) / 64) ≡ to + front
-    → IsMoved old from to front first → IsMoved first (from + front) (64 * ((to + front) / 64)) (64 * whole) mid →
-    IsMoved mid (from + (front + 64 * whole)) (to + (front + 64 * whole)) (len - (front + 64 * whole)) new
-    → IsMoved old from to len new
-all old first mid new from to len front whole e f g o l m w p q r =
-    let two : IsMoved old from to (front + 64 * whole) mid =
-    moved-down old first mid from to front (64 * whole) e f o (omega (arith, l, m)) p
-    (moved-equal first mid (from + front) (from + front) (64 * ((to + front) / 64)) (to + front) (64 * whole) (64 * whole) refl w refl q) in
-    moved-equal old new from from to to (front + 64 * whole + (len - (front + 64 * whole))) len refl refl (omega (arith, m))
-    (moved-down old mid new from to (front + 64 * whole) (len - (front + 64 * whole)) f g o (omega (arith, l, m)) two r)
 
 pub returns : goal.returns
 returns c =
-    let front : ℕ = (64 - c.args.to % 64) % 64 in
-    let whole : ℕ = (c.args.len - (64 - c.args.to % 64) % 64) / 64 in
-    let w : 64 * ((c.args.to + (64 - c.args.to % 64) % 64) / 64) ≡ c.args.to + (64 - c.args.to % 64) % 64 = omega arith in
-    let m : (64 - c.args.to % 64) % 64 + 64 * ((c.args.len - (64 - c.args.to % 64) % 64) / 64) ≤ c.args.len = omega (arith, c.requires.many) in
-    let e = c.move_part.auto.words in
-    let f = c.move_words_down.auto.words ∙ e in
-    all c.args.words.now c.move_part.new.words c.move_words_down.new.words c.move_part-2.new.words c.args.from
-    c.args.to c.args.len front whole e f (c.move_part-2.auto.words ∙ f)
-    c.requires.order c.requires.inside m w c.move_part.ensures c.move_words_down.ensures c.move_part-2.ensures
+    many-down c.args.words.now c.move_part.new.words c.move_words_down.new.words c.move_part-2.new.words c.args.from c.args.to
+    c.args.len c.move_part.auto.words c.move_words_down.auto.words c.move_part-2.auto.words c.requires.order c.requires.many
+    c.requires.inside c.move_part.ensures c.move_words_down.ensures c.move_part-2.ensures

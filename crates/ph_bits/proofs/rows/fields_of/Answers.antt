@@ -16,8 +16,12 @@ loop-i-preserved c =
       left_over body i c.field.result (16 - (i + 1)) zeros,
     )
 
-pub returns-clause-fields : goal.returns-clause-fields
-returns-clause-fields c =
+pub returns : goal.returns
+returns c =
     let e : c.loop-i.i ≡ c.args.count = omega arith in
     let xs : List ℕ = digits_row c.args.words.now c.args.at c.args.width c.args.count in
-    ap (λ t. take t c.loop-i.body) (sym e) ∙ c.loop-i.invariant.0 ∙ take-all xs c.loop-i.i (length-row c.args.words.now c.args.at c.args.width c.args.count ∙ sym e)
+    record {
+      fields = ap (λ t. take t c.loop-i.body) (sym e) ∙ c.loop-i.invariant.0
+          ∙ take-all xs c.loop-i.i (length-row c.args.words.now c.args.at c.args.width c.args.count ∙ sym e);
+      zeros = ap (λ t. drop t c.loop-i.body) (sym e) ∙ c.loop-i.invariant.1 ∙ ap (λ t. replicate (16 - t) 0) e;
+    }

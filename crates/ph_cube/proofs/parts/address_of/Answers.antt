@@ -56,24 +56,20 @@ last : (left o : ℕ) (t : Bool) → left < o → o ≡ (if t then 0 else 1) →
 last left o true l e = absurd (omega (arith, l, e))
 last left o false l e = omega (arith, l, e)
 
-pub returns-clause-place : goal.returns-clause-place
-returns-clause-place c =
+pub returns : goal.returns
+returns c =
     let v = c.loop-k.invariant in
     let ws = c.args.words.now in
     let a : ℕ = c.loop-k.addr in
     let z : c.loop-k.k ≡ 0 = omega (arith, c.loop-k-test.false) in
     let p : 2 ^ c.loop-k.k ≡ 1 = ap (λ t. 2 ^ t) z in
     let h : c.loop-k.left < ones_in ws (64 + a * 2) 2 = subst (λ t. c.loop-k.left < ones_in ws (64 + a * 2) (t * 2)) p v.here in
+    let l : a < 2 ^ c.args.dims = omega (arith, v.within, p) in
     let n : c.loop-k.left ≡ 0 = last c.loop-k.left (ones_in ws (64 + a * 2) 2)
     (slice_index_or (kinds c.args.dims ws) a 0 == 0) h
-    (kind-one c.args.dims ws a c.requires.record (each-fits ws c.type_inv.words) (omega (arith, v.within, p))) in
-    omega (arith, v.before, n)
-
-pub returns-clause-some : goal.returns-clause-some
-returns-clause-some c =
-    let v = c.loop-k.invariant in
-    let z : c.loop-k.k ≡ 0 = omega (arith, c.loop-k-test.false) in
-    let p : 2 ^ c.loop-k.k ≡ 1 = ap (λ t. 2 ^ t) z in
-    let h : c.loop-k.left < ones_in c.args.words.now (64 + c.loop-k.addr * 2) 2 =
-    subst (λ t. c.loop-k.left < ones_in c.args.words.now (64 + c.loop-k.addr * 2) (t * 2)) p v.here in
-    omega (arith, h)
+    (kind-one c.args.dims ws a c.requires.record (each-fits ws c.type_inv.words) l) in
+    record {
+      limit = l;
+      place = omega (arith, v.before, n);
+      some = omega (arith, h);
+    }

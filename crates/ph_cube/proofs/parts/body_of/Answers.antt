@@ -18,4 +18,4 @@ returns c =
     subst (λ t. IsBodyAt d (first_in words).level words (entries_as true d words) i
     (64 + t * 2 + a * d * c.level_in.result)) (sym (shifted d (omega (arith, r.record.few))))
     (subst (λ t. IsBodyAt d (first_in words).level words (entries_as true d words) i (64 + 2 ^ d * 2 + a * d * t)) (sym c.level_in.ensures)
-    (begins d words a i r.record h r.within (record { limit = r.limit; place = r.place; some = r.some })))
+    (begins d words a i r.record h r.within r.stands))

@@ -4,7 +4,5 @@ use Rattle.ph_cube.proofs.reads.address.Goals as goal
 
 pub returns : goal.returns
 returns c =
-    let a = c.address_of.ensures in
     address-is c.args.dims c.args.words.now c.address_of.result c.args.i c.requires.record
-    (each-fits c.args.words.now c.type_inv.words) c.requires.within
-    (record { limit = a.limit; place = a.place; some = a.some })
+    (each-fits c.args.words.now c.type_inv.words) c.requires.within c.address_of.ensures

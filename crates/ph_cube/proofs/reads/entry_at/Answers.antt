@@ -19,7 +19,7 @@ returns-clause-entry c =
     let a : ℕ = c.args.addr in
     let i : ℕ = c.args.i in
     let r = c.requires in
-    let e = entry-is d words a i r.record (each-fits words c.type_inv.words) r.within (record { limit = r.limit; place = r.place; some = r.some }) in
+    let e = entry-is d words a i r.record (each-fits words c.type_inv.words) r.within r.stands in
     let body : get_or (bodies d words) a [] ≡ take d c.row-body.result =
     sym (body-read _ _ _)
     ∙ ap (λ o. unwrap_or o []) (sym (slice_get-map read_body (entries_as true d words) i ∙ ap (option_map read_body) e) ∙ c.body_of-at.ensures.body)

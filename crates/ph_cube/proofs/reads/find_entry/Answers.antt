@@ -7,12 +7,7 @@ pub entry_at-requires-clause-within : goal.entry_at-requires-clause-within
 entry_at-requires-clause-within c =
     stands-within c.args.dims c.args.words.now c.args.addr c.in-Some.i c.requires.record (sym c.find.ensures ∙ c.in-Some.is)
 
-pub entry_at-requires-clause-place : goal.entry_at-requires-clause-place
-entry_at-requires-clause-place c =
-    (stands c.args.dims c.args.words.now c.args.addr c.in-Some.i c.requires.record
-    (each-fits c.args.words.now c.type_inv.words) c.requires.address (sym c.find.ensures ∙ c.in-Some.is)).place
-
-pub entry_at-requires-clause-some : goal.entry_at-requires-clause-some
-entry_at-requires-clause-some c =
-    (stands c.args.dims c.args.words.now c.args.addr c.in-Some.i c.requires.record
-    (each-fits c.args.words.now c.type_inv.words) c.requires.address (sym c.find.ensures ∙ c.in-Some.is)).some
+pub entry_at-requires-clause-stands : goal.entry_at-requires-clause-stands
+entry_at-requires-clause-stands c =
+    stands c.args.dims c.args.words.now c.args.addr c.in-Some.i c.requires.record
+    (each-fits c.args.words.now c.type_inv.words) c.requires.address (sym c.find.ensures ∙ c.in-Some.is)

@@ -8,9 +8,7 @@ use Rattle.ph_cube.proofs.reads.rank.Goals as goal
 
 pub returns : goal.returns
 returns c child e =
-    let a = c.address_of-addr.ensures in
     let kind = kind-is c.args.dims c.args.words.now c.address_of-addr.result c.args.i c.requires.record
-    (each-fits c.args.words.now c.type_inv.words) c.requires.within
-    (record { limit = a.limit; place = a.place; some = a.some }) in
+    (each-fits c.args.words.now c.type_inv.words) c.requires.within c.address_of-addr.ensures in
     let same : c.child_at.result ≡ child = c.child_at.ensures ∙ ap (λ o. unwrap_or o false) (sym kind ∙ e) in
     c.rank_of.ensures ∙ ap (λ t. rank_at t (entries_as true c.args.dims c.args.words.now) c.args.i) same

@@ -1,57 +1,32 @@
-use Rattle.std.proofs.Common.{rules, [], ◌∷◌, ◌≡◌, ℕ, List, ◌+◌, ◌-◌, ◌^◌, ◌<◌, ◌≤◌, length, take, arith, ◌∙◌, false}
-use Rattle.std.specs.List.{AllByRecursion as Each}
+use Rattle.std.proofs.Common.{◌-◌, length, take, arith, ◌∙◌, false}
 use Rattle.ph_specs.specs.Layout.{entries_as}
-use Rattle.ph_specs.specs.Pack.{record_in}
-use Rattle.ph_specs.specs.Record.{first_in}
-use Rattle.ph_specs.proofs.laws.WordDigits.{each-fits}
-use Rattle.ph_bits.specs.Edits.{edited_as}
-use Rattle.ph_linear.specs.Edited.{IsOutlined, with_values}
-use Rattle.ph_linear.proofs.EditedLists.{each-take}
-use Rattle.ph_linear.proofs.PutRecords.{none, points-child, part_lent, point-changed}
+use Rattle.ph_linear.proofs.PutRecords.{none, points-child, point-changed}
 use Rattle.ph_linear.proofs.Ranks.{many}
 use Rattle.ph_linear.proofs.edits.put_point.Goals as goal
-use Rattle.ph_linear.proofs.edits.put_point.Goals.{After-put_table-outline}
 
--- the place is one of an entry
-inside : (dims place : ℕ) (words : List ℕ) → place < length (entries_as false dims words) → place < (first_in words).entries
-inside dims place words l = omega (arith, l, many dims words)
-
-pub put_table-outline-requires-clause-within : goal.put_table-outline-requires-clause-within
-put_table-outline-requires-clause-within c =
+pub put_table-outline-requires : goal.put_table-outline-requires
+put_table-outline-requires c =
+    let q = c.requires in
     let old = take (length c.args.words.now - 1) c.args.words.now in
-    inside c.args.dims c.args.edit.now.place old (points-child (entries_as false c.args.dims old) c.args.edit.now.place c.requires.was).0
-
-module _ (c : After-put_table-outline) where
-  abbrev old : List ℕ
-  old = take (length c.args.words.now - 1) c.args.words.now
-
-  fit : Each (λ x. x < 2 ^ 64) old
-  fit = each-take (λ x. x < 2 ^ 64) (length c.args.words.now - 1) c.args.words.now (each-fits c.args.words.now (search rules))
-
-  within : c.args.edit.now.place + c.args.edit.now.less ≤ (first_in old).entries
-  within =
-      let l : c.args.edit.now.place < (first_in old).entries = inside c.args.dims c.args.edit.now.place old
-      (points-child (entries_as false c.args.dims old) c.args.edit.now.place c.requires.was).0 in
-      omega (arith, l, c.requires.less)
-
-  -- the words with the new kind and the new body fit the outline, and with the value they are the new record
-  put : let ws = part_lent c.put_table-outline.new.words c.args.words.now in
-      IsOutlined c.put_table-outline.result (c.args.edit.now.value ∷ []) ws
-      × (with_values 0 c.put_table-outline.result (c.args.edit.now.value ∷ []) ws ≡
-      record_in false c.args.dims (first_in old).level (edited_as false c.args.dims old c.args.edit.now))
-  put =
-      point-changed false c.args.dims old c.args.edit.now c.requires.record fit within c.put_table-outline.result
-      c.put_table-outline.ensures.outline c.put_table-outline.new.words c.args.words.now
-      c.requires.entries c.requires.less c.requires.more c.requires.point c.requires.some c.put_table-outline.auto.words c.put_table-outline.ensures.words
+    let child = points-child (entries_as false c.args.dims old) c.args.edit.now.place q.was in
+    record {
+      whole = q.record;
+      within = omega (arith, child.0, many c.args.dims old);
+      less = q.less;
+      more = q.more;
+      address = q.address;
+      rise = q.entries;
+    }
 
 pub put_value-requires-clause-none : goal.put_value-requires-clause-none
-put_value-requires-clause-none c =
-    let p = (goal.at.put_value-requires-clause-none c).After-put_table-outline in
-    none false c.args.dims (old p) c.args.edit.now c.requires.record (fit p) (within p) c.put_table-outline.result
-    c.put_table-outline.ensures.outline c.requires.less c.requires.was
+put_value-requires-clause-none c = none c.put_table-outline.ensures c.requires.less c.requires.was
 
 pub put_value-requires-clause-outline : goal.put_value-requires-clause-outline
-put_value-requires-clause-outline c = (put (goal.at.put_value-requires-clause-outline c).After-put_table-outline).0
+put_value-requires-clause-outline c =
+    (point-changed c.put_table-outline.ensures c.args.words.now c.requires.less c.requires.more c.requires.point
+    c.requires.some c.put_table-outline.auto.words).0
 
 pub returns : goal.returns
-returns c = c.put_value.ensures ∙ (put (goal.at.returns c).After-put_table-outline).1
+returns c =
+    c.put_value.ensures ∙ (point-changed c.put_table-outline.ensures c.args.words.now c.requires.less c.requires.more c.requires.point
+    c.requires.some c.put_table-outline.auto.words).1

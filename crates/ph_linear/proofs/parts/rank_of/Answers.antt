@@ -1,26 +1,15 @@
-use Rattle.std.proofs.Common.{◌≡◌, ◌+◌, ◌-◌, ℕ, List, sym, ap, ◌∙◌, arith, take, false}
+use Rattle.std.proofs.Common.{◌-◌, ℕ, sym, ap, ◌∙◌, arith, false}
 use Rattle.std.specs.Prelude.{if◌then◌else◌}
-use Rattle.ph_specs.specs.NodeSize.{children_in, points_in}
-use Rattle.ph_specs.specs.Record.{Read}
 use Rattle.ph_specs.specs.Layout.{entries_as}
-use Rattle.ph_specs.proofs.laws.TableFields.{both-counts}
 use Rattle.ph_specs.proofs.laws.WordDigits.{each-fits}
-use Rattle.ph_linear.proofs.Ranks.{many, children-ones, ranked}
+use Rattle.ph_linear.proofs.Ranks.{many, children-ones, points-ones, ranked}
 use Rattle.ph_linear.proofs.parts.rank_of.Goals as goal
 
 pub overflow_sub-result : goal.overflow_sub-result
 overflow_sub-result c =
-    let words = c.args.words.now in
-    let rs : List Read = entries_as false c.args.dims words in
-    let h : children_in (take c.args.i rs) + points_in (take c.args.i rs) ≡ c.args.i =
-    both-counts rs c.args.i (omega (arith, many c.args.dims words, c.requires.within)) in
-    omega (
-      arith,
-      h,
-      children-ones c.args.dims words c.args.i c.requires.record (each-fits words c.type_inv.words)
-          (omega (arith, c.requires.within)),
-      c.ones_before-children.ensures,
-    )
+    let k = points-ones c.args.dims c.args.words.now c.args.i c.requires.record (each-fits c.args.words.now c.type_inv.words)
+    (omega (arith, c.requires.within)) in
+    omega (arith, k, c.ones_before-children.ensures)
 
 pub returns-then-child : goal.returns-then-child
 returns-then-child c =

@@ -1,19 +1,10 @@
-use Rattle.std.proofs.Common.{◌^◌, ap, arith}
-use Rattle.ph_specs.specs.Record.{first_in}
-use Rattle.ph_node.proofs.RecordEdits.{few_with}
-use Rattle.ph_node.proofs.Resized.{count_more, stays_more}
+use Rattle.ph_node.proofs.Resized.{few_more, stays_more}
 use Rattle.ph_node.proofs.points.add_point.Goals as goal
 
 pub changes_layout-requires-clause-entries : goal.changes_layout-requires-clause-entries
 changes_layout-requires-clause-entries g c =
-    omega (
-      arith,
-      c.count-more.ensures,
-      ap (λ u. (first_in u).entries) c.words-words.ensures,
-      count_more _ _ _ c.requires.edit c.requires.less c.requires.more c.requires.point,
-      few_with _ _ _ c.requires.edit,
-      ap (λ d. 2 ^ d) c.D-dims.ensures,
-    )
+    few_more g.P.Dims.D c.args.block.now.words _ c.args.edit.now c.requires c.count-more.result c.D-dims.result
+    c.words-words.result.now c.count-more.ensures c.words-words.ensures c.D-dims.ensures
 
 pub add_there-requires-clause-layout : goal.add_there-requires-clause-layout
 add_there-requires-clause-layout g c =

@@ -1,21 +1,14 @@
-use Rattle.std.proofs.Common.{◌≡◌, ◌+◌, ◌-◌, ◌^◌, ◌≤◌, ap, ◌∙◌, arith}
+use Rattle.std.proofs.Common.{◌≡◌, ◌+◌, ◌-◌, ◌^◌, ◌≤◌, ap, refl, ◌∙◌, arith}
 use Rattle.std.proofs.Math.Pow.{pow_mono}
 use Rattle.ph_specs.specs.Record.{first_in}
 use Rattle.ph_bits.specs.Edits.{words_wanted}
-use Rattle.ph_node.proofs.RecordEdits.{few_with}
-use Rattle.ph_node.proofs.Resized.{count_more, words_more}
+use Rattle.ph_node.proofs.Resized.{few_more, words_more}
 use Rattle.ph_node.proofs.points.length_with.Goals as goal
 
 pub size-requires-clause-entries : goal.size-requires-clause-entries
 size-requires-clause-entries g c =
-    omega (
-      arith,
-      c.count-n.ensures,
-      ap (λ u. (first_in u).entries) c.words-words.ensures,
-      count_more _ _ _ c.requires.edit c.requires.less c.requires.more c.requires.point,
-      few_with _ _ _ c.requires.edit,
-      ap (λ d. 2 ^ d) c.D-dims.ensures,
-    )
+    few_more g.P.Dims.D c.args.block.now.words _ c.args.edit.now c.requires c.count-n.result c.D-dims.result
+    c.words-words.result.now c.count-n.ensures c.words-words.ensures c.D-dims.ensures
 
 pub returns-clause-value : goal.returns-clause-value
 returns-clause-value g c =
@@ -35,10 +28,10 @@ returns-clause-limit g c =
       arith,
       c.size.ensures.limit,
       wide,
+      few_more g.P.Dims.D c.args.block.now.words _ c.args.edit.now c.requires c.count-n.result g.P.Dims.D
+          c.words-words.result.now c.count-n.ensures c.words-words.ensures refl,
       c.count-n.ensures,
       ap (λ u. (first_in u).entries) c.words-words.ensures,
-      count_more _ _ _ c.requires.edit c.requires.less c.requires.more c.requires.point,
-      few_with _ _ _ c.requires.edit,
       c.count-children.ensures.value,
       c.requires.children,
       c.requires.edit.source.laid.tables.kids,

@@ -9,7 +9,7 @@ pub overflow_sub-result : goal.overflow_sub-result
 overflow_sub-result c =
     omega (
       arith,
-      both-before c.args.dims c.args.words.now c.requires.record
+      both-before c.args.dims c.args.words.now c.requires.laid
           (each-fits c.args.words.now c.type_inv.words) c.args.spot.place c.requires.within,
       c.children_before-children.ensures,
     )
@@ -21,7 +21,7 @@ returns-else-child c =
     let points : i - c.children_before-children.result ≡ rank_at false rs i =
     omega (
       arith,
-      both-before c.args.dims c.args.words.now c.requires.record
+      both-before c.args.dims c.args.words.now c.requires.laid
           (each-fits c.args.words.now c.type_inv.words) i c.requires.within,
       c.children_before-children.ensures,
     ) in

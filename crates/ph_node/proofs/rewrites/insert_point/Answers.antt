@@ -11,6 +11,7 @@ use Rattle.ph_cube.specs.Edited.{IsEditAt}
 use Rattle.ph_node.specs.RecordEdit.{IsRecordEdit}
 use Rattle.ph_node.proofs.Resized.{cube_longer, record_kept, long_with}
 use Rattle.ph_node.proofs.rewrites.insert_point.Goals as goal
+use Rattle.ph_node.proofs.rewrites.insert_point.Goals.{After-has_cube}
 
 -- an edit of a cube is one at an address
 in_cube : (d : ℕ) (ws : List ℕ) (e : Edit) → has_cube d (first_in ws) ≡ true → IsRecordEdit d ws e → IsEditAt d ws e e.entry.addr
@@ -23,19 +24,24 @@ in_cube d ws e hc h = record {
 }
 
 -- a cube grows by one word
+grown : (c : After-has_cube) → has_cube c.args.dims (first_in (take c.args.len c.args.words.now)) ≡ true →
+    c.args.len ≡ length c.args.words.now - 1
+grown c hc =
+    let ws : List ℕ = c.args.words.now in
+    let q = c.requires in
+    omega (
+      arith,
+      q.long,
+      cube_longer c.args.dims (take c.args.len ws) c.args.edit.now q.edit q.less q.more q.point q.layout hc,
+      length-take-le c.args.len ws q.front,
+    )
+
 pub insert_point-requires : goal.insert_point-requires
 insert_point-requires c =
     let ws : List ℕ = c.args.words.now in
     let q = c.requires in
     let hc = sym c.has_cube.ensures ∙ c.if-has_cube.true in
-    let one : c.args.len ≡ length ws - 1 =
-    omega (
-      arith,
-      q.long,
-      cube_longer c.args.dims (take c.args.len ws) c.args.edit.now q.edit q.less q.more
-          q.point q.layout hc,
-      length-take-le c.args.len ws q.front,
-    ) in
+    let one = grown (goal.at.insert_point-requires c).After-has_cube hc in
     let laid : IsRecord true c.args.dims (take c.args.len ws) = subst (λ b. IsRecord b c.args.dims (take c.args.len ws)) hc q.edit.source.laid.tables in
     let at : IsEditAt c.args.dims (take c.args.len ws) c.args.edit.now c.args.edit.now.entry.addr = in_cube c.args.dims (take c.args.len ws) c.args.edit.now hc q.edit in
     let rise : AreRising c.args.dims (first_in (take c.args.len ws)).level 0
@@ -64,14 +70,7 @@ returns-then-has_cube c =
     let ws : List ℕ = c.args.words.now in
     let q = c.requires in
     let hc = sym c.has_cube.ensures ∙ c.if-has_cube.true in
-    let one : c.args.len ≡ length ws - 1 =
-    omega (
-      arith,
-      q.long,
-      cube_longer c.args.dims (take c.args.len ws) c.args.edit.now q.edit q.less q.more
-          q.point q.layout hc,
-      length-take-le c.args.len ws q.front,
-    ) in
+    let one = grown (goal.at.returns-then-has_cube c).After-has_cube hc in
     subst (λ n. c.insert_point.new.words ≡ record_in true c.args.dims (first_in (take n ws)).level
     (edited_as true c.args.dims (take n ws) c.args.edit.now)) (sym one) c.insert_point.ensures
     ∙ record_kept c.args.dims (take c.args.len ws) c.args.edit.now q.edit true q.layout hc

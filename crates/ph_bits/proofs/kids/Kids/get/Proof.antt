@@ -3,10 +3,9 @@ use Rattle.ph_bits.proofs.Walks.{◌≡◌, ℕ, ◌+◌, ◌*◌, ◌^◌, ◌<
 use Rattle.ph_bits.proofs.Walks.{named, w64, Val, vptr, fact, tables, ‵, raw, ◌⊛◌, at_ret, ◌$◌, ◌∵◌, !, qed, done, move, keep, drop, use1, split}
 use Rattle.ph_bits.proofs.Walks.{join, fsplit, fjoin, flt_l, feq_i, rewrite, suffices, frame, whole, sub, enter, of_opd, addr, bin, lit, stop, fld}
 use Rattle.ph_bits.proofs.Walks.{first, blocks, exec, returns, take_at, give_at, layout, word, word-Good, alloc_all, pass_all, free_all, look_at}
-use Rattle.ph_bits.proofs.Walks.{get, get_in, through, sets, sets_last, env, usize, yes, uint_vals, uint_Tells, Ptr, in_a_block, owns, plain}
-use Rattle.ph_bits.proofs.Walks.{nothing, heard, Stays, walk_of, says, stay_dropped, Goes-dropped, ends_at, after}
+use Rattle.ph_bits.proofs.Walks.{get, get_in, through, sets, sets_last, env, usize, uint_vals, uint_Tells, Ptr, in_a_block, owns}
+use Rattle.ph_bits.proofs.Walks.{nothing, heard, Stays, walk_of, says, ends_at, after}
 use contract.BorrowLft.{◌⊑◌}
-use denote.Builtin.{RefOf}
 use denote.Memory.{shared_of}
 use denote.Opens.{hide, unhide}
 use denote.Param.{param}
@@ -22,16 +21,16 @@ use Rattle.ph_bits.specs.contracts.places.Start.{the_row as S}
 use Rattle.ph_bits.proofs.places.Start.TheLaws.{lowers}
 use Rattle.ph_bits.proofs.kids.Kids.get.Statement.{statement}
 use Rattle.ph_bits.proofs.kids.Kids.get.Code as code
-use Rattle.ph_bits.proofs.KidSteps.{item, kid_seen, at_type, words_stay, words_go}
+use Rattle.ph_bits.proofs.KidSteps.{item, kid_seen, at_type, shown_stay, shown_go}
 
 pub get_spec : {M : Type 1} → statement M
 get_spec 𝓤 𝓛 𝓜 𝓡 wired X LX =
     let T = f.ended X in let c = f.clauses X 𝓛 𝓜.mem 𝓡.returns in
     let R : RattleType = param 0 X in let Row : RattleType = K.the_row R in
     let function : Fn = inst_fn (at_type X) code.function in
-    let stayed : Stays T.signature.params T.kept = (stay_dropped (RefOf (0 ∷ []) tt (plain (λ _. Row)) (λ _. tt)) yes, words_stay) in
+    let stayed : Stays T.signature.params T.kept = shown_stay R in
     let W = walk_of 𝓛 T stayed c in let 𝓣 = tables 𝓤 𝓛.H 𝓜 𝓡 𝓡.env in
-    proved 𝓛 T stayed c 𝓜 𝓡 (Goes-dropped 𝓛 2 (RefOf (0 ∷ []) tt (plain (λ _. Row)) (λ _. tt)) yes (λ κs x w. refl), words_go 𝓛)
+    proved 𝓛 T stayed c 𝓜 𝓡 (shown_go R 𝓛)
     (f.Key.name (at_type X)) function (code.unfolded 𝓤 𝓛.H 𝓜 𝓡 wired (X, tt))
     (λ κs. (shr_vals, ((λ s. lowers.lowered s ∷ []), (uint_vals w64, (uint_vals w64, tt)))))
     (λ κs. (shr_Tells (named 0) κs.0 Row, (lowers.val_is, (uint_Tells w64, (uint_Tells w64, tt))))) (λ κs qs bounds a _ are.

@@ -5,7 +5,7 @@ use Rattle.ph_bits.proofs.Walks.{done, move, keep, use1, use2, split, join, fspl
 use Rattle.ph_bits.proofs.Walks.{whole, sub, enter, of_opd, bin, lit, stop, fld, first, blocks, exec, returns, take_at, give_at, layout, word, word-Good}
 use Rattle.ph_bits.proofs.Walks.{alloc_all, pass_all, free_all, look_at, get, get_in, through, sets, sets_last, env, usize, yes, uint_vals, uint_Tells}
 use Rattle.ph_bits.proofs.Walks.{Ptr, block_ptr, in_a_block, owns, MutRef, mut_vals, mut_Tells, plain, nothing, opens, closes, heard, Stays, walk_of}
-use Rattle.ph_bits.proofs.Walks.{says, stay_dropped, Goes-dropped, stay_ref, Goes-ref, ends_at, after}
+use Rattle.ph_bits.proofs.Walks.{says, stay_dropped, Goes-dropped, ends_at, after}
 use contract.BorrowLft.{◌⊑◌}
 use denote.Memory.{part_at}
 use denote.Param.{param}
@@ -24,7 +24,7 @@ use Rattle.ph_bits.specs.contracts.places.Start.{the_row as S}
 use Rattle.ph_bits.proofs.places.Start.TheLaws.{lowers}
 use Rattle.ph_bits.proofs.kids.Kids.pop_front.Statement.{statement}
 use Rattle.ph_bits.proofs.kids.Kids.pop_front.Code as code
-use Rattle.ph_bits.proofs.KidSteps.{uncons, value_out, word_room, at_type}
+use Rattle.ph_bits.proofs.KidSteps.{both_stay, both_go, uncons, value_out, word_room, at_type}
 use Rattle.ph_bits.proofs.PlaceSteps.{front_in}
 
 pub pop_front_spec : {M : Type 1} → statement M
@@ -32,24 +32,12 @@ pop_front_spec 𝓤 𝓛 𝓜 𝓡 wired X LX =
     let T = f.ended X in let c = f.clauses X 𝓛 𝓜.mem 𝓡.returns in
     let R : RattleType = param 0 X in let Kr : RattleType = K.the_row R in
     let function : Fn = inst_fn (at_type X) code.function in
-    let stayed : Stays T.signature.params T.kept = (
-      stay_ref (0 ∷ []) tt (plain (λ _. Kr)),
-      (
-        stay_ref (1 ∷ []) tt (plain (λ _. P)),
-        (stay_dropped (plain (λ _. S)) yes, (stay_dropped (plain (λ _. usize)) yes, tt)),
-      ),
-    ) in
+    let stay : Stays {n = 3} (plain (λ _. S) ∷ plain (λ _. usize) ∷ []) (yes, (yes, tt)) =
+    (stay_dropped (plain (λ _. S)) yes, (stay_dropped (plain (λ _. usize)) yes, tt)) in
+    let stayed : Stays T.signature.params T.kept = both_stay R (plain (λ _. S) ∷ plain (λ _. usize) ∷ []) (yes, (yes, tt)) stay in
     let W = walk_of 𝓛 T stayed c in let 𝓣 = tables 𝓤 𝓛.H 𝓜 𝓡 𝓡.env in
-    proved 𝓛 T stayed c 𝓜 𝓡 (
-      Goes-ref 𝓛 3 0 tt (plain (λ _. Kr)),
-      (
-        Goes-ref 𝓛 3 1 tt (plain (λ _. P)),
-        (
-          Goes-dropped 𝓛 3 (plain (λ _. S)) yes (λ κs x w. refl),
-          (Goes-dropped 𝓛 3 (plain (λ _. usize)) yes (λ κs x w. refl), tt),
-        ),
-      ),
-    )
+    proved 𝓛 T stayed c 𝓜 𝓡 (both_go R 𝓛 (plain (λ _. S) ∷ plain (λ _. usize) ∷ []) (yes, (yes, tt)) stay
+    (Goes-dropped 𝓛 3 (plain (λ _. S)) yes (λ κs x w. refl), (Goes-dropped 𝓛 3 (plain (λ _. usize)) yes (λ κs x w. refl), tt)))
     (f.Key.name (at_type X)) function (code.unfolded 𝓤 𝓛.H 𝓜 𝓡 wired (X, tt))
     (λ κs. (mut_vals, (mut_vals, ((λ s. lowers.lowered s ∷ []), (uint_vals w64, tt)))))
     (λ κs. (mut_Tells (named 0) κs.0 Kr, (mut_Tells (named 1) κs.1.0 P, (lowers.val_is, (uint_Tells w64, tt))))) (λ κs qs bounds a _ are.

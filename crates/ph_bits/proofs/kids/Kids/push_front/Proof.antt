@@ -6,7 +6,7 @@ use Rattle.ph_bits.proofs.Walks.{fsplit3, fjoin, fjoin3, flt_l, flt_i, feq_i, re
 use Rattle.ph_bits.proofs.Walks.{stop, fld, first, blocks, exec, returns, take_at, give_at, layout, word, word-Good, alloc_all, pass_all}
 use Rattle.ph_bits.proofs.Walks.{free_all, look_at, get, get_in, through, sets, env, usize, yes, no, uint_vals, uint_Tells, Ptr, block_ptr}
 use Rattle.ph_bits.proofs.Walks.{in_a_block, owns, MutRef, mut_vals, mut_Tells, plain, nothing, opens, closes, heard, Stays, walk_of, says}
-use Rattle.ph_bits.proofs.Walks.{stay_dropped, Goes-dropped, stay_ref, Goes-ref, ends_at, after}
+use Rattle.ph_bits.proofs.Walks.{stay_dropped, Goes-dropped, ends_at, after}
 use base.Logic.{ent}
 use borrow.Table.OneValue.{part_in}
 use contract.BorrowLft.{◌⊑◌}
@@ -27,7 +27,7 @@ use Rattle.ph_bits.specs.contracts.places.Start.{the_row as S}
 use Rattle.ph_bits.proofs.places.Start.TheLaws.{lowers}
 use Rattle.ph_bits.proofs.kids.Kids.push_front.Statement.{statement}
 use Rattle.ph_bits.proofs.kids.Kids.push_front.Code as code
-use Rattle.ph_bits.proofs.KidSteps.{last_left, one_value, room_word, at_type}
+use Rattle.ph_bits.proofs.KidSteps.{both_stay, both_go, last_left, one_value, room_word, at_type}
 use Rattle.ph_bits.proofs.PlaceSteps.{front_out, emptied}
 
 pub push_front_spec : {M : Type 1} → statement M
@@ -35,27 +35,15 @@ push_front_spec 𝓤 𝓛 𝓜 𝓡 wired X LX =
     let C = f.ended X in let c = f.clauses X 𝓛 𝓜.mem 𝓡.returns in
     let R : RattleType = param 0 X in let Kr : RattleType = K.the_row R in
     let function : Fn = inst_fn (at_type X) code.function in
-    let stayed : Stays C.signature.params C.kept = (
-      stay_ref (0 ∷ []) tt (plain (λ _. Kr)),
-      (
-        stay_ref (1 ∷ []) tt (plain (λ _. P)),
-        (stay_dropped (plain (λ _. S)) yes, (stay_dropped (plain (λ _. usize)) yes, (stay_dropped (plain (λ _. R)) no, tt))),
-      ),
-    ) in
+    let stay : Stays {n = 3} (plain (λ _. S) ∷ plain (λ _. usize) ∷ plain (λ _. R) ∷ []) (yes, (yes, (no, tt))) =
+    (stay_dropped (plain (λ _. S)) yes, (stay_dropped (plain (λ _. usize)) yes, (stay_dropped (plain (λ _. R)) no, tt))) in
+    let stayed : Stays C.signature.params C.kept =
+    both_stay R (plain (λ _. S) ∷ plain (λ _. usize) ∷ plain (λ _. R) ∷ []) (yes, (yes, (no, tt))) stay in
     let W = walk_of 𝓛 C stayed c in let 𝓣 = tables 𝓤 𝓛.H 𝓜 𝓡 𝓡.env in
-    proved_at 𝓛 C stayed c 𝓜 𝓡 (
-      Goes-ref 𝓛 3 0 tt (plain (λ _. Kr)),
-      (
-        Goes-ref 𝓛 3 1 tt (plain (λ _. P)),
-        (
-          Goes-dropped 𝓛 3 (plain (λ _. S)) yes (λ κs x w. refl),
-          (
-            Goes-dropped 𝓛 3 (plain (λ _. usize)) yes (λ κs x w. refl),
-            (Goes-dropped 𝓛 3 (plain (λ _. R)) no (λ κs x w. refl), tt),
-          ),
-        ),
-      ),
-    )
+    proved_at 𝓛 C stayed c 𝓜 𝓡 (both_go R 𝓛 (plain (λ _. S) ∷ plain (λ _. usize) ∷ plain (λ _. R) ∷ []) (yes, (yes, (no, tt))) stay (
+      Goes-dropped 𝓛 3 (plain (λ _. S)) yes (λ κs x w. refl),
+      (Goes-dropped 𝓛 3 (plain (λ _. usize)) yes (λ κs x w. refl), (Goes-dropped 𝓛 3 (plain (λ _. R)) no (λ κs x w. refl), tt)),
+    ))
     (f.Key.name (at_type X)) function (code.unfolded 𝓤 𝓛.H 𝓜 𝓡 wired (X, tt)) (λ z are.
     let κs = z.0.0 in let qs = z.0.1 in let bounds = z.0.2 in let a = z.0.3 in
     let κ = κs.0 in let q = qs.0 in let rb = a.0.ref_ptr.0 in let ro = a.0.ref_ptr.1 in let d = a.0.now in

@@ -1,21 +1,14 @@
 use Rattle.std.proofs.Common.{◌-◌, refl, ◌∙◌, ap}
 use Rattle.ph_bits.specs.Block.{Block}
 use Rattle.ph_bits.specs.LendsSlice.{with_slice}
+use Rattle.ph_bits.proofs.BlockParts.{other-words}
 use Rattle.ph_bits.proofs.SlotLists.{in-lent, length-lent, written-lent}
 use Rattle.ph_bits.proofs.words.Words.as_mut_slice.Goals as goal
 
 pub invariant_of-self-lent : goal.invariant_of-self-lent
 invariant_of-self-lent c w =
     let h = c.self.invariant in let n = c.self.inside.len in let cs = c.self.inside.places.slots in
-    record {
-      start = h.start;
-      right = h.right;
-      whole = h.whole;
-      heap = h.heap;
-      places = length-lent n cs w h.written.0 ∙ h.places;
-      small = h.small;
-      written = written-lent n cs w h.written;
-    }
+    other-words _ _ _ _ _ _ _ _ h refl (length-lent n cs w h.written.0) (written-lent n cs w h.written)
 
 pub returns : goal.returns
 returns c =

@@ -2,6 +2,7 @@ use Rattle.std.proofs.Common.{◌≡◌, ◌<◌, ◌+◌, ◌-◌, ◌∷◌, �
 use Rattle.std.proofs.lemmas.List.{length-set}
 use Rattle.ph_bits.specs.Block.{Block}
 use Rattle.ph_bits.specs.Slots.{AreWritten, words_in}
+use Rattle.ph_bits.proofs.BlockParts.{other-words}
 use Rattle.ph_bits.proofs.SlotLists.{written-more, in-more}
 use Rattle.ph_bits.proofs.words.Words.push.Goals as goal
 
@@ -13,15 +14,8 @@ invariant_of-self c =
     let e = c.write.ensures in
     let s : c.self.inside.room - n ≡ c.args.self.now.spare = ap (λ (b : Block). b.spare) c.self.view_is in
     let l : n + 1 < length p.slots = omega (arith, s, c.requires, h.places) in
-    record {
-      start = h.start ∙ sym e.0;
-      right = h.right ∙ sym e.0;
-      whole = h.whole;
-      heap = h.heap;
-      places = ap length e.1 ∙ length-set p.slots (n + 1) (Some c.args.word) ∙ h.places;
-      small = h.small;
-      written = subst (AreWritten (n + 1 + 1)) (sym e.1) (written-more (n + 1) p.slots c.args.word h.written l);
-    }
+    other-words _ _ _ _ _ _ _ _ h e.0 (ap length e.1 ∙ length-set p.slots (n + 1) (Some c.args.word))
+    (subst (AreWritten (n + 1 + 1)) (sym e.1) (written-more (n + 1) p.slots c.args.word h.written l))
 
 pub returns-clause-words : goal.returns-clause-words
 returns-clause-words c =

@@ -2,6 +2,7 @@ use Rattle.std.proofs.Common.{◌≡◌, ◌+◌, sym, ◌∙◌, ap, subst, len
 use Rattle.std.proofs.lemmas.List.{length-set}
 use Rattle.ph_bits.specs.Block.{Block}
 use Rattle.ph_bits.specs.Slots.{AreWritten, words_in}
+use Rattle.ph_bits.proofs.BlockParts.{other-words}
 use Rattle.ph_bits.proofs.SlotLists.{written-set, in-set}
 use Rattle.ph_bits.proofs.words.Words.set.Goals as goal
 
@@ -12,15 +13,8 @@ invariant_of-self c =
     let n = c.self.inside.len in
     let i = c.args.i + 1 in
     let e = c.write.ensures in
-    record {
-      start = h.start ∙ sym e.0;
-      right = h.right ∙ sym e.0;
-      whole = h.whole;
-      heap = h.heap;
-      places = ap length e.1 ∙ length-set p.slots i (Some c.args.word) ∙ h.places;
-      small = h.small;
-      written = subst (AreWritten (n + 1)) (sym e.1) (written-set (n + 1) p.slots i c.args.word h.written);
-    }
+    other-words _ _ _ _ _ _ _ _ h e.0 (ap length e.1 ∙ length-set p.slots i (Some c.args.word))
+    (subst (AreWritten (n + 1)) (sym e.1) (written-set (n + 1) p.slots i c.args.word h.written))
 
 pub returns : goal.returns
 returns c =

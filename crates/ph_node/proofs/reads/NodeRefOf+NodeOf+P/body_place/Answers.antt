@@ -3,16 +3,11 @@ use Rattle.ph_specs.specs.Node.{entries}
 use Rattle.ph_node.specs.Kept.{IsNodeOf}
 use Rattle.ph_node.specs.Shown.{shown}
 use Rattle.ph_node.proofs.Keeps.{kept-body}
-use Rattle.ph_node.proofs.Reading.{within-there, spot-there, body-told, row-there}
+use Rattle.ph_node.proofs.Reading.{spot-in, body-told, row-there}
 use Rattle.ph_node.proofs.reads.NodeRefOf+NodeOf+P.body_place.Goals as goal
 
-pub body_at-requires-clause-within : goal.body_at-requires-clause-within
-body_at-requires-clause-within g c =
-    within-there _ _ _ _ _ _ c.node.view_is c.node.invariant c.words.ensures c.D.ensures c.args.spot.place c.requires.within
-
-pub body_at-requires-clause-address : goal.body_at-requires-clause-address
-body_at-requires-clause-address g c =
-    spot-there _ _ _ _ _ _ c.node.view_is c.node.invariant c.words.ensures c.D.ensures c.args.spot c.requires
+pub body_at-requires : goal.body_at-requires
+body_at-requires g c = spot-in _ _ _ _ _ _ c.node.view_is c.node.invariant c.words.ensures c.D.ensures c.args.spot c.requires
 
 pub returns-clause-body : goal.returns-clause-body
 returns-clause-body g c =

@@ -5,16 +5,11 @@ use Rattle.ph_specs.specs.Record.{entries_in}
 use Rattle.ph_bits.specs.Packed.{rank_at}
 use Rattle.ph_node.specs.Split.{IsNode}
 use Rattle.ph_node.proofs.OldNodes.{ranked}
-use Rattle.ph_node.proofs.Reading.{within-there, spot-there, child-told, point-told}
+use Rattle.ph_node.proofs.Reading.{spot-in, child-told, point-told}
 use Rattle.ph_node.proofs.reads.NodeRefOf+NodeOf+P.ranked.Goals as goal
 
-pub ranked-child-requires-clause-within : goal.ranked-child-requires-clause-within
-ranked-child-requires-clause-within g c =
-    within-there _ _ _ _ _ _ c.node.view_is c.node.invariant c.words-words.ensures c.D-dims.ensures c.args.spot.place c.requires.within
-
-pub ranked-child-requires-clause-address : goal.ranked-child-requires-clause-address
-ranked-child-requires-clause-address g c =
-    spot-there _ _ _ _ _ _ c.node.view_is c.node.invariant c.words-words.ensures c.D-dims.ensures c.args.spot c.requires
+pub ranked-child-requires : goal.ranked-child-requires
+ranked-child-requires g c = spot-in _ _ _ _ _ _ c.node.view_is c.node.invariant c.words-words.ensures c.D-dims.ensures c.args.spot c.requires
 
 pub value-slot-requires : goal.value-slot-requires
 value-slot-requires g c =
