@@ -28,7 +28,7 @@ pub made-sphere : (d w r : ℕ) (q : List ℤ) (center : List ℕ) → IsPoint w
 made-sphere d w r q center h f = ap (λ t. sphere_at w t r) (offsets-point w d q center h f)
 
 pub start-sphere : (d w r : ℕ) (q : List ℤ) → d ≤ 16 → 1 ≤ w → w ≤ 62 → IsPoint w d q → IsSphere d (sphere_at w (offsets w q) r)
-start-sphere d w r q f l u h = record { few = f; wide = l; narrow = u; center = is_body-point w d q l h }
+start-sphere d w r q f l u h = record { size = record { few = f; wide = l; narrow = u }; center = is_body-point w d q l h }
 
 -- its center is the point
 pub center-is : (d w r : ℕ) (q : List ℤ) (s : Sphere) → IsPoint w d q → s ≡ sphere_at w (offsets w q) r → center_of s ≡ q

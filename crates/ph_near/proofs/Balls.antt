@@ -1,15 +1,20 @@
 -- Entries outside of a ball.
-use Rattle.std.proofs.Common.{◌≡◌, ℕ, ◌+◌, ◌-◌, ◌≤◌, List, length, refl, subst, arith, true}
+use Rattle.std.proofs.Common.{◌≡◌, ℕ, ◌+◌, ◌-◌, ◌≤◌, List, length, refl, sym, subst, arith, true}
 use Rattle.std.specs.Prelude.{Option, Some, None, MatchOption, slice_get}
 use Rattle.std.proofs.lemmas.Bool.{lt-leb}
 use Rattle.ph_specs.specs.Distance.{distance}
-use Rattle.ph_specs.specs.Lawful.{IsLawfulEntry, IsLawfulFrom, IsLawfulWhat, put_together}
+use Rattle.ph_specs.specs.EntryEdits.{what_at}
+use Rattle.ph_specs.specs.Lawful.{IsBody, IsLawfulEntry, IsLawfulFrom, IsLawfulWhat, put_together}
 use Rattle.ph_specs.specs.Node.{What, value, node, Entry, PlainNode, entries}
+use Rattle.ph_specs.specs.PutTree.{body_above}
 use Rattle.ph_specs.specs.Region.{least_distance}
 use Rattle.ph_specs.proofs.laws.EntryLists.{entry-lawful}
 use Rattle.ph_node.specs.Kinds.{is_node}
+use Rattle.ph_node.specs.Split.{body_at}
+use Rattle.ph_node.specs.Spots.{IsSpot, joined_digits}
 use Rattle.ph_node.specs.declared.spots.Spot.{Spot}
 use Rattle.ph_path.specs.Known.{point_at}
+use Rattle.ph_path.proofs.Paths.{read-entry}
 use Rattle.ph_walk.specs.Area.{Area, HoldsNone, MayHold, AreOut, IsNext}
 use Rattle.ph_walk.proofs.Outs.{out-then, at-one, out-one}
 use Rattle.ph_near.specs.BallSphere.{Sphere, center_of, points_of, reaches, IsOut}
@@ -25,12 +30,12 @@ may-hold s level joined (node n) some near = near refl (some n refl)
 
 module _ (s : Sphere) (level : ℕ) (above : List ℕ) (es : List Entry) (p i : ℕ)
     (h : AreOut (points_of s) level above es p i) (x : Entry) (at : slice_get es i ≡ Some x) where
-  pub out-behind : IsOut s level (put_together level x.addr above x.body) x.what → AreOut (points_of s) level above es p (i + 1)
+  out-behind : IsOut s level (put_together level x.addr above x.body) x.what → AreOut (points_of s) level above es p (i + 1)
   out-behind out =
       out-then (points_of s) level above es p i (i + 1) h
       (out-one (points_of s) level above es i x at (holds-none s level (put_together level x.addr above x.body) x.what out))
 
-  pub next-here : (d least : ℕ) (n : PlainNode) → es ≡ entries n → IsLawfulFrom d level least n.chain → p ≤ i →
+  next-here : (d least : ℕ) (n : PlainNode) → es ≡ entries n → IsLawfulFrom d level least n.chain → p ≤ i →
       (is_node x.what ≡ true → 1 ≤ level → reaches s (level - 1) (put_together level x.addr above x.body) ≡ true) →
       IsNext (points_of s) level above es p i
   next-here d least n e lawful l near =
@@ -57,3 +62,27 @@ found-on a level above es p q l h (Some s) k = record { behind = omega (arith, l
 -- between a place and itself, or behind all
 pub none-between : (a : Area) (level : ℕ) (above : List ℕ) (es : List Entry) (p q : ℕ) → q ≤ p → AreOut a level above es p q
 none-between a level above es p q l j x r s g = absurd (omega (arith, l, r, s))
+
+-- ---- an entry at a spot, as the code has it
+
+pub spot-body : (d : ℕ) (n : PlainNode) (spot : Spot) → IsLawfulFrom d n.level 0 n.chain → IsSpot (entries n) spot → IsBody d n.level (body_at (entries n) spot.place)
+spot-body d n spot lawful is = (entry-lawful d n.level 0 spot.place n.chain _ lawful (read-entry (entries n) spot refl is refl)).body
+
+-- between a place and itself
+pub out-none : (s : Sphere) (n : PlainNode) (digits : List ℕ) (p : ℕ) → AreOut (points_of s) n.level (body_above n.level digits) (entries n) p p
+out-none s n digits p = none-between (points_of s) n.level (body_above n.level digits) (entries n) p p (omega arith)
+
+module _ (s : Sphere) (n : PlainNode) (digits : List ℕ) (p : ℕ) {i : ℕ} {spot : Spot} (at : spot.place ≡ i) (is : IsSpot (entries n) spot)
+    (out : AreOut (points_of s) n.level (body_above n.level digits) (entries n) p i) where
+  -- it holds nothing of the ball
+  pub out-on : IsOut s n.level (joined_digits n spot digits) (what_at (entries n) spot.place) →
+      AreOut (points_of s) n.level (body_above n.level digits) (entries n) p (i + 1)
+  out-on far = out-behind s n.level (body_above n.level digits) (entries n) p i out _ (read-entry (entries n) spot at is refl) far
+
+  -- or it is the first that may
+  pub next-at : (d : ℕ) → IsLawfulFrom d n.level 0 n.chain → p ≤ i →
+      (is_node (what_at (entries n) spot.place) ≡ true → 1 ≤ n.level → reaches s (n.level - 1) (joined_digits n spot digits) ≡ true) →
+      IsNext (points_of s) n.level (body_above n.level digits) (entries n) p spot.place
+  next-at d lawful l near =
+      subst (IsNext (points_of s) n.level (body_above n.level digits) (entries n) p) (sym at)
+      (next-here s n.level (body_above n.level digits) (entries n) p i out _ (read-entry (entries n) spot at is refl) d 0 n refl lawful l near)

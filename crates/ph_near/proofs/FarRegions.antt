@@ -75,7 +75,7 @@ zeros-long level [] = refl
 zeros-long level (x ∷ xs) = ap suc (zeros-long level xs)
 
 -- the number of the corner as the code makes it
-pub corner-at : (level a i p q : ℕ) (known : List ℕ) → i < length known →
+corner-at : (level a i p q : ℕ) (known : List ℕ) → i < length known →
     p ≡ get_or known i 0 / 2 ^ (level + 1) * 2 ^ (level + 1) → q ≡ a / 2 ^ (length known - 1 - i) % 2 * 2 ^ level →
     p + q ≡ get_or (corner_of level a known) i 0
 corner-at level a i p q known l e f =
@@ -94,13 +94,24 @@ corner-long level a known = length-put_together level a (body_above level known)
 
 -- ---- all numbers
 
-pub gaps-first : (l i n s : ℕ) (xs ys : List ℕ) → i < length xs → i < length ys → n ≡ get_or xs i 0 → s ≡ gap l n (get_or ys i 0) * gap l n (get_or ys i 0)
+gaps-first : (l i n s : ℕ) (xs ys : List ℕ) → i < length xs → i < length ys → n ≡ get_or xs i 0 → s ≡ gap l n (get_or ys i 0) * gap l n (get_or ys i 0)
     → gaps_squared l (drop i xs) (drop i ys) ≡ s + gaps_squared l (drop (i + 1) xs) (drop (i + 1) ys)
 gaps-first l i n s xs ys h k e f =
     ap (λ ps. gaps_squared l ps (drop i ys)) (drop_more xs i 0 h)
     ∙ ap (λ qs. gaps_squared l (get_or xs i 0 ∷ drop (i + 1) xs) qs) (drop_more ys i 0 k)
     ∙ ap (λ x. gap l x (get_or ys i 0) * gap l x (get_or ys i 0) + gaps_squared l (drop (i + 1) xs) (drop (i + 1) ys)) (sym e)
     ∙ ap (λ t. t + gaps_squared l (drop (i + 1) xs) (drop (i + 1) ys)) (sym f)
+
+-- the same of the corner as the code makes it
+pub corner-gaps : (level a i p q s : ℕ) (known center : List ℕ) → i < length known → length center ≡ length known → 1 ≤ level →
+    p ≡ get_or known i 0 / 2 ^ (level + 1) * 2 ^ (level + 1) → q ≡ a / 2 ^ (length known - 1 - i) % 2 * 2 ^ level →
+    s ≡ gap_above level (p + q) (get_or center i 0) * gap_above level (p + q) (get_or center i 0) →
+    gaps_squared (level - 1) (drop i (corner_of level a known)) (drop i center) ≡
+    s + gaps_squared (level - 1) (drop (i + 1) (corner_of level a known)) (drop (i + 1) center)
+corner-gaps level a i p q s known center l long some e f square =
+    let whole = low-whole level (get_or known i 0) (a / 2 ^ (length known - 1 - i) % 2) p q e f in
+    gaps-first (level - 1) i (p + q) s (corner_of level a known) center (omega (arith, l, corner-long level a known)) (omega (arith, l, long))
+    (corner-at level a i p q known l e f) (square ∙ sym (ap (λ n. n * n) (gap-whole level (p + q) (get_or center i 0) some whole)))
 
 -- a sum has room for so many squares more
 pub room-on : (sum n k j m : ℕ) → k ≡ suc j → n ≤ m → sum + k * m ≤ 16 * m → sum + n + j * m ≤ 16 * m

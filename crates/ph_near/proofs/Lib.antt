@@ -14,3 +14,4 @@ mod Distances
 mod FarRegions
 mod BallStarts
 mod Balls
+mod SphereSeen

@@ -14,7 +14,7 @@ use Rattle.ph_specs.specs.Distance.{distance, ranked}
 use Rattle.ph_specs.specs.Region.{least_distance}
 use Rattle.ph_specs.specs.Nearness.{is_nearer, IsRanked}
 use Rattle.ph_specs.specs.WorkSets.{Placed, all_nodes, reach, no_farther}
-use Rattle.ph_specs.specs.BestFirst.{Item, node, found, item_distance, items_of}
+use Rattle.ph_specs.specs.BestFirst.{Item, node, item_distance, items_of}
 use Rattle.ph_specs.proofs.lemmas.Joined.{offsets}
 use Rattle.ph_specs.proofs.lemmas.RowsBehind.{Each-append, Each-each}
 use Rattle.ph_specs.proofs.lemmas.Members.{Each-parts, In, In-right, Each-in}
@@ -106,6 +106,17 @@ found-less w q t (g ∷ fs) f h (inr i) l =
     omega (arith, sum_by-cons (nearer_by q t) (row_of w g) (rows_in w (map (found_item w) fs)), one-most q t (row_of w g), found-less w q t fs f h.1 i l)
 
 -- ---- a node is opened
+
+-- the rows and the nodes of an opened node's items are those of the node
+rows-opened : (w : ℕ) (x : Placed) (others : List Item) → rows_in w (items_of w x ++ others) ≡ rows_in w (node x ∷ others)
+rows-opened w x others =
+    gathered-append (rows_held w) (items_of w x) others ∙ ap (λ ys. ys ++ rows_in w others) (rows-items w x.node.level (offsets w x.region.corner) x.node.chain)
+
+nodes-opened : (w : ℕ) (x : Placed) (others : List Item) → x ∷ nodes_in w (items_of w x ++ others) ≡ nodes_in w (node x ∷ others)
+nodes-opened w x others =
+    ap {B = List Placed} (λ ys. x ∷ ys)
+    (gathered-append (nodes_of w) (items_of w x) others ∙ ap (λ ys. ys ++ nodes_in w others)
+    (nodes-items w x.node.level (offsets w x.region.corner) x.node.chain))
 
 module _ {w d n : ℕ} {q : List ℤ} {table : List Row} {rows : List (Found d)} {x : Placed} {others : List Item}
     {before now : ℕ} (h : IsNearing w n q table rows (node x ∷ others) before now)
@@ -271,17 +282,10 @@ module _ {w d n : ℕ} {q : List ℤ} {table : List Row} {rows : List (Found d)}
             (others ++ (h.far ++ map (found_item w) (rows ++ h.over)));
       })
   opened-searching =
-      let r : rows_in w (items_of w x ++ left) ≡ rows_in w (node x ∷ left) = gathered-append (rows_held w)
-      (items_of w x) left ∙ ap (λ ys. ys ++ rows_in w left)
-      (rows-items w x.node.level (offsets w x.region.corner) x.node.chain) in
-      let m : nodes_in w (node x ∷ left) ≡ x ∷ nodes_in w (items_of w x ++ left) =
-      sym (ap {B = List Placed} (λ ys. x ∷ ys)
-      (gathered-append (nodes_of w) (items_of w x) left ∙ ap (λ ys. ys ++ nodes_in w left)
-      (nodes-items w x.node.level (offsets w x.region.corner) x.node.chain))) in
       let a : (h.opened ++ x ∷ []) ++ nodes_in w (items_of w x ++ left) ≡ h.opened ++ nodes_in w (node x ∷ left) =
-      append_assoc h.opened (x ∷ []) (nodes_in w (items_of w x ++ left)) ∙ ap (λ ys. h.opened ++ ys) (sym m) in
+      append_assoc h.opened (x ∷ []) (nodes_in w (items_of w x ++ left)) ∙ ap (λ ys. h.opened ++ ys) (nodes-opened w x left) in
       record {
-        rows_left = subst (λ ys. IsPermutation table ys) (sym r) h.searching.rows_left;
+        rows_left = subst (λ ys. IsPermutation table ys) (sym (rows-opened w x left)) h.searching.rows_left;
         nodes_left = subst (IsPermutation (all_nodes w d table)) (sym a) h.searching.nodes_left;
         is_ranked = tt;
         nearer = tt;
@@ -310,12 +314,7 @@ module _ {w d n : ℕ} {q : List ℤ} {table : List Row} {rows : List (Found d)}
 
 -- how many nodes are left
 pub fewer-nodes : (w : ℕ) (x : Placed) (others : List Item) → length (nodes_in w (items_of w x ++ others)) + 1 ≡ length (nodes_in w (node x ∷ others))
-fewer-nodes w x others =
-    let m : x ∷ nodes_in w (items_of w x ++ others) ≡ nodes_in w (node x ∷ others) =
-    ap {B = List Placed} (λ ys. x ∷ ys)
-    (gathered-append (nodes_of w) (items_of w x) others ∙ ap (λ ys. ys ++ nodes_in w others)
-    (nodes-items w x.node.level (offsets w x.region.corner) x.node.chain)) in
-    omega (arith, ap length m)
+fewer-nodes w x others = omega (arith, ap length (nodes-opened w x others))
 
 module _ {w d n : ℕ} {q : List ℤ} {table : List Row} {rows : List (Found d)} {line : List Item} {before now : ℕ} (h : IsNearing w n q table rows line before now) where
   -- no more nodes are visited than the reach has

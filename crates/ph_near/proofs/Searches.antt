@@ -6,7 +6,6 @@ use Rattle.std.specs.List.Sorted.{IsPermutation}
 use Rattle.std.proofs.lemmas.List.Sorted.{IsPermutation-map, length_permutation}
 use Rattle.ph_specs.specs.Node.{PlainNode}
 use Rattle.ph_specs.specs.Table.{Row, IsTable}
-use Rattle.ph_specs.specs.Shape.{shape}
 use Rattle.ph_specs.specs.Lawful.{IsAbove, IsBody, IsLawfulFrom, IsLawful, rows}
 use Rattle.ph_specs.specs.Region.{least_distance}
 use Rattle.ph_specs.specs.BallSearch.{placed_at}
@@ -92,7 +91,10 @@ module _ {d : ℕ} (w : ℕ) (q : List ℤ) (os : List (OpenedOf PlainNode d)) {
   line-moved : IsPermutation (line_of w os old) (item_at w os item ∷ line_of w os new)
   line-moved = IsPermutation-map (item_at w os) old (item ∷ new) next.moved
 
-  module _ (from o : OpenedOf PlainNode d) (there : from ≡ opened_at os item.opened) (e : IsEntered w from item.place o) where
+  module _ (from o : OpenedOf PlainNode d) (read : from ≡ get_or os item.opened from) (e : IsEntered w from item.place o) where
+    there : from ≡ opened_at os item.opened
+    there = index-at os item.opened from next-waits.0.opened read
+
     item-is : item_at w os item ≡ node (placed_at w ((shown from.node).level - 1) o.known (shown o.node))
     item-is = ap (λ u. place_item w u item.place) (sym there) ∙ e
 

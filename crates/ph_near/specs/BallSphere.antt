@@ -1,12 +1,12 @@
 -- The points within a radius of a center.
-use Rattle.std.specs.Prelude.{ℕ, ◌-◌, ◌<◌, ◌≤◌, List, ℤ, Bool, nat_le}
+use Rattle.std.specs.Prelude.{ℕ, ◌-◌, ◌<◌, List, ℤ, Bool, nat_le}
 use Rattle.ph_specs.specs.BestFirst.{item_distance}
 use Rattle.ph_specs.specs.Distance.{distance}
 use Rattle.ph_specs.specs.Lawful.{IsBody}
 use Rattle.ph_specs.specs.Node.{What}
 use Rattle.ph_specs.specs.Region.{least_distance}
 use Rattle.ph_near.specs.Queue.{what_item}
-use Rattle.ph_path.specs.Known.{point_at}
+use Rattle.ph_path.specs.Known.{AreSized, point_at}
 use Rattle.ph_walk.specs.Area.{Area}
 
 -- the center by offsets, and the square of the radius
@@ -19,9 +19,8 @@ abbrev pub sphere_at : ℕ → List ℕ → ℕ → Sphere
 sphere_at w center r = record { width = w; center = center; radius = r }
 
 pub record IsSphere (d : ℕ) (s : Sphere) : Type 0 where
-  pub few : d ≤ 16
-  pub wide : 1 ≤ s.width
-  pub narrow : s.width ≤ 62
+  pub size : AreSized d s.width
+  pub open size use *
   pub center : IsBody d s.width s.center
 
 -- the center as a point

@@ -10,12 +10,13 @@ ghost use Rattle.ph_near.specs.Far.{corner_of, gap_above, gaps_squared, entry_ga
 
 use ph_coord::Dims;
 use ph_digits::{address_digit, digits_above};
-use ph_node::{NodeOf, NodeRefOf, Spot};
+use ph_node::Spot;
+use ph_path::VisitOf;
 
 // Whether an entry is a point that is farther from a center than a limit, which is a squared distance. Of a child it answers no.
 #[inline(always)]
 pub(crate) fn is_point_beyond<P: Dims>(
-    node: NodeRefOf<'_, NodeOf<P>>,
+    node: VisitOf<'_, P>,
     spot: Spot,
     known: &[u64],
     center: &[u64],

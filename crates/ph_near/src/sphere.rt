@@ -1,5 +1,5 @@
 //! The points within a radius of a center.
-ghost use Rattle.std.specs.Prelude.{◌≡◌, ◌<◌, ◌≤◌, ◌-◌, ◌+◌, ◌^◌, true, false, map, IfSome};
+ghost use Rattle.std.specs.Prelude.{◌≡◌, ◌≤◌, ◌-◌, true, false, map};
 ghost use Rattle.ph_specs.specs.Coordinate.{offset, IsPoint};
 ghost use Rattle.ph_specs.specs.Distance.{distance};
 ghost use Rattle.ph_specs.specs.EntryEdits.{what_at};
@@ -9,13 +9,13 @@ ghost use Rattle.ph_node.specs.Kinds.{is_node};
 ghost use Rattle.ph_node.specs.Shown.{shown};
 ghost use Rattle.ph_node.specs.Split.{body_at};
 ghost use Rattle.ph_node.specs.Spots.{IsSpot, joined_digits};
-ghost use Rattle.ph_walk.specs.Area.{IsFound, IsTold};
+ghost use Rattle.ph_walk.specs.Area.{IsSpotFound, IsTold};
 ghost use Rattle.ph_near.specs.BallSphere.{sphere_at, center_of, points_of, reaches, IsOut};
 
 use crate::beyond::{is_point_beyond, is_region_beyond};
 use ph_coord::{Dims, Width, offsets_of};
-use ph_node::{NodeOf, NodeRefOf, Spot};
-use ph_path::KnownOf;
+use ph_node::Spot;
+use ph_path::{KnownOf, VisitOf};
 use ph_walk::{Area, Masks};
 use ph_zorder::offset_distance;
 use std::marker::{Model, PhantomData};
@@ -61,7 +61,7 @@ impl<P: Dims> SphereOf<P> {
     // Whether an entry is a point outside of the ball, or a child without a point in it, told before anything is joined. Of a
     // point in few dimensions it answers no.
     #[inline(always)]
-    fn rules_out(&self, known: &KnownOf<P>, node: NodeRefOf<'_, NodeOf<P>>, spot: Spot) -> bool
+    fn rules_out(&self, known: &KnownOf<P>, node: VisitOf<'_, P>, spot: Spot) -> bool
         requires width { known.now.width ≡ self.now.width }
         requires spot { IsSpot (entries (shown node)) spot }
         requires body { IsBody P.D (shown node).level (body_at (entries (shown node)) spot.place) }
@@ -81,17 +81,10 @@ impl<P: Dims> SphereOf<P> {
     }
 
     // The first entry at or behind a place that is not ruled out. Mostly it is the one at the place, so a loop does not pay there.
-    fn first_inside(
-        &self,
-        known: &KnownOf<P>,
-        node: NodeRefOf<'_, NodeOf<P>>,
-        place: usize,
-    ) -> Option<Spot>
+    fn first_inside(&self, known: &KnownOf<P>, node: VisitOf<'_, P>, place: usize) -> Option<Spot>
         requires width { known.now.width ≡ self.now.width }
         requires lawful { IsLawfulFrom P.D (shown node).level 0 (shown node).chain }
-        ensures found { IsFound (points_of self.now) (shown node.entry) known.now.digits place result }
-        ensures spot { IfSome result (λ s. IsSpot (entries (shown node.entry)) s) }
-        ensures room { IfSome result (λ s. s.place + 1 < 2 ^ 64) }
+        ensures { IsSpotFound (points_of self.now) (shown node.entry) known.now.digits place result }
     {
         if place >= node.len() {
             return None;
@@ -104,17 +97,10 @@ impl<P: Dims> SphereOf<P> {
     }
 
     // The same by a loop.
-    fn first_behind(
-        &self,
-        known: &KnownOf<P>,
-        node: NodeRefOf<'_, NodeOf<P>>,
-        place: usize,
-    ) -> Option<Spot>
+    fn first_behind(&self, known: &KnownOf<P>, node: VisitOf<'_, P>, place: usize) -> Option<Spot>
         requires width { known.now.width ≡ self.now.width }
         requires lawful { IsLawfulFrom P.D (shown node).level 0 (shown node).chain }
-        ensures found { IsFound (points_of self.now) (shown node.entry) known.now.digits place result }
-        ensures spot { IfSome result (λ s. IsSpot (entries (shown node.entry)) s) }
-        ensures room { IfSome result (λ s. s.place + 1 < 2 ^ 64) }
+        ensures { IsSpotFound (points_of self.now) (shown node.entry) known.now.digits place result }
     {
         for i in place..node.len() {
             let spot = node.spot(i);
@@ -161,7 +147,7 @@ impl<P: Dims> Area<P> for SphereOf<P> {
     fn next(
         &self,
         known: &KnownOf<P>,
-        node: &NodeRefOf<'_, NodeOf<P>>,
+        node: &VisitOf<'_, P>,
         place: usize,
         _note: Masks,
     ) -> Option<Spot> {
@@ -172,7 +158,7 @@ impl<P: Dims> Area<P> for SphereOf<P> {
     fn is_last(
         &self,
         _known: &KnownOf<P>,
-        node: &NodeRefOf<'_, NodeOf<P>>,
+        node: &VisitOf<'_, P>,
         spot: Spot,
         _note: Masks,
     ) -> bool {

@@ -7,11 +7,15 @@ use Rattle.std.proofs.lemmas.Nat.{pow_pos, div-mul-add, div-add-mod'}
 use Rattle.std.proofs.lemmas.List.{length-map, length-replicate}
 use Rattle.ph_specs.specs.Coordinate.{offset, IsPoint}
 use Rattle.ph_specs.specs.Lawful.{put_together, IsBody, HasZerosFrom, IsAbove}
+use Rattle.ph_specs.specs.Node.{PlainNode, entries}
 use Rattle.ph_specs.specs.PutTree.{body_above}
 use Rattle.ph_specs.proofs.lemmas.Joined.{offsets, from_place, same_from, from_place-put_together, length-put_together, above-child}
 use Rattle.ph_specs.proofs.lemmas.Bounds.{lows-small, point-long}
 use Rattle.ph_specs.proofs.laws.LawfulRows.{put_together-small}
 use Rattle.ph_digits.proofs.Joins.{above-long}
+use Rattle.ph_node.specs.Split.{body_at}
+use Rattle.ph_node.specs.Spots.{joined_digits}
+use Rattle.ph_node.specs.declared.spots.Spot.{Spot}
 use Rattle.ph_path.specs.Known.{Known, known_at, AreKnown}
 
 pub block-whole : (q m : ℕ) → 0 < m → (q * m) / m ≡ q
@@ -130,21 +134,20 @@ offsets-point w d p os h e = ap (λ n. take n os) (sym (sym (length-map p (offse
 
 -- where nothing is known
 pub start-known : (d w : ℕ) → 1 ≤ d → d ≤ 16 → 1 ≤ w → w ≤ 62 → AreKnown d (known_at w (replicate d 0))
-start-known d w s f l u = record { some = s; few = f; wide = l; narrow = u; digits = zeros-body d w }
+start-known d w s f l u = record { some = s; size = record { few = f; wide = l; narrow = u }; digits = zeros-body d w }
 
-module _ (d n w : ℕ) (digits : List ℕ) (e : n ≡ d) (h : AreKnown d (known_at w (take d digits))) where
+module _ {d n w : ℕ} (digits : List ℕ) (e : n ≡ d) (h : AreKnown d (known_at w (take d digits))) where
   pub body-seen : IsBody d 62 (take n digits)
   body-seen = subst (λ k. IsBody d 62 (take k digits)) (sym e) (wider d w 62 (take d digits) h.narrow h.digits)
 
-  pub joined-seen : (seen : Known) (level a : ℕ) (body new others : List ℕ) → known_at w (take d digits) ≡ seen →
-      level < seen.width → IsBody d level body → new ≡ put_together level a (body_above level (take n digits)) body →
-      AreKnown d (known_at w (take d (new ++ others))) ×
-      (known_at w (take d (new ++ others)) ≡ known_at seen.width (put_together level a (body_above level seen.digits) body))
-  joined-seen seen level a body new others v l k f =
-      let s : new ≡ put_together level a (body_above level (take d digits)) body = subst (λ m. new ≡ put_together level a (body_above level (take m digits)) body) e f in
-      let b : IsBody d w (put_together level a (body_above level (take d digits)) body) =
-      joined-body d w level a (take d digits) body (subst (λ s. level < s.width) (sym v) l) h.digits k in
-      let t : take d (new ++ others) ≡ put_together level a (body_above level (take d digits)) body = taken d new others (ap (λ xs. length xs) s ∙ b.0) ∙ s in (
-        record { some = h.some; few = h.few; wide = h.wide; narrow = h.narrow; digits = subst (IsBody d w) (sym t) b },
-        ap (known_at w) t ∙ ap (λ s. known_at s.width (put_together level a (body_above level s.digits) body)) v,
-      )
+  -- where the digits of an entry at a spot are joined, in front of the rest of the array
+  pub known-joined : {seen : Known} {new : List ℕ} (others : List ℕ) (t : PlainNode) (spot : Spot) → known_at w (take d digits) ≡ seen →
+      t.level < seen.width → IsBody d t.level (body_at (entries t) spot.place) → new ≡ joined_digits t spot (take n digits) →
+      AreKnown d (known_at w (take d (new ++ others)))
+  known-joined {seen} {new} others t spot v l k f =
+      let body : List ℕ = body_at (entries t) spot.place in
+      let s : new ≡ joined_digits t spot (take d digits) = subst (λ m. new ≡ joined_digits t spot (take m digits)) e f in
+      let b : IsBody d w (joined_digits t spot (take d digits)) =
+      joined-body d w t.level spot.addr (take d digits) body (subst (λ s. t.level < s.width) (sym v) l) h.digits k in
+      let u : take d (new ++ others) ≡ joined_digits t spot (take d digits) = taken d new others (ap (λ xs. length xs) s ∙ b.0) ∙ s in
+      record { some = h.some; size = h.size; digits = subst (IsBody d w) (sym u) b }

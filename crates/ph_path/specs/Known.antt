@@ -15,9 +15,14 @@ pub record Known : Type 0 where
 abbrev pub known_at : ℕ → List ℕ → Known
 known_at w digits = record { width = w; digits = digits }
 
+-- a number of dimensions and a width that there may be
+pub record AreSized (d w : ℕ) : Type 0 where
+  pub few : d ≤ 16
+  pub wide : 1 ≤ w
+  pub narrow : w ≤ 62
+
 pub record AreKnown (d : ℕ) (k : Known) : Type 0 where
   pub some : 1 ≤ d
-  pub few : d ≤ 16
-  pub wide : 1 ≤ k.width
-  pub narrow : k.width ≤ 62
+  pub size : AreSized d k.width
+  pub open size use *
   pub digits : IsBody d k.width k.digits

@@ -1,5 +1,8 @@
 //! Where a walk stands in a node.
-use ph_node::NodeRefOf;
+use ph_node::{NodeOf, NodeRefOf};
+
+/// A node that was visited.
+pub type VisitOf<'t, P> = NodeRefOf<'t, NodeOf<P>>;
 
 /// A visited node, the place of the entry that is to be looked at next, and what a walk notes of the node beside.
 #[derive_where(Clone, Copy; M)]

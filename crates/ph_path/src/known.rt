@@ -8,8 +8,9 @@ ghost use Rattle.ph_node.specs.Split.{body_at};
 ghost use Rattle.ph_node.specs.Spots.{IsSpot, joined_digits};
 ghost use Rattle.ph_path.specs.Known.{known_at, point_at};
 
+use crate::frame::VisitOf;
 use ph_coord::{Dim, Dims, Point, Width};
-use ph_node::{NodeOf, NodeRefOf, Spot};
+use ph_node::Spot;
 use std::marker::{Model, PhantomData};
 
 /// The offsets of a point as far as its digits are known. What is known above a level does not change while digits are joined below
@@ -64,7 +65,7 @@ impl<P: Dims> KnownOf<P> {
     }
 
     /// Puts the digits of an entry behind those that are known above its node's level.
-    pub fn join(&mut self, node: NodeRefOf<'_, NodeOf<P>>, spot: Spot)
+    pub fn join(&mut self, node: VisitOf<'_, P>, spot: Spot)
         requires level { (shown node).level < self.old.width }
         requires spot { IsSpot (entries (shown node)) spot }
         ensures { self.new ≡ known_at self.old.width (joined_digits (shown node.entry) spot self.old.digits) }
@@ -75,7 +76,7 @@ impl<P: Dims> KnownOf<P> {
 
     /// The same of an entry that is a child at the level `low`.
     #[inline(always)]
-    pub fn join_child(&mut self, node: NodeRefOf<'_, NodeOf<P>>, spot: Spot, low: u32)
+    pub fn join_child(&mut self, node: VisitOf<'_, P>, spot: Spot, low: u32)
         requires level { (shown node).level < self.old.width }
         requires spot { IsSpot (entries (shown node)) spot }
         requires low { low < (shown node).level }

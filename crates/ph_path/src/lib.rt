@@ -5,6 +5,6 @@ mod frame;
 mod known;
 mod path;
 
-pub use frame::FrameOf;
+pub use frame::{FrameOf, VisitOf};
 pub use known::KnownOf;
 pub use path::PathOf;

@@ -19,6 +19,7 @@ use Rattle.ph_walk.specs.Walk.{Frame, Walk, walk_of, path_rows, path_nodes, root
 use Rattle.ph_walk.specs.Walk.{IsEntered, IsBehind, IsFrame, IsWalk, IsStep}
 use Rattle.ph_walk.specs.declared.area.Masks.{Masks}
 use Rattle.ph_walk.specs.declared.walk.Step.TheVariants.{Found}
+use Rattle.ph_walk.proofs.Notes.{noted-at}
 use Rattle.ph_walk.proofs.Steps.{HasEntered, entered, rest-walk as behind-walk, nothing-left, lawful, same-above, after-walk, found-rows}
 use Rattle.ph_walk.proofs.Steps.{found-nodes, found-steps, held, child-over, below-rows, below-nodes, below-steps}
 
@@ -64,12 +65,13 @@ module _ {A : Type 0} {area : A} {d : ℕ} {a : Area} {IsNoted : ℕ → List �
     pub root-room : length path < 62
     root-room = let q : length path ≡ 0 = ap (λ t. length t) p in omega (arith, q)
 
-    module _ (m : Option Masks) (new : List Frame) (noted : IsNote a IsNoted (shown r).level k.digits m) (into : IsEntered m r path new) where
+    module _ (m : Option Masks) (new : List Frame) {b : ℕ} (level : b ≡ (shown r).level) (note : IsNote a IsNoted b k.digits m)
+        (into : IsEntered m r path new) where
       got : HasEntered d a IsNoted k None n [] new
       got =
           entered d a IsNoted k None r n [] new m
           (record { width = h.width; known = h.known; exact = h.exact; tree = tt; start = tt; way = tt })
-          shows (omega (arith, tree.0, wide)) tree.2 tt noted (subst (λ fs. IsEntered m r fs new) p into)
+          shows (omega (arith, tree.0, wide)) tree.2 tt (noted-at a IsNoted k.digits m level note) (subst (λ fs. IsEntered m r fs new) p into)
 
       pub root-walk : IsWalk d a IsNoted k None new
       root-walk = got.walk
@@ -267,14 +269,15 @@ module _ {A : Type 0} {area : A} {d : ℕ} {a : Area} {IsNoted : ℕ → List �
               let q : k.width ≡ a.width = h.width in
               omega (arith, few, stands.long, below, q, h.known.narrow)
 
-          module _ (m : Option Masks) (deep : List Frame) (noted : IsNote a IsNoted (shown r).level c.digits m) (down : IsEntered m r new deep) where
+          module _ (m : Option Masks) (deep : List Frame) {b : ℕ} (level : b ≡ (shown r).level) (note : IsNote a IsNoted b c.digits m)
+              (down : IsEntered m r new deep) where
             got-deep : HasEntered d a IsNoted c root n new deep
             got-deep =
                 entered d a IsNoted c root r n new deep m new-walk shows
                 (omega (arith, below, top-walk.way.0.level))
                 (held d a IsNoted k root f fs top-walk i x at next n is).3
                 (stands.over n.level (child-over d a IsNoted k root f fs top-walk i x at next n is))
-                noted down
+                (noted-at a IsNoted c.digits m level note) down
 
             pub deep-walk : IsWalk d a IsNoted c root deep
             deep-walk = got-deep.walk

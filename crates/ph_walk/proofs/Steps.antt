@@ -189,9 +189,7 @@ module _ (d : ℕ) (a : Area) (IsNoted : ℕ → List ℕ → Masks → Type 0) 
           width = h.width;
           known = record {
             some = q.some;
-            few = q.few;
-            wide = q.wide;
-            narrow = q.narrow;
+            size = q.size;
             digits = joined-body d k.width level x.addr k.digits x.body in-width q.digits lawful.body;
           };
           exact = h.exact;

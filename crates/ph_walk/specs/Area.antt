@@ -1,5 +1,5 @@
 -- A set of points, and which entries of a node matter for it.
-use Rattle.std.specs.Prelude.{◌≡◌, ◌↔◌, ℕ, ◌-◌, ◌<◌, ◌≤◌, List, ℤ, Bool, true, false, Option, Some, slice_get, filter, length, replicate, MatchOption}
+use Rattle.std.specs.Prelude.{◌≡◌, ◌↔◌, ℕ, ◌+◌, ◌-◌, ◌^◌, ◌<◌, ◌≤◌, List, ℤ, Bool, true, false, Option, Some, slice_get, filter, length, replicate, MatchOption, IfSome}
 use Rattle.ph_specs.specs.Coordinate.{IsPoint}
 use Rattle.ph_specs.specs.Lawful.{rows_behind, put_together}
 use Rattle.ph_specs.specs.Node.{Entries, What, value, node, Entry, PlainNode, entries}
@@ -8,6 +8,7 @@ use Rattle.ph_specs.specs.Region.{Region, is_in}
 use Rattle.ph_specs.specs.Table.{Row}
 use Rattle.ph_specs.specs.WindowWalk.{node_region}
 use Rattle.ph_specs.specs.WorkSets.{Placed, placed_below}
+use Rattle.ph_node.specs.Spots.{IsSpot}
 use Rattle.ph_node.specs.declared.spots.Spot.{Spot}
 use Rattle.ph_path.specs.Known.{Known, point_at}
 
@@ -73,6 +74,12 @@ abbrev pub IsFound : Area → PlainNode → List ℕ → ℕ → Option Spot →
 IsFound a n digits place o =
     MatchOption o (AreOut a n.level (body_above n.level digits) (entries n) place (length (entries n)))
     (λ s. IsNext a n.level (body_above n.level digits) (entries n) place s.place)
+
+-- the same of a spot that was searched for, which has a place behind it
+pub record IsSpotFound (a : Area) (n : PlainNode) (digits : List ℕ) (place : ℕ) (result : Option Spot) : Type 0 where
+  pub found : IsFound a n digits place result
+  pub spot : IfSome result (λ s. IsSpot (entries n) s)
+  pub room : IfSome result (λ s. s.place + 1 < 2 ^ 64)
 
 -- no entry of a node from a place on holds anything of it
 abbrev pub AreDone : Area → PlainNode → List ℕ → ℕ → Type 0

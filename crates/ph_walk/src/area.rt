@@ -1,15 +1,15 @@
 //! Sets of points, as a walk asks for them.
-ghost use Rattle.std.specs.Prelude.{◌≡◌, ◌<◌, ◌+◌, ◌^◌, true, IfSome};
+ghost use Rattle.std.specs.Prelude.{◌≡◌, ◌<◌, ◌+◌, true};
 ghost use Rattle.ph_specs.specs.Lawful.{IsLawfulFrom};
 ghost use Rattle.ph_specs.specs.Node.{entries};
 ghost use Rattle.ph_specs.specs.PutTree.{body_above};
 ghost use Rattle.ph_node.specs.Shown.{shown};
 ghost use Rattle.ph_node.specs.Spots.{IsSpot};
-ghost use Rattle.ph_walk.specs.Area.{IsNote, IsFound, AreDone, IsTold};
+ghost use Rattle.ph_walk.specs.Area.{IsNote, IsSpotFound, AreDone, IsTold};
 
 use ph_coord::Dims;
-use ph_node::{NodeOf, NodeRefOf, Spot};
-use ph_path::KnownOf;
+use ph_node::Spot;
+use ph_path::{KnownOf, VisitOf};
 
 /// Which addresses of a node may matter: those with every digit of the lower mask and none that the upper mask has not.
 #[derive(Clone, Copy)]
@@ -45,7 +45,7 @@ pub trait Area<P: Dims> {
     fn next(
         &self,
         known: &KnownOf<P>,
-        node: &NodeRefOf<'_, NodeOf<P>>,
+        node: &VisitOf<'_, P>,
         place: usize,
         note: Masks,
     ) -> Option<Spot>
@@ -53,18 +53,10 @@ pub trait Area<P: Dims> {
         requires level { (shown node.now).level < known.now.width }
         requires lawful { IsLawfulFrom P.D (shown node.now).level 0 (shown node.now).chain }
         requires noted { IsNoted self.now (shown node.now).level (body_above (shown node.now).level known.now.digits) note }
-        ensures found { IsFound (points self.now) (shown node.now) known.now.digits place result }
-        ensures spot { IfSome result (λ s. IsSpot (entries (shown node.now)) s) }
-        ensures room { IfSome result (λ s. s.place + 1 < 2 ^ 64) };
+        ensures { IsSpotFound (points self.now) (shown node.now) known.now.digits place result };
 
     /// Whether no entry behind one holds a point of the set. It answers no where that is not known at once.
-    fn is_last(
-        &self,
-        known: &KnownOf<P>,
-        node: &NodeRefOf<'_, NodeOf<P>>,
-        spot: Spot,
-        note: Masks,
-    ) -> bool
+    fn is_last(&self, known: &KnownOf<P>, node: &VisitOf<'_, P>, spot: Spot, note: Masks) -> bool
         requires width { known.now.width ≡ (points self.now).width }
         requires level { (shown node.now).level < known.now.width }
         requires lawful { IsLawfulFrom P.D (shown node.now).level 0 (shown node.now).chain }

@@ -5,12 +5,12 @@ ghost use Rattle.ph_specs.specs.Lawful.{IsLawful, rows};
 ghost use Rattle.ph_specs.specs.WorkSets.{placed};
 ghost use Rattle.ph_path.specs.Path.{IsPath};
 ghost use Rattle.ph_walk.specs.Area.{IsArea, kept, touched, TouchesRoot};
-ghost use Rattle.ph_walk.specs.Walk.{IsStep, IsEntered, IsBehind, IsFrame, path_rows, path_nodes};
+ghost use Rattle.ph_walk.specs.Walk.{IsOneStep, IsEntered, IsBehind, IsFrame, path_rows, path_nodes};
 
 use crate::area::{Area, Masks};
 use ph_coord::{Dim, Dims, Row, Width};
-use ph_node::{NodeOf, NodeRefOf, WhatOf};
-use ph_path::{FrameOf, KnownOf, PathOf};
+use ph_node::{NodeOf, WhatOf};
+use ph_path::{FrameOf, KnownOf, PathOf, VisitOf};
 use ph_steps::Steps;
 use std::marker::Model;
 use std::sync::ledger::Ledger;
@@ -95,10 +95,7 @@ impl<'t, P: Dims, A: Area<P>> WalkOf<'t, P, A> {
 
     // One step: into the root, to the next entry that may matter, or out of a node that is done.
     fn step<V: Ledger>(&mut self, visits: &mut Steps<V>) -> Step<A::Told>
-        ensures step { IsStep (A.told self.old.area) self.old self.new result }
-        ensures area { self.new.area ≡ self.old.area }
-        ensures cost { visits.new + self.new.visits ≡ visits.old + self.old.visits }
-        ensures grows { visits.old ≤ visits.new }
+        ensures { IsOneStep (A.told self.old.area) self.old self.new result visits.old visits.new }
     {
         let Some(frame) = self.path.last() else {
             let Some(root) = self.root else {
@@ -179,7 +176,7 @@ fn pass<'t, P: Dims>(
 /// Puts a node on the path, where something may matter in it.
 pub fn enter<'t, P: Dims>(
     path: &mut WayOf<'t, NodeOf<P>>,
-    node: NodeRefOf<'t, NodeOf<P>>,
+    node: VisitOf<'t, P>,
     note: Option<Masks>,
 )
     requires { length path.old < 62 }

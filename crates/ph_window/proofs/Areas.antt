@@ -1,10 +1,10 @@
 -- A window as a set of points: what its masks rule out, and what they let through.
-use Rattle.std.proofs.Common.{◌≡◌, ℕ, ◌+◌, ◌-◌, ◌^◌, ◌<◌, ◌≤◌, List, length, sym, ◌∙◌, ap, arith, true, false, bit_and}
+use Rattle.std.proofs.Common.{◌≡◌, ℕ, ◌+◌, ◌-◌, ◌≤◌, List, length, sym, ◌∙◌, ap, arith, true, false, bit_and}
 use Rattle.std.specs.Prelude.{ℤ, Some, slice_get}
 use Rattle.ph_specs.specs.Coordinate.{IsPoint}
-use Rattle.ph_specs.specs.Lawful.{put_together, IsLawfulEntry, IsLawfulWhat}
+use Rattle.ph_specs.specs.Lawful.{put_together, IsLawfulFrom, IsLawfulEntry, IsLawfulWhat}
 use Rattle.ph_specs.specs.Masks.{masks, fits_masks, fits_some}
-use Rattle.ph_specs.specs.Node.{What, value, node, Entry, end}
+use Rattle.ph_specs.specs.Node.{What, value, node, Entry, PlainNode, end, entries}
 use Rattle.ph_specs.specs.Region.{meets_window}
 use Rattle.ph_specs.specs.Table.{row}
 use Rattle.ph_specs.specs.Window.{is_between}
@@ -12,6 +12,7 @@ use Rattle.ph_specs.specs.WindowWalk.{node_region, is_open}
 use Rattle.ph_specs.proofs.lemmas.Bounds.{small, small-point}
 use Rattle.ph_specs.proofs.lemmas.Joined.{length-put_together}
 use Rattle.ph_specs.proofs.lemmas.RowsBehind.{under-point, point-address}
+use Rattle.ph_specs.proofs.laws.EntryLists.{entry-lawful}
 use Rattle.ph_specs.proofs.laws.MaskBounds.{AreMasks, masks-fit, fits-parts}
 use Rattle.ph_specs.proofs.laws.Regions.{meets-point, point-meets}
 use Rattle.ph_specs.proofs.laws.WindowWalk.{At, at-corner, row-opens, child-meets, known-small, refuted}
@@ -20,7 +21,7 @@ use Rattle.ph_path.specs.Known.{point_at}
 use Rattle.ph_walk.specs.Area.{IsArea, HoldsNone, MayHold, AreOut, IsNext}
 use Rattle.ph_walk.proofs.Outs.{out-then, at-one, out-one}
 use Rattle.ph_window.specs.Corners.{window_of}
-use Rattle.ph_window.specs.Seek.{AreShut, IsNextEntry}
+use Rattle.ph_window.specs.Seek.{AreShut, IsNextEntry, CanSeek}
 
 -- a region has a point in the window exactly where it meets it
 pub window-exact : (d w : ℕ) (lo hi : List ℤ) → IsPoint w d lo → IsPoint w d hi → IsArea d (window_of w lo hi)
@@ -31,11 +32,12 @@ module _ {d w b : ℕ} {above : List ℕ} {lo hi : List ℤ} (t : At w d b above
   are-masks : AreMasks w d (node_region w b above) lo hi (l, u)
   are-masks = masks-fit w d (node_region w b above) lo hi (l, u) t.within (at-corner w d b above lo hi t) t.low t.high m
 
-  pub lower-part : bit_and l u ≡ l
+  lower-part : bit_and l u ≡ l
   lower-part = (fits-parts l l u are-masks.lower_fits).1
 
-  pub upper-small : u < 2 ^ d
-  upper-small = are-masks.upper_small
+  -- a node can be looked through by them
+  pub can-seek : (n : PlainNode) → IsLawfulFrom d n.level 0 n.chain → CanSeek d l u n
+  can-seek n h = record { masks = lower-part; upper_small = are-masks.upper_small; lawful = h }
 
   pub open-fits : (a : ℕ) → is_open w lo hi b above a ≡ fits_masks a l u
   open-fits a = ap (λ o. fits_some o a) m
@@ -70,31 +72,34 @@ module _ {d w b : ℕ} {above : List ℕ} {lo hi : List ℤ} (t : At w d b above
   out-none es p j x r s g = absurd (omega (arith, r, s))
 
   -- what the masks pass over holds nothing of the window, and what they let through may
-  module _ (es : List Entry) (each : (j : ℕ) (x : Entry) → slice_get es j ≡ Some x → IsLawfulEntry d b x) (p q : ℕ)
-      (y : p ≤ q) (h : AreOut (window_of w lo hi) b above es p q) where
-    shut-out : (i : ℕ) → AreShut l u es q i → AreOut (window_of w lo hi) b above es p i
-    shut-out i s = out-then (window_of w lo hi) b above es p q i h (λ j x r v g. none-by x (each j x g) x.what (each j x g).held (s j x r v g))
+  module _ (n : PlainNode) (lawful : IsLawfulFrom d b 0 n.chain) (p q : ℕ) (y : p ≤ q) (h : AreOut (window_of w lo hi) b above (entries n) p q) where
+    each : (j : ℕ) (x : Entry) → slice_get (entries n) j ≡ Some x → IsLawfulEntry d b x
+    each j x g = entry-lawful d b 0 j n.chain x lawful g
 
-    pub none-left : AreShut l u es q (length es) → AreOut (window_of w lo hi) b above es p (length es)
-    none-left s = shut-out (length es) s
+    shut-out : (i : ℕ) → AreShut l u (entries n) q i → AreOut (window_of w lo hi) b above (entries n) p i
+    shut-out i s = out-then (window_of w lo hi) b above (entries n) p q i h (λ j x r v g. none-by x (each j x g) x.what (each j x g).held (s j x r v g))
 
-    module _ {i : ℕ} (n : IsNextEntry l u es q i) where
-      pub next-on : IsNext (window_of w lo hi) b above es p i
+    pub none-left : AreShut l u (entries n) q (length (entries n)) → AreOut (window_of w lo hi) b above (entries n) p (length (entries n))
+    none-left s = shut-out (length (entries n)) s
+
+    module _ {i : ℕ} (k : IsNextEntry l u (entries n) q i) where
+      pub next-on : IsNext (window_of w lo hi) b above (entries n) p i
       next-on =
-          let x : Entry = n.entry.0 in
-          let k : IsLawfulEntry d b x = each i x n.entry.1 in
+          let x : Entry = k.entry.0 in
+          let own : IsLawfulEntry d b x = each i x k.entry.1 in
           record {
-            behind = omega (arith, y, n.behind);
-            may = at-one es i x n.entry.1 (λ x. MayHold (window_of w lo hi) b (put_together b x.addr above x.body) x.what) (may-by x k x.what k.held n.entry.2);
-            out = shut-out i n.shut;
+            behind = omega (arith, y, k.behind);
+            may = at-one (entries n) i x k.entry.1 (λ x. MayHold (window_of w lo hi) b (put_together b x.addr above x.body) x.what)
+                (may-by x own x.what own.held k.entry.2);
+            out = shut-out i k.shut;
           }
 
       -- and over a point outside
-      pub out-on : (x : Entry) → slice_get es i ≡ Some x → is_node x.what ≡ false →
+      pub out-on : (x : Entry) → slice_get (entries n) i ≡ Some x → is_node x.what ≡ false →
           is_between lo hi (point_at w (put_together b x.addr above x.body)) ≡ false →
-          AreOut (window_of w lo hi) b above es p (i + 1)
+          AreOut (window_of w lo hi) b above (entries n) p (i + 1)
       out-on x at kind out =
-          out-then (window_of w lo hi) b above es p i (i + 1) next-on.out (out-one (window_of w lo hi) b above es i x at (none x.what kind))
+          out-then (window_of w lo hi) b above (entries n) p i (i + 1) next-on.out (out-one (window_of w lo hi) b above (entries n) i x at (none x.what kind))
         where
           none : (o : What) → is_node o ≡ false → HoldsNone (window_of w lo hi) b (put_together b x.addr above x.body) o
           none (value v) e = out

@@ -8,8 +8,8 @@ use Rattle.ph_specs.specs.PutTree.{body_address, body_address_from, body_above}
 use Rattle.ph_specs.proofs.lemmas.Joined.{from_place, number_at, offsets-coordinate, same_number, same_from}
 use Rattle.ph_zorder.proofs.Decided.{address-is, before-decided, is_body-point}
 use Rattle.ph_specs.proofs.laws.Order.{before_irrefl}
-use Rattle.ph_path.specs.Known.{Known, point_at}
-use Rattle.ph_window.specs.Mark.{Mark, IsMark, mark_at}
+use Rattle.ph_path.specs.Known.{Known, known_at, point_at}
+use Rattle.ph_window.specs.Mark.{Mark, IsMark}
 use Rattle.ph_path.proofs.Knowns.{above-same, above-from, offsets-point}
 use Rattle.ph_digits.specs.Differences.{IsTopDifference}
 use Rattle.ph_digits.proofs.Cuts.{other_address}
@@ -45,8 +45,8 @@ above-apart : (level place : ℕ) (xs ys : List ℕ) → level < place → IsTop
 above-apart level place xs ys l p e =
     p.differ (same_from (level + 1) place xs ys (omega (arith, l)) (sym (above-from level xs) ∙ ap (from_place (level + 1)) (sym e) ∙ above-from level ys))
 
-module _ {d u : ℕ} {ks xs os : List ℕ} {m : Mark} {k : Known} (e : xs ≡ os) (h : IsMark d (mark_at u os))
-    (v : mark_at u os ≡ m) (b : IsBody d k.width ks) (s : ks ≡ k.digits) (same : m.width ≡ k.width) where
+module _ {d u : ℕ} {ks xs os : List ℕ} {m : Mark} {k : Known} (e : xs ≡ os) (h : IsMark d (known_at u os))
+    (v : known_at u os ≡ m) (b : IsBody d k.width ks) (s : ks ≡ k.digits) (same : m.width ≡ k.width) where
   mk : xs ≡ m.digits
   mk = e ∙ ap (λ (m : Mark). m.digits) v
 
@@ -70,5 +70,9 @@ module _ {d u : ℕ} {ks xs os : List ℕ} {m : Mark} {k : Known} (e : xs ≡ os
   pub part-holds : (place level : ℕ) → place ≤ level → IsTopDifference xs ks place → body_above level k.digits ≡ body_above level m.digits
   part-holds place level l p = above-top-same level place m.digits k.digits l (at-place place p)
 
-  pub part-apart : (place level : ℕ) → level < place → IsTopDifference xs ks place → body_above level k.digits ≡ body_above level m.digits → ⊥
-  part-apart place level l p = above-apart level place m.digits k.digits l (at-place place p)
+  -- they part above a level, and one of them comes later
+  pub part-stands : {place level : ℕ} {late t : Bool} → IsTopDifference xs ks place ×
+      (late ≡ nat_lt (body_address place xs) (body_address place ks)) → level < place → late ≡ t →
+      (body_above level k.digits ≡ body_above level m.digits → ⊥) × (before m.width (point_at m.width m.digits) (point_at m.width k.digits) ≡ t)
+  part-stands {place = place} {level = level} {late = late} p l is =
+      (above-apart level place m.digits k.digits l (at-place place p.0), sym (part-order place late p) ∙ is)

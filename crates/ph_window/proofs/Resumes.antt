@@ -205,7 +205,7 @@ module _ {d : ℕ} {m : Mark} {c : Corners} {k : Known} {fs : List Frame} {n : P
       joined-known : AreKnown d joined
       joined-known =
           let b = h.known in
-          record { some = b.some; few = b.few; wide = b.wide; narrow = b.narrow; digits = subst (λ w. IsBody d w K) (sym h.same) joined-digits }
+          record { some = b.some; size = b.size; digits = subst (λ w. IsBody d w K) (sym h.same) joined-digits }
 
       abbrev others : Entries
       others = chained (drop (j + 1) (entries n))
@@ -399,12 +399,16 @@ first-above es a j x p g n =
     strictly : (a x : ℕ) → a ≤ x → (a ≡ x → ⊥) → a < x
     strictly a x l n = grind (arith, l, n)
 
+-- the entry at a spot of a node, with what it holds
+abbrev pub entry_of : NodeRefOf PlainNode → Spot → What → Entry
+entry_of r spot held = record { addr = spot.addr; body = body_at (entries (shown r)) spot.place; what = held }
+
 pub found-first : {d : ℕ} {m : Mark} {c : Corners} {k : Known} {fs : List Frame} {r : NodeRefOf PlainNode} {b t j : ℕ}
     {o : Option Masks} {p : Option ℕ} {spot : Spot} {held : What} {note : Masks}
     → IsReady d m c k fs (shown r) → b ≡ (shown r).level → IsNote (points_of c) (HasMasks c) b k.digits o → o ≡ Some note
     → t ≡ address m.width (point_at m.width m.digits) b → p ≡ position (λ e. nat_le t e.addr) (entries (shown r)) →
     p ≡ Some j → spot.place ≡ j → IsSpot (entries (shown r)) spot → held ≡ what_at (entries (shown r)) spot.place
-    → IsFirst m c k (shown r) r j (record { addr = spot.addr; body = body_at (entries (shown r)) spot.place; what = held }) note
+    → IsFirst m c k (shown r) r j (entry_of r spot held) note
 found-first {c = c} {k = k} {r = r} {o = o} {spot = spot} h e f i g p q at s w =
     record {
       shows = refl;
@@ -412,6 +416,11 @@ found-first {c = c} {k = k} {r = r} {o = o} {spot = spot} h e f i g p q at s w =
       entry = read-entry (entries (shown r)) spot at s w;
       noted = some_of _ _ i (noted-at (points_of c) (HasMasks c) k.digits o e f);
     }
+
+-- it stands at the point's address
+pub record IsHere (m : Mark) (c : Corners) (k : Known) (r : NodeRefOf PlainNode) (j : ℕ) (x : Entry) (note : Masks) : Type 0 where
+  pub first : IsFirst m c k (shown r) r j x note
+  pub same : x.addr ≡ address c.width (point_at c.width m.digits) (shown r).level
 
 module _ {d : ℕ} {m : Mark} {c : Corners} {k : Known} {fs : List Frame} {n : PlainNode} (h : IsReady d m c k fs n)
     {r : NodeRefOf PlainNode} {j : ℕ} {x : Entry} {note : Masks} (q : IsFirst m c k n r j x note) where

@@ -3,16 +3,20 @@ use Rattle.std.proofs.Common.{◌≡◌, ℕ, zero, suc, ◌+◌, ◌<◌, ◌�
 use Rattle.std.proofs.Common.{cond, Bool, true, false, leb-true, leb-false, ltb-false, get_or, inl, inr}
 use Rattle.std.specs.Prelude.{Option, Some, None, MatchOption, nat_le, nat_lt, slice_get, position}
 use Rattle.std.specs.List.{position_or_len}
-use Rattle.std.proofs.lemmas.Bool.{cases_lt, le-leb, lt-leb, lt-ltb}
+use Rattle.std.proofs.lemmas.Bool.{cases_lt}
 use Rattle.std.proofs.lemmas.Option.{slice_get_within, get_or_from_slice_get, slice_get-get_or}
 use Rattle.std.proofs.lemmas.List.Quantifiers.{position-Some}
-use Rattle.std.proofs.lemmas.List.Sums.{fails_before_first, position_or_len_is}
-use Rattle.ph_specs.specs.EntryEdits.{point_entry}
-use Rattle.ph_specs.specs.Node.{Entries, end, point, child, Entry, listed}
+use Rattle.std.proofs.lemmas.List.Sums.{fails_before_first}
+use Rattle.ph_specs.specs.EntryEdits.{point_entry, what_at}
+use Rattle.ph_specs.specs.Node.{Entries, end, point, child, Entry, PlainNode, entries, listed}
 use Rattle.ph_specs.specs.Lawful.{IsLawfulFrom}
-use Rattle.ph_specs.specs.Masks.{fits_masks, IsNextOf}
+use Rattle.ph_specs.specs.Masks.{fits_masks, IsNext, IsNextOf}
 use Rattle.ph_specs.proofs.laws.MaskBounds.{fits-between}
-use Rattle.ph_window.specs.Seek.{AreBelow, AreShut, IsPassed}
+use Rattle.ph_node.specs.Split.{body_at}
+use Rattle.ph_node.specs.Spots.{IsSpot}
+use Rattle.ph_node.specs.declared.spots.Spot.{Spot}
+use Rattle.ph_path.proofs.Paths.{read-entry}
+use Rattle.ph_window.specs.Seek.{AreShut, IsPassed, IsNextEntry, CanSeek, IsSought}
 
 -- ---- addresses rise
 
@@ -73,88 +77,110 @@ at-position k es i h =
     let p = position-Some (λ e. nat_le k e.addr) es i no_entry h in
     (p.0, leb-true k (get_or es i no_entry).addr p.1)
 
-pub below-next : (k : ℕ) (es : List Entry) (i : ℕ) (x : Entry) → slice_get es i ≡ Some x → x.addr < k → AreBelow k es i → AreBelow k es (i + 1)
-below-next k es i x at h b j e l g =
-    elim (cases_lt j i) [
-      | inl m ↦ b j e m g
-      | inr m ↦
-          let same : j ≡ i = omega (arith, l, m) in
-          let o : ◌≡◌ {A = Option Entry} (Some e) (Some x) = sym g ∙ ap (slice_get es) same ∙ at in
-          let y : e ≡ x = cc in
-          subst (λ z. z.addr < k) (sym y) h
-    ]
-
-pub rising-below : (k : ℕ) (es : List Entry) (i : ℕ) (x : Entry) → Rising 0 es → slice_get es i ≡ Some x → x.addr < k → AreBelow k es (i + 1)
-rising-below k es i x r at h =
-    below-next k es i x at h (λ j e l g. let v : e.addr < x.addr = later 0 es j i e x r g at l in omega (arith, v, h))
-
-pub first-position : (k : ℕ) (es : List Entry) (i : ℕ) (x : Entry) → AreBelow k es i → slice_get es i ≡ Some x → k ≤ x.addr → position (λ e. nat_le k e.addr) es ≡ Some i
-first-position k es i x b at h =
-    let w = entry-at es i x at in
-    let m : i < length es = w.0 in
-    let e : position_or_len (λ e. nat_le k e.addr) es ≡ i =
-    position_or_len_is (λ e. nat_le k e.addr) es i no_entry (omega (arith, m))
-    (λ j l. lt-leb k (get_or es j no_entry).addr (b j (get_or es j no_entry) l (slice_get-get_or es j no_entry (omega (arith, l, m)))))
-    (λ l. ap (λ y. nat_le k y.addr) w.1 ∙ le-leb k x.addr h) in
-    rw (e, lt-ltb i (length es) m) refl
-
 -- ---- what is passed over
 
 shut_if : (s : Bool) → (s ≡ true → ⊥) → s ≡ false
 shut_if true n = absurd (n refl)
 shut_if false n = refl
 
-module _ (l u : ℕ) (es : List Entry) (r : Rising 0 es) (p s : ℕ) (x : Entry) (at : slice_get es s ≡ Some x)
-    (bad : fits_masks x.addr l u ≡ false) (before : AreShut l u es p s) where
+-- an entry that does not fit, and none fits from a place on up to it
+pub record IsMissed (l u : ℕ) (es : List Entry) (p s : ℕ) (x : Entry) : Type 0 where
+  pub rising : Rising 0 es
+  pub entry : slice_get es s ≡ Some x
+  pub bad : fits_masks x.addr l u ≡ false
+  pub passed : IsPassed l u es p s
+
+module _ {l u : ℕ} {es : List Entry} {p s : ℕ} {x : Entry} (k : IsMissed l u es p s x) where
   -- an entry that does not come before the one at hand, at an address below which nothing fits
-  behind-shut : (k : ℕ) → ((a : ℕ) → x.addr < a → fits_masks a l u ≡ true → k ≤ a) → (j : ℕ) (e : Entry) → p ≤ j →
-      slice_get es j ≡ Some e → e.addr < k → fits_masks e.addr l u ≡ false
-  behind-shut k f j e q g h =
+  behind-shut : (b : ℕ) → ((a : ℕ) → x.addr < a → fits_masks a l u ≡ true → b ≤ a) → (j : ℕ) (e : Entry) → p ≤ j →
+      slice_get es j ≡ Some e → e.addr < b → fits_masks e.addr l u ≡ false
+  behind-shut b f j e q g h =
       elim (cases_lt j s) [
-        | inl i ↦ before j e q i g
+        | inl i ↦ k.passed.shut j e q i g
         | inr i ↦ elim (cases_lt s j) [
           | inl m ↦
-              let v : x.addr < e.addr = later 0 es s j x e r at g m in
-              shut_if (fits_masks e.addr l u) (λ t. let w : k ≤ e.addr = f e.addr v t in omega (arith, w, h))
+              let v : x.addr < e.addr = later 0 es s j x e k.rising k.entry g m in
+              shut_if (fits_masks e.addr l u) (λ t. let w : b ≤ e.addr = f e.addr v t in omega (arith, w, h))
           | inr m ↦
               let same : j ≡ s = omega (arith, i, m) in
-              let o : ◌≡◌ {A = Option Entry} (Some e) (Some x) = sym g ∙ ap (slice_get es) same ∙ at in
+              let o : ◌≡◌ {A = Option Entry} (Some e) (Some x) = sym g ∙ ap (slice_get es) same ∙ k.entry in
               let y : e ≡ x = cc in
-              ap (λ z. fits_masks z.addr l u) y ∙ bad
+              ap (λ z. fits_masks z.addr l u) y ∙ k.bad
         ]
       ]
 
   -- no greater address fits
-  pub none-left : IsNextOf x.addr l u None → AreShut l u es p (length es)
-  none-left n j e q m g =
-      behind-shut (suc e.addr) (λ a v t. absurd (n a v t)) j e q g (omega arith)
+  pub none-left : {o : Option ℕ} → IsNextOf x.addr l u o → o ≡ None → AreShut l u es p (length es)
+  none-left n is j e q m g =
+      let none : IsNextOf x.addr l u None = subst (IsNextOf x.addr l u) is n in
+      behind-shut (suc e.addr) (λ a v t. absurd (none a v t)) j e q g (omega arith)
 
-  -- the least greater address that fits is above all entries
-  pub past-all : (k : ℕ) → IsNextOf x.addr l u (Some k) → position (λ e. nat_le k e.addr) es ≡ None → AreShut l u es p (length es)
-  past-all k n h j e q m g = behind-shut k n.least j e q g (none-position k es h j e g)
+  -- the least greater address that fits
+  module _ {o : Option ℕ} {next : ℕ} (n : IsNextOf x.addr l u o) (is : o ≡ Some next) where
+    next-is : IsNext x.addr l u next
+    next-is = subst (IsNextOf x.addr l u) is n
 
-  -- up to the first entry at or above it nothing fits
-  pub passed-over : (k i : ℕ) → IsNextOf x.addr l u (Some k) → position (λ e. nat_le k e.addr) es ≡ Some i → AreShut l u es p i
-  passed-over k i n h j e q m g = behind-shut k n.least j e q g (before-position k es i h j e m g)
+    pub above-it : x.addr < next
+    above-it = next-is.later
 
-  pub farther : (k i : ℕ) → IsNextOf x.addr l u (Some k) → position (λ e. nat_le k e.addr) es ≡ Some i → s < i
-  farther k i n h =
-      let y : k ≤ (get_or es i no_entry).addr = (at-position k es i h).1 in
-      let m : i < length es = (at-position k es i h).0 in
-      elim (cases_lt s i) [
-        | inl z ↦ z
-        | inr z ↦ elim (cases_lt i s) [
-          | inl q ↦
-              let v : (get_or es i no_entry).addr < x.addr = later 0 es i s (get_or es i no_entry) x r (slice_get-get_or es i no_entry m) at q in
-              let w : x.addr < k = n.later in
-              absurd (omega (arith, y, v, w))
-          | inr q ↦
-              let same : i ≡ s = omega (arith, z, q) in
-              let o : get_or es i no_entry ≡ x = ap (λ t. get_or es t no_entry) same ∙ get_or_from_slice_get es s x no_entry at in
-              let w : x.addr < k = n.later in
-              absurd (let a : (get_or es i no_entry).addr ≡ x.addr = ap (λ t. t.addr) o in omega (arith, y, a, w))
-        ]
-      ]
+    -- it is above all entries
+    pub past-all : {f : Option ℕ} → f ≡ position (λ e. nat_le next e.addr) es → f ≡ None → AreShut l u es p (length es)
+    past-all q none j e b m g = behind-shut next next-is.least j e b g (none-position next es (sym q ∙ none) j e g)
+
+    -- up to the first entry at or above it nothing fits
+    module _ {f : Option ℕ} {i : ℕ} (q : f ≡ position (λ e. nat_le next e.addr) es) (found : f ≡ Some i) where
+      first : position (λ e. nat_le next e.addr) es ≡ Some i
+      first = sym q ∙ found
+
+      pub farther : s < i
+      farther =
+          let y : next ≤ (get_or es i no_entry).addr = (at-position next es i first).1 in
+          let m : i < length es = (at-position next es i first).0 in
+          let w : x.addr < next = next-is.later in
+          elim (cases_lt s i) [
+            | inl z ↦ z
+            | inr z ↦ elim (cases_lt i s) [
+              | inl b ↦
+                  let v : (get_or es i no_entry).addr < x.addr = later 0 es i s (get_or es i no_entry) x k.rising (slice_get-get_or es i no_entry m) k.entry b in
+                  absurd (omega (arith, y, v, w))
+              | inr b ↦
+                  let same : i ≡ s = omega (arith, z, b) in
+                  let e : get_or es i no_entry ≡ x = ap (λ t. get_or es t no_entry) same ∙ get_or_from_slice_get es s x no_entry k.entry in
+                  absurd (let a : (get_or es i no_entry).addr ≡ x.addr = ap (λ t. t.addr) e in omega (arith, y, a, w))
+            ]
+          ]
+
+      pub passed-on : IsPassed l u es p i
+      passed-on = record {
+        behind = omega (arith, farther, k.passed.behind);
+        shut = λ j e b m g. behind-shut next next-is.least j e b g (before-position next es i first j e m g);
+      }
+
+-- ---- as the code has it
+
+-- the entry at a spot
+abbrev pub spot_entry : List Entry → Spot → Entry
+spot_entry es s = record { addr = s.addr; body = body_at es s.place; what = what_at es s.place }
+
+pub missed : {d l u p s : ℕ} {n : PlainNode} {spot : Spot} {t : Bool} → CanSeek d l u n → IsPassed l u (entries n) p s → spot.place ≡ s →
+    IsSpot (entries n) spot → t ≡ fits_masks spot.addr l u → t ≡ false → IsMissed l u (entries n) p s (spot_entry (entries n) spot)
+missed {d = d} {n = n} {spot = spot} c passed at is f fails = record {
+  rising = lawful-rising d n.level 0 n.chain c.lawful;
+  entry = read-entry (entries n) spot at is refl;
+  bad = sym f ∙ fails;
+  passed = passed;
+}
+
+pub fitting : {l u p s : ℕ} {es : List Entry} {spot : Spot} {t : Bool} → IsPassed l u es p s → spot.place ≡ s → IsSpot es spot →
+    t ≡ fits_masks spot.addr l u → t ≡ true → IsNextEntry l u es p spot.place
+fitting {l = l} {u = u} {p = p} {es = es} {spot = spot} passed at is f fits = record {
+  behind = omega (arith, at, passed.behind);
+  entry = (spot_entry es spot, read-entry es spot refl is refl, sym f ∙ fits);
+  shut = subst (AreShut l u es p) (sym at) passed.shut;
+}
+
+pub none-sought : {l u p : ℕ} {es : List Entry} → AreShut l u es p (length es) → IsSought l u es p None
+none-sought shut = record { found = shut; spot = tt; room = tt }
 
 -- behind the upper mask itself nothing fits
 pub behind-upper : (l u : ℕ) (es : List Entry) → Rising 0 es → (s : ℕ) (x : Entry) → slice_get es s ≡ Some x →
@@ -174,6 +200,3 @@ pub lower-passed : (l u : ℕ) (es : List Entry) (o : Option ℕ) → o ≡ posi
 lower-passed l u es None p = λ j e q m g. below-lower l u e (none-position l es (sym p) j e g)
 lower-passed l u es (Some i) p =
     record { behind = omega arith; shut = λ j e q m g. below-lower l u e (before-position l es i (sym p) j e m g) }
-
-pub at-once : (l u : ℕ) (es : List Entry) (place : ℕ) → IsPassed l u es place place
-at-once l u es place = record { behind = omega arith; shut = λ j e q m g. absurd (omega (arith, q, m)) }

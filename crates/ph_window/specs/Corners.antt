@@ -1,11 +1,11 @@
 -- The points between two corners.
-use Rattle.std.specs.Prelude.{◌≡◌, ℕ, ◌≤◌, List, ℤ, Some}
+use Rattle.std.specs.Prelude.{◌≡◌, ℕ, List, ℤ, Some}
 use Rattle.ph_specs.specs.Lawful.{IsBody}
 use Rattle.ph_specs.specs.Masks.{masks}
 use Rattle.ph_specs.specs.Region.{meets_window}
 use Rattle.ph_specs.specs.Window.{is_between}
 use Rattle.ph_specs.specs.WindowWalk.{node_region}
-use Rattle.ph_path.specs.Known.{point_at}
+use Rattle.ph_path.specs.Known.{AreSized, point_at}
 use Rattle.ph_walk.specs.Area.{Area}
 use Rattle.ph_walk.specs.declared.area.Masks.{Masks}
 
@@ -19,9 +19,8 @@ abbrev pub corners_at : ℕ → List ℕ → List ℕ → Corners
 corners_at w low high = record { width = w; low = low; high = high }
 
 pub record AreCorners (d : ℕ) (c : Corners) : Type 0 where
-  pub few : d ≤ 16
-  pub wide : 1 ≤ c.width
-  pub narrow : c.width ≤ 62
+  pub size : AreSized d c.width
+  pub open size use *
   pub starts : IsBody d c.width c.low
   pub ends : IsBody d c.width c.high
 

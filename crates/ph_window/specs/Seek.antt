@@ -1,7 +1,10 @@
 -- Which entries fit masks.
-use Rattle.std.specs.Prelude.{◌≡◌, ℕ, ◌<◌, ◌≤◌, false, true, List, slice_get, Some}
-use Rattle.ph_specs.specs.Node.{Entry}
+use Rattle.std.specs.Prelude.{◌≡◌, ℕ, ◌+◌, ◌<◌, ◌≤◌, ◌^◌, false, true, List, length, slice_get, bit_and, Option, Some, MatchOption, IfSome}
+use Rattle.ph_specs.specs.Lawful.{IsLawfulFrom}
+use Rattle.ph_specs.specs.Node.{Entry, PlainNode}
 use Rattle.ph_specs.specs.Masks.{fits_masks}
+use Rattle.ph_node.specs.Spots.{IsSpot}
+use Rattle.ph_node.specs.declared.spots.Spot.{Spot}
 
 -- from one place up to another no address fits
 abbrev pub AreShut : ℕ → ℕ → List Entry → ℕ → ℕ → Type 0
@@ -19,6 +22,14 @@ pub record IsNextEntry (lower upper : ℕ) (es : List Entry) (place i : ℕ) : T
   pub entry : (x : Entry) × (slice_get es i ≡ Some x) × (fits_masks x.addr lower upper ≡ true)
   pub shut : AreShut lower upper es place i
 
--- up to a place all addresses are less
-abbrev pub AreBelow : ℕ → List Entry → ℕ → Type 0
-AreBelow addr es to = (j : ℕ) → (e : Entry) → j < to → slice_get es j ≡ Some e → e.addr < addr
+-- masks by which a node can be looked through
+pub record CanSeek (d lower upper : ℕ) (n : PlainNode) : Type 0 where
+  pub masks : bit_and lower upper ≡ lower
+  pub upper_small : upper < 2 ^ d
+  pub lawful : IsLawfulFrom d n.level 0 n.chain
+
+-- the first entry from a place on that fits, if there is one
+pub record IsSought (lower upper : ℕ) (es : List Entry) (place : ℕ) (result : Option Spot) : Type 0 where
+  pub found : MatchOption result (AreShut lower upper es place (length es)) (λ s. IsNextEntry lower upper es place s.place)
+  pub spot : IfSome result (λ s. IsSpot es s)
+  pub room : IfSome result (λ s. s.place + 1 < 2 ^ 64)

@@ -1,5 +1,5 @@
 //! The points between two corners.
-ghost use Rattle.std.specs.Prelude.{◌≡◌, ◌<◌, ◌≤◌, ◌-◌, ◌+◌, ◌^◌, ◌&&◌, true, false, nat_le, length, map, replicate, IfSome};
+ghost use Rattle.std.specs.Prelude.{◌≡◌, ◌<◌, ◌≤◌, ◌-◌, ◌+◌, ◌&&◌, true, false, nat_le, length, map, replicate};
 ghost use Rattle.ph_specs.specs.Coordinate.{offset, IsPoint};
 ghost use Rattle.ph_specs.specs.EntryEdits.{what_at};
 ghost use Rattle.ph_specs.specs.Lawful.{IsLawfulFrom};
@@ -14,13 +14,13 @@ ghost use Rattle.ph_node.specs.Kinds.{is_node};
 ghost use Rattle.ph_node.specs.Shown.{shown};
 ghost use Rattle.ph_node.specs.Spots.{IsSpot, joined_digits};
 ghost use Rattle.ph_path.specs.Known.{point_at};
-ghost use Rattle.ph_walk.specs.Area.{IsFound, AreDone};
+ghost use Rattle.ph_walk.specs.Area.{IsSpotFound, AreDone};
 ghost use Rattle.ph_window.specs.Corners.{corners_at, points_of, HasMasks};
 
 use crate::seek::seek;
 use ph_coord::{Dims, Width, offsets_of};
-use ph_node::{NodeOf, NodeRefOf, Spot};
-use ph_path::{FrameOf, KnownOf};
+use ph_node::Spot;
+use ph_path::{FrameOf, KnownOf, VisitOf};
 use ph_walk::{Area, Masks};
 use ph_zorder::offset_masks;
 use std::marker::{Model, PhantomData};
@@ -91,7 +91,7 @@ impl<P: Dims> CornersOf<P> {
 
     // Whether an entry is a point outside of the window, told before anything is joined. In few dimensions it answers no.
     #[inline(always)]
-    fn rules_out(&self, known: &KnownOf<P>, node: NodeRefOf<'_, NodeOf<P>>, spot: Spot) -> bool
+    fn rules_out(&self, known: &KnownOf<P>, node: VisitOf<'_, P>, spot: Spot) -> bool
         requires width { known.now.width ≡ self.now.width }
         requires level { (shown node).level < known.now.width }
         requires spot { IsSpot (entries (shown node)) spot }
@@ -114,7 +114,7 @@ impl<P: Dims> CornersOf<P> {
     fn is_last_to_fit(
         &self,
         known: &KnownOf<P>,
-        node: NodeRefOf<'_, NodeOf<P>>,
+        node: VisitOf<'_, P>,
         spot: Spot,
         note: Masks,
     ) -> bool
@@ -149,7 +149,7 @@ impl<P: Dims> CornersOf<P> {
     fn first_open(
         &self,
         known: &KnownOf<P>,
-        node: NodeRefOf<'_, NodeOf<P>>,
+        node: VisitOf<'_, P>,
         mut place: usize,
         note: Masks,
     ) -> Option<Spot>
@@ -157,9 +157,7 @@ impl<P: Dims> CornersOf<P> {
         requires level { (shown node).level < known.now.width }
         requires lawful { IsLawfulFrom P.D (shown node).level 0 (shown node).chain }
         requires masks { HasMasks self.now (shown node).level (body_above (shown node).level known.now.digits) note }
-        ensures found { IsFound (points_of self.now) (shown node.entry) known.now.digits place result }
-        ensures spot { IfSome result (λ s. IsSpot (entries (shown node.entry)) s) }
-        ensures room { IfSome result (λ s. s.place + 1 < 2 ^ 64) }
+        ensures { IsSpotFound (points_of self.now) (shown node.entry) known.now.digits place result }
     {
         // Uses that make known that the digits and the corners fit the width.
         let _digits = known.digits();
@@ -204,7 +202,7 @@ impl<P: Dims> Area<P> for CornersOf<P> {
     fn next(
         &self,
         known: &KnownOf<P>,
-        node: &NodeRefOf<'_, NodeOf<P>>,
+        node: &VisitOf<'_, P>,
         place: usize,
         note: Masks,
     ) -> Option<Spot> {
@@ -212,13 +210,7 @@ impl<P: Dims> Area<P> for CornersOf<P> {
     }
 
     #[inline(always)]
-    fn is_last(
-        &self,
-        known: &KnownOf<P>,
-        node: &NodeRefOf<'_, NodeOf<P>>,
-        spot: Spot,
-        note: Masks,
-    ) -> bool {
+    fn is_last(&self, known: &KnownOf<P>, node: &VisitOf<'_, P>, spot: Spot, note: Masks) -> bool {
         self.is_last_to_fit(known, *node, spot, note)
     }
 

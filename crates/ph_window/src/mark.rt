@@ -2,8 +2,7 @@
 ghost use Rattle.std.specs.Prelude.{◌≡◌, ◌<◌, ◌≤◌, ◌^◌, map};
 ghost use Rattle.ph_specs.specs.Coordinate.{offset, IsPoint};
 ghost use Rattle.ph_specs.specs.ZOrder.{address, before};
-ghost use Rattle.ph_path.specs.Known.{point_at};
-ghost use Rattle.ph_window.specs.Mark.{mark_at};
+ghost use Rattle.ph_path.specs.Known.{known_at, point_at};
 ghost use Rattle.ph_window.specs.Resumed.{IsStand};
 
 use crate::parting::parting;
@@ -30,9 +29,10 @@ pub(crate) struct MarkOf<P: Dims> {
 
 impl<P: Dims> Model for MarkOf<P> {
     ghost use Rattle.std.specs.Prelude.{take};
-    ghost use Rattle.ph_window.specs.Mark.{Mark, IsMark};
+    ghost use Rattle.ph_path.specs.Known.{Known};
+    ghost use Rattle.ph_window.specs.Mark.{IsMark};
 
-    ghost Value = { Mark };
+    ghost Value = { Known };
 
     ghost view = { λ a. record { width = a.width; digits = take P.D a.offsets } };
 
@@ -43,7 +43,7 @@ impl<P: Dims> MarkOf<P> {
     pub(crate) fn new(w: Width, p: &[i64]) -> MarkOf<P>
         requires few { P.D ≤ 16 }
         requires point { IsPoint w P.D p.now }
-        ensures { result ≡ mark_at w (map (offset w) p.now) }
+        ensures { result ≡ known_at w (map (offset w) p.now) }
     {
         let _bits = w.bits();
         MarkOf {

@@ -7,8 +7,8 @@ use crate::corners::CornersOf;
 use crate::mark::{MarkOf, Stand};
 use crate::seek::fits;
 use ph_coord::Dims;
-use ph_node::{NodeOf, NodeRefOf, WhatOf};
-use ph_path::{FrameOf, KnownOf};
+use ph_node::{NodeOf, WhatOf};
+use ph_path::{FrameOf, KnownOf, VisitOf};
 use ph_steps::Steps;
 use ph_walk::{Area, WayOf, enter};
 use std::sync::ledger::Ledger;
@@ -19,7 +19,7 @@ pub(crate) fn resume<'t, P: Dims, V: Ledger>(
     known: &mut KnownOf<P>,
     corners: &CornersOf<P>,
     mark: &MarkOf<P>,
-    node: NodeRefOf<'t, NodeOf<P>>,
+    node: VisitOf<'t, P>,
     visits: &mut Steps<V>,
 )
     requires { IsReady P.D mark.now corners.now known.old path.old (shown node) }

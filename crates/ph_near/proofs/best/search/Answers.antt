@@ -1,4 +1,4 @@
-use Rattle.std.proofs.Common.{◌≡◌, ◌<◌, ◌≤◌, ◌++◌, ◌+◌, ◌^◌, ◌∷◌, [], ◌∙◌, ℕ, refl, ap, sym, subst, arith, rules, map, replicate}
+use Rattle.std.proofs.Common.{◌≡◌, ◌<◌, ◌≤◌, ◌++◌, ◌^◌, ◌∷◌, [], ◌∙◌, ℕ, refl, ap, sym, subst, arith, rules, map, replicate}
 use Rattle.std.specs.Prelude.{Some}
 use Rattle.std.specs.BinaryHeap.{heap_items}
 use Rattle.std.specs.List.{AllByRecursion as Each}
@@ -14,49 +14,19 @@ use Rattle.ph_near.specs.Ranking.{IsBeyond, IsWanted}
 use Rattle.ph_near.proofs.Listing.{nearing-listed}
 use Rattle.ph_near.proofs.Reached.{few_visits}
 use Rattle.ph_near.proofs.Searches.{top-opened, top-nearing, index-at, opened-there, next-waits, next-nearing, next-fewer, ended, if-ok}
+use Rattle.ph_near.proofs.best.search.Given.{Over}
+use Rattle.ph_near.proofs.best.search.Goals.{After-visit-node, After-enter-next}
 use Rattle.ph_near.proofs.best.search.Goals as goal
 
 -- ---- the root
 
-pub open-requires : goal.open-requires
-open-requires g c =
-    let wide : 1 ≤ c.args.w = omega (arith, c.bits-bits.ensures.value, c.bits-bits.ensures.some) in
-    let narrow : c.args.w ≤ 62 = omega (arith, c.bits-bits.ensures.value, c.bits-bits.ensures.limit) in
-    let tree : IsLawful c.args.w g.row.D (Some c.in-Some.root.now) = subst (IsLawful c.args.w g.row.D) (ap option_copied c.in-Some.is) c.requires.tree in
-    let top : IsOpened c.args.w g.row.D (record { node = c.visit-node.result; known = replicate g.row.D 0 }) =
-    top-opened c.args.w g.row.D c.args.n (map (coordinate c.args.w) c.args.center.now) c.in-Some.root.now
-    c.args.visits.now wide narrow tree (record { node = c.visit-node.result; known = replicate g.row.D 0 })
-    c.visit-node.ensures.shows refl in (
-      search rules,
-      (
-        search rules,
-        (
-          search rules,
-          (
-            search rules,
-            (
-              c.requires.few,
-              (
-                top,
-                (
-                  c.requires.point,
-                  (
-                    c.in_ok-ranking.ensures.ranking,
-                    (
-                      c.in_ok-queue.ensures.order,
-                      subst (AreWaiting c.args.w (map (coordinate c.args.w) c.args.center.now) c.in_ok-opened.opened.items) (sym c.in_ok-queue.ensures.items) tt,
-                    ),
-                  ),
-                ),
-              ),
-            ),
-          ),
-        ),
-      ),
-    )
-
-pub loop-item-init : goal.loop-item-init
-loop-item-init g c =
+-- it is as nodes are that were opened, and the search stands at it
+root_at : (g : Over) (c : After-visit-node g) → IsOpened c.args.w g.row.D (record { node = c.visit-node.result; known = replicate g.row.D 0 })
+    × IsNearing {d = g.row.D} c.args.w c.args.n (map (coordinate c.args.w) c.args.center.now)
+    (rows c.args.w g.row.D (option_copied c.args.root)) []
+    (opened_items {d = g.row.D} c.args.w (record { node = c.visit-node.result; known = replicate g.row.D 0 }) ++
+    []) c.args.visits.now c.visit-node.new.visits
+root_at g c =
     let wide : 1 ≤ c.args.w = omega (arith, c.bits-bits.ensures.value, c.bits-bits.ensures.some) in
     let narrow : c.args.w ≤ 62 = omega (arith, c.bits-bits.ensures.value, c.bits-bits.ensures.limit) in
     let tree : IsLawful c.args.w g.row.D (Some c.in-Some.root.now) = subst (IsLawful c.args.w g.row.D) (ap option_copied c.in-Some.is) c.requires.tree in
@@ -76,6 +46,41 @@ loop-item-init g c =
     c.args.visits.now wide narrow tree (record { node = c.visit-node.result; known = replicate g.row.D 0 })
     c.visit-node.ensures.shows refl (omega (arith, c.if-n-eq0.false)) c.visit-node.ensures.cost)
     in
+    (top, near)
+
+pub open-requires : goal.open-requires
+open-requires g c = (
+  search rules,
+  (
+    search rules,
+    (
+      search rules,
+      (
+        search rules,
+        (
+          c.requires.few,
+          (
+            (root_at g (goal.at.open-requires g c).After-visit-node).0,
+            (
+              c.requires.point,
+              (
+                c.in_ok-ranking.ensures.ranking,
+                (
+                  c.in_ok-queue.ensures.order,
+                  subst (AreWaiting c.args.w (map (coordinate c.args.w) c.args.center.now) c.in_ok-opened.opened.items) (sym c.in_ok-queue.ensures.items) tt,
+                ),
+              ),
+            ),
+          ),
+        ),
+      ),
+    ),
+  ),
+)
+
+pub loop-item-init : goal.loop-item-init
+loop-item-init g c =
+    let root = root_at g (goal.at.loop-item-init g c).After-visit-node in
     let start : IsNearing c.args.w c.in_ok-ranking.ranking.n (map (coordinate c.args.w) c.args.center.now)
     (rows c.args.w g.row.D (option_copied c.args.root)) (heap_items c.in_ok-ranking.ranking.rows)
     (opened_items {d = g.row.D} c.args.w (record { node = c.visit-node.result; known = replicate g.row.D 0 }) ++
@@ -94,7 +99,7 @@ loop-item-init g c =
     (rows c.args.w g.row.D (option_copied c.args.root)) []
     (opened_items {d = g.row.D} c.args.w (record { node = c.visit-node.result; known = replicate g.row.D 0 }) ++
     line_of c.args.w c.in_ok-opened.opened.items is) c.args.visits.now c.visit-node.new.visits)
-    (sym c.in_ok-queue.ensures.items) near))
+    (sym c.in_ok-queue.ensures.items) root.1))
     in
     record {
       n = c.open.ensures.n ∙ c.in_ok-ranking.ensures.n;
@@ -103,7 +108,7 @@ loop-item-init g c =
       opened = subst (Each (IsOpened c.args.w g.row.D))
           (sym (c.in_ok-open.ensures.opened ∙
           ap (λ os. os ++ (record { node = c.visit-node.result; known = replicate g.row.D 0 }) ∷ [])
-          c.in_ok-opened.ensures.items)) (top, tt);
+          c.in_ok-opened.ensures.items)) (root.0, tt);
       waits = c.in_ok-open.ensures.waits;
       nearing = subst (λ m. IsNearing c.args.w m (map (coordinate c.args.w) c.args.center.now)
           (rows c.args.w g.row.D (option_copied c.args.root)) (heap_items c.open.new.ranking.rows)
@@ -113,27 +118,7 @@ loop-item-init g c =
     }
 
 pub returns-in_err-open-clause-visits : goal.returns-in_err-open-clause-visits
-returns-in_err-open-clause-visits g c =
-    let wide : 1 ≤ c.args.w = omega (arith, c.bits-bits.ensures.value, c.bits-bits.ensures.some) in
-    let narrow : c.args.w ≤ 62 = omega (arith, c.bits-bits.ensures.value, c.bits-bits.ensures.limit) in
-    let tree : IsLawful c.args.w g.row.D (Some c.in-Some.root.now) = subst (IsLawful c.args.w g.row.D) (ap option_copied c.in-Some.is) c.requires.tree in
-    let top : IsOpened c.args.w g.row.D (record { node = c.visit-node.result; known = replicate g.row.D 0 }) =
-    top-opened c.args.w g.row.D c.args.n (map (coordinate c.args.w) c.args.center.now) c.in-Some.root.now
-    c.args.visits.now wide narrow tree (record { node = c.visit-node.result; known = replicate g.row.D 0 })
-    c.visit-node.ensures.shows refl in
-    let near : IsNearing {d = g.row.D} c.args.w c.args.n (map (coordinate c.args.w) c.args.center.now)
-    (rows c.args.w g.row.D (option_copied c.args.root)) []
-    (opened_items {d = g.row.D} c.args.w (record { node = c.visit-node.result; known = replicate g.row.D 0 }) ++
-    []) c.args.visits.now c.visit-node.new.visits =
-    subst (λ u. IsNearing {d = g.row.D} c.args.w c.args.n (map (coordinate c.args.w) c.args.center.now)
-    (rows c.args.w g.row.D u) [] (opened_items {d = g.row.D} c.args.w
-    (record { node = c.visit-node.result; known = replicate g.row.D 0 }) ++ []) c.args.visits.now
-    c.visit-node.new.visits) (sym (ap option_copied c.in-Some.is))
-    (top-nearing c.args.w g.row.D c.args.n (map (coordinate c.args.w) c.args.center.now) c.in-Some.root.now
-    c.args.visits.now wide narrow tree (record { node = c.visit-node.result; known = replicate g.row.D 0 })
-    c.visit-node.ensures.shows refl (omega (arith, c.if-n-eq0.false)) c.visit-node.ensures.cost)
-    in
-    few_visits near
+returns-in_err-open-clause-visits g c = few_visits (root_at g (goal.at.returns-in_err-open-clause-visits g c).After-visit-node).1
 
 -- ---- the nearest child that waits
 
@@ -201,36 +186,31 @@ open-requires-in-Some-next_within g c = (
   ),
 )
 
+-- the search stands at the node that was entered
+entered : (g : Over) (c : After-enter-next g) → IsNearing c.args.w c.args.n (map (coordinate c.args.w) c.args.center.now)
+    (rows c.args.w g.row.D (option_copied c.args.root)) (heap_items c.loop-item.ranking.rows)
+    (opened_items c.args.w c.enter-next.result ++ line_of c.args.w c.loop-item.opened.items
+    (heap_items c.next_within.new.queue)) c.args.visits.now c.enter-next.new.visits
+entered g c =
+    next-nearing c.args.w (map (coordinate c.args.w) c.args.center.now) c.loop-item.opened.items
+    c.in-Some-next_within.ensures.next c.loop-item.invariant.waits c.index.result.now c.enter-next.result c.index.ensures
+    c.enter-next.ensures.entered c.loop-item.invariant.nearing
+    (subst (λ m. (t : ℕ) → t ≤ c.limit.result → IsWanted m (heap_items c.loop-item.ranking.rows) t)
+    c.loop-item.invariant.n c.limit.ensures.wanted) c.enter-next.ensures.cost
+
 pub loop-item-smaller : goal.loop-item-smaller
 loop-item-smaller g c =
-    let waits = next-waits c.args.w (map (coordinate c.args.w) c.args.center.now) c.loop-item.opened.items
-    c.in-Some-next_within.ensures.next c.loop-item.invariant.waits in
-    let there : c.index.result.now ≡ opened_at c.loop-item.opened.items c.in-Some-next_within.item.opened =
-    index-at c.loop-item.opened.items c.in-Some-next_within.item.opened c.index.result.now waits.0.opened c.index.ensures in
     omega (
       arith,
       next-fewer c.args.w (map (coordinate c.args.w) c.args.center.now) c.loop-item.opened.items
-          c.in-Some-next_within.ensures.next c.loop-item.invariant.waits c.index.result.now c.enter-next.result there
+          c.in-Some-next_within.ensures.next c.loop-item.invariant.waits c.index.result.now c.enter-next.result c.index.ensures
           c.enter-next.ensures.entered,
       c.in_ok-open-2.ensures.kept.nodes,
     )
 
 pub loop-item-preserved : goal.loop-item-preserved
 loop-item-preserved g c =
-    let waits = next-waits c.args.w (map (coordinate c.args.w) c.args.center.now) c.loop-item.opened.items
-    c.in-Some-next_within.ensures.next c.loop-item.invariant.waits in
-    let there : c.index.result.now ≡ opened_at c.loop-item.opened.items c.in-Some-next_within.item.opened =
-    index-at c.loop-item.opened.items c.in-Some-next_within.item.opened c.index.result.now waits.0.opened c.index.ensures in
-    let near : IsNearing c.args.w c.args.n (map (coordinate c.args.w) c.args.center.now)
-    (rows c.args.w g.row.D (option_copied c.args.root)) (heap_items c.loop-item.ranking.rows)
-    (opened_items c.args.w c.enter-next.result ++ line_of c.args.w c.loop-item.opened.items
-    (heap_items c.next_within.new.queue)) c.args.visits.now c.enter-next.new.visits =
-    next-nearing c.args.w (map (coordinate c.args.w) c.args.center.now) c.loop-item.opened.items
-    c.in-Some-next_within.ensures.next c.loop-item.invariant.waits c.index.result.now c.enter-next.result there
-    c.enter-next.ensures.entered c.loop-item.invariant.nearing
-    (subst (λ m. (t : ℕ) → t ≤ c.limit.result → IsWanted m (heap_items c.loop-item.ranking.rows) t)
-    c.loop-item.invariant.n c.limit.ensures.wanted) c.enter-next.ensures.cost
-    in
+    let near = entered g (goal.at.loop-item-preserved g c).After-enter-next in
     record {
       n = c.open-in-Some-next_within.ensures.n ∙ c.loop-item.invariant.n;
       ranking = c.in_ok-open-2.ensures.ranking;
@@ -253,22 +233,7 @@ loop-item-preserved g c =
     }
 
 pub returns-in_err-open-2-clause-visits : goal.returns-in_err-open-2-clause-visits
-returns-in_err-open-2-clause-visits g c =
-    let waits = next-waits c.args.w (map (coordinate c.args.w) c.args.center.now) c.loop-item.opened.items
-    c.in-Some-next_within.ensures.next c.loop-item.invariant.waits in
-    let there : c.index.result.now ≡ opened_at c.loop-item.opened.items c.in-Some-next_within.item.opened =
-    index-at c.loop-item.opened.items c.in-Some-next_within.item.opened c.index.result.now waits.0.opened c.index.ensures in
-    let near : IsNearing c.args.w c.args.n (map (coordinate c.args.w) c.args.center.now)
-    (rows c.args.w g.row.D (option_copied c.args.root)) (heap_items c.loop-item.ranking.rows)
-    (opened_items c.args.w c.enter-next.result ++ line_of c.args.w c.loop-item.opened.items
-    (heap_items c.next_within.new.queue)) c.args.visits.now c.enter-next.new.visits =
-    next-nearing c.args.w (map (coordinate c.args.w) c.args.center.now) c.loop-item.opened.items
-    c.in-Some-next_within.ensures.next c.loop-item.invariant.waits c.index.result.now c.enter-next.result there
-    c.enter-next.ensures.entered c.loop-item.invariant.nearing
-    (subst (λ m. (t : ℕ) → t ≤ c.limit.result → IsWanted m (heap_items c.loop-item.ranking.rows) t)
-    c.loop-item.invariant.n c.limit.ensures.wanted) c.enter-next.ensures.cost
-    in
-    few_visits near
+returns-in_err-open-2-clause-visits g c = few_visits (entered g (goal.at.returns-in_err-open-2-clause-visits g c).After-enter-next)
 
 -- ---- the end
 

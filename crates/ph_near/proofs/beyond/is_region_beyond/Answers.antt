@@ -1,9 +1,10 @@
-use Rattle.std.proofs.Common.{◌≡◌, ◌≤◌, ℕ, zero, suc, List, [], ◌∷◌, ◌+◌, ◌-◌, ◌*◌, ◌/◌, ◌%◌, ◌^◌, ◌∙◌, refl, ap, sym, arith, drop, get_or, length}
+use Rattle.std.proofs.Common.{◌≡◌, [], ◌+◌, ◌-◌, ◌/◌, ◌%◌, ◌^◌, ap, arith, drop, get_or, length}
 use Rattle.std.proofs.Math.Nat.{mod-lt}
+use Rattle.std.proofs.lemmas.List.{drop_all}
 use Rattle.ph_digits.proofs.Joins.{small-at}
 use Rattle.ph_node.specs.Apart.{greatest_square}
 use Rattle.ph_near.specs.Far.{corner_of, gaps_squared}
-use Rattle.ph_near.proofs.FarRegions.{corner-room, corner-at, corner-long, low-whole, gap-whole, gaps-first, room-on}
+use Rattle.ph_near.proofs.FarRegions.{corner-room, corner-long, corner-gaps, room-on}
 use Rattle.ph_near.proofs.beyond.is_region_beyond.Goals as goal
 
 pub squared_gap-sum-requires-clause-low : goal.squared_gap-sum-requires-clause-low
@@ -16,46 +17,28 @@ squared_gap-sum-requires-clause-low c =
 
 pub returns-then-sum-limit-clause-beyond : goal.returns-then-sum-limit-clause-beyond
 returns-then-sum-limit-clause-beyond c _ =
-    let known = c.args.known.now in
-    let level = c.args.level in
-    let i = c.loop-i.i in
-    let l = c.loop-i-test.true in
-    let whole = low-whole level (get_or known i 0) (c.args.addr / 2 ^ (length known - 1 - i) % 2) _ _ c.digits_above.ensures.value c.address_digit-digit.ensures.value in
-    let here = corner-at level c.args.addr i _ _ known l c.digits_above.ensures.value c.address_digit-digit.ensures.value in
-    let first = gaps-first (level - 1) i _ _ (corner_of level c.args.addr known) c.args.center.now
-    (omega (arith, l, corner-long level c.args.addr known)) (omega (arith, l, c.requires.center.0)) here
-    (c.squared_gap-sum.ensures.value ∙ sym (ap (λ n. n * n) (gap-whole level _ (get_or c.args.center.now i 0) (omega (arith, c.if-level-eq0.false)) whole))) in
+    let first = corner-gaps c.args.level c.args.addr c.loop-i.i _ _ c.squared_gap-sum.result c.args.known.now c.args.center.now
+    c.loop-i-test.true c.requires.center.0 (omega (arith, c.if-level-eq0.false)) c.digits_above.ensures.value
+    c.address_digit-digit.ensures.value c.squared_gap-sum.ensures.value in
     (omega (arith, c.if-level-eq0.false), omega (arith, c.if-sum-limit.true, c.loop-i.invariant.value, first))
 
 pub loop-i-preserved : goal.loop-i-preserved
 loop-i-preserved c =
-    let known = c.args.known.now in
-    let level = c.args.level in
-    let i = c.loop-i.i in
-    let l = c.loop-i-test.true in
-    let whole = low-whole level (get_or known i 0) (c.args.addr / 2 ^ (length known - 1 - i) % 2) _ _ c.digits_above.ensures.value c.address_digit-digit.ensures.value in
-    let here = corner-at level c.args.addr i _ _ known l c.digits_above.ensures.value c.address_digit-digit.ensures.value in
-    let first = gaps-first (level - 1) i _ _ (corner_of level c.args.addr known) c.args.center.now
-    (omega (arith, l, corner-long level c.args.addr known)) (omega (arith, l, c.requires.center.0)) here
-    (c.squared_gap-sum.ensures.value ∙ sym (ap (λ n. n * n) (gap-whole level _ (get_or c.args.center.now i 0) (omega (arith, c.if-level-eq0.false)) whole))) in
+    let first = corner-gaps c.args.level c.args.addr c.loop-i.i _ _ c.squared_gap-sum.result c.args.known.now c.args.center.now
+    c.loop-i-test.true c.requires.center.0 (omega (arith, c.if-level-eq0.false)) c.digits_above.ensures.value
+    c.address_digit-digit.ensures.value c.squared_gap-sum.ensures.value in
     record {
       value = omega (arith, c.loop-i.invariant.value, first);
       within = omega (arith, c.if-sum-limit.false);
-      limit = room-on c.loop-i.sum c.squared_gap-sum.result (length known - i) (length known - (i + 1))
-          greatest_square (omega (arith, l)) c.squared_gap-sum.ensures.limit c.loop-i.invariant.limit;
+      limit = room-on c.loop-i.sum c.squared_gap-sum.result (length c.args.known.now - c.loop-i.i) (length c.args.known.now - (c.loop-i.i + 1))
+          greatest_square (omega (arith, c.loop-i-test.true)) c.squared_gap-sum.ensures.limit c.loop-i.invariant.limit;
     }
 
 pub returns-clause-within : goal.returns-clause-within
 returns-clause-within c _ l =
     let known = c.args.known.now in
     let corner = corner_of c.args.level c.args.addr known in
-    let none : drop c.loop-i.i corner ≡ [] = drop-all c.loop-i.i corner (omega (arith, c.loop-i-test.false, corner-long c.args.level c.args.addr known)) in
+    let none : drop c.loop-i.i corner ≡ [] = drop_all c.loop-i.i corner (omega (arith, c.loop-i-test.false, corner-long c.args.level c.args.addr known)) in
     let rest : gaps_squared (c.args.level - 1) (drop c.loop-i.i corner) (drop c.loop-i.i c.args.center.now) ≡ 0 =
     ap (λ t. gaps_squared (c.args.level - 1) t (drop c.loop-i.i c.args.center.now)) none in
     omega (arith, c.loop-i.invariant.value, c.loop-i.invariant.within, rest)
-  where
-    drop-all : (i : ℕ) (xs : List ℕ) → length xs ≤ i → drop i xs ≡ []
-    drop-all zero [] l = refl
-    drop-all zero (x ∷ xs) l = absurd (omega (arith, l))
-    drop-all (suc i) [] l = refl
-    drop-all (suc i) (x ∷ xs) l = drop-all i xs (omega (arith, l))

@@ -11,7 +11,19 @@ use Rattle.ph_node.specs.Shown.{shown}
 use Rattle.ph_near.specs.Far.{corner_of, gaps_above}
 use Rattle.ph_near.specs.Opening.{place_item, IsTried}
 use Rattle.ph_near.proofs.Entries.{place-least, place-child, place-small, least-told}
+use Rattle.ph_near.proofs.opening.treat.Given.{Over}
+use Rattle.ph_near.proofs.opening.treat.Goals.{After-limit}
 use Rattle.ph_near.proofs.opening.treat.Goals as goal
+
+-- how far it is told to be
+told_at : (g : Over) (c : After-limit g) → c.least-distance.result ≡ gaps_above (shown c.args.from.now.node).level
+    (corner_of (shown c.args.from.now.node).level (addr_at (entries (shown c.args.from.now.node)) c.args.place) c.args.from.now.known) c.args.center.now
+told_at g c =
+    let o = c.args.from.now in
+    c.least-distance.ensures ∙ least-told (shown o.node).level c.spot-spot.result.addr o.known
+    c.args.center.now c.args.halves.now c.requires.opened.known.0 c.requires.point.0 c.requires.halves c.requires.small
+    ∙ ap (λ a. gaps_above (shown o.node).level (corner_of (shown o.node).level a o.known) c.args.center.now)
+    (c.spot-spot.ensures.spot.address ∙ ap (addr_at (entries (shown o.node))) c.spot-spot.ensures.place)
 
 pub returns-then-distance-limit-clause-treated : goal.returns-then-distance-limit-clause-treated
 returns-then-distance-limit-clause-treated g c =
@@ -19,10 +31,7 @@ returns-then-distance-limit-clause-treated g c =
     let o = c.args.from.now in
     let i = c.args.place in
     let there = c.requires.place in
-    let told = c.least-distance.ensures ∙ least-told (shown o.node).level c.spot-spot.result.addr o.known
-    c.args.center.now c.args.halves.now c.requires.opened.known.0 c.requires.point.0 c.requires.halves c.requires.small
-    ∙ ap (λ a. gaps_above (shown o.node).level (corner_of (shown o.node).level a o.known) c.args.center.now)
-    (c.spot-spot.ensures.spot.address ∙ ap (addr_at (entries (shown o.node))) c.spot-spot.ensures.place) in
+    let told = told_at g (goal.at.returns-then-distance-limit-clause-treated g c).After-limit in
     inl (
       refl,
       inl (
@@ -50,10 +59,7 @@ returns-in-Ok-clause-treated g c =
     let o = c.args.from.now in
     let i = c.args.place in
     let there = c.requires.place in
-    let told = c.least-distance.ensures ∙ least-told (shown o.node).level c.spot-spot.result.addr o.known
-    c.args.center.now c.args.halves.now c.requires.opened.known.0 c.requires.point.0 c.requires.halves c.requires.small
-    ∙ ap (λ a. gaps_above (shown o.node).level (corner_of (shown o.node).level a o.known) c.args.center.now)
-    (c.spot-spot.ensures.spot.address ∙ ap (addr_at (entries (shown o.node))) c.spot-spot.ensures.place) in
+    let told = told_at g (goal.at.returns-in-Ok-clause-treated g c).After-limit in
     let child : is_node (what_at (entries (shown c.args.from.now.node)) c.args.place) ≡ true =
     ap (λ k. is_node (what_at (entries (shown o.node)) k)) (sym c.spot-spot.ensures.place) ∙
     sym c.is_child.ensures ∙ c.if-not-is_child.false in

@@ -1,73 +1,33 @@
-use Rattle.std.proofs.Common.{◌∙◌, refl, sym, arith, subst}
-use Rattle.std.specs.Prelude.{Some}
-use Rattle.ph_specs.specs.Node.{entries}
-use Rattle.ph_node.specs.Shown.{shown}
-use Rattle.ph_specs.specs.Masks.{IsNextOf}
-use Rattle.ph_path.proofs.Paths.{read-entry}
-use Rattle.ph_window.specs.Seek.{AreShut}
-use Rattle.ph_window.proofs.Seeks.{lawful-rising, rising-below, none-left, past-all, passed-over, farther}
+use Rattle.std.proofs.Common.{arith}
+use Rattle.ph_window.proofs.Seeks.{missed, fitting, none-sought, none-left, above-it, past-all, passed-on}
 use Rattle.ph_window.proofs.seek.seek_from.Goals as goal
 
-pub returns-then-fits-clause-found : goal.returns-then-fits-clause-found
-returns-then-fits-clause-found g c =
-    let f = c.args.frame in
-    let place = c.spot-spot.ensures.place in
-    record {
-      behind = omega (arith, place, c.requires.passed.behind);
-      entry = (_, read-entry (entries (shown f.node)) c.spot-spot.result refl c.spot-spot.ensures.spot refl, sym c.fits.ensures ∙ c.if-fits.true);
-      shut = subst (AreShut f.note.lower f.note.upper (entries (shown f.node)) f.place) (sym place) c.requires.passed.shut;
-    }
+pub returns-then-place-len : goal.returns-then-place-len
+returns-then-place-len g c = none-sought (λ j e q m at. c.requires.passed.shut j e q (omega arith) at)
 
-pub returns-in_default-clause-found : goal.returns-in_default-clause-found
-returns-in_default-clause-found g c =
-    let f = c.args.frame in
-    let d = g.P.Dims.D in
-    none-left f.note.lower f.note.upper (entries (shown f.node))
-    (lawful-rising d (shown f.node).level 0 (shown f.node).chain c.requires.lawful) f.place c.args.place _
-    (read-entry (entries (shown f.node)) c.spot-spot.result c.spot-spot.ensures.place c.spot-spot.ensures.spot
-    refl) (sym c.fits.ensures ∙ c.if-fits.false) c.requires.passed.shut
-    (subst (IsNextOf c.spot-spot.result.addr f.note.lower f.note.upper) c.in_default.is c.next_address.ensures)
+pub returns-then-fits : goal.returns-then-fits
+returns-then-fits g c = record {
+  found = fitting c.requires.passed c.spot-spot.ensures.place c.spot-spot.ensures.spot c.fits.ensures c.if-fits.true;
+  spot = c.spot-spot.ensures.spot;
+  room = omega arith;
+}
 
-pub place_from-requires-clause-below : goal.place_from-requires-clause-below
-place_from-requires-clause-below g c =
-    let f = c.args.frame in
-    let d = g.P.Dims.D in
-    let n : IsNextOf c.spot-spot.result.addr f.note.lower f.note.upper (Some c.in-Some.next) =
-    subst (IsNextOf c.spot-spot.result.addr f.note.lower f.note.upper) c.in-Some.is c.next_address.ensures in
-    rising-below c.in-Some.next (entries (shown f.node)) c.args.place _
-    (lawful-rising d (shown f.node).level 0 (shown f.node).chain c.requires.lawful)
-    (read-entry (entries (shown f.node)) c.spot-spot.result c.spot-spot.ensures.place c.spot-spot.ensures.spot refl) n.later
+pub returns-in_default : goal.returns-in_default
+returns-in_default g c =
+    let k = missed c.requires.ready c.requires.passed c.spot-spot.ensures.place c.spot-spot.ensures.spot c.fits.ensures c.if-fits.false in
+    none-sought (none-left k c.next_address.ensures c.in_default.is)
 
-pub returns-in_default-place_from-clause-found : goal.returns-in_default-place_from-clause-found
-returns-in_default-place_from-clause-found g c =
-    let f = c.args.frame in
-    let d = g.P.Dims.D in
-    past-all f.note.lower f.note.upper (entries (shown f.node))
-    (lawful-rising d (shown f.node).level 0 (shown f.node).chain c.requires.lawful) f.place c.args.place _
-    (read-entry (entries (shown f.node)) c.spot-spot.result c.spot-spot.ensures.place c.spot-spot.ensures.spot
-    refl) (sym c.fits.ensures ∙ c.if-fits.false) c.requires.passed.shut
-    c.in-Some.next
-    (subst (IsNextOf c.spot-spot.result.addr f.note.lower f.note.upper) c.in-Some.is c.next_address.ensures)
-    (sym c.place_from.ensures ∙ c.in_default-place_from.is)
+pub next_behind-requires-clause-above : goal.next_behind-requires-clause-above
+next_behind-requires-clause-above g c =
+    let k = missed c.requires.ready c.requires.passed c.spot-spot.ensures.place c.spot-spot.ensures.spot c.fits.ensures c.if-fits.false in
+    above-it k c.next_address.ensures c.in-Some.is
+
+pub returns-in_default-next_behind : goal.returns-in_default-next_behind
+returns-in_default-next_behind g c =
+    let k = missed c.requires.ready c.requires.passed c.spot-spot.ensures.place c.spot-spot.ensures.spot c.fits.ensures c.if-fits.false in
+    none-sought (past-all k c.next_address.ensures c.in-Some.is c.next_behind.ensures c.in_default-next_behind.is)
 
 pub seek_on-requires-clause-passed : goal.seek_on-requires-clause-passed
 seek_on-requires-clause-passed g c =
-    let f = c.args.frame in
-    let d = g.P.Dims.D in
-    let m = farther f.note.lower f.note.upper (entries (shown f.node))
-    (lawful-rising d (shown f.node).level 0 (shown f.node).chain c.requires.lawful) f.place c.args.place _
-    (read-entry (entries (shown f.node)) c.spot-spot.result c.spot-spot.ensures.place c.spot-spot.ensures.spot
-    refl) (sym c.fits.ensures ∙ c.if-fits.false) c.requires.passed.shut
-    c.in-Some.next c.in-Some-place_from.found
-    (subst (IsNextOf c.spot-spot.result.addr f.note.lower f.note.upper) c.in-Some.is c.next_address.ensures)
-    (sym c.place_from.ensures ∙ c.in-Some-place_from.is) in
-    record {
-      behind = omega (arith, m, c.requires.passed.behind);
-      shut = passed-over f.note.lower f.note.upper (entries (shown f.node))
-          (lawful-rising d (shown f.node).level 0 (shown f.node).chain c.requires.lawful) f.place c.args.place _
-          (read-entry (entries (shown f.node)) c.spot-spot.result c.spot-spot.ensures.place c.spot-spot.ensures.spot
-          refl) (sym c.fits.ensures ∙ c.if-fits.false) c.requires.passed.shut
-          c.in-Some.next c.in-Some-place_from.found
-          (subst (IsNextOf c.spot-spot.result.addr f.note.lower f.note.upper) c.in-Some.is c.next_address.ensures)
-          (sym c.place_from.ensures ∙ c.in-Some-place_from.is);
-    }
+    let k = missed c.requires.ready c.requires.passed c.spot-spot.ensures.place c.spot-spot.ensures.spot c.fits.ensures c.if-fits.false in
+    passed-on k c.next_address.ensures c.in-Some.is c.next_behind.ensures c.in-Some-next_behind.is

@@ -1,39 +1,31 @@
-use Rattle.std.proofs.Common.{◌+◌, refl, sym, subst, arith}
+use Rattle.std.proofs.Common.{◌+◌, arith}
 use Rattle.ph_specs.specs.Node.{entries}
 use Rattle.ph_specs.specs.PutTree.{body_above}
-use Rattle.ph_specs.proofs.laws.EntryLists.{entry-lawful}
 use Rattle.ph_node.specs.Shown.{shown}
-use Rattle.ph_path.proofs.Paths.{read-entry}
-use Rattle.ph_walk.specs.Area.{IsNext}
 use Rattle.ph_near.specs.BallSphere.{points_of}
-use Rattle.ph_near.proofs.Balls.{out-behind, next-here, found-on, none-between}
+use Rattle.ph_near.proofs.Balls.{spot-body, next-at, out-on, found-on, out-none}
 use Rattle.ph_near.proofs.sphere.SphereOf.first_inside.Goals as goal
 
 pub rules_out-requires-clause-body : goal.rules_out-requires-clause-body
-rules_out-requires-clause-body g c =
-    let t = shown c.args.node in
-    (entry-lawful g.P.Dims.D t.level 0 c.spot-spot.result.place t.chain _ c.requires.lawful
-    (read-entry (entries t) c.spot-spot.result refl c.spot-spot.ensures.spot refl)).body
+rules_out-requires-clause-body g c = spot-body g.P.Dims.D (shown c.args.node) c.spot-spot.result c.requires.lawful c.spot-spot.ensures.spot
 
-pub returns-then-not-rules_out-clause-found : goal.returns-then-not-rules_out-clause-found
-returns-then-not-rules_out-clause-found g c =
-    let t = shown c.args.node in
-    let a = points_of c.args.self.now in
-    let above = body_above t.level c.args.known.now.digits in
-    subst (IsNext a t.level above (entries t) c.args.place) (sym c.spot-spot.ensures.place)
-    (next-here c.args.self.now t.level above (entries t) c.args.place c.args.place
-    (none-between a t.level above (entries t) c.args.place c.args.place (omega arith)) _
-    (read-entry (entries t) c.spot-spot.result c.spot-spot.ensures.place c.spot-spot.ensures.spot refl) g.P.Dims.D
-    0 t refl c.requires.lawful (omega arith) (c.rules_out.ensures.near c.if-not-rules_out.true))
+pub returns-then-not-rules_out : goal.returns-then-not-rules_out
+returns-then-not-rules_out g c = record {
+  found = next-at c.args.self.now (shown c.args.node) c.args.known.now.digits c.args.place c.spot-spot.ensures.place
+      c.spot-spot.ensures.spot (out-none c.args.self.now (shown c.args.node) c.args.known.now.digits c.args.place) g.P.Dims.D c.requires.lawful (omega arith)
+      (c.rules_out.ensures.near c.if-not-rules_out.true);
+  spot = c.spot-spot.ensures.spot;
+  room = omega arith;
+}
 
-pub returns-clause-found : goal.returns-clause-found
-returns-clause-found g c =
+pub returns : goal.returns
+returns g c =
     let t = shown c.args.node in
-    let a = points_of c.args.self.now in
-    let above = body_above t.level c.args.known.now.digits in
-    let entry = read-entry (entries t) c.spot-spot.result c.spot-spot.ensures.place c.spot-spot.ensures.spot refl in
-    found-on a t.level above (entries t) c.args.place (c.args.place + 1) (omega arith)
-    (out-behind c.args.self.now t.level above (entries t) c.args.place c.args.place
-    (none-between a t.level above (entries t) c.args.place c.args.place (omega arith)) _ entry
-    (c.rules_out.ensures.far c.if-not-rules_out.false))
-    c.first_behind.result c.first_behind.ensures.found
+    let out = out-on c.args.self.now t c.args.known.now.digits c.args.place c.spot-spot.ensures.place c.spot-spot.ensures.spot
+    (out-none c.args.self.now t c.args.known.now.digits c.args.place) (c.rules_out.ensures.far c.if-not-rules_out.false) in
+    record {
+      found = found-on (points_of c.args.self.now) t.level (body_above t.level c.args.known.now.digits) (entries t) c.args.place (c.args.place + 1)
+          (omega arith) out c.first_behind.result c.first_behind.ensures.found;
+      spot = c.first_behind.ensures.spot;
+      room = c.first_behind.ensures.room;
+    }

@@ -1,17 +1,11 @@
-use Rattle.ph_specs.specs.Node.{entries}
 use Rattle.ph_node.specs.Shown.{shown}
-use Rattle.ph_node.specs.Split.{body_at}
-use Rattle.ph_path.proofs.Knowns.{body-seen, joined-seen}
+use Rattle.ph_path.proofs.Knowns.{body-seen, known-joined}
 use Rattle.ph_path.proofs.known.KnownOf.join.Goals as goal
 
 pub join-requires-clause-known : goal.join-requires-clause-known
-join-requires-clause-known g c =
-    body-seen g.P.Dims.D c.D-dims.result c.self.inside.width c.self.inside.digits c.D-dims.ensures c.self.invariant
+join-requires-clause-known g c = body-seen c.self.inside.digits c.D-dims.ensures c.self.invariant
 
 pub invariant_of-self : goal.invariant_of-self
 invariant_of-self g c =
-    let d = g.P.Dims.D in
-    let n = shown c.args.node in
-    (joined-seen d c.D-dims.result c.self.inside.width c.self.inside.digits c.D-dims.ensures c.self.invariant
-    c.args.self.now n.level c.args.spot.addr (body_at (entries n) c.args.spot.place) c.join.new.known _
-    c.self.view_is c.requires.level c.join.ensures.body c.join.ensures.known).0
+    known-joined c.self.inside.digits c.D-dims.ensures c.self.invariant _ (shown c.args.node) c.args.spot c.self.view_is c.requires.level
+    c.join.ensures.body c.join.ensures.known

@@ -1,6 +1,5 @@
 use Rattle.std.proofs.Common.{◌+◌, refl, arith, eqb-true}
 use Rattle.ph_specs.specs.Node.{entries}
-use Rattle.ph_specs.proofs.laws.EntryLists.{entry-lawful}
 use Rattle.ph_node.specs.Shown.{shown}
 use Rattle.ph_path.proofs.Paths.{read-entry}
 use Rattle.ph_window.proofs.Areas.{none-left, out-none}
@@ -13,8 +12,7 @@ returns g c e =
     let t = at-seen c.self.invariant c.self.view_is c.requires.width c.digits-digits.ensures.body
     c.digits-digits.ensures.value (shown c.args.node).level c.requires.level in
     let n = shown c.args.node in
-    none-left t c.requires.masks (entries n)
-    (λ j x g'. entry-lawful g.P.Dims.D n.level 0 j n.chain x c.requires.lawful g') (c.args.spot.place + 1)
+    none-left t c.requires.masks n c.requires.lawful (c.args.spot.place + 1)
     (c.args.spot.place + 1) (omega arith) (out-none t c.requires.masks (entries n) (c.args.spot.place + 1))
     (behind-upper c.args.note.lower c.args.note.upper (entries n)
     (lawful-rising g.P.Dims.D n.level 0 n.chain c.requires.lawful) c.args.spot.place _

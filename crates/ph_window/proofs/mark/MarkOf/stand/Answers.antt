@@ -1,6 +1,6 @@
-use Rattle.std.proofs.Common.{ap, take, ◌∙◌, sym, subst}
+use Rattle.std.proofs.Common.{ap, take, subst}
 use Rattle.ph_window.specs.Parting.{IsParting}
-use Rattle.ph_window.proofs.Marks.{part-order, part-holds, part-apart}
+use Rattle.ph_window.proofs.Marks.{part-holds, part-stands}
 use Rattle.ph_window.proofs.mark.MarkOf.stand.Goals as goal
 
 pub returns-then-place-level : goal.returns-then-place-level
@@ -11,20 +11,12 @@ returns-then-place-level g c =
 
 pub returns-then-is_later : goal.returns-then-is_later
 returns-then-is_later g c =
-    let p = subst (IsParting _ _) c.in-Some.is c.parting.ensures in (
-      part-apart (ap (λ n. take n c.self.inside.offsets) c.D.ensures) c.self.invariant c.self.view_is
-          c.digits.ensures.body c.digits.ensures.value c.requires.width c.in-Some.place c.args.level c.if-place-level.false p.0,
-      sym (part-order (ap (λ n. take n c.self.inside.offsets) c.D.ensures) c.self.invariant c.self.view_is
-          c.digits.ensures.body c.digits.ensures.value c.requires.width c.in-Some.place c.in-Some.is_later p) ∙
-          c.if-is_later.true,
-    )
+    part-stands (ap (λ n. take n c.self.inside.offsets) c.D.ensures) c.self.invariant c.self.view_is
+    c.digits.ensures.body c.digits.ensures.value c.requires.width (subst (IsParting _ _) c.in-Some.is c.parting.ensures)
+    c.if-place-level.false c.if-is_later.true
 
 pub returns-else-is_later : goal.returns-else-is_later
 returns-else-is_later g c =
-    let p = subst (IsParting _ _) c.in-Some.is c.parting.ensures in (
-      part-apart (ap (λ n. take n c.self.inside.offsets) c.D.ensures) c.self.invariant c.self.view_is
-          c.digits.ensures.body c.digits.ensures.value c.requires.width c.in-Some.place c.args.level c.if-place-level.false p.0,
-      sym (part-order (ap (λ n. take n c.self.inside.offsets) c.D.ensures) c.self.invariant c.self.view_is
-          c.digits.ensures.body c.digits.ensures.value c.requires.width c.in-Some.place c.in-Some.is_later p) ∙
-          c.if-is_later.false,
-    )
+    part-stands (ap (λ n. take n c.self.inside.offsets) c.D.ensures) c.self.invariant c.self.view_is
+    c.digits.ensures.body c.digits.ensures.value c.requires.width (subst (IsParting _ _) c.in-Some.is c.parting.ensures)
+    c.if-place-level.false c.if-is_later.false
