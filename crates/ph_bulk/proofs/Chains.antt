@@ -75,16 +75,22 @@ held-front : (a : ℕ) (b : List ℕ) (w : What) (rest : Entries) → length (ch
 held-front a b (value v) rest = omega arith
 held-front a b (node n) rest = omega arith
 
-children-part : {X : Type 0} (f : X → Entry) (xs : List X) (i : ℕ) → length (child_nodes (chained (map f (take i xs)))) ≤ length (child_nodes (chained (map f xs)))
-children-part f xs zero = omega arith
-children-part f [] (suc i) = omega arith
-children-part f (x ∷ xs) (suc i) =
+-- a number to which each entry adds is no greater for the first of some entries
+part-least : {X : Type 0} (all : Entries → ℕ) (one : What → ℕ) → all end ≡ 0 →
+    ((a : ℕ) (b : List ℕ) (w : What) (rest : Entries) → all (in_front a b w rest) ≡ one w + all rest) →
+    (f : X → Entry) (xs : List X) (i : ℕ) → all (chained (map f (take i xs))) ≤ all (chained (map f xs))
+part-least all one none front f xs zero = omega (arith, none)
+part-least all one none front f [] (suc i) = omega arith
+part-least all one none front f (x ∷ xs) (suc i) =
     omega (
       arith,
-      held-front (f x).addr (f x).body (f x).what (chained (map f (take i xs))),
-      held-front (f x).addr (f x).body (f x).what (chained (map f xs)),
-      children-part f xs i,
+      front (f x).addr (f x).body (f x).what (chained (map f (take i xs))),
+      front (f x).addr (f x).body (f x).what (chained (map f xs)),
+      part-least all one none front f xs i,
     )
+
+children-part : {X : Type 0} (f : X → Entry) (xs : List X) (i : ℕ) → length (child_nodes (chained (map f (take i xs)))) ≤ length (child_nodes (chained (map f xs)))
+children-part f xs i = part-least (λ c. length (child_nodes c)) (λ w. length (held w)) refl held-front f xs i
 
 module _ {X : Type 0} (f : X → Entry) (xs : List X) (i : ℕ) (x : X) (l : i < length xs) (e : x ≡ get_or xs i x) where
   one-more : map f (take (i + 1) xs) ≡ map f (take i xs) ++ f x ∷ []
@@ -117,15 +123,7 @@ module _ {X : Type 0} (f : X → Entry) (xs : List X) (i : ℕ) (x : X) (l : i <
       option_over g (Some y) = Some (g y)
 
 pub size-part : {X : Type 0} (f : X → Entry) (xs : List X) (i : ℕ) → nodes_in (chained (map f (take i xs))) ≤ nodes_in (chained (map f xs))
-size-part f xs zero = omega arith
-size-part f [] (suc i) = omega arith
-size-part f (x ∷ xs) (suc i) =
-    omega (
-      arith,
-      size-front (f x).addr (f x).body (f x).what (chained (map f (take i xs))),
-      size-front (f x).addr (f x).body (f x).what (chained (map f xs)),
-      size-part f xs i,
-    )
+size-part f xs i = part-least nodes_in what_size refl size-front f xs i
 
 -- ---- counts
 

@@ -4,6 +4,7 @@ mod Flats
 mod Sorted
 mod Lasts
 mod Made
+mod NodeParts
 mod Orders
 mod Parted
 mod Rises

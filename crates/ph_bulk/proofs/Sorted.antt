@@ -197,3 +197,16 @@ points-all w d (r ∷ rows) h = and _ _ h.0 (points-all w d rows h.1)
 
 pub table-is : (w d : ℕ) (rows : List Row) → 1 ≤ w → Each (λ r. IsPoint w d r.point) rows → list_all (λ r. is_value r.value) rows ≡ true → IsTable w d (table_of w rows)
 table-is w d rows positive h v = is_table-table_of w d rows positive (and _ _ (points-all w d rows h) v)
+
+-- ---- the rows of the table that rows make
+
+-- sorted rows that rise are those of the table that the rows make
+pub risen-table : (w d : ℕ) (rows ys : List Row) → 1 ≤ w → ArePoints w d rows → IsPermutation rows ys →
+    IsStableBy (row_before w) rows ys → is_rising w ys ≡ true → ys ≡ table_of w rows
+risen-table w d rows ys positive h m st up = rising-table w ys up ∙ sorted-table w d rows ys positive h m st
+
+-- they are a table
+pub made-table : (w d : ℕ) (rows seen ys : List Row) → 1 ≤ w → ArePoints w d rows → seen ≡ rows → list_all (λ r. is_value r.value) seen ≡ true →
+    ys ≡ table_of w rows → IsTable w d ys
+made-table w d rows seen ys positive h same v made =
+    subst (IsTable w d) (sym made) (table-is w d rows positive h (ap (λ (rs : List Row). list_all (λ r. is_value r.value) rs) (sym same) ∙ v))

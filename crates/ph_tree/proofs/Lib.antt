@@ -9,6 +9,7 @@ mod PutCases
 mod RemovalCases
 mod RoomLimits
 mod Rooms
+mod RowEdits
 mod Shifted
 pub mod Sizes
 mod Steps

@@ -1,5 +1,5 @@
 -- The room that a node takes into which a point is put.
-use Rattle.std.proofs.Common.{◌≡◌, ℕ, ◌+◌, ◌<◌, ◌≤◌, List, refl, arith, inl, inr, ltb-true, ltb-false, ◌⊎◌}
+use Rattle.std.proofs.Common.{◌≡◌, ℕ, ◌+◌, ◌<◌, ◌≤◌, List, cond, true, refl, arith, inl, inr, ltb-true, ltb-false, ◌⊎◌}
 use Rattle.std.specs.Prelude.{ℤ, nat_lt}
 use Rattle.ph_specs.specs.ZOrder.{address}
 use Rattle.ph_specs.specs.Node.{Entries, end, point, child, flat}
@@ -21,48 +21,50 @@ record Grown (dims level least : ℕ) (e new : Entries) : Type 0 where
   pub entries : count new ≤ count e + 1
   pub few : count e ≤ count new
 
+-- by where one number lies against another
+by_order : (x a : ℕ) (C : Entries → Type 0) (first later here : Entries) → (nat_lt x a ≡ true → C first) → (nat_lt a x ≡ true → C later) → C here →
+    C (cond (nat_lt x a) first (cond (nat_lt a x) later here))
+by_order x a C first later here less more same =
+    elim (either (nat_lt x a)) [
+      | inl s ↦ rw s (less s)
+      | inr s ↦ elim (either (nat_lt a x)) [ inl t ↦ rw (s, t) (more t) | inr t ↦ rw (s, t) same ]
+    ]
+
+-- a point in front of entries
+in-front : (w dims b least : ℕ) (e : Entries) (p : List ℤ) (v : ℕ) → IsWhole w dims p → least ≤ address w p b →
+    AreRising dims b (address w p b + 1) (flat e) → Grown dims b least e (point (address w p b) (digits_below w b p) v e)
+in-front w dims b least e p v h m k =
+    record { rising = (m, address-below w dims b p h, is-body-below w dims b p h, k); entries = omega arith; few = omega arith }
+
 grown : (w dims b least : ℕ) (e : Entries) (p : List ℤ) (v : ℕ) → IsWhole w dims p → AreRising dims b least (flat e) →
     least ≤ address w p b → Grown dims b least e (put_entries w b e p v)
-grown w dims b least end p v h k m =
-    record { rising = (m, address-below w dims b p h, is-body-below w dims b p h, tt); entries = omega arith; few = omega arith }
+grown w dims b least end p v h k m = in-front w dims b least end p v h m tt
 grown w dims b least (point a body u rest) p v h k m =
-    elim (either (nat_lt (address w p b) a)) [
-      | inl first ↦
-          let f : address w p b < a = ltb-true (address w p b) a first in
-          rw first
-          (record { rising = (m, address-below w dims b p h, is-body-below w dims b p h, (omega (arith, f), k.1, k.2, k.3)); entries = omega arith; few = omega arith })
-      | inr late ↦ elim (either (nat_lt a (address w p b))) [
-        | inl later ↦
-            let f : a < address w p b = ltb-true a (address w p b) later in
-            let ih : Grown dims b (a + 1) rest (put_entries w b rest p v) = grown w dims b (a + 1) rest p v h k.3 (omega (arith, f)) in
-            rw (late, later) (record { rising = (k.0, k.1, k.2, ih.rising); entries = omega (arith, ih.entries); few = omega (arith, ih.few) })
-        | inr here ↦ elim (either (same_digits body (digits_below w b p))) [
-          | inl alike ↦ rw (late, here, alike) (record { rising = k; entries = omega arith; few = omega arith })
-          | inr unlike ↦
-              let place : ℕ = split_place b body (digits_below w b p) in
-              rw (late, here, unlike) (record { rising = (k.0, k.1, is-body-between w dims b place p h, k.3); entries = omega arith; few = omega arith })
-        ]
-      ]
-    ]
+    by_order (address w p b) a (Grown dims b least (point a body u rest)) _ _ _
+    (λ first. let f : address w p b < a = ltb-true (address w p b) a first in
+    rw first (in-front w dims b least (point a body u rest) p v h m (omega (arith, f), k.1, k.2, k.3)))
+    (λ later. let f : a < address w p b = ltb-true a (address w p b) later in
+    let ih : Grown dims b (a + 1) rest (put_entries w b rest p v) = grown w dims b (a + 1) rest p v h k.3 (omega (arith, f)) in
+    record { rising = (k.0, k.1, k.2, ih.rising); entries = omega (arith, ih.entries); few = omega (arith, ih.few) })
+    (elim (either (same_digits body (digits_below w b p))) [
+      | inl alike ↦ rw alike (record { rising = k; entries = omega arith; few = omega arith })
+      | inr unlike ↦
+          let place : ℕ = split_place b body (digits_below w b p) in
+          rw unlike (record { rising = (k.0, k.1, is-body-between w dims b place p h, k.3); entries = omega arith; few = omega arith })
+    ])
 grown w dims b least (child a body c chain rest) p v h k m =
-    elim (either (nat_lt (address w p b) a)) [
-      | inl first ↦
-          let f : address w p b < a = ltb-true (address w p b) a first in
-          rw first
-          (record { rising = (m, address-below w dims b p h, is-body-below w dims b p h, (omega (arith, f), k.1, k.2, k.3)); entries = omega arith; few = omega arith })
-      | inr late ↦ elim (either (nat_lt a (address w p b))) [
-        | inl later ↦
-            let f : a < address w p b = ltb-true a (address w p b) later in
-            let ih : Grown dims b (a + 1) rest (put_entries w b rest p v) = grown w dims b (a + 1) rest p v h k.3 (omega (arith, f)) in
-            rw (late, later) (record { rising = (k.0, k.1, k.2, ih.rising); entries = omega (arith, ih.entries); few = omega (arith, ih.few) })
-        | inr here ↦ elim (either (same_digits body (digits_between w b c p))) [
-          | inl alike ↦ rw (late, here, alike) (record { rising = k; entries = omega arith; few = omega arith })
-          | inr unlike ↦
-              let place : ℕ = split_place b body (digits_between w b c p) in
-              rw (late, here, unlike) (record { rising = (k.0, k.1, is-body-between w dims b place p h, k.3); entries = omega arith; few = omega arith })
-        ]
-      ]
-    ]
+    by_order (address w p b) a (Grown dims b least (child a body c chain rest)) _ _ _
+    (λ first. let f : address w p b < a = ltb-true (address w p b) a first in
+    rw first (in-front w dims b least (child a body c chain rest) p v h m (omega (arith, f), k.1, k.2, k.3)))
+    (λ later. let f : a < address w p b = ltb-true a (address w p b) later in
+    let ih : Grown dims b (a + 1) rest (put_entries w b rest p v) = grown w dims b (a + 1) rest p v h k.3 (omega (arith, f)) in
+    record { rising = (k.0, k.1, k.2, ih.rising); entries = omega (arith, ih.entries); few = omega (arith, ih.few) })
+    (elim (either (same_digits body (digits_between w b c p))) [
+      | inl alike ↦ rw alike (record { rising = k; entries = omega arith; few = omega arith })
+      | inr unlike ↦
+          let place : ℕ = split_place b body (digits_between w b c p) in
+          rw unlike (record { rising = (k.0, k.1, is-body-between w dims b place p h, k.3); entries = omega arith; few = omega arith })
+    ])
 
 -- a node that gets a point takes more by the words of an entry and of a value at most
 pub put-room : (w dims b : ℕ) (e : Entries) (p : List ℤ) (v : ℕ) → IsWhole w dims p → IsLawfulFrom dims b 0 e →

@@ -1,6 +1,6 @@
 -- A tree with a row moved: it is put at its new point before it goes from the old one.
 use Rattle.std.proofs.Common.{◌≡◌, ℕ, ◌≤◌, List, [], ◌∷◌, length, true, false, cond, refl, arith, ap, sym, ◌∙◌, subst, inl, inr}
-use Rattle.std.specs.Prelude.{ℤ, Option, Some, None, is_some}
+use Rattle.std.specs.Prelude.{ℤ, Option, Some, None, Ok, IsSome, is_some}
 use Rattle.std.proofs.lemmas.Bool.{and_parts}
 use Rattle.ph_specs.specs.Coordinate.{same_point}
 use Rattle.ph_specs.specs.Table.{Row, find, put, del, move, is_rising, is_value, IsTable}
@@ -20,7 +20,8 @@ use Rattle.ph_specs.proofs.laws.Paths.{path-few}
 use Rattle.ph_tree.specs.Opened.{opened_in}
 use Rattle.ph_tree.specs.Key.{Key}
 use Rattle.ph_tree.specs.Tree.{TreeTable, tree_table, IsTree}
-use Rattle.ph_tree.specs.Moves.{answer_for, move_answer, with_moved}
+use Rattle.ph_tree.specs.Moves.{IsMoved, answer_for, move_answer, with_moved}
+use Rattle.ph_tree.specs.declared.moves.Moved.{Moved}
 use Rattle.ph_tree.specs.declared.moves.Moved.TheVariants.{Done, Absent, Taken}
 use Rattle.ph_tree.proofs.Trees.{tree_of, IsKeyed, at_width}
 use Rattle.ph_tree.proofs.Fewer.{length-del}
@@ -173,3 +174,20 @@ module _ (rs : List Row) (from to : List ℤ) (v : ℕ) (found : find rs from �
 
   pub answer_done : same_point from to ≡ false → find rs to ≡ None → Done ≡ move_answer rs from to
   answer_done other free = sym (answer_other other ∙ ap (λ o. cond (is_some o) Taken Done) free)
+
+-- a move that changes nothing
+pub unmoved : {T : Type 0} {table : List Row} {from to : List ℤ} {was after : T} {changes : ℕ} {answer : Moved} → was ≡ after → answer ≡ move_answer table from to →
+    (IsSome (find table from) → find table to ≡ None → ⊥) → IsMoved table from to was after was changes changes (Ok answer)
+unmoved same is never = record {
+  moved = same;
+  answer = is;
+  err = tt;
+  absent = λ _. refl;
+  taken = λ _. refl;
+  changes = omega arith;
+  spared = tt;
+  idle = λ _. refl;
+  held = λ _. refl;
+  kept = omega arith;
+  made = λ some none. absurd (never some none);
+}

@@ -1,5 +1,5 @@
 -- Trees as tables.
-use Rattle.std.proofs.Common.{◌≡◌, ℕ, ◌+◌, ◌^◌, ◌<◌, ◌≤◌, ltb, lt-ltb, le-ltb, ltb-false, List, [], length, true, false, refl, arith, ap, sym, ◌∙◌, subst, inl, inr}
+use Rattle.std.proofs.Common.{◌≡◌, ℕ, ◌+◌, ◌*◌, ◌^◌, ◌<◌, ◌≤◌, ltb, lt-ltb, le-ltb, ltb-false, List, [], length, true, false, refl, arith, ap, sym, ◌∙◌, subst, inl, inr}
 use Rattle.std.specs.Prelude.{◌↔◌, ℤ, Option, Some, None}
 use Rattle.std.specs.Borrow.{Bor}
 use Rattle.std.specs.Option.{option_copied}
@@ -85,6 +85,11 @@ pub record IsKeyed (dims w max len : ℕ) (t : Option PlainNode) (s : TreeTable)
   pub width : key.width ≡ w
   pub point : key.point ≡ p
 
+-- the key that was made of a point
+pub key_made : {dims w max len : ℕ} {t : Option PlainNode} {s : TreeTable} {p made : List ℤ} {key : Key} → tree_table dims w t max ≡ s →
+    IsTree dims w t max len → is_point s.width dims p ≡ true → key.width ≡ w → key.point ≡ made → made ≡ p → IsKeyed dims w max len t s p key
+key_made seen tree at width point is = record { seen = seen; tree = tree; at = at; width = width; point = point ∙ is }
+
 module _ {dims w max len : ℕ} {t : Option PlainNode} {s : TreeTable} {p : List ℤ} {key : Key} (k : IsKeyed dims w max len t s p key) where
   pub at_width : is_point w dims p ≡ true
   at_width = subst (λ n. is_point n dims p ≡ true) (sym (width_is k.seen k.tree)) k.at
@@ -110,6 +115,11 @@ module _ {dims w max len : ℕ} {t : Option PlainNode} {s : TreeTable} {p : List
   pub opened_few : opened_in key.width t key.point ≤ s.width
   opened_few =
       omega (arith, opened_is, path-few s.width dims s.table p (omega (arith, k.tree.wide, width_is k.seen k.tree)) (table_is k.seen k.tree))
+
+  -- what a call visits that opens these nodes twice at most
+  pub opened_twice : (before seen : ℕ) → seen ≤ before + 2 * opened_in key.width t key.point →
+      (seen ≤ before + 2 * length (path s.width dims s.table p)) × (seen ≤ before + 2 * s.width)
+  opened_twice before seen h = (omega (arith, h, opened_is), omega (arith, h, opened_few))
 
   -- a put is refused exactly where the point is new and the tree is full
   pub full_when : {F : Type 0} → (F → find_tree key.width dims t key.point ≡ None) → (F → ltb len max ≡ false) →

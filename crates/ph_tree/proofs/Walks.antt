@@ -1,5 +1,5 @@
 -- A look-up and an edit by the step that they take at a node.
-use Rattle.std.proofs.Common.{◌≡◌, ◌≢◌, ℕ, zero, suc, ◌+◌, ◌<◌, ◌≤◌, ◌⊎◌, List, [], true, false, cond, refl}
+use Rattle.std.proofs.Common.{◌≡◌, ◌≢◌, ℕ, zero, suc, ◌+◌, ◌-◌, ◌<◌, ◌≤◌, ◌⊎◌, List, [], true, false, cond, refl}
 use Rattle.std.proofs.Common.{arith, ap, sym, ◌∙◌, subst, inl, inr, ne_eqb, eq-eqb, add-zero, zero-add}
 use Rattle.std.specs.Prelude.{Result, Ok, Err, IfOk, IsErrOf, OnOk, OnErr, IsSome, ℤ, Some, None, Option, slice_get, unwrap_or}
 use Rattle.ph_specs.specs.ZOrder.{address}
@@ -211,6 +211,43 @@ module _ {dims w o : ℕ} {p : List ℤ} {t : PlainNode} {found : StepOf PlainNo
   pub missing_opened : IsMissing found → opened_below w t.level t.chain p ≡ o
   missing_opened (inl is) = absent_opened is.1
   missing_opened (inr is) = other_opened is.1
+
+-- ---- a look-up on its way down
+
+-- a look-up from a node has come to another: it finds there what it finds below the first, and opens as many nodes in all
+pub record IsOnWay (dims w : ℕ) (p : List ℤ) (top cur : PlainNode) (before visits : ℕ) : Type 0 where
+  pub lawful : IsLawfulFrom dims cur.level 0 cur.chain
+  pub level : cur.level < w
+  pub found : find_node w cur p ≡ find_node w top p
+  pub cost : visits + opened_below w cur.level cur.chain p ≡ before + opened_below w top.level top.chain p
+
+-- what a look-up that has ended found, and what it cost
+abbrev pub IsFound : ℕ → List ℤ → PlainNode → ℕ → ℕ → Option ℕ → Type 0
+IsFound w p top before seen o = (o ≡ find_node w top p) × (seen ≡ before + opened_below w top.level top.chain p)
+
+module _ {dims w : ℕ} {p : List ℤ} {top cur : PlainNode} {before visits seen : ℕ} {found : StepOf PlainNode}
+    (on : IsOnWay dims w p top cur before visits) (step : IsStep w p cur found (seen - visits)) (more : visits ≤ seen) where
+  pub on_step : IsStepAt dims w p cur found (seen - visits)
+  on_step = record { lawful = on.lawful; step = step }
+
+  pub ended_missing : IsMissing found → IsFound w p top before seen None
+  ended_missing is = (sym (missing_found on_step is) ∙ on.found, omega (arith, missing_opened on_step is, more, on.cost))
+
+  pub ended_same : {spot : Spot} {v : ℕ} → found ≡ Same spot v → IsFound w p top before seen (Some v)
+  ended_same is = (sym (same_found on_step is) ∙ on.found, omega (arith, same_opened on_step is, more, on.cost))
+
+  pub goes_below : {spot : Spot} {rank : ℕ} {m : NodeRefOf PlainNode} → found ≡ Below spot rank m → IsOnWay dims w p top (shown m) before seen
+  goes_below is =
+      let below = way_below on_step is refl in
+      record {
+        lawful = below.lawful;
+        level = omega (arith, below.lower, on.level);
+        found = sym below.found ∙ on.found;
+        cost = omega (arith, below.opened, more, on.cost);
+      }
+
+  pub goes_lower : {spot : Spot} {rank : ℕ} {m : NodeRefOf PlainNode} → found ≡ Below spot rank m → (shown m).level < cur.level
+  goes_lower is = let below = way_below on_step is refl in below.lower
 
 -- ---- an entry that leads to the point
 

@@ -121,6 +121,10 @@ pub kept-same : {D : ℕ} (t : TreeTable) (depth : ℕ) (ring now : Option (Buff
 kept-same t depth ring now steps =
     λ i. record { table = t.table; width = t.width; max = t.max; depth = depth; past = past_of t.width t.table (steps i) }
 
+-- what a tree keeps is what a tree keeps that is the same
+pub is_kept-as : {D depth : ℕ} {t u : TreeTable} {ring : Option (Buffer (Step D))} → u ≡ t → IsKept D t depth ring → IsKept D u depth ring
+is_kept-as {D = D} {depth = depth} {ring = ring} same k = subst (λ v. IsKept D v depth ring) (sym same) k
+
 -- ---- an edit that is taken back
 
 module _ {D : ℕ} (t : TreeTable) (depth : ℕ) (s : Step D) (rest : List (Step D)) (ring : Option (Buffer (Step D)))

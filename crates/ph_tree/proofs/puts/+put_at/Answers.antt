@@ -32,8 +32,7 @@ put_at-requires g t c κs within =
 
 pub returns-in-Absent-clause-put : goal.returns-in-Absent-clause-put
 returns-in-Absent-clause-put g t c =
-    let k = stepped g t (goal.at.returns-in-Absent-clause-put g t c).After-step in
-    found_as (sym (absent_found k c.in-Absent.is)) c.add_point.ensures.put
+    found_as (sym (absent_found (stepped g t (goal.at.returns-in-Absent-clause-put g t c).After-step) c.in-Absent.is)) c.add_point.ensures.put
 
 pub returns-in-Same-clause-put : goal.returns-in-Same-clause-put
 returns-in-Same-clause-put g t c =
@@ -55,8 +54,7 @@ returns-in-Below-clause-visits g t c =
 
 pub returns-in-Other-clause-put : goal.returns-in-Other-clause-put
 returns-in-Other-clause-put g t c =
-    let k = stepped g t (goal.at.returns-in-Other-clause-put g t c).After-step in
-    found_as (sym (other_found k c.in-Other.is)) c.split_entry.ensures.put
+    found_as (sym (other_found (stepped g t (goal.at.returns-in-Other-clause-put g t c).After-step) c.in-Other.is)) c.split_entry.ensures.put
 
 pub returns-in-Other-clause-visits : goal.returns-in-Other-clause-visits
 returns-in-Other-clause-visits g t c =

@@ -1,9 +1,14 @@
-use Rattle.std.proofs.Common.{◌≡◌, ◌-◌, arith, refl, sym, ap, ◌∙◌, subst}
+use Rattle.std.proofs.Common.{◌≡◌, ◌+◌, ◌-◌, ◌*◌, ◌≤◌, inl, inr, arith, refl, sym, ap, ◌∙◌, subst}
+use Rattle.std.specs.Prelude.{None, Ok}
+use Rattle.ph_specs.specs.DelTree.{del_node}
+use Rattle.ph_specs.specs.PutTree.{find_node}
+use Rattle.ph_tree.specs.Opened.{opened_below}
+use Rattle.ph_tree.specs.Removals.{IsRemoval}
 use Rattle.ph_tree.specs.Rooms.{relaid_room}
 use Rattle.ph_tree.specs.Spares.{HasRoom}
-use Rattle.ph_tree.proofs.Walks.{IsStepAt, step_at, absent_found, absent_opened, same_found, same_opened, same_value, same_spot}
-use Rattle.ph_tree.proofs.Walks.{below_leading, way_below, other_found, other_opened}
-use Rattle.ph_tree.proofs.Gone.{absent_del, other_del, same_del, same_length}
+use Rattle.ph_tree.proofs.Walks.{IsStepAt, IsMissing, step_at, missing_found, missing_opened, same_found, same_opened, same_value, same_spot}
+use Rattle.ph_tree.proofs.Walks.{below_leading, way_below}
+use Rattle.ph_tree.proofs.Gone.{missing_del, same_del, same_length}
 use Rattle.ph_tree.proofs.RemovalCases.{removal_as, unfound}
 use Rattle.ph_tree.proofs.Wanted.{same_wanted}
 use Rattle.ph_tree.proofs.removals.del_at.Given.{Over}
@@ -37,15 +42,23 @@ pub del_below-requires-clause-leads : goal.del_below-requires-clause-leads
 del_below-requires-clause-leads g c =
     below_leading (stepped g (goal.at.del_below-requires-clause-leads g c).After-step) c.in-Below.is
 
+-- the point is not there
+missing : (g : Over) (c : After-step g) → IsMissing c.step.result →
+    IsRemoval (find_node c.args.key.now.width c.args.cur.now c.args.key.now.point)
+    c.args.cur.now (del_node c.args.key.now.width c.args.cur.now c.args.key.now.point) c.args.cur.now c.args.changes.now c.args.changes.now (Ok None)
+    × (c.step.new.visits ≤ c.args.visits.now + 2 * opened_below c.args.key.now.width c.args.cur.now.level c.args.cur.now.chain c.args.key.now.point + 1)
+    × (c.args.visits.now ≤ c.step.new.visits)
+missing g c is =
+    let k = stepped g c in (
+      unfound (missing_found k is) (missing_del k is),
+      omega (arith, missing_opened k is, c.step.ensures.cost, c.visit-node.ensures.cost),
+      omega (arith, c.step.ensures.cost, c.visit-node.ensures.cost),
+    )
+
 pub returns-in-Absent : goal.returns-in-Absent
 returns-in-Absent g c =
-    let k = stepped g (goal.at.returns-in-Absent g c).After-step in
-    record {
-      del = unfound (absent_found k c.in-Absent.is) (absent_del k c.in-Absent.is);
-      roomy = λ _. refl;
-      visits = omega (arith, absent_opened k c.in-Absent.is, c.in-Absent.ensures.cost, c.visit-node.ensures.cost);
-      later = omega (arith, c.in-Absent.ensures.cost, c.visit-node.ensures.cost);
-    }
+    let told = missing g (goal.at.returns-in-Absent g c).After-step (inl (_, c.in-Absent.is)) in
+    record { del = told.0; roomy = λ _. refl; visits = told.1; later = told.2 }
 
 pub returns-in-Same : goal.returns-in-Same
 returns-in-Same g c =
@@ -67,10 +80,5 @@ returns-in-Below-clause-visits g c =
 
 pub returns-in-Other : goal.returns-in-Other
 returns-in-Other g c =
-    let k = stepped g (goal.at.returns-in-Other g c).After-step in
-    record {
-      del = unfound (other_found k c.in-Other.is) (other_del k c.in-Other.is);
-      roomy = λ _. refl;
-      visits = omega (arith, other_opened k c.in-Other.is, c.in-Other.ensures.cost, c.visit-node.ensures.cost);
-      later = omega (arith, c.in-Other.ensures.cost, c.visit-node.ensures.cost);
-    }
+    let told = missing g (goal.at.returns-in-Other g c).After-step (inr (_, c.in-Other.is)) in
+    record { del = told.0; roomy = λ _. refl; visits = told.1; later = told.2 }

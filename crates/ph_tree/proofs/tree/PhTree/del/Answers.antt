@@ -1,10 +1,9 @@
-use Rattle.std.proofs.Common.{sym, ◌∙◌, ap, refl, arith}
+use Rattle.std.proofs.Common.{◌∙◌, ap, arith}
 use Rattle.std.proofs.lemmas.Result.{err_from_is_err_and}
-use Rattle.ph_specs.specs.Table.{find}
 use Rattle.ph_tree.specs.Tree.{tree_table}
-use Rattle.ph_tree.proofs.Walks.{not_none, some_none}
-use Rattle.ph_tree.proofs.Trees.{IsKeyed, found_is, wanted_is, opened_is, opened_few}
+use Rattle.ph_tree.proofs.Trees.{IsKeyed, key_made, found_is, wanted_is, opened_is, opened_few, opened_twice}
 use Rattle.ph_tree.proofs.Fewer.{removal}
+use Rattle.ph_tree.proofs.RowEdits.{del_row}
 use Rattle.ph_tree.proofs.tree.PhTree.del.Given.{Over}
 use Rattle.ph_tree.proofs.tree.PhTree.del.Goals.{After-del_in}
 use Rattle.ph_tree.proofs.tree.PhTree.del.Goals as goal
@@ -13,14 +12,7 @@ use Rattle.ph_tree.proofs.tree.PhTree.del.Goals as goal
 keyed : (g : Over) (c : After-del_in g) →
     IsKeyed g.row.D c.self.inside.width c.self.inside.max c.self.inside.len c.self.inside.root c.args.self.now
     c.args.p.now c.new-key.result
-keyed g c =
-    record {
-      seen = c.self.view_is;
-      tree = c.self.invariant;
-      at = c.requires;
-      width = c.new-key.ensures.width;
-      point = c.new-key.ensures.point ∙ c.as_slice.ensures.value;
-    }
+keyed g c = key_made c.self.view_is c.self.invariant c.requires c.new-key.ensures.width c.new-key.ensures.point c.as_slice.ensures.value
 
 pub overflow_sub-self : goal.overflow_sub-self
 overflow_sub-self g c =
@@ -66,46 +58,12 @@ pub returns-in-Some : goal.returns-in-Some
 returns-in-Some g c =
     let k = keyed g (goal.at.returns-in-Some g c).After-del_in in
     let ensured = c.in_ok-value.ensures in
-    let del = ensured.del in
-    let row = removal k del.del del.answer in
-    record {
-      done = record {
-        del = row.table;
-        answer = sym c.in-Some.is ∙ row.answer;
-        err = tt;
-        absent = λ _. refl;
-        lean = λ _. refl;
-        changes = omega arith;
-        idle = λ none. some_none (sym c.in-Some.is ∙ row.answer ∙ none);
-        spared = tt;
-        kept = del.kept;
-        made = λ _. del.made (rw c.in-Some.is refl);
-      };
-      visits = omega (arith, ensured.visits, opened_is k);
-      limit = omega (arith, ensured.visits, opened_few k);
-      later = ensured.later;
-    }
+    let way = opened_twice k _ _ ensured.visits in
+    record { done = rw c.in-Some.is at (del_row k ensured.del ensured.roomy); visits = way.0; limit = way.1; later = ensured.later }
 
 pub returns : goal.returns
 returns g c =
     let k = keyed g (goal.at.returns g c).After-del_in in
     let ensured = c.in_ok-value.ensures in
-    let del = ensured.del in
-    let row = removal k del.del del.answer in
-    record {
-      done = record {
-        del = row.table;
-        answer = sym c.in-None.is ∙ row.answer;
-        err = tt;
-        absent = λ _. refl;
-        lean = λ _. refl;
-        changes = omega arith;
-        idle = λ none. del.idle (found_is k ∙ none);
-        spared = tt;
-        kept = del.kept;
-        made = λ some. absurd (not_none (find c.args.self.now.table c.args.p.now) (sym row.answer ∙ c.in-None.is) some);
-      };
-      visits = omega (arith, ensured.visits, opened_is k);
-      limit = omega (arith, ensured.visits, opened_few k);
-      later = ensured.later;
-    }
+    let way = opened_twice k _ _ ensured.visits in
+    record { done = rw c.in-None.is at (del_row k ensured.del ensured.roomy); visits = way.0; limit = way.1; later = ensured.later }

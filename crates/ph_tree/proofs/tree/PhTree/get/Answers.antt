@@ -3,7 +3,7 @@ use Rattle.std.specs.Prelude.{Some}
 use Rattle.ph_specs.specs.PutTree.{find_tree}
 use Rattle.ph_node.specs.Shown.{shown}
 use Rattle.ph_tree.specs.Opened.{opened_in}
-use Rattle.ph_tree.proofs.Trees.{IsKeyed, found_is, opened_is, opened_few}
+use Rattle.ph_tree.proofs.Trees.{IsKeyed, key_made, found_is, opened_is, opened_few}
 use Rattle.ph_tree.proofs.tree.PhTree.get.Given.{Over}
 use Rattle.ph_tree.proofs.tree.PhTree.get.Goals.{After-find_in}
 use Rattle.ph_tree.proofs.tree.PhTree.get.Goals as goal
@@ -12,14 +12,7 @@ use Rattle.ph_tree.proofs.tree.PhTree.get.Goals as goal
 keyed : (g : Over) (c : After-find_in g) →
     IsKeyed g.row.D c.self.inside.width c.self.inside.max c.self.inside.len c.self.inside.root c.args.self.now
     c.args.p.now c.new-key.result
-keyed g c =
-    record {
-      seen = c.self.view_is;
-      tree = c.self.invariant;
-      at = c.requires;
-      width = c.new-key.ensures.width;
-      point = c.new-key.ensures.point ∙ c.as_slice.ensures.value;
-    }
+keyed g c = key_made c.self.view_is c.self.invariant c.requires c.new-key.ensures.width c.new-key.ensures.point c.as_slice.ensures.value
 
 -- the node that is visited is the root
 root : (g : Over) (c : After-find_in g) → c.self.inside.root ≡ Some (shown c.visit.result)

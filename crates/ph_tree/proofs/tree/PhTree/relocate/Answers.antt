@@ -7,8 +7,8 @@ use Rattle.ph_tree.specs.Moves.{move_answer}
 use Rattle.ph_tree.specs.Tree.{IsTree, tree_table}
 use Rattle.ph_tree.specs.declared.moves.Moved.TheVariants.{Done}
 use Rattle.ph_tree.proofs.Walks.{answered_as, on_ok, on_err, always_ok, either_way, none_or_some, not_none, some_none}
-use Rattle.ph_tree.proofs.Trees.{IsKeyed, found_is, opened_few}
-use Rattle.ph_tree.proofs.Shifted.{IsMove, opened_between, moved, taken_moved, stays_there, none_there, answer_absent, answer_same, answer_taken, answer_done}
+use Rattle.ph_tree.proofs.Trees.{IsKeyed, key_made, found_is, opened_few}
+use Rattle.ph_tree.proofs.Shifted.{IsMove, opened_between, moved, taken_moved, stays_there, none_there, answer_absent, answer_same, answer_taken, answer_done, unmoved}
 use Rattle.ph_tree.proofs.tree.PhTree.relocate.Given.{Over}
 use Rattle.ph_tree.proofs.tree.PhTree.relocate.Goals.{After-find_spare, After-move_in}
 use Rattle.ph_tree.proofs.tree.PhTree.relocate.Goals as goal
@@ -17,39 +17,18 @@ use Rattle.ph_tree.proofs.tree.PhTree.relocate.Goals as goal
 old_keyed : (g : Over) (c : After-find_spare g) →
     IsKeyed g.row.D c.self.inside.width c.self.inside.max c.self.inside.len c.self.inside.root c.args.self.now
     c.args.from.now c.new-old.result
-old_keyed g c =
-    record {
-      seen = c.self.view_is;
-      tree = c.self.invariant;
-      at = c.requires.from;
-      width = c.new-old.ensures.width;
-      point = c.new-old.ensures.point ∙ c.as_slice.ensures.value;
-    }
+old_keyed g c = key_made c.self.view_is c.self.invariant c.requires.from c.new-old.ensures.width c.new-old.ensures.point c.as_slice.ensures.value
 
 -- the two keys at the move
 old_moved : (g : Over) (c : After-move_in g) →
     IsKeyed g.row.D c.self.inside.width c.self.inside.max c.self.inside.len c.self.inside.root c.args.self.now
     c.args.from.now c.new-old.result
-old_moved g c =
-    record {
-      seen = c.self.view_is;
-      tree = c.self.invariant;
-      at = c.requires.from;
-      width = c.new-old.ensures.width;
-      point = c.new-old.ensures.point ∙ c.as_slice.ensures.value;
-    }
+old_moved g c = key_made c.self.view_is c.self.invariant c.requires.from c.new-old.ensures.width c.new-old.ensures.point c.as_slice.ensures.value
 
 new_moved : (g : Over) (c : After-move_in g) →
     IsKeyed g.row.D c.self.inside.width c.self.inside.max c.self.inside.len c.self.inside.root c.args.self.now
     c.args.to.now c.new-new.result
-new_moved g c =
-    record {
-      seen = c.self.view_is;
-      tree = c.self.invariant;
-      at = c.requires.to;
-      width = c.new-new.ensures.width;
-      point = c.new-new.ensures.point ∙ c.as_slice-2.ensures.value;
-    }
+new_moved g c = key_made c.self.view_is c.self.invariant c.requires.to c.new-new.ensures.width c.new-new.ensures.point c.as_slice-2.ensures.value
 
 -- the row that moves
 there : (g : Over) (c : After-move_in g) → find c.args.self.now.table c.args.from.now ≡ Some c.in-Some.found.value
@@ -89,19 +68,8 @@ row_moved g c =
 pub returns-in_default-clause-done : goal.returns-in_default-clause-done
 returns-in_default-clause-done g c =
     let none = sym (found_is (old_keyed g (goal.at.returns-in_default-clause-done g c).After-find_spare)) ∙ c.in_default.ensures.found in
-    record {
-      moved = none_there c.args.self.now c.args.from.now c.args.to.now none;
-      answer = answer_absent c.args.self.now.table c.args.from.now c.args.to.now none;
-      err = tt;
-      absent = λ _. refl;
-      taken = λ _. refl;
-      changes = omega arith;
-      spared = tt;
-      idle = λ _. refl;
-      held = λ _. refl;
-      kept = omega arith;
-      made = λ some _. absurd (not_none (find c.args.self.now.table c.args.from.now) none some);
-    }
+    unmoved (none_there c.args.self.now c.args.from.now c.args.to.now none) (answer_absent c.args.self.now.table c.args.from.now c.args.to.now none)
+    (λ some _. not_none (find c.args.self.now.table c.args.from.now) none some)
 
 pub returns-in_default-clause-limit : goal.returns-in_default-clause-limit
 returns-in_default-clause-limit g c =
@@ -115,19 +83,9 @@ returns-then-eq-clause-done g c =
     let there = sym (found_is k) ∙ c.in-Some.ensures.found in
     let test = sym c.eq.ensures ∙ c.if-eq.true in
     let same = same_from_test c.args.from.now c.args.to.now test in
-    record {
-      moved = stays_there c.args.self.now c.args.from.now c.args.to.now c.in-Some.found.value (sym there) test;
-      answer = answer_same c.args.self.now.table c.args.from.now c.args.to.now c.in-Some.found.value there test;
-      err = tt;
-      absent = λ _. refl;
-      taken = λ _. refl;
-      changes = omega arith;
-      spared = tt;
-      idle = λ _. refl;
-      held = λ _. refl;
-      kept = omega arith;
-      made = λ some none. absurd (not_none (find c.args.self.now.table c.args.from.now) (ap (find c.args.self.now.table) same ∙ none) some);
-    }
+    unmoved (stays_there c.args.self.now c.args.from.now c.args.to.now c.in-Some.found.value (sym there) test)
+    (answer_same c.args.self.now.table c.args.from.now c.args.to.now c.in-Some.found.value there test)
+    (λ some none. not_none (find c.args.self.now.table c.args.from.now) (ap (find c.args.self.now.table) same ∙ none) some)
 
 pub returns-then-eq-clause-limit : goal.returns-then-eq-clause-limit
 returns-then-eq-clause-limit g c =

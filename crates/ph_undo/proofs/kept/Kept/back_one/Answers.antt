@@ -1,8 +1,8 @@
-use Rattle.std.proofs.Common.{◌≡◌, [], ◌∙◌, drop, sym, ap, subst, refl, arith, rules}
+use Rattle.std.proofs.Common.{◌≡◌, [], ◌∙◌, drop, sym, ap, refl, arith, rules}
 use Rattle.ph_specs.specs.Past.{back}
 use Rattle.ph_undo.specs.Rings.{steps_in}
-use Rattle.ph_undo.specs.Kept.{kept_of, IsKept}
-use Rattle.ph_undo.proofs.Noted.{first-none, first-some, first_point, first_fits, first_changes, is_kept-back, kept-back, past-some, past-none, back-none}
+use Rattle.ph_undo.specs.Kept.{kept_of}
+use Rattle.ph_undo.proofs.Noted.{first-none, first-some, first_point, first_fits, first_changes, is_kept-back, kept-back, past-some, past-none, back-none, is_kept-as}
 use Rattle.ph_undo.proofs.kept.Kept.back_one.Given.{Over}
 use Rattle.ph_undo.proofs.kept.Kept.back_one.Goals.{In_default, After-take_back}
 use Rattle.ph_undo.proofs.kept.Kept.back_one.Goals as goal
@@ -80,7 +80,7 @@ returns-in-Ok-clause-done g c =
 -- ---- memory was missing
 
 pub invariant_of-self-in-Err : goal.invariant_of-self-in-Err
-invariant_of-self-in-Err g c = subst (λ t. IsKept g.row.D t c.self.inside.depth c.self.inside.ring) (sym c.in-Err.ensures.err) c.self.invariant
+invariant_of-self-in-Err g c = is_kept-as c.in-Err.ensures.err c.self.invariant
 
 pub returns-in-Err-clause-done : goal.returns-in-Err-clause-done
 returns-in-Err-clause-done g c =

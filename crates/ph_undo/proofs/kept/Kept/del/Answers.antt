@@ -6,11 +6,11 @@ use Rattle.ph_specs.specs.Past.{del_kept}
 use Rattle.ph_specs.specs.Table.{find, del}
 use Rattle.ph_specs.proofs.laws.Edits.{del-absent}
 use Rattle.ph_tree.specs.Removals.{IsRemovedRow}
-use Rattle.ph_undo.specs.Kept.{kept_of, IsKept}
+use Rattle.ph_undo.specs.Kept.{kept_of}
 use Rattle.ph_undo.specs.declared.step.Step.TheVariants.{Restore}
 use Rattle.ph_undo.proofs.Carried.{del-carried}
 use Rattle.ph_undo.proofs.WhichRemovals.{del-edit, del-idle}
-use Rattle.ph_undo.proofs.Noted.{IsNoted, noted, with_table}
+use Rattle.ph_undo.proofs.Noted.{IsNoted, noted, with_table, is_kept-as}
 use Rattle.ph_undo.proofs.Undone.{del-undone}
 use Rattle.ph_undo.proofs.kept.Kept.del.Given.{Over}
 use Rattle.ph_undo.proofs.kept.Kept.del.Goals.{After-note_removal, In_default}
@@ -37,12 +37,10 @@ stays g c =
     ∙ ap (with_table c.self.inside.tree) (del-absent c.self.inside.tree.table c.args.p.now (sym c.in_ok-gone.ensures.done.answer ∙ c.in_default.is))
 
 pub invariant_of-self-in-Some : goal.invariant_of-self-in-Some
-invariant_of-self-in-Some g c =
-    subst (λ t. IsKept g.row.D t c.self.inside.depth c.note_removal.new.ring) (sym c.in_ok-gone.ensures.done.del) (del_noted g c).kept
+invariant_of-self-in-Some g c = is_kept-as c.in_ok-gone.ensures.done.del (del_noted g c).kept
 
 pub invariant_of-self-in_default : goal.invariant_of-self-in_default
-invariant_of-self-in_default g c =
-    subst (λ t. IsKept g.row.D t c.self.inside.depth c.self.inside.ring) (sym (stays g c)) c.self.invariant
+invariant_of-self-in_default g c = is_kept-as (stays g c) c.self.invariant
 
 pub returns-in-Some-clause-done : goal.returns-in-Some-clause-done
 returns-in-Some-clause-done g c =

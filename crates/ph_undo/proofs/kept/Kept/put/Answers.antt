@@ -3,9 +3,9 @@ use Rattle.std.proofs.lemmas.Result.{err_from_is_err_and}
 use Rattle.ph_specs.specs.Coordinate.{IsPoint}
 use Rattle.ph_specs.specs.Table.{put}
 use Rattle.ph_undo.specs.Steps.{put_inverse}
-use Rattle.ph_undo.specs.Kept.{kept_of, IsKept}
+use Rattle.ph_undo.specs.Kept.{kept_of}
 use Rattle.ph_undo.proofs.Carried.{put-carried}
-use Rattle.ph_undo.proofs.Noted.{IsNoted, noted}
+use Rattle.ph_undo.proofs.Noted.{IsNoted, noted, is_kept-as}
 use Rattle.ph_undo.proofs.Undone.{put-undone, put-point, put-changes}
 use Rattle.ph_undo.proofs.kept.Kept.put.Given.{Over}
 use Rattle.ph_undo.proofs.kept.Kept.put.Goals.{After-note_put}
@@ -25,8 +25,7 @@ put_noted g c =
     (put-undone g.row.D t.width t.table c.root-root.ensures.table c.args.p c.args.v a c.in_ok-put.ensures.done.answer)
 
 pub invariant_of-self-2 : goal.invariant_of-self-2
-invariant_of-self-2 g c =
-    subst (λ t. IsKept g.row.D t c.self.inside.depth c.note_put.new.ring) (sym c.in_ok-put.ensures.done.put) (put_noted g c).kept
+invariant_of-self-2 g c = is_kept-as c.in_ok-put.ensures.done.put (put_noted g c).kept
 
 pub returns-clause-done : goal.returns-clause-done
 returns-clause-done g c =

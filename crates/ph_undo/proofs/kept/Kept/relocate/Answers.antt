@@ -8,7 +8,7 @@ use Rattle.ph_undo.specs.Kept.{kept_of, IsKept}
 use Rattle.ph_undo.specs.Rings.{steps_in, room_in}
 use Rattle.ph_undo.specs.declared.step.Step.TheVariants.{Return}
 use Rattle.ph_undo.proofs.Carried.{move-carried}
-use Rattle.ph_undo.proofs.Noted.{noted, with_table, is_kept-same, kept-same}
+use Rattle.ph_undo.proofs.Noted.{noted, with_table, is_kept-same, is_kept-as, kept-same}
 use Rattle.ph_undo.proofs.Undone.{move-undone, move-changes}
 use Rattle.ph_undo.proofs.WhichMoves.{moved-is, steps-move, move-edit, move-idle, move-stays, moves_by}
 use Rattle.ph_undo.proofs.kept.Kept.relocate.Given.{Over}
@@ -72,8 +72,7 @@ left g c =
     ]
 
 pub invariant_of-self-2 : goal.invariant_of-self-2
-invariant_of-self-2 g c =
-    subst (λ t. IsKept g.row.D t c.self.inside.depth c.note_move.new.ring) (sym c.in_ok-moved.ensures.done.moved) (left g c).kept
+invariant_of-self-2 g c = is_kept-as c.in_ok-moved.ensures.done.moved (left g c).kept
 
 pub returns-clause-done : goal.returns-clause-done
 returns-clause-done g c =
