@@ -1,10 +1,10 @@
 //! Rows into a tree that has none.
-ghost use Rattle.std.specs.Prelude.{◌≡◌, ◌+◌, ◌<◌, ◌≤◌, [], length, OnErr, OnOk, IsErr, IsErrOf};
+ghost use Rattle.std.specs.Prelude.{◌≡◌, [], length, OnErr};
 ghost use Rattle.std.specs.List.{AllByRecursion as Each};
 ghost use Rattle.ph_specs.specs.Coordinate.{IsPoint};
-ghost use Rattle.ph_specs.specs.Sets.{put_all, table_of};
+ghost use Rattle.ph_specs.specs.Sets.{table_of};
 ghost use Rattle.ph_specs.specs.WorkSets.{all_nodes};
-ghost use Rattle.ph_import.specs.Imported.{with_rows};
+ghost use Rattle.ph_import.specs.Imported.{IsImported};
 
 use crate::fault::ImportFault;
 use ph_bulk::{build, last_rows};
@@ -24,13 +24,10 @@ pub(crate) fn fill<const D: usize, C: Ledger>(
 ) -> Result<(), ImportFault>
     requires empty { kept.old.table ≡ [] }
     requires points { Each (λ r. IsPoint kept.old.width D r.point) rows.items }
-    ensures ok { OnOk result (kept.new ≡ with_rows kept.old rows.entry.items) }
-    ensures full { IsErrOf result ImportFault.Full → kept.old.max < length (put_all kept.old.width kept.old.table rows.entry.items) }
-    ensures refused { kept.old.max < length (put_all kept.old.width kept.old.table rows.entry.items) → IsErr result }
+    ensures done { IsImported kept.old kept.new rows.entry.items
+        (length (all_nodes kept.old.width D (table_of kept.old.width rows.entry.items)))
+        changes.old changes.new result }
     ensures err { OnErr result (kept.new ≡ kept.old) }
-    ensures changes { changes.new ≤ changes.old + length (all_nodes kept.old.width D (table_of kept.old.width rows.entry.items)) }
-    ensures untouched { kept.old.max < length (put_all kept.old.width kept.old.table rows.entry.items) → changes.new ≡ changes.old }
-    ensures grown { changes.old ≤ changes.new }
 {
     let tree = kept.tree();
     let w = tree.width();

@@ -1,9 +1,8 @@
 //! Rows into a tree, by whether it has some.
-ghost use Rattle.std.specs.Prelude.{◌≡◌, ◌≢◌, ◌+◌, ◌<◌, ◌≤◌, [], length, OnErr, OnOk, IsErr, IsErrOf};
+ghost use Rattle.std.specs.Prelude.{◌≡◌, ◌≢◌, ◌+◌, ◌≤◌, [], length, OnErr, IsErrOf};
 ghost use Rattle.std.specs.List.{AllByRecursion as Each};
 ghost use Rattle.ph_specs.specs.Coordinate.{IsPoint};
-ghost use Rattle.ph_specs.specs.Sets.{put_all};
-ghost use Rattle.ph_import.specs.Imported.{with_rows, most_visits, most_changes, IsPart};
+ghost use Rattle.ph_import.specs.Imported.{most_visits, most_changes, IsImported, IsPart};
 
 use crate::fault::ImportFault;
 use crate::fills::fill;
@@ -32,17 +31,13 @@ pub fn import_rows<const D: usize, V: Ledger, C: Ledger>(
     changes: &mut Steps<C>,
 ) -> Result<(), ImportFault>
     requires points { Each (λ r. IsPoint kept.old.width D r.point) rows.items }
-    ensures ok { OnOk result (kept.new ≡ with_rows kept.old rows.entry.items) }
-    ensures full { IsErrOf result ImportFault.Full → kept.old.max < length (put_all kept.old.width kept.old.table rows.entry.items) }
-    ensures refused { kept.old.max < length (put_all kept.old.width kept.old.table rows.entry.items) → IsErr result }
-    ensures unchanged { kept.old.max < length (put_all kept.old.width kept.old.table rows.entry.items) → kept.new ≡ kept.old }
+    ensures done { IsImported kept.old kept.new rows.entry.items
+        (most_changes kept.old.width D kept.old.table rows.entry.items)
+        changes.old changes.new result }
     ensures whole { kept.old.table ≡ [] → OnErr result (kept.new ≡ kept.old) }
     ensures fault { IsErrOf result ImportFault.NoMemory → kept.old.table ≢ [] → IsPart kept.old kept.new rows.entry.items }
     ensures visits { visits.new ≤ visits.old + most_visits kept.old.width kept.old.table (length rows.entry.items) }
     ensures later { visits.old ≤ visits.new }
-    ensures changes { changes.new ≤ changes.old + most_changes kept.old.width D kept.old.table rows.entry.items }
-    ensures grown { changes.old ≤ changes.new }
-    ensures untouched { kept.old.max < length (put_all kept.old.width kept.old.table rows.entry.items) → changes.new ≡ changes.old }
 {
     if kept.tree().len() == 0 {
         return fill(alloc, kept, rows, changes);

@@ -1,9 +1,9 @@
 //! Rows into a tree.
-ghost use Rattle.std.specs.Prelude.{◌≡◌, ◌+◌, ◌*◌, ◌<◌, ◌≤◌, length, OnOk, OnErr, IsErr, IsErrOf};
+ghost use Rattle.std.specs.Prelude.{◌≡◌, ◌+◌, ◌*◌, ◌≤◌, length, OnOk, OnErr, IsErrOf};
 ghost use Rattle.std.specs.List.{AllByRecursion as Each};
 ghost use Rattle.ph_specs.specs.Coordinate.{IsPoint};
 ghost use Rattle.ph_specs.specs.Sets.{put_all};
-ghost use Rattle.ph_import.specs.Imported.{with_rows, with_some, IsPart};
+ghost use Rattle.ph_import.specs.Imported.{with_some, IsImported, IsPart};
 
 use crate::fault::ImportFault;
 use crate::room::has_room;
@@ -27,16 +27,10 @@ pub(crate) fn put_rows<const D: usize, V: Ledger, C: Ledger>(
     changes: &mut Steps<C>,
 ) -> Result<(), ImportFault>
     requires points { Each (λ r. IsPoint kept.old.width D r.point) rows.now }
-    ensures ok { OnOk result (kept.new ≡ with_rows kept.old rows.now) }
-    ensures full { IsErrOf result ImportFault.Full → kept.old.max < length (put_all kept.old.width kept.old.table rows.now) }
-    ensures refused { kept.old.max < length (put_all kept.old.width kept.old.table rows.now) → IsErr result }
-    ensures unchanged { kept.old.max < length (put_all kept.old.width kept.old.table rows.now) → kept.new ≡ kept.old }
+    ensures done { IsImported kept.old kept.new rows.now (2 * length rows.now) changes.old changes.new result }
     ensures fault { IsErrOf result ImportFault.NoMemory → IsPart kept.old kept.new rows.now }
     ensures visits { visits.new ≤ visits.old + 4 * kept.old.width * length rows.now }
     ensures later { visits.old ≤ visits.new }
-    ensures changes { changes.new ≤ changes.old + 2 * length rows.now }
-    ensures grown { changes.old ≤ changes.new }
-    ensures untouched { kept.old.max < length (put_all kept.old.width kept.old.table rows.now) → changes.new ≡ changes.old }
 {
     if !has_room(alloc, kept.tree(), rows, visits)? {
         return Err(ImportFault::Full);
