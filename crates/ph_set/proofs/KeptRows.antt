@@ -1,29 +1,66 @@
--- Rows that were kept of two tables, as the rows of a set operation, and as a table.
-use Rattle.std.proofs.Common.{◌≡◌, ◌≤◌, ℕ, List, IfOk, sym, subst, true, false}
-use Rattle.std.specs.Prelude.{Result}
+-- Rows that a set operation keeps of two tables: its rows, a table, and what they cost.
+use Rattle.std.proofs.Common.{◌≡◌, ℕ, ◌+◌, ◌≤◌, List, length, refl, ◌∙◌, sym, ap, subst, arith}
+use Rattle.std.specs.Prelude.{not}
 use Rattle.std.proofs.lemmas.Bool.{and_parts}
-use Rattle.std.proofs.lemmas.Result.{IfOk-weaker}
-use Rattle.ph_specs.specs.Combined.{combined}
-use Rattle.ph_specs.specs.Sets.{union, common, minus}
-use Rattle.ph_specs.specs.Table.{Row, IsTable}
+use Rattle.std.proofs.lemmas.List.Filters.{length-filter_both}
+use Rattle.ph_specs.specs.Sets.{common, minus}
+use Rattle.ph_specs.specs.Table.{Row, IsTable, has}
+use Rattle.ph_specs.specs.WorkSets.{all_nodes}
 use Rattle.ph_specs.proofs.laws.BallSearch.{table-points}
 use Rattle.ph_specs.proofs.laws.SetOperations.{union-combined, common-combined, minus-combined}
+use Rattle.ph_specs.proofs.laws.Sets.{is_table-union, is_table-common, is_table-minus}
+use Rattle.ph_set.specs.Meeting.{kept, work}
+use Rattle.ph_set.specs.Operations.{plan_of, rows_of, most_visits}
+use Rattle.ph_set.specs.declared.operations.Operation.{Operation}
+use Rattle.ph_set.specs.declared.operations.Operation.TheVariants.{Union, Common, Minus}
+use Rattle.ph_set.specs.declared.plan.Plan.{Plan}
+use Rattle.ph_set.proofs.Sights.{seen-all}
 
-module _ {V E : Type 0} (r : Result V E) (items : V → List Row) (w d : ℕ) (a b : List Row) (left : IsTable w d a) where
-  pub as-common : IfOk r (λ v. items v ≡ combined w false true false a b) → IfOk r (λ v. items v ≡ common a b)
-  as-common = subst (λ x. IfOk r (λ v. items v ≡ x)) (common-combined w a b (and_parts _ _ left).0)
+-- what the plan of an operation keeps of two tables of a width
+pub record AreKept (p : Plan) (o : Operation) (w d : ℕ) (a b : List Row) : Type 0 where
+  pub rows : kept p a b ≡ rows_of o w a b
+  pub table : IsTable w d (rows_of o w a b)
+  pub visits : work p a (all_nodes p.width d a) b (all_nodes p.width d b) ≤ most_visits o w d a b
 
-  pub as-minus : IfOk r (λ v. items v ≡ combined w true false false a b) → IfOk r (λ v. items v ≡ minus a b)
-  as-minus = subst (λ x. IfOk r (λ v. items v ≡ x)) (minus-combined w a b (and_parts _ _ left).0)
+by_operation : (o : Operation) (w d : ℕ) (a b : List Row) → IsTable w d a → IsTable w d b → 1 ≤ w → AreKept (plan_of o w) o w d a b
+by_operation Union w d a b left right wide =
+    record {
+      rows = union-combined w d a b wide (table-points w d a left) (and_parts _ _ left).0 (table-points w d b right) (and_parts _ _ right).0;
+      table = is_table-union w d a b wide left right;
+      visits = omega (arith, seen-all w b (all_nodes w d a), seen-all w a (all_nodes w d b));
+    }
+by_operation Common w d a b left right wide =
+    record {
+      rows = common-combined w a b (and_parts _ _ left).0;
+      table = is_table-common w d a b left;
+      visits = omega arith;
+    }
+by_operation Minus w d a b left right wide =
+    record {
+      rows = minus-combined w a b (and_parts _ _ left).0;
+      table = is_table-minus w d a b left;
+      visits = omega (arith, seen-all w b (all_nodes w d a));
+    }
 
-  pub as-union : 1 ≤ w → IsTable w d b → IfOk r (λ v. items v ≡ combined w true true true a b) → IfOk r (λ v. items v ≡ union w a b)
-  as-union wide right =
-      subst (λ x. IfOk r (λ v. items v ≡ x))
-      (union-combined w d a b wide (table-points w d a left) (and_parts _ _ left).0 (table-points w d b right) (and_parts _ _ right).0)
+pub plan-width : (o : Operation) (w : ℕ) → (plan_of o w).width ≡ w
+plan-width Union w = refl
+plan-width Common w = refl
+plan-width Minus w = refl
 
--- rows that are a table of a width are one of an equal width
-pub as-table : {V E : Type 0} (r : Result V E) (items : V → List Row) (w width d : ℕ) (xs : List Row) → w ≡ width →
-    IsTable w d xs → IfOk r (λ v. items v ≡ xs) → IfOk r (λ v. IsTable width d (items v))
-as-table r items w width d xs e table rows =
-    subst (λ k. IfOk r (λ v. IsTable k d (items v))) e
-    (IfOk-weaker r (λ v. items v ≡ xs) (λ v. IsTable w d (items v)) (λ v q. subst (IsTable w d) (sym q) table) rows)
+pub are-kept : {p : Plan} {o : Operation} {w d : ℕ} {a b : List Row} → p ≡ plan_of o w → IsTable p.width d a → IsTable p.width d b → 1 ≤ p.width →
+    AreKept p o w d a b
+are-kept {p = p} {o = o} {w = w} {d = d} {a = a} {b = b} is left right wide =
+    let same : p.width ≡ w = ap (λ q. q.width) is ∙ plan-width o w in
+    subst (λ q. AreKept q o w d a b) (sym is)
+    (by_operation o w d a b (subst (λ k. IsTable k d a) same left) (subst (λ k. IsTable k d b) same right) (subst (λ k. 1 ≤ k) same wide))
+
+-- ---- rows of the first table alone
+
+lengths : (a b : List Row) → length (common a b) + length (minus a b) ≡ length a
+lengths a b = length-filter_both (λ r. has b r.point) (λ r. not (has b r.point)) (λ r. refl) a
+
+pub fewer-common : (a b : List Row) → length (common a b) ≤ length a
+fewer-common a b = omega (arith, lengths a b)
+
+pub fewer-minus : (a b : List Row) → length (minus a b) ≤ length a
+fewer-minus a b = omega (arith, lengths a b)

@@ -1,6 +1,7 @@
 -- The laws of set operations.
 pub mod Sights
 pub mod Parting
+mod Turned
 mod Walking
 mod Joining
 mod Descending

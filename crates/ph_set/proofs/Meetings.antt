@@ -1,7 +1,7 @@
 -- What a descent of two trees lists where two parts meet, and how many nodes it may open there.
 use Rattle.std.proofs.Common.{◌≡◌, ◌≢◌, ℕ, ◌+◌, ◌*◌, ◌/◌, ◌%◌, ◌^◌, ◌<◌, ◌≤◌, Bool, true, false, List, [], ◌∷◌, ◌++◌}
 use Rattle.std.proofs.Common.{length, cond, inl, inr, refl, sym, ◌∙◌, ap, subst, arith, append_assoc}
-use Rattle.std.specs.Prelude.{ℤ, Some, None, map, is_some, if◌then◌else◌}
+use Rattle.std.specs.Prelude.{ℤ, Some, None, map, take, is_some, if◌then◌else◌}
 use Rattle.std.specs.List.{AllByRecursion as Each}
 use Rattle.std.proofs.lemmas.Bool.{cases_lt}
 use Rattle.ph_specs.specs.Coordinate.{coordinate}
@@ -9,7 +9,7 @@ use Rattle.ph_specs.specs.Table.{Row, row, has}
 use Rattle.ph_specs.specs.ZOrder.{before}
 use Rattle.ph_specs.proofs.laws.Order.{before_irrefl}
 use Rattle.ph_specs.proofs.laws.Put.{test_from_same}
-use Rattle.ph_specs.specs.Node.{What, value, node, PlainNode, entries}
+use Rattle.ph_specs.specs.Node.{Entry, What, value, node, PlainNode, entries}
 use Rattle.ph_specs.specs.PutTree.{body_address, body_address_from}
 use Rattle.ph_specs.specs.Shape.{row_address}
 use Rattle.ph_specs.specs.WorkSets.{Placed}
@@ -21,8 +21,8 @@ use Rattle.ph_specs.specs.Combined.{chosen}
 use Rattle.ph_specs.specs.WorkSets.{seen_nodes}
 use Rattle.ph_set.specs.Meeting.{kept, work, kept_of, work_of, IsParting}
 use Rattle.ph_set.specs.declared.plan.Plan.{Plan}
-use Rattle.ph_set.specs.Parts.{IsPart, height, part_rows, part_nodes, rows_in, rows_on, nodes_on}
-use Rattle.ph_specs.proofs.laws.Combined.{combined-left, combined-left-first, combined-right-first}
+use Rattle.ph_set.specs.Parts.{IsPart, height, part_rows, part_nodes, rows_in, nodes_in, rows_on, nodes_on, stretch}
+use Rattle.ph_specs.proofs.laws.Combined.{AreParted, combined-left}
 use Rattle.ph_set.proofs.Parting.{IsRowAt, part-at, parted-by}
 use Rattle.ph_set.proofs.Sights.{seen-all, seen-front}
 use Rattle.ph_set.proofs.Walking.{whole-rows, whole-nodes, stretch-none}
@@ -48,6 +48,10 @@ pub body-number : (s b : ℕ) (xs : List ℕ) → body_address_from s b xs ≡ n
 body-number s b [] = refl
 body-number s b (x ∷ xs) = body-number (s * 2 + x / 2 ^ b % 2) b xs
 
+-- the address of known digits where the number of dimensions was read
+pub address-known : (place : ℕ) {dims d a : ℕ} (known : List ℕ) → dims ≡ d → a ≡ body_address place (take dims known) → a ≡ body_address place (take d known)
+address-known place {a = a} known same at = subst (λ k. a ≡ body_address place (take k known)) same at
+
 -- ---- two parts with no point in common
 
 module _ (p : Plan) (d : ℕ) (dx dy : List ℕ) (ox oy : What) (h : IsPart p.width d dx ox) (k : IsPart p.width d dy oy) where
@@ -56,14 +60,6 @@ module _ (p : Plan) (d : ℕ) (dx dy : List ℕ) (ox oy : What) (h : IsPart p.wi
 
   abbrev ys : List Row
   ys = part_rows p.width dy oy
-
-  pub apart-work : seen_nodes p.width p.left [] (part_nodes p.width dx ox) + seen_nodes p.width p.right [] (part_nodes p.width dy oy) ≤ work_of p dx ox dy oy
-  apart-work =
-      let a : seen_nodes p.width p.left [] (part_nodes p.width dx ox) ≤ seen_nodes p.width p.left ys (part_nodes p.width dx ox) =
-      seen-front p.width p.left [] ys (part_nodes p.width dx ox) in
-      let b : seen_nodes p.width p.right [] (part_nodes p.width dy oy) ≤ seen_nodes p.width p.right xs (part_nodes p.width dy oy) =
-      seen-front p.width p.right [] xs (part_nodes p.width dy oy) in
-      omega (arith, a, b)
 
   module _ (t : ℕ) (q : IsParting (height ox) (height oy) dx dy (Some t)) where
     inside : t < p.width
@@ -75,28 +71,26 @@ module _ (p : Plan) (d : ℕ) (dx dy : List ℕ) (ox oy : What) (h : IsPart p.wi
     ys-at : Each (IsRowAt p.width t (number_at 0 t dy) dx) ys
     ys-at = part-at p.width d t dx dy oy k q.2 (sym q.0.agree)
 
-    pub apart-first : body_address t dx < body_address t dy → kept_of p dx ox dy oy ≡ chosen p.left xs ++ chosen p.right ys
+    pub apart-first : body_address t dx < body_address t dy → AreParted p.width xs ys
     apart-first l =
-        combined-left-first p.width p.left p.both p.right xs ys
-        (parted-by p.width t (number_at 0 t dy) dx xs ys inside
+        parted-by p.width t (number_at 0 t dy) dx xs ys inside
         (Each-each xs (λ r u. (
           u.under,
           (let e : row_address p.width t r ≡ number_at 0 t dx = u.address in
               omega (arith, e, l, body-number 0 t dx, body-number 0 t dy)),
         )) xs-at)
-        (Each-each ys (λ r u. (u.under, (let e : row_address p.width t r ≡ number_at 0 t dy = u.address in omega (arith, e)))) ys-at))
+        (Each-each ys (λ r u. (u.under, (let e : row_address p.width t r ≡ number_at 0 t dy = u.address in omega (arith, e)))) ys-at)
 
-    pub apart-second : body_address t dy ≤ body_address t dx → kept_of p dx ox dy oy ≡ chosen p.right ys ++ chosen p.left xs
+    pub apart-second : body_address t dy ≤ body_address t dx → AreParted p.width ys xs
     apart-second l =
         let n : body_address t dx ≢ body_address t dy = other_address t dx dy (h.long ∙ sym k.long) q.0.agree q.0.differ in
-        combined-right-first p.width p.left p.both p.right xs ys
-        (parted-by p.width t (number_at 0 t dx) dx ys xs inside
+        parted-by p.width t (number_at 0 t dx) dx ys xs inside
         (Each-each ys (λ r u. (
           u.under,
           (let e : row_address p.width t r ≡ number_at 0 t dy = u.address in
               omega (arith, e, l, n, body-number 0 t dx, body-number 0 t dy)),
         )) ys-at)
-        (Each-each xs (λ r u. (u.under, (let e : row_address p.width t r ≡ number_at 0 t dx = u.address in omega (arith, e)))) xs-at))
+        (Each-each xs (λ r u. (u.under, (let e : row_address p.width t r ≡ number_at 0 t dx = u.address in omega (arith, e)))) xs-at)
 
 -- ---- all entries of two nodes at one level
 
@@ -161,6 +155,11 @@ module _ (p : Plan) (dx dz : List ℕ) (a b : PlainNode) where
       let v : seen_nodes p.width p.right [] (right-nodes j) ≤ seen_nodes p.width p.right (left-rows i) (right-nodes j) =
       seen-front p.width p.right [] (left-rows i) (right-nodes j) in
       omega (arith, u, v)
+
+-- the nodes below the entries from one place on, where the number of entries was read
+pub rest-cost : (w : ℕ) (keep : Bool) (level : ℕ) (ds : List ℕ) (es : List Entry) (i last new old : ℕ) → last ≡ length es →
+    new ≤ old + seen_nodes w keep [] (nodes_in w level ds (stretch i last es)) → new ≤ old + seen_nodes w keep [] (nodes_on w level ds es i)
+rest-cost w keep level ds es i last new old read h = subst (λ k. new ≤ old + seen_nodes w keep [] (nodes_in w level ds (stretch i k es))) read h
 
 -- ---- two rows at one point
 

@@ -1,6 +1,6 @@
 -- A node over a lower part: what is listed, and how many nodes it may open there.
 use Rattle.std.proofs.Common.{◌≡◌, ℕ, ◌+◌, ◌≤◌, Bool, List, [], ◌++◌, length, refl, sym, ◌∙◌, ap, subst, arith}
-use Rattle.std.specs.Prelude.{Some, None, position, take}
+use Rattle.std.specs.Prelude.{Some, None, not, position, take}
 use Rattle.std.specs.List.{AllByRecursion as Each}
 use Rattle.ph_specs.specs.EntryEdits.{what_at, has_address}
 use Rattle.ph_specs.specs.Table.{Row}
@@ -15,13 +15,13 @@ use Rattle.ph_node.specs.Spots.{IsSpot, joined_digits}
 use Rattle.ph_node.specs.declared.spots.Spot.{Spot}
 use Rattle.ph_specs.specs.Combined.{chosen}
 use Rattle.ph_specs.specs.WorkSets.{seen_nodes}
-use Rattle.ph_set.specs.Meeting.{kept, kept_of, work_of}
+use Rattle.ph_set.specs.Meeting.{alone, kept_by, kept_of_by, work_of_by}
 use Rattle.ph_set.specs.declared.plan.Plan.{Plan}
 use Rattle.ph_set.specs.Parts.{IsPart, height, openings, part_rows, part_nodes, stretch_rows, stretch_nodes, behind}
-use Rattle.ph_specs.proofs.laws.Combined.{combined-left, sandwich-left, sandwich-right}
 use Rattle.ph_set.proofs.Descending.{rising, over-rows, over-front, over-back, over-work, none-rows, none-front, none-back, none-work}
 use Rattle.ph_set.proofs.Parting.{IsRowAt, part-at, part-some}
 use Rattle.ph_set.proofs.Sights.{seen-front}
+use Rattle.ph_set.proofs.Turned.{beside-none, sandwich}
 use Rattle.ph_set.proofs.Walking.{entry_at, entry-there, new-digits, new-held, IsCut, cut-place}
 use Rattle.ph_set.proofs.Meetings.{body-number}
 
@@ -51,7 +51,7 @@ over-by d known {level = level} {a = a} whole part low agree at-level at-dims at
       at = subst (λ k. a ≡ body_address k (take d known)) at-level (subst (λ k. a ≡ body_address level (take k known)) at-dims at);
     }
 
-module _ (p : Plan) {d : ℕ} {ds : List ℕ} {n : PlainNode} {dy : List ℕ} {oy : What} {a : ℕ} (over : IsOver p.width d ds n dy oy a) where
+module _ (p : Plan) (left : Bool) {d : ℕ} {ds : List ℕ} {n : PlainNode} {dy : List ℕ} {oy : What} {a : ℕ} (over : IsOver p.width d ds n dy oy a) where
   abbrev theirs : List Row
   theirs = part_rows p.width dy oy
 
@@ -99,55 +99,34 @@ module _ (p : Plan) {d : ℕ} {ds : List ℕ} {n : PlainNode} {dy : List ℕ} {o
     address-is : addr_at (entries n) s.place ≡ a
     address-is = spot-address a (entries n) s there found
 
-    pub left-found : kept_of p ds (node n) dy oy ≡ chosen p.left (rows-between 0 s.place) ++ (kept_of p new o dy oy ++ chosen p.left (rows-between (s.place + 1) end))
-    left-found =
+    pub over-found : kept_of_by p left ds (node n) dy oy
+        ≡ chosen (alone p left) (rows-between 0 s.place) ++ (kept_of_by p left new o dy oy ++ chosen (alone p left) (rows-between (s.place + 1) end))
+    over-found =
         let i = s.place in
         let front = rows-between 0 i in
         let back = rows-between (i + 1) (length (entries n)) in
-        ap (λ x. kept p x theirs) (over-rows p.width d ds n over.whole a theirs theirs-at i there.within address-is theirs-some)
-        ∙ sandwich-left p.width p.left p.both p.right front its-rows back theirs
+        ap (λ x. kept_by p left x theirs) (over-rows p.width d ds n over.whole a theirs theirs-at i there.within address-is theirs-some)
+        ∙ sandwich p left front its-rows back theirs
         (over-front p.width d ds n over.whole a theirs theirs-at i there.within address-is theirs-some)
         (over-back p.width d ds n over.whole a theirs theirs-at i there.within address-is theirs-some)
-        ∙ ap (λ x. chosen p.left front ++ (kept p x theirs ++ chosen p.left back)) (sym rows-are)
-        ∙ ap (λ k. chosen p.left front ++ (kept_of p new o dy oy ++ chosen p.left (rows-between (i + 1) k))) (sym last)
+        ∙ ap (λ x. chosen (alone p left) front ++ (kept_by p left x theirs ++ chosen (alone p left) back)) (sym rows-are)
+        ∙ ap (λ k. chosen (alone p left) front ++ (kept_of_by p left new o dy oy ++ chosen (alone p left) (rows-between (i + 1) k))) (sym last)
 
-    pub right-found : kept_of p dy oy ds (node n) ≡ chosen p.right (rows-between 0 s.place) ++ (kept_of p dy oy new o ++ chosen p.right (rows-between (s.place + 1) end))
-    right-found =
-        let i = s.place in
-        let front = rows-between 0 i in
-        let back = rows-between (i + 1) (length (entries n)) in
-        ap (λ y. kept p theirs y) (over-rows p.width d ds n over.whole a theirs theirs-at i there.within address-is theirs-some)
-        ∙ sandwich-right p.width p.left p.both p.right front its-rows back theirs
-        (over-front p.width d ds n over.whole a theirs theirs-at i there.within address-is theirs-some)
-        (over-back p.width d ds n over.whole a theirs theirs-at i there.within address-is theirs-some)
-        ∙ ap (λ y. chosen p.right front ++ (kept p theirs y ++ chosen p.right back)) (sym rows-are)
-        ∙ ap (λ k. chosen p.right front ++ (kept_of p dy oy new o ++ chosen p.right (rows-between (i + 1) k))) (sym last)
-
-    -- the nodes that are opened on the way, where those in front of the entry and behind it are opened or not, and the other tree's or not
-    found-work : (all other : Bool)
-        → seen all [] (nodes-between 0 s.place)
-        + (openings (what_at (entries n) s.place) + (seen all theirs (part_nodes p.width new o) + seen other (part_rows p.width new o) their-nodes))
-        + seen all [] (nodes-between (s.place + 1) end)
-        ≤ seen all theirs (part_nodes p.width ds (node n)) + seen other (part_rows p.width ds (node n)) their-nodes
-    found-work all other =
-        let z = over-work p.width d ds n over.whole a theirs theirs-at s.place there.within address-is theirs-some all other their-nodes in
-        let u : seen all theirs (part_nodes p.width new o) ≡ seen all theirs (part_nodes p.width (behind n.level ds it) it.what) =
-        ap (seen all theirs) nodes-are in
+    -- the nodes that are opened on the way
+    pub found-cost : seen (alone p left) [] (nodes-between 0 s.place) + (openings (what_at (entries n) s.place) + work_of_by p left new o dy oy)
+        + seen (alone p left) [] (nodes-between (s.place + 1) end)
+        ≤ work_of_by p left ds (node n) dy oy
+    found-cost =
+        let mine = alone p left in
+        let other = alone p (not left) in
+        let z = over-work p.width d ds n over.whole a theirs theirs-at s.place there.within address-is theirs-some (alone p left) (alone p (not left)) their-nodes in
+        let u : seen mine theirs (part_nodes p.width new o) ≡ seen mine theirs (part_nodes p.width (behind n.level ds it) it.what) =
+        ap (seen mine theirs) nodes-are in
         let v : seen other (part_rows p.width new o) their-nodes ≡ seen other its-rows their-nodes =
         ap (λ x. seen other x their-nodes) rows-are in
-        let e : seen all [] (nodes-between (s.place + 1) end) ≡ seen all [] (nodes-between (s.place + 1) (length (entries n))) =
-        ap (λ k. seen all [] (nodes-between (s.place + 1) k)) last in
+        let e : seen mine [] (nodes-between (s.place + 1) end) ≡ seen mine [] (nodes-between (s.place + 1) (length (entries n))) =
+        ap (λ k. seen mine [] (nodes-between (s.place + 1) k)) last in
         omega (arith, z, u, v, e)
-
-    pub left-work : seen p.left [] (nodes-between 0 s.place) + (openings (what_at (entries n) s.place) + work_of p new o dy oy)
-        + seen p.left [] (nodes-between (s.place + 1) end)
-        ≤ work_of p ds (node n) dy oy
-    left-work = let z = found-work p.left p.right in omega (arith, z)
-
-    pub right-work : seen p.right [] (nodes-between 0 s.place) + (openings (what_at (entries n) s.place) + work_of p dy oy new o)
-        + seen p.right [] (nodes-between (s.place + 1) end)
-        ≤ work_of p dy oy ds (node n)
-    right-work = let z = found-work p.right p.left in omega (arith, z)
 
   -- no entry has it
   module _ {i end : ℕ} (absent : None ≡ position (has_address a) (entries n)) (place : i ≡ place_for a (entries n)) (last : end ≡ length (entries n)) where
@@ -157,34 +136,23 @@ module _ (p : Plan) {d : ℕ} {ds : List ℕ} {n : PlainNode} {dy : List ℕ} {o
     pub none-place : i ≤ length (entries n)
     none-place = cut.within
 
-    pub left-none : kept_of p ds (node n) dy oy ≡ chosen p.left (rows-between 0 i) ++ (chosen p.right theirs ++ chosen p.left (rows-between i end))
-    left-none =
-        ap (λ x. kept p x theirs) (none-rows p.width d ds n over.whole a theirs theirs-at i cut)
-        ∙ sandwich-left p.width p.left p.both p.right (rows-between 0 i) [] (rows-between i (length (entries n))) theirs
+    pub over-missed : kept_of_by p left ds (node n) dy oy
+        ≡ chosen (alone p left) (rows-between 0 i) ++ (chosen (alone p (not left)) theirs ++ chosen (alone p left) (rows-between i end))
+    over-missed =
+        ap (λ x. kept_by p left x theirs) (none-rows p.width d ds n over.whole a theirs theirs-at i cut)
+        ∙ sandwich p left (rows-between 0 i) [] (rows-between i (length (entries n))) theirs
         (none-front p.width d ds n over.whole a theirs theirs-at i cut) (none-back p.width d ds n over.whole a theirs theirs-at i cut)
-        ∙ ap (λ k. chosen p.left (rows-between 0 i) ++ (chosen p.right theirs ++ chosen p.left (rows-between i k))) (sym last)
+        ∙ ap (λ t. chosen (alone p left) (rows-between 0 i) ++ (t ++ chosen (alone p left) (rows-between i (length (entries n))))) (beside-none p left theirs)
+        ∙ ap (λ k. chosen (alone p left) (rows-between 0 i) ++ (chosen (alone p (not left)) theirs ++ chosen (alone p left) (rows-between i k))) (sym last)
 
-    pub right-none : kept_of p dy oy ds (node n) ≡ chosen p.right (rows-between 0 i) ++ (chosen p.left theirs ++ chosen p.right (rows-between i end))
-    right-none =
-        ap (λ y. kept p theirs y) (none-rows p.width d ds n over.whole a theirs theirs-at i cut)
-        ∙ sandwich-right p.width p.left p.both p.right (rows-between 0 i) [] (rows-between i (length (entries n))) theirs
-        (none-front p.width d ds n over.whole a theirs theirs-at i cut) (none-back p.width d ds n over.whole a theirs theirs-at i cut)
-        ∙ ap (λ t. chosen p.right (rows-between 0 i) ++ (t ++ chosen p.right (rows-between i (length (entries n))))) (combined-left p.width p.left p.both p.right theirs)
-        ∙ ap (λ k. chosen p.right (rows-between 0 i) ++ (chosen p.left theirs ++ chosen p.right (rows-between i k))) (sym last)
-
-    missed-work : (all other : Bool)
-        → seen all [] (nodes-between 0 i) + seen other [] their-nodes + seen all [] (nodes-between i end)
-        ≤ seen all theirs (part_nodes p.width ds (node n)) + seen other (part_rows p.width ds (node n)) their-nodes
-    missed-work all other =
-        let z = none-work p.width d ds n over.whole a theirs theirs-at i cut all in
+    pub missed-cost : seen (alone p left) [] (nodes-between 0 i) + seen (alone p (not left)) [] their-nodes + seen (alone p left) [] (nodes-between i end)
+        ≤ work_of_by p left ds (node n) dy oy
+    missed-cost =
+        let mine = alone p left in
+        let other = alone p (not left) in
+        let z = none-work p.width d ds n over.whole a theirs theirs-at i cut (alone p left) in
         let b : seen other [] their-nodes ≤ seen other (part_rows p.width ds (node n)) their-nodes =
         seen-front p.width other [] (part_rows p.width ds (node n)) their-nodes in
-        let e : seen all [] (nodes-between i end) ≡ seen all [] (nodes-between i (length (entries n))) =
-        ap (λ k. seen all [] (nodes-between i k)) last in
+        let e : seen mine [] (nodes-between i end) ≡ seen mine [] (nodes-between i (length (entries n))) =
+        ap (λ k. seen mine [] (nodes-between i k)) last in
         omega (arith, z, b, e)
-
-    pub left-none-work : seen p.left [] (nodes-between 0 i) + seen p.right [] their-nodes + seen p.left [] (nodes-between i end) ≤ work_of p ds (node n) dy oy
-    left-none-work = let z = missed-work p.left p.right in omega (arith, z)
-
-    pub right-none-work : seen p.right [] (nodes-between 0 i) + seen p.left [] their-nodes + seen p.right [] (nodes-between i end) ≤ work_of p dy oy ds (node n)
-    right-none-work = let z = missed-work p.right p.left in omega (arith, z)

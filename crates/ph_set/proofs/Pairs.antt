@@ -1,5 +1,6 @@
 -- Two nodes at one level, of which some entries are left: what is listed at two of them, and how many nodes it may open there.
-use Rattle.std.proofs.Common.{◌≡◌, ℕ, ◌+◌, ◌<◌, ◌≤◌, List, [], ◌++◌, length, sym, ◌∙◌, ap, subst, arith}
+use Rattle.std.proofs.Common.{◌≡◌, ℕ, ◌+◌, ◌<◌, ◌≤◌, Bool, List, [], ◌++◌, length, sym, ◌∙◌, ap, subst, arith}
+use Rattle.std.specs.Prelude.{not}
 use Rattle.ph_specs.specs.EntryEdits.{what_at}
 use Rattle.ph_specs.specs.Table.{Row}
 use Rattle.ph_specs.specs.Node.{Entry, What, node, PlainNode, entries}
@@ -11,13 +12,14 @@ use Rattle.ph_node.specs.Spots.{IsSpot, joined_digits}
 use Rattle.ph_node.specs.declared.spots.Spot.{Spot}
 use Rattle.ph_specs.specs.Combined.{chosen}
 use Rattle.ph_specs.specs.WorkSets.{seen_nodes}
-use Rattle.ph_set.specs.Meeting.{kept, work, kept_of, work_of}
-use Rattle.ph_set.specs.Sides.{AreBeside, side_digits, side_node, side_entries}
+use Rattle.ph_set.specs.Meeting.{alone, kept, work, kept_by, kept_of, work_of}
+use Rattle.ph_set.specs.Sides.{AreBeside, side_digits, side_node, side_entries, kept_from_by, work_from_by}
 use Rattle.ph_set.specs.declared.plan.Plan.{Plan}
 use Rattle.ph_set.specs.declared.side.SideOf.{SideOf}
 use Rattle.ph_set.specs.Parts.{IsPart, openings, part_rows, part_nodes, rows_on, nodes_on, stretch_rows, stretch_nodes, behind}
-use Rattle.ph_specs.proofs.laws.Combined.{combined-split, combined-left}
+use Rattle.ph_specs.proofs.laws.Combined.{combined-split}
 use Rattle.ph_set.proofs.Descending.{rising, next-behind, passed-rows, passed-first, passed-work, passed-other, both-rows, both-work, theirs-first}
+use Rattle.ph_set.proofs.Turned.{passed-front}
 use Rattle.ph_set.proofs.Walking.{entry_at, new-digits, new-held, IsNext, next-place}
 
 -- two spots of nodes that are gone through side by side
@@ -32,6 +34,54 @@ pub paired : {w d : ℕ} {a b : SideOf PlainNode} {i j : ℕ} {s t : Spot} → A
     → IsSpot (side_entries b) t → ArePaired w d a b i j s t
 paired sides left-place right-place left right =
     record { sides = sides; left-place = left-place; right-place = right-place; left = left; right = right }
+
+-- entries of one node are passed that lie in front of an entry of the other: the one is of the left tree or of the right one
+pub record IsPassed (p : Plan) (left : Bool) (d : ℕ) (a b : SideOf PlainNode) (i j q : ℕ) : Type 0 where
+  pub within : q ≤ length (side_entries a)
+  pub ahead : i < q
+  pub rows : kept_from_by p left d a i b j ≡
+      chosen (alone p left) (stretch_rows p.width (side_node a) (side_digits d a) i q) ++ kept_from_by p left d a q b j
+  pub cost : seen_nodes p.width (alone p left) [] (stretch_nodes p.width (side_node a) (side_digits d a) i q) + work_from_by p left d a q b j ≤
+      work_from_by p left d a i b j
+
+module _ (p : Plan) (left : Bool) {d : ℕ} {a b : SideOf PlainNode} {i j q addr : ℕ} (sides : AreBeside p.width d a b) (li : i < length (side_entries a))
+    (lj : j < length (side_entries b)) (less : addr_at (side_entries a) i < addr_at (side_entries b) j) (at : addr ≡ addr_at (side_entries b) j)
+    (place : q ≡ place_for addr (side_entries a)) where
+  abbrev mine : ℕ → List Row
+  mine c = rows_on p.width (side_node a).level (side_digits d a) (side_entries a) c
+
+  abbrev theirs : List Row
+  theirs = rows_on p.width (side_node b).level (side_digits d b) (side_entries b) j
+
+  abbrev their-nodes : List Placed
+  their-nodes = nodes_on p.width (side_node b).level (side_digits d b) (side_entries b) j
+
+  next : IsNext (addr_at (side_entries b) j) q (side_entries a)
+  next = subst (λ x. IsNext x q (side_entries a)) at (next-place addr q (side_entries a) place)
+
+  ahead : i < q
+  ahead =
+      next-behind (addr_at (side_entries b) j) i q (side_entries a) (rising p.width d (side_digits d a) (side_node a) sides.left) li less next
+
+  before : i ≤ q
+  before = omega (arith, ahead)
+
+  pub is-passed : IsPassed p left d a b i j q
+  is-passed =
+      let ds = side_digits d a in
+      let dt = side_digits d b in
+      let n = side_node a in
+      let m = side_node b in
+      let x = passed-work p.width d ds dt n m sides.left sides.right sides.level (sym sides.agree) i j q before lj next (alone p left) in
+      let y = passed-other p.width d ds dt n m sides.left sides.right sides.level (sym sides.agree) i j q before lj next (alone p (not left)) their-nodes in
+      record {
+        within = next.within;
+        ahead = ahead;
+        rows = ap (λ z. kept_by p left z theirs) (passed-rows p.width d ds dt n m sides.left sides.right sides.level (sym sides.agree) i j q before lj next)
+            ∙ passed-front p left (stretch_rows p.width n ds i q) (mine q) theirs
+            (passed-first p.width d ds dt n m sides.left sides.right sides.level (sym sides.agree) i j q before lj next);
+        cost = omega (arith, x, y);
+      }
 
 module _ (p : Plan) {d : ℕ} {a b : SideOf PlainNode} {i j : ℕ} {s t : Spot} (pair : ArePaired p.width d a b i j s t) where
   abbrev ds : List ℕ
@@ -85,60 +135,6 @@ module _ (p : Plan) {d : ℕ} {a b : SideOf PlainNode} {i j : ℕ} {s t : Spot} 
   agreed : from_place (m.level + 1) ds ≡ from_place (m.level + 1) dt
   agreed = subst (λ c. from_place (c + 1) ds ≡ from_place (c + 1) dt) (sym same) agree
 
-  -- entries of the left node that lie in front of the right entry
-  module _ {q : ℕ} (less : s.addr < t.addr) (place : q ≡ place_for t.addr (entries n)) where
-    left-next : IsNext (addr_at (entries m) j) q (entries n)
-    left-next = subst (λ a. IsNext a q (entries n)) right-is (next-place t.addr q (entries n) place)
-
-    pub left-within : q ≤ length (entries n)
-    left-within = left-next.within
-
-    pub left-ahead : i < q
-    left-ahead = next-behind (addr_at (entries m) j) i q (entries n) (rising p.width d ds n h) li (omega (arith, less, left-is, right-is)) left-next
-
-    pub left-passed : kept p (lefts i) (rights j) ≡ chosen p.left (stretch_rows p.width n ds i q) ++ kept p (lefts q) (rights j)
-    left-passed =
-        let passed = stretch_rows p.width n ds i q in
-        let before : i ≤ q = omega (arith, left-ahead) in
-        ap (λ x. kept p x (rights j)) (passed-rows p.width d ds dt n m h k same (sym agree) i j q before lj left-next)
-        ∙ combined-split p.width p.left p.both p.right passed (lefts q) [] (rights j) (passed-first p.width d ds dt n m h k same (sym agree) i j q before lj left-next) tt
-        ∙ ap (λ x. x ++ kept p (lefts q) (rights j)) (combined-left p.width p.left p.both p.right passed)
-
-    pub left-passed-work : seen_nodes p.width p.left [] (stretch_nodes p.width n ds i q) + work p (lefts q) (ns q) (rights j) (ms j)
-        ≤ work p (lefts i) (ns i) (rights j) (ms j)
-    left-passed-work =
-        let before : i ≤ q = omega (arith, left-ahead) in
-        let a = passed-work p.width d ds dt n m h k same (sym agree) i j q before lj left-next p.left in
-        let b = passed-other p.width d ds dt n m h k same (sym agree) i j q before lj left-next p.right (ms j) in
-        omega (arith, a, b)
-
-  -- and the other way round
-  module _ {q : ℕ} (less : t.addr < s.addr) (place : q ≡ place_for s.addr (entries m)) where
-    right-next : IsNext (addr_at (entries n) i) q (entries m)
-    right-next = subst (λ a. IsNext a q (entries m)) left-is (next-place s.addr q (entries m) place)
-
-    pub right-within : q ≤ length (entries m)
-    right-within = right-next.within
-
-    pub right-ahead : j < q
-    right-ahead = next-behind (addr_at (entries n) i) j q (entries m) (rising p.width d dt m k) lj (omega (arith, less, left-is, right-is)) right-next
-
-    pub right-passed : kept p (lefts i) (rights j) ≡ chosen p.right (stretch_rows p.width m dt j q) ++ kept p (lefts i) (rights q)
-    right-passed =
-        let passed = stretch_rows p.width m dt j q in
-        let before : j ≤ q = omega (arith, right-ahead) in
-        ap (kept p (lefts i)) (passed-rows p.width d dt ds m n k h (sym same) agreed j i q before li right-next)
-        ∙ combined-split p.width p.left p.both p.right [] (lefts i) passed (rights q) tt
-        (passed-first p.width d dt ds m n k h (sym same) agreed j i q before li right-next)
-
-    pub right-passed-work : seen_nodes p.width p.right [] (stretch_nodes p.width m dt j q) + work p (lefts i) (ns i) (rights q) (ms q)
-        ≤ work p (lefts i) (ns i) (rights j) (ms j)
-    right-passed-work =
-        let before : j ≤ q = omega (arith, right-ahead) in
-        let a = passed-work p.width d dt ds m n k h (sym same) agreed j i q before li right-next p.right in
-        let b = passed-other p.width d dt ds m n k h (sym same) agreed j i q before li right-next p.left (ns i) in
-        omega (arith, a, b)
-
   -- two entries at one address
   module _ {new1 new2 : List ℕ} {o1 o2 : What} (level : s.addr ≡ t.addr) (made1 : new1 ≡ joined_digits n s ds) (held1 : o1 ≡ what_at (entries n) s.place)
       (made2 : new2 ≡ joined_digits m t dt) (held2 : o2 ≡ what_at (entries m) t.place) where
@@ -186,10 +182,10 @@ module _ (p : Plan) {d : ℕ} {a b : SideOf PlainNode} {i j : ℕ} {s t : Spot} 
         ∙ ap (λ z. kept p z y ++ kept p (lefts (i + 1)) (rights (j + 1))) (sym rows-one)
         ∙ ap (λ z. kept p (part_rows p.width new1 o1) z ++ kept p (lefts (i + 1)) (rights (j + 1))) (sym rows-other)
 
-    pub both-passed-work : openings (what_at (entries n) s.place) + openings (what_at (entries m) t.place) + work_of p new1 o1 new2 o2
+    pub both-cost : openings (what_at (entries n) s.place) + openings (what_at (entries m) t.place) + work_of p new1 o1 new2 o2
         + work p (lefts (i + 1)) (ns (i + 1)) (rights (j + 1)) (ms (j + 1))
         ≤ work p (lefts i) (ns i) (rights j) (ms j)
-    both-passed-work =
+    both-cost =
         let x = part_rows p.width (behind n.level ds one) one.what in
         let y = part_rows p.width (behind m.level dt other) other.what in
         let a = both-work p.width d ds dt n m h k same (sym agree) i j li lj at-one p.left in

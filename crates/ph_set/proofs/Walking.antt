@@ -104,6 +104,12 @@ module _ (w d : ℕ) (ds : List ℕ) (n : PlainNode) (h : IsPart w d ds (node n)
         (behind-height w d n.level ds h.held.0 (record { long = h.long; zeros = h.held.1 }) h.small
         (entry_at (entries n) i) entry-is)
 
+-- a part that was made of an entry is lawful, and from no higher place on are all of its digits known
+pub new-lawful : (w d : ℕ) (ds : List ℕ) (n : PlainNode) → IsPart w d ds (node n) → (s : Spot) → IsSpot (entries n) s → (new : List ℕ) (o : What) →
+    new ≡ joined_digits n s ds → o ≡ what_at (entries n) s.place → IsPart w d new o × (height o ≤ n.level)
+new-lawful w d ds n h s at new o made held =
+    (new-part w d ds n h s s.place refl at new o made held, new-height w d ds n h s s.place refl at new o made held)
+
 -- the digits behind an entry, as a visit of it makes them
 pub spot-behind : (w d : ℕ) (ds : List ℕ) (n : PlainNode) → IsPart w d ds (node n) → (s : Spot) → IsSpot (entries n) s
     → behind n.level ds (entry_at (entries n) s.place) ≡ joined_digits n s ds

@@ -3,3 +3,5 @@ pub mod Held
 pub mod Meeting
 pub mod Parts
 pub mod Sides
+pub mod Operations
+pub mod Made

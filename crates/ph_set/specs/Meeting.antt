@@ -1,5 +1,5 @@
 -- Two parts of trees that meet: what is listed, and how many nodes may be opened for that.
-use Rattle.std.specs.Prelude.{◌≡◌, ℕ, ◌+◌, ◌≤◌, List, Option, Some, None}
+use Rattle.std.specs.Prelude.{◌≡◌, ℕ, ◌+◌, ◌≤◌, Bool, true, false, not, List, Option, Some, None}
 use Rattle.ph_specs.specs.Lawful.{rows}
 use Rattle.ph_specs.specs.Node.{PlainNode, What}
 use Rattle.ph_specs.specs.PutTree.{digits_from}
@@ -20,6 +20,19 @@ kept p xs ys = combined p.width p.left p.both p.right xs ys
 abbrev pub work : Plan → List Row → List Placed → List Row → List Placed → ℕ
 work p xs ns ys ms = seen_nodes p.width p.left ys ns + seen_nodes p.width p.right xs ms
 
+-- whether the rows are kept that one tree alone has: the left one, or the right one
+abbrev pub alone : Plan → Bool → Bool
+alone p true = p.left
+alone p false = p.right
+
+-- what a plan keeps of a table of that tree and one of the other, and how many nodes it may open for that
+abbrev pub kept_by : Plan → Bool → List Row → List Row → List Row
+kept_by p true xs ys = kept p xs ys
+kept_by p false xs ys = kept p ys xs
+
+abbrev pub work_by : Plan → Bool → List Row → List Placed → List Row → List Placed → ℕ
+work_by p left xs ns ys ms = seen_nodes p.width (alone p left) ys ns + seen_nodes p.width (alone p (not left)) xs ms
+
 -- the same of two trees
 abbrev pub kept_trees : Plan → ℕ → Option PlainNode → Option PlainNode → List Row
 kept_trees p d a b = kept p (rows p.width d a) (rows p.width d b)
@@ -35,12 +48,25 @@ abbrev pub work_of : Plan → List ℕ → What → List ℕ → What → ℕ
 work_of p ds o es q =
     work p (part_rows p.width ds o) (part_nodes p.width ds o) (part_rows p.width es q) (part_nodes p.width es q)
 
+abbrev pub kept_of_by : Plan → Bool → List ℕ → What → List ℕ → What → List Row
+kept_of_by p left ds o es q = kept_by p left (part_rows p.width ds o) (part_rows p.width es q)
+
+abbrev pub work_of_by : Plan → Bool → List ℕ → What → List ℕ → What → ℕ
+work_of_by p left ds o es q =
+    work_by p left (part_rows p.width ds o) (part_nodes p.width ds o) (part_rows p.width es q) (part_nodes p.width es q)
+
 -- the same of two parts in memory
 abbrev pub kept_parts : Plan → ℕ → PartOf PlainNode → PartOf PlainNode → List Row
 kept_parts p d x y = kept_of p (part_digits d x) (part_what x) (part_digits d y) (part_what y)
 
 abbrev pub work_parts : Plan → ℕ → PartOf PlainNode → PartOf PlainNode → ℕ
 work_parts p d x y = work_of p (part_digits d x) (part_what x) (part_digits d y) (part_what y)
+
+abbrev pub kept_parts_by : Plan → Bool → ℕ → PartOf PlainNode → PartOf PlainNode → List Row
+kept_parts_by p left d x y = kept_of_by p left (part_digits d x) (part_what x) (part_digits d y) (part_what y)
+
+abbrev pub work_parts_by : Plan → Bool → ℕ → PartOf PlainNode → PartOf PlainNode → ℕ
+work_parts_by p left d x y = work_of_by p left (part_digits d x) (part_what x) (part_digits d y) (part_what y)
 
 -- the greatest place at which digits differ, where it is known of both; else they are the same from where both are known on
 abbrev pub IsParting : ℕ → ℕ → List ℕ → List ℕ → Option ℕ → Type 0

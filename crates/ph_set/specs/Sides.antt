@@ -1,11 +1,11 @@
 -- What is left of two nodes that are gone through side by side.
-use Rattle.std.specs.Prelude.{◌≡◌, ℕ, ◌+◌, List, take}
+use Rattle.std.specs.Prelude.{◌≡◌, ℕ, ◌+◌, Bool, List, take}
 use Rattle.ph_specs.specs.Node.{Entry, PlainNode, node, entries}
 use Rattle.ph_specs.specs.PutTree.{digits_from}
 use Rattle.ph_specs.specs.Table.{Row}
 use Rattle.ph_specs.specs.WorkSets.{Placed}
 use Rattle.ph_node.specs.Shown.{shown}
-use Rattle.ph_set.specs.Meeting.{kept, work}
+use Rattle.ph_set.specs.Meeting.{kept, work, kept_by, work_by}
 use Rattle.ph_set.specs.Parts.{IsPart, rows_on, nodes_on}
 use Rattle.ph_set.specs.declared.plan.Plan.{Plan}
 use Rattle.ph_set.specs.declared.side.SideOf.{SideOf}
@@ -34,6 +34,14 @@ kept_from p d a i b j = kept p (side_rows p.width d a i) (side_rows p.width d b 
 abbrev pub work_from : Plan → ℕ → SideOf PlainNode → ℕ → SideOf PlainNode → ℕ → ℕ
 work_from p d a i b j =
     work p (side_rows p.width d a i) (side_nodes p.width d a i) (side_rows p.width d b j) (side_nodes p.width d b j)
+
+-- the same where the first node is of the left tree, or of the right one
+abbrev pub kept_from_by : Plan → Bool → ℕ → SideOf PlainNode → ℕ → SideOf PlainNode → ℕ → List Row
+kept_from_by p left d a i b j = kept_by p left (side_rows p.width d a i) (side_rows p.width d b j)
+
+abbrev pub work_from_by : Plan → Bool → ℕ → SideOf PlainNode → ℕ → SideOf PlainNode → ℕ → ℕ
+work_from_by p left d a i b j =
+    work_by p left (side_rows p.width d a i) (side_nodes p.width d a i) (side_rows p.width d b j) (side_nodes p.width d b j)
 
 -- two lawful nodes at one level, whose digits agree above it
 pub record AreBeside (w d : ℕ) (a b : SideOf PlainNode) : Type 0 where

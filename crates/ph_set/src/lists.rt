@@ -5,6 +5,7 @@ ghost use Rattle.ph_node.specs.Shown.{shown};
 ghost use Rattle.ph_specs.specs.Combined.{chosen};
 ghost use Rattle.ph_specs.specs.WorkSets.{seen_nodes};
 ghost use Rattle.ph_set.specs.Held.{IsLawfulPart, nodes_held, rows_held};
+ghost use Rattle.ph_set.specs.Meeting.{alone};
 ghost use Rattle.ph_specs.specs.Lawful.{IsBody};
 ghost use Rattle.ph_specs.specs.PutTree.{digits_from};
 ghost use Rattle.ph_node.specs.Spots.{IsSpot};
@@ -13,6 +14,7 @@ ghost use Rattle.ph_set.specs.Sides.{side_digits, side_entries, side_node};
 
 use crate::NoMemory;
 use crate::part::{HeldOf, PartOf, join_entry};
+use crate::plan::Plan;
 use crate::side::SideOf;
 use ph_coord::Width;
 use ph_node::{NodeOf, NodeRefOf, Spot, WhatOf};
@@ -128,31 +130,31 @@ fn list_entry<P: Space, V: Ledger>(
     }
 }
 
-/// The same as [`list_part`] where the rows are kept, and else nothing.
+/// The same as [`list_part`] where a plan keeps the rows that one tree alone has, the left one or the right one, and else nothing.
 pub(crate) fn list_part_if<P: Space, V: Ledger>(
-    keep: bool,
-    w: Width,
+    plan: &Plan,
+    left: bool,
     part: &PartOf<'_, NodeOf<P>>,
     rows: &mut Vec<P::Row>,
     visits: &mut Steps<V>,
 ) -> Result<(), NoMemory>
     requires dims { P.D ≤ 16 }
-    requires part { IsLawfulPart w P.D part.now }
-    ensures rows { OnOk result (AreListed P.row_of rows.old.items rows.new.items (chosen keep (rows_held w P.D part.now))) }
-    ensures visits { visits.new ≤ visits.old + seen_nodes w keep [] (nodes_held w P.D part.now) }
+    requires part { IsLawfulPart plan.now.width P.D part.now }
+    ensures rows { OnOk result (AreListed P.row_of rows.old.items rows.new.items (chosen (alone plan.now left) (rows_held plan.now.width P.D part.now))) }
+    ensures visits { visits.new ≤ visits.old + seen_nodes plan.now.width (alone plan.now left) [] (nodes_held plan.now.width P.D part.now) }
     ensures later { visits.old ≤ visits.new }
 {
-    if keep {
-        list_part::<P, V>(w, part, rows, visits)
+    if plan.alone(left) {
+        list_part::<P, V>(plan.width, part, rows, visits)
     } else {
         Ok(())
     }
 }
 
-/// The same as [`list_stretch`] where the rows are kept, and else nothing.
+/// The same of [`list_stretch`].
 pub(crate) fn list_stretch_if<P: Space, V: Ledger>(
-    keep: bool,
-    w: Width,
+    plan: &Plan,
+    left: bool,
     side: &SideOf<'_, NodeOf<P>>,
     from: usize,
     to: usize,
@@ -160,14 +162,17 @@ pub(crate) fn list_stretch_if<P: Space, V: Ledger>(
     visits: &mut Steps<V>,
 ) -> Result<(), NoMemory>
     requires dims { P.D ≤ 16 }
-    requires part { IsPart w P.D (side_digits P.D side.now) (held_node (side_node side.now)) }
+    requires part { IsPart plan.now.width P.D (side_digits P.D side.now) (held_node (side_node side.now)) }
     requires within { to ≤ length (side_entries side.now) }
-    ensures rows { OnOk result (AreListed P.row_of rows.old.items rows.new.items (chosen keep (stretch_rows w (side_node side.now) (side_digits P.D side.now) from to))) }
-    ensures visits { visits.new ≤ visits.old + seen_nodes w keep [] (stretch_nodes w (side_node side.now) (side_digits P.D side.now) from to) }
+    ensures rows { OnOk result (AreListed P.row_of rows.old.items rows.new.items
+        (chosen (alone plan.now left) (stretch_rows plan.now.width (side_node side.now) (side_digits P.D side.now) from to))) }
+    ensures visits { visits.new
+        ≤ visits.old
+        + seen_nodes plan.now.width (alone plan.now left) [] (stretch_nodes plan.now.width (side_node side.now) (side_digits P.D side.now) from to) }
     ensures later { visits.old ≤ visits.new }
 {
-    if keep {
-        list_stretch::<P, V>(w, side.node, side.digits, from, to, rows, visits)
+    if plan.alone(left) {
+        list_stretch::<P, V>(plan.width, side.node, side.digits, from, to, rows, visits)
     } else {
         Ok(())
     }

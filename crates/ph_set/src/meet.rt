@@ -9,8 +9,10 @@ ghost use Rattle.ph_specs.specs.PutTree.{digits_from};
 ghost use Rattle.ph_node.specs.Shown.{shown};
 ghost use Rattle.ph_specs.specs.Combined.{chosen};
 ghost use Rattle.ph_set.specs.Held.{IsLawfulPart, held_what, part_digits, part_what, rows_held, with_node, with_value};
-ghost use Rattle.ph_set.specs.Meeting.{IsPartingOf, kept_parts, work_parts};
-ghost use Rattle.ph_set.specs.Sides.{AreBeside, side_entries, kept_from, work_from};
+ghost use Rattle.ph_specs.proofs.laws.Combined.{AreParted};
+ghost use Rattle.ph_node.specs.Merge.{addr_at};
+ghost use Rattle.ph_set.specs.Meeting.{IsPartingOf, kept_parts, work_parts, kept_parts_by, work_parts_by};
+ghost use Rattle.ph_set.specs.Sides.{AreBeside, side_entries, kept_from, work_from, kept_from_by, work_from_by};
 ghost use Rattle.ph_set.specs.Parts.{AreListed, height};
 
 use crate::NoMemory;
@@ -46,8 +48,8 @@ pub(crate) fn meet<P: Space, V: Ledger>(
     }
     match (x.held, y.held) {
         (HeldOf::Value(value), HeldOf::Value(_)) => list_both::<P>(plan, x, value, rows),
-        (HeldOf::Node(a), HeldOf::Value(_)) => over_left::<P, V>(plan, a, x, y, rows, visits),
-        (HeldOf::Value(_), HeldOf::Node(b)) => over_right::<P, V>(plan, x, b, y, rows, visits),
+        (HeldOf::Node(a), HeldOf::Value(_)) => over::<P, V>(plan, true, a, x, y, rows, visits),
+        (HeldOf::Value(_), HeldOf::Node(b)) => over::<P, V>(plan, false, b, y, x, rows, visits),
         (HeldOf::Node(a), HeldOf::Node(b)) => meet_nodes::<P, V>(plan, a, x, b, y, rows, visits),
     }
 }
@@ -74,10 +76,10 @@ fn meet_nodes<P: Space, V: Ledger>(
     ensures later { visits.old ≤ visits.new }
 {
     if a.level() > b.level() {
-        return over_left::<P, V>(plan, a, x, y, rows, visits);
+        return over::<P, V>(plan, true, a, x, y, rows, visits);
     }
     if a.level() < b.level() {
-        return over_right::<P, V>(plan, x, b, y, rows, visits);
+        return over::<P, V>(plan, false, b, y, x, rows, visits);
     }
     let left = SideOf {
         node: a,
@@ -90,10 +92,11 @@ fn meet_nodes<P: Space, V: Ledger>(
     side_by_side::<P, V>(plan, &left, &right, rows, visits)
 }
 
-// Lists what a plan keeps of a node and a lower part that lies at one address in it.
+// Lists what a plan keeps of a node and a lower part that lies at one address in it. The node is of the left tree or of the right one.
 #[cycle(meet)]
-fn over_left<P: Space, V: Ledger>(
+fn over<P: Space, V: Ledger>(
     plan: &Plan,
+    left: bool,
     a: NodeRefOf<'_, NodeOf<P>>,
     x: &PartOf<'_, NodeOf<P>>,
     y: &PartOf<'_, NodeOf<P>>,
@@ -101,19 +104,17 @@ fn over_left<P: Space, V: Ledger>(
     visits: &mut Steps<V>,
 ) -> Result<(), NoMemory>
     requires dims { P.D ≤ 16 }
-    requires left { IsLawfulPart plan.now.width P.D (with_node x.now a) }
-    requires right { IsLawfulPart plan.now.width P.D y.now }
+    requires whole { IsLawfulPart plan.now.width P.D (with_node x.now a) }
+    requires part { IsLawfulPart plan.now.width P.D y.now }
     requires lower { height (part_what y.now) ≤ (shown a).level }
-    requires agree { digits_from ((shown a).level + 1) (part_digits P.D x.now) ≡ digits_from ((shown a).level + 1) (part_digits P.D y.now) }
-    ensures rows { OnOk result (AreListed P.row_of rows.old.items rows.new.items (kept_parts plan.now P.D (with_node x.now a.entry) y.now)) }
-    ensures visits { visits.new ≤ visits.old + work_parts plan.now P.D (with_node x.now a.entry) y.now }
+    requires agree { digits_from ((shown a).level + 1) (part_digits P.D y.now) ≡ digits_from ((shown a).level + 1) (part_digits P.D x.now) }
+    ensures rows { OnOk result (AreListed P.row_of rows.old.items rows.new.items (kept_parts_by plan.now left P.D (with_node x.now a.entry) y.now)) }
+    ensures visits { visits.new ≤ visits.old + work_parts_by plan.now left P.D (with_node x.now a.entry) y.now }
     ensures later { visits.old ≤ visits.new }
 {
     // A use that makes the range of the width known.
     let _bits = plan.width.bits();
     let dims = P::D;
-    let w = plan.width;
-    let left = plan.left;
     let end = a.len();
     let side = SideOf {
         node: a,
@@ -121,62 +122,41 @@ fn over_left<P: Space, V: Ledger>(
     };
     match a.search(body_address(a.level(), &y.digits[..dims])) {
         Ok(spot) => {
-            list_stretch_if::<P, V>(left, w, &side, 0, spot.place, rows, visits)?;
+            list_stretch_if::<P, V>(plan, left, &side, 0, spot.place, rows, visits)?;
             let part = part_at(a, &x.digits, spot, visits);
-            meet::<P, V>(plan, &part, y, rows, visits)?;
+            meet_either::<P, V>(plan, left, &part, y, rows, visits)?;
             let behind = spot.place + 1;
-            list_stretch_if::<P, V>(left, w, &side, behind, end, rows, visits)
+            list_stretch_if::<P, V>(plan, left, &side, behind, end, rows, visits)
         }
         Err(place) => {
-            list_stretch_if::<P, V>(left, w, &side, 0, place, rows, visits)?;
-            list_part_if::<P, V>(plan.right, w, y, rows, visits)?;
-            list_stretch_if::<P, V>(left, w, &side, place, end, rows, visits)
+            list_stretch_if::<P, V>(plan, left, &side, 0, place, rows, visits)?;
+            list_part_if::<P, V>(plan, !left, y, rows, visits)?;
+            list_stretch_if::<P, V>(plan, left, &side, place, end, rows, visits)
         }
     }
 }
 
-// The same with the node on the right.
+// Lists what a plan keeps of two parts, of which the first is of the left tree or of the right one.
 #[cycle(meet)]
-fn over_right<P: Space, V: Ledger>(
+fn meet_either<P: Space, V: Ledger>(
     plan: &Plan,
+    left: bool,
     x: &PartOf<'_, NodeOf<P>>,
-    b: NodeRefOf<'_, NodeOf<P>>,
     y: &PartOf<'_, NodeOf<P>>,
     rows: &mut Vec<P::Row>,
     visits: &mut Steps<V>,
 ) -> Result<(), NoMemory>
     requires dims { P.D ≤ 16 }
-    requires left { IsLawfulPart plan.now.width P.D x.now }
-    requires right { IsLawfulPart plan.now.width P.D (with_node y.now b) }
-    requires lower { height (part_what x.now) ≤ (shown b).level }
-    requires agree { digits_from ((shown b).level + 1) (part_digits P.D x.now) ≡ digits_from ((shown b).level + 1) (part_digits P.D y.now) }
-    ensures rows { OnOk result (AreListed P.row_of rows.old.items rows.new.items (kept_parts plan.now P.D x.now (with_node y.now b.entry))) }
-    ensures visits { visits.new ≤ visits.old + work_parts plan.now P.D x.now (with_node y.now b.entry) }
+    requires first { IsLawfulPart plan.now.width P.D x.now }
+    requires second { IsLawfulPart plan.now.width P.D y.now }
+    ensures rows { OnOk result (AreListed P.row_of rows.old.items rows.new.items (kept_parts_by plan.now left P.D x.now y.now)) }
+    ensures visits { visits.new ≤ visits.old + work_parts_by plan.now left P.D x.now y.now }
     ensures later { visits.old ≤ visits.new }
 {
-    // A use that makes the range of the width known.
-    let _bits = plan.width.bits();
-    let dims = P::D;
-    let w = plan.width;
-    let right = plan.right;
-    let end = b.len();
-    let side = SideOf {
-        node: b,
-        digits: &y.digits,
-    };
-    match b.search(body_address(b.level(), &x.digits[..dims])) {
-        Ok(spot) => {
-            list_stretch_if::<P, V>(right, w, &side, 0, spot.place, rows, visits)?;
-            let part = part_at(b, &y.digits, spot, visits);
-            meet::<P, V>(plan, x, &part, rows, visits)?;
-            let behind = spot.place + 1;
-            list_stretch_if::<P, V>(right, w, &side, behind, end, rows, visits)
-        }
-        Err(place) => {
-            list_stretch_if::<P, V>(right, w, &side, 0, place, rows, visits)?;
-            list_part_if::<P, V>(plan.left, w, x, rows, visits)?;
-            list_stretch_if::<P, V>(right, w, &side, place, end, rows, visits)
-        }
+    if left {
+        meet::<P, V>(plan, x, y, rows, visits)
+    } else {
+        meet::<P, V>(plan, y, x, rows, visits)
     }
 }
 
@@ -207,9 +187,8 @@ fn side_by_side<P: Space, V: Ledger>(
         i = next;
         j = other;
     }
-    let w = plan.width;
-    list_stretch_if::<P, V>(plan.left, w, a, i, lefts, rows, visits)?;
-    list_stretch_if::<P, V>(plan.right, w, b, j, rights, rows, visits)
+    list_stretch_if::<P, V>(plan, true, a, i, lefts, rows, visits)?;
+    list_stretch_if::<P, V>(plan, false, b, j, rights, rows, visits)
 }
 
 // Lists what a plan keeps of two entries of such nodes, or of the entries of one of them up to the address of the other one's. The
@@ -241,23 +220,50 @@ fn pair_at<P: Space, V: Ledger>(
     let _bits = plan.width.bits();
     let _lefts = a.node.len();
     let _rights = b.node.len();
-    let w = plan.width;
     let left = a.node.spot(i);
     let right = b.node.spot(j);
     if left.addr < right.addr {
-        let next = place_from(a.node, right.addr);
-        list_stretch_if::<P, V>(plan.left, w, a, i, next, rows, visits)?;
+        let next = pass::<P, V>(plan, true, a, i, b, j, rows, visits)?;
         return Ok((next, j));
     }
     if right.addr < left.addr {
-        let next = place_from(b.node, left.addr);
-        list_stretch_if::<P, V>(plan.right, w, b, j, next, rows, visits)?;
+        let next = pass::<P, V>(plan, false, b, j, a, i, rows, visits)?;
         return Ok((i, next));
     }
     let x = part_at(a.node, a.digits, left, visits);
     let y = part_at(b.node, b.digits, right, visits);
     meet::<P, V>(plan, &x, &y, rows, visits)?;
     Ok((i + 1, j + 1))
+}
+
+// Lists what a plan keeps of the entries of one of two such nodes from a place on, up to the address of an entry of the other. The node is of
+// the left tree or of the right one. The answer is the place behind what is passed.
+fn pass<P: Space, V: Ledger>(
+    plan: &Plan,
+    left: bool,
+    a: &SideOf<'_, NodeOf<P>>,
+    i: usize,
+    b: &SideOf<'_, NodeOf<P>>,
+    j: usize,
+    rows: &mut Vec<P::Row>,
+    visits: &mut Steps<V>,
+) -> Result<usize, NoMemory>
+    requires dims { P.D ≤ 16 }
+    requires sides { AreBeside plan.now.width P.D a.now b.now }
+    requires first { i < length (side_entries a.now) }
+    requires second { j < length (side_entries b.now) }
+    requires less { addr_at (side_entries a.now) i < addr_at (side_entries b.now) j }
+    ensures rows { IfOk result (λ k.
+        map P.row_of rows.new.items ++ kept_from_by plan.now left P.D a.now k b.now j
+        ≡ map P.row_of rows.old.items ++ kept_from_by plan.now left P.D a.now i b.now j) }
+    ensures left_over { IfOk result (λ k. visits.new + work_from_by plan.now left P.D a.now k b.now j ≤ visits.old + work_from_by plan.now left P.D a.now i b.now j) }
+    ensures visits { visits.new ≤ visits.old + work_from_by plan.now left P.D a.now i b.now j }
+    ensures later { visits.old ≤ visits.new }
+    ensures ahead { IfOk result (λ k. (i < k) × (k ≤ length (side_entries a.now))) }
+{
+    let next = place_from(a.node, b.node.spot(j).addr);
+    list_stretch_if::<P, V>(plan, left, a, i, next, rows, visits)?;
+    Ok(next)
 }
 
 // The greatest place at which the digits of two parts differ, where it is known of both. None where they are the same from where
@@ -310,12 +316,32 @@ fn list_apart<P: Space, V: Ledger>(
     let first = body_address(place, &x.digits[..dims]);
     let second = body_address(place, &y.digits[..dims]);
     if first < second {
-        list_part_if::<P, V>(plan.left, plan.width, x, rows, visits)?;
-        list_part_if::<P, V>(plan.right, plan.width, y, rows, visits)
+        list_in_order::<P, V>(plan, true, x, y, rows, visits)
     } else {
-        list_part_if::<P, V>(plan.right, plan.width, y, rows, visits)?;
-        list_part_if::<P, V>(plan.left, plan.width, x, rows, visits)
+        list_in_order::<P, V>(plan, false, y, x, rows, visits)
     }
+}
+
+// Lists what a plan keeps of two parts, where each point of the first comes before each of the second. The first is of the left tree or of
+// the right one.
+fn list_in_order<P: Space, V: Ledger>(
+    plan: &Plan,
+    left: bool,
+    x: &PartOf<'_, NodeOf<P>>,
+    y: &PartOf<'_, NodeOf<P>>,
+    rows: &mut Vec<P::Row>,
+    visits: &mut Steps<V>,
+) -> Result<(), NoMemory>
+    requires dims { P.D ≤ 16 }
+    requires first { IsLawfulPart plan.now.width P.D x.now }
+    requires second { IsLawfulPart plan.now.width P.D y.now }
+    requires order { AreParted plan.now.width (rows_held plan.now.width P.D x.now) (rows_held plan.now.width P.D y.now) }
+    ensures rows { OnOk result (AreListed P.row_of rows.old.items rows.new.items (kept_parts_by plan.now left P.D x.now y.now)) }
+    ensures visits { visits.new ≤ visits.old + work_parts_by plan.now left P.D x.now y.now }
+    ensures later { visits.old ≤ visits.new }
+{
+    list_part_if::<P, V>(plan, left, x, rows, visits)?;
+    list_part_if::<P, V>(plan, !left, y, rows, visits)
 }
 
 // Lists the row of the left tree at a point of both, if it is kept.

@@ -1,87 +1,84 @@
 //! The three set operations.
-ghost use Rattle.std.specs.Prelude.{◌≡◌, ◌+◌, ◌≤◌, length, IfOk};
-ghost use Rattle.ph_specs.specs.Sets.{union, common, minus};
+ghost use Rattle.std.specs.Prelude.{◌≡◌, ◌+◌, ◌≤◌, IfOk};
 ghost use Rattle.ph_specs.specs.Table.{IsTable};
 ghost use Rattle.ph_specs.specs.WorkSets.{all_nodes};
 ghost use Rattle.ph_set.specs.Meeting.{kept, work};
-ghost use Rattle.ph_specs.specs.WorkSets.{touch};
+ghost use Rattle.ph_set.specs.Operations.{plan_of, rows_of, most_visits};
 
 use crate::NoMemory;
 use crate::plan::Plan;
 use crate::roots::list_roots;
-use ph_coord::{Dim, Row};
+use ph_coord::{Dim, Row, Width};
 use ph_steps::Steps;
 use ph_tree::PhTree;
 use std::alloc::Global;
 use std::cmp::min;
 use std::sync::ledger::Ledger;
 
-/// The rows of both trees in Z-order. At a point of both the value is that of `a`.
-pub(crate) fn union_rows<const D: usize, V: Ledger>(
-    alloc: Global,
-    a: &PhTree<D>,
-    b: &PhTree<D>,
-    visits: &mut Steps<V>,
-) -> Result<Vec<Row<D>>, NoMemory>
-    requires { a.now.width ≡ b.now.width }
-    ensures rows { IfOk result (λ rows. rows.items ≡ union a.now.width a.now.table b.now.table) }
-    ensures table { IfOk result (λ rows. IsTable a.now.width D rows.items) }
-    ensures visits { visits.new ≤ visits.old + length (all_nodes a.now.width D a.now.table) + length (all_nodes a.now.width D b.now.table) }
-    ensures later { visits.old ≤ visits.new }
-{
-    let plan = Plan {
-        width: a.width(),
-        left: true,
-        both: true,
-        right: true,
-    };
-    let room = a.len().saturating_add(b.len());
-    list_kept(alloc, &plan, room, a, b, visits)
+/// A set operation on two trees.
+#[derive(Clone, Copy)]
+pub(crate) enum Operation {
+    /// The rows of both. At a point of both the value is that of the first.
+    Union,
+    /// The rows of the first at points that the second has.
+    Common,
+    /// The rows of the first at points that the second has not.
+    Minus,
 }
 
-/// The rows of `a` at points that `b` has, in Z-order.
-pub(crate) fn common_rows<const D: usize, V: Ledger>(
-    alloc: Global,
-    a: &PhTree<D>,
-    b: &PhTree<D>,
-    visits: &mut Steps<V>,
-) -> Result<Vec<Row<D>>, NoMemory>
-    requires { a.now.width ≡ b.now.width }
-    ensures rows { IfOk result (λ rows. rows.items ≡ common a.now.table b.now.table) }
-    ensures table { IfOk result (λ rows. IsTable a.now.width D rows.items) }
-    ensures visits { visits.new ≤ visits.old + length (touch a.now.width D a.now.table b.now.table) + length (touch a.now.width D b.now.table a.now.table) }
-    ensures later { visits.old ≤ visits.new }
-{
-    let plan = Plan {
-        width: a.width(),
-        left: false,
-        both: true,
-        right: false,
-    };
-    let room = min(a.len(), b.len());
-    list_kept(alloc, &plan, room, a, b, visits)
+impl Operation {
+    // What it keeps of two trees of a width.
+    fn plan(self, width: Width) -> Plan
+        ensures { result ≡ plan_of self width }
+    {
+        match self {
+            Operation::Union => Plan {
+                width,
+                left: true,
+                both: true,
+                right: true,
+            },
+            Operation::Common => Plan {
+                width,
+                left: false,
+                both: true,
+                right: false,
+            },
+            Operation::Minus => Plan {
+                width,
+                left: true,
+                both: false,
+                right: false,
+            },
+        }
+    }
+
+    // For how many rows of two trees room is taken.
+    fn room<const D: usize>(self, a: &PhTree<D>, b: &PhTree<D>) -> u64 {
+        match self {
+            Operation::Union => a.len().saturating_add(b.len()),
+            Operation::Common => min(a.len(), b.len()),
+            Operation::Minus => a.len(),
+        }
+    }
 }
 
-/// The rows of `a` at points that `b` has not, in Z-order.
-pub(crate) fn minus_rows<const D: usize, V: Ledger>(
+/// The rows of a set operation on two trees, in Z-order.
+pub(crate) fn combined_rows<const D: usize, V: Ledger>(
     alloc: Global,
+    operation: Operation,
     a: &PhTree<D>,
     b: &PhTree<D>,
     visits: &mut Steps<V>,
 ) -> Result<Vec<Row<D>>, NoMemory>
     requires { a.now.width ≡ b.now.width }
-    ensures rows { IfOk result (λ rows. rows.items ≡ minus a.now.table b.now.table) }
+    ensures rows { IfOk result (λ rows. rows.items ≡ rows_of operation a.now.width a.now.table b.now.table) }
     ensures table { IfOk result (λ rows. IsTable a.now.width D rows.items) }
-    ensures visits { visits.new ≤ visits.old + length (all_nodes a.now.width D a.now.table) + length (touch a.now.width D b.now.table a.now.table) }
+    ensures visits { visits.new ≤ visits.old + most_visits operation a.now.width D a.now.table b.now.table }
     ensures later { visits.old ≤ visits.new }
 {
-    let plan = Plan {
-        width: a.width(),
-        left: true,
-        both: false,
-        right: false,
-    };
-    list_kept(alloc, &plan, a.len(), a, b, visits)
+    let plan = operation.plan(a.width());
+    list_kept(alloc, &plan, operation.room(a, b), a, b, visits)
 }
 
 // What a plan keeps of two trees of its width. Room is taken for so many rows at once.

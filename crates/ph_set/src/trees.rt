@@ -1,12 +1,14 @@
 //! The three set operations, as trees.
-ghost use Rattle.std.specs.Prelude.{◌≡◌, ◌+◌, ◌≤◌, ◌<◌, length, IfOk, IsErrOf, OnOk};
+ghost use Rattle.std.specs.Prelude.{◌≡◌, ◌+◌, ◌≤◌, ◌<◌, length, IfOk, IsErrOf};
 ghost use Rattle.ph_specs.specs.Sets.{union as union_of, common as common_of, minus as minus_of};
 ghost use Rattle.ph_specs.specs.Table.{IsTable};
 ghost use Rattle.ph_specs.specs.WorkSets.{all_nodes, touch};
+ghost use Rattle.ph_set.specs.Made.{IsMade};
+ghost use Rattle.ph_set.specs.Operations.{rows_of, most_visits};
 
 use crate::NoMemory;
 use crate::error::SetFault;
-use crate::operations::{common_rows, minus_rows, union_rows};
+use crate::operations::{Operation, combined_rows};
 use ph_bulk::build;
 use ph_coord::Row;
 use ph_steps::Steps;
@@ -29,21 +31,16 @@ pub fn union<const D: usize, V: Ledger, C: Ledger>(
     changes: &mut Steps<C>,
 ) -> Result<PhTree<D>, SetFault>
     requires { a.now.width ≡ b.now.width }
-    ensures table { IfOk result (λ t. t.table ≡ union_of a.now.width a.now.table b.now.table) }
-    ensures width { IfOk result (λ t. t.width ≡ a.now.width) }
-    ensures max { IfOk result (λ t. t.max ≡ max) }
+    ensures made { IsMade a.now.width D max (union_of a.now.width a.now.table b.now.table) changes.old changes.new result }
     ensures full { IsErrOf result SetFault.Full → max < length (union_of a.now.width a.now.table b.now.table) }
     ensures fits { IfOk result (λ t. length (union_of a.now.width a.now.table b.now.table) ≤ max) }
     ensures visits { visits.new ≤ visits.old + length (all_nodes a.now.width D a.now.table) + length (all_nodes a.now.width D b.now.table) }
     ensures later { visits.old ≤ visits.new }
-    ensures nodes { OnOk result (changes.new ≡ changes.old + length (all_nodes a.now.width D (union_of a.now.width a.now.table b.now.table))) }
-    ensures most { changes.new ≤ changes.old + length (all_nodes a.now.width D (union_of a.now.width a.now.table b.now.table)) }
-    ensures kept { changes.old ≤ changes.new }
     ensures refused { IsErrOf result SetFault.Full → changes.new ≡ changes.old }
 {
     // A use that makes the number of dimensions known.
     let _root = a.root();
-    let Ok(rows) = union_rows(alloc, a, b, visits) else {
+    let Ok(rows) = combined_rows(alloc, Operation::Union, a, b, visits) else {
         return Err(SetFault::NoMemory);
     };
     if rows.len() as u64 > max {
@@ -69,20 +66,11 @@ pub fn common<const D: usize, V: Ledger, C: Ledger>(
     changes: &mut Steps<C>,
 ) -> Result<PhTree<D>, NoMemory>
     requires { a.now.width ≡ b.now.width }
-    ensures table { IfOk result (λ t. t.table ≡ common_of a.now.table b.now.table) }
-    ensures width { IfOk result (λ t. t.width ≡ a.now.width) }
-    ensures max { IfOk result (λ t. t.max ≡ a.now.max) }
+    ensures made { IsMade a.now.width D a.now.max (common_of a.now.table b.now.table) changes.old changes.new result }
     ensures visits { visits.new ≤ visits.old + length (touch a.now.width D a.now.table b.now.table) + length (touch a.now.width D b.now.table a.now.table) }
     ensures later { visits.old ≤ visits.new }
-    ensures nodes { OnOk result (changes.new ≡ changes.old + length (all_nodes a.now.width D (common_of a.now.table b.now.table))) }
-    ensures most { changes.new ≤ changes.old + length (all_nodes a.now.width D (common_of a.now.table b.now.table)) }
-    ensures kept { changes.old ≤ changes.new }
 {
-    // Uses that make known how many dimensions and rows there are.
-    let _root = a.root();
-    let _len = a.len();
-    let rows = common_rows(alloc, a, b, visits)?;
-    built(alloc, a, &rows, a.max(), changes)
+    fewer(alloc, Operation::Common, a, b, visits, changes)
 }
 
 /// The tree of the rows of `a` at points that `b` has not, for as many rows as `a` may have.
@@ -99,20 +87,33 @@ pub fn minus<const D: usize, V: Ledger, C: Ledger>(
     changes: &mut Steps<C>,
 ) -> Result<PhTree<D>, NoMemory>
     requires { a.now.width ≡ b.now.width }
-    ensures table { IfOk result (λ t. t.table ≡ minus_of a.now.table b.now.table) }
-    ensures width { IfOk result (λ t. t.width ≡ a.now.width) }
-    ensures max { IfOk result (λ t. t.max ≡ a.now.max) }
+    ensures made { IsMade a.now.width D a.now.max (minus_of a.now.table b.now.table) changes.old changes.new result }
     ensures visits { visits.new ≤ visits.old + length (all_nodes a.now.width D a.now.table) + length (touch a.now.width D b.now.table a.now.table) }
     ensures later { visits.old ≤ visits.new }
-    ensures nodes { OnOk result (changes.new ≡ changes.old + length (all_nodes a.now.width D (minus_of a.now.table b.now.table))) }
-    ensures most { changes.new ≤ changes.old + length (all_nodes a.now.width D (minus_of a.now.table b.now.table)) }
-    ensures kept { changes.old ≤ changes.new }
+{
+    fewer(alloc, Operation::Minus, a, b, visits, changes)
+}
+
+// The tree of the rows of an operation that keeps no more than the rows of `a`, for as many rows as `a` may have.
+fn fewer<const D: usize, V: Ledger, C: Ledger>(
+    alloc: Global,
+    operation: Operation,
+    a: &PhTree<D>,
+    b: &PhTree<D>,
+    visits: &mut Steps<V>,
+    changes: &mut Steps<C>,
+) -> Result<PhTree<D>, NoMemory>
+    requires width { a.now.width ≡ b.now.width }
+    requires fewer { length (rows_of operation a.now.width a.now.table b.now.table) ≤ length a.now.table }
+    ensures made { IsMade a.now.width D a.now.max (rows_of operation a.now.width a.now.table b.now.table) changes.old changes.new result }
+    ensures visits { visits.new ≤ visits.old + most_visits operation a.now.width D a.now.table b.now.table }
+    ensures later { visits.old ≤ visits.new }
 {
     // Uses that make known how many dimensions and rows there are.
     let _root = a.root();
     let _len = a.len();
-    let left = minus_rows(alloc, a, b, visits)?;
-    built(alloc, a, &left, a.max(), changes)
+    let rows = combined_rows(alloc, operation, a, b, visits)?;
+    built(alloc, a, &rows, a.max(), changes)
 }
 
 // The tree of these rows, which are a table of the width of a tree, for at most `max` rows.
@@ -126,12 +127,7 @@ fn built<const D: usize, C: Ledger>(
     requires few { D ≤ 16 }
     requires table { IsTable a.now.width D rows.now }
     requires room { length rows.now ≤ max }
-    ensures table { IfOk result (λ t. t.table ≡ rows.now) }
-    ensures width { IfOk result (λ t. t.width ≡ a.now.width) }
-    ensures max { IfOk result (λ t. t.max ≡ max) }
-    ensures nodes { OnOk result (changes.new ≡ changes.old + length (all_nodes a.now.width D rows.now)) }
-    ensures most { changes.new ≤ changes.old + length (all_nodes a.now.width D rows.now) }
-    ensures kept { changes.old ≤ changes.new }
+    ensures made { IsMade a.now.width D max rows.now changes.old changes.new result }
 {
     // A use that makes the number of dimensions known.
     let _root = a.root();

@@ -1,4 +1,4 @@
-use Rattle.std.proofs.Common.{rules, ◌≡◌, ◌+◌, ◌++◌, length, map, take, OnOk, refl, sym, ◌∙◌, ap, subst, arith, append_assoc}
+use Rattle.std.proofs.Common.{rules, ◌≡◌, ◌+◌, ◌++◌, length, map, take, OnOk, sym, ◌∙◌, ap, subst, arith}
 use Rattle.ph_specs.specs.EntryEdits.{what_at}
 use Rattle.ph_specs.specs.Lawful.{IsBody}
 use Rattle.ph_specs.specs.Node.{entries, node}
@@ -6,9 +6,9 @@ use Rattle.ph_specs.specs.PutTree.{body_above}
 use Rattle.ph_node.specs.Shown.{shown}
 use Rattle.ph_node.specs.Spots.{joined_digits}
 use Rattle.ph_path.proofs.Knowns.{wider}
-use Rattle.ph_set.specs.Parts.{IsPart, openings, part_rows, part_nodes, rows_in, nodes_in, behind, stretch}
-use Rattle.ph_set.proofs.Joining.{same-above, joined-behind, joined-known, joined-from, child-level, child-part, child-rows, child-nodes, child-from}
-use Rattle.ph_set.proofs.Walking.{entry_at, step-rows, step-nodes}
+use Rattle.ph_set.specs.Parts.{IsPart, openings, part_rows, stretch_rows}
+use Rattle.ph_set.proofs.Joining.{same-above, stepped, joined-known, joined-from, child-level, child-part, child-rows, child-nodes, child-from}
+use Rattle.ph_set.proofs.Meetings.{after-two}
 use Rattle.std.proofs.lemmas.Result.{on_ok_weaker}
 use Rattle.ph_set.proofs.lists.+lists.Goals as goal
 
@@ -24,54 +24,22 @@ list_entries-list_entry-requires g t c κs within =
 
 pub list_entries-returns-in_err-list_entry-clause-visits : goal.list_entries-returns-in_err-list_entry-clause-visits
 list_entries-returns-in_err-list_entry-clause-visits g t c =
-    let n = shown c.args.node in
-    let first = take g.P.Dims.D c.args.known.now in
-    let ds = body_above n.level first in
-    let now = take g.P.Dims.D c.loop-i.known in
-    let new = joined_digits n c.spot.result now in
-    let o = what_at (entries n) c.spot.result.place in
-    let same = same-above n.level now first c.loop-i.invariant.above in
-    let part : IsPart c.args.w g.P.Dims.D (body_above n.level now) (node n) = subst (λ t. IsPart c.args.w g.P.Dims.D t (node n)) (sym same) c.requires.part in
-    let made = joined-behind c.args.w g.P.Dims.D now n part c.spot.result c.spot.ensures.spot new refl ∙
-    ap (λ t. behind n.level t (entry_at (entries n) c.spot.result.place)) same ∙
-    ap (λ k. behind n.level ds (entry_at (entries n) k)) c.spot.ensures.place in
-    let step : length (nodes_in c.args.w n.level ds (stretch c.loop-i.i c.args.to (entries n))) ≡
-    openings o + length (part_nodes c.args.w new o) + length
-    (nodes_in c.args.w n.level ds (stretch (c.loop-i.i + 1) c.args.to (entries n))) =
-    step-nodes c.args.w n.level c.loop-i.i c.args.to ds new o (entries n) (omega (arith, c.loop-i-test.true))
-    c.requires.within made (ap (what_at (entries n)) c.spot.ensures.place) in
-    omega (arith, step, c.list_entry.ensures.visits, c.loop-i.invariant.visits)
+    let step = stepped c.args.w g.P.Dims.D (take g.P.Dims.D c.args.known.now) (take g.P.Dims.D c.loop-i.known) (shown c.args.node) c.requires.part
+    c.loop-i.invariant.above c.spot.result c.spot.ensures.spot c.loop-i.i c.args.to c.spot.ensures.place (omega (arith, c.loop-i-test.true)) c.requires.within in
+    omega (arith, step.nodes, c.list_entry.ensures.visits, c.loop-i.invariant.visits)
 
 pub list_entries-loop-i-preserved : goal.list_entries-loop-i-preserved
 list_entries-loop-i-preserved g t c =
+    let step = stepped c.args.w g.P.Dims.D (take g.P.Dims.D c.args.known.now) (take g.P.Dims.D c.loop-i.known) (shown c.args.node) c.requires.part
+    c.loop-i.invariant.above c.spot.result c.spot.ensures.spot c.loop-i.i c.args.to c.spot.ensures.place (omega (arith, c.loop-i-test.true)) c.requires.within in
     let n = shown c.args.node in
-    let first = take g.P.Dims.D c.args.known.now in
-    let ds = body_above n.level first in
-    let now = take g.P.Dims.D c.loop-i.known in
-    let new = joined_digits n c.spot.result now in
-    let o = what_at (entries n) c.spot.result.place in
-    let same = same-above n.level now first c.loop-i.invariant.above in
-    let part : IsPart c.args.w g.P.Dims.D (body_above n.level now) (node n) = subst (λ t. IsPart c.args.w g.P.Dims.D t (node n)) (sym same) c.requires.part in
-    let made = joined-behind c.args.w g.P.Dims.D now n part c.spot.result c.spot.ensures.spot new refl ∙
-    ap (λ t. behind n.level t (entry_at (entries n) c.spot.result.place)) same ∙
-    ap (λ k. behind n.level ds (entry_at (entries n) k)) c.spot.ensures.place in
-    let held = ap (what_at (entries n)) c.spot.ensures.place in
-    let step : length (nodes_in c.args.w n.level ds (stretch c.loop-i.i c.args.to (entries n))) ≡
-    openings o + length (part_nodes c.args.w new o) + length
-    (nodes_in c.args.w n.level ds (stretch (c.loop-i.i + 1) c.args.to (entries n))) =
-    step-nodes c.args.w n.level c.loop-i.i c.args.to ds new o (entries n) (omega (arith, c.loop-i-test.true)) c.requires.within made held in
-    let rows : rows_in c.args.w n.level ds (stretch c.loop-i.i c.args.to (entries n)) ≡ part_rows c.args.w new o ++
-    rows_in c.args.w n.level ds (stretch (c.loop-i.i + 1) c.args.to (entries n)) =
-    step-rows c.args.w n.level c.loop-i.i c.args.to ds new o (entries n) (omega (arith, c.loop-i-test.true)) c.requires.within made held in
-    let listed : map g.P.Space.row_of c.list_entry.new.rows.items ≡ map g.P.Space.row_of c.loop-i.rows.items ++
-    part_rows c.args.w new o = c.in_ok-list_entry.ensures.rows in
+    let new = joined_digits n c.spot.result (take g.P.Dims.D c.loop-i.known) in
+    let rest = stretch_rows c.args.w n (body_above n.level (take g.P.Dims.D c.args.known.now)) (c.loop-i.i + 1) c.args.to in
     record {
       rows =
-          ap (λ x. x ++ rows_in c.args.w n.level ds (stretch (c.loop-i.i + 1) c.args.to (entries n))) listed
-          ∙ append_assoc (map g.P.Space.row_of c.loop-i.rows.items) (part_rows c.args.w new o)
-          (rows_in c.args.w n.level ds (stretch (c.loop-i.i + 1) c.args.to (entries n)))
-          ∙ ap (λ x. map g.P.Space.row_of c.loop-i.rows.items ++ x) (sym rows) ∙ c.loop-i.invariant.rows;
-      visits = omega (arith, step, c.list_entry.ensures.visits, c.loop-i.invariant.visits);
+          after-two (map g.P.Space.row_of c.loop-i.rows.items) (map g.P.Space.row_of c.list_entry.new.rows.items)
+          (part_rows c.args.w new (what_at (entries n) c.spot.result.place)) rest _ c.in_ok-list_entry.ensures.rows step.rows ∙ c.loop-i.invariant.rows;
+      visits = omega (arith, step.nodes, c.list_entry.ensures.visits, c.loop-i.invariant.visits);
       later = omega (arith, c.list_entry.ensures.later, c.loop-i.invariant.later);
       known = c.in_ok-list_entry.ensures.known;
       above = c.in_ok-list_entry.ensures.above ∙ c.loop-i.invariant.above;

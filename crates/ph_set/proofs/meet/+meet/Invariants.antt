@@ -11,11 +11,11 @@ decreases-meet g l = 4 * (height (held_what l.x.now.held) + height (held_what l.
 abbrev pub decreases-meet_nodes : goal.decreases-meet_nodes
 decreases-meet_nodes g l = 4 * ((shown l.a).level + 1 + ((shown l.b).level + 1)) + 2
 
-abbrev pub decreases-over_left : goal.decreases-over_left
-decreases-over_left g l = 4 * ((shown l.a).level + 1 + height (held_what l.y.now.held)) + 1
+abbrev pub decreases-over : goal.decreases-over
+decreases-over g l = 4 * ((shown l.a).level + 1 + height (held_what l.y.now.held)) + 1
 
-abbrev pub decreases-over_right : goal.decreases-over_right
-decreases-over_right g l = 4 * (height (held_what l.x.now.held) + ((shown l.b).level + 1)) + 1
+abbrev pub decreases-meet_either : goal.decreases-meet_either
+decreases-meet_either g l = 4 * (height (held_what l.x.now.held) + height (held_what l.y.now.held)) + 4
 
 abbrev pub decreases-pair_at : goal.decreases-pair_at
 decreases-pair_at g l = 4 * ((side_node l.a.now).level + 1 + ((side_node l.b.now).level + 1))

@@ -1,11 +1,13 @@
-use Rattle.std.proofs.Common.{◌+◌, ◌≤◌, ◌++◌, map, sym, ◌∙◌, ap, subst, arith, List}
+use Rattle.std.proofs.Common.{◌≡◌, ◌+◌, ◌≤◌, ◌++◌, map, sym, ◌∙◌, ap, subst, arith, List}
 use Rattle.std.specs.Option.{option_copied}
 use Rattle.ph_specs.specs.Lawful.{rows}
 use Rattle.ph_specs.specs.Table.{Row}
 use Rattle.ph_specs.specs.WorkSets.{placed, all_nodes}
 use Rattle.ph_path.proofs.Roots.{shape-lawful}
-use Rattle.ph_set.specs.Meeting.{kept}
+use Rattle.ph_set.specs.Meeting.{kept, work, kept_trees, work_trees}
 use Rattle.ph_set.proofs.Rooted.{tree-rows, tree-nodes, map-same, same-kept, same-work}
+use Rattle.ph_set.proofs.operations.list_kept.Given.{Over}
+use Rattle.ph_set.proofs.operations.list_kept.Goals.{After-list_roots}
 use Rattle.ph_set.proofs.operations.list_kept.Goals as goal
 
 pub list_roots-requires-clause-left : goal.list_roots-requires-clause-left
@@ -20,53 +22,41 @@ list_roots-requires-clause-right g c =
     c.args.b.now.table (omega (arith, c.bits-bits.ensures.value, c.bits-bits.ensures.some)) (sym c.requires.right)
     c.root-right.ensures.table c.root-right.ensures.shape
 
-pub returns-in_err-list_roots-clause-visits : goal.returns-in_err-list_roots-clause-visits
-returns-in_err-list_roots-clause-visits g c =
+-- the roots have the rows and the nodes of the tables
+roots : (g : Over) (c : After-list_roots g) → let p = c.args.plan.now in
+    let left = option_copied c.root-left.result in
+    let right = option_copied c.root-right.result in
+    (kept_trees p g.row.D left right ≡ kept p c.args.a.now.table c.args.b.now.table)
+    × (work_trees p g.row.D left right
+    ≡ work p c.args.a.now.table (all_nodes p.width g.row.D c.args.a.now.table) c.args.b.now.table (all_nodes p.width g.row.D c.args.b.now.table))
+roots g c =
     let p = c.args.plan.now in
     let d = g.row.D in
-    let one : 1 ≤ p.width = omega (arith, c.bits-bits.ensures.value, c.bits-bits.ensures.some) in
-    let x = tree-rows p.width c.args.a.now.width d (option_copied c.root-left.result) c.args.a.now.table one
-    (sym c.requires.left) c.root-left.ensures.table c.root-left.ensures.shape in
-    let y = tree-rows p.width c.args.b.now.width d (option_copied c.root-right.result) c.args.b.now.table one
-    (sym c.requires.right) c.root-right.ensures.table c.root-right.ensures.shape in
-    let n = tree-nodes p.width c.args.a.now.width d (option_copied c.root-left.result) c.args.a.now.table (sym c.requires.left) c.root-left.ensures.shape in
-    let m = tree-nodes p.width c.args.b.now.width d (option_copied c.root-right.result) c.args.b.now.table (sym c.requires.right) c.root-right.ensures.shape in
-    subst (λ t. c.list_roots.new.visits ≤ c.args.visits.now + t)
-    (same-work p (rows p.width d (option_copied c.root-left.result))
-    (rows p.width d (option_copied c.root-right.result)) c.args.a.now.table c.args.b.now.table
-    (placed p.width d (option_copied c.root-left.result)) (placed p.width d (option_copied c.root-right.result))
-    (all_nodes p.width d c.args.a.now.table) (all_nodes p.width d c.args.b.now.table) x y n m)
+    let one : 1 ≤ c.args.plan.now.width = omega (arith, c.bits-bits.ensures.value, c.bits-bits.ensures.some) in
+    let left = option_copied c.root-left.result in
+    let right = option_copied c.root-right.result in
+    let x = tree-rows p.width c.args.a.now.width d left c.args.a.now.table one (sym c.requires.left) c.root-left.ensures.table c.root-left.ensures.shape in
+    let y = tree-rows p.width c.args.b.now.width d right c.args.b.now.table one (sym c.requires.right) c.root-right.ensures.table c.root-right.ensures.shape in
+    let n = tree-nodes p.width c.args.a.now.width d left c.args.a.now.table (sym c.requires.left) c.root-left.ensures.shape in
+    let m = tree-nodes p.width c.args.b.now.width d right c.args.b.now.table (sym c.requires.right) c.root-right.ensures.shape in (
+      same-kept p (rows p.width d left) (rows p.width d right) c.args.a.now.table c.args.b.now.table x y,
+      same-work p (rows p.width d left) (rows p.width d right) c.args.a.now.table c.args.b.now.table (placed p.width d left) (placed p.width d right)
+          (all_nodes p.width d c.args.a.now.table) (all_nodes p.width d c.args.b.now.table) x y n m,
+    )
+
+pub returns-in_err-list_roots-clause-visits : goal.returns-in_err-list_roots-clause-visits
+returns-in_err-list_roots-clause-visits g c =
+    subst (λ t. c.list_roots.new.visits ≤ c.args.visits.now + t) (roots g (goal.at.returns-in_err-list_roots-clause-visits g c).After-list_roots).1
     c.list_roots.ensures.visits
 
 pub returns-clause-rows : goal.returns-clause-rows
 returns-clause-rows g c =
     let p = c.args.plan.now in
-    let d = g.row.D in
-    let one : 1 ≤ p.width = omega (arith, c.bits-bits.ensures.value, c.bits-bits.ensures.some) in
-    let x = tree-rows p.width c.args.a.now.width d (option_copied c.root-left.result) c.args.a.now.table one
-    (sym c.requires.left) c.root-left.ensures.table c.root-left.ensures.shape in
-    let y = tree-rows p.width c.args.b.now.width d (option_copied c.root-right.result) c.args.b.now.table one
-    (sym c.requires.right) c.root-right.ensures.table c.root-right.ensures.shape in
     sym (map-same c.list_roots.new.rows.items)
     ∙ c.in_ok-list_roots.ensures.rows
-    ∙ ap (λ (t : List Row). map (λ r. r) t ++ kept p (rows p.width d (option_copied c.root-left.result))
-    (rows p.width d (option_copied c.root-right.result))) c.in_ok-rows.ensures.items
-    ∙ same-kept p (rows p.width d (option_copied c.root-left.result)) (rows p.width d (option_copied c.root-right.result)) c.args.a.now.table c.args.b.now.table x y
+    ∙ ap (λ (t : List Row). map (λ r. r) t ++ kept_trees p g.row.D (option_copied c.root-left.result) (option_copied c.root-right.result)) c.in_ok-rows.ensures.items
+    ∙ (roots g (goal.at.returns-clause-rows g c).After-list_roots).0
 
 pub returns-clause-visits : goal.returns-clause-visits
 returns-clause-visits g c =
-    let p = c.args.plan.now in
-    let d = g.row.D in
-    let one : 1 ≤ p.width = omega (arith, c.bits-bits.ensures.value, c.bits-bits.ensures.some) in
-    let x = tree-rows p.width c.args.a.now.width d (option_copied c.root-left.result) c.args.a.now.table one
-    (sym c.requires.left) c.root-left.ensures.table c.root-left.ensures.shape in
-    let y = tree-rows p.width c.args.b.now.width d (option_copied c.root-right.result) c.args.b.now.table one
-    (sym c.requires.right) c.root-right.ensures.table c.root-right.ensures.shape in
-    let n = tree-nodes p.width c.args.a.now.width d (option_copied c.root-left.result) c.args.a.now.table (sym c.requires.left) c.root-left.ensures.shape in
-    let m = tree-nodes p.width c.args.b.now.width d (option_copied c.root-right.result) c.args.b.now.table (sym c.requires.right) c.root-right.ensures.shape in
-    subst (λ t. c.list_roots.new.visits ≤ c.args.visits.now + t)
-    (same-work p (rows p.width d (option_copied c.root-left.result))
-    (rows p.width d (option_copied c.root-right.result)) c.args.a.now.table c.args.b.now.table
-    (placed p.width d (option_copied c.root-left.result)) (placed p.width d (option_copied c.root-right.result))
-    (all_nodes p.width d c.args.a.now.table) (all_nodes p.width d c.args.b.now.table) x y n m)
-    c.list_roots.ensures.visits
+    subst (λ t. c.list_roots.new.visits ≤ c.args.visits.now + t) (roots g (goal.at.returns-clause-visits g c).After-list_roots).1 c.list_roots.ensures.visits
