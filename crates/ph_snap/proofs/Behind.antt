@@ -12,6 +12,7 @@ use Rattle.ph_specs.proofs.laws.WordDigits.{digits-below}
 use Rattle.ph_bits.specs.Fields.{digits_row}
 use Rattle.ph_digits.proofs.Cuts.{above-zeros}
 use Rattle.ph_node.proofs.Merges.{body-joined}
+use Rattle.ph_snap.specs.Standing.{IsJoined}
 use Rattle.ph_snap.proofs.Fields.{length-row}
 
 known-zeros : (level : ℕ) (digits : List ℕ) → has_zeros_from level digits ≡ true → HasZerosFrom level digits
@@ -26,10 +27,6 @@ row-below words at w (suc n) = (digits-below words at w, row-below words (at + w
 
 pub is_body-row : (words : List ℕ) (at w n : ℕ) → IsBody n w (digits_row words at w n)
 is_body-row words at w n = (length-row words at w n, row-below words at w n)
-
-pub record IsJoined (dims level a : ℕ) (above body known : List ℕ) : Type 0 where
-  pub is_known : take dims known ≡ put_together level a above body
-  pub is_body : IsBody dims 62 (take dims known)
 
 pub joined-is : (dims level a at n : ℕ) (words above old new others : List ℕ) → level ≤ 61 → n ≡ dims → old ≡ above →
     IsBody dims 62 old → has_zeros_from level above ≡ true →
@@ -46,4 +43,4 @@ joined-is dims level a at n words above old new others l m e b c h =
     ap (λ t. put_together level a (body_above level above) (digits_row words at level t)) m ∙
     ap (λ t. put_together level a t row) (sym (above-zeros level above z)) in
     let t : take dims (new ++ others) ≡ put_together level a above (digits_row words at level dims) = take-front dims new others (ap length q ∙ j.0) ∙ q in
-    record { is_known = t; is_body = subst (IsBody dims 62) (sym t) j }
+    record { known = t; body = subst (IsBody dims 62) (sym t) j }

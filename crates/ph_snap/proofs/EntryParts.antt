@@ -6,7 +6,10 @@ use Rattle.std.specs.Prelude.{◌&&◌}
 use Rattle.std.proofs.lemmas.List.{take-append-drop}
 use Rattle.ph_specs.specs.Lawful.{put_together}
 use Rattle.ph_specs.specs.Load.{Place, under, places_under}
-use Rattle.ph_specs.specs.Record.{Read, read_point, read_child}
+use Rattle.ph_specs.specs.Record.{Read, read_point, read_child, read, first_in, entries_in}
+use Rattle.ph_bits.specs.Fields.{digits_row}
+use Rattle.ph_snap.specs.Frames.{IsEntry}
+use Rattle.ph_snap.specs.declared.entries.Entry.{Entry}
 
 pub drop-get : {X : Type 0} (xs : List X) (i : ℕ) (x : X) → slice_get xs i ≡ Some x → drop i xs ≡ x ∷ drop (i + 1) xs
 drop-get {X} [] i x e = absurd (let h : ◌≡◌ {A = Option X} None (Some x) = e in cc)
@@ -30,7 +33,7 @@ module _ (level : ℕ) (above : List ℕ) where
   under-append (read_child a b ∷ xs) ys =
       ap {B = List Place} (λ t. under level (put_together level a above b) ∷ t) (under-append xs ys)
 
-  pub under-more : (es : List Read) (i : ℕ) (r : Read) → slice_get es i ≡ Some r →
+  under-more : (es : List Read) (i : ℕ) (r : Read) → slice_get es i ≡ Some r →
       places_under level above (take (i + 1) es) ≡ places_under level above (take i es) ++ places_under level above (r ∷ [])
   under-more es i r e =
       ap (places_under level above) (take-get es i r e) ∙ under-append (take i es) (r ∷ [])
@@ -46,6 +49,18 @@ module _ (level : ℕ) (above : List ℕ) where
       ∙ under-append (take (i + 1) es) (drop (i + 1) es)
       ∙ ap (λ t. t ++ back) e
       ∙ append_assoc front (q ∷ []) back
+
+-- one more entry, as the code reads it
+pub under-entry : {dims i : ℕ} {words : List ℕ} {e : Entry} {t : Bool} (above : List ℕ) → IsEntry dims words i e → e.child ≡ t →
+    places_under (first_in words).level above (take (i + 1) (entries_in dims words)) ≡
+    places_under (first_in words).level above (take i (entries_in dims words)) ++
+    places_under (first_in words).level above (read t e.addr (digits_row words e.body (first_in words).level dims) ∷ [])
+under-entry {dims} {i} {words} {e} above h is =
+    let level : ℕ = (first_in words).level in
+    let row : List ℕ = digits_row words e.body level dims in
+    let es : List Read = entries_in dims words in
+    under-more level above es i (read e.child e.addr row) h.read_is
+    ∙ ap (λ t. places_under level above (take i es) ++ places_under level above (read t e.addr row ∷ [])) is
 
 -- nothing is left
 pub drop-all : {X : Type 0} (p : X → Bool) (xs : List X) (i : ℕ) → length xs ≤ i → list_all p (drop i xs) ≡ true

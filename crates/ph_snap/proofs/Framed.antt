@@ -21,7 +21,7 @@ use Rattle.ph_snap.specs.Frames.{IsFramed}
 use Rattle.ph_snap.specs.Standing.{place_of, ceiling, IsStanding}
 use Rattle.ph_specs.specs.Digits.{words_for}
 use Rattle.ph_specs.specs.Layout.{digits_as}
-use Rattle.ph_specs.specs.Load.{next_first, next_record}
+use Rattle.ph_specs.specs.Load.{next_first, next_record, words_in}
 use Rattle.ph_snap.specs.declared.first.First.{First as First'}
 use Rattle.ph_snap.specs.Frames.{said_by}
 use Rattle.ph_snap.proofs.RecordFaults.{level-below, next-first, words-many}
@@ -100,26 +100,25 @@ pub long-as : (dims : ℕ) (words : List ℕ) (t : Bool) → has_cube dims (firs
 long-as dims words t e h =
     subst (λ s. 1 + words_for (digits_as s dims (first_in words)) ≤ length words) e (omega (arith, h.long))
 
--- the words of a record whose first word fits
-module _ (form : Form) (place : Place) (k : IsForm form) (s : IsStanding form.width form.dims place)
-    (rest words : List ℕ) (first : First') (f : said_by first ≡ next_first rest)
-    (w : words ≡ next_record form.dims rest)
-    (h : true ≡ first_fits form.width form.dims (place_of form.dims place) (said_by first)) where
-  pub same-first : said_by first ≡ first_in words
-  same-first = f ∙ sym (next-first form.dims rest) ∙ ap first_in (sym w)
+-- words whose first word was read, and keeps its rules where they stand
+pub record IsFramedAt (form : Form) (place : Place) (first : First') (words : List ℕ) : Type 0 where
+  pub framed : IsFramed form.dims words
+  pub same : said_by first ≡ first_in words
+  pub clear : has_zeros_from (first_in words).level (known form.dims (place_of form.dims place)) ≡ true
+  pub low : (first_in words).level < ceiling form.width (place_of form.dims place)
 
-  same-fits : first_fits form.width form.dims (place_of form.dims place) (first_in words) ≡ true
-  same-fits =
-      sym (h ∙ ap (first_fits form.width form.dims (place_of form.dims place)) same-first)
-
-  pub is-framed : IsFramed form.dims words
-  is-framed =
-      framed form place k s words same-fits
-      (ap length w ∙ words-many form.dims rest ∙
-      ap (record_words form.dims) (sym (next-first form.dims rest) ∙ ap first_in (sym w)))
-
-  pub is-clear : has_zeros_from (first_in words).level (known form.dims (place_of form.dims place)) ≡ true
-  is-clear = clear form place k s (first_in words) same-fits
-
-  pub is-low : (first_in words).level < ceiling form.width (place_of form.dims place)
-  is-low = low form place k s (first_in words) same-fits
+pub framed-at : (form : Form) (place : Place) (rest : List ℕ) {words : List ℕ} {first : First'} {n : ℕ} → IsForm form → IsStanding form.width form.dims place →
+    said_by first ≡ next_first rest → n ≡ record_words form.dims (said_by first) → words ≡ words_in n rest →
+    true ≡ first_fits form.width form.dims (place_of form.dims place) (said_by first) → IsFramedAt form place first words
+framed-at form place rest {words} {first} k s f l w h =
+    let record_is : words ≡ next_record form.dims rest = w ∙ ap (λ n. words_in n rest) (l ∙ ap (record_words form.dims) f) in
+    let same : said_by first ≡ first_in words = f ∙ sym (next-first form.dims rest) ∙ ap first_in (sym record_is) in
+    let fits : first_fits form.width form.dims (place_of form.dims place) (first_in words) ≡ true =
+    sym (h ∙ ap (first_fits form.width form.dims (place_of form.dims place)) same) in
+    record {
+      framed = framed form place k s words fits
+          (ap length record_is ∙ words-many form.dims rest ∙ ap (record_words form.dims) (sym f ∙ same));
+      same = same;
+      clear = clear form place k s (first_in words) fits;
+      low = low form place k s (first_in words) fits;
+    }

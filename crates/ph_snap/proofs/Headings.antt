@@ -1,5 +1,6 @@
 -- What a header says of the first fault of the bytes.
-use Rattle.std.proofs.Common.{◌≡◌, ◌≤◌, ◌⊎◌, inl, inr, ℕ, zero, suc, List, [], ◌∷◌, refl, ap, sym, ◌∙◌, subst, arith, Bool, true, false, eq-eqb, eqb-true, leb-true, ◌%◌}
+use Rattle.std.proofs.Common.{◌≡◌, ◌≤◌, ◌⊎◌, inl, inr, ℕ, zero, suc, List, [], ◌∷◌, ◌++◌, refl, ap, sym, ◌∙◌, subst, arith}
+use Rattle.std.proofs.Common.{Bool, true, false, eq-eqb, eqb-true, leb-true, ◌%◌}
 use Rattle.std.specs.Prelude.{Option, Some, None, ◌==◌, ◌&&◌, ◌||◌, nat_le, if◌then◌else◌, slice_index}
 use Rattle.ph_specs.specs.declared.Kind.{Kind}
 use Rattle.ph_specs.specs.declared.Kind.TheVariants.{Points, Boxes}
@@ -59,47 +60,41 @@ module _ (bytes : List ℕ) (kind : Kind) (dims width : ℕ) where
   abbrev headed : Option Fault → ℕ → Option Fault
   headed first flag = elim first as (λ x. Option Fault) [ Some f ↦ Some f | None ↦ rest flag ]
 
-  first-version : has_magic 1 bytes ≡ true → load_fault kind dims width bytes ≡ in_turn 1
-  first-version m =
-      let tests : List (Bool × Fault) = (has_byte bytes 4 is_flag, bad_header 4) ∷
-      (has_byte bytes 5 (dims_fit 8 (slice_index bytes 4)), bad_header 5) ∷
-      (has_byte bytes 6 is_flag, bad_header 6) ∷ (has_byte bytes 7 (λ b. b == 0), bad_header 7) ∷
-      (is_asked 1 kind dims width bytes, bad_dims) ∷ [] in
+  -- the tests of a version, whose first four bytes are right
+  tested : (v flag : ℕ) → has_magic v bytes ≡ true →
+      headed (first_failed ((has_magic v bytes, bad_magic) ∷ own_tests v bytes ++ (is_asked v kind dims width bytes, bad_dims) ∷ [])) flag ≡
+      or_else (first_failed (own_tests v bytes)) (or_else (first_failed ((is_asked v kind dims width bytes, bad_dims) ∷ [])) (rest flag))
+  tested v flag m =
+      ap (λ b. headed (first_failed ((b, bad_magic) ∷ own_tests v bytes ++ (is_asked v kind dims width bytes, bad_dims) ∷ [])) flag) m
+      ∙ ap (λ t. headed t flag)
+      (five-tests (has_byte bytes 4 is_flag) (has_byte bytes 5 (dims_fit (most_of v) (slice_index bytes 4)))
+      (has_byte bytes 6 (if v == 1 then is_flag else is_width)) (has_byte bytes 7 (if v == 1 then (λ b. b == 0) else is_flag))
+      (is_asked v kind dims width bytes) (bad_header 4) (bad_header 5) (bad_header 6) (bad_header 7) bad_dims)
+      ∙ settled (first_failed (own_tests v bytes)) (first_failed ((is_asked v kind dims width bytes, bad_dims) ∷ [])) (rest flag)
+
+  -- by whether they are those of the first version
+  picked : {b : Bool} → has_magic 1 bytes ≡ b → load_fault kind dims width bytes ≡ elim b as (λ x. Option Fault) [
+    | true ↦ headed (first_failed (header_tests_1 kind dims width bytes)) (slice_index bytes 6)
+    | false ↦ headed (first_failed (header_tests kind dims width bytes)) (slice_index bytes 7)
+  ]
+  picked e =
       ap (λ b. elim b as (λ x. Option Fault) [
         | true ↦ headed (first_failed (header_tests_1 kind dims width bytes)) (slice_index bytes 6)
-        | false ↦
-            headed (first_failed (header_tests kind dims width bytes)) (slice_index bytes 7)
-      ]) m
-      ∙ ap (λ b. headed (first_failed ((b, bad_magic) ∷ tests)) (slice_index bytes 6)) m
-      ∙ ap (λ t. headed t (slice_index bytes 6))
-      (five-tests (has_byte bytes 4 is_flag) (has_byte bytes 5 (dims_fit 8 (slice_index bytes 4)))
-      (has_byte bytes 6 is_flag) (has_byte bytes 7 (λ b. b == 0)) (is_asked 1 kind dims width bytes)
-      (bad_header 4) (bad_header 5) (bad_header 6) (bad_header 7) bad_dims)
-      ∙ settled (first_failed (own_tests 1 bytes)) (first_failed ((is_asked 1 kind dims width bytes, bad_dims) ∷ [])) (rest (slice_index bytes 6))
-      ∙ ap (λ b. or_else (first_failed (own_tests 1 bytes))
-      (or_else (first_failed ((is_asked 1 kind dims width bytes, bad_dims) ∷ []))
-      (rest (if b then slice_index bytes 6 else slice_index bytes 7)))) (sym m)
+        | false ↦ headed (first_failed (header_tests kind dims width bytes)) (slice_index bytes 7)
+      ]) e
+
+  flagged : (v : ℕ) {b : Bool} → has_magic 1 bytes ≡ b →
+      or_else (first_failed (own_tests v bytes)) (or_else (first_failed ((is_asked v kind dims width bytes, bad_dims) ∷ []))
+      (rest (if b then slice_index bytes 6 else slice_index bytes 7))) ≡ in_turn v
+  flagged v e =
+      ap (λ b. or_else (first_failed (own_tests v bytes)) (or_else (first_failed ((is_asked v kind dims width bytes, bad_dims) ∷ []))
+      (rest (if b then slice_index bytes 6 else slice_index bytes 7)))) (sym e)
+
+  first-version : has_magic 1 bytes ≡ true → load_fault kind dims width bytes ≡ in_turn 1
+  first-version m = picked m ∙ tested 1 (slice_index bytes 6) m ∙ flagged 1 m
 
   second-version : has_magic 1 bytes ≡ false → has_magic 2 bytes ≡ true → load_fault kind dims width bytes ≡ in_turn 2
-  second-version n m =
-      let tests : List (Bool × Fault) = (has_byte bytes 4 is_flag, bad_header 4) ∷
-      (has_byte bytes 5 (dims_fit 16 (slice_index bytes 4)), bad_header 5) ∷
-      (has_byte bytes 6 is_width, bad_header 6) ∷ (has_byte bytes 7 is_flag, bad_header 7) ∷
-      (is_asked 2 kind dims width bytes, bad_dims) ∷ [] in
-      ap (λ b. elim b as (λ x. Option Fault) [
-        | true ↦ headed (first_failed (header_tests_1 kind dims width bytes)) (slice_index bytes 6)
-        | false ↦
-            headed (first_failed (header_tests kind dims width bytes)) (slice_index bytes 7)
-      ]) n
-      ∙ ap (λ b. headed (first_failed ((b, bad_magic) ∷ tests)) (slice_index bytes 7)) m
-      ∙ ap (λ t. headed t (slice_index bytes 7))
-      (five-tests (has_byte bytes 4 is_flag) (has_byte bytes 5 (dims_fit 16 (slice_index bytes 4)))
-      (has_byte bytes 6 is_width) (has_byte bytes 7 is_flag) (is_asked 2 kind dims width bytes) (bad_header 4)
-      (bad_header 5) (bad_header 6) (bad_header 7) bad_dims)
-      ∙ settled (first_failed (own_tests 2 bytes)) (first_failed ((is_asked 2 kind dims width bytes, bad_dims) ∷ [])) (rest (slice_index bytes 7))
-      ∙ ap (λ b. or_else (first_failed (own_tests 2 bytes))
-      (or_else (first_failed ((is_asked 2 kind dims width bytes, bad_dims) ∷ []))
-      (rest (if b then slice_index bytes 6 else slice_index bytes 7)))) (sym n)
+  second-version n m = picked n ∙ tested 2 (slice_index bytes 7) m ∙ flagged 2 n
 
   by-version : (v : ℕ) → IsVersion bytes v → load_fault kind dims width bytes ≡ in_turn v
   by-version v h = elim (versions v h.some h.few) [

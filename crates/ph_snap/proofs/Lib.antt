@@ -14,5 +14,6 @@ mod EntryParts
 mod Bytes
 mod Framed
 mod Headings
+mod Asked
 mod Loads
 mod Behind

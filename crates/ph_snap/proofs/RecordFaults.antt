@@ -1,16 +1,17 @@
 -- The faults of records one behind the other.
 use Rattle.std.proofs.Common.{◌≡◌, ℕ, zero, suc, ◌+◌, ◌-◌, ◌*◌, ◌<◌, ◌≤◌, refl, sym, ◌∙◌, ap, subst, arith, List}
-use Rattle.std.proofs.Common.{[], ◌∷◌, ◌++◌, length, drop, Bool, true, leb-true, append_assoc}
-use Rattle.std.specs.Prelude.{Option, Some, None, nat_le}
-use Rattle.std.proofs.lemmas.List.{length-drop, drop-drop}
+use Rattle.std.proofs.Common.{[], ◌∷◌, ◌++◌, length, drop, true, append_assoc}
+use Rattle.std.specs.Prelude.{Option, Some, None}
+use Rattle.std.proofs.lemmas.List.{length-append, length-drop, drop-drop}
 use Rattle.std.proofs.lemmas.Bool.Decides.{nat_tests}
 use Rattle.ph_specs.specs.declared.Kind.{Kind}
-use Rattle.ph_specs.specs.Digits.{words_for}
+use Rattle.ph_specs.specs.Digits.{words_for, bytes_of}
+use Rattle.ph_specs.specs.KindRows.{IsBytes}
 use Rattle.ph_specs.specs.Record.{first_in, Read, read_point, read_child, table_digits, record_words, entries_in}
-use Rattle.ph_specs.specs.Load.{Fault, bad_short, bad_node, first_failed, Place, root, under, level_fits, first_fits, rest_fits}
+use Rattle.ph_specs.specs.Load.{Fault, Place, root, under, level_fits}
 use Rattle.ph_specs.specs.Load.{words_in, next_first, next_record, record_fault, places_under, places_of, records_fault}
-use Rattle.ph_specs.proofs.lemmas.FoundTree.{passed, Passed}
-use Rattle.ph_specs.proofs.lemmas.ByteWords.{length-words_in}
+use Rattle.ph_specs.proofs.lemmas.FoundTree.{Passed, next-passed}
+use Rattle.ph_specs.proofs.lemmas.ByteWords.{length-bytes, length-words_in}
 use Rattle.ph_specs.proofs.lemmas.Counted.{kids}
 use Rattle.ph_specs.proofs.laws.RecordAgain.{entries-count}
 use Rattle.ph_snap.specs.Faults.{fault_of, IsGiven, IsLoadFault, faults, HaveFault, HaveNone}
@@ -26,22 +27,20 @@ next-first dims bytes =
     ((next_first bytes).entries - (next_first bytes).children)) = omega arith in
     ap (λ n. first_in (words_in n bytes)) e
 
--- it is there whole
-pub fits-whole : (kind : Kind) (width dims : ℕ) (place : Place) (n : ℕ) (bytes : List ℕ) →
-    record_fault kind width dims place n bytes ≡ None → 8 * record_words dims (next_first bytes) ≤ length bytes
-fits-whole kind width dims place n bytes h =
-    let t3 : List (Bool × Fault) = (rest_fits kind width dims place (next_record dims bytes), bad_node n) ∷ [] in
-    let t2 : List (Bool × Fault) = (nat_le (8 * record_words dims (next_first bytes)) (length bytes), bad_short n) ∷ t3 in
-    let t1 : List (Bool × Fault) = (first_fits width dims place (next_first bytes), bad_node n) ∷ t2 in
-    let p : (nat_le 8 (length bytes) ≡ true) × (first_failed t1 ≡ None) = passed (nat_le 8 (length bytes)) (bad_short n) t1 h in
-    let q : (first_fits width dims place (next_first bytes) ≡ true) × (first_failed t2 ≡ None) =
-    passed (first_fits width dims place (next_first bytes)) (bad_node n) t2 p.1 in
-    let r : (nat_le (8 * record_words dims (next_first bytes)) (length bytes) ≡ true) × (first_failed t3 ≡ None) =
-    passed (nat_le (8 * record_words dims (next_first bytes)) (length bytes)) (bad_short n) t3 q.1 in
-    leb-true (8 * record_words dims (next_first bytes)) (length bytes) r.0
-
 pub words-many : (dims : ℕ) (bytes : List ℕ) → length (next_record dims bytes) ≡ record_words dims (next_first bytes)
 words-many dims bytes = length-words_in (record_words dims (next_first bytes)) bytes
+
+-- it is there whole
+pub fits-whole : (kind : Kind) (width dims : ℕ) (place : Place) (n : ℕ) (bytes : List ℕ) → IsBytes bytes →
+    record_fault kind width dims place n bytes ≡ None → 8 * record_words dims (next_first bytes) ≤ length bytes
+fits-whole kind width dims place n bytes b h =
+    omega (
+      arith,
+      ap length (next-passed kind width dims place n bytes b h).1,
+      length-append (bytes_of (next_record dims bytes)) (drop (8 * record_words dims (next_first bytes)) bytes),
+      length-bytes (next_record dims bytes),
+      words-many dims bytes,
+    )
 
 pub kids-places : (level : ℕ) (above : List ℕ) (rs : List Read) → length (places_under level above rs) ≡ kids rs
 kids-places level above [] = refl

@@ -1,7 +1,7 @@
 -- The bytes of the nodes of a tree.
 use Rattle.std.proofs.Common.{◌≡◌, ℕ, ◌+◌, ◌*◌, ◌<◌, ◌≤◌, List, [], ◌∷◌, ◌++◌, length, take, drop, get_or, refl, ap, sym}
 use Rattle.std.proofs.Common.{subst, ◌∙◌, append_assoc, append-nil, length-append, take-append-drop, arith}
-use Rattle.std.specs.Prelude.{Some}
+use Rattle.std.specs.Prelude.{Some, Result, Ok, Err}
 use Rattle.std.proofs.lemmas.List.Concat.{flat_map-append}
 use Rattle.ph_io.specs.Giving.{Taken}
 use Rattle.ph_io.specs.Writing.{WritesFront}
@@ -15,7 +15,7 @@ use Rattle.ph_specs.proofs.laws.OneToOne.{packs-append}
 use Rattle.ph_specs.proofs.laws.Ranked.{take-all}
 use Rattle.ph_node.specs.declared.node.SlotOf.{SlotOf}
 use Rattle.ph_tree.proofs.Sizes.{trees, trees-more}
-use Rattle.ph_snap.specs.Saving.{saved, Passed}
+use Rattle.ph_snap.specs.Saving.{saved, Passed, VisitsAll}
 use Rattle.ph_snap.proofs.Passing.{front-more, passed-both, passed-front}
 
 saved-append : (dims : ℕ) (xs ys : List PlainNode) → saved dims (xs ++ ys) ≡ saved dims xs ++ saved dims ys
@@ -98,3 +98,13 @@ module _ (dims : ℕ) (n : PlainNode) {P : Type 0} (ss : List (SlotOf P)) (i : �
 
     pub all-size : (x : ℕ) → x ≡ length (saved dims (n ∷ trees (take i ss))) → x ≡ length (saved dims (nodes (Some n)))
     all-size x h = h ∙ ap (λ ns. length (saved dims (n ∷ ns))) all-trees
+
+-- ---- the nodes that were visited
+
+-- a call that fails may have visited some of them alone
+pub stopped : {T E : Type 0} {count before later : ℕ} {r : Result T E} {e : E} → r ≡ Err e → before ≤ later → later ≤ before + count →
+    VisitsAll count before later r
+stopped is l m = record { most = m; all = rw is tt; kept = l }
+
+pub visited : {T E : Type 0} {count before later : ℕ} {x : T} → later ≡ before + count → VisitsAll {E = E} count before later (Ok x)
+visited e = record { most = omega (arith, e); all = e; kept = omega (arith, e) }

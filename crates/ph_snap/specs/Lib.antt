@@ -3,6 +3,7 @@ pub mod Faults
 pub mod Headers
 pub mod Saving
 pub mod Reads
+pub mod LoadedNodes
 pub mod Standing
 pub mod Frames
 pub mod Columns

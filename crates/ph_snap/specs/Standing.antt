@@ -1,6 +1,6 @@
 -- Where a record stands.
 use Rattle.std.specs.Prelude.{◌≡◌, ◌<◌, ◌∷◌, ℕ, List, [], take, true, Option, Some, None}
-use Rattle.ph_specs.specs.Lawful.{IsBody}
+use Rattle.ph_specs.specs.Lawful.{IsBody, put_together}
 use Rattle.ph_specs.specs.Load.{Place as Stand, root, under, known, has_zeros_from}
 use Rattle.ph_snap.specs.declared.places.Place.{Place}
 use Rattle.ph_snap.specs.declared.places.Place.TheVariants.{Root, Under}
@@ -27,3 +27,8 @@ places_in dims (Some p) = place_of dims p ∷ []
 abbrev pub ceiling : ℕ → Stand → ℕ
 ceiling width root = width
 ceiling width (under level digits) = level
+
+-- numbers whose first ones are what is known behind an entry, with zeros behind it
+pub record IsJoined (dims level addr : ℕ) (above row array : List ℕ) : Type 0 where
+  pub known : take dims array ≡ put_together level addr above row
+  pub body : IsBody dims 62 (take dims array)

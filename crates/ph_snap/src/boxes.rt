@@ -3,14 +3,13 @@
 ghost use Rattle.std.specs.Prelude.{◌≡◌, ◌+◌, ◌*◌, ◌^◌, ◌%◌, ◌<◌, ◌≤◌, ◌++◌, ℕ, true, length, map, take, Some, slice_get, IfSome};
 ghost use Rattle.std.specs.List.{list_all};
 ghost use Rattle.ph_specs.specs.Coordinate.{at_most, coordinate};
-ghost use Rattle.ph_specs.specs.Lawful.{IsBody, put_together};
 ghost use Rattle.ph_specs.specs.Load.{known, box_fits as the_box_fits, boxes_fit as the_boxes_fit, has_zeros_from, places_under};
 ghost use Rattle.ph_specs.specs.Record.{Read, first_in, entries_in};
 ghost use Rattle.ph_bits.specs.Fields.{digits_row};
 ghost use Rattle.ph_node.specs.Recorded.{IsLaidOut};
 ghost use Rattle.ph_snap.specs.Forms.{IsForm};
 ghost use Rattle.ph_snap.specs.Frames.{IsEntry};
-ghost use Rattle.ph_snap.specs.Standing.{place_of, places_in, ceiling, IsStanding, IsClear};
+ghost use Rattle.ph_snap.specs.Standing.{place_of, places_in, ceiling, IsStanding, IsClear, IsJoined};
 
 use crate::entries::{Entry, entry_at};
 use crate::form::Form;
@@ -106,10 +105,8 @@ fn joined(words: &[u64], form: &Form, place: &Place, entry: &Entry) -> [u64; 16]
     requires clear { IsClear (first_in words.now).level form.now.dims place.now }
     requires inside { entry.now.body + form.now.dims * (first_in words.now).level ≤ 64 * length words.now }
     requires near { entry.now.body ≤ 2 ^ 62 }
-    ensures known { take form.now.dims result ≡ put_together (first_in words.now).level entry.now.addr
-        (known form.now.dims (place_of form.now.dims place.now))
-        (digits_row words.now entry.now.body (first_in words.now).level form.now.dims) }
-    ensures body { IsBody form.now.dims 62 (take form.now.dims result) }
+    ensures { IsJoined form.now.dims (first_in words.now).level entry.now.addr (known form.now.dims (place_of form.now.dims place.now))
+        (digits_row words.now entry.now.body (first_in words.now).level form.now.dims) result }
 {
     let mut known = place.known(form);
     join_row(

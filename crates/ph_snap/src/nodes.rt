@@ -1,11 +1,10 @@
 //! The nodes of records.
 
-ghost use Rattle.std.specs.Prelude.{◌≡◌, ◌+◌, ◌*◌, ◌≤◌, [], ◌∷◌, drop, length, IfOk, IfErr};
-ghost use Rattle.ph_specs.specs.NodeSize.{node_size};
-ghost use Rattle.ph_snap.specs.Faults.{HaveFault, HaveNone};
+ghost use Rattle.std.specs.Prelude.{◌≡◌, ◌+◌, ◌*◌, ◌≤◌, [], ◌∷◌, length, IfOk, IfErr};
+ghost use Rattle.ph_snap.specs.Faults.{HaveFault};
 ghost use Rattle.ph_snap.specs.Forms.{IsForm};
 ghost use Rattle.ph_snap.specs.Standing.{place_of, IsStanding};
-ghost use Rattle.ph_snap.specs.Reads.{ReadAs, points};
+ghost use Rattle.ph_snap.specs.LoadedNodes.{IsLoadedNode};
 
 use crate::boxes::place_under;
 use crate::fault::LoadFault;
@@ -41,13 +40,8 @@ pub(crate) fn load_node<P: Dims, C: Ledger>(
     requires dims { form.now.dims ≡ P.D }
     requires standing { IsStanding form.now.width form.now.dims place.now }
     requires at { at ≤ length bytes.now }
-    ensures none { IfOk result (λ r. HaveNone form.now.kind form.now.width form.now.dims (place_of form.now.dims place.now ∷ []) at bytes.now r.end) }
-    ensures node { IfOk result (λ r. ReadAs form.now.dims (drop at bytes.now) (r.node ∷ []) (drop r.end bytes.now)) }
-    ensures within { IfOk result (λ r. r.end ≤ length bytes.now) }
-    ensures rows { IfOk result (λ r. r.rows ≡ points r.node) }
-    ensures few { IfOk result (λ r. at + 8 * points r.node ≤ r.end) }
-    ensures nodes { IfOk result (λ r. changes.new ≡ changes.old + node_size r.node) }
-    ensures cost { IfOk result (λ r. at + 16 * node_size r.node ≤ r.end) }
+    ensures loaded { IfOk result (λ r. IsLoadedNode form.now.kind form.now.width form.now.dims (place_of form.now.dims place.now) at bytes.now
+        changes.old changes.new r.node r.end r.rows) }
     ensures err { IfErr result (λ f. HaveFault form.now.kind form.now.width form.now.dims (place_of form.now.dims place.now ∷ []) at bytes.now f) }
     ensures limit { at + 16 * changes.new ≤ 16 * changes.old + length bytes.now }
     ensures kept { changes.old ≤ changes.new }

@@ -1,6 +1,6 @@
 //! A tree, as bytes to a sink.
 
-ghost use Rattle.std.specs.Prelude.{◌≡◌, ℕ, ◌+◌, ◌*◌, ◌^◌, ◌≤◌, List, [], ◌∷◌, ◌++◌, Some, true, length, if◌then◌else◌, OnOk, OnErr, IfOk};
+ghost use Rattle.std.specs.Prelude.{◌≡◌, ℕ, ◌*◌, ◌^◌, ◌≤◌, List, [], ◌∷◌, ◌++◌, Some, true, length, if◌then◌else◌, OnOk, OnErr, IfOk};
 ghost use Rattle.std.specs.Option.{option_copied};
 ghost use Rattle.ph_io.specs.Causes.{HasCause};
 ghost use Rattle.ph_io.specs.Giving.{Given, taken_of};
@@ -10,7 +10,7 @@ ghost use Rattle.ph_specs.specs.Node.{nodes};
 ghost use Rattle.ph_specs.specs.Snapshot.{snap, kind_byte, magic};
 ghost use Rattle.ph_specs.specs.Table.{Row, IsTable};
 ghost use Rattle.ph_specs.specs.WorkSets.{all_nodes};
-ghost use Rattle.ph_snap.specs.Saving.{saved, Passed};
+ghost use Rattle.ph_snap.specs.Saving.{PassesNodes, VisitsAll};
 
 use crate::block::Block;
 use ph_coord::{Dim, Dims};
@@ -44,9 +44,7 @@ pub fn save<const D: usize, S: Sink, V: Ledger>(
         (snap kind D tree.now.width tree.now.table)) }
     ensures cause { HasCause (S.faults sink.old) (S.faults sink.new) result }
     ensures follows { S.follows sink.old sink.new }
-    ensures visits { visits.new ≤ visits.old + length (all_nodes tree.now.width D tree.now.table) }
-    ensures all { OnOk result (visits.new ≡ visits.old + length (all_nodes tree.now.width D tree.now.table)) }
-    ensures later { visits.old ≤ visits.new }
+    ensures visits { VisitsAll (length (all_nodes tree.now.width D tree.now.table)) visits.old visits.new result }
     ensures unique { (m : Kind) (dims width : ℕ) (t : List Row) → IsTable width dims t
         → snap kind D tree.now.width tree.now.table ≡ snap m dims width t
         → (kind ≡ m) × (D ≡ dims) × (tree.now.width ≡ width) × (tree.now.table ≡ t) }
@@ -78,21 +76,13 @@ fn save_tree<P: Dims, S: Sink, V: Ledger>(
     visits: &mut Steps<V>,
 ) -> Result<u128, Failed>
     requires { length (nodes (option_copied root)) ≤ 2 ^ 64 }
-    ensures passed { OnOk result (Passed
+    ensures records { PassesNodes P.D (nodes (option_copied root.entry))
         (taken_of (S.written sink.old) (S.amount sink.old)) block.old
-        (taken_of (S.written sink.new) (S.amount sink.new)) block.new
-        (saved P.D (nodes (option_copied root.entry)))) }
-    ensures front { OnErr result (WritesFront
-        (taken_of (S.written sink.old) (S.amount sink.old))
-        (taken_of (S.written sink.new) (S.amount sink.new))
-        (block.old ++ saved P.D (nodes (option_copied root.entry)))) }
-    ensures size { IfOk result (λ n. n ≡ length (saved P.D (nodes (option_copied root.entry)))) }
+        (taken_of (S.written sink.new) (S.amount sink.new)) block.new result }
     ensures few { IfOk result (λ n. n ≤ 2 ^ 127) }
     ensures cause { HasCause (S.faults sink.old) (S.faults sink.new) result }
     ensures follows { S.follows sink.old sink.new }
-    ensures visits { visits.new ≤ visits.old + length (nodes (option_copied root.entry)) }
-    ensures all { OnOk result (visits.new ≡ visits.old + length (nodes (option_copied root.entry))) }
-    ensures later { visits.old ≤ visits.new }
+    ensures visits { VisitsAll (length (nodes (option_copied root.entry))) visits.old visits.new result }
 {
     match root {
         Some(root) => save_node(root, block, sink, visits),
@@ -108,21 +98,13 @@ fn save_node<P: Dims, S: Sink, V: Ledger>(
     visits: &mut Steps<V>,
 ) -> Result<u128, Failed>
     requires { length (nodes (Some node.now)) ≤ 2 ^ 64 }
-    ensures passed { OnOk result (Passed
+    ensures records { PassesNodes P.D (nodes (Some node.now))
         (taken_of (S.written sink.old) (S.amount sink.old)) block.old
-        (taken_of (S.written sink.new) (S.amount sink.new)) block.new
-        (saved P.D (nodes (Some node.now)))) }
-    ensures front { OnErr result (WritesFront
-        (taken_of (S.written sink.old) (S.amount sink.old))
-        (taken_of (S.written sink.new) (S.amount sink.new))
-        (block.old ++ saved P.D (nodes (Some node.now)))) }
-    ensures size { IfOk result (λ n. n ≡ length (saved P.D (nodes (Some node.now)))) }
+        (taken_of (S.written sink.new) (S.amount sink.new)) block.new result }
     ensures few { IfOk result (λ n. n ≤ 2 ^ 63 * length (nodes (Some node.now))) }
     ensures cause { HasCause (S.faults sink.old) (S.faults sink.new) result }
     ensures follows { S.follows sink.old sink.new }
-    ensures visits { visits.new ≤ visits.old + length (nodes (Some node.now)) }
-    ensures all { OnOk result (visits.new ≡ visits.old + length (nodes (Some node.now))) }
-    ensures later { visits.old ≤ visits.new }
+    ensures visits { VisitsAll (length (nodes (Some node.now))) visits.old visits.new result }
 {
     let visited = node.visit(visits);
     let words = visited.words();

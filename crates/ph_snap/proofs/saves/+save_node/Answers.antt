@@ -4,14 +4,23 @@ use Rattle.std.proofs.lemmas.Result.{err_from_is_err_and}
 use Rattle.ph_specs.specs.Node.{nodes}
 use Rattle.ph_specs.specs.Pack.{pack}
 use Rattle.ph_tree.proofs.Sizes.{trees, below-children, trees-more, child-room}
-use Rattle.ph_snap.proofs.SavedNodes.{node-size, node-passed, node-front, child-passed, child-size, child-front, all-trees, all-passed, all-size}
+use Rattle.ph_snap.proofs.SavedNodes.{node-size, node-passed, node-front, child-passed, child-size, child-front, all-trees, all-passed, all-size, stopped, visited}
 use Rattle.ph_snap.proofs.saves.+save_node.Goals as goal
 
-pub returns-in_err-put-clause-front : goal.returns-in_err-put-clause-front
-returns-in_err-put-clause-front g t c =
+pub returns-in_err-put-clause-records : goal.returns-in_err-put-clause-records
+returns-in_err-put-clause-records g t c =
     let is = err_from_is_err_and c.from_residual.result c.from_residual.ensures.1 in
     let words = c.words-words.ensures ∙ ap (λ n. pack g.P.Dims.D n) c.visit-visited.ensures.shows in
-    rw is.1 (node-front g.P.Dims.D c.args.node.now c.words-words.result.now words _ _ _ c.in_err-put.ensures.front)
+    rw is.1 (record {
+      passed = tt;
+      front = node-front g.P.Dims.D c.args.node.now c.words-words.result.now words _ _ _ c.in_err-put.ensures.front;
+      size = tt;
+    })
+
+pub returns-in_err-put-clause-visits : goal.returns-in_err-put-clause-visits
+returns-in_err-put-clause-visits g t c =
+    let is = err_from_is_err_and c.from_residual.result c.from_residual.ensures.1 in
+    stopped is.1 (omega (arith, c.visit-visited.ensures.cost)) (omega (arith, c.visit-visited.ensures.cost))
 
 pub loop-slot-init : goal.loop-slot-init
 loop-slot-init g t c =
@@ -32,19 +41,24 @@ save_node-requires g t c κs within =
     let room : length (nodes (Some c.slot-item.result.node)) ≤ 2 ^ 64 = omega (arith, few, below, c.requires) in
     (omega (arith, c.decreases, few, below), search (rules, within, room))
 
-pub returns-in_err-size-clause-front : goal.returns-in_err-size-clause-front
-returns-in_err-size-clause-front g t c =
+pub returns-in_err-size-clause-records : goal.returns-in_err-size-clause-records
+returns-in_err-size-clause-records g t c =
     let is = err_from_is_err_and c.from_residual-in_err-size.result c.from_residual-in_err-size.ensures.1 in
     let below = below-children c.children-slot-items.result.now _ _ c.children-slot-items.ensures c.visit-visited.ensures.shows in
-    rw is.1
-    (child-front g.P.Dims.D c.args.node.now c.children-slot-items.result.now c.loop-slot.slot-index c.slot-item.result
-    (omega arith) c.slot-item.is _ _ _ _ _ below c.loop-slot.invariant.passed c.in_err-size.ensures.front)
+    rw is.1 (record {
+      passed = tt;
+      front = child-front g.P.Dims.D c.args.node.now c.children-slot-items.result.now c.loop-slot.slot-index c.slot-item.result
+          (omega arith) c.slot-item.is _ _ _ _ _ below c.loop-slot.invariant.passed c.in_err-size.ensures.records.front;
+      size = tt;
+    })
 
 pub returns-in_err-size-clause-visits : goal.returns-in_err-size-clause-visits
 returns-in_err-size-clause-visits g t c =
+    let is = err_from_is_err_and c.from_residual-in_err-size.result c.from_residual-in_err-size.ensures.1 in
     let below = ap length (below-children c.children-slot-items.result.now _ _ c.children-slot-items.ensures c.visit-visited.ensures.shows) in
     let few = child-room c.children-slot-items.result.now c.loop-slot.slot-index c.slot-item.result (omega arith) c.slot-item.is in
-    omega (arith, c.in_err-size.ensures.visits, c.loop-slot.invariant.visits, few, below)
+    stopped is.1 (omega (arith, c.in_err-size.ensures.visits.kept, c.loop-slot.invariant.visits))
+    (omega (arith, c.in_err-size.ensures.visits.most, c.loop-slot.invariant.visits, few, below))
 
 pub overflow_add-size : goal.overflow_add-size
 overflow_add-size g t c =
@@ -60,24 +74,25 @@ loop-slot-preserved g t c =
     let more = ap length (trees-more ss c.loop-slot.slot-index c.slot-item.result (omega arith) c.slot-item.is) in
     record {
       passed = child-passed g.P.Dims.D c.args.node.now ss c.loop-slot.slot-index c.slot-item.result (omega arith)
-          c.slot-item.is _ _ _ _ _ _ c.loop-slot.invariant.passed c.in_ok-size.ensures.passed;
+          c.slot-item.is _ _ _ _ _ _ c.loop-slot.invariant.passed c.in_ok-size.ensures.records.passed;
       size = child-size g.P.Dims.D c.args.node.now ss c.loop-slot.slot-index c.slot-item.result (omega arith)
-          c.slot-item.is _ _ c.loop-slot.invariant.size c.in_ok-size.ensures.size;
+          c.slot-item.is _ _ c.loop-slot.invariant.size c.in_ok-size.ensures.records.size;
       few = omega (arith, c.in_ok-size.ensures.few, c.loop-slot.invariant.few, more, length-append before child);
       later = omega (arith, c.loop-slot.invariant.later, c.in_ok-size.ensures.cause.later);
       follows = g.met.S.Sink.follows_on _ _ _ c.loop-slot.invariant.follows c.in_ok-size.ensures.follows;
-      visits = omega (arith, c.in_ok-size.ensures.all, c.loop-slot.invariant.visits, more, length-append before child);
+      visits = omega (arith, c.in_ok-size.ensures.visits.all, c.loop-slot.invariant.visits, more, length-append before child);
     }
 
-pub returns-clause-passed : goal.returns-clause-passed
-returns-clause-passed g t c =
+pub returns-clause-records : goal.returns-clause-records
+returns-clause-records g t c =
     let below = below-children c.children-slot-items.result.now _ _ c.children-slot-items.ensures c.visit-visited.ensures.shows in
-    all-passed g.P.Dims.D c.args.node.now c.children-slot-items.result.now c.loop-slot.slot-index (omega arith) below _ _ _ _ c.loop-slot.invariant.passed
-
-pub returns-clause-size : goal.returns-clause-size
-returns-clause-size g t c =
-    let below = below-children c.children-slot-items.result.now _ _ c.children-slot-items.ensures c.visit-visited.ensures.shows in
-    all-size g.P.Dims.D c.args.node.now c.children-slot-items.result.now c.loop-slot.slot-index (omega arith) below _ c.loop-slot.invariant.size
+    record {
+      passed = all-passed g.P.Dims.D c.args.node.now c.children-slot-items.result.now c.loop-slot.slot-index (omega arith) below
+          _ _ _ _ c.loop-slot.invariant.passed;
+      front = tt;
+      size = all-size g.P.Dims.D c.args.node.now c.children-slot-items.result.now c.loop-slot.slot-index (omega arith) below
+          _ c.loop-slot.invariant.size;
+    }
 
 pub returns-clause-few : goal.returns-clause-few
 returns-clause-few g t c =
@@ -89,10 +104,4 @@ pub returns-clause-visits : goal.returns-clause-visits
 returns-clause-visits g t c =
     let below = below-children c.children-slot-items.result.now _ _ c.children-slot-items.ensures c.visit-visited.ensures.shows in
     let all = all-trees g.P.Dims.D c.args.node.now c.children-slot-items.result.now c.loop-slot.slot-index (omega arith) below in
-    omega (arith, c.loop-slot.invariant.visits, ap length all)
-
-pub returns-clause-all : goal.returns-clause-all
-returns-clause-all g t c =
-    let below = below-children c.children-slot-items.result.now _ _ c.children-slot-items.ensures c.visit-visited.ensures.shows in
-    let all = all-trees g.P.Dims.D c.args.node.now c.children-slot-items.result.now c.loop-slot.slot-index (omega arith) below in
-    omega (arith, c.loop-slot.invariant.visits, ap length all)
+    visited (omega (arith, c.loop-slot.invariant.visits, ap length all))
