@@ -1,4 +1,4 @@
--- Corners of boxes, and boxes, as points of a width.
+-- Corners of boxes, and boxes, as points of a width, and the windows of questions about them.
 use Rattle.std.proofs.Common.{◌≡◌, ℕ, ◌+◌, ◌*◌, ◌≤◌, ◌∙◌, Bool, true, List, ◌++◌, length, take, drop}
 use Rattle.std.proofs.Common.{take-append-drop, replicate, length-append, eq-eqb, eqb-true, arith, ap, sym, subst}
 use Rattle.std.specs.Prelude.{ℤ, ◌==◌}
@@ -8,8 +8,11 @@ use Rattle.std.proofs.lemmas.List.{length-replicate}
 use Rattle.std.proofs.lemmas.List.Folds.{list_all-append}
 use Rattle.ph_specs.specs.Boxes.{IsWindowFor}
 use Rattle.ph_specs.specs.Coordinate.{fits, greatest, least, IsPoint}
-use Rattle.ph_specs.proofs.laws.Boxes.{greatest_all, least_all}
+use Rattle.ph_specs.proofs.laws.Boxes.{greatest_all, least_all, overlaps-window, inside-window, covers-window}
 use Rattle.ph_specs.proofs.lemmas.Tests.{and-made}
+use Rattle.ph_box.specs.Questions.{asks, low_bound, high_bound}
+use Rattle.ph_box.specs.declared.question.Question.{Question}
+use Rattle.ph_box.specs.declared.question.Question.TheVariants.{Overlap, Inside, Cover}
 use Rattle.ph_box.proofs.Made.{part-long}
 
 pub long : (w d : ℕ) (p : List ℤ) → IsPoint w d p → length p ≡ d
@@ -50,5 +53,18 @@ joined-greatest w k d p e h =
     (greatest_all w (length p)))
 
 -- a window by the names of its corners
-pub window-named : (w d : ℕ) (asks : List ℤ → Bool) (low high from to : List ℤ) → from ≡ low → to ≡ high → IsWindowFor w d asks low high → IsWindowFor w d asks from to
+window-named : (w d : ℕ) (asks : List ℤ → Bool) (low high from to : List ℤ) → from ≡ low → to ≡ high → IsWindowFor w d asks low high → IsWindowFor w d asks from to
 window-named w d asks low high from to e f h = subst (λ x. IsWindowFor w d asks x to) (sym e) (subst (λ x. IsWindowFor w d asks low x) (sym f) h)
+
+question-window : (question : Question) (w k d : ℕ) (lo hi : List ℤ) → k * 2 ≡ d → length lo ≡ k → length hi ≡ k →
+    IsWindowFor w d (asks question (lo ++ hi)) (low_bound question w lo hi) (high_bound question w lo hi)
+question-window Overlap w k d lo hi e l h = overlaps-window w k d lo hi e l h
+question-window Inside w k d lo hi e l h = inside-window w k d lo hi e l h
+question-window Cover w k d lo hi e l h = covers-window w k d lo hi e l h
+
+-- the window of a question, by the names of its corners
+pub answered-by : (question : Question) (w k d : ℕ) (lo hi from to : List ℤ) → k * 2 ≡ d → IsPoint w k lo → IsPoint w k hi →
+    from ≡ low_bound question w lo hi → to ≡ high_bound question w lo hi → IsWindowFor w d (asks question (lo ++ hi)) from to
+answered-by question w k d lo hi from to e l h f g =
+    window-named w d (asks question (lo ++ hi)) (low_bound question w lo hi) (high_bound question w lo hi) from to f g
+    (question-window question w k d lo hi e (long w k lo l) (long w k hi h))

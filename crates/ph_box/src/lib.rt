@@ -1,10 +1,12 @@
 //! Questions about boxes, as windows on points of twice as many dimensions.
 #![tactic(auto)]
 
-mod bounds;
 mod corners;
+mod question;
 #[cfg(test)]
 mod tests;
+mod windows;
 
-pub use bounds::{cover_bounds, inside_bounds, overlap_bounds};
 pub use corners::{join_box, split_box};
+pub use question::Question;
+pub use windows::bounds;

@@ -51,9 +51,9 @@ fn check<const K: usize, const D: usize>(
 {
     let w = width(rt, bits);
     let (lo, hi) = (point::<K>(rt, w, &lo), point::<K>(rt, w, &hi));
-    let overlap = overlap_bounds::<K, D>(w, &lo, &hi);
-    let inside = inside_bounds::<K, D>(w, &lo, &hi);
-    let cover = cover_bounds::<K, D>(w, &lo, &hi);
+    let overlap = bounds::<K, D>(Question::Overlap, w, &lo, &hi);
+    let inside = bounds::<K, D>(Question::Inside, w, &lo, &hi);
+    let cover = bounds::<K, D>(Question::Cover, w, &lo, &hi);
     for (low, high, listed) in stored {
         let (low, high) = (point::<K>(rt, w, low), point::<K>(rt, w, high));
         let Some(p) = join_box::<K, D>(w, &low, &high) else {

@@ -17,7 +17,7 @@ use Rattle.ph_specs.specs.Engine.{act, act_on}
 use Rattle.ph_script.specs.declared.lines.Line.{Line}
 use Rattle.ph_script.specs.declared.lines.Line.TheVariants.{Text, Long}
 use Rattle.ph_script.specs.Shown.{IsLine}
-use Rattle.ph_script.proofs.Pieces.{line-reading, line-from_kept, text-limit}
+use Rattle.ph_script.proofs.Pieces.{line-reading, line-from_kept}
 use Rattle.ph_engine.specs.Machine.{Machine, Turn, Met, Work, turn, met, unmet, is_refusal, one_if, KEPT, KEPT-is}
 use Rattle.ph_engine.specs.Costs.{Spent, Worked}
 use Rattle.ph_engine.specs.Working.{no_work, work_of, IsAtMost, IsAtLeast}
@@ -28,18 +28,12 @@ use Rattle.ph_engine.specs.Beside.{Beside, AreTold, IsTold, StillTells, Filings}
 use Rattle.ph_engine.specs.Doing.{Done, DoneOr, HoldsFound, Knows, Leads, file_read, uses_files, cut_engine, starved_engine, refuses}
 use Rattle.ph_io.specs.Writing.{WritesFront}
 use Rattle.ph_engine.specs.Serving.{StaysKnown}
-use Rattle.ph_engine.specs.Showing.{IsShort}
 use Rattle.ph_engine.specs.declared.status.Answer.{Answer}
 use Rattle.ph_engine.specs.declared.status.Stop.{Stop}
 use Rattle.ph_engine.specs.declared.status.Stop.TheVariants.{WriteFault, NoMemory}
 use Rattle.ph_io.proofs.Appending.{given_none}
 use Rattle.ph_engine.proofs.Machines.{or_false}
 use Rattle.ph_engine.proofs.Sums.{no-filings}
-
--- a line that is shown as text is short enough to be read
-pub shown-short : (bytes : List ℕ) (line : Line) → IsLine bytes line → IsShort line
-shown-short bytes (Text text) h = text-limit bytes text.now h.0 h.1
-shown-short bytes Long h = tt
 
 -- what a line does, by its reading
 step-is : (most : ℕ) (s : Whole) (t : Turn) (reading : Reading) → reading_in s t ≡ reading →
@@ -226,24 +220,25 @@ module _ (most : ℕ) (e now : Engine) (known : Option Files) (line : List ℕ) 
         };
       }
   said-stopped NoMemory h d =
+      let u = d.unfiled in
       let s = whole e known in
-      let t = turn line (met d.fault d.found) in
-      let c : starved_by s (files_in s t) d.part (reading_in s t) ≡ whole (starved_engine e (met_with d.found) command d.part) known =
-      ap (starved_by s (files_in s t) d.part) (h (met d.fault d.found)) ∙ ap (λ f. starved_by s f d.part (Do command))
-      (files-are s t command (h (met d.fault d.found))) in
+      let t = turn line (met u.fault u.found) in
+      let c : starved_by s (files_in s t) u.part (reading_in s t) ≡ whole (starved_engine e (met_with u.found) command u.part) known =
+      ap (starved_by s (files_in s t) u.part) (h (met u.fault u.found)) ∙ ap (λ f. starved_by s f u.part (Do command))
+      (files-are s t command (h (met u.fault u.found))) in
       record {
-        met = met d.fault d.found;
+        met = met u.fault u.found;
         said = record {
           told = d.told;
-          part = d.part;
-          state = ap (λ x. whole x (told_now known now_b.files)) (d.state (met_with d.found) (knows d.found)) ∙
-              ap (whole (starved_engine e (met_with d.found) command d.part))
-              (known-kept known b.files now_b.files fits d.files) ∙ sym c;
-          wanted = ap (wants_by s) (h (met d.fault d.found)) ∙ d.wanted;
-          spent = one-spent (script_machine most) s t b now_b (work_of most e (met_with d.found) d.fault command)
-              (work-is d.fault d.found (h (met d.fault d.found)))
-              (filed most s t command b now_b d.fault (h (met d.fault d.found)) d.filings)
-              (d.most_work (met_with d.found) (knows d.found));
+          part = u.part;
+          state = ap (λ x. whole x (told_now known now_b.files)) (u.state (met_with u.found) (knows u.found)) ∙
+              ap (whole (starved_engine e (met_with u.found) command u.part))
+              (known-kept known b.files now_b.files fits u.kept) ∙ sym c;
+          wanted = ap (wants_by s) (h (met u.fault u.found)) ∙ u.wanted;
+          spent = one-spent (script_machine most) s t b now_b (work_of most e (met_with u.found) u.fault command)
+              (work-is u.fault u.found (h (met u.fault u.found)))
+              (filed most s t command b now_b u.fault (h (met u.fault u.found)) u.counted)
+              (u.most_work (met_with u.found) (knows u.found));
         };
       }
 
@@ -307,10 +302,6 @@ known-on P e None middle now k h = h
 known-on P e (Some files) None now k h = absurd k
 known-on P e (Some files) (Some more) now k h = h
 
-pub told-is : (told : Option Files) → AreTold told → told ≡ Some (told_files told)
-told-is None h = absurd h
-told-is (Some files) h = refl
-
 -- what is known of files is told behind a command
 pub known-done : (most : ℕ) (e now : Engine) (command : Command) (known : Option Files) (b now_b : Beside)
     (result : Result Answer Stop) → Stays known b.files → DoneOr most e command b now_b now result → StaysKnown known now_b.files
@@ -320,14 +311,14 @@ known-done most e now command (Some files) b now_b (Ok answer) fits d =
 known-done most e now command (Some files) b now_b (Err WriteFault) fits d =
     let l = d.does files (inl fits) in subst AreTold (sym (l.told_files fits)) tt
 known-done most e now command (Some files) b now_b (Err NoMemory) fits d =
-    subst AreTold (sym (kept-told b.files now_b.files files fits (d.files files))) tt
+    subst AreTold (sym (kept-told b.files now_b.files files fits (d.unfiled.kept files))) tt
 
 -- whatever it did, the count of their faults did not fall
 pub done-later : (most : ℕ) (e now : Engine) (command : Command) (b now_b : Beside) (result : Result Answer Stop) →
     DoneOr most e command b now_b now result → b.filings ≤ now_b.filings
 done-later most e now command b now_b (Ok answer) d = d.filings.later
 done-later most e now command b now_b (Err WriteFault) d = d.filings.later
-done-later most e now command b now_b (Err NoMemory) d = d.filings.later
+done-later most e now command b now_b (Err NoMemory) d = d.unfiled.counted.later
 
 -- what a line that is shown was read as
 pub text-reading : (e : Engine) (dims : ℕ) (bytes : List ℕ) (line : Line) (t : Bor (List ℕ)) (was : Reading) →

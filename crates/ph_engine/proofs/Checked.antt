@@ -1,7 +1,8 @@
 -- Bytes that were checked, and files.
-use Rattle.std.proofs.Common.{◌≡◌, ◌≤◌, ◌+◌, ◌*◌, ℕ, inl, inr, arith, Bool, true, false, List, length, refl, ap, sym, ◌∙◌, subst}
+use Rattle.std.proofs.Common.{◌≡◌, ◌≤◌, ◌+◌, ℕ, inl, inr, arith, Bool, true, false, List, length, refl, ap, sym, ◌∙◌, subst}
 use Rattle.std.specs.Prelude.{◌⊎◌, ◌/◌, slice_index, Some, None, is_none, option_map, Result, Ok, Err}
 use Rattle.std.specs.declared.option.Option.{Option}
+use Rattle.ph_io.specs.Causes.{Rose}
 use Rattle.ph_io.specs.Giving.{Taken, Given}
 use Rattle.ph_io.specs.Shelf.{Stays, Fetches, FetchCounts}
 use Rattle.ph_io.specs.Writing.{WritesFront}
@@ -26,10 +27,11 @@ use Rattle.ph_snap.specs.declared.fault.LoadFault.{LoadFault}
 use Rattle.ph_engine.specs.Beside.{AreTold, Filings, beside_sink}
 use Rattle.ph_engine.specs.Checking.{FileHasSizes, HasSizes, IsSavedAs, LineGiven, CheckDone, bytes_checked, nodes_saved, nodes_unless, status_of}
 use Rattle.ph_engine.specs.Filing.{TellsFault, TellsUnfetched}
+use Rattle.ph_engine.specs.Loading.{IsWithinBytes}
 use Rattle.ph_engine.specs.Machine.{is_refusal, one_if}
 use Rattle.ph_engine.specs.ScriptMachine.{told_files}
 use Rattle.ph_engine.specs.Slots.{AnyTable}
-use Rattle.ph_engine.specs.Statuses.{IsRead}
+use Rattle.ph_engine.specs.Statuses.{IsRead, StopHasCause}
 use Rattle.ph_engine.specs.Telling.{ToldOr}
 use Rattle.ph_engine.specs.declared.status.Answer.{Answer}
 use Rattle.ph_engine.specs.declared.status.Answer.TheVariants as answer
@@ -183,6 +185,13 @@ module _ (sink now_sink : Taken) (line : List ℕ) where
   unwritten-of (Err stop.WriteFault) g e = absurd (let clash : WriteFault ≡ Memory = e in cc)
   unwritten-of (Err stop.NoMemory) g e = g
 
+-- a status of a failed write is that of an answer with its cause
+pub write-rose : (before now : ℕ) (result : Result Answer Stop) → StopHasCause before now result → status_of result ≡ WriteFault → Rose before now
+write-rose before now (Ok answer.Good) h e = absurd (let clash : Clean ≡ WriteFault = e in cc)
+write-rose before now (Ok answer.Refused) h e = absurd (let clash : Refused ≡ WriteFault = e in cc)
+write-rose before now (Err stop.WriteFault) h e = h.write refl
+write-rose before now (Err stop.NoMemory) h e = absurd (let clash : Memory ≡ WriteFault = e in cc)
+
 -- ---- a file
 
 -- the line of a snapshot is no refusal
@@ -332,21 +341,21 @@ pub fetched-done : (most : ℕ) (file bytes : List ℕ) (told now_told : Option 
     (sink now_sink : Taken) (v now_v c now_c : ℕ) (result : Result Answer Stop) →
     Fetches told file most bytes (Ok tt) → length bytes ≤ most → now_f ≡ f → Stays told now_told →
     LineGiven sink now_sink (line_of (words_of_snapshot bytes)) result →
-    (result ≡ Ok answer.Good → HasSizes bytes (line_of (words_of_snapshot bytes))) → v ≤ now_v →
-    now_v ≤ v + nodes_saved bytes → 16 * now_v ≤ 16 * v + length bytes → c ≤ now_c →
-    16 * now_c ≤ 16 * c + length bytes → (result ≡ Ok answer.Good → now_c ≤ c + nodes_saved bytes) →
+    (result ≡ Ok answer.Good → HasSizes bytes (line_of (words_of_snapshot bytes))) → IsWithinBytes bytes v now_v →
+    now_v ≤ v + nodes_saved bytes → IsWithinBytes bytes c now_c →
+    (result ≡ Ok answer.Good → now_c ≤ c + nodes_saved bytes) →
     CheckDone most file (beside_sink sink told f v c) (beside_sink now_sink now_told now_f now_v now_c) (status_of result)
-fetched-done most file bytes told now_told f now_f sink now_sink v now_v c now_c result g short n k line sizes kept_v most_v few_v kept_c few_c nodes =
+fetched-done most file bytes told now_told f now_f sink now_sink v now_v c now_c result g short n k line sizes visits most_v changes nodes =
     let is : AreTold told → fetch most (told_files told) file ≡ Some bytes = read-fetched most file bytes told g short in
     done-by most file told now_told f now_f sink now_sink v now_v c now_c false (line_of (words_of_snapshot bytes)) result
     (failed-never f now_f (omega (arith, n))) k (λ t. ap (λ o. line_of (words_of_file o)) (is t)) line
     (λ t e. record { bytes = bytes; found = read-found most file bytes told g t; sizes = sizes e })
     (record {
-      kept_visits = kept_v;
-      kept_changes = kept_c;
+      kept_visits = visits.kept;
+      kept_changes = changes.kept;
       most_visits = λ t. subst (λ o. now_v ≤ v + nodes_saved (bytes_of o)) (sym (is t)) most_v;
-      most_changes = λ t. subst (λ o. now_c ≤ c + length (bytes_of o) / 16) (sym (is t)) (omega (arith, few_c));
+      most_changes = λ t. subst (λ o. now_c ≤ c + length (bytes_of o) / 16) (sym (is t)) (omega (arith, changes.few));
       clean_changes = λ t e. subst (λ o. now_c ≤ c + nodes_saved (bytes_of o)) (sym (is t)) (nodes e);
-      few_visits = omega (arith, few_v, short);
-      few_changes = omega (arith, few_c, short);
+      few_visits = omega (arith, visits.few, short);
+      few_changes = omega (arith, changes.few, short);
     })

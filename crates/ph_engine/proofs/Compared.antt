@@ -1,5 +1,5 @@
 -- Slots that are compared.
-use Rattle.std.proofs.Common.{◌≡◌, ◌↔◌, ◌≤◌, ℕ, ◌+◌, Bool, true, false, List, [], ◌∷◌, length, refl, sym, subst, ◌∙◌, arith}
+use Rattle.std.proofs.Common.{◌≡◌, ◌↔◌, ◌≤◌, ℕ, ◌+◌, Bool, true, false, List, [], ◌∷◌, length, refl, sym, subst, ◌∙◌}
 use Rattle.std.specs.Prelude.{◌&&◌, ◌==◌, IsTrue}
 use Rattle.std.specs.Cmp.Lexicographic.{pointwise}
 use Rattle.std.proofs.lemmas.Bool.{and_parts, eqb-true, eq-eqb}
@@ -77,17 +77,3 @@ kept-compared d t u x y ex ey visits now_visits result =
     (length (all_nodes p.0.width d p.0.table) + length (all_nodes p.1.width d p.1.table))) →
     IsCompared (slot_of Points (table_at d t) []) (slot_of Points (table_at d u) []) visits now_visits result)
     (λ i. (sym ex i, sym ey i)) (trees-compared d t u visits now_visits result)
-
-not-equal : (v w : ℕ) → (v ≡ w → ⊥) → (v == w) ≡ false
-not-equal v w n = found (v == w) refl
-  where
-    found : (b : Bool) → (v == w) ≡ b → (v == w) ≡ false
-    found true e = absurd (n (eqb-true v w e))
-    found false e = e
-
--- trees of two widths, of which nothing is visited
-pub widths-differ : (d : ℕ) (t u : Past) (visits : ℕ) → (t.width ≡ u.width → ⊥) →
-    IsCompared (slot_of Points (table_at d t) []) (slot_of Points (table_at d u) []) visits visits false
-widths-differ d t u visits n =
-    let same : false ≡ same_slots (slot_of Points (table_at d t) []) (slot_of Points (table_at d u) []) = rw (eq-eqb d d refl, not-equal t.width u.width n) refl in
-    record { same = same; later = omega arith; few = omega arith; all = λ k. absurd (let clash : false ≡ true = same ∙ k in cc) }

@@ -1,5 +1,5 @@
 -- The machine of a script is the definition of a run.
-use Rattle.std.proofs.Common.{◌≡◌, ℕ, inl, inr, List, [], ◌∷◌, ◌++◌, map, refl, ap, sym, ◌∙◌}
+use Rattle.std.proofs.Common.{◌≡◌, ℕ, inl, inr, List, [], ◌∷◌, ◌++◌, map, refl, ap, sym, subst, ◌∙◌}
 use Rattle.std.specs.declared.option.Option.{Option}
 use Rattle.ph_specs.specs.Lines.{lines}
 use Rattle.ph_specs.specs.Reply.{replies_text}
@@ -13,7 +13,7 @@ use Rattle.ph_engine.specs.ScriptMachine.{Whole, whole, script_step, script_mach
 use Rattle.ph_engine.specs.ByDefinition.{RunsAsDefined}
 use Rattle.ph_engine.specs.Outcomes.{Answered, Outcome as Left}
 use Rattle.ph_engine.specs.Statuses.{IsRead}
-use Rattle.ph_engine.specs.declared.status.Status.TheVariants.{Clean, Refused, Usage, ReadFault, WriteFault, Memory, TooLong}
+use Rattle.ph_engine.specs.declared.status.Status.TheVariants.{Clean, Refused}
 use Rattle.ph_engine.specs.declared.status.Status.{Status}
 
 -- in each line the files fail as they do in its turn
@@ -63,26 +63,9 @@ pub outcome-defined : (file_bytes most : ℕ) (left now_left : Option (List ℕ)
     (files : Option Files) (now : Whole) (status : Status) → AreTold files → IsRead status →
     Left (script_machine file_bytes) most left now_left b now_b (whole e files) now status →
     RunsAsDefined file_bytes left now_left b now_b (whole e files) now
-outcome-defined file_bytes most left now_left b now_b e files now Clean told read h = read-defined file_bytes most left now_left b now_b e files now Clean told h
-outcome-defined file_bytes most left now_left b now_b e files now Refused told read h = read-defined file_bytes most left now_left b now_b e files now Refused told h
-outcome-defined file_bytes most left now_left b now_b e files now Usage told read h = absurd h
-outcome-defined file_bytes most left now_left b now_b e files now ReadFault told read h = absurd (other read)
-  where
-    other : IsRead ReadFault → ⊥
-    other (inl e) = cc
-    other (inr e) = cc
-outcome-defined file_bytes most left now_left b now_b e files now WriteFault told read h = absurd (other read)
-  where
-    other : IsRead WriteFault → ⊥
-    other (inl e) = cc
-    other (inr e) = cc
-outcome-defined file_bytes most left now_left b now_b e files now Memory told read h = absurd (other read)
-  where
-    other : IsRead Memory → ⊥
-    other (inl e) = cc
-    other (inr e) = cc
-outcome-defined file_bytes most left now_left b now_b e files now TooLong told read h = absurd (other read)
-  where
-    other : IsRead TooLong → ⊥
-    other (inl e) = cc
-    other (inr e) = cc
+outcome-defined file_bytes most left now_left b now_b e files now status told (inl is) h =
+    read-defined file_bytes most left now_left b now_b e files now Clean told
+    (subst (Left (script_machine file_bytes) most left now_left b now_b (whole e files) now) is h)
+outcome-defined file_bytes most left now_left b now_b e files now status told (inr is) h =
+    read-defined file_bytes most left now_left b now_b e files now Refused told
+    (subst (Left (script_machine file_bytes) most left now_left b now_b (whole e files) now) is h)

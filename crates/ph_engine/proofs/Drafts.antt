@@ -1,13 +1,12 @@
 -- What a sink over the file that is begun leaves.
-use Rattle.std.proofs.Common.{◌≡◌, ◌≤◌, ℕ, ◌+◌, Bool, true, false, List, [], ◌∷◌, ◌++◌, refl, ap, sym, arith, ◌∙◌, append_assoc, append-nil}
+use Rattle.std.proofs.Common.{◌≡◌, ℕ, ◌+◌, Bool, true, false, List, [], ◌∷◌, ◌++◌, refl, ap, sym, arith, ◌∙◌, append_assoc, append-nil}
 use Rattle.std.specs.Prelude.{Option, Some, None, IsSome}
 use Rattle.std.specs.Io.KnownBytes.{Appends}
-use Rattle.ph_io.specs.Causes.{Rose}
 use Rattle.ph_io.specs.Shelf.{Map, Draft, Stays, Begins, Grows, Gains}
 use Rattle.ph_specs.specs.Csv.{csv_line, csv_text}
 use Rattle.ph_specs.specs.Named.{enter}
 use Rattle.ph_specs.specs.Table.{Row}
-use Rattle.ph_engine.specs.DraftLaws.{stays_itself, stays_on}
+use Rattle.ph_engine.specs.DraftLaws.{stays_on}
 use Rattle.ph_engine.specs.Drafting.{Shelf, draft_bytes, draft_name, drafted, Follows, Filled, Unfilled}
 
 -- a draft of the same name whose bytes grew
@@ -31,13 +30,6 @@ module _ (loan now_loan late : ℕ) (before now : Shelf) (works : Bool)
   pub fell : works ≡ false → Unfilled before now
   fell w = record { later = h.later; rose = h.fell refl w; stays = h.files }
 
-pub unfilled : (loan now_loan late : ℕ) (before now : Shelf) (works : Bool) →
-    Follows (drafted loan before.files before.draft before.faults 0 true)
-    (drafted now_loan now.files now.draft now.faults late works) → Rose (before.faults + 0) (now.faults + late) →
-    Unfilled before now
-unfilled loan now_loan late before now true h r = let n = (h.none refl).1 in record { later = h.later; rose = omega (arith, r, n); stays = h.files }
-unfilled loan now_loan late before now false h r = fell loan now_loan late before now false h refl
-
 -- ---- a file that is begun, filled and finished
 
 -- where the files are told, it is among them
@@ -52,22 +44,7 @@ entered (Some old) begun full now_told (Some d) d1 d2 name bytes files law b s1 
     let gained : now_told ≡ Some (enter name bytes old) = rw (s, grew) at gain in
     gained ∙ ap (λ m. Some (enter name bytes m)) (let same : old ≡ files = cc in same)
 
--- the files fail behind calls that did not
-pub unfilled_behind : (a b c : Shelf) → Stays a.files b.files → a.faults ≤ b.faults → Unfilled b c → Unfilled a c
-unfilled_behind a b c s l h = record {
-  later = omega (arith, l, h.later);
-  rose = let r = h.rose in omega (arith, l, r);
-  stays = stays_on a.files b.files c.files s h.stays;
-}
-
-pub call_failed : (before now : Shelf) → Stays before.files now.files → (before.faults ≤ now.faults) × Rose before.faults now.faults → Unfilled before now
-call_failed before now s h = record { later = h.0; rose = h.1; stays = s }
-
 -- ---- a file that is filled piece by piece
-
-grows-nothing : (draft : Option Draft) → Grows draft draft []
-grows-nothing None = tt
-grows-nothing (Some d) = ap (λ bytes. Some (d.0, bytes)) (sym (append-nil d.1))
 
 grows-on : (a b c : Option Draft) (xs ys : List ℕ) → Grows a b xs → Grows b c ys → Grows a c (xs ++ ys)
 grows-on None b c xs ys h k = tt
@@ -75,9 +52,6 @@ grows-on (Some d) None c xs ys h k = absurd (let no : None ≡ Some (d.0, d.1 ++
 grows-on (Some d) (Some e) c xs ys h k =
     let is : e ≡ (d.0, d.1 ++ xs) = cc in
     k ∙ ap (λ x. Some (x.0, x.1 ++ ys)) is ∙ ap (λ bytes. Some (d.0, bytes)) (append_assoc d.1 xs ys)
-
-pub filled-nothing : (a : Shelf) → a.begun ≡ true → Filled a a []
-filled-nothing a b = record { later = omega arith; begun_still = b; stays = stays_itself a.files; grows = grows-nothing a.draft }
 
 pub filled-on : (a b c : Shelf) (xs ys : List ℕ) → Filled a b xs → Filled b c ys → Filled a c (xs ++ ys)
 filled-on a b c xs ys h k = record {
@@ -97,9 +71,6 @@ pub record IsWritten (all rest : List Row) (before now : Shelf) : Type 0 where
   pub gone : List Row
   pub split : all ≡ gone ++ rest
   pub filled : Filled before now (csv_text gone)
-
-pub none-written : (all : List Row) (a : Shelf) → a.begun ≡ true → IsWritten all all a a
-none-written all a b = record { gone = []; split = refl; filled = filled-nothing a b }
 
 pub one-written : (all rest next : List Row) (r : Row) (a b c : Shelf) → IsWritten all rest a b → rest ≡ r ∷ next → Filled b c (csv_line r) → IsWritten all next a c
 one-written all rest next r a b c h e k =

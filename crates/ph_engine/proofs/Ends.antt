@@ -48,9 +48,9 @@ taken-few m most left now_left b now_b s now Clean h = record { bytes = h.bytes;
 taken-few m most left now_left b now_b s now Refused h = record { bytes = h.bytes; consumed = h.consumed; within = omega (arith, h.within) }
 taken-few m most left now_left b now_b s now Usage h = absurd h
 taken-few m most left now_left b now_b s now ReadFault h = record { bytes = h.bytes; consumed = h.consumed; within = omega (arith, h.within) }
-taken-few m most left now_left b now_b s now WriteFault h = record { bytes = h.bytes; consumed = h.consumed; within = h.within }
+taken-few m most left now_left b now_b s now WriteFault h = record { bytes = h.at.bytes; consumed = h.at.consumed; within = h.at.within }
 taken-few m most left now_left b now_b s now Memory (inl h) = record { bytes = []; consumed = h.consumed; within = omega arith }
-taken-few m most left now_left b now_b s now Memory (inr h) = record { bytes = h.bytes; consumed = h.consumed; within = h.within }
+taken-few m most left now_left b now_b s now Memory (inr h) = record { bytes = h.at.bytes; consumed = h.at.consumed; within = h.at.within }
 taken-few m most left now_left b now_b s now TooLong h = record { bytes = h.bytes; consumed = h.consumed; within = omega (arith, h.over) }
 
 -- over files that are told

@@ -1,25 +1,12 @@
 -- A coordinate that no width has, and the coordinates of a point.
-use Rattle.std.proofs.Common.{◌≡◌, ◌∙◌, ℕ, zero, suc, ◌-◌, ◌<◌, ◌≤◌, ◌^◌, true, List, [], ◌∷◌, length, take, get_or, ap, arith}
+use Rattle.std.proofs.Common.{◌≡◌, ◌∙◌, ℕ, zero, suc, ◌-◌, ◌<◌, true, List, [], ◌∷◌, length, take, get_or, ap, arith}
 use Rattle.std.specs.Array.{IsFirstChunk}
-use Rattle.std.specs.Prelude.{pos, nat_le, int_le}
 use Rattle.std.specs.List.{list_all}
-use Rattle.std.proofs.Math.Pow.{pow_mono}
 use Rattle.std.proofs.lemmas.Bool.{and_parts}
-use Rattle.std.proofs.lemmas.Bool.Decides.{nat_tests}
 use Rattle.ph_specs.proofs.laws.Ranked.{take-all}
-use Rattle.ph_specs.specs.Coordinate.{fits, half, least}
+use Rattle.ph_specs.specs.Coordinate.{fits}
 use Rattle.ph_script.specs.declared.coords.Coord.{Coord}
 use Rattle.ph_script.specs.Meaning.{number_of_coord, numbers_of}
-
-half-small : (w : ℕ) → w ≤ 62 → half w ≤ 2 ^ 61
-half-small w h = let l : w - 1 ≤ 61 = omega arith in pow_mono {i = w - 1} {j = 61} l
-
--- no width up to 62 bits has 2^63
-pub far-out : (w : ℕ) → w ≤ 62 → fits w (pos (2 ^ 63)) ≡ true → ⊥
-far-out w h f =
-    let l : nat_le (2 ^ 63) (half w - 1) ≡ true = (and_parts (int_le (least w) (pos (2 ^ 63))) (nat_le (2 ^ 63) (half w - 1)) f).1 in
-    let m : 2 ^ 63 ≤ half w - 1 = grind (arith, nat_tests) in
-    omega (arith, m, half-small w h)
 
 -- each of the coordinates that are in a width
 pub fits-at : (w : ℕ) (coords : List Coord) (i : ℕ) (d : Coord) → list_all (fits w) (numbers_of coords) ≡ true →

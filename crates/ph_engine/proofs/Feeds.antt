@@ -5,10 +5,11 @@ use Rattle.ph_io.specs.Giving.{Given}
 use Rattle.ph_engine.specs.Beside.{Beside}
 use Rattle.ph_specs.specs.Lines.{LF, lines}
 use Rattle.ph_specs.proofs.laws.Put.{and}
-use Rattle.ph_engine.specs.Machine.{Machine, Met, turn, answers, after, is_refusal, some_refused, lines_of, KEPT, KEPT-is}
+use Rattle.ph_engine.specs.Costs.{Spent}
+use Rattle.ph_engine.specs.Machine.{Machine, Met, Turn, turn, answers, after, is_refusal, some_refused, lines_of, KEPT, KEPT-is}
 use Rattle.ph_engine.specs.Cutting.{ended, is_unbroken}
 use Rattle.ph_engine.specs.Answering.{Said, SaidOr}
-use Rattle.ph_engine.specs.Feeding.{Fed, Cut, Starved, FedOr, Feeds, AtEnd, EndsOr}
+use Rattle.ph_engine.specs.Feeding.{Fed, Halted, FedOr, Feeds, AtEnd, EndsOr}
 use Rattle.ph_engine.specs.Statuses.{read_status, stop_status}
 use Rattle.ph_engine.specs.declared.status.Stop.{Stop}
 use Rattle.ph_engine.specs.declared.status.Stop.TheVariants.{WriteFault, NoMemory}
@@ -76,55 +77,45 @@ fed-fed m s unended piece next kept last b middle now_b between now refused more
   worked = worked_both m s between h.done k.done b middle now_b h.state h.worked k.worked;
 }
 
-pub fed-cut : {S : Type 0} (m : Machine S) (s : S) (unended piece next kept : List ℕ) (b middle now_b : Beside)
-    (between now : S) (refused : Bool) → (h : Fed m s unended piece b middle between kept refused) →
-    Cut m between h.rest next middle now_b now → Cut m s unended (piece ++ next) b now_b now
-fed-cut m s unended piece next kept b middle now_b between now refused h k =
-    let e : after m s (h.done ++ k.done) ≡ after m between k.done = after-append m s h.done k.done ∙ ap (λ t. after m t k.done) (sym h.state) in
-    record {
-      done = h.done ++ k.done;
-      last = k.last;
-      more = k.more;
-      count = k.count;
-      split = rw (lines-append h.done k.done, append_assoc)
-          (joined unended piece next (lines_of h.done) (lines_of k.done ++ k.last.line ∷ []) h.rest k.more h.split k.split);
-      unbroken_done = rw (lines-append h.done k.done) (all-append _ (lines_of h.done) (lines_of k.done) h.unbroken_done k.unbroken_done);
-      unbroken_line = k.unbroken_line;
-      short = rw e k.short;
-      told = rw (e, answers-append m s h.done k.done, ← h.state, append_assoc) (given_both b.sink middle.sink now_b.sink _ _ h.told k.told);
-      state = rw e k.state;
-      spent = rw (append_assoc h.done k.done (k.last ∷ [])) (spent_both m s between h.done (k.done ++ k.last ∷ []) b middle now_b h.state h.worked.spent k.spent);
-    }
+-- a fed piece, and a stop in the next one
+module _ {S : Type 0} (m : Machine S) (s : S) (unended piece next kept : List ℕ) (b middle now_b : Beside)
+    (between : S) (refused : Bool) (h : Fed m s unended piece b middle between kept refused) where
+  behind : (done : List Turn) → after m s (h.done ++ done) ≡ after m between done
+  behind done = after-append m s h.done done ∙ ap (λ t. after m t done) (sym h.state)
 
-pub fed-starved : {S : Type 0} (m : Machine S) (s : S) (unended piece next kept : List ℕ) (b middle now_b : Beside)
-    (between now : S) (refused : Bool) → (h : Fed m s unended piece b middle between kept refused) →
-    Starved m between h.rest next middle now_b now → Starved m s unended (piece ++ next) b now_b now
-fed-starved m s unended piece next kept b middle now_b between now refused h k =
-    let e : after m s (h.done ++ k.done) ≡ after m between k.done = after-append m s h.done k.done ∙ ap (λ t. after m t k.done) (sym h.state) in
-    record {
-      done = h.done ++ k.done;
-      last = k.last;
-      more = k.more;
-      part = k.part;
-      split = rw (lines-append h.done k.done, append_assoc)
-          (joined unended piece next (lines_of h.done) (lines_of k.done ++ k.last.line ∷ []) h.rest k.more h.split k.split);
-      unbroken_done = rw (lines-append h.done k.done) (all-append _ (lines_of h.done) (lines_of k.done) h.unbroken_done k.unbroken_done);
-      unbroken_line = k.unbroken_line;
-      told = rw (answers-append m s h.done k.done, ← h.state) (given_both b.sink middle.sink now_b.sink _ _ h.told k.told);
-      state = rw e k.state;
-      wanted = rw e k.wanted;
-      spent = rw (append_assoc h.done k.done (k.last ∷ [])) (spent_both m s between h.done (k.done ++ k.last ∷ []) b middle now_b h.state h.worked.spent k.spent);
-    }
+  abbrev fed-halted : Halted m between h.rest next middle now_b → Halted m s unended (piece ++ next) b now_b
+  fed-halted k = record {
+    done = h.done ++ k.done;
+    last = k.last;
+    more = k.more;
+    split = rw (lines-append h.done k.done, append_assoc)
+        (joined unended piece next (lines_of h.done) (lines_of k.done ++ k.last.line ∷ []) h.rest k.more h.split k.split);
+    unbroken_done = rw (lines-append h.done k.done) (all-append _ (lines_of h.done) (lines_of k.done) h.unbroken_done k.unbroken_done);
+    unbroken_line = k.unbroken_line;
+    spent = rw (append_assoc h.done k.done (k.last ∷ [])) (spent_both m s between h.done (k.done ++ k.last ∷ []) b middle now_b h.state h.worked.spent k.spent);
+  }
 
--- a fed piece, and what a stop in the next one leaves
-pub fed-stopped : {S : Type 0} (m : Machine S) (s : S) (unended piece next kept last : List ℕ)
-    (b middle now_b : Beside) (between now : S) (refused : Bool) (stop : Stop) →
-    (h : Fed m s unended piece b middle between kept refused) →
-    FedOr m between h.rest next middle now_b now last (Err stop) → FedOr m s unended (piece ++ next) b now_b now last (Err stop)
-fed-stopped m s unended piece next kept last b middle now_b between now refused WriteFault h k =
-    fed-cut m s unended piece next kept b middle now_b between now refused h k
-fed-stopped m s unended piece next kept last b middle now_b between now refused NoMemory h k =
-    fed-starved m s unended piece next kept b middle now_b between now refused h k
+  -- what the stop leaves
+  pub fed-stopped : (last : List ℕ) (now : S) (stop : Stop) → FedOr m between h.rest next middle now_b now last (Err stop) →
+      FedOr m s unended (piece ++ next) b now_b now last (Err stop)
+  fed-stopped last now WriteFault k =
+      let e = behind k.at.done in
+      record {
+        at = fed-halted k.at;
+        count = k.count;
+        short = rw e k.short;
+        told = rw (e, answers-append m s h.done k.at.done, ← h.state, append_assoc) (given_both b.sink middle.sink now_b.sink _ _ h.told k.told);
+        state = rw e k.state;
+      }
+  fed-stopped last now NoMemory k =
+      let e = behind k.at.done in
+      record {
+        at = fed-halted k.at;
+        part = k.part;
+        told = rw (answers-append m s h.done k.at.done, ← h.state) (given_both b.sink middle.sink now_b.sink _ _ h.told k.told);
+        state = rw e k.state;
+        wanted = rw e k.wanted;
+      }
 
 -- ---- a line
 
@@ -149,36 +140,23 @@ line-said m s unended part met b now_b now refused u v h = record {
 }
 
 -- the answer to it fails
-pub line-stopped : {S : Type 0} (m : Machine S) (s : S) (unended part last : List ℕ) (met : Met) (b now_b : Beside)
-    (now : S) (stop : Stop) → is_unbroken unended ≡ true → is_unbroken part ≡ true →
-    SaidOr m s (turn (unended ++ part) met) b now_b now (Err stop) →
-    FedOr m s unended (part ++ LF ∷ []) b now_b now last (Err stop)
-line-stopped m s unended part last met b now_b now WriteFault u v h = record {
-  done = [];
-  last = turn (unended ++ part) met;
-  more = [];
-  count = h.count;
-  split = line-split unended part;
-  unbroken_done = refl;
-  unbroken_line = all-append _ unended part u v;
-  short = h.short;
-  told = h.told;
-  state = h.state;
-  spent = h.spent;
-}
-line-stopped m s unended part last met b now_b now NoMemory u v h = record {
-  done = [];
-  last = turn (unended ++ part) met;
-  more = [];
-  part = h.part;
-  split = line-split unended part;
-  unbroken_done = refl;
-  unbroken_line = all-append _ unended part u v;
-  told = h.told;
-  state = h.state;
-  wanted = h.wanted;
-  spent = h.spent;
-}
+module _ {S : Type 0} (m : Machine S) (s : S) (unended part : List ℕ) (met : Met) (b now_b : Beside)
+    (u : is_unbroken unended ≡ true) (v : is_unbroken part ≡ true) where
+  abbrev line-halted : Spent m s (turn (unended ++ part) met ∷ []) b now_b → Halted m s unended (part ++ LF ∷ []) b now_b
+  line-halted spent = record {
+    done = [];
+    last = turn (unended ++ part) met;
+    more = [];
+    split = line-split unended part;
+    unbroken_done = refl;
+    unbroken_line = all-append _ unended part u v;
+    spent = spent;
+  }
+
+  pub line-stopped : (last : List ℕ) (now : S) (stop : Stop) → SaidOr m s (turn (unended ++ part) met) b now_b now (Err stop) →
+      FedOr m s unended (part ++ LF ∷ []) b now_b now last (Err stop)
+  line-stopped last now WriteFault h = record { at = line-halted h.spent; count = h.count; short = h.short; told = h.told; state = h.state }
+  line-stopped last now NoMemory h = record { at = line-halted h.spent; part = h.part; told = h.told; state = h.state; wanted = h.wanted }
 
 -- ---- the end
 
@@ -227,43 +205,22 @@ ends-read m s unended refused b now_b now false h = h
 
 -- ---- a stop within a piece
 
-pub cut-within : {S : Type 0} (m : Machine S) (s : S) (unended piece more : List ℕ) (b now_b : Beside) (now : S) →
-    Cut m s unended piece b now_b now → Cut m s unended (piece ++ more) b now_b now
-cut-within m s unended piece more b now_b now h = record {
-  done = h.done;
-  last = h.last;
-  more = h.more ++ more;
-  count = h.count;
-  split = sym (append_assoc unended piece more) ∙ ap (λ t. t ++ more) h.split ∙ append_assoc (ended (lines_of h.done ++ h.last.line ∷ [])) h.more more;
-  unbroken_done = h.unbroken_done;
-  unbroken_line = h.unbroken_line;
-  short = h.short;
-  told = h.told;
-  state = h.state;
-  spent = h.spent;
-}
+module _ {S : Type 0} (m : Machine S) (s : S) (unended piece more : List ℕ) (b now_b : Beside) where
+  abbrev halted-within : Halted m s unended piece b now_b → Halted m s unended (piece ++ more) b now_b
+  halted-within h = record {
+    done = h.done;
+    last = h.last;
+    more = h.more ++ more;
+    split = sym (append_assoc unended piece more) ∙ ap (λ t. t ++ more) h.split ∙ append_assoc (ended (lines_of h.done ++ h.last.line ∷ [])) h.more more;
+    unbroken_done = h.unbroken_done;
+    unbroken_line = h.unbroken_line;
+    spent = h.spent;
+  }
 
-pub starved-within : {S : Type 0} (m : Machine S) (s : S) (unended piece more : List ℕ) (b now_b : Beside) (now : S) →
-    Starved m s unended piece b now_b now → Starved m s unended (piece ++ more) b now_b now
-starved-within m s unended piece more b now_b now h = record {
-  done = h.done;
-  last = h.last;
-  more = h.more ++ more;
-  part = h.part;
-  split = sym (append_assoc unended piece more) ∙ ap (λ t. t ++ more) h.split ∙ append_assoc (ended (lines_of h.done ++ h.last.line ∷ [])) h.more more;
-  unbroken_done = h.unbroken_done;
-  unbroken_line = h.unbroken_line;
-  told = h.told;
-  state = h.state;
-  wanted = h.wanted;
-  spent = h.spent;
-}
-
-pub stopped-within : {S : Type 0} (m : Machine S) (s : S) (unended piece more last : List ℕ) (b now_b : Beside)
-    (now : S) (stop : Stop) → FedOr m s unended piece b now_b now last (Err stop) →
-    FedOr m s unended (piece ++ more) b now_b now last (Err stop)
-stopped-within m s unended piece more last b now_b now WriteFault h = cut-within m s unended piece more b now_b now h
-stopped-within m s unended piece more last b now_b now NoMemory h = starved-within m s unended piece more b now_b now h
+  pub stopped-within : (last : List ℕ) (now : S) (stop : Stop) → FedOr m s unended piece b now_b now last (Err stop) →
+      FedOr m s unended (piece ++ more) b now_b now last (Err stop)
+  stopped-within last now WriteFault h = record { at = halted-within h.at; count = h.count; short = h.short; told = h.told; state = h.state }
+  stopped-within last now NoMemory h = record { at = halted-within h.at; part = h.part; told = h.told; state = h.state; wanted = h.wanted }
 
 -- ---- as code feeds: the two pieces as one, by an equation
 
@@ -280,9 +237,8 @@ pub then-stopped : {S : Type 0} (m : Machine S) (s : S) (unended piece next rest
     (piece ++ next) ++ rest ≡ whole → FedOr m s unended whole b now_b now last (Err stop)
 then-stopped m s unended piece next rest whole kept last b middle now_b between now refused stop h k e =
     let P : List ℕ → Type 0 = λ t. FedOr m s unended t b now_b now last (Err stop) in
-    subst P e (stopped-within m s unended (piece ++ next) rest last b now_b now stop
-    (fed-stopped m s unended piece next kept last b middle now_b between now refused stop h
-    (k h.rest h.front h.unbroken_rest)))
+    subst P e (stopped-within m s unended (piece ++ next) rest b now_b last now stop
+    (fed-stopped m s unended piece next kept b middle now_b between refused h last now stop (k h.rest h.front h.unbroken_rest)))
 
 pub then-part : {S : Type 0} (m : Machine S) (s : S) (unended piece next whole kept last : List ℕ) (b now_b : Beside)
     (now : S) (refused : Bool) → Fed m s unended piece b now_b now kept refused → is_unbroken next ≡ true →

@@ -1,5 +1,5 @@
 -- What commands on files do, and what they have done once their replies were given to a sink.
-use Rattle.std.proofs.Common.{◌≡◌, ◌≤◌, ◌+◌, ◌*◌, ℕ, inl, inr, arith, Bool, true, false, List, [], ◌∷◌, length, refl, ap, sym, ◌∙◌}
+use Rattle.std.proofs.Common.{◌≡◌, ◌≤◌, ◌+◌, ◌*◌, ℕ, inl, inr, arith, Bool, true, false, List, [], ◌∷◌, length, refl, rules, ap, sym, ◌∙◌}
 use Rattle.std.specs.Prelude.{suc, replicate, ◌⊎◌, ◌<◌, ◌-◌, ◌^◌, ◌||◌, Some, None, is_none, nat_lt, if◌then◌else◌, Result, Ok, Err}
 use Rattle.std.specs.declared.option.Option.{Option}
 use Rattle.std.proofs.lemmas.Bool.{cases_lt, le-leb, lt-leb}
@@ -28,10 +28,10 @@ use Rattle.ph_specs.specs.declared.Kind.TheVariants.{Points, Boxes}
 use Rattle.ph_script.specs.declared.reply.Reply.{Reply as Told}
 use Rattle.ph_script.specs.Meaning.{reply_of}
 use Rattle.ph_engine.specs.Beside.{aside, beside_sink, Filings, Tells, IsTold, StillTells}
-use Rattle.ph_engine.specs.Doing.{is_on_slot, Begun, Does, DoneOr, Knows, ServedOr, Leads, MakesNodes, HoldsFound, file_read}
+use Rattle.ph_engine.specs.Doing.{is_on_slot, Begun, Does, DoneOr, Unfiled, Knows, ServedOr, Leads, MakesNodes, HoldsFound, file_read}
 use Rattle.ph_engine.specs.Doing.{rows_loaded, rows_read, is_page, cut_engine, starved_engine, takes_memory, uses_files}
 use Rattle.ph_engine.specs.Drafting.{Shelf, Unfilled}
-use Rattle.ph_engine.specs.Filing.{Filed, Unfiled, FiledOr, Entered, LoadsNodes, LoadsOr, TellsUnfetched, read_table, read_reply}
+use Rattle.ph_engine.specs.Filing.{Filed, FiledOr, Entered, LoadsNodes, LoadsOr, TellsUnfetched, read_table, read_reply}
 use Rattle.ph_engine.specs.Refusing.{early_refusal, late_refusal}
 use Rattle.ph_engine.specs.Slots.{table_at, AnyTable, slot_of, engine_of}
 use Rattle.ph_engine.specs.Working.{work, work_of, engine_bounds, least_unless, IsAtMost, IsAtLeast}
@@ -40,7 +40,7 @@ use Rattle.ph_engine.specs.declared.status.Answer.{Answer}
 use Rattle.ph_engine.specs.declared.status.Stop.{Stop}
 use Rattle.ph_engine.specs.declared.status.Stop.TheVariants.{WriteFault, NoMemory}
 use Rattle.ph_engine.proofs.Commanded.{one-text, told-told}
-use Rattle.ph_engine.proofs.Plain.{IsPlain, does-at, least-at, most-at, wants-at}
+use Rattle.ph_engine.proofs.Plain.{IsPlain, does-at, work-at, wants-at}
 use Rattle.ph_engine.proofs.Refused.{refusal-parts, alone}
 
 -- ---- once the reply was given to a sink
@@ -82,15 +82,17 @@ module _ (most : ℕ) (e now : Engine) (command : Command) (told now_told : Opti
       DoneOr most e command (beside_sink sink told f v c) (beside_sink now_sink now_told now_f now_v now_c) now (Err stop)
   unfiled-said WriteFault s k h = absurd (let clash : WriteFault ≡ NoMemory = s in cc)
   unfiled-said NoMemory s k h = record {
-    fault = h.fault;
-    found = h.found;
-    filings = h.counted;
-    part = h.part;
-    state = h.state;
-    files = h.kept;
+    unfiled = record {
+      fault = h.fault;
+      found = h.found;
+      counted = h.counted;
+      part = h.part;
+      state = h.state;
+      kept = h.kept;
+      wanted = h.wanted;
+      most_work = h.most_work;
+    };
     told = rw k (given_none sink);
-    wanted = h.wanted;
-    most_work = h.most_work;
   }
 
   pub done-filed : {E : Type 0} (reply : Result Told E) (result : Result Answer Stop) → is_page command ≡ false →
@@ -137,8 +139,8 @@ pub filed-served : {E : Type 0} (most : ℕ) (kind : Kind) (t now : AnyTable) (c
 filed-served most kind t now cursors command (Ok reply) told f v now_v c now_c p u h =
     filed-quietly most (engine_of (slot_of kind t cursors)) (engine_of (slot_of kind now cursors)) command (reply_of reply) told f v now_v c now_c
     (does-at kind t now cursors command (reply_of reply) p u (h.does cursors))
-    (most-at kind t cursors command _ _ _ _ p u (h.most cursors))
-    (least-at kind t cursors command _ _ _ _ p u (h.least cursors))
+    (work-at (λ w. IsAtMost w v now_v c now_c) kind t cursors command p u (h.most cursors))
+    (work-at (λ w. IsAtLeast w v now_v c now_c) kind t cursors command p u (h.least cursors))
     (λ files rows is. absurd (let no : None ≡ Some rows = sym (p.no_load (slot_of kind t cursors) files) ∙ is in cc))
 filed-served most kind t now cursors command (Err error) told f v now_v c now_c p u h = record {
   fault = false;
@@ -148,7 +150,7 @@ filed-served most kind t now cursors command (Err error) told f v now_v c now_c 
   state = λ files k. ap (λ x. engine_of (slot_of kind x cursors)) h.stays ∙ sym (p.no_part (engine_of (slot_of kind t cursors)) files);
   kept = λ files k. told-told told told files refl k;
   wanted = wants-at kind t cursors command p u (h.wanted cursors);
-  most_work = λ files k. most-at kind t cursors command _ _ _ _ p u (h.most cursors) most files false;
+  most_work = λ files k. work-at (λ w. IsAtMost w v now_v c now_c) kind t cursors command p u (h.most cursors) most files false;
 }
 
 -- ---- how often the files failed
@@ -252,14 +254,7 @@ module _ (command : Command) (name : List ℕ) (bytes : Slot → List ℕ) (repl
 -- ---- save
 
 store-save : (name : List ℕ) → IsStore (Command.Save name) name (λ s. snap s.kind s.dims s.width s.table) (λ s. Reply.Saved (length (snap s.kind s.dims s.width s.table)))
-store-save name = record {
-  on_slot = refl;
-  uses = refl;
-  early = never-early (Command.Save name) (λ s. refl) (λ s. refl);
-  late = λ most s files fault. refl;
-  makes = λ s files. refl;
-  costs = λ s files. refl;
-}
+store-save name = search (rules, never-early)
 
 module _ (most : ℕ) (s : Slot) (name : List ℕ) (before now : Shelf) (v now_v c : ℕ) where
   pub saved-filed : (count : ℕ) → now_v ≡ v + length (all_nodes s.width s.dims s.table) →

@@ -11,63 +11,21 @@ use Rattle.ph_engine.specs.Doing.{is_on_row, is_tried, is_sure, is_listed}
 pub no-row : (c : Command) → ((at : List Coord) (value : ℕ) → c ≡ by.Put at value → ⊥) →
     ((at : List Coord) → c ≡ by.Get at → ⊥) → ((at : List Coord) → c ≡ by.Del at → ⊥) →
     ((from : List Coord) (to : List Coord) → c ≡ by.Relocate from to → ⊥) → is_on_row (command_of c) ≡ false
-no-row (by.Begin kind k width max) n1 n2 n3 n4 = refl
 no-row (by.Put at value) n1 n2 n3 n4 = absurd (n1 at value refl)
 no-row (by.Get at) n1 n2 n3 n4 = absurd (n2 at refl)
 no-row (by.Del at) n1 n2 n3 n4 = absurd (n3 at refl)
 no-row (by.Relocate from to) n1 n2 n3 n4 = absurd (n4 from to refl)
-no-row by.Count n1 n2 n3 n4 = refl
-no-row by.Clear n1 n2 n3 n4 = refl
-no-row (by.Window lo hi) n1 n2 n3 n4 = refl
-no-row (by.Cursor name lo hi) n1 n2 n3 n4 = refl
-no-row (by.Page name count) n1 n2 n3 n4 = refl
-no-row (by.Near q count) n1 n2 n3 n4 = refl
-no-row (by.Within q r) n1 n2 n3 n4 = refl
-no-row (by.Overlap bounds) n1 n2 n3 n4 = refl
-no-row (by.Inside bounds) n1 n2 n3 n4 = refl
-no-row (by.Covers bounds) n1 n2 n3 n4 = refl
-no-row (by.Save file) n1 n2 n3 n4 = refl
-no-row (by.Load file) n1 n2 n3 n4 = refl
-no-row (by.Import file header) n1 n2 n3 n4 = refl
-no-row (by.Export file) n1 n2 n3 n4 = refl
-no-row by.Stats n1 n2 n3 n4 = refl
-no-row (by.Select which) n1 n2 n3 n4 = refl
-no-row by.Same n1 n2 n3 n4 = refl
-no-row by.Join n1 n2 n3 n4 = refl
-no-row (by.Combine operation) n1 n2 n3 n4 = refl
-no-row (by.Keep count) n1 n2 n3 n4 = refl
-no-row (by.Back count) n1 n2 n3 n4 = refl
+no-row other n1 n2 n3 n4 = refl
 
 pub all-tried : (c : Command) → is_tried (command_of c) ≡ true →
     ((file : List ℕ) → c ≡ by.Load file → ⊥) →
     ((file : List ℕ) (header : Bool) → c ≡ by.Import file header → ⊥) → ((count : ℕ) → c ≡ by.Keep count → ⊥) →
     ((count : ℕ) → c ≡ by.Back count → ⊥) → ⊥
-all-tried (by.Begin kind k width max) h n1 n2 n3 n4 = absurd cc
-all-tried (by.Put at value) h n1 n2 n3 n4 = absurd cc
-all-tried (by.Get at) h n1 n2 n3 n4 = absurd cc
-all-tried (by.Del at) h n1 n2 n3 n4 = absurd cc
-all-tried (by.Relocate from to) h n1 n2 n3 n4 = absurd cc
-all-tried by.Count h n1 n2 n3 n4 = absurd cc
-all-tried by.Clear h n1 n2 n3 n4 = absurd cc
-all-tried (by.Window lo hi) h n1 n2 n3 n4 = absurd cc
-all-tried (by.Cursor name lo hi) h n1 n2 n3 n4 = absurd cc
-all-tried (by.Page name count) h n1 n2 n3 n4 = absurd cc
-all-tried (by.Near q count) h n1 n2 n3 n4 = absurd cc
-all-tried (by.Within q r) h n1 n2 n3 n4 = absurd cc
-all-tried (by.Overlap bounds) h n1 n2 n3 n4 = absurd cc
-all-tried (by.Inside bounds) h n1 n2 n3 n4 = absurd cc
-all-tried (by.Covers bounds) h n1 n2 n3 n4 = absurd cc
-all-tried (by.Save file) h n1 n2 n3 n4 = absurd cc
 all-tried (by.Load file) h n1 n2 n3 n4 = n1 file refl
 all-tried (by.Import file header) h n1 n2 n3 n4 = n2 file header refl
-all-tried (by.Export file) h n1 n2 n3 n4 = absurd cc
-all-tried by.Stats h n1 n2 n3 n4 = absurd cc
-all-tried (by.Select which) h n1 n2 n3 n4 = absurd cc
-all-tried by.Same h n1 n2 n3 n4 = absurd cc
-all-tried by.Join h n1 n2 n3 n4 = absurd cc
-all-tried (by.Combine operation) h n1 n2 n3 n4 = absurd cc
 all-tried (by.Keep count) h n1 n2 n3 n4 = n3 count refl
 all-tried (by.Back count) h n1 n2 n3 n4 = n4 count refl
+all-tried other h n1 n2 n3 n4 = absurd cc
 
 pub all-sure : (c : Command) → is_sure (command_of c) ≡ true →
     ((kind : Kind) (k : ℕ) (width : ℕ) (max : ℕ) → c ≡ by.Begin kind k width max → ⊥) →
@@ -75,31 +33,12 @@ pub all-sure : (c : Command) → is_sure (command_of c) ≡ true →
     ((name : List ℕ) (lo : List Coord) (hi : List Coord) → c ≡ by.Cursor name lo hi → ⊥) →
     ((file : List ℕ) → c ≡ by.Save file → ⊥) → ((file : List ℕ) → c ≡ by.Export file → ⊥) → ⊥
 all-sure (by.Begin kind k width max) h n1 n2 n3 n4 n5 n6 = n1 kind k width max refl
-all-sure (by.Put at value) h n1 n2 n3 n4 n5 n6 = absurd cc
-all-sure (by.Get at) h n1 n2 n3 n4 n5 n6 = absurd cc
-all-sure (by.Del at) h n1 n2 n3 n4 n5 n6 = absurd cc
-all-sure (by.Relocate from to) h n1 n2 n3 n4 n5 n6 = absurd cc
 all-sure by.Count h n1 n2 n3 n4 n5 n6 = n2 refl
 all-sure by.Clear h n1 n2 n3 n4 n5 n6 = n3 refl
-all-sure (by.Window lo hi) h n1 n2 n3 n4 n5 n6 = absurd cc
 all-sure (by.Cursor name lo hi) h n1 n2 n3 n4 n5 n6 = n4 name lo hi refl
-all-sure (by.Page name count) h n1 n2 n3 n4 n5 n6 = absurd cc
-all-sure (by.Near q count) h n1 n2 n3 n4 n5 n6 = absurd cc
-all-sure (by.Within q r) h n1 n2 n3 n4 n5 n6 = absurd cc
-all-sure (by.Overlap bounds) h n1 n2 n3 n4 n5 n6 = absurd cc
-all-sure (by.Inside bounds) h n1 n2 n3 n4 n5 n6 = absurd cc
-all-sure (by.Covers bounds) h n1 n2 n3 n4 n5 n6 = absurd cc
 all-sure (by.Save file) h n1 n2 n3 n4 n5 n6 = n5 file refl
-all-sure (by.Load file) h n1 n2 n3 n4 n5 n6 = absurd cc
-all-sure (by.Import file header) h n1 n2 n3 n4 n5 n6 = absurd cc
 all-sure (by.Export file) h n1 n2 n3 n4 n5 n6 = n6 file refl
-all-sure by.Stats h n1 n2 n3 n4 n5 n6 = absurd cc
-all-sure (by.Select which) h n1 n2 n3 n4 n5 n6 = absurd cc
-all-sure by.Same h n1 n2 n3 n4 n5 n6 = absurd cc
-all-sure by.Join h n1 n2 n3 n4 n5 n6 = absurd cc
-all-sure (by.Combine operation) h n1 n2 n3 n4 n5 n6 = absurd cc
-all-sure (by.Keep count) h n1 n2 n3 n4 n5 n6 = absurd cc
-all-sure (by.Back count) h n1 n2 n3 n4 n5 n6 = absurd cc
+all-sure other h n1 n2 n3 n4 n5 n6 = absurd cc
 
 pub all-lists : (c : Command) → is_listed (command_of c) ≡ true →
     ((lo : List Coord) (hi : List Coord) → c ≡ by.Window lo hi → ⊥) →
@@ -107,29 +46,12 @@ pub all-lists : (c : Command) → is_listed (command_of c) ≡ true →
     ((q : List Coord) (count : ℕ) → c ≡ by.Near q count → ⊥) → ((q : List Coord) (r : ℕ) → c ≡ by.Within q r → ⊥) →
     ((bounds : List Coord) → c ≡ by.Overlap bounds → ⊥) → ((bounds : List Coord) → c ≡ by.Inside bounds → ⊥) →
     ((bounds : List Coord) → c ≡ by.Covers bounds → ⊥) → (c ≡ by.Stats → ⊥) → ⊥
-all-lists (by.Begin kind k width max) h n1 n2 n3 n4 n5 n6 n7 n8 = absurd cc
-all-lists (by.Put at value) h n1 n2 n3 n4 n5 n6 n7 n8 = absurd cc
-all-lists (by.Get at) h n1 n2 n3 n4 n5 n6 n7 n8 = absurd cc
-all-lists (by.Del at) h n1 n2 n3 n4 n5 n6 n7 n8 = absurd cc
-all-lists (by.Relocate from to) h n1 n2 n3 n4 n5 n6 n7 n8 = absurd cc
-all-lists by.Count h n1 n2 n3 n4 n5 n6 n7 n8 = absurd cc
-all-lists by.Clear h n1 n2 n3 n4 n5 n6 n7 n8 = absurd cc
 all-lists (by.Window lo hi) h n1 n2 n3 n4 n5 n6 n7 n8 = n1 lo hi refl
-all-lists (by.Cursor name lo hi) h n1 n2 n3 n4 n5 n6 n7 n8 = absurd cc
 all-lists (by.Page name count) h n1 n2 n3 n4 n5 n6 n7 n8 = n2 name count refl
 all-lists (by.Near q count) h n1 n2 n3 n4 n5 n6 n7 n8 = n3 q count refl
 all-lists (by.Within q r) h n1 n2 n3 n4 n5 n6 n7 n8 = n4 q r refl
 all-lists (by.Overlap bounds) h n1 n2 n3 n4 n5 n6 n7 n8 = n5 bounds refl
 all-lists (by.Inside bounds) h n1 n2 n3 n4 n5 n6 n7 n8 = n6 bounds refl
 all-lists (by.Covers bounds) h n1 n2 n3 n4 n5 n6 n7 n8 = n7 bounds refl
-all-lists (by.Save file) h n1 n2 n3 n4 n5 n6 n7 n8 = absurd cc
-all-lists (by.Load file) h n1 n2 n3 n4 n5 n6 n7 n8 = absurd cc
-all-lists (by.Import file header) h n1 n2 n3 n4 n5 n6 n7 n8 = absurd cc
-all-lists (by.Export file) h n1 n2 n3 n4 n5 n6 n7 n8 = absurd cc
 all-lists by.Stats h n1 n2 n3 n4 n5 n6 n7 n8 = n8 refl
-all-lists (by.Select which) h n1 n2 n3 n4 n5 n6 n7 n8 = absurd cc
-all-lists by.Same h n1 n2 n3 n4 n5 n6 n7 n8 = absurd cc
-all-lists by.Join h n1 n2 n3 n4 n5 n6 n7 n8 = absurd cc
-all-lists (by.Combine operation) h n1 n2 n3 n4 n5 n6 n7 n8 = absurd cc
-all-lists (by.Keep count) h n1 n2 n3 n4 n5 n6 n7 n8 = absurd cc
-all-lists (by.Back count) h n1 n2 n3 n4 n5 n6 n7 n8 = absurd cc
+all-lists other h n1 n2 n3 n4 n5 n6 n7 n8 = absurd cc

@@ -11,10 +11,10 @@ pub mod Sums
 pub mod Feeds
 pub mod Scans
 pub mod Runs
-pub mod Words
 pub mod Far
 pub mod Answered
 pub mod Known
+pub mod Last
 pub mod Defined
 pub mod Refused
 pub mod Backward
@@ -22,6 +22,7 @@ pub mod Plain
 pub mod Commanded
 pub mod Drafts
 pub mod Filed
+pub mod Quiet
 pub mod Loads
 pub mod OwnDims
 pub mod Checked

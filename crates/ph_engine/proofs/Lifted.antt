@@ -16,7 +16,7 @@ use Rattle.ph_script.specs.declared.command.Command.{Command as Written}
 use Rattle.ph_script.specs.declared.command.Command.TheVariants as by
 use Rattle.ph_script.specs.Meaning.{command_of}
 use Rattle.ph_engine.specs.Beside.{Beside}
-use Rattle.ph_engine.specs.Doing.{Leads, DoneOr, is_on_slot, is_page, imported, slot_wants, starved_engine, with_first}
+use Rattle.ph_engine.specs.Doing.{Leads, DoneOr, Unfiled, is_on_slot, is_page, imported, slot_wants, starved_engine, with_first}
 use Rattle.ph_engine.specs.Slots.{engine_of}
 use Rattle.ph_engine.specs.Working.{work, work_of, engine_bounds, least_unless, IsAtMost, IsAtLeast}
 use Rattle.ph_engine.proofs.Refused.{alone}
@@ -158,6 +158,19 @@ starved-lifted : (e : Engine) (files : Files) (cmd : Command) (n : ℕ) →
 starved-lifted e files (Command.Back asked) n = refl
 starved-lifted e files cmd n = first-lifted e n (imported (current e) files cmd)
 
+unfiled-lifted : (most : ℕ) (e : Engine) (s : Slot) (cmd : Command) (b now_b : Beside) → is_on_slot cmd ≡ true →
+    Unfiled most (engine_of (current e)) cmd b now_b (engine_of s) → Unfiled most e cmd b now_b (with_slot e s)
+unfiled-lifted most e s cmd b now_b h d = record {
+  fault = d.fault;
+  found = d.found;
+  counted = d.counted;
+  part = d.part;
+  state = λ files k. ap (λ x. with_slot e (current x)) (d.state files k) ∙ starved-lifted e files cmd d.part;
+  kept = d.kept;
+  wanted = ap (λ t. t && slot_wants (current e) cmd) ((alone e cmd h).1 ∙ sym (alone (engine_of (current e)) cmd h).1) ∙ d.wanted;
+  most_work = λ files k. subst (λ w. IsAtMost w b.visits now_b.visits b.changes now_b.changes) (sym (work-lifted most e files d.fault cmd h)) (d.most_work files k);
+}
+
 pub done-lifted : (most : ℕ) (e : Engine) (s : Slot) (cmd : Command) (b now_b : Beside)
     (result : Result Answer Stop) → is_on_slot cmd ≡ true →
     DoneOr most (engine_of (current e)) cmd b now_b (engine_of s) result → DoneOr most e cmd b now_b (with_slot e s) result
@@ -186,63 +199,23 @@ done-lifted most e s cmd b now_b (Err WriteFault) h d = record {
   told = d.told;
   most_work = λ files k. subst (λ w. IsAtMost w b.visits now_b.visits b.changes now_b.changes) (sym (work-lifted most e files d.fault cmd h)) (d.most_work files k);
 }
-done-lifted most e s cmd b now_b (Err NoMemory) h d = record {
-  fault = d.fault;
-  found = d.found;
-  filings = d.filings;
-  part = d.part;
-  state = λ files k. ap (λ x. with_slot e (current x)) (d.state files k) ∙ starved-lifted e files cmd d.part;
-  files = d.files;
-  told = d.told;
-  wanted = ap (λ t. t && slot_wants (current e) cmd) ((alone e cmd h).1 ∙ sym (alone (engine_of (current e)) cmd h).1) ∙ d.wanted;
-  most_work = λ files k. subst (λ w. IsAtMost w b.visits now_b.visits b.changes now_b.changes) (sym (work-lifted most e files d.fault cmd h)) (d.most_work files k);
-}
+done-lifted most e s cmd b now_b (Err NoMemory) h d = record { unfiled = unfiled-lifted most e s cmd b now_b h d.unfiled; told = d.told }
 
 -- the commands of the code but four are on a slot
 pub on-slot : (c : Written) → ((which : Which) → c ≡ by.Select which → ⊥) → (c ≡ by.Same → ⊥) → (c ≡ by.Join → ⊥) →
     ((operation : SetOperation) → c ≡ by.Combine operation → ⊥) → is_on_slot (command_of c) ≡ true
-on-slot (by.Begin kind k width max) n m o p = refl
-on-slot (by.Put at value) n m o p = refl
-on-slot (by.Get at) n m o p = refl
-on-slot (by.Del at) n m o p = refl
-on-slot (by.Relocate from to) n m o p = refl
-on-slot by.Count n m o p = refl
-on-slot by.Clear n m o p = refl
-on-slot (by.Window lo hi) n m o p = refl
-on-slot (by.Cursor name lo hi) n m o p = refl
-on-slot (by.Page name count) n m o p = refl
-on-slot (by.Near q count) n m o p = refl
-on-slot (by.Within q r) n m o p = refl
-on-slot (by.Overlap bounds) n m o p = refl
-on-slot (by.Inside bounds) n m o p = refl
-on-slot (by.Covers bounds) n m o p = refl
-on-slot (by.Save file) n m o p = refl
-on-slot (by.Load file) n m o p = refl
-on-slot (by.Import file header) n m o p = refl
-on-slot (by.Export file) n m o p = refl
-on-slot by.Stats n m o p = refl
 on-slot (by.Select which) n m o p = absurd (n which refl)
 on-slot by.Same n m o p = absurd (m refl)
 on-slot by.Join n m o p = absurd (o refl)
 on-slot (by.Combine operation) n m o p = absurd (p operation refl)
-on-slot (by.Keep count) n m o p = refl
-on-slot (by.Back count) n m o p = refl
+on-slot other n m o p = refl
 
--- the same by the fields of the code's engine
-pub done-at-a : (most : ℕ) (e : Engine) (a b s : Slot) (which : Which) (cmd : Command) (d now_d : Beside)
-    (result : Result Answer Stop) → record { a = a; b = b; current = which } ≡ e → which ≡ A → is_on_slot cmd ≡ true →
-    DoneOr most (engine_of a) cmd d now_d (engine_of s) result →
-    DoneOr most e cmd d now_d (record { a = s; b = b; current = which }) result
-done-at-a most e a b s which cmd d now_d result v w h k =
-    let at : Engine = record { a = a; b = b; current = A } in
-    let is : at ≡ e = ap (λ x. record { a = a; b = b; current = x }) (sym w) ∙ v in
-    rw (← is, w) (done-lifted most at s cmd d now_d result h k)
-
-pub done-at-b : (most : ℕ) (e : Engine) (a b s : Slot) (which : Which) (cmd : Command) (d now_d : Beside)
-    (result : Result Answer Stop) → record { a = a; b = b; current = which } ≡ e → which ≡ B → is_on_slot cmd ≡ true →
-    DoneOr most (engine_of b) cmd d now_d (engine_of s) result →
-    DoneOr most e cmd d now_d (record { a = a; b = s; current = which }) result
-done-at-b most e a b s which cmd d now_d result v w h k =
-    let at : Engine = record { a = a; b = b; current = B } in
-    let is : at ≡ e = ap (λ x. record { a = a; b = b; current = x }) (sym w) ∙ v in
-    rw (← is, w) (done-lifted most at s cmd d now_d result h k)
+-- the same by the fields of the code's engine, where this slot is the current one
+pub done-at : (most : ℕ) (e fields : Engine) (s : Slot) (now : Which) (cmd : Command) (d now_d : Beside)
+    (result : Result Answer Stop) → fields ≡ e → fields.current ≡ now → is_on_slot cmd ≡ true →
+    DoneOr most (engine_of (slot_at now fields)) cmd d now_d (engine_of s) result →
+    DoneOr most e cmd d now_d (put_slot now fields s) result
+done-at most e fields s now cmd d now_d result v w h k =
+    subst (λ x. DoneOr most x cmd d now_d (put_slot now fields s) result) v
+    (subst (λ y. DoneOr most (engine_of (slot_at y fields)) cmd d now_d (engine_of s) result → DoneOr most fields cmd d now_d (put_slot y fields s) result) w
+    (done-lifted most fields s cmd d now_d result h) k)

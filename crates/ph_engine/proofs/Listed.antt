@@ -14,7 +14,7 @@ use Rattle.ph_window.specs.Page.{IsLast}
 use Rattle.ph_window.specs.declared.page.Tail.{Tail}
 use Rattle.ph_window.specs.declared.page.Tail.TheVariants.{More, End}
 use Rattle.ph_engine.specs.Doing.{refuses}
-use Rattle.ph_engine.specs.Listing.{PageListed, Lists, met, page_replies, is_more}
+use Rattle.ph_engine.specs.Listing.{FrontListed, PageListed, Lists, met, page_replies, is_more}
 use Rattle.ph_engine.specs.Machine.{is_refusal}
 use Rattle.ph_engine.specs.Slots.{AnyTable}
 use Rattle.ph_engine.specs.Working.{most_to_resume, least_to_resume}
@@ -23,7 +23,7 @@ use Rattle.ph_engine.specs.declared.status.Answer.{Answer}
 use Rattle.ph_engine.specs.declared.status.Answer.TheVariants.{Good, Refused}
 use Rattle.ph_engine.specs.declared.status.Stop.{Stop}
 use Rattle.ph_engine.specs.declared.status.Stop.TheVariants.{WriteFault}
-use Rattle.ph_engine.proofs.Replies.{IsGiven, one_given, all_given, front_given}
+use Rattle.ph_engine.proofs.Replies.{IsGiven, none_given, one_given, all_given, front_given, next-is}
 
 -- replies of one kind, one for each item, and further ones behind them
 module _ {X : Type 0} (f : X → Reply) where
@@ -70,6 +70,62 @@ items-said f all xs n count least most v0 v a b c (Ok answer) h none counted goo
 items-said f all xs n count least most v0 v a b c (Err stop) h none counted good told fault front enough few =
     let k : WritesFront b c (reply_text (Reply.End n)) = rw counted at front in
     record { front = last-front f (map f all ++ Reply.End n ∷ []) xs (Reply.End n) a b c h none k; fault = fault; visited = few }
+
+-- A loop lists items: the replies to some are given, those to the others are still to come, and so are so many visits.
+pub record IsListed {X : Type 0} (f : X → Reply) (all left : List X) (count : ℕ) (a b : Taken) (faults now_faults v due now_v now_due : ℕ) : Type 0 where
+  pub later : faults ≤ now_faults
+  pub given : IsGiven (map f all ++ Reply.End (length all) ∷ []) (map f left ++ Reply.End (length all) ∷ []) a b
+  pub counted : count + length left ≡ length all
+  pub cost : now_v + now_due ≡ v + due
+
+pub none_listed : {X : Type 0} (f : X → Reply) (all : List X) (a : Taken) (faults v due : ℕ) → IsListed f all all 0 a a faults faults v due v due
+none_listed f all a faults v due = record { later = omega arith; given = none_given _ a; counted = omega arith; cost = refl }
+
+-- what is left is shorter by the next one
+pub next_shorter : {X : Type 0} (xs : List X) {next : List X} {x : X} → Some x ≡ slice_get xs 0 → next ≡ drop 1 xs → length next < length xs
+next_shorter xs {next} {x} h e = omega (arith, ap (λ ys. length ys) (next-is xs next x h e))
+
+module _ {X : Type 0} {f : X → Reply} {all left : List X} {count : ℕ} {a b : Taken} {faults now_faults v due now_v now_due : ℕ}
+    (l : IsListed f all left count a b faults now_faults v due now_v now_due) where
+  -- one more is listed
+  pub one_listed : {next : List X} {x : X} {c : Taken} {later_faults later_v later_due : ℕ} → Some x ≡ slice_get left 0 →
+      next ≡ drop 1 left → Given b c (reply_text (f x)) → now_faults ≤ later_faults → later_v + later_due ≡ now_v + now_due →
+      IsListed f all next (count + 1) a c faults later_faults v due later_v later_due
+  one_listed {next} {x} {c} h rest told later cost =
+      let e = next-is left next x h rest in
+      record {
+        later = omega (arith, l.later, later);
+        given = item-given f _ _ left next x a b c l.given e told;
+        counted = omega (arith, l.counted, ap (λ xs. length xs) e);
+        cost = cost ∙ l.cost;
+      }
+
+  -- before one more there are fewer than all
+  pub few_listed : {next : List X} {x : X} → Some x ≡ slice_get left 0 → next ≡ drop 1 left → count + 1 ≤ length all
+  few_listed {next} {x} h rest = omega (arith, l.counted, ap (λ xs. length xs) (next-is left next x h rest))
+
+  -- a front of one more is written
+  pub listed_cut : (later_due : ℕ) {next : List X} {x : X} {c : Taken} {stop : Stop} {later_v : ℕ} → Some x ≡ slice_get left 0 →
+      next ≡ drop 1 left → WritesFront b c (reply_text (f x)) → stop ≡ WriteFault → later_v + later_due ≡ now_v + now_due →
+      FrontListed (map f all ++ Reply.End (length all) ∷ []) due a c v later_v stop
+  listed_cut later_due {next} {x} {c} h rest front fault cost = record {
+    front = item-front f _ _ left next x a b c l.given (next-is left next x h rest) front;
+    fault = fault;
+    visited = omega (arith, l.cost, cost);
+  }
+
+  -- All are listed, and what comes behind them was said.
+  pub all_listed : (c : Taken) (later_v : ℕ) {later_due : ℕ} (result : Result Answer Stop) → None ≡ slice_get left 0 →
+      later_v + later_due ≡ now_v + now_due → later_due ≡ 0 →
+      IfOk result (λ answer. refuses answer ≡ is_refusal (reply_text (Reply.End count))) →
+      OnOk result (Given b c (reply_text (Reply.End count))) → IfErr result (λ stop. stop ≡ WriteFault) →
+      OnErr result (WritesFront b c (reply_text (Reply.End count))) →
+      Lists (map f all ++ Reply.End (length all) ∷ []) due due a c v later_v result
+  all_listed c later_v result h cost end good told fault front =
+      let none = none-left left h in
+      items-said f all left (length all) count due due v later_v a b c result l.given none
+      (omega (arith, l.counted, ap (λ xs. length xs) none)) good told fault front
+      (omega (arith, l.cost, cost, end)) (omega (arith, l.cost, cost, end))
 
 -- ---- pages
 
@@ -120,49 +176,58 @@ all-filtered p q (x ∷ xs) h =
 same-cursor : (b c : Cursor) → b.lo ≡ c.lo → b.hi ≡ c.hi → b.last ≡ c.last → b ≡ c
 same-cursor b c lo hi last = λ i. record { lo = lo i; hi = hi i; last = last i }
 
--- the replies of a page are its rows and then its end
-pub page-ended : (t : AnyTable) (c : Cursor) (n : ℕ) (rows0 rows : List Row) (left count : ℕ) (more : Bool) →
-    rows0 ≡ rest t.tree.width c t.tree.table → take left rows ≡ [] → drop left rows ≡ drop n rows0 →
-    count ≡ length (take n rows0) → (more ≡ true) ↔ (rows ≡ [] → ⊥) →
-    row_replies (take n rows0) ++ page_end more count ∷ [] ≡ page_replies t c n
-page-ended t c n rows0 rows left count more e none d counted m =
-    let w = t.tree.width in
-    let listed : take n rows0 ≡ page w c n t.tree.table = ap (take n) e in
-    ap (λ b. row_replies (take n rows0) ++ page_end b count ∷ []) (more-is w c n t.tree.table rows0 rows left more e d none m)
-    ∙ ap (λ k. row_replies (take n rows0) ++ page_end (has_more w c n t.tree.table) k ∷ []) counted
-    ∙ ap (λ rs. row_replies rs ++ page_end (has_more w c n t.tree.table) (length rs) ∷ []) listed
+-- The rows of a page were given, so many by count, and these are left; more are told exactly where some are left.
+pub record IsPaged (t : AnyTable) (c : Cursor) (n : ℕ) (all rows : List Row) (left count : ℕ) (more : Bool) (x y : Taken) : Type 0 where
+  pub is : all ≡ rest t.tree.width c t.tree.table
+  pub given : (tail : List Reply) → IsGiven (row_replies (take n all) ++ tail) (row_replies (take left rows) ++ tail) x y
+  pub none : take left rows ≡ []
+  pub behind : drop left rows ≡ drop n all
+  pub counted : count ≡ length (take n all)
+  pub told : (more ≡ true) ↔ (rows ≡ [] → ⊥)
 
--- the whole page was given, and then its end
-pub page-said : (t : AnyTable) (c : Cursor) (n : ℕ) (rows0 rows : List Row) (left count v0 v : ℕ) (more : Bool)
-    (behind : Cursor) (x y z : Taken) → rows0 ≡ rest t.tree.width c t.tree.table →
-    ((tail : List Reply) → IsGiven (row_replies (take n rows0) ++ tail) (row_replies (take left rows) ++ tail) x y) →
-    take left rows ≡ [] → drop left rows ≡ drop n rows0 → count ≡ length (take n rows0) →
-    (more ≡ true) ↔ (rows ≡ [] → ⊥) → behind.lo ≡ c.lo → behind.hi ≡ c.hi →
-    last_listed behind.last (take left rows) ≡ last_listed c.last (take n rows0) → IsLast t.tree.width t.dims c.last →
-    IsTable t.tree.width t.dims t.tree.table → v0 + least_to_resume t.tree.table c.last ≤ v →
-    v ≤ v0 + (most_to_resume t.tree.width c.last + met t c.lo c.hi) → Given y z (reply_text (page_end more count)) →
-    PageListed t c n x z v0 v behind
-page-said t c n rows0 rows left count v0 v more behind x y z e given none d counted m lo hi last start whole grows cost told =
-    let w = t.tree.width in
-    let points = (and_parts _ _ (and_parts _ _ whole).1).0 in
-    let ended = page-ended t c n rows0 rows left count more e none d counted m in
-    let next : behind ≡ next_cursor w c n t.tree.table = same-cursor behind (next_cursor w c n t.tree.table) lo hi
-    (ap (last_listed behind.last) (sym none) ∙ last ∙ ap (λ rs. last_listed c.last (take n rs)) e) in
-    let stands : behind.last ≡ last_listed c.last (take n rows0) = ap (last_listed behind.last) (sym none) ∙ last in
-    let inside : list_all (λ r. is_point w t.dims r.point) (take n rows0) ≡ true =
-    all-taken (λ r. is_point w t.dims r.point) n rows0
-    (rw e (all-filtered (λ r. is_point w t.dims r.point) (λ r. is_after w c.last r.point)
-    (window c.lo c.hi t.tree.table)
-    (all-filtered (λ r. is_point w t.dims r.point) (λ r. is_between c.lo c.hi r.point) t.tree.table points))) in
-    record {
-      told = subst (λ rs. Given x z (replies_text rs)) ended
-          (last-given Reply.RowIs _ (take left rows) (page_end more count) x y z (given (page_end more count ∷ [])) none told);
-      next = next;
-      rest_behind = ap (λ x. rest w x t.tree.table) next ∙ rest-behind-page w t.dims c n t.tree.table whole;
-      last = rw stands (last-point w t.dims c.last (take n rows0) start inside);
-      grows = grows;
-      visited = cost;
-    }
+module _ {t : AnyTable} {c : Cursor} {n : ℕ} {all rows : List Row} {left count : ℕ} {more : Bool} {x y : Taken}
+    (p : IsPaged t c n all rows left count more x y) where
+  -- the replies of a page are its rows and then its end
+  page-ended : row_replies (take n all) ++ page_end more count ∷ [] ≡ page_replies t c n
+  page-ended =
+      let w = t.tree.width in
+      let listed : take n all ≡ page w c n t.tree.table = ap (take n) p.is in
+      ap (λ b. row_replies (take n all) ++ page_end b count ∷ []) (more-is w c n t.tree.table all rows left more p.is p.behind p.none p.told)
+      ∙ ap (λ k. row_replies (take n all) ++ page_end (has_more w c n t.tree.table) k ∷ []) p.counted
+      ∙ ap (λ rs. row_replies rs ++ page_end (has_more w c n t.tree.table) (length rs) ∷ []) listed
+
+  -- the whole page was given, and then its end
+  pub page-said : {z : Taken} (v0 v : ℕ) (behind : Cursor) → behind.lo ≡ c.lo → behind.hi ≡ c.hi →
+      last_listed behind.last (take left rows) ≡ last_listed c.last (take n all) → IsLast t.tree.width t.dims c.last →
+      IsTable t.tree.width t.dims t.tree.table → v0 + least_to_resume t.tree.table c.last ≤ v →
+      v ≤ v0 + (most_to_resume t.tree.width c.last + met t c.lo c.hi) → Given y z (reply_text (page_end more count)) →
+      PageListed t c n x z v0 v behind
+  page-said {z} v0 v behind lo hi last start whole grows cost told =
+      let w = t.tree.width in
+      let points = (and_parts _ _ (and_parts _ _ whole).1).0 in
+      let next : behind ≡ next_cursor w c n t.tree.table = same-cursor behind (next_cursor w c n t.tree.table) lo hi
+      (ap (last_listed behind.last) (sym p.none) ∙ last ∙ ap (λ rs. last_listed c.last (take n rs)) p.is) in
+      let stands : behind.last ≡ last_listed c.last (take n all) = ap (last_listed behind.last) (sym p.none) ∙ last in
+      let inside : list_all (λ r. is_point w t.dims r.point) (take n all) ≡ true =
+      all-taken (λ r. is_point w t.dims r.point) n all
+      (rw p.is (all-filtered (λ r. is_point w t.dims r.point) (λ r. is_after w c.last r.point)
+      (window c.lo c.hi t.tree.table)
+      (all-filtered (λ r. is_point w t.dims r.point) (λ r. is_between c.lo c.hi r.point) t.tree.table points))) in
+      record {
+        told = subst (λ rs. Given x z (replies_text rs)) page-ended
+            (last-given Reply.RowIs _ (take left rows) (page_end more count) x y z (p.given (page_end more count ∷ [])) p.none told);
+        next = next;
+        rest_behind = ap (λ x. rest w x t.tree.table) next ∙ rest-behind-page w t.dims c n t.tree.table whole;
+        last = rw stands (last-point w t.dims c.last (take n all) start inside);
+        grows = grows;
+        visited = cost;
+      }
+
+  -- the rows of the page were given, and a front of its end
+  pub page-cut : {z : Taken} → WritesFront y z (reply_text (page_end more count)) → WritesFront x z (replies_text (page_replies t c n))
+  page-cut {z} front =
+      subst (λ rs. WritesFront x z (replies_text rs)) page-ended
+      (last-front Reply.RowIs _ (take left rows) (page_end more count) x y z (p.given (page_end more count ∷ [])) p.none front)
 
 -- how many nodes are visited before its rows
 pub few-to-resume : (w v now_v : ℕ) (last : Option (List ℤ)) → (last ≡ None → now_v ≡ v) → now_v ≤ v + w → now_v ≤ v + most_to_resume w last
@@ -173,17 +238,6 @@ pub some-to-resume : (rows : List Row) (v now_v : ℕ) (last : Option (List ℤ)
 some-to-resume rows v now_v None k h = omega (arith, k)
 some-to-resume [] v now_v (Some last) k h = omega (arith, k)
 some-to-resume (r ∷ rows) v now_v (Some last) k h = let less : v < now_v = h refl (λ e. cc) in omega (arith, less)
-
--- the rows of the page were given, and a front of its end
-pub page-cut : (t : AnyTable) (c : Cursor) (n : ℕ) (rows0 rows : List Row) (left count : ℕ) (more : Bool)
-    (x y z : Taken) → rows0 ≡ rest t.tree.width c t.tree.table →
-    ((tail : List Reply) → IsGiven (row_replies (take n rows0) ++ tail) (row_replies (take left rows) ++ tail) x y) →
-    take left rows ≡ [] → drop left rows ≡ drop n rows0 → count ≡ length (take n rows0) →
-    (more ≡ true) ↔ (rows ≡ [] → ⊥) → WritesFront y z (reply_text (page_end more count)) →
-    WritesFront x z (replies_text (page_replies t c n))
-page-cut t c n rows0 rows left count more x y z e given none d counted m told =
-    subst (λ rs. WritesFront x z (replies_text rs)) (page-ended t c n rows0 rows left count more e none d counted m)
-    (last-front Reply.RowIs _ (take left rows) (page_end more count) x y z (given (page_end more count ∷ [])) none told)
 
 -- whether more is left, by what the walk tells
 pub more-by : (tail : Tail) (P : Type 0) → (tail ≡ More) ↔ P → (is_more tail ≡ true) ↔ P

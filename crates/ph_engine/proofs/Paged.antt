@@ -1,29 +1,36 @@
 -- What the commands that list rows do, and those of cursors.
-use Rattle.std.proofs.Common.{◌≡◌, ◌<◌, ◌≤◌, ◌+◌, ℕ, Bool, true, false, List, [], ◌∷◌, ◌++◌, length, get_or, refl, ap, sym, ◌∙◌, subst, arith}
+use Rattle.std.proofs.Common.{◌≡◌, ◌<◌, ◌≤◌, ◌+◌, ℕ, Bool, true, false, List, [], ◌∷◌, ◌++◌, length, get_or, refl, rules, ap, sym, ◌∙◌, subst, arith}
 use Rattle.std.specs.Prelude.{ℤ, Option, Some, None, Result, Ok, Err, ◌&&◌, not, nat_le, MatchResult}
 use Rattle.std.specs.List.{list_all}
 use Rattle.std.proofs.lemmas.Grind.{common_steps}
 use Rattle.ph_io.specs.Giving.{Taken}
 use Rattle.ph_specs.specs.declared.Kind.{Kind}
 use Rattle.ph_specs.specs.Command.{Command}
-use Rattle.ph_specs.specs.Coordinate.{fits, IsPoint}
+use Rattle.ph_specs.specs.Coordinate.{fits, low_corner, high_corner, IsPoint}
 use Rattle.ph_specs.specs.Engine.{effect, unless_refused, page_outcome, listing, hit_listing, row_replies, page_end}
-use Rattle.ph_specs.specs.Distance.{distance, near}
+use Rattle.ph_specs.specs.Distance.{distance, near, within}
 use Rattle.ph_specs.specs.Named.{Named, lookup, enter, has_name}
 use Rattle.ph_specs.specs.Reply.{Reply, reply_text, replies_text}
 use Rattle.ph_specs.specs.Refusals.{refusal}
 use Rattle.ph_specs.specs.State.{Engine, Slot, Files, outcome}
 use Rattle.ph_specs.specs.Table.{Row}
-use Rattle.ph_specs.specs.Window.{Cursor, next_cursor, page, has_more}
+use Rattle.ph_specs.specs.Stats.{stats}
+use Rattle.ph_specs.specs.WorkSets.{all_nodes, ball, meets}
+use Rattle.ph_specs.specs.Window.{Cursor, next_cursor, page, has_more, window}
+use Rattle.ph_script.specs.declared.command.Command.{Command as Written}
+use Rattle.ph_script.specs.Meaning.{command_of}
 use Rattle.ph_engine.specs.Beside.{beside_sink}
 use Rattle.ph_engine.specs.Doing.{is_on_slot, Begun, Does, DoneOr, DoneWith, is_page}
-use Rattle.ph_engine.specs.Listing.{Lists, ListsNear, reached, FrontListed, PageListed, page_replies, met}
+use Rattle.ph_engine.specs.Listing.{Lists, ListsNear, reached, FrontListed, PageListed, page_replies, met, answered}
 use Rattle.ph_engine.specs.Machine.{is_refusal}
 use Rattle.ph_engine.specs.Refusing.{early_refusal, late_refusal}
 use Rattle.ph_engine.specs.Naming.{place}
 use Rattle.ph_engine.specs.Slots.{AnyTable, slot_of, engine_of, cursor_of, named}
 use Rattle.std.proofs.lemmas.Bool.{lt-ltb}
 use Rattle.ph_engine.specs.Working.{work, engine_bounds, most_to_resume}
+use Rattle.ph_box.specs.Questions.{low_bound, high_bound}
+use Rattle.ph_box.specs.declared.question.Question.{Question}
+use Rattle.ph_box.specs.declared.question.Question.TheVariants.{Overlap, Inside, Cover}
 use Rattle.ph_engine.specs.declared.status.Answer.{Answer}
 use Rattle.ph_engine.specs.declared.status.Answer.TheVariants.{Good}
 use Rattle.ph_engine.specs.declared.status.Stop.{Stop}
@@ -32,7 +39,7 @@ use Rattle.ph_engine.specs.declared.cursors.Held.{Held}
 use Rattle.ph_io.proofs.Appending.{given_none}
 use Rattle.ph_engine.proofs.Commanded.{Most, done-all, no-faults, told-told}
 use Rattle.ph_engine.proofs.Names.{found-in}
-use Rattle.ph_engine.proofs.Refused.{unrefused, in-range, has-room, has-cursor}
+use Rattle.ph_engine.proofs.Refused.{unrefused, unrefused-arm, in-range, has-room, has-cursor}
 
 -- ---- a cursor
 
@@ -197,8 +204,54 @@ listing-done s command replies least most_visits sink now_sink files filings v n
     listing-beside (engine_of s) command replies least most_visits sink now_sink files filings v now_v changes
     (λ most files fault. unrefused most s files fault command on h (late most files fault)) is w most result page good listed
 
+-- A command lists these replies at a slot, for at least and at most so many visits, where it is not refused early.
+pub record IsListing (s : Slot) (command : Command) (replies : List Reply) (least most_visits : ℕ) : Type 0 where
+  pub on_slot : is_on_slot command ≡ true
+  pub late : (most : ℕ) (files : Files) (fault : Bool) → late_refusal most s files fault command ≡ None
+  pub effect : (files : Files) → effect (engine_of s) files command ≡ outcome (engine_of s) files replies
+  pub bounds : (files : Files) → engine_bounds (engine_of s) files command ≡ work most_visits least 0 0
+  pub no_page : is_page command ≡ false
+  pub good : is_refusal (replies_text replies) ≡ false
+
+-- the same in the arm of a command of the code
+pub arm-listed : {s now : Slot} {cmd arm : Written} {replies : List Reply} {least most_visits : ℕ} {sink now_sink : Taken}
+    {v now_v : ℕ} (result : Result Answer Stop) → s ≡ now → cmd ≡ arm → early_refusal now (command_of cmd) ≡ None →
+    IsListing s (command_of arm) replies least most_visits →
+    Lists replies least most_visits sink now_sink v now_v result →
+    DoneWith s (command_of arm) sink now_sink v now_v s result
+arm-listed {s} {now} {cmd} {arm} {replies} {least} {most_visits} {sink} {now_sink} {v} {now_v} result e is h k listed = record {
+  done = λ most files filings changes. listing-done s (command_of arm) replies least most_visits sink now_sink files
+      filings v now_v changes (unrefused-arm s now cmd arm e is (sym h)) k.on_slot k.late k.effect k.bounds most result
+      k.no_page k.good listed;
+}
+
 pub rows-good : (rows : List Row) → is_refusal (replies_text (listing rows)) ≡ false
 rows-good rows = good-rows rows false (length rows)
+
+-- the nodes that a window meets in the tree of a slot
+abbrev pub window_met : Slot → List ℤ → List ℤ → ℕ
+window_met s lo hi = length (meets s.width s.dims s.table lo hi)
+
+pub lists-window : (s : Slot) (lo hi : List ℤ) →
+    IsListing s (Command.Window lo hi) (listing (window lo hi s.table)) (window_met s lo hi) (window_met s lo hi)
+lists-window s lo hi = search (rules, rows-good)
+
+-- the command that asks a question about boxes
+abbrev pub asking : Question → List ℤ → Command
+asking Overlap q = Command.Overlap q
+asking Inside q = Command.Inside q
+asking Cover q = Command.Covers q
+
+pub lists-boxes : (question : Question) (s : Slot) (q : List ℤ) →
+    let n = window_met s (low_bound question s.width (low_corner q) (high_corner q)) (high_bound question s.width (low_corner q) (high_corner q)) in
+    IsListing s (asking question q) (listing (answered question q s.table)) n n
+lists-boxes Overlap s q = search (rules, rows-good)
+lists-boxes Inside s q = search (rules, rows-good)
+lists-boxes Cover s q = search (rules, rows-good)
+
+pub lists-sizes : (s : Slot) → let n = length (all_nodes s.width s.dims s.table) in
+    IsListing s Command.Statistics (Reply.StatsAre (stats s.width s.dims s.table) ∷ []) n n
+lists-sizes s = search rules
 
 -- ---- rows with their distances
 
@@ -208,6 +261,10 @@ good-hit d r text = refl
 pub hits-good : (q : List ℤ) (rows : List Row) → is_refusal (replies_text (hit_listing q rows)) ≡ false
 hits-good q [] = refl
 hits-good q (r ∷ rows) = good-hit (distance r.point q) r (replies_text (hit_listing q rows))
+
+pub lists-ball : (s : Slot) (q : List ℤ) (r : ℕ) → let n = length (ball s.width s.dims s.table q r) in
+    IsListing s (Command.Within q r) (hit_listing q (within q r s.table)) n n
+lists-ball s q r = search (rules, hits-good)
 
 -- the nearest rows, or where memory was missing for them
 pub near-done : (most : ℕ) (kind : Kind) (t : AnyTable) (cursors : Named Cursor) (q : List ℤ) (n : ℕ)
@@ -224,14 +281,24 @@ near-done most kind t cursors q n sink now_sink files filings v now_v changes (E
     sink now_sink files filings v now_v changes h refl (λ most files fault. refl) (λ files. refl) (λ files. refl)
     most (Err WriteFault) refl (hits-good q (near q n t.tree.table)) listed
 near-done most kind t cursors q n sink now_sink files filings v now_v changes (Err NoMemory) h listed = record {
-  fault = false;
-  found = None;
-  filings = no-faults (Command.Near q n) (beside_sink sink files filings v changes)
-      (beside_sink now_sink files filings now_v changes) (record { files = refl; filings = refl });
-  part = 0;
-  state = λ files k. refl;
-  files = λ known k. told-told files files known refl k;
+  unfiled = record {
+    fault = false;
+    found = None;
+    counted = no-faults (Command.Near q n) (beside_sink sink files filings v changes)
+        (beside_sink now_sink files filings now_v changes) (record { files = refl; filings = refl });
+    part = 0;
+    state = λ files k. refl;
+    kept = λ known k. told-told files files known refl k;
+    wanted = rw h (lt-ltb 0 n listed.some);
+    most_work = λ files k. record { few_visits = listed.few; few_changes = omega arith };
+  };
   told = rw listed.unwritten (given_none sink);
-  wanted = rw h (lt-ltb 0 n listed.some);
-  most_work = λ files k. record { few_visits = listed.few; few_changes = omega arith };
 }
+
+-- the same whatever the files are
+pub near-listed : (kind : Kind) (t : AnyTable) (cursors : Named Cursor) (q : List ℤ) (n : ℕ) (sink now_sink : Taken)
+    (v now_v : ℕ) (result : Result Answer Stop) → early_refusal (slot_of kind t cursors) (Command.Near q n) ≡ None →
+    ListsNear t q n sink now_sink v now_v result →
+    DoneWith (slot_of kind t cursors) (Command.Near q n) sink now_sink v now_v (slot_of kind t cursors) result
+near-listed kind t cursors q n sink now_sink v now_v result h listed =
+    record { done = λ most files filings changes. near-done most kind t cursors q n sink now_sink files filings v now_v changes result h listed }

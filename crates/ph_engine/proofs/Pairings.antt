@@ -6,7 +6,6 @@ use Rattle.ph_specs.specs.declared.Kind.{Kind}
 use Rattle.ph_specs.specs.declared.Kind.TheVariants.{Points, Boxes}
 use Rattle.ph_specs.specs.declared.SetOperation.{SetOperation}
 use Rattle.ph_specs.specs.declared.Which.{Which}
-use Rattle.ph_specs.specs.declared.Which.TheVariants.{A, B}
 use Rattle.ph_specs.specs.declared.SetOperation.TheVariants.{Union, Common, Minus}
 use Rattle.ph_specs.specs.Boxes.{AreBoxes}
 use Rattle.ph_specs.specs.Command.{Command}
@@ -16,7 +15,7 @@ use Rattle.ph_specs.specs.Refusals.{refusal, slot_refusal, or_else, refuse_if, j
 use Rattle.ph_specs.specs.Reply.{Reply, reply_text, replies_text}
 use Rattle.ph_specs.specs.Coordinate.{IsBox}
 use Rattle.ph_specs.specs.Sets.{put_all, pairs, combine}
-use Rattle.ph_specs.specs.State.{Slot, Engine, Files, current, other, with_slot, outcome}
+use Rattle.ph_specs.specs.State.{Slot, Engine, Files, current, other, slot_at, other_at, put_slot, with_slot, outcome}
 use Rattle.ph_specs.specs.Table.{Row, put, has}
 use Rattle.ph_specs.specs.Window.{Cursor}
 use Rattle.ph_specs.specs.WorkSets.{join_visits}
@@ -160,26 +159,18 @@ module _ (operation : SetOperation) where
       };
     }
 
--- the same by the fields of the code's engine
-pub combine-at-a : {E : Type 0} (operation : SetOperation) (e : Engine) (a b s : Slot) (which : Which)
-    (visits now_visits changes now_changes : ℕ) (result : Result Told E) →
-    record { a = a; b = b; current = which } ≡ e → which ≡ A → VisitsSlots operation a b visits now_visits →
-    CombinesSlots operation a b s changes now_changes result →
-    QuietOr e (Command.Combine operation) visits now_visits changes now_changes (record { a = s; b = b; current = which }) result
-combine-at-a operation e a b s which visits now_visits changes now_changes result v w k h =
-    let at : Engine = record { a = a; b = b; current = A } in
-    let is : at ≡ e = ap (λ x. record { a = a; b = b; current = x }) (sym w) ∙ v in
-    rw (← is, w) (combine-quiet operation at s visits now_visits changes now_changes k result h)
-
-pub combine-at-b : {E : Type 0} (operation : SetOperation) (e : Engine) (a b s : Slot) (which : Which)
-    (visits now_visits changes now_changes : ℕ) (result : Result Told E) →
-    record { a = a; b = b; current = which } ≡ e → which ≡ B → VisitsSlots operation b a visits now_visits →
-    CombinesSlots operation b a s changes now_changes result →
-    QuietOr e (Command.Combine operation) visits now_visits changes now_changes (record { a = a; b = s; current = which }) result
-combine-at-b operation e a b s which visits now_visits changes now_changes result v w k h =
-    let at : Engine = record { a = a; b = b; current = B } in
-    let is : at ≡ e = ap (λ x. record { a = a; b = b; current = x }) (sym w) ∙ v in
-    rw (← is, w) (combine-quiet operation at s visits now_visits changes now_changes k result h)
+-- the same by the fields of the code's engine, where this slot is the current one
+pub combine-at : {E : Type 0} (operation : SetOperation) (e fields : Engine) (s : Slot) (now : Which)
+    (visits now_visits changes now_changes : ℕ) (result : Result Told E) → fields ≡ e → fields.current ≡ now →
+    VisitsSlots operation (slot_at now fields) (other_at now fields) visits now_visits →
+    CombinesSlots operation (slot_at now fields) (other_at now fields) s changes now_changes result →
+    QuietOr e (Command.Combine operation) visits now_visits changes now_changes (put_slot now fields s) result
+combine-at operation e fields s now visits now_visits changes now_changes result v w k h =
+    subst (λ x. QuietOr x (Command.Combine operation) visits now_visits changes now_changes (put_slot now fields s) result) v
+    (subst (λ y. VisitsSlots operation (slot_at y fields) (other_at y fields) visits now_visits →
+    CombinesSlots operation (slot_at y fields) (other_at y fields) s changes now_changes result →
+    QuietOr fields (Command.Combine operation) visits now_visits changes now_changes (put_slot y fields s) result) w
+    (λ k h. combine-quiet operation fields s visits now_visits changes now_changes k result h) k h)
 
 -- ---- what is made of boxes is boxes
 

@@ -1,5 +1,5 @@
 -- What a command does to a slot of points it does to one of boxes, where it is not refused.
-use Rattle.std.proofs.Common.{◌≡◌, ℕ, Bool, true, false, List, [], ◌∷◌, refl, ap, sym, subst, ◌∙◌}
+use Rattle.std.proofs.Common.{◌≡◌, ℕ, Bool, true, List, [], ◌∷◌, refl, rules, ap, sym, subst, ◌∙◌}
 use Rattle.std.specs.Prelude.{ℤ, Option, Some, None}
 use Rattle.ph_specs.specs.declared.Kind.{Kind}
 use Rattle.ph_specs.specs.declared.Kind.TheVariants.{Points, Boxes}
@@ -10,10 +10,11 @@ use Rattle.ph_specs.specs.State.{Slot, Engine, Files, Outcome, current}
 use Rattle.ph_specs.specs.Refusals.{refusal, or_else}
 use Rattle.ph_specs.specs.Engine.{act, effect, unless_refused}
 use Rattle.ph_specs.specs.Window.{Cursor}
-use Rattle.ph_engine.specs.Doing.{DoesAt, MostAt, LeastAt, takes_memory, wants_memory, is_on_slot, is_page, starved_engine, imported, rows_loaded}
+use Rattle.ph_engine.specs.Doing.{DoesAt, takes_memory, wants_memory, is_on_row, is_on_slot, starved_engine, rows_loaded}
+use Rattle.ph_engine.specs.Machine.{Work}
 use Rattle.ph_engine.specs.Refusing.{early_refusal, late_refusal}
 use Rattle.ph_engine.specs.Slots.{AnyTable, slot_of, engine_of}
-use Rattle.ph_engine.specs.Working.{work, work_of, engine_bounds, least_unless, IsAtMost, IsAtLeast}
+use Rattle.ph_engine.specs.Working.{work, work_of, engine_bounds, least_unless}
 use Rattle.ph_engine.proofs.Refused.{refusal-parts, alone, in-range}
 
 -- an outcome whose current slot is one of boxes
@@ -35,94 +36,35 @@ pub record IsPlain (command : Command) : Type 0 where
       engine_bounds (engine_of (slot_of Boxes t cursors)) files command ≡
       engine_bounds (engine_of (slot_of Points t cursors)) files command
   pub takes : (t : AnyTable) (cursors : Named Cursor) → takes_memory (slot_of Boxes t cursors) command ≡ takes_memory (slot_of Points t cursors) command
-  pub no_page : is_page command ≡ false
   pub no_part : (e : Engine) (files : Files) → starved_engine e files command 0 ≡ e
-  pub no_import : (s : Slot) (files : Files) → imported s files command ≡ None
   pub no_load : (s : Slot) (files : Files) → rows_loaded s files command ≡ None
 
+-- A command about a row is refused at a slot of points for no cause but its range.
+row-unrefused : (command : Command) (t : AnyTable) (cursors : Named Cursor) → is_on_row command ≡ true →
+    early_refusal (slot_of Boxes t cursors) command ≡ None → early_refusal (slot_of Points t cursors) command ≡ None
+row-unrefused (Command.Put p v) t cursors on h = rw (in-range (slot_of Boxes t cursors) (Command.Put p v) h) refl
+row-unrefused (Command.Get p) t cursors on h = rw (in-range (slot_of Boxes t cursors) (Command.Get p) h) refl
+row-unrefused (Command.Del p) t cursors on h = rw (in-range (slot_of Boxes t cursors) (Command.Del p) h) refl
+row-unrefused (Command.Relocate p q) t cursors on h = rw (in-range (slot_of Boxes t cursors) (Command.Relocate p q) h) refl
+row-unrefused other t cursors on h = absurd cc
+
 pub plain-put : (p : List ℤ) (v : ℕ) → IsPlain (Command.Put p v)
-plain-put p v = record {
-  on_slot = refl;
-  unrefused = λ t cursors h. rw (in-range (slot_of Boxes t cursors) (Command.Put p v) h) refl;
-  late = λ most t cursors files fault. refl;
-  effect = λ t cursors files. refl;
-  bounds = λ t cursors files. refl;
-  takes = λ t cursors. refl;
-  no_page = refl;
-  no_part = λ e files. refl;
-  no_import = λ s files. refl;
-  no_load = λ s files. refl;
-}
+plain-put p v = search (rules, row-unrefused)
 
 pub plain-get : (p : List ℤ) → IsPlain (Command.Get p)
-plain-get p = record {
-  on_slot = refl;
-  unrefused = λ t cursors h. rw (in-range (slot_of Boxes t cursors) (Command.Get p) h) refl;
-  late = λ most t cursors files fault. refl;
-  effect = λ t cursors files. refl;
-  bounds = λ t cursors files. refl;
-  takes = λ t cursors. refl;
-  no_page = refl;
-  no_part = λ e files. refl;
-  no_import = λ s files. refl;
-  no_load = λ s files. refl;
-}
+plain-get p = search (rules, row-unrefused)
 
 pub plain-del : (p : List ℤ) → IsPlain (Command.Del p)
-plain-del p = record {
-  on_slot = refl;
-  unrefused = λ t cursors h. rw (in-range (slot_of Boxes t cursors) (Command.Del p) h) refl;
-  late = λ most t cursors files fault. refl;
-  effect = λ t cursors files. refl;
-  bounds = λ t cursors files. refl;
-  takes = λ t cursors. refl;
-  no_page = refl;
-  no_part = λ e files. refl;
-  no_import = λ s files. refl;
-  no_load = λ s files. refl;
-}
+plain-del p = search (rules, row-unrefused)
 
 pub plain-move : (p q : List ℤ) → IsPlain (Command.Relocate p q)
-plain-move p q = record {
-  on_slot = refl;
-  unrefused = λ t cursors h. rw (in-range (slot_of Boxes t cursors) (Command.Relocate p q) h) refl;
-  late = λ most t cursors files fault. refl;
-  effect = λ t cursors files. refl;
-  bounds = λ t cursors files. refl;
-  takes = λ t cursors. refl;
-  no_page = refl;
-  no_part = λ e files. refl;
-  no_import = λ s files. refl;
-  no_load = λ s files. refl;
-}
+plain-move p q = search (rules, row-unrefused)
 
 pub plain-count : IsPlain Command.Count
-plain-count = record {
-  on_slot = refl;
-  unrefused = λ t cursors h. refl;
-  late = λ most t cursors files fault. refl;
-  effect = λ t cursors files. refl;
-  bounds = λ t cursors files. refl;
-  takes = λ t cursors. refl;
-  no_page = refl;
-  no_part = λ e files. refl;
-  no_import = λ s files. refl;
-  no_load = λ s files. refl;
-}
+plain-count = search rules
 
 pub plain-clear : IsPlain Command.Clear
-plain-clear = record {
-  on_slot = refl;
-  unrefused = λ t cursors h. refl;
-  late = λ most t cursors files fault. refl;
-  effect = λ t cursors files. refl;
-  bounds = λ t cursors files. refl;
-  takes = λ t cursors. refl;
-  no_page = refl;
-  no_part = λ e files. refl;
-  no_import = λ s files. refl;
-  no_load = λ s files. refl;
-}
+plain-clear = search rules
 
 unless-boxed : (r : Option Reply) (t : AnyTable) (cursors : Named Cursor) (files : Files) (command : Command) →
     IsPlain command → unless_refused r (engine_of (slot_of Boxes t cursors)) files command ≡
@@ -167,19 +109,13 @@ pub does-at : (kind : Kind) (t now : AnyTable) (cursors : Named Cursor) (command
 does-at Points t now cursors command reply p h d = d
 does-at Boxes t now cursors command reply p h d = λ most files fault. same-act t cursors command p h most files fault ∙ ap boxed (d most files fault)
 
-pub most-at : (kind : Kind) (t : AnyTable) (cursors : Named Cursor) (command : Command) (v now_v c now_c : ℕ) →
+-- what is so of the bounds at a slot of points is so of those at the kind
+pub work-at : (P : Work → Type 0) (kind : Kind) (t : AnyTable) (cursors : Named Cursor) (command : Command) →
     IsPlain command → early_refusal (slot_of kind t cursors) command ≡ None →
-    MostAt (slot_of Points t cursors) command v now_v c now_c → MostAt (slot_of kind t cursors) command v now_v c now_c
-most-at Points t cursors command v now_v c now_c p h w = w
-most-at Boxes t cursors command v now_v c now_c p h w = λ most files fault. subst (λ x. IsAtMost x v now_v c now_c)
-    (sym (same-work t cursors command p h most files fault)) (w most files fault)
-
-pub least-at : (kind : Kind) (t : AnyTable) (cursors : Named Cursor) (command : Command) (v now_v c now_c : ℕ) →
-    IsPlain command → early_refusal (slot_of kind t cursors) command ≡ None →
-    LeastAt (slot_of Points t cursors) command v now_v c now_c → LeastAt (slot_of kind t cursors) command v now_v c now_c
-least-at Points t cursors command v now_v c now_c p h w = w
-least-at Boxes t cursors command v now_v c now_c p h w = λ most files fault. subst (λ x. IsAtLeast x v now_v c now_c)
-    (sym (same-work t cursors command p h most files fault)) (w most files fault)
+    ((most : ℕ) (files : Files) (fault : Bool) → P (work_of most (engine_of (slot_of Points t cursors)) files fault command)) →
+    (most : ℕ) (files : Files) (fault : Bool) → P (work_of most (engine_of (slot_of kind t cursors)) files fault command)
+work-at P Points t cursors command p h w = w
+work-at P Boxes t cursors command p h w = λ most files fault. subst P (sym (same-work t cursors command p h most files fault)) (w most files fault)
 
 takes-at : (kind : Kind) (t : AnyTable) (cursors : Named Cursor) (command : Command) → IsPlain command →
     takes_memory (slot_of kind t cursors) command ≡ takes_memory (slot_of Points t cursors) command

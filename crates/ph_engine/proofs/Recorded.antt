@@ -1,7 +1,8 @@
 -- What imports and exports do.
 use Rattle.std.proofs.lemmas.List.{take-take}
 use Rattle.std.proofs.lemmas.Bool.{cases_lt}
-use Rattle.std.proofs.Common.{◌≡◌, ◌<◌, ◌≤◌, ◌+◌, ◌-◌, inl, inr, lt-ltb, le-ltb, arith, ℕ, zero, suc, Bool, true, false, List, [], ◌∷◌, length, take, refl, ap, sym, ◌∙◌}
+use Rattle.std.proofs.Common.{◌≡◌, ◌<◌, ◌≤◌, ◌+◌, ◌-◌, inl, inr, lt-ltb, le-ltb, arith, ℕ, zero, suc, Bool, true, false, List, [], ◌∷◌, length}
+use Rattle.std.proofs.Common.{take, refl, rules, ap, sym, ◌∙◌}
 use Rattle.std.specs.Prelude.{◌⊎◌, ◌||◌, Some, None, nat_lt, if◌then◌else◌, Result, Ok, Err, Option}
 use Rattle.ph_csv.specs.Faults.{IsFault}
 use Rattle.ph_csv.specs.declared.fault.CsvFault.{CsvFault}
@@ -241,14 +242,7 @@ starved-put t now rows error full empty part =
 -- ---- export
 
 store-export : (name : List ℕ) → IsStore (Command.Export name) name (λ s. csv_text s.table) (λ s. Reply.Exported (length s.table))
-store-export name = record {
-  on_slot = refl;
-  uses = refl;
-  early = never-early (Command.Export name) (λ s. refl) (λ s. refl);
-  late = λ most s files fault. refl;
-  makes = λ s files. refl;
-  costs = λ s files. refl;
-}
+store-export name = search (rules, never-early)
 
 module _ (most : ℕ) (s : Slot) (name : List ℕ) (before now : Shelf) (v now_v c : ℕ) where
   pub exported-filed : (count : ℕ) → count ≡ length s.table → now_v ≡ v + length (all_nodes s.width s.dims s.table) →

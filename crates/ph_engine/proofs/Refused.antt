@@ -38,32 +38,11 @@ slot-parts most s files fault cmd =
 
 -- a command on one slot has no cause of both, and wants nothing of the other
 pub alone : (e : Engine) (cmd : Command) → is_on_slot cmd ≡ true → (slots_refusal e cmd ≡ None) × (goes_together e cmd ≡ true)
-alone e (Command.Begin kind k width max) h = (refl, refl)
-alone e (Command.Put p v) h = (refl, refl)
-alone e (Command.Get p) h = (refl, refl)
-alone e (Command.Del p) h = (refl, refl)
-alone e (Command.Relocate p q) h = (refl, refl)
-alone e Command.Count h = (refl, refl)
-alone e Command.Clear h = (refl, refl)
-alone e (Command.Window lo hi) h = (refl, refl)
-alone e (Command.Cursor name lo hi) h = (refl, refl)
-alone e (Command.Page name n) h = (refl, refl)
-alone e (Command.Near q n) h = (refl, refl)
-alone e (Command.Within q r) h = (refl, refl)
-alone e (Command.Overlap q) h = (refl, refl)
-alone e (Command.Inside q) h = (refl, refl)
-alone e (Command.Covers q) h = (refl, refl)
-alone e (Command.Save name) h = (refl, refl)
-alone e (Command.Load name) h = (refl, refl)
-alone e (Command.Import name header) h = (refl, refl)
-alone e (Command.Export name) h = (refl, refl)
-alone e Command.Statistics h = (refl, refl)
-alone e (Command.Keep n) h = (refl, refl)
-alone e (Command.Back n) h = (refl, refl)
 alone e (Command.Select which) h = absurd cc
 alone e Command.Compare h = absurd cc
 alone e Command.Join h = absurd cc
 alone e (Command.Combine operation) h = absurd cc
+alone e other h = (refl, refl)
 
 pub refusal-parts : (most : ℕ) (e : Engine) (files : Files) (fault : Bool) (cmd : Command) → is_on_slot cmd ≡ true →
     refusal most e files fault cmd ≡ or_else (early_refusal (current e) cmd) (late_refusal most (current e) files fault cmd)
@@ -122,6 +101,14 @@ early-move s p q =
     ap (λ b. refuse_if b Reply.ErrorKind
     (point_cause (names_points_outside s.width (Command.Relocate p q)) (names_reversed s.kind (Command.Relocate p q))))
     (sym (kind-of-move s.kind p q))
+
+-- the cause by what the code has tested
+pub point-told : {s now : Slot} {outside reversed : Bool} (command : Command) (w : ℕ) → s ≡ now →
+    point_cause (names_points_outside now.width command) (names_reversed now.kind command) ≡ early_refusal now command →
+    w ≡ s.width → outside ≡ names_points_outside w command → reversed ≡ names_reversed s.kind command →
+    point_cause outside reversed ≡ early_refusal now command
+point-told {s} {now} {outside} {reversed} command w e early is o r =
+    (λ i. point_cause ((o ∙ ap (λ v. names_points_outside v command) (is ∙ ap (λ x. x.width) e)) i) ((r ∙ ap (λ x. names_reversed x.kind command) e) i)) ∙ early
 
 -- a put and a removal are refused as a get is
 pub early-put : (s : Slot) (p : List ℤ) (v : ℕ) → early_refusal s (Command.Get p) ≡ early_refusal s (Command.Put p v)

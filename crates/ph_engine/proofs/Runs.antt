@@ -8,11 +8,12 @@ use Rattle.std.specs.Io.KnownBytes.{Consumes, IsAtEnd, Keeps}
 use Rattle.ph_io.specs.Giving.{Given}
 use Rattle.ph_engine.specs.Beside.{Beside}
 use Rattle.ph_specs.specs.Lines.{lines, whole_lines}
-use Rattle.ph_engine.specs.Machine.{Machine, turn, answers, after, some_refused, lines_of, KEPT}
+use Rattle.ph_engine.specs.Costs.{Spent}
+use Rattle.ph_engine.specs.Machine.{Machine, Met, turn, answers, after, some_refused, lines_of, KEPT}
 use Rattle.ph_engine.specs.Answering.{Answers}
 use Rattle.ph_engine.specs.Cutting.{ended, is_unbroken, are_unbroken}
-use Rattle.ph_engine.specs.Feeding.{Fed, FedOr, Feeds, AtEnd, EndsOr, Ends}
-use Rattle.ph_engine.specs.Outcomes.{Answered, Interrupted, Exceeded, Outcome}
+use Rattle.ph_engine.specs.Feeding.{Fed, Halted, FedOr, Feeds, AtEnd, EndsOr, Ends}
+use Rattle.ph_engine.specs.Outcomes.{Answered, Interrupted, Exceeded, HaltedAt, Outcome}
 use Rattle.ph_engine.specs.Statuses.{read_status, stop_status}
 use Rattle.ph_engine.specs.declared.status.Status.{Status}
 use Rattle.ph_engine.specs.declared.status.Status.TheVariants as by
@@ -99,6 +100,22 @@ end-read m most left now_left b now_b last_b s now last kept refused taken statu
           sym (refused-append m s h.fed.done turns));
     }
 
+-- the unended line is not answered whole
+abbrev end-halted : {S : Type 0} (m : Machine S) (most : ℕ) (left now_left : Option (List ℕ)) (b now_b last_b : Beside)
+    (s now : S) (kept : List ℕ) (refused : Bool) (taken : ℕ) → (h : Reached m left now_left b now_b s now kept refused taken) →
+    taken ≤ most → IsAtEnd now_left → (met : Met) → lines h.fed.rest ≡ h.fed.rest ∷ [] →
+    Spent m now (turn h.fed.rest met ∷ []) now_b last_b → HaltedAt m most left now_left b last_b s
+end-halted m most left now_left b now_b last_b s now kept refused taken h w a met some spent = record {
+  bytes = h.bytes;
+  consumed = h.consumed;
+  within = omega (arith, h.count);
+  done = h.fed.done;
+  last = turn h.fed.rest met;
+  more = [];
+  taken = inr (a, fed-lines m s now h.bytes kept b now_b refused h.fed ∙ ap (λ t. lines_of h.fed.done ++ t) some);
+  spent = spent_both m s now h.fed.done (turn h.fed.rest met ∷ []) b now_b last_b h.fed.state h.fed.worked.spent spent;
+}
+
 end-or : {S : Type 0} (m : Machine S) (most : ℕ) (left now_left : Option (List ℕ)) (b now_b last_b : Beside)
     (s now last : S) (kept : List ℕ) (refused : Bool) (taken : ℕ) (status : Status) →
     (h : Reached m left now_left b now_b s now kept refused taken) → taken ≤ most → IsAtEnd now_left →
@@ -108,32 +125,18 @@ end-or m most left now_left b now_b last_b s now last kept refused taken Clean h
 end-or m most left now_left b now_b last_b s now last kept refused taken Refused h w a k =
     end-read m most left now_left b now_b last_b s now last kept refused taken Refused h w a k
 end-or m most left now_left b now_b last_b s now last kept refused taken by.WriteFault h w a k = record {
-  bytes = h.bytes;
-  consumed = h.consumed;
-  within = omega (arith, h.count);
-  done = h.fed.done;
-  last = turn h.fed.rest k.met;
-  more = [];
+  at = end-halted m most left now_left b now_b last_b s now kept refused taken h w a k.met k.some k.said.spent;
   count = k.said.count;
-  taken = inr (a, fed-lines m s now h.bytes kept b now_b refused h.fed ∙ ap (λ t. lines_of h.fed.done ++ t) k.some);
   short = rw (← h.fed.state) k.said.short;
   told = rw (← h.fed.state) (given_both b.sink now_b.sink last_b.sink _ _ h.fed.told k.said.told);
   state = k.said.state ∙ ap (λ t. m.cut t (turn h.fed.rest k.met)) h.fed.state;
-  spent = spent_both m s now h.fed.done (turn h.fed.rest k.met ∷ []) b now_b last_b h.fed.state h.fed.worked.spent k.said.spent;
 }
 end-or m most left now_left b now_b last_b s now last kept refused taken by.Memory h w a k = inr (record {
-  bytes = h.bytes;
-  consumed = h.consumed;
-  within = omega (arith, h.count);
-  done = h.fed.done;
-  last = turn h.fed.rest k.met;
-  more = [];
+  at = end-halted m most left now_left b now_b last_b s now kept refused taken h w a k.met k.some k.unsaid.spent;
   part = k.unsaid.part;
-  taken = inr (a, fed-lines m s now h.bytes kept b now_b refused h.fed ∙ ap (λ t. lines_of h.fed.done ++ t) k.some);
   told = let t : Given b.sink last_b.sink (answers m s h.fed.done ++ []) = given_both b.sink now_b.sink last_b.sink _ _ h.fed.told k.unsaid.told in rw append-nil at t;
   state = k.unsaid.state ∙ ap (λ t. m.starved t (turn h.fed.rest k.met) k.unsaid.part) h.fed.state;
   wanted = rw (← h.fed.state) k.unsaid.wanted;
-  spent = spent_both m s now h.fed.done (turn h.fed.rest k.met ∷ []) b now_b last_b h.fed.state h.fed.worked.spent k.unsaid.spent;
 })
 end-or m most left now_left b now_b last_b s now last kept refused taken Usage h w a k = absurd k
 end-or m most left now_left b now_b last_b s now last kept refused taken ReadFault h w a k = absurd k
@@ -191,37 +194,24 @@ stop-lines : (bytes : List ℕ) (done : List (List ℕ)) (line more : List ℕ) 
 stop-lines bytes done line more e u v =
     ap whole_lines e ∙ whole-ended (done ++ line ∷ []) more (all-append _ done (line ∷ []) u (rw v refl)) ∙ append_assoc done (line ∷ []) (whole_lines more)
 
-stop-or : {S : Type 0} (m : Machine S) (most : ℕ) (left now_left : Option (List ℕ)) (b now_b : Beside) (s now : S)
-    (kept bytes : List ℕ) (stop : Stop) → Consumes left now_left bytes → length bytes ≤ most + 1 →
-    FedOr m s [] bytes b now_b now kept (Err stop) → Outcome m most left now_left b now_b s now (stop_status stop)
-stop-or m most left now_left b now_b s now kept bytes WriteFault c w h = record {
-  bytes = bytes;
-  consumed = c;
-  within = w;
-  done = h.done;
-  last = h.last;
-  more = whole_lines h.more;
-  count = h.count;
-  taken = inl (stop-lines bytes (lines_of h.done) h.last.line h.more h.split h.unbroken_done h.unbroken_line);
-  short = h.short;
-  told = h.told;
-  state = h.state;
-  spent = h.spent;
-}
-stop-or m most left now_left b now_b s now kept bytes NoMemory c w h = inr (record {
-  bytes = bytes;
-  consumed = c;
-  within = w;
-  done = h.done;
-  last = h.last;
-  more = whole_lines h.more;
-  part = h.part;
-  taken = inl (stop-lines bytes (lines_of h.done) h.last.line h.more h.split h.unbroken_done h.unbroken_line);
-  told = h.told;
-  state = h.state;
-  wanted = h.wanted;
-  spent = h.spent;
-})
+module _ {S : Type 0} (m : Machine S) (most : ℕ) (left now_left : Option (List ℕ)) (b now_b : Beside) (s : S)
+    (bytes : List ℕ) (c : Consumes left now_left bytes) (w : length bytes ≤ most + 1) where
+  abbrev stop-halted : Halted m s [] bytes b now_b → HaltedAt m most left now_left b now_b s
+  stop-halted h = record {
+    bytes = bytes;
+    consumed = c;
+    within = w;
+    done = h.done;
+    last = h.last;
+    more = whole_lines h.more;
+    taken = inl (stop-lines bytes (lines_of h.done) h.last.line h.more h.split h.unbroken_done h.unbroken_line);
+    spent = h.spent;
+  }
+
+  stop-or : (kept : List ℕ) (now : S) (stop : Stop) → FedOr m s [] bytes b now_b now kept (Err stop) →
+      Outcome m most left now_left b now_b s now (stop_status stop)
+  stop-or kept now WriteFault h = record { at = stop-halted h.at; count = h.count; short = h.short; told = h.told; state = h.state }
+  stop-or kept now NoMemory h = inr (record { at = stop-halted h.at; part = h.part; told = h.told; state = h.state; wanted = h.wanted })
 
 front-rest : (piece : List ℕ) (front count : ℕ) → front ≤ count → take front piece ++ drop front (take count piece) ≡ take count piece
 front-rest piece front count h = ap (λ t. t ++ drop front (take count piece)) (sym (take-take front count piece h)) ∙ take-append-drop front (take count piece)
@@ -234,9 +224,9 @@ pub stopped : {S : Type 0} (m : Machine S) (most : ℕ) (left middle now_left : 
     taken + count ≤ most + 1 → Feeds m now kept fresh now_b last_b last next (Err stop) →
     Outcome m most left now_left b last_b s last (stop_status stop)
 stopped m most left middle now_left b now_b last_b s now last kept next piece fresh refused taken count front stop h c w f e o k =
-    stop-or m most left now_left b last_b s last next (h.bytes ++ take count piece) stop
+    stop-or m most left now_left b last_b s (h.bytes ++ take count piece)
     (consumes_both left middle now_left h.bytes (take count piece) h.consumed c)
-    (omega (arith, length_more h.bytes piece count taken h.count w))
+    (omega (arith, length_more h.bytes piece count taken h.count w)) next last stop
     (then-stopped m s [] h.bytes fresh (drop front (take count piece)) (h.bytes ++ take count piece) kept next b now_b last_b now last refused stop h.fed k
     (append_assoc h.bytes fresh (drop front (take count piece)) ∙
     ap (λ t. h.bytes ++ t) (ap (λ t. t ++ drop front (take count piece)) e ∙ front-rest piece front count f)))

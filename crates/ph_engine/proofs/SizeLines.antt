@@ -39,12 +39,6 @@ sizes_joined line s = parts (decimal s.rows) (decimal s.nodes) (decimal s.linear
         append_assoc four (codes "words ") w ∙ counted three (codes "cube") c end ∙ counted two (codes "linear") l
         cubes ∙ counted one (codes "nodes") n linears ∙ counted line (codes "rows") r nodes
 
--- the whole line behind a word and a number
-pub line_of_points : (word : List ℕ) (number : ℕ) (s : Stats) →
-    ((([] ++ word ++ 32 ∷ decimal number ++ 32 ∷ []) ++ join_with_byte 32 (stats_words s)) ++ 10 ∷ []) ≡
-    line_of (word ∷ decimal number ∷ stats_words s)
-line_of_points word number s = ap (λ t. t ++ 10 ∷ []) (counted [] word (decimal number) (join_with_byte 32 (stats_words s)))
-
 -- the same with a word and a number behind it
 pub line_of_soak : (n bytes : ℕ) (s : Stats) →
     (((([] ++ codes "soak" ++ 32 ∷ decimal n ++ 32 ∷ []) ++ join_with_byte 32 (stats_words s)) ++ codes " bytes ") ++

@@ -18,7 +18,7 @@ use Rattle.ph_specs.specs.Past.{after_edit}
 use Rattle.ph_specs.specs.Table.{Row, has, del, move}
 use Rattle.ph_specs.specs.Refusals.{refusal, boxes_of}
 use Rattle.ph_specs.specs.Window.{Cursor}
-use Rattle.ph_specs.specs.Engine.{unless_refused, opened_dims}
+use Rattle.ph_specs.specs.Engine.{effect, unless_refused, opened_dims}
 use Rattle.ph_script.specs.declared.reply.Reply.{Reply as Told}
 use Rattle.ph_specs.proofs.laws.BoxRows.{boxes-put, boxes-del, boxes-move}
 use Rattle.ph_engine.specs.Doing.{ServedOr}
@@ -97,56 +97,45 @@ box-of t cursors kind command p e k h =
     ap (λ x. not (list_all is_box (boxes_of x command))) (sym k) ∙ unreversed (slot_of kind t cursors) command h)
 
 module _ (kind : Kind) (t : AnyTable) (cursors : Named Cursor) where
-  pub put-frame : (p : List ℤ) (v : ℕ) → early_refusal (slot_of kind t cursors) (Command.Put p v) ≡ None → KeepsFrame kind t (Command.Put p v)
-  put-frame p v h = record { same = stays; boxes = boxed }
+  -- a command that leaves it so where it is not refused
+  keeps : (command : Command) → let now = current (effect (engine_of (slot_of Points t [])) [] command).engine in
+      (now.width ≡ t.tree.width) × (now.dims ≡ t.dims) →
+      (kind ≡ Boxes → AreBoxes t.tree.table → AllByRecursion AreBoxes t.tree.past → HasBoxes now) → KeepsFrame kind t command
+  keeps command same boxes = record { same = stays; boxes = boxed }
     where
-      stays : (r : Option Reply) → let s =
-          current (unless_refused r (engine_of (slot_of Points t [])) [] (Command.Put p v)).engine in
+      stays : (r : Option Reply) → let s = current (unless_refused r (engine_of (slot_of Points t [])) [] command).engine in
           (s.width ≡ t.tree.width) × (s.dims ≡ t.dims)
       stays (Some r) = (refl, refl)
-      stays None = (refl, refl)
+      stays None = same
 
       boxed : (r : Option Reply) → kind ≡ Boxes → AreBoxes t.tree.table → AllByRecursion AreBoxes t.tree.past →
-          HasBoxes (current (unless_refused r (engine_of (slot_of Points t [])) [] (Command.Put p v)).engine)
+          HasBoxes (current (unless_refused r (engine_of (slot_of Points t [])) [] command).engine)
       boxed (Some r) e b c = (b, c)
-      boxed None e b c = edited t.tree.depth _ t.tree.table t.tree.past
-          (boxes-put t.tree.width t.tree.table p v (box-of t cursors kind (Command.Put p v) p refl e h) b) b c
+      boxed None e b c = boxes e b c
+
+  pub put-frame : (p : List ℤ) (v : ℕ) → early_refusal (slot_of kind t cursors) (Command.Put p v) ≡ None → KeepsFrame kind t (Command.Put p v)
+  put-frame p v h = keeps (Command.Put p v) (refl, refl)
+      (λ e b c. edited t.tree.depth _ t.tree.table t.tree.past
+      (boxes-put t.tree.width t.tree.table p v (box-of t cursors kind (Command.Put p v) p refl e h) b) b c)
 
   pub del-frame : (p : List ℤ) → KeepsFrame kind t (Command.Del p)
-  del-frame p = record { same = stays; boxes = boxed }
-    where
-      stays : (r : Option Reply) → let s =
-          current (unless_refused r (engine_of (slot_of Points t [])) [] (Command.Del p)).engine in
-          (s.width ≡ t.tree.width) × (s.dims ≡ t.dims)
-      stays (Some r) = (refl, refl)
-      stays None = (refl, refl)
-
-      boxed : (r : Option Reply) → kind ≡ Boxes → AreBoxes t.tree.table → AllByRecursion AreBoxes t.tree.past →
-          HasBoxes (current (unless_refused r (engine_of (slot_of Points t [])) [] (Command.Del p)).engine)
-      boxed (Some r) e b c = (b, c)
-      boxed None e b c = elim (has t.tree.table p)
-          as (λ x. HasBoxes (with_past (slot_of Points t [])
-          (if x then after_edit t.tree (del t.tree.table p) else t.tree)))
-          [ true ↦ edited t.tree.depth _ t.tree.table t.tree.past (boxes-del t.tree.table p b) b c | false ↦ (b, c) ]
+  del-frame p = keeps (Command.Del p) (refl, refl)
+      (λ e b c. elim (has t.tree.table p)
+      as (λ x. HasBoxes (with_past (slot_of Points t [])
+      (if x then after_edit t.tree (del t.tree.table p) else t.tree)))
+      [ true ↦ edited t.tree.depth _ t.tree.table t.tree.past (boxes-del t.tree.table p b) b c | false ↦ (b, c) ])
 
   pub move-frame : (p q : List ℤ) → early_refusal (slot_of kind t cursors) (Command.Relocate p q) ≡ None → KeepsFrame kind t (Command.Relocate p q)
-  move-frame p q h = record { same = stays; boxes = boxed }
+  move-frame p q h = keeps (Command.Relocate p q) (refl, refl) boxed
     where
-      stays : (r : Option Reply) → let s =
-          current (unless_refused r (engine_of (slot_of Points t [])) [] (Command.Relocate p q)).engine in
-          (s.width ≡ t.tree.width) × (s.dims ≡ t.dims)
-      stays (Some r) = (refl, refl)
-      stays None = (refl, refl)
-
       target : kind ≡ Boxes → IsBox q
       target e = second-box (is_box p) (is_box q)
           (ap (λ x. not (list_all is_box (boxes_of x (Command.Relocate p q)))) (sym e) ∙
           unreversed (slot_of kind t cursors) (Command.Relocate p q) h)
 
-      boxed : (r : Option Reply) → kind ≡ Boxes → AreBoxes t.tree.table → AllByRecursion AreBoxes t.tree.past →
-          HasBoxes (current (unless_refused r (engine_of (slot_of Points t [])) [] (Command.Relocate p q)).engine)
-      boxed (Some r) e b c = (b, c)
-      boxed None e b c = elim (has t.tree.table p && not (has t.tree.table q))
+      boxed : kind ≡ Boxes → AreBoxes t.tree.table → AllByRecursion AreBoxes t.tree.past →
+          HasBoxes (current (effect (engine_of (slot_of Points t [])) [] (Command.Relocate p q)).engine)
+      boxed e b c = elim (has t.tree.table p && not (has t.tree.table q))
           as (λ x. HasBoxes (with_past (slot_of Points t [])
           (if x then after_edit t.tree (move t.tree.width t.tree.table p q) else t.tree))) [
             | true ↦ edited t.tree.depth _ t.tree.table t.tree.past
@@ -155,18 +144,7 @@ module _ (kind : Kind) (t : AnyTable) (cursors : Named Cursor) where
           ]
 
   pub clear-frame : KeepsFrame kind t Command.Clear
-  clear-frame = record { same = stays; boxes = boxed }
-    where
-      stays : (r : Option Reply) → let s =
-          current (unless_refused r (engine_of (slot_of Points t [])) [] Command.Clear).engine in
-          (s.width ≡ t.tree.width) × (s.dims ≡ t.dims)
-      stays (Some r) = (refl, refl)
-      stays None = (refl, refl)
-
-      boxed : (r : Option Reply) → kind ≡ Boxes → AreBoxes t.tree.table → AllByRecursion AreBoxes t.tree.past →
-          HasBoxes (current (unless_refused r (engine_of (slot_of Points t [])) [] Command.Clear).engine)
-      boxed (Some r) e b c = (b, c)
-      boxed None e b c = (tt, tt)
+  clear-frame = keeps Command.Clear (refl, refl) (λ e b c. (tt, tt))
 
 -- a cursor that serves in a table serves in such a one
 cursor-kept : (kind : Kind) (t now : AnyTable) (c : AnyCursor) → SameFrame kind t now → IsCursorIn t c → IsCursorIn now c
@@ -179,6 +157,13 @@ cursors-kept kind t now (x ∷ held) f h = (cursor-kept kind t now x.cursor f h.
 
 pub slot-keeps : (kind : Kind) (t now : AnyTable) (held : List Held) → SameFrame kind t now → IsSlot kind t held → IsSlot kind now held
 slot-keeps kind t now held f h = record { of_kind = f.of_kind h.of_kind; few = h.few; sorted = h.sorted; serve = cursors-kept kind t now held f h.serve }
+
+-- the same behind a command about rows
+pub frame-kept : {E : Type 0} {kind : Kind} {t : AnyTable} {held : List Held} {command : Command} (now : AnyTable)
+    (outcome : Result Told E) (v now_v c now_c : ℕ) → KeepsFrame kind t command →
+    ServedOr t command now v now_v c now_c outcome → IsSlot kind t held → IsSlot kind now held
+frame-kept {kind} {t} {held} {command} now outcome v now_v c now_c k h s =
+    slot-keeps kind t now held (same-frame kind t now command outcome v now_v c now_c k h) s
 
 -- the cursors of each number of dimensions, from 1 on
 abbrev variants : List (Cursor → AnyCursor)

@@ -247,20 +247,20 @@ pub soak_starved : (most : ℕ) (e now next : Engine) (all : List Command) (comm
     Undone most now command b now_b next → SoakedInPart most e all start now_b next
 soak_starved most e now next all command rest start b now_b untold h d =
     let drawn = both-first (is_drawn command) (list_all is_drawn rest) h.drawn in
-    let knows = λ (files : Files). drawn-knows command b.files d.found files drawn in
-    let stays : next ≡ now = d.state [] (knows []) ∙ drawn-starved now [] command d.part drawn in
+    let knows = λ (files : Files). drawn-knows command b.files d.unfiled.found files drawn in
+    let stays : next ≡ now = d.unfiled.state [] (knows []) ∙ drawn-starved now [] command d.unfiled.part drawn in
     let front : take (length h.finished) all ≡ h.finished = ap (take (length h.finished)) (sym h.cut) ∙ take-front h.finished (command ∷ rest) in
     record {
       count = length h.finished;
       led = λ files. stays ∙ (h.soaked files).led ∙ ap (λ x. (act_all most e files x).engine) (sym front);
       most_visits = λ files.
           let s = h.soaked files in
-          let w = d.most_work files (knows files) in
+          let w = d.unfiled.most_work files (knows files) in
           let behind = sum-behind (λ w. w.most_visits) most e now files h.finished command rest s.led s.kept in
           omega (arith, s.most_visits, w.few_visits, behind, ap (sum_work (λ w. w.most_visits) most e files) h.cut);
       most_changes = λ files.
           let s = h.soaked files in
-          let w = d.most_work files (knows files) in
+          let w = d.unfiled.most_work files (knows files) in
           let behind = sum-behind (λ w. w.most_changes) most e now files h.finished command rest s.led s.kept in
           omega (arith, s.most_changes, w.few_changes, behind, ap (sum_work (λ w. w.most_changes) most e files) h.cut);
     }
@@ -279,10 +279,10 @@ counted-is n len l h = by-test (nat_le (2 ^ 64) len) refl
     by-test false e = let k : len < 2 ^ 64 = grind (arith, nat_tests) in rw e (omega (arith, l, h, k))
 
 -- the line with these sizes and a number of bytes, and with the sizes of a slot
-abbrev sizes_line : ℕ → Stats → ℕ → List ℕ
+abbrev pub sizes_line : ℕ → Stats → ℕ → List ℕ
 sizes_line n sizes bytes = line_of (codes "soak" ∷ decimal n ∷ stats_words sizes ++ codes "bytes" ∷ decimal bytes ∷ [])
 
-abbrev slot_line : ℕ → Slot → ℕ → List ℕ
+abbrev pub slot_line : ℕ → Slot → ℕ → List ℕ
 slot_line n s bytes = sizes_line n (stats s.width s.dims s.table) bytes
 
 pub sizes_line_is : (n : ℕ) (sizes : Stats) (s slot : Slot) (taken bytes : ℕ) → sizes ≡ stats s.width s.dims s.table →
@@ -292,48 +292,56 @@ sizes_line_is n sizes s slot taken bytes sized same counted = ap (λ x. sizes_li
 
 -- ---- how a soak ends
 
--- all commands were done, and the sizes were counted
-module _ (most n start : ℕ) (e now : Engine) (visits counted_visits now_visits changes now_changes bytes : ℕ)
-    (soaked : (files : Files) → Soaked most (opened e []) files (generate n start)
-    (beside None (Some 0) None 0 visits changes) (beside None (Some bytes) None 0 counted_visits now_changes) now)
-    (fits : bytes ≤ 2 ^ 64 - 1) (sized : now_visits ≡ counted_visits + nodes_of now.a) where
-  line-is : (files : Files) → slot_line n now.a bytes ≡ soak_line most e files n start
+-- All commands were done, the sizes were counted, and the line is about them.
+pub record HasSoaked (most n start : ℕ) (e now : Engine) (line : List ℕ) (visits now_visits changes now_changes : ℕ) : Type 0 where
+  pub bytes : ℕ
+  pub counted_visits : ℕ
+  pub soaked : (files : Files) → Soaked most (opened e []) files (generate n start)
+      (beside None (Some 0) None 0 visits changes) (beside None (Some bytes) None 0 counted_visits now_changes) now
+  pub fits : bytes ≤ 2 ^ 64 - 1
+  pub sized : now_visits ≡ counted_visits + nodes_of now.a
+  pub said : line ≡ slot_line n now.a bytes
+
+module _ {most n start : ℕ} {e now : Engine} {line : List ℕ} {visits now_visits changes now_changes : ℕ}
+    (h : HasSoaked most n start e now line visits now_visits changes now_changes) where
+  line-is : (files : Files) → line ≡ soak_line most e files n start
   line-is files =
-      let s = soaked files in
+      let s = h.soaked files in
       let all = act_all most (opened e []) files (generate n start) in
-      ap (λ x. slot_line n x.a bytes) s.led ∙ ap (slot_line n all.engine.a) (counted-is bytes (length (replies_text all.replies)) fits s.told.amount)
+      h.said ∙ ap (λ x. slot_line n x.a h.bytes) s.led
+      ∙ ap (slot_line n all.engine.a) (counted-is h.bytes (length (replies_text all.replies)) h.fits s.told.amount)
 
   few-visits : (files : Files) →
       now_visits ≤ visits + visits_most most (opened e []) files (generate n start) + nodes_of
       (act_all most (opened e []) files (generate n start)).engine.a
-  few-visits files = let s = soaked files in omega (arith, s.most_visits, sized, ap (λ x. nodes_of x.a) s.led)
+  few-visits files = let s = h.soaked files in omega (arith, s.most_visits, h.sized, ap (λ x. nodes_of x.a) s.led)
 
-  pub soak_clean : (sink now_sink : Taken) → Given sink now_sink (slot_line n now.a bytes) →
+  pub soak_clean : {sink now_sink : Taken} → Given sink now_sink line →
       SoakDone most n start e now (alone sink visits changes) (alone now_sink now_visits now_changes) Clean
-  soak_clean sink now_sink given = record {
+  soak_clean given = record {
     ends = inl refl;
     told = λ files s. rw (sym (line-is files)) given;
     cut = λ files s. absurd cc;
     none = λ s. absurd cc;
-    engine = λ files s. (soaked files).led;
+    engine = λ files s. (h.soaked files).led;
     part = λ s. absurd cc;
     most_visits = few-visits;
-    most_changes = λ files. (soaked files).most_changes;
-    least_visits = λ files s. omega (arith, (soaked files).least_visits, sized);
-    least_changes = λ files s. (soaked files).least_changes;
+    most_changes = λ files. (h.soaked files).most_changes;
+    least_visits = λ files s. omega (arith, (h.soaked files).least_visits, h.sized);
+    least_changes = λ files s. (h.soaked files).least_changes;
   }
 
-  pub soak_cut : (sink now_sink : Taken) → WritesFront sink now_sink (slot_line n now.a bytes) →
+  pub soak_cut : {sink now_sink : Taken} → WritesFront sink now_sink line →
       SoakDone most n start e now (alone sink visits changes) (alone now_sink now_visits now_changes) WriteFault
-  soak_cut sink now_sink front = record {
+  soak_cut front = record {
     ends = inr (inl refl);
     told = λ files s. absurd cc;
     cut = λ files s. rw (sym (line-is files)) front;
     none = λ s. absurd cc;
-    engine = λ files s. (soaked files).led;
+    engine = λ files s. (h.soaked files).led;
     part = λ s. absurd cc;
     most_visits = few-visits;
-    most_changes = λ files. (soaked files).most_changes;
+    most_changes = λ files. (h.soaked files).most_changes;
     least_visits = λ files s. absurd cc;
     least_changes = λ files s. absurd cc;
   }

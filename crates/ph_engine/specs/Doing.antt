@@ -266,17 +266,21 @@ pub record DoneInPart (most : ℕ) (e : Engine) (command : Command) (b now_b : B
   pub told : Given b.sink now_b.sink (take count (replies_text replies))
   pub most_work : (files : Files) → Knows command b.files found files → IsAtMost (work_of most e files fault command) b.visits now_b.visits b.changes now_b.changes
 
--- Memory was missing, in a command that may want it. Nothing was written, and the files are as before.
-pub record Undone (most : ℕ) (e : Engine) (command : Command) (b now_b : Beside) (now : Engine) : Type 0 where
+-- Memory was missing for a command, which may want it. The files are as before.
+pub record Unfiled (most : ℕ) (e : Engine) (command : Command) (b now_b : Beside) (now : Engine) : Type 0 where
   pub fault : Bool
   pub found : Option (List ℕ)
-  pub filings : Filings (uses_files command) (one_if fault) b.filings now_b.filings
+  pub counted : Filings (uses_files command) (one_if fault) b.filings now_b.filings
   pub part : ℕ
   pub state : (files : Files) → Knows command b.files found files → now ≡ starved_engine e files command part
-  pub files : (files : Files) → IsTold b.files files → StillTells b.files now_b.files files
-  pub told : Given b.sink now_b.sink []
+  pub kept : (files : Files) → IsTold b.files files → StillTells b.files now_b.files files
   pub wanted : wants_memory e command ≡ true
   pub most_work : (files : Files) → Knows command b.files found files → IsAtMost (work_of most e files fault command) b.visits now_b.visits b.changes now_b.changes
+
+-- The same, and nothing was written.
+pub record Undone (most : ℕ) (e : Engine) (command : Command) (b now_b : Beside) (now : Engine) : Type 0 where
+  pub unfiled : Unfiled most e command b now_b now
+  pub told : Given b.sink now_b.sink []
 
 abbrev pub DoneOr : ℕ → Engine → Command → Beside → Beside → Engine → Result Answer Stop → Type 0
 DoneOr most e command b now_b now (Ok answer) = Done most e command b now_b now answer

@@ -27,33 +27,31 @@ pub record Fed {S : Type 0} (m : Machine S) (s : S) (unended piece : List ℕ) (
   pub front : kept ≡ take KEPT rest
   pub worked : Worked m s done b now_b
 
--- Some first lines were answered, and a write failed in the answer to the next one.
-pub record Cut {S : Type 0} (m : Machine S) (s : S) (unended piece : List ℕ) (b now_b : Beside) (now : S) : Type 0 where
+-- Some first lines were answered, and the next one was not.
+pub record Halted {S : Type 0} (m : Machine S) (s : S) (unended piece : List ℕ) (b now_b : Beside) : Type 0 where
   pub done : List Turn
   pub last : Turn
   pub more : List ℕ
-  pub count : ℕ
   pub split : unended ++ piece ≡ ended (lines_of done ++ last.line ∷ []) ++ more
   pub unbroken_done : are_unbroken (lines_of done) ≡ true
   pub unbroken_line : is_unbroken last.line ≡ true
-  pub short : count < length (m.answer (after m s done) last)
-  pub told : Given b.sink now_b.sink (answers m s done ++ take count (m.answer (after m s done) last))
-  pub state : now ≡ m.cut (after m s done) last
   pub spent : Spent m s (done ++ last ∷ []) b now_b
 
--- Some first lines were answered, and memory was missing for the next one.
+-- A write failed in the answer to it.
+pub record Cut {S : Type 0} (m : Machine S) (s : S) (unended piece : List ℕ) (b now_b : Beside) (now : S) : Type 0 where
+  pub at : Halted m s unended piece b now_b
+  pub count : ℕ
+  pub short : count < length (m.answer (after m s at.done) at.last)
+  pub told : Given b.sink now_b.sink (answers m s at.done ++ take count (m.answer (after m s at.done) at.last))
+  pub state : now ≡ m.cut (after m s at.done) at.last
+
+-- Memory was missing for it.
 pub record Starved {S : Type 0} (m : Machine S) (s : S) (unended piece : List ℕ) (b now_b : Beside) (now : S) : Type 0 where
-  pub done : List Turn
-  pub last : Turn
-  pub more : List ℕ
+  pub at : Halted m s unended piece b now_b
   pub part : ℕ
-  pub split : unended ++ piece ≡ ended (lines_of done ++ last.line ∷ []) ++ more
-  pub unbroken_done : are_unbroken (lines_of done) ≡ true
-  pub unbroken_line : is_unbroken last.line ≡ true
-  pub told : Given b.sink now_b.sink (answers m s done)
-  pub state : now ≡ m.starved (after m s done) last part
-  pub wanted : m.wants (after m s done) last ≡ true
-  pub spent : Spent m s (done ++ last ∷ []) b now_b
+  pub told : Given b.sink now_b.sink (answers m s at.done)
+  pub state : now ≡ m.starved (after m s at.done) at.last part
+  pub wanted : m.wants (after m s at.done) at.last ≡ true
 
 -- what a call that feeds a piece answers, by its result and by what it leaves of the unended line
 abbrev pub FedOr : {S : Type 0} → Machine S → S → List ℕ → List ℕ → Beside → Beside → S → List ℕ → Result Bool Stop → Type 0

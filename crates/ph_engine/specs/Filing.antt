@@ -1,5 +1,5 @@
 -- What commands of one reply do, before it is told, and those on files among them.
-use Rattle.std.specs.Prelude.{◌≡◌, ◌≤◌, ◌+◌, ℕ, OnOk, Bool, true, nat_lt, if◌then◌else◌, List, [], ◌∷◌, length, Option, Some, option_map, Result, Ok, Err}
+use Rattle.std.specs.Prelude.{◌≡◌, ◌≤◌, ◌+◌, ℕ, OnOk, Bool, nat_lt, if◌then◌else◌, List, [], ◌∷◌, length, Option, Some, option_map, Result, Ok, Err}
 use Rattle.ph_io.specs.declared.files.FetchFault.{FetchFault}
 use Rattle.ph_io.specs.declared.files.FetchFault.TheVariants as unread
 use Rattle.ph_io.specs.declared.streams.Failed.{Failed}
@@ -20,8 +20,8 @@ use Rattle.ph_script.specs.Meaning.{reply_of}
 use Rattle.ph_snap.specs.Faults.{IsLoadFault}
 use Rattle.ph_snap.specs.declared.fault.LoadFault.{LoadFault}
 use Rattle.ph_snap.specs.declared.fault.LoadFault.TheVariants as by
-use Rattle.ph_engine.specs.Beside.{Beside, Filings, IsTold, StillTells, aside, with_visits, with_changes}
-use Rattle.ph_engine.specs.Doing.{Knows, Leads, MakesNodes, uses_files, wants_memory, starved_engine}
+use Rattle.ph_engine.specs.Beside.{Beside, Filings, aside, with_visits, with_changes}
+use Rattle.ph_engine.specs.Doing.{Knows, Leads, MakesNodes, Unfiled, uses_files}
 use Rattle.ph_engine.specs.Drafting.{Shelf, Unfilled}
 use Rattle.ph_engine.specs.Machine.{one_if}
 use Rattle.ph_engine.specs.Slots.{AnyTable, table_at, slot_of, engine_of, IsOfKind}
@@ -37,17 +37,7 @@ pub record Filed (most : ℕ) (e : Engine) (command : Command) (b now_b : Beside
   pub least_work : (files : Files) → Knows command b.files found files → IsAtLeast (work_of most e files fault command) b.visits now_b.visits b.changes now_b.changes
   pub nodes : (files : Files) → Knows command b.files found files → MakesNodes (current e) files command b.changes now_b.changes
 
--- Memory was missing for it, which may want it. The files are as before.
-pub record Unfiled (most : ℕ) (e : Engine) (command : Command) (b now_b : Beside) (now : Engine) : Type 0 where
-  pub fault : Bool
-  pub found : Option (List ℕ)
-  pub counted : Filings (uses_files command) (one_if fault) b.filings now_b.filings
-  pub part : ℕ
-  pub state : (files : Files) → Knows command b.files found files → now ≡ starved_engine e files command part
-  pub kept : (files : Files) → IsTold b.files files → StillTells b.files now_b.files files
-  pub wanted : wants_memory e command ≡ true
-  pub most_work : (files : Files) → Knows command b.files found files → IsAtMost (work_of most e files fault command) b.visits now_b.visits b.changes now_b.changes
-
+-- the same, or memory was missing for it
 abbrev pub FiledOr : {E : Type 0} → ℕ → Engine → Command → Beside → Beside → Engine → Result Told E → Type 0
 FiledOr most e command b now_b now (Ok reply) = Filed most e command b now_b now (reply_of reply)
 FiledOr most e command b now_b now (Err error) = Unfiled most e command b now_b now

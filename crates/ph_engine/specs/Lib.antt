@@ -30,5 +30,6 @@ pub mod Seen
 pub mod Asking
 pub mod Soaking
 pub mod Ending
+pub mod Loading
 pub mod Checking
 pub mod Told

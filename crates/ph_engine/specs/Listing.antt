@@ -1,7 +1,6 @@
 -- Replies that list rows, or the sizes of a tree.
 use Rattle.std.specs.Prelude.{◌≡◌, ◌<◌, ◌≤◌, ◌+◌, ℕ, Bool, true, false, List, [], ◌∷◌, ◌++◌, length, map, drop, ℤ, filter, Result, Ok, Err}
 use Rattle.ph_io.specs.Giving.{Taken, Given}
-use Rattle.ph_specs.specs.Boxes.{overlaps, is_inside, covers, overlaps_low, overlaps_high, inside_low, inside_high, covers_low, covers_high}
 use Rattle.ph_specs.specs.Coordinate.{low_corner, high_corner}
 use Rattle.ph_specs.specs.Distance.{near, within}
 use Rattle.ph_specs.specs.Reply.{Reply, replies_text}
@@ -10,6 +9,8 @@ use Rattle.ph_specs.specs.Table.{Row}
 use Rattle.ph_specs.specs.Engine.{listing, hit_listing, row_replies, page_end}
 use Rattle.ph_specs.specs.Window.{Cursor, window, rest, page, has_more, next_cursor}
 use Rattle.ph_specs.specs.WorkSets.{all_nodes, meets, reach, ball}
+use Rattle.ph_box.specs.Questions.{asks, low_bound, high_bound}
+use Rattle.ph_box.specs.declared.question.Question.{Question}
 use Rattle.ph_table.specs.Hits.{TableHit}
 use Rattle.ph_window.specs.Page.{IsLast}
 use Rattle.ph_window.specs.declared.page.Tail.{Tail}
@@ -18,8 +19,6 @@ use Rattle.ph_engine.specs.Slots.{AnyTable, cursor_of, cursor_dims}
 use Rattle.ph_engine.specs.Working.{most_to_resume, least_to_resume}
 use Rattle.ph_io.specs.Writing.{WritesFront}
 use Rattle.ph_engine.specs.declared.cursors.AnyCursor.{AnyCursor}
-use Rattle.ph_engine.specs.declared.boxes.Question.{Question}
-use Rattle.ph_engine.specs.declared.boxes.Question.TheVariants.{Overlap, Inside, Covers}
 use Rattle.ph_engine.specs.declared.status.Answer.{Answer}
 use Rattle.ph_engine.specs.declared.status.Answer.TheVariants.{Good}
 use Rattle.ph_engine.specs.declared.status.Stop.{Stop}
@@ -65,31 +64,18 @@ ListsSizes t sink now_sink visits now_visits result =
 
 -- ---- questions about boxes
 
--- whether a question lists a box
-abbrev pub asks : Question → List ℤ → List ℤ → Bool
-asks Overlap q box = overlaps q box
-asks Inside q box = is_inside q box
-asks Covers q box = covers q box
-
 -- the rows that a question lists
 abbrev pub answered : Question → List ℤ → List Row → List Row
 answered question q table = filter (λ r. asks question q r.point) table
 
--- the corners of its window
-abbrev pub low_bound : Question → ℕ → List ℤ → List ℤ
-low_bound Overlap w q = overlaps_low w (low_corner q) (high_corner q)
-low_bound Inside w q = inside_low w (low_corner q) (high_corner q)
-low_bound Covers w q = covers_low w (low_corner q) (high_corner q)
-
-abbrev pub high_bound : Question → ℕ → List ℤ → List ℤ
-high_bound Overlap w q = overlaps_high w (low_corner q) (high_corner q)
-high_bound Inside w q = inside_high w (low_corner q) (high_corner q)
-high_bound Covers w q = covers_high w (low_corner q) (high_corner q)
+-- the nodes that its window takes
+abbrev pub met_by : Question → AnyTable → List ℤ → ℕ
+met_by question t q = met t (low_bound question t.tree.width (low_corner q) (high_corner q)) (high_bound question t.tree.width (low_corner q) (high_corner q))
 
 -- the boxes that a question lists, with the visits that its window takes
 abbrev pub ListsBoxes : Question → AnyTable → List ℤ → Taken → Taken → ℕ → ℕ → Result Answer Stop → Type 0
 ListsBoxes question t q sink now_sink visits now_visits result =
-    ListsRows (answered question q t.tree.table) (met t (low_bound question t.tree.width q) (high_bound question t.tree.width q)) sink now_sink visits now_visits result
+    ListsRows (answered question q t.tree.table) (met_by question t q) sink now_sink visits now_visits result
 
 -- ---- distances
 

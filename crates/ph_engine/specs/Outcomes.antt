@@ -38,35 +38,32 @@ pub record Exceeded {S : Type 0} (m : Machine S) (most : ℕ) (left now_left : O
 abbrev pub HasLines : Option (List ℕ) → List ℕ → List (List ℕ) → Type 0
 HasLines now_left bytes ls = (whole_lines bytes ≡ ls) ⊎ (IsAtEnd now_left × (lines bytes ≡ ls))
 
--- A write failed in the answer to a line, of which `count` bytes were written. The lines before it were answered.
-pub record CutShort {S : Type 0} (m : Machine S) (most : ℕ) (left now_left : Option (List ℕ)) (b now_b : Beside) (s now : S) : Type 0 where
+-- A line was not answered whole. The lines before it were answered.
+pub record HaltedAt {S : Type 0} (m : Machine S) (most : ℕ) (left now_left : Option (List ℕ)) (b now_b : Beside) (s : S) : Type 0 where
   pub bytes : List ℕ
   pub consumed : Consumes left now_left bytes
   pub within : length bytes ≤ most + 1
   pub done : List Turn
   pub last : Turn
   pub more : List (List ℕ)
-  pub count : ℕ
   pub taken : HasLines now_left bytes (lines_of done ++ last.line ∷ more)
-  pub short : count < length (m.answer (after m s done) last)
-  pub told : Given b.sink now_b.sink (answers m s done ++ take count (m.answer (after m s done) last))
-  pub state : now ≡ m.cut (after m s done) last
   pub spent : Spent m s (done ++ last ∷ []) b now_b
 
--- Memory was missing for a line that may want it. The lines before it were answered, and nothing of it was written.
+-- A write failed in the answer to it, of which `count` bytes were written.
+pub record CutShort {S : Type 0} (m : Machine S) (most : ℕ) (left now_left : Option (List ℕ)) (b now_b : Beside) (s now : S) : Type 0 where
+  pub at : HaltedAt m most left now_left b now_b s
+  pub count : ℕ
+  pub short : count < length (m.answer (after m s at.done) at.last)
+  pub told : Given b.sink now_b.sink (answers m s at.done ++ take count (m.answer (after m s at.done) at.last))
+  pub state : now ≡ m.cut (after m s at.done) at.last
+
+-- Memory was missing for it, which may want it, and nothing of it was written.
 pub record StarvedAt {S : Type 0} (m : Machine S) (most : ℕ) (left now_left : Option (List ℕ)) (b now_b : Beside) (s now : S) : Type 0 where
-  pub bytes : List ℕ
-  pub consumed : Consumes left now_left bytes
-  pub within : length bytes ≤ most + 1
-  pub done : List Turn
-  pub last : Turn
-  pub more : List (List ℕ)
+  pub at : HaltedAt m most left now_left b now_b s
   pub part : ℕ
-  pub taken : HasLines now_left bytes (lines_of done ++ last.line ∷ more)
-  pub told : Given b.sink now_b.sink (answers m s done)
-  pub state : now ≡ m.starved (after m s done) last part
-  pub wanted : m.wants (after m s done) last ≡ true
-  pub spent : Spent m s (done ++ last ∷ []) b now_b
+  pub told : Given b.sink now_b.sink (answers m s at.done)
+  pub state : now ≡ m.starved (after m s at.done) at.last part
+  pub wanted : m.wants (after m s at.done) at.last ≡ true
 
 -- Memory was missing before the first read, and nothing was taken, written or done.
 pub record NotBegun {S : Type 0} (m : Machine S) (left now_left : Option (List ℕ)) (b now_b : Beside) (s now : S) : Type 0 where

@@ -1,7 +1,8 @@
 -- What the code that answers a script leaves: by the machine of a script, with files of at most so many bytes.
-use Rattle.std.specs.Prelude.{ℕ, Bool, List, Option, Some, None, Result}
+use Rattle.std.specs.Prelude.{◌≡◌, ◌≤◌, ℕ, Bool, List, length, Option, Some, None, Result}
 use Rattle.ph_script.specs.declared.lines.Line.{Line}
 use Rattle.ph_script.specs.Shown.{IsLine}
+use Rattle.std.specs.Str.Lines.{strip_carriage_return}
 use Rattle.ph_engine.specs.Answering.{SaysOr}
 use Rattle.ph_engine.specs.Beside.{AreTold}
 use Rattle.ph_specs.specs.State.{Files}
@@ -12,6 +13,10 @@ use Rattle.ph_engine.specs.Outcomes.{Outcome}
 use Rattle.ph_engine.specs.Standing.{Standing}
 use Rattle.ph_engine.specs.declared.status.Status.{Status}
 use Rattle.ph_engine.specs.declared.status.Stop.{Stop}
+
+-- the text is that of a line of at most so many bytes
+abbrev pub IsText : List ℕ → List ℕ → Type 0
+IsText line text = (length line ≤ 4096) × (text ≡ strip_carriage_return line)
 
 -- where files were known, some are told now
 abbrev pub StaysKnown : Option Files → Option Files → Type 0
@@ -28,6 +33,11 @@ FromKnown st now leads =
 abbrev pub ServesLine : ℕ → Standing → Line → Standing → Result Bool Stop → Type 0
 ServesLine file_bytes st line now result =
     FromKnown st now (λ s after. (bytes : List ℕ) → IsLine bytes line → SaysOr (script_machine file_bytes) s bytes st.beside now.beside after result)
+
+-- a text: what is shown of a line that is short enough to be read
+abbrev pub ServesText : ℕ → Standing → List ℕ → Standing → Result Bool Stop → Type 0
+ServesText file_bytes st text now result =
+    FromKnown st now (λ s after. (bytes : List ℕ) → IsText bytes text → SaysOr (script_machine file_bytes) s bytes st.beside now.beside after result)
 
 -- a piece of a script, by the kept bytes of the unended line before and behind it
 abbrev pub ServesPiece : ℕ → Standing → List ℕ → List ℕ → Standing → List ℕ → Result Bool Stop → Type 0

@@ -2,9 +2,10 @@
 ghost use Rattle.std.specs.Prelude.{◌≡◌, ◌*◌, ◌≤◌, true, length};
 ghost use Rattle.std.specs.List.{list_all};
 ghost use Rattle.ph_specs.specs.Boxes.{IsWindowFor, AreBoxes};
-ghost use Rattle.ph_specs.specs.Coordinate.{fits, IsPoint};
+ghost use Rattle.ph_specs.specs.Coordinate.{fits, low_corner, high_corner, IsPoint};
 ghost use Rattle.ph_script.specs.Meaning.{numbers_of};
-ghost use Rattle.ph_engine.specs.Listing.{asks, low_bound, high_bound, ListsBoxes};
+ghost use Rattle.ph_box.specs.Questions.{asks, low_bound, high_bound};
+ghost use Rattle.ph_engine.specs.Listing.{ListsBoxes};
 ghost use Rattle.ph_engine.specs.Slots.{tree_at};
 ghost use Rattle.ph_engine.specs.Statuses.{StopHasCause};
 ghost use Rattle.ph_engine.specs.Told.{taken_by};
@@ -12,21 +13,13 @@ ghost use Rattle.ph_engine.specs.Told.{taken_by};
 use crate::commands::point_at;
 use crate::listing::list_between;
 use crate::status::{Answer, Stop};
-use ph_box::{cover_bounds, inside_bounds, overlap_bounds, split_box};
+use ph_box::{Question, bounds, split_box};
 use ph_coord::{Point, Width};
 use ph_io::Sink;
 use ph_script::{Coords, Text};
 use ph_steps::Steps;
 use ph_tree::PhTree;
 use std::sync::ledger::Ledger;
-
-/// How the boxes that are listed lie to the asked one.
-#[derive(Clone, Copy)]
-pub(crate) enum Question {
-    Overlap,
-    Inside,
-    Covers,
-}
 
 // The corners of the window whose boxes are those that a question lists.
 fn bounds_of<const K: usize, const D: usize>(
@@ -37,17 +30,13 @@ fn bounds_of<const K: usize, const D: usize>(
     requires dims { K * 2 ≡ D }
     requires few { D ≤ 16 }
     requires point { IsPoint w D asked.now }
-    ensures low { result.0 ≡ low_bound question w asked.now }
-    ensures high { result.1 ≡ high_bound question w asked.now }
+    ensures low { result.0 ≡ low_bound question w (low_corner asked.now) (high_corner asked.now) }
+    ensures high { result.1 ≡ high_bound question w (low_corner asked.now) (high_corner asked.now) }
     ensures points { IsPoint w D result.0 × IsPoint w D result.1 }
     ensures window { IsWindowFor w D (asks question asked.now) result.0 result.1 }
 {
     let (lo, hi) = split_box::<K, D>(w, asked);
-    match question {
-        Question::Overlap => overlap_bounds(w, &lo, &hi),
-        Question::Inside => inside_bounds(w, &lo, &hi),
-        Question::Covers => cover_bounds(w, &lo, &hi),
-    }
+    bounds(question, w, &lo, &hi)
 }
 
 // Lists the boxes that a question lists, and then their number.

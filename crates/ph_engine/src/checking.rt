@@ -1,5 +1,5 @@
 //! The check of a file that holds a saved table.
-ghost use Rattle.std.specs.Prelude.{◌≡◌, ◌≤◌, ◌+◌, ◌*◌, [], false, length, IfOk, IfErr, Ok};
+ghost use Rattle.std.specs.Prelude.{◌≡◌, ◌≤◌, ◌+◌, [], false, length, IfOk, IfErr, Ok};
 ghost use Rattle.ph_io.specs.Causes.{Rose};
 ghost use Rattle.ph_specs.specs.Program.{checked_words, own_fault, words_of_snapshot};
 ghost use Rattle.ph_specs.specs.Reply.{line_of};
@@ -7,6 +7,7 @@ ghost use Rattle.ph_specs.specs.Stats.{stats};
 ghost use Rattle.ph_snap.specs.Faults.{IsLoadFault};
 ghost use Rattle.ph_engine.specs.Checking.{CheckDone, HasSizes, IsSavedAs, LineGiven, front_of, nodes_saved, status_of};
 ghost use Rattle.ph_engine.specs.Listing.{node_count};
+ghost use Rattle.ph_engine.specs.Loading.{IsWithinBytes};
 ghost use Rattle.ph_engine.specs.Machine.{is_refusal};
 ghost use Rattle.ph_engine.specs.Slots.{any_table};
 ghost use Rattle.ph_engine.specs.Statuses.{StopHasCause};
@@ -43,33 +44,22 @@ pub(crate) fn check<O: Sink, F: Files, V: Ledger, C: Ledger>(
     ensures cause { result ≡ Status.WriteFault → Rose (O.faults out.old) (O.faults out.new) }
     ensures later { O.faults out.old ≤ O.faults out.new }
 {
-    match check_file(alloc, file, out, files, limits, visits, changes) {
+    let mut bytes = Vec::new(alloc);
+    match files.fetch(file.as_str(), limits.file_bytes, &mut bytes) {
+        Ok(()) => status_by(check_bytes(alloc, bytes.as_slice(), out, visits, changes)),
+        Err(fault) => status_by(tell(out, &mut Text::new(), &fetch_reply(fault))),
+    }
+}
+
+// The status by the answer.
+fn status_by(answer: Result<Answer, Stop>) -> Status
+    ensures { result ≡ status_of answer }
+{
+    match answer {
         Ok(Answer::Good) => Status::Clean,
         Ok(Answer::Refused) => Status::Refused,
         Err(Stop::WriteFault) => Status::WriteFault,
         Err(Stop::NoMemory) => Status::Memory,
-    }
-}
-
-fn check_file<O: Sink, F: Files, V: Ledger, C: Ledger>(
-    alloc: Global,
-    file: &FileName<'_>,
-    out: &mut O,
-    files: &mut F,
-    limits: &Limits,
-    visits: &mut Steps<V>,
-    changes: &mut Steps<C>,
-) -> Result<Answer, Stop>
-    ensures done { CheckDone limits.now.file_bytes file.now
-        (beside_by O.Sink F.Files out.old files.old visits.old changes.old)
-        (beside_by O.Sink F.Files out.new files.new visits.new changes.new)
-        (status_of result) }
-    ensures cause { StopHasCause (O.faults out.old) (O.faults out.new) result }
-{
-    let mut bytes = Vec::new(alloc);
-    match files.fetch(file.as_str(), limits.file_bytes, &mut bytes) {
-        Ok(()) => check_bytes(alloc, bytes.as_slice(), out, visits, changes),
-        Err(fault) => tell(out, &mut Text::new(), &fetch_reply(fault)),
     }
 }
 
@@ -83,11 +73,9 @@ fn check_bytes<O: Sink, V: Ledger, C: Ledger>(
 ) -> Result<Answer, Stop>
     ensures line { LineGiven (taken_by O.Sink out.old) (taken_by O.Sink out.new) (line_of (words_of_snapshot bytes.now)) result }
     ensures sizes { result ≡ Ok Answer.Good → HasSizes bytes.now (line_of (words_of_snapshot bytes.now)) }
-    ensures kept_visits { visits.old ≤ visits.new }
+    ensures visits { IsWithinBytes bytes.now visits.old visits.new }
     ensures most_visits { visits.new ≤ visits.old + nodes_saved bytes.now }
-    ensures few_visits { 16 * visits.new ≤ 16 * visits.old + length bytes.now }
-    ensures kept_changes { changes.old ≤ changes.new }
-    ensures few_changes { 16 * changes.new ≤ 16 * changes.old + length bytes.now }
+    ensures changes { IsWithinBytes bytes.now changes.old changes.new }
     ensures nodes { result ≡ Ok Answer.Good → changes.new ≤ changes.old + nodes_saved bytes.now }
     ensures cause { StopHasCause (O.faults out.old) (O.faults out.new) result }
 {
@@ -106,8 +94,7 @@ fn read_tree<C: Ledger>(
     ensures saved { IfOk result (λ r. IsSavedAs bytes.now r.0 (any_table r.1)) }
     ensures fault { IfErr result (λ e. IsLoadFault (own_fault bytes.now) e) }
     ensures nodes { IfOk result (λ r. changes.new ≡ changes.old + node_count (any_table r.1)) }
-    ensures kept { changes.old ≤ changes.new }
-    ensures few { 16 * changes.new ≤ 16 * changes.old + length bytes.now }
+    ensures within { IsWithinBytes bytes.now changes.old changes.new }
 {
     let header = match read_header(bytes) {
         Ok(header) => header,

@@ -1,10 +1,11 @@
 //! Commands on files: a table as a snapshot, and back.
-ghost use Rattle.std.specs.Prelude.{◌≡◌, ◌≤◌, ◌+◌, ◌*◌, true, length, IfOk, OnOk};
+ghost use Rattle.std.specs.Prelude.{◌≡◌, ◌≤◌, ◌+◌, true, length, IfOk, OnOk};
 ghost use Rattle.ph_specs.specs.Snapshot.{snap};
 ghost use Rattle.ph_specs.specs.WorkSets.{all_nodes};
 ghost use Rattle.ph_script.specs.Meaning.{reply_of};
 ghost use Rattle.ph_engine.specs.Drafting.{FilledOr};
 ghost use Rattle.ph_engine.specs.Filing.{EnteredOr, LoadsNodes, LoadsOr, SameFrame, TableLoaded, TableSaved, TellsFault, TellsUnfetched, loaded_reply, loaded_table};
+ghost use Rattle.ph_engine.specs.Loading.{IsWithinBytes};
 ghost use Rattle.ph_engine.specs.Slots.{IsOfKind, any_table};
 ghost use Rattle.ph_engine.specs.Told.{aside_by, shelf_by};
 
@@ -123,8 +124,7 @@ fn load_bytes<C: Ledger>(
     requires of_kind { IsOfKind kind (any_table tree.old) }
     ensures loads { LoadsOr kind (any_table tree.old) bytes.now (any_table tree.new) result }
     ensures frame { SameFrame kind (any_table tree.old) (any_table tree.new) }
-    ensures kept { changes.old ≤ changes.new }
-    ensures few { 16 * changes.new ≤ 16 * changes.old + length bytes.now }
+    ensures within { IsWithinBytes bytes.now changes.old changes.new }
     ensures nodes { LoadsNodes kind (any_table tree.old) bytes.now result changes.old changes.new }
 {
     match AnyTree::load(alloc, bytes, kind, tree.dims(), tree.width(), changes) {

@@ -8,7 +8,7 @@ ghost use Rattle.ph_script.specs.Meaning.{reply_of, bad_reply as reply_to};
 ghost use Rattle.ph_engine.specs.Machine.{is_refusal};
 ghost use Rattle.ph_io.specs.Writing.{WritesFront};
 ghost use Rattle.ph_engine.specs.Doing.{refuses};
-ghost use Rattle.ph_engine.specs.Serving.{ServesLine, ServesPiece, ServesEnd, ServesScript};
+ghost use Rattle.ph_engine.specs.Serving.{ServesLine, ServesText, ServesPiece, ServesEnd, ServesScript};
 ghost use Rattle.ph_engine.specs.Showing.{IsShort};
 ghost use Rattle.ph_engine.specs.Statuses.{StopHasCause, HasCauses, stop_status, read_status as status_of};
 ghost use Rattle.ph_engine.specs.Told.{standing_by, taken_by};
@@ -257,12 +257,12 @@ fn answer<O: Sink, F: Files, V: Ledger, C: Ledger>(
             Err(stop) => Err(stop),
         },
         None => answer_other(
-            alloc, out, text, coords, files, eng, limits, line, visits, changes,
+            alloc, out, text, coords, files, eng, limits, bytes, visits, changes,
         ),
     }
 }
 
-// The same of a line that is not plain.
+// The same of a text that is no plain line.
 #[inline(never)]
 fn answer_other<O: Sink, F: Files, V: Ledger, C: Ledger>(
     alloc: Global,
@@ -272,21 +272,18 @@ fn answer_other<O: Sink, F: Files, V: Ledger, C: Ledger>(
     files: &mut F,
     eng: &mut Engine,
     limits: &Limits,
-    line: Line<'_>,
+    bytes: &[u8],
     visits: &mut Steps<V>,
     changes: &mut Steps<C>,
 ) -> Result<bool, Stop>
-    requires short { IsShort line }
+    requires short { length bytes.now ≤ 4096 }
     requires file { limits.now.file_bytes < 2 ^ 63 }
-    ensures answered { ServesLine limits.now.file_bytes
-        (standing_by O.Sink F.Files out.old files.old visits.old changes.old eng.old) line.entry
+    ensures answered { ServesText limits.now.file_bytes
+        (standing_by O.Sink F.Files out.old files.old visits.old changes.old eng.old) bytes.now
         (standing_by O.Sink F.Files out.new files.new visits.new changes.new eng.new) result }
     ensures filings { F.faults files.old ≤ F.faults files.new }
     ensures cause { StopHasCause (O.faults out.old) (O.faults out.new) result }
 {
-    let Line::Text(bytes) = line else {
-        return refuse(out, text, &Reply::ErrorLong);
-    };
     match read_command(bytes, eng.dims(), coords) {
         Ok(None) => Ok(false),
         Ok(Some(command)) => match eng.exec_by(

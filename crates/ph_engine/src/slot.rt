@@ -18,7 +18,6 @@ ghost use Rattle.ph_engine.specs.Statuses.{StopHasCause};
 ghost use Rattle.ph_engine.specs.Working.{nodes_of};
 ghost use Rattle.ph_engine.specs.Told.{aside_by, beside_by, taken_by};
 
-use crate::boxes::Question;
 use crate::cursors::{CURSORS, Held, enter, place_of};
 use crate::filing::{load_table, save_table};
 use crate::output::{say, tell};
@@ -27,6 +26,7 @@ use crate::refusals::{Refusal, has_wrong_dims, has_wrong_kind, is_out_of_range, 
 use crate::status::{Answer, Limits, Stop};
 use crate::trees::AnyTree;
 use arrayvec::ArrayVec;
+use ph_box::Question;
 use ph_coord::{Kind, Width};
 use ph_io::{Files, Sink};
 use ph_script::{Command, Coords, Name, Reply, Text};
@@ -301,7 +301,7 @@ impl Slot {
             }
             Command::Covers { bounds } => {
                 self.tree
-                    .list_boxes(Question::Covers, bounds, out, text, visits)
+                    .list_boxes(Question::Cover, bounds, out, text, visits)
             }
             Command::Stats => self.tree.list_sizes(out, visits),
             _ => unreachable!(),

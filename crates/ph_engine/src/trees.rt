@@ -1,16 +1,12 @@
 //! A tree of any number of dimensions that a slot can have, with the commands about its rows.
-ghost use Rattle.std.specs.Prelude.{◌≡◌, ◌≤◌, ◌+◌, ◌*◌, None, Ok, true, length, IfOk, IfErr, OnOk};
+ghost use Rattle.std.specs.Prelude.{◌≡◌, ◌≤◌, ◌+◌, None, true, length, IfOk, IfErr, OnOk};
 ghost use Rattle.std.specs.List.{list_all};
 ghost use Rattle.ph_specs.specs.Coordinate.{fits};
 ghost use Rattle.ph_specs.specs.Command.{Command as Asked};
 ghost use Rattle.ph_specs.specs.Csv.{csv_text};
-ghost use Rattle.ph_specs.specs.KindRows.{rows_fit};
 ghost use Rattle.ph_specs.specs.Load.{load_fault};
-ghost use Rattle.ph_specs.specs.SavedTable.{read_snapshot};
 ghost use Rattle.ph_specs.specs.Snapshot.{snap};
-ghost use Rattle.ph_specs.specs.SnapshotOf.{IsSnapshotOf};
 ghost use Rattle.ph_specs.specs.Stats.{stats};
-ghost use Rattle.ph_specs.specs.WorkSets.{all_nodes};
 ghost use Rattle.ph_script.specs.Meaning.{numbers_of, reply_of};
 ghost use Rattle.ph_snap.specs.Faults.{IsLoadFault};
 ghost use Rattle.ph_tree.specs.Stats.{stats_of};
@@ -18,6 +14,7 @@ ghost use Rattle.ph_engine.specs.Doing.{Looked, Idled, ServedOr};
 ghost use Rattle.ph_engine.specs.Filing.{EnteredOr, SameFrame};
 ghost use Rattle.ph_engine.specs.Recording.{ExportedOr, ImportsOr, import_changes, import_visits, rows_for};
 ghost use Rattle.ph_engine.specs.Listing.{node_count};
+ghost use Rattle.ph_engine.specs.Loading.{IsLoadedTree, IsWithinBytes};
 ghost use Rattle.ph_engine.specs.Undoing.{KeepsOr, GoesBackOr, BackWork};
 ghost use Rattle.ph_engine.specs.Slots.{any_table, empty_table, cursor_of, cursor_dims};
 ghost use Rattle.ph_engine.specs.Told.{shelf_by};
@@ -313,15 +310,9 @@ impl AnyTree {
     ) -> Result<AnyTree, LoadFault>
         requires some { 1 ≤ dims }
         requires limit { dims ≤ 16 }
-        ensures dims { IfOk result (λ t. (any_table t).dims ≡ dims) }
-        ensures width { IfOk result (λ t. (any_table t).tree.width ≡ w) }
-        ensures rows { IfOk result (λ t. rows_fit kind (any_table t).tree.table ≡ true) }
-        ensures read { IfOk result (λ t. read_snapshot kind dims w bytes.now ≡ Ok (any_table t).tree.table) }
-        ensures snapshot { IfOk result (λ t. IsSnapshotOf kind dims w bytes.now (any_table t).tree.table) }
-        ensures nodes { IfOk result (λ t. changes.new ≡ changes.old + length (all_nodes w dims (any_table t).tree.table)) }
+        ensures loaded { IfOk result (λ t. IsLoadedTree kind dims w bytes.now (any_table t) changes.old changes.new) }
         ensures fault { IfErr result (λ e. IsLoadFault (load_fault kind dims w bytes.now) e) }
-        ensures kept { changes.old ≤ changes.new }
-        ensures few { 16 * changes.new ≤ 16 * changes.old + length bytes.now }
+        ensures within { IsWithinBytes bytes.now changes.old changes.new }
     {
         match dims {
             1 => Ok(AnyTree::D1(Kept::new(load(alloc, bytes, kind, w, changes)?))),

@@ -19,11 +19,6 @@ appends_both (Some old) None c xs ys h k = absurd h
 appends_both (Some old) (Some middle) None xs ys h k = absurd k
 appends_both (Some old) (Some middle) (Some new) xs ys h k = grind (arith, common_steps)
 
-pub appends_kept : (a b : Option (List ℕ)) → Keeps a b → Appends a b []
-appends_kept None b h = tt
-appends_kept (Some xs) None h = absurd h
-appends_kept (Some xs) (Some ys) h = grind (arith, common_steps)
-
 pub consumes_none : (a : Option (List ℕ)) → Consumes a a []
 consumes_none None = tt
 consumes_none (Some xs) = refl

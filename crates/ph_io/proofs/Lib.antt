@@ -1,5 +1,4 @@
 mod Copies
-pub mod Rises
 mod Places
 mod Inserts
 pub mod Appending

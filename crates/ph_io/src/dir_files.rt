@@ -242,20 +242,9 @@ impl<'r, R: rt::Files> Files for DirFiles<'r, R> {
 #[cfg(test)]
 mod tests {
     use super::*;
+    use crate::tests::fetch_from;
     use std::os::unix::fs::symlink;
     use std::test::Fail;
-
-    fn fetch_from<F: Files>(
-        files: &mut F,
-        name: &str,
-        most: u64,
-        into: &mut Vec<u8>,
-    ) -> Result<(), FetchFault> {
-        if name.len() > 255 {
-            return Err(FetchFault::NoMemory);
-        }
-        files.fetch(name, most, into)
-    }
 
     fn begin_in<F: Files>(files: &mut F, name: &str) -> Result<(), Failed> {
         if name.len() > 255 {

@@ -18,6 +18,8 @@ mod sending;
 mod standard;
 mod stored;
 mod streams;
+#[cfg(test)]
+mod tests;
 
 pub use clean::CleanSource;
 pub use clean_files::CleanFiles;

@@ -243,21 +243,10 @@ impl Files for MemoryFiles {
 #[cfg(test)]
 mod tests {
     use super::*;
+    use crate::tests::fetch_from;
     use std::test::Fail;
 
     const BYTES: [u8; 4] = *b"xyxy";
-
-    fn fetch_from<F: Files>(
-        files: &mut F,
-        name: &str,
-        most: u64,
-        into: &mut Vec<u8>,
-    ) -> Result<(), FetchFault> {
-        if name.len() > 255 {
-            return Err(FetchFault::NoMemory);
-        }
-        files.fetch(name, most, into)
-    }
 
     // Begins a file of these bytes, and appends them half by half.
     fn write_to<F: Files>(files: &mut F, name: &str) -> Result<(), Failed> {

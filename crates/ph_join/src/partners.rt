@@ -7,7 +7,7 @@ ghost use Rattle.ph_specs.specs.WorkSets.{partner_nodes};
 ghost use Rattle.ph_join.specs.Joining.{pairs_at, visits_at};
 
 use crate::seen::AsRow;
-use ph_box::{overlap_bounds, split_box};
+use ph_box::{Question, bounds, split_box};
 use ph_coord::{Dim, Dims, Row};
 use ph_steps::Steps;
 use ph_tree::PhTree;
@@ -46,7 +46,7 @@ impl<'t, const D: usize> PartnersOf<'t, Dim<D>, Row<D>> {
         let _root = tree.root();
         let w = tree.width();
         let (low, high) = split_box::<K, D>(w, &first.point);
-        let (from, to) = overlap_bounds::<K, D>(w, &low, &high);
+        let (from, to) = bounds::<K, D>(Question::Overlap, w, &low, &high);
         PartnersOf {
             first,
             seconds: Window::new(tree, from, to),

@@ -4,8 +4,9 @@ ghost use Rattle.std.specs.Prelude.{◌≡◌, ◌<◌, ◌≤◌};
 ghost use Rattle.ph_specs.specs.Coordinate.{IsPoint};
 
 use crate::edits::{GREATEST, LEAST, edit};
-use crate::pair::{Counters, Pair, point};
+use crate::pair::{Pair, point};
 use ph_coord::{Point, Row};
+use ph_steps::Counters;
 use rand_core::SeedableRng;
 use rand_xoshiro::Xoshiro256PlusPlus;
 use std::alloc::Global;

@@ -4,10 +4,11 @@ ghost use Rattle.std.specs.Prelude.{◌≡◌, ◌*◌, ◌<◌, ◌≤◌};
 ghost use Rattle.ph_specs.specs.Coordinate.{IsPoint};
 
 use crate::edits::draw;
-use crate::pair::{Counters, Pair};
+use crate::pair::Pair;
 use crate::windows::{corners, list};
-use ph_box::{cover_bounds, inside_bounds, join_box, overlap_bounds};
-use ph_coord::{Point, Row, Width};
+use ph_box::{Question, bounds, join_box};
+use ph_coord::{Point, Row};
+use ph_steps::Counters;
 use rand_core::{Rng, SeedableRng};
 use rand_xoshiro::Xoshiro256PlusPlus;
 use std::alloc::Global;
@@ -23,13 +24,6 @@ const STORED: u64 = 200;
 const ASKED: u64 = 100;
 
 const CHOICES: [i64; 8] = [-3, -2, -1, 0, 1, 2, 3, 4];
-
-#[derive(Clone, Copy)]
-enum Question {
-    Overlap,
-    Inside,
-    Cover,
-}
 
 // Whether a stored box is listed for the asked one.
 fn is_listed<const K: usize, const D: usize>(
@@ -108,27 +102,6 @@ fn fill<const K: usize, const D: usize, const W: u32, R: Rng, V: Ledger, C: Ledg
     Ok(())
 }
 
-// The window that answers a question.
-fn bounds<const K: usize, const D: usize>(
-    w: Width,
-    question: Question,
-    lo: &Point<K>,
-    hi: &Point<K>,
-) -> (Point<D>, Point<D>)
-    requires dims { K * 2 ≡ D }
-    requires few { D ≤ 16 }
-    requires low { IsPoint w K lo.now }
-    requires high { IsPoint w K hi.now }
-    ensures low { IsPoint w D result.0 }
-    ensures high { IsPoint w D result.1 }
-{
-    match question {
-        Question::Overlap => overlap_bounds(w, lo, hi),
-        Question::Inside => inside_bounds(w, lo, hi),
-        Question::Cover => cover_bounds(w, lo, hi),
-    }
-}
-
 // Asks the three questions about random boxes.
 fn boxes<const K: usize, const D: usize, const W: u32, V: Ledger, C: Ledger>(
     rt: &impl Abort,
@@ -145,7 +118,7 @@ fn boxes<const K: usize, const D: usize, const W: u32, V: Ledger, C: Ledger>(
     for _ in 0..ASKED {
         let (lo, hi) = draw_box::<K, W, Xoshiro256PlusPlus>(rt, &mut rng);
         for question in [Question::Overlap, Question::Inside, Question::Cover] {
-            let (low, high) = bounds(pair.table.width(), question, &lo, &hi);
+            let (low, high) = bounds(question, pair.table.width(), &lo, &hi);
             let rows = listed(alloc, &pair, question, &lo, &hi)?;
             list(rt, &pair, low, high, &rows, counters);
         }

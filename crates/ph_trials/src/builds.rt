@@ -5,9 +5,10 @@ ghost use Rattle.std.specs.List.{AllByRecursion as Each};
 ghost use Rattle.ph_specs.specs.Coordinate.{IsPoint};
 
 use crate::edits::{BINARY, GREATEST, LEAST, WIDEST, draw};
-use crate::pair::{Counters, Pair};
+use crate::pair::Pair;
 use ph_bulk::{build, last_rows};
 use ph_coord::Row;
+use ph_steps::Counters;
 use rand_core::SeedableRng;
 use rand_xoshiro::Xoshiro256PlusPlus;
 use std::alloc::Global;

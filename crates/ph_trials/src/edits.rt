@@ -3,8 +3,9 @@
 ghost use Rattle.std.specs.Prelude.{◌≡◌, ◌<◌, ◌≤◌};
 ghost use Rattle.ph_specs.specs.Coordinate.{IsPoint};
 
-use crate::pair::{Counters, Pair, point};
+use crate::pair::{Pair, point};
 use ph_coord::Point;
+use ph_steps::Counters;
 use rand_core::{Rng, SeedableRng};
 use rand_xoshiro::Xoshiro256PlusPlus;
 use std::alloc::Global;

@@ -3,10 +3,9 @@
 ghost use Rattle.std.specs.Prelude.{◌≡◌, ◌<◌, ◌≤◌};
 ghost use Rattle.ph_specs.specs.Coordinate.{IsPoint};
 
-use crate::pair::Counters;
 use ph_coord::{Point, Width};
 use ph_node::{NodeRef, What};
-use ph_steps::Steps;
+use ph_steps::{Counters, Steps};
 use ph_tree::{Moved, PhTree, Put, PutError};
 use std::alloc::Global;
 use std::marker::Brand;

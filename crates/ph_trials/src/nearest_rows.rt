@@ -4,9 +4,10 @@ ghost use Rattle.std.specs.Prelude.{◌≡◌, ◌<◌, ◌≤◌};
 ghost use Rattle.ph_specs.specs.Coordinate.{IsPoint};
 
 use crate::edits::{BINARY, GREATEST, LEAST, WIDEST, draw, edit};
-use crate::pair::{Counters, Pair};
+use crate::pair::Pair;
 use ph_coord::Point;
 use ph_near::{Ball, Hit, nearest};
+use ph_steps::Counters;
 use rand_core::SeedableRng;
 use rand_xoshiro::Xoshiro256PlusPlus;
 use std::alloc::Global;

@@ -2,7 +2,8 @@
 
 ghost use Rattle.std.specs.Prelude.{◌≡◌, ◌<◌};
 
-use crate::pair::{Counters, Pair, point};
+use crate::pair::{Pair, point};
+use ph_steps::Counters;
 use std::alloc::Global;
 use std::marker::Brand;
 use std::process::Abort;

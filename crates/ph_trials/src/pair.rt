@@ -6,35 +6,13 @@ ghost use Rattle.ph_specs.specs.Coordinate.{IsPoint};
 use crate::is_shape;
 use crate::records::are_written_anew;
 use ph_coord::{Point, Width};
-use ph_steps::Steps;
+use ph_steps::Counters;
 use ph_table::Table;
 use ph_tree::{Moved, PhTree, PutError};
 use std::alloc::Global;
 use std::process::Abort;
-use std::sync::ledger::{Blank, Ledger};
+use std::sync::ledger::Ledger;
 use std::test::Fail;
-
-// What the edits of a tree count.
-#[derive(Drop)]
-pub(crate) struct Counters<V: Ledger, C: Ledger> {
-    pub visits: Steps<V>,
-    pub changes: Steps<C>,
-}
-
-impl<V: Ledger, C: Ledger> Counters<V, C> {
-    // Both at 0.
-    pub(crate) fn new(visits: Blank, changes: Blank) -> Counters<V, C>
-        requires visits { (visits.name ≡ V.name) × (visits.parts ≡ V.parts) × (0 < visits.parts) }
-        requires changes { (changes.name ≡ C.name) × (changes.parts ≡ C.parts) × (0 < changes.parts) }
-        ensures visits { result.visits ≡ 0 }
-        ensures changes { result.changes ≡ 0 }
-    {
-        Counters {
-            visits: Steps::new(visits),
-            changes: Steps::new(changes),
-        }
-    }
-}
 
 // Of W bits a coordinate.
 #[derive(Drop)]

@@ -5,8 +5,9 @@ ghost use Rattle.ph_specs.specs.Coordinate.{IsPoint};
 ghost use Rattle.ph_window.specs.Page.{IsLast};
 
 use crate::edits::{BINARY, GREATEST, LEAST, WIDEST, draw, edit};
-use crate::pair::{Counters, Pair, point};
+use crate::pair::{Pair, point};
 use ph_coord::{Point, Row, z_before};
+use ph_steps::Counters;
 use ph_window::{Cursor, Tail, Window};
 use rand_core::SeedableRng;
 use rand_xoshiro::Xoshiro256PlusPlus;

@@ -10,12 +10,13 @@ ghost use Rattle.ph_engine.specs.Statuses.{StopHasCause};
 ghost use Rattle.ph_engine.specs.Told.{taken_by};
 
 use super::AnyTree;
-use crate::boxes::{Question, list_boxes};
+use crate::boxes::list_boxes;
 use crate::cursors::AnyCursor;
 use crate::distances::{list_ball, list_near};
 use crate::listing::{list_page, list_window};
 use crate::sizes::list_sizes;
 use crate::status::{Answer, Stop};
+use ph_box::Question;
 use ph_io::Sink;
 use ph_script::{Coords, Text};
 use ph_steps::Steps;
@@ -42,6 +43,23 @@ macro_rules! with_cursor {
             (AnyTree::D14($tree), AnyCursor::D14($at)) => $body.map(AnyCursor::D14),
             (AnyTree::D15($tree), AnyCursor::D15($at)) => $body.map(AnyCursor::D15),
             (AnyTree::D16($tree), AnyCursor::D16($at)) => $body.map(AnyCursor::D16),
+            _ => unreachable!(),
+        }
+    };
+}
+
+// Runs a call with the tree of whatever even number of dimensions, for boxes of half as many.
+macro_rules! with_boxes {
+    ($any:expr, $kept:ident, $($of:ident),* => $list:ident($($arg:expr),*)) => {
+        match $any {
+            AnyTree::D2($kept) => $list::<1, 2, $($of),*>($($arg),*),
+            AnyTree::D4($kept) => $list::<2, 4, $($of),*>($($arg),*),
+            AnyTree::D6($kept) => $list::<3, 6, $($of),*>($($arg),*),
+            AnyTree::D8($kept) => $list::<4, 8, $($of),*>($($arg),*),
+            AnyTree::D10($kept) => $list::<5, 10, $($of),*>($($arg),*),
+            AnyTree::D12($kept) => $list::<6, 12, $($of),*>($($arg),*),
+            AnyTree::D14($kept) => $list::<7, 14, $($of),*>($($arg),*),
+            AnyTree::D16($kept) => $list::<8, 16, $($of),*>($($arg),*),
             _ => unreachable!(),
         }
     };
@@ -127,33 +145,7 @@ impl AnyTree {
         ensures lists { ListsBoxes question (any_table self.now) (numbers_of asked.now) (taken_by O.Sink out.old) (taken_by O.Sink out.new) visits.old visits.new result }
         ensures cause { StopHasCause (O.faults out.old) (O.faults out.new) result }
     {
-        match self {
-            AnyTree::D2(kept) => {
-                list_boxes::<1, 2, O, V>(kept.tree(), question, asked, out, text, visits)
-            }
-            AnyTree::D4(kept) => {
-                list_boxes::<2, 4, O, V>(kept.tree(), question, asked, out, text, visits)
-            }
-            AnyTree::D6(kept) => {
-                list_boxes::<3, 6, O, V>(kept.tree(), question, asked, out, text, visits)
-            }
-            AnyTree::D8(kept) => {
-                list_boxes::<4, 8, O, V>(kept.tree(), question, asked, out, text, visits)
-            }
-            AnyTree::D10(kept) => {
-                list_boxes::<5, 10, O, V>(kept.tree(), question, asked, out, text, visits)
-            }
-            AnyTree::D12(kept) => {
-                list_boxes::<6, 12, O, V>(kept.tree(), question, asked, out, text, visits)
-            }
-            AnyTree::D14(kept) => {
-                list_boxes::<7, 14, O, V>(kept.tree(), question, asked, out, text, visits)
-            }
-            AnyTree::D16(kept) => {
-                list_boxes::<8, 16, O, V>(kept.tree(), question, asked, out, text, visits)
-            }
-            _ => unreachable!(),
-        }
+        with_boxes!(self, kept, O, V => list_boxes(kept.tree(), question, asked, out, text, visits))
     }
 
     pub(crate) fn list_page<O: Sink, V: Ledger>(

@@ -1,15 +1,12 @@
 use Rattle.std.proofs.Common.{arith}
-use Rattle.ph_io.specs.Giving.{taken_of}
 use Rattle.ph_engine.specs.Slots.{any_table}
 use Rattle.ph_engine.proofs.Checked.{fault-given, fault-sizes, has-sizes, nodes-are, sizes-given}
 use Rattle.ph_engine.proofs.checking.check_bytes.Goals as goal
 
 pub returns-in-Ok-clause-line : goal.returns-in-Ok-clause-line
 returns-in-Ok-clause-line g c =
-    sizes-given c.args.bytes.now c.in-Ok.kind (any_table c.in-Ok.tree) c.in-Ok.ensures.saved
-    (taken_of (g.O.Sink.written c.args.out.now) (g.O.Sink.amount c.args.out.now))
-    (taken_of (g.O.Sink.written c.say_line.new.out) (g.O.Sink.amount c.say_line.new.out))
-    c.as_str.result.now c.table_line.result.bytes c.say_line.result c.as_str.ensures.value c.table_line.ensures.line c.say_line.ensures.line
+    sizes-given c.args.bytes.now c.in-Ok.kind (any_table c.in-Ok.tree) c.in-Ok.ensures.saved _ _ c.as_str.result.now
+    c.table_line.result.bytes c.say_line.result c.as_str.ensures.value c.table_line.ensures.line c.say_line.ensures.line
 
 pub returns-in-Ok-clause-sizes : goal.returns-in-Ok-clause-sizes
 returns-in-Ok-clause-sizes g c = λ e. has-sizes c.args.bytes.now c.in-Ok.kind (any_table c.in-Ok.tree) c.in-Ok.ensures.saved
@@ -22,22 +19,13 @@ pub returns-in-Ok-clause-nodes : goal.returns-in-Ok-clause-nodes
 returns-in-Ok-clause-nodes g c e = omega (arith, c.in-Ok.ensures.nodes, nodes-are c.args.bytes.now c.in-Ok.kind (any_table c.in-Ok.tree) c.in-Ok.ensures.saved)
 
 pub returns-in-Err-clause-nodes : goal.returns-in-Err-clause-nodes
-returns-in-Err-clause-nodes g c e =
-    fault-sizes c.args.bytes.now c.in-Err.fault c.in-Err.ensures.fault
-    (taken_of (g.O.Sink.written c.args.out.now) (g.O.Sink.amount c.args.out.now))
-    (taken_of (g.O.Sink.written c.tell.new.out) (g.O.Sink.amount c.tell.new.out))
-    c.fault_reply.result c.tell.result c.fault_reply.ensures c.tell.ensures.told e
+returns-in-Err-clause-nodes g c =
+    fault-sizes c.args.bytes.now c.in-Err.fault c.in-Err.ensures.fault _ _ c.fault_reply.result c.tell.result c.fault_reply.ensures c.tell.ensures.told
 
 pub returns-in-Err-clause-line : goal.returns-in-Err-clause-line
 returns-in-Err-clause-line g c =
-    fault-given c.args.bytes.now c.in-Err.fault c.in-Err.ensures.fault
-    (taken_of (g.O.Sink.written c.args.out.now) (g.O.Sink.amount c.args.out.now))
-    (taken_of (g.O.Sink.written c.tell.new.out) (g.O.Sink.amount c.tell.new.out))
-    c.fault_reply.result c.tell.result c.fault_reply.ensures c.tell.ensures.told
+    fault-given c.args.bytes.now c.in-Err.fault c.in-Err.ensures.fault _ _ c.fault_reply.result c.tell.result c.fault_reply.ensures c.tell.ensures.told
 
 pub returns-in-Err-clause-sizes : goal.returns-in-Err-clause-sizes
 returns-in-Err-clause-sizes g c =
-    fault-sizes c.args.bytes.now c.in-Err.fault c.in-Err.ensures.fault
-    (taken_of (g.O.Sink.written c.args.out.now) (g.O.Sink.amount c.args.out.now))
-    (taken_of (g.O.Sink.written c.tell.new.out) (g.O.Sink.amount c.tell.new.out))
-    c.fault_reply.result c.tell.result c.fault_reply.ensures c.tell.ensures.told
+    fault-sizes c.args.bytes.now c.in-Err.fault c.in-Err.ensures.fault _ _ c.fault_reply.result c.tell.result c.fault_reply.ensures c.tell.ensures.told

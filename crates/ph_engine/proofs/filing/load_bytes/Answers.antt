@@ -3,7 +3,7 @@ use Rattle.ph_engine.proofs.Loads.{loaded-frame, loads-none, nodes-loaded, nodes
 use Rattle.ph_engine.proofs.filing.load_bytes.Goals as goal
 
 pub returns-in-Ok-clause-frame : goal.returns-in-Ok-clause-frame
-returns-in-Ok-clause-frame g c = rw c.replace.ensures.table (loaded-frame c.args.kind (any_table c.args.tree.now) _ c.in-Ok.ensures.rows)
+returns-in-Ok-clause-frame g c = rw c.replace.ensures.table (loaded-frame c.args.kind (any_table c.args.tree.now) _ c.in-Ok.ensures.loaded.rows)
 
 pub returns-in-Err-clause-loads : goal.returns-in-Err-clause-loads
 returns-in-Err-clause-loads g c =
@@ -14,8 +14,8 @@ pub returns-in-Ok-clause-nodes : goal.returns-in-Ok-clause-nodes
 returns-in-Ok-clause-nodes g c rows is =
     let t = any_table c.args.tree.now in
     nodes-loaded c.args.kind t c.dims.result c.width.result c.args.bytes.now (any_table c.in-Ok.loaded).tree.table
-    rows c.args.changes.now c.load.new.changes c.dims.ensures.value c.width.ensures c.in-Ok.ensures.read is
-    c.in-Ok.ensures.nodes
+    rows c.args.changes.now c.load.new.changes c.dims.ensures.value c.width.ensures c.in-Ok.ensures.loaded.read is
+    c.in-Ok.ensures.loaded.nodes
 
 pub returns-in-Err-clause-nodes : goal.returns-in-Err-clause-nodes
 returns-in-Err-clause-nodes g c rows is =

@@ -7,18 +7,16 @@ use Rattle.ph_engine.proofs.filing.load_table.Goals as goal
 
 pub returns-in-Ok-clause-loaded : goal.returns-in-Ok-clause-loaded
 returns-in-Ok-clause-loaded g c =
-    let t = any_table c.args.tree.now in
     let e = c.in-Ok.ensures in
-    let slice = c.as_slice.ensures.value in
     let loads = c.load_bytes.ensures in
     record {
       filed = λ visits cursors.
-          read-filed-or c.args.limits.now.file_bytes c.args.kind t cursors c.args.file.now c.as_slice.result.now
+          read-filed-or c.args.limits.now.file_bytes c.args.kind (any_table c.args.tree.now) cursors c.args.file.now c.as_slice.result.now
           (g.F.Files.faults c.args.files.now) (g.F.Files.faults c.fetch.new.self) visits c.args.changes.now
           c.load_bytes.new.changes
           (g.F.Files.files c.args.files.now) (g.F.Files.files c.fetch.new.self) (any_table c.load_bytes.new.tree)
-          c.load_bytes.result (rw (slice, ← c.as_str.ensures.value) e.fetches) (rw slice e.within) e.files
-          e.counts loads.loads loads.kept loads.few loads.nodes;
+          c.load_bytes.result (rw (c.as_slice.ensures.value, ← c.as_str.ensures.value) e.fetches) (rw c.as_slice.ensures.value e.within)
+          e.files e.counts loads.loads loads.within.kept loads.within.few loads.nodes;
     }
 
 pub returns : goal.returns

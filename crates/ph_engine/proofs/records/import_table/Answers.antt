@@ -8,18 +8,16 @@ use Rattle.ph_engine.proofs.records.import_table.Goals as goal
 
 pub returns-in-Ok-clause-imported : goal.returns-in-Ok-clause-imported
 returns-in-Ok-clause-imported g c =
-    let t = any_table c.args.tree.now in
     let e = c.in-Ok.ensures in
-    let slice = c.as_slice.ensures.value in
     let i = c.import.ensures in
     record {
       filed = λ cursors.
-          imported-filed-or c.args.limits.now.file_bytes c.args.kind t cursors c.args.file.now c.as_slice.result.now
+          imported-filed-or c.args.limits.now.file_bytes c.args.kind (any_table c.args.tree.now) cursors c.args.file.now c.as_slice.result.now
           c.args.header (g.F.Files.faults c.args.files.now) (g.F.Files.faults c.fetch.new.self) c.args.visits.now
           c.import.new.visits c.args.changes.now c.import.new.changes
           (g.F.Files.files c.args.files.now) (g.F.Files.files c.fetch.new.self) (any_table c.import.new.self)
-          c.import.result (rw (slice, ← c.as_str.ensures.value) e.fetches) (rw slice e.within) e.files e.counts
-          i.imports i.later i.few i.kept i.changes;
+          c.import.result (rw (c.as_slice.ensures.value, ← c.as_str.ensures.value) e.fetches) (rw c.as_slice.ensures.value e.within)
+          e.files e.counts i.imports i.later i.few i.kept i.changes;
     }
 
 pub returns : goal.returns

@@ -7,27 +7,19 @@ use Rattle.ph_engine.proofs.refusals.are_at_most.Goals as goal
 
 pub returns-then-number : goal.returns-then-number
 returns-then-number c =
-    let s = c.in-Some.ensures.steps in
-    let t = c.if-number.true in
     let a = number_of_coord c.in-Some.a.now in
     let b = number_of_coord c.in-Some.b.now in
-    let u : int_le a b ≡ false = grind (arith, ints) in
-    reversed_here a b (numbers_of c.next.new.self.a.rest.now) (numbers_of c.next.new.self.b.rest.now)
-    (numbers_of c.loop-a.a-iterator.a.rest.now) (numbers_of c.loop-a.a-iterator.b.rest.now)
-    (numbers_of c.args.low.now) (numbers_of c.args.high.now) (ap (λ xs. numbers_of xs) s.0)
-    (ap (λ xs. numbers_of xs) s.1) u c.loop-a.invariant.value
+    let u : int_le a b ≡ false = grind (arith, ints, c.if-number.true) in
+    reversed_here a b _ _ _ _ (numbers_of c.args.low.now) (numbers_of c.args.high.now) (ap (λ xs. numbers_of xs) c.in-Some.ensures.steps.0)
+    (ap (λ xs. numbers_of xs) c.in-Some.ensures.steps.1) u c.loop-a.invariant.value
 
 pub loop-a-preserved : goal.loop-a-preserved
-loop-a-preserved c =
-    let s = c.in-Some.ensures.steps in
-    let t = c.if-number.false in
-    let a = number_of_coord c.in-Some.a.now in
-    let b = number_of_coord c.in-Some.b.now in
-    let u : int_le a b ≡ true = grind (arith, ints) in
-    record {
-      value = ordered_so_far a b (numbers_of c.next.new.self.a.rest.now) (numbers_of c.next.new.self.b.rest.now)
-          (numbers_of c.loop-a.a-iterator.a.rest.now) (numbers_of c.loop-a.a-iterator.b.rest.now)
-          (numbers_of c.args.low.now) (numbers_of c.args.high.now) (ap (λ xs. numbers_of xs) s.0)
-          (ap (λ xs. numbers_of xs) s.1) u c.loop-a.invariant.value;
-      same = search rules;
-    }
+loop-a-preserved c = record {
+  value =
+      let a = number_of_coord c.in-Some.a.now in
+      let b = number_of_coord c.in-Some.b.now in
+      let u : int_le a b ≡ true = grind (arith, ints, c.if-number.false) in
+      ordered_so_far a b _ _ _ _ (numbers_of c.args.low.now) (numbers_of c.args.high.now) (ap (λ xs. numbers_of xs) c.in-Some.ensures.steps.0)
+      (ap (λ xs. numbers_of xs) c.in-Some.ensures.steps.1) u c.loop-a.invariant.value;
+  same = search rules;
+}

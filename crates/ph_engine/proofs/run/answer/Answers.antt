@@ -45,3 +45,6 @@ returns-in-Ok-clause-filings g c = done-later c.args.limits.now.file_bytes c.arg
 pub returns-in-Err-clause-filings : goal.returns-in-Err-clause-filings
 returns-in-Err-clause-filings g c = done-later c.args.limits.now.file_bytes c.args.eng.now c.exec_by.new.self
     (command_of c.in-Some.command) _ _ c.exec_by.result c.exec_by.ensures.done
+
+pub returns-in-None-clause-answered : goal.returns-in-None-clause-answered
+returns-in-None-clause-answered g c = rw c.in-Text.is c.answer_other.ensures.answered

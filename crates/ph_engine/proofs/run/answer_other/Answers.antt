@@ -1,19 +1,9 @@
 use Rattle.std.proofs.Common.{refl}
-use Rattle.ph_specs.specs.Reply.{Reply}
+use Rattle.ph_script.specs.declared.lines.Line.TheVariants.{Text}
 use Rattle.ph_script.specs.Meaning.{command_of, bad_reply}
 use Rattle.ph_engine.specs.Machine.{met, unmet}
-use Rattle.ph_engine.proofs.Answered.{said-nothing, said-done, said-refused, said-stopped, known-done, known-left, done-later, text-reading, long-reading}
+use Rattle.ph_engine.proofs.Answered.{said-nothing, said-done, said-refused, said-stopped, known-done, known-left, done-later, text-reading}
 use Rattle.ph_engine.proofs.run.answer_other.Goals as goal
-
-pub returns-in_default-clause-answered : goal.returns-in_default-clause-answered
-returns-in_default-clause-answered g c known fits = (
-  known-left known _ _ fits refl,
-  λ bytes h.
-      said-refused c.args.limits.now.file_bytes c.args.eng.now known bytes Reply.ErrorLong _ _ fits
-      (record { files = refl; filings = refl; visits = refl; changes = refl })
-      (long-reading c.args.eng.now bytes c.args.line c.in_default.is h)
-      c.refuse.result c.refuse.ensures.told c.refuse.ensures.front,
-)
 
 pub returns-in-Ok-None-clause-answered : goal.returns-in-Ok-None-clause-answered
 returns-in-Ok-None-clause-answered g c known fits = (
@@ -21,8 +11,8 @@ returns-in-Ok-None-clause-answered g c known fits = (
   λ bytes h. record {
     met = unmet;
     said = said-nothing c.args.limits.now.file_bytes c.args.eng.now known bytes _ fits
-        (text-reading c.args.eng.now c.dims.result bytes c.args.line c.in-Text.bytes _ c.dims.ensures.value
-        c.in-Text.is h (rw c.in-Ok-None.field-0-is at c.in-Ok-None.ensures.meaning));
+        (text-reading c.args.eng.now c.dims.result bytes (Text c.args.bytes) c.args.bytes _ c.dims.ensures.value
+        refl h (rw c.in-Ok-None.field-0-is at c.in-Ok-None.ensures.meaning));
   },
 )
 
@@ -34,8 +24,8 @@ returns-in-Ok-clause-answered g c known fits = (
     said =
         said-done c.args.limits.now.file_bytes c.args.eng.now c.exec_by.new.self known bytes
         (command_of c.in-Ok-Some.command) _ _ fits c.in-Ok.answer c.is_refused.result c.in-Ok.ensures.done
-        (text-reading c.args.eng.now c.dims.result bytes c.args.line c.in-Text.bytes _ c.dims.ensures.value
-        c.in-Text.is h (rw c.in-Ok-Some.field-0-is at c.in-Ok-Some.ensures.meaning)) c.is_refused.ensures;
+        (text-reading c.args.eng.now c.dims.result bytes (Text c.args.bytes) c.args.bytes _ c.dims.ensures.value
+        refl h (rw c.in-Ok-Some.field-0-is at c.in-Ok-Some.ensures.meaning)) c.is_refused.ensures;
   },
 )
 
@@ -44,8 +34,8 @@ returns-in-Err-exec_by-clause-answered g c known fits = (
   known-done c.args.limits.now.file_bytes c.args.eng.now c.exec_by.new.self (command_of c.in-Ok-Some.command) known _ _ c.exec_by.result fits c.exec_by.ensures.done,
   λ bytes h.
       said-stopped c.args.limits.now.file_bytes c.args.eng.now c.exec_by.new.self known bytes (command_of c.in-Ok-Some.command) _ _ fits c.in-Err-exec_by.stop
-      (λ met. text-reading c.args.eng.now c.dims.result bytes c.args.line c.in-Text.bytes _ c.dims.ensures.value
-      c.in-Text.is h (rw c.in-Ok-Some.field-0-is at c.in-Ok-Some.ensures.meaning))
+      (λ met. text-reading c.args.eng.now c.dims.result bytes (Text c.args.bytes) c.args.bytes _ c.dims.ensures.value
+      refl h (rw c.in-Ok-Some.field-0-is at c.in-Ok-Some.ensures.meaning))
       c.in-Err-exec_by.ensures.done,
 )
 
@@ -55,8 +45,8 @@ returns-in-Err-clause-answered g c known fits = (
   λ bytes h.
       said-refused c.args.limits.now.file_bytes c.args.eng.now known bytes (bad_reply c.in-Err.bad) _ _ fits
       (record { files = refl; filings = refl; visits = refl; changes = refl })
-      (text-reading c.args.eng.now c.dims.result bytes c.args.line c.in-Text.bytes _ c.dims.ensures.value c.in-Text.is h c.in-Err.ensures.meaning)
-      c.refuse-in-Err.result (rw (← c.bad_reply.ensures) c.refuse-in-Err.ensures.told) (rw (← c.bad_reply.ensures) c.refuse-in-Err.ensures.front),
+      (text-reading c.args.eng.now c.dims.result bytes (Text c.args.bytes) c.args.bytes _ c.dims.ensures.value refl h c.in-Err.ensures.meaning)
+      c.refuse.result (rw (← c.bad_reply.ensures) c.refuse.ensures.told) (rw (← c.bad_reply.ensures) c.refuse.ensures.front),
 )
 
 pub returns-in-Ok-clause-filings : goal.returns-in-Ok-clause-filings

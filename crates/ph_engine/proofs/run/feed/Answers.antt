@@ -14,11 +14,18 @@ use Rattle.ph_engine.specs.ScriptMachine.{Whole, whole, told_now, script_machine
 use Rattle.ph_engine.proofs.Feeds.{fed-none, line-said, line-stopped, then-fed, then-stopped, then-part}
 use Rattle.ph_engine.proofs.Scans.{feed-unbroken, none-unbroken, feed-next, feed-within, whole as whole-piece, unended-feed, unended-none}
 use Rattle.ph_engine.proofs.Answered.{known-on, known-right, known-left, known-still, shown-behind}
+use Rattle.ph_engine.proofs.run.feed.Given.{Over}
+use Rattle.ph_engine.proofs.run.feed.Goals.{In-Some}
 use Rattle.ph_engine.proofs.run.feed.Goals as goal
 
 -- what a line answers, from what is known of the files behind the lines before it
 abbrev Says : (file_bytes : ℕ) → Line → Whole → Beside → Beside → Result Bool Stop → Whole → Type 0
 Says file_bytes line s b now_b result now = (bytes : List ℕ) → IsLine bytes line → SaysOr (script_machine file_bytes) s bytes b now_b now result
+
+-- the next line, behind an unended one whose kept bytes these are
+shown : (g : Over) (c : In-Some g) (now : List ℕ) → c.lines.lines ≡ take KEPT now →
+    IsLine (now ++ before_feed (drop c.lines.at c.args.piece.now)) c.in-Some.line
+shown g c now kept = shown-behind now (before_feed (drop c.lines.at c.args.piece.now)) c.lines.lines c.in-Some.line kept c.in-Some.ensures.given.1
 
 pub lines-preserved : goal.lines-preserved
 lines-preserved g c =
@@ -39,10 +46,7 @@ lines-preserved g c =
             line.0,
             λ unended k u.
                 let before = fed.1 unended k u in
-                let answered = λ (now : List ℕ) (kept : c.lines.lines ≡ take KEPT now). line.1
-                (now ++ before_feed (drop c.lines.at c.args.piece.now))
-                (shown-behind now (before_feed (drop c.lines.at c.args.piece.now)) c.lines.lines c.in-Some.line
-                kept given.1) in
+                let answered = λ (now : List ℕ) (kept : c.lines.lines ≡ take KEPT now). line.1 _ (shown g (goal.at.lines-preserved g c).In-Some now kept) in
                 then-fed (script_machine c.args.limits.now.file_bytes) _ unended (take c.lines.at c.args.piece.now)
                 (before_feed (drop c.lines.at c.args.piece.now) ++ LF ∷ []) (take c.next_line.new.at c.args.piece.now)
                 c.lines.lines c.next_line.follows.lender-at-none _ _ _ _ _ c.lines.refused c.in-Ok.some c.either-refused.result before
@@ -66,17 +70,15 @@ returns-in-Err-clause-fed g c known fits =
       line.0,
       λ unended k u.
           let before = fed.1 unended k u in
-          let answered = λ (now : List ℕ) (kept : c.lines.lines ≡ take KEPT now). line.1
-          (now ++ before_feed (drop c.lines.at c.args.piece.now))
-          (shown-behind now (before_feed (drop c.lines.at c.args.piece.now)) c.lines.lines c.in-Some.line kept given.1) in
+          let answered = λ (now : List ℕ) (kept : c.lines.lines ≡ take KEPT now). line.1 _ (shown g (goal.at.returns-in-Err-clause-fed g c).In-Some now kept) in
           then-stopped (script_machine c.args.limits.now.file_bytes) _ unended (take c.lines.at c.args.piece.now)
           (before_feed (drop c.lines.at c.args.piece.now) ++ LF ∷ []) (drop c.next_line.new.at c.args.piece.now)
           c.args.piece.now
           c.lines.lines c.next_line.follows.lender-at-none _ _ _ _ _ c.lines.refused c.in-Err.stop before
           (λ now kept free. line-stopped (script_machine c.args.limits.now.file_bytes) _ now
-          (before_feed (drop c.lines.at c.args.piece.now)) c.next_line.follows.lender-at-none
-          (answered now kept).met _ _ _ c.in-Err.stop free (feed-unbroken (drop c.lines.at c.args.piece.now) given.0)
-          (answered now kept).said)
+          (before_feed (drop c.lines.at c.args.piece.now)) (answered now kept).met _ _ free
+          (feed-unbroken (drop c.lines.at c.args.piece.now) given.0) c.next_line.follows.lender-at-none _
+          c.in-Err.stop (answered now kept).said)
           (ap (λ t. t ++ drop c.next_line.new.at c.args.piece.now)
           (feed-next c.args.piece.now c.lines.at c.next_line.new.at given.0 place) ∙
           whole-piece c.args.piece.now c.next_line.new.at),

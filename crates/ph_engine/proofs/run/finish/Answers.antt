@@ -1,11 +1,31 @@
-use Rattle.std.proofs.Common.{◌≡◌, ◌||◌, refl, sym, subst}
+use Rattle.std.proofs.Common.{◌≡◌, Bool, refl, sym, subst}
+use Rattle.std.specs.Prelude.{Result, Ok, Err}
 use Rattle.ph_engine.specs.Feeding.{EndsOr}
-use Rattle.ph_engine.specs.Told.{beside_by}
-use Rattle.ph_engine.specs.Statuses.{read_status}
 use Rattle.ph_engine.specs.ScriptMachine.{whole, told_now, script_machine}
-use Rattle.ph_engine.proofs.Feeds.{end-none, end-said, end-stopped, ends-read}
-use Rattle.ph_engine.proofs.Answered.{known-left, known-still, shown-whole}
+use Rattle.ph_engine.specs.Serving.{ServesLine, ServesEnd}
+use Rattle.ph_engine.specs.Standing.{Standing}
+use Rattle.ph_engine.specs.Statuses.{read_status}
+use Rattle.ph_engine.specs.Told.{beside_by, standing_by}
+use Rattle.ph_engine.specs.declared.status.Stop.{Stop}
+use Rattle.ph_engine.proofs.Answered.{known-left, known-still}
+use Rattle.ph_engine.proofs.Feeds.{end-none, ends-read}
+use Rattle.ph_engine.proofs.Last.{end_status, line-ends}
+use Rattle.ph_engine.proofs.run.finish.Given.{Over}
+use Rattle.ph_engine.proofs.run.finish.Goals.{After-answer}
 use Rattle.ph_engine.proofs.run.finish.Goals as goal
+
+abbrev before : (g : Over) → After-answer g → Standing
+before g c = standing_by g.O.Sink g.F.Files c.args.out.now c.args.files.now c.args.visits.now c.args.changes.now c.args.eng.now
+
+abbrev after : (g : Over) → After-answer g → Standing
+after g c = standing_by g.O.Sink g.F.Files c.answer.new.out c.answer.new.files c.answer.new.visits c.answer.new.changes c.answer.new.eng
+
+-- the end of a script, by what its last line leads to
+ended : (g : Over) (c : After-answer g) (result : Result Bool Stop) →
+    ServesLine c.args.limits.now.file_bytes (before g c) c.in-Some.line (after g c) result →
+    ServesEnd c.args.limits.now.file_bytes (before g c) c.args.lines.now c.args.refused (after g c) (end_status c.args.refused result)
+ended g c result = line-ends c.args.limits.now.file_bytes (before g c) (after g c) c.args.lines.now c.in-Some.line
+    c.args.refused result c.in-Some.ensures.given.1 c.in-Some.ensures.given.0
 
 pub returns-in_default-clause-ends : goal.returns-in_default-clause-ends
 returns-in_default-clause-ends g c known fits = (
@@ -22,24 +42,8 @@ returns-in_default-clause-ends g c known fits = (
 )
 
 pub returns-in-Ok-clause-ends : goal.returns-in-Ok-clause-ends
-returns-in-Ok-clause-ends g c known fits =
-    let said = c.in-Ok.ensures.answered known fits in (
-      said.0,
-      λ unended k u.
-          let answered = said.1 unended (shown-whole unended c.args.lines.now c.in-Some.line k c.in-Some.ensures.given.1) in
-          rw (c.read_status-in-Ok.ensures, c.either.ensures)
-          (ends-read (script_machine c.args.limits.now.file_bytes) _ unended c.args.refused _ _ _ (c.args.refused || c.in-Ok.last)
-          (end-said (script_machine c.args.limits.now.file_bytes) _ unended c.args.lines.now c.args.refused
-          c.in-Ok.last answered.met _ _ _ k u c.in-Some.ensures.given.0 answered.said)),
-    )
+returns-in-Ok-clause-ends g c = rw (c.read_status-in-Ok.ensures, c.either.ensures)
+    (ended g (goal.at.returns-in-Ok-clause-ends g c).After-answer (Ok c.in-Ok.last) c.in-Ok.ensures.answered)
 
 pub returns-in-Err-clause-ends : goal.returns-in-Err-clause-ends
-returns-in-Err-clause-ends g c known fits =
-    let said = c.in-Err.ensures.answered known fits in (
-      said.0,
-      λ unended k u.
-          let answered = said.1 unended (shown-whole unended c.args.lines.now c.in-Some.line k c.in-Some.ensures.given.1) in
-          rw c.stopped.ensures
-          (end-stopped (script_machine c.args.limits.now.file_bytes) _ unended c.args.lines.now c.args.refused
-          answered.met _ _ _ c.in-Err.stop k u c.in-Some.ensures.given.0 answered.said),
-    )
+returns-in-Err-clause-ends g c = rw c.stopped.ensures (ended g (goal.at.returns-in-Err-clause-ends g c).After-answer (Err c.in-Err.stop) c.in-Err.ensures.answered)

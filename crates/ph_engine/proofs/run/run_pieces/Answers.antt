@@ -1,12 +1,35 @@
 use Rattle.std.proofs.Common.{◌≡◌, take, refl, ap, arith}
-use Rattle.std.specs.Prelude.{Ok, Err}
+use Rattle.std.specs.Prelude.{Bool, Option, Result, Ok, Err}
+use Rattle.ph_specs.specs.State.{Files}
 use Rattle.ph_engine.specs.Feeding.{Feeds, Ends}
 use Rattle.ph_engine.specs.Told.{beside_by}
 use Rattle.ph_engine.specs.ScriptMachine.{whole, told_now, script_machine}
+use Rattle.ph_engine.specs.Serving.{StaysKnown, ServesPiece}
+use Rattle.ph_engine.specs.declared.status.Stop.{Stop}
 use Rattle.ph_engine.proofs.Answered.{known-on, known-right, known-left}
 use Rattle.ph_engine.proofs.Known.{reached-known}
 use Rattle.ph_engine.proofs.Runs.{interrupted, at-end, stopped, exceeded, reached-more}
+use Rattle.ph_engine.proofs.run.run_pieces.Given.{Over}
+use Rattle.ph_engine.proofs.run.run_pieces.Goals.{After-feed}
 use Rattle.ph_engine.proofs.run.run_pieces.Goals as goal
+
+-- what a piece leads to, from what is known of the files behind those before it
+fed_on : (g : Over) (c : After-feed g) (known : Option Files) → let middle = g.F.Files.files c.pieces.files in
+    let b = beside_by g.O.Sink g.F.Files c.pieces.out c.pieces.files c.pieces.visits c.pieces.changes in
+    let now_b = beside_by g.O.Sink g.F.Files c.feed.new.out c.feed.new.files c.feed.new.visits c.feed.new.changes in
+    StaysKnown known middle → (result : Result Bool Stop) →
+    ServesPiece c.args.limits.now.file_bytes (record { engine = c.pieces.eng; beside = b }) c.pieces.lines
+    (take c.min-fresh.result c.fill.new.piece) (record { engine = c.feed.new.eng; beside = now_b }) c.feed.new.lines result →
+    StaysKnown known now_b.files × Feeds (script_machine c.args.limits.now.file_bytes) (whole c.pieces.eng (told_now known middle))
+    c.pieces.lines (take c.min-fresh.result c.fill.new.piece) b now_b (whole c.feed.new.eng (told_now known now_b.files)) c.feed.new.lines result
+fed_on g c known stays result fed =
+    let middle = g.F.Files.files c.pieces.files in
+    known-on (λ s. Feeds (script_machine c.args.limits.now.file_bytes) (whole c.pieces.eng (told_now known middle)) c.pieces.lines
+    (take c.min-fresh.result c.fill.new.piece)
+    (beside_by g.O.Sink g.F.Files c.pieces.out c.pieces.files c.pieces.visits c.pieces.changes)
+    (beside_by g.O.Sink g.F.Files c.feed.new.out c.feed.new.files c.feed.new.visits c.feed.new.changes) s
+    c.feed.new.lines result) c.feed.new.eng known middle (g.F.Files.files c.feed.new.files) stays
+    (fed (told_now known middle) (known-right known middle stays))
 
 pub returns-in_default-clause-outcome : goal.returns-in_default-clause-outcome
 returns-in_default-clause-outcome g c known fits =
@@ -35,14 +58,8 @@ returns-then-count-eq0-clause-outcome g c known fits =
 pub returns-in-Err-clause-outcome : goal.returns-in-Err-clause-outcome
 returns-in-Err-clause-outcome g c known fits =
     let m = script_machine c.args.limits.now.file_bytes in
-    let middle = g.F.Files.files c.pieces.files in
     let before = c.pieces.invariant.reached known fits in
-    let fed = known-on (λ s. Feeds m (whole c.pieces.eng (told_now known middle)) c.pieces.lines
-    (take c.min-fresh.result c.fill.new.piece)
-    (beside_by g.O.Sink g.F.Files c.pieces.out c.pieces.files c.pieces.visits c.pieces.changes)
-    (beside_by g.O.Sink g.F.Files c.feed.new.out c.feed.new.files c.feed.new.visits c.feed.new.changes) s
-    c.feed.new.lines (Err c.in-Err.stop)) c.feed.new.eng known middle (g.F.Files.files c.feed.new.files) before.0
-    (c.in-Err.ensures.fed (told_now known middle) (known-right known middle before.0)) in (
+    let fed = fed_on g (goal.at.returns-in-Err-clause-outcome g c).After-feed known before.0 (Err c.in-Err.stop) c.in-Err.ensures.fed in (
       fed.0,
       rw c.stopped.ensures
           (stopped m c.args.limits.now.script_bytes _ _ _ _ _ _ _ _ _ c.pieces.lines c.feed.new.lines c.fill.new.piece
@@ -54,14 +71,8 @@ returns-in-Err-clause-outcome g c known fits =
 pub returns-then-fresh-count-clause-outcome : goal.returns-then-fresh-count-clause-outcome
 returns-then-fresh-count-clause-outcome g c known fits =
     let m = script_machine c.args.limits.now.file_bytes in
-    let middle = g.F.Files.files c.pieces.files in
     let before = c.pieces.invariant.reached known fits in
-    let fed = known-on (λ s. Feeds m (whole c.pieces.eng (told_now known middle)) c.pieces.lines
-    (take c.min-fresh.result c.fill.new.piece)
-    (beside_by g.O.Sink g.F.Files c.pieces.out c.pieces.files c.pieces.visits c.pieces.changes)
-    (beside_by g.O.Sink g.F.Files c.feed.new.out c.feed.new.files c.feed.new.visits c.feed.new.changes) s
-    c.feed.new.lines (Ok c.in-Ok-feed.some)) c.feed.new.eng known middle (g.F.Files.files c.feed.new.files)
-    before.0 (c.in-Ok-feed.ensures.fed (told_now known middle) (known-right known middle before.0)) in (
+    let fed = fed_on g (goal.at.returns-then-fresh-count-clause-outcome g c).After-feed known before.0 (Ok c.in-Ok-feed.some) c.in-Ok-feed.ensures.fed in (
       fed.0,
       exceeded m c.args.limits.now.script_bytes _ _ _ _ _ _ _ _ _ c.pieces.lines c.feed.new.lines c.fill.new.piece _
           c.pieces.refused c.in-Ok-feed.some c.pieces.taken c.in-Ok.count c.min-fresh.result
@@ -78,14 +89,8 @@ pieces-preserved g c = let all : c.min-fresh.result ≡ c.in-Ok.count = omega (a
   filings = omega (arith, c.pieces.invariant.filings, c.in-Ok-feed.ensures.filings);
   reached = λ known fits.
       let m = script_machine c.args.limits.now.file_bytes in
-      let middle = g.F.Files.files c.pieces.files in
       let before = c.pieces.invariant.reached known fits in
-      let fed = known-on (λ s. Feeds m (whole c.pieces.eng (told_now known middle)) c.pieces.lines
-      (take c.min-fresh.result c.fill.new.piece)
-      (beside_by g.O.Sink g.F.Files c.pieces.out c.pieces.files c.pieces.visits c.pieces.changes)
-      (beside_by g.O.Sink g.F.Files c.feed.new.out c.feed.new.files c.feed.new.visits c.feed.new.changes) s
-      c.feed.new.lines (Ok c.in-Ok-feed.some)) c.feed.new.eng known middle (g.F.Files.files c.feed.new.files)
-      before.0 (c.in-Ok-feed.ensures.fed (told_now known middle) (known-right known middle before.0)) in (
+      let fed = fed_on g (goal.at.pieces-preserved g c).After-feed known before.0 (Ok c.in-Ok-feed.some) c.in-Ok-feed.ensures.fed in (
         fed.0,
         reached-more m _ _ _ _ _ _ _ _ _ c.pieces.lines c.feed.new.lines c.fill.new.piece _ c.pieces.refused
             c.in-Ok-feed.some c.either-refused.result c.pieces.taken c.in-Ok.count

@@ -4,17 +4,16 @@ use Rattle.ph_engine.specs.Slots.{engine_of}
 use Rattle.ph_engine.proofs.Commanded.{tells-said}
 use Rattle.ph_engine.proofs.Filed.{done-filed}
 use Rattle.ph_engine.proofs.Groups.{no-row}
+use Rattle.ph_engine.proofs.Quiet.{done-quiet}
 use Rattle.ph_engine.proofs.slot.Slot.exec.Goals as goal
 
 pub exec_other-requires-clause-other : goal.exec_other-requires-clause-other
 exec_other-requires-clause-other g c = no-row c.args.cmd.now c.in_default.not-Put c.in_default.not-Get c.in_default.not-Del c.in_default.not-Relocate
 
 pub returns-in-Put-clause-done : goal.returns-in-Put-clause-done
-returns-in-Put-clause-done g c =
-    let most = c.args.limits.now.file_bytes in
-    rw c.in-Put.is (done-filed most (engine_of c.args.self.now) (engine_of c.put-outcome.new.self)
-    _ _ _ _ _ _ _ _ _ _ _ c.put-outcome.result c.tell.result refl
-    (c.put-outcome.ensures.filed most (g.F.Files.files c.args.files.now) (g.F.Files.faults c.args.files.now)) c.tell.ensures.told)
+returns-in-Put-clause-done g c = rw c.in-Put.is
+    (done-quiet c.args.limits.now.file_bytes _ _ (g.F.Files.files c.args.files.now) (g.F.Files.faults c.args.files.now)
+    c.tell.result refl c.put-outcome.ensures c.tell.ensures.told)
 
 pub returns-in-Get-clause-done : goal.returns-in-Get-clause-done
 returns-in-Get-clause-done g c =
@@ -25,15 +24,11 @@ returns-in-Get-clause-done g c =
     (c.get-reply.ensures.filed most (g.F.Files.files c.args.files.now) (g.F.Files.faults c.args.files.now) c.args.changes.now) told)
 
 pub returns-in-Del-clause-done : goal.returns-in-Del-clause-done
-returns-in-Del-clause-done g c =
-    let most = c.args.limits.now.file_bytes in
-    rw c.in-Del.is (done-filed most (engine_of c.args.self.now) (engine_of c.del-outcome.new.self)
-    _ _ _ _ _ _ _ _ _ _ _ c.del-outcome.result c.tell-in-Del.result refl
-    (c.del-outcome.ensures.filed most (g.F.Files.files c.args.files.now) (g.F.Files.faults c.args.files.now)) c.tell-in-Del.ensures.told)
+returns-in-Del-clause-done g c = rw c.in-Del.is
+    (done-quiet c.args.limits.now.file_bytes _ _ (g.F.Files.files c.args.files.now) (g.F.Files.faults c.args.files.now)
+    c.tell-in-Del.result refl c.del-outcome.ensures c.tell-in-Del.ensures.told)
 
 pub returns-in-Relocate-clause-done : goal.returns-in-Relocate-clause-done
-returns-in-Relocate-clause-done g c =
-    let most = c.args.limits.now.file_bytes in
-    rw c.in-Relocate.is (done-filed most (engine_of c.args.self.now) (engine_of c.relocate-outcome.new.self)
-    _ _ _ _ _ _ _ _ _ _ _ c.relocate-outcome.result c.tell-in-Relocate.result refl
-    (c.relocate-outcome.ensures.filed most (g.F.Files.files c.args.files.now) (g.F.Files.faults c.args.files.now)) c.tell-in-Relocate.ensures.told)
+returns-in-Relocate-clause-done g c = rw c.in-Relocate.is
+    (done-quiet c.args.limits.now.file_bytes _ _ (g.F.Files.files c.args.files.now) (g.F.Files.faults c.args.files.now)
+    c.tell-in-Relocate.result refl c.relocate-outcome.ensures c.tell-in-Relocate.ensures.told)

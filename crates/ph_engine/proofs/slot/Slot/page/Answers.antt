@@ -1,8 +1,8 @@
 use Rattle.std.proofs.Common.{◌≡◌, ◌<◌, get_or, length, true, false, ap, sym, ◌∙◌, subst, arith}
-use Rattle.std.specs.Prelude.{None, Err, is_ok}
+use Rattle.std.specs.Prelude.{None, Some, Err, is_ok}
 use Rattle.std.specs.List.{AllByRecursion}
 use Rattle.ph_specs.specs.Command.{Command}
-use Rattle.ph_specs.specs.Named.{enter}
+use Rattle.ph_specs.specs.Named.{enter, lookup}
 use Rattle.ph_engine.specs.Naming.{place}
 use Rattle.ph_engine.specs.Refusing.{early_refusal}
 use Rattle.ph_engine.specs.Slots.{any_table, named, slot_of, cursor_of, IsCursorIn}
@@ -10,6 +10,8 @@ use Rattle.ph_engine.specs.declared.cursors.Held.{Held}
 use Rattle.ph_engine.proofs.Names.{has-place, under-entered, all-at}
 use Rattle.ph_engine.proofs.Paged.{cursor-there, found-there, page-done, page-stopped}
 use Rattle.ph_engine.proofs.Slotted.{names-sorted, slot-entered}
+use Rattle.ph_engine.proofs.slot.Slot.page.Given.{Over}
+use Rattle.ph_engine.proofs.slot.Slot.page.Goals.{After-list_page}
 use Rattle.ph_engine.proofs.slot.Slot.page.Goals as goal
 
 pub unreachable-requires : goal.unreachable-requires
@@ -45,34 +47,29 @@ invariant_of-self g c =
     (record { dims = lists.0; lo = rw lists.1.next old.lo; hi = rw lists.1.next old.hi; last = lists.1.last })
     (λ k. cursor-there (slot_of c.self.inside.kind t (named items)) name c.args.n unrefused))
 
+-- the cursor of the name is there
+there : (g : Over) (c : After-list_page g) →
+    lookup c.args.name.now (named c.self.inside.cursors.items) ≡ Some (cursor_of (get_or c.as_slice-2.result.now c.in-Ok.i c.index-as_slice-i.result).cursor)
+there g c =
+    found-there c.args.name.now c.self.inside.cursors.items c.as_slice.result.now c.as_slice-2.result.now c.place_of.result c.in-Ok.i
+    c.index-as_slice-i.result c.as_slice.ensures.value c.as_slice-2.ensures.value c.place_of.ensures.place
+    c.in-Ok.is c.place_of.ensures.within
+
 pub returns-in-Ok-list_page-clause-done : goal.returns-in-Ok-list_page-clause-done
 returns-in-Ok-list_page-clause-done g c =
-    let t = any_table c.self.inside.tree in
     let items = c.self.inside.cursors.items in
     let name = c.args.name.now in
-    let second = c.as_slice-2.result.now in
     let unrefused = subst (λ x. early_refusal x (Command.Page name c.args.n) ≡ None) (sym c.self.view_is) c.requires in
-    let old = cursor_of (get_or second c.in-Ok.i c.index-as_slice-i.result).cursor in
-    let there = found-there name items c.as_slice.result.now second c.place_of.result c.in-Ok.i
-    c.index-as_slice-i.result c.as_slice.ensures.value c.as_slice-2.ensures.value c.place_of.ensures.place
-    c.in-Ok.is c.place_of.ensures.within in
     let held : Held = record { name = name; cursor = c.in-Ok-list_page.cursor } in
     let is : named c.enter.new.cursors.items ≡ enter name (cursor_of c.in-Ok-list_page.cursor) (named items) =
     ap (λ xs. named xs) c.enter.ensures ∙ sym (under-entered (λ h. h.name) (λ h. cursor_of h.cursor) held items) in
-    rw (← c.self.view_is) (page-done c.self.inside.kind t (named items) (named c.enter.new.cursors.items) name
-    c.args.n old (cursor_of c.in-Ok-list_page.cursor) _ _ c.args.visits.now c.list_page.new.visits unrefused there
-    is c.in-Ok-list_page.ensures.lists.1)
+    rw (← c.self.view_is) (page-done c.self.inside.kind (any_table c.self.inside.tree) (named items) (named c.enter.new.cursors.items) name
+    c.args.n _ (cursor_of c.in-Ok-list_page.cursor) _ _ c.args.visits.now c.list_page.new.visits unrefused
+    (there g (goal.at.returns-in-Ok-list_page-clause-done g c).After-list_page) is c.in-Ok-list_page.ensures.lists.1)
 
 pub returns-in-Err-clause-done : goal.returns-in-Err-clause-done
 returns-in-Err-clause-done g c =
-    let t = any_table c.self.inside.tree in
-    let items = c.self.inside.cursors.items in
     let name = c.args.name.now in
-    let second = c.as_slice-2.result.now in
     let unrefused = subst (λ x. early_refusal x (Command.Page name c.args.n) ≡ None) (sym c.self.view_is) c.requires in
-    let old = cursor_of (get_or second c.in-Ok.i c.index-as_slice-i.result).cursor in
-    let there = found-there name items c.as_slice.result.now second c.place_of.result c.in-Ok.i
-    c.index-as_slice-i.result c.as_slice.ensures.value c.as_slice-2.ensures.value c.place_of.ensures.place
-    c.in-Ok.is c.place_of.ensures.within in
-    rw (← c.self.view_is) (page-stopped c.self.inside.kind t (named items) name c.args.n old _ _ c.args.visits.now
-    c.list_page.new.visits c.in-Err.stop unrefused there c.in-Err.ensures.lists)
+    rw (← c.self.view_is) (page-stopped c.self.inside.kind (any_table c.self.inside.tree) (named c.self.inside.cursors.items) name c.args.n _ _ _
+    c.args.visits.now c.list_page.new.visits c.in-Err.stop unrefused (there g (goal.at.returns-in-Err-clause-done g c).After-list_page) c.in-Err.ensures.lists)

@@ -1,8 +1,8 @@
-use Rattle.std.proofs.Common.{◌≡◌, length, ap, sym, ◌∙◌, subst}
+use Rattle.std.proofs.Common.{◌≡◌, true, length, ap, sym, ◌∙◌, subst}
 use Rattle.std.specs.Prelude.{None}
 use Rattle.std.proofs.lemmas.List.{length-map}
 use Rattle.ph_specs.specs.Command.{Command}
-use Rattle.ph_specs.specs.Named.{enter}
+use Rattle.ph_specs.specs.Named.{enter, has_name}
 use Rattle.ph_script.specs.Meaning.{numbers_of, number_of_coord}
 use Rattle.ph_engine.specs.Refusing.{early_refusal}
 use Rattle.ph_engine.specs.Slots.{any_table, named, slot_of, cursor_of}
@@ -10,32 +10,37 @@ use Rattle.ph_engine.specs.declared.cursors.Held.{Held}
 use Rattle.ph_engine.proofs.Names.{under-entered}
 use Rattle.ph_engine.proofs.Paged.{room-in, corners-in, point-in, cursor-begun}
 use Rattle.ph_engine.proofs.Slotted.{slot-entered}
+use Rattle.ph_engine.proofs.slot.Slot.set_cursor.Goals.{After-cursor-cursor}
 use Rattle.ph_engine.proofs.slot.Slot.set_cursor.Goals as goal
 
-pub enter-requires-clause-room : goal.enter-requires-clause-room
-enter-requires-clause-room c k =
+-- the cursor is not refused
+unrefused : (c : After-cursor-cursor) →
+    early_refusal (slot_of c.self.inside.kind (any_table c.self.inside.tree) (named c.self.inside.cursors.items))
+    (Command.Cursor c.args.name.now (numbers_of c.args.lo.now) (numbers_of c.args.hi.now)) ≡ None
+unrefused c = subst (λ x. early_refusal x (Command.Cursor c.args.name.now (numbers_of c.args.lo.now) (numbers_of c.args.hi.now)) ≡ None)
+    (sym c.self.view_is) c.requires.unrefused
+
+-- and where all places are taken, one of its name is there
+room : (c : After-cursor-cursor) → length c.self.inside.cursors.items ≡ 16 → has_name c.args.name.now (named c.self.inside.cursors.items) ≡ true
+room c k =
     let items = c.self.inside.cursors.items in
-    let name = c.args.name.now in
-    let unrefused = subst (λ x. early_refusal x
-    (Command.Cursor name (numbers_of c.args.lo.now) (numbers_of c.args.hi.now)) ≡ None) (sym c.self.view_is)
-    c.requires.unrefused in
-    room-in (slot_of c.self.inside.kind (any_table c.self.inside.tree) (named items)) name (numbers_of c.args.lo.now)
-    (numbers_of c.args.hi.now) unrefused (length-map items (λ h. (h.name, cursor_of h.cursor)) ∙ k)
+    room-in (slot_of c.self.inside.kind (any_table c.self.inside.tree) (named items)) c.args.name.now (numbers_of c.args.lo.now)
+    (numbers_of c.args.hi.now) (unrefused c) (length-map items (λ h. (h.name, cursor_of h.cursor)) ∙ k)
+
+pub enter-requires-clause-room : goal.enter-requires-clause-room
+enter-requires-clause-room c k = room (goal.at.enter-requires-clause-room c).After-cursor-cursor k
 
 pub invariant_of-self : goal.invariant_of-self
 invariant_of-self c =
     let t = any_table c.self.inside.tree in
     let items = c.self.inside.cursors.items in
-    let s = slot_of c.self.inside.kind t (named items) in
-    let name = c.args.name.now in
-    let unrefused = subst (λ x. early_refusal x
-    (Command.Cursor name (numbers_of c.args.lo.now) (numbers_of c.args.hi.now)) ≡ None) (sym c.self.view_is)
-    c.requires.unrefused in
-    let inside = corners-in s name (numbers_of c.args.lo.now) (numbers_of c.args.hi.now) unrefused in
+    let made = (goal.at.invariant_of-self c).After-cursor-cursor in
+    let inside = corners-in (slot_of c.self.inside.kind t (named items)) c.args.name.now (numbers_of c.args.lo.now)
+    (numbers_of c.args.hi.now) (unrefused made) in
     let lo : length (numbers_of c.args.lo.now) ≡ t.dims = length-map c.args.lo.now number_of_coord ∙ c.requires.lo ∙ ap (λ x. x.dims) (sym c.self.view_is) in
     let hi : length (numbers_of c.args.hi.now) ≡ t.dims = length-map c.args.hi.now number_of_coord ∙ c.requires.hi ∙ ap (λ x. x.dims) (sym c.self.view_is) in
     let is = c.cursor-cursor.ensures.cursor in
-    let held : Held = record { name = name; cursor = c.cursor-cursor.result } in
+    let held : Held = record { name = c.args.name.now; cursor = c.cursor-cursor.result } in
     rw c.enter.ensures (slot-entered c.self.inside.kind t held items c.self.invariant
     (record {
       dims = c.cursor-cursor.ensures.dims;
@@ -43,21 +48,18 @@ invariant_of-self c =
       hi = rw is (point-in t.tree.width t.dims _ hi inside.1);
       last = rw is tt;
     })
-    (λ k. room-in s name (numbers_of c.args.lo.now) (numbers_of c.args.hi.now) unrefused (length-map items (λ h. (h.name, cursor_of h.cursor)) ∙ k)))
+    (room made))
 
 pub returns : goal.returns
 returns c =
-    let t = any_table c.self.inside.tree in
     let items = c.self.inside.cursors.items in
-    let s = slot_of c.self.inside.kind t (named items) in
     let name = c.args.name.now in
-    let unrefused = subst (λ x. early_refusal x
-    (Command.Cursor name (numbers_of c.args.lo.now) (numbers_of c.args.hi.now)) ≡ None) (sym c.self.view_is)
-    c.requires.unrefused in
     let held : Held = record { name = name; cursor = c.cursor-cursor.result } in
     let is : named c.enter.new.cursors.items ≡
     enter name (record { lo = numbers_of c.args.lo.now; hi = numbers_of c.args.hi.now; last = None })
     (named items) = ap (λ xs. named xs) c.enter.ensures ∙
     sym (under-entered (λ h. h.name) (λ h. cursor_of h.cursor) held items) ∙ ap (λ x. enter name x (named items))
     c.cursor-cursor.ensures.cursor in
-    rw (← c.self.view_is) (cursor-begun s name (numbers_of c.args.lo.now) (numbers_of c.args.hi.now) (named c.enter.new.cursors.items) unrefused is)
+    rw (← c.self.view_is) (cursor-begun (slot_of c.self.inside.kind (any_table c.self.inside.tree) (named items)) name
+    (numbers_of c.args.lo.now) (numbers_of c.args.hi.now) (named c.enter.new.cursors.items)
+    (unrefused (goal.at.returns c).After-cursor-cursor) is)

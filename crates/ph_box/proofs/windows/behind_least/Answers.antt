@@ -1,7 +1,7 @@
 use Rattle.std.proofs.Common.{rules, ◌≡◌, ◌++◌, length, replicate, sym, subst}
 use Rattle.ph_specs.specs.Coordinate.{least, IsPoint}
 use Rattle.ph_box.proofs.BoxPoints.{least-joined}
-use Rattle.ph_box.proofs.bounds.behind_least.Goals as goal
+use Rattle.ph_box.proofs.windows.behind_least.Goals as goal
 
 pub returns-clause-point : goal.returns-clause-point
 returns-clause-point g c =

@@ -1,7 +1,7 @@
 use Rattle.std.proofs.Common.{rules, ◌≡◌, ◌++◌, length, replicate, sym, subst}
 use Rattle.ph_specs.specs.Coordinate.{greatest, IsPoint}
 use Rattle.ph_box.proofs.BoxPoints.{joined-greatest}
-use Rattle.ph_box.proofs.bounds.before_greatest.Goals as goal
+use Rattle.ph_box.proofs.windows.before_greatest.Goals as goal
 
 pub returns-clause-point : goal.returns-clause-point
 returns-clause-point g c =

@@ -1,0 +1,2 @@
+-- What the contracts of `ph_box` cite.
+pub mod Questions
