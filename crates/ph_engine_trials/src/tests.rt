@@ -15,14 +15,20 @@ mod soaks;
 mod undos;
 mod widths;
 
+use boxes::BOXES;
+use distances::DISTANCES;
+use pairs::PAIRS;
 use ph_engine::{Engine, Limits, Status, top};
 use ph_io::{MemoryFiles, MemorySink, MemorySource};
 use ph_steps::Steps;
+use sizes::SIZES;
 use std::alloc::{AllocError, Global};
 use std::marker::Brand;
 use std::process::Abort;
 use std::sync::ledger::{Blank, Ledger};
 use std::test::Fail;
+use undos::UNDOS;
+use widths::WIDTHS;
 
 #[derive(Drop)]
 struct Case<'a> {
@@ -37,6 +43,9 @@ struct Case<'a> {
     output: &'a str,
     status: Status,
 }
+
+// A script, what is answered to it, and how it ends.
+type Trial = (&'static str, &'static str, Status);
 
 // A run in pieces of 4,096 bytes, whose replies are taken whole, without a fault.
 fn run<'a>(script: &'a str, output: &'a str, status: Status) -> Case<'a> {
@@ -54,6 +63,14 @@ fn run<'a>(script: &'a str, output: &'a str, status: Status) -> Case<'a> {
     }
 }
 
+// Checks scripts, each over no files.
+fn check_each(rt: &impl Abort, alloc: Global, trials: &[Trial]) -> Result<(), AllocError> {
+    for (script, output, status) in trials {
+        check(rt, alloc, &run(script, output, *status))?;
+    }
+    Ok(())
+}
+
 // Checks a case over no files.
 fn check(rt: &impl Abort, alloc: Global, case: &Case<'_>) -> Result<(), AllocError> {
     let mut files = MemoryFiles::new(alloc, 0, 0, Vec::new(alloc))?;
@@ -67,8 +84,9 @@ fn check_over(
     files: &mut MemoryFiles,
 ) -> Result<(), AllocError> {
     let (status, sink) = answer_over(rt, alloc, case, files)?;
-    assert_eq!(rt; sink.bytes(), case.output.as_bytes());
-    assert_eq!(rt; status, case.status);
+    let script = case.script;
+    assert_eq!(rt; sink.bytes(), case.output.as_bytes(), "{script}");
+    assert_eq!(rt; status, case.status, "{script}");
     Ok(())
 }
 
@@ -127,25 +145,125 @@ fn answer_counted<V: Ledger, C: Ledger>(
     Ok((status, sink))
 }
 
-#[test]
-fn empty_script(rt: HostRuntime) -> Result<(), Fail> {
-    check(&rt, rt.alloc(), &run("", "", Status::Clean))?;
-    Ok(())
-}
+// Scripts about points.
+const POINTS: [Trial; 15] = [
+    // Empty script.
+    ("", "", Status::Clean),
+    // Put then get.
+    (
+        "put 3 4 17\nget 3 4\nget 4 3\n",
+        "new\nvalue 17\nnone\n",
+        Status::Clean,
+    ),
+    // Put replaces.
+    (
+        "put 3 4 17\nput 3 4 18\nget 3 4\n",
+        "new\nold 17\nvalue 18\n",
+        Status::Clean,
+    ),
+    // Extreme coordinates.
+    (
+        "put -2147483648 2147483647 18446744073709551615\n\
+        get -2147483648 +2147483647\n",
+        "new\nvalue 18446744073709551615\n",
+        Status::Clean,
+    ),
+    // Each line has several faults, and the first in the order of the refusals is told.
+    (
+        "fly 1 x\nput 1 2\nput 1 x 2\nput 1 2 -1\nopen boxes x\nopen boxes 9\n\
+        open points 17 max 1\nopen points 0\nput 1 2147483648 2\nmove 1 1 2\n\
+        move 1 1 2 x\nmove 1 1 2 -2147483649\nget 1\n\
+        open points 3 max 0\nput 1 1 9999999999 1\nput 1 1 1 1\nget 1 1\n\
+        page c/d 1\n",
+        "error word\nerror count\nerror number\nerror number\nerror number\n\
+        error dims\nerror dims\nerror dims\nerror range\nerror count\n\
+        error number\nerror range\nerror count\n\
+        opened\nerror range\nerror full\nerror count\nerror name\n",
+        Status::Refused,
+    ),
+    // Full table.
+    (
+        "open points 2 max 1\nput 0 0 1\nput 1 1 1\nput 0 0 2\n\
+        move 0 0 1 1\ncount\ndel 0 0\ndel 1 1\nput 1 1 1\nclear\nput 5 5 1\nput 6 6 1\n",
+        "opened\nnew\nerror full\nold 1\nmoved\ncount 1\nnone\ngone 2\nnew\ncleared\n\
+        new\nerror full\n",
+        Status::Refused,
+    ),
+    // Moves.
+    (
+        "put 0 0 1\nput 1 1 2\nmove 5 5 6 6\nmove 0 0 1 1\nmove 0 0 0 0\nmove 5 5 5 5\n\
+        move 0 0 -7 7\nget 0 0\nget -7 7\n",
+        "new\nnew\nnone\ntaken\nmoved\nnone\nmoved\nnone\nvalue 1\n",
+        Status::Clean,
+    ),
+    // Unit square in z order.
+    (
+        "put 1 1 4\nput 1 0 3\nput 0 1 2\nput 0 0 1\nwindow 0 0 1 1\n",
+        "new\nnew\nnew\nnew\nrow 0 0 1\nrow 0 1 2\nrow 1 0 3\nrow 1 1 4\nend 4\n",
+        Status::Clean,
+    ),
+    // Z order across signs.
+    (
+        "put 0 0 1\nput 0 -1 2\nput -1 0 3\nput -1 -1 4\nwindow -9 -9 9 9\n",
+        "new\nnew\nnew\nnew\nrow -1 -1 4\nrow -1 0 3\nrow 0 -1 2\nrow 0 0 1\nend 4\n",
+        Status::Clean,
+    ),
+    // Reversed and single windows.
+    (
+        "put 5 5 1\nwindow 5 5 4 9\nwindow 5 5 5 5\n",
+        "new\nend 0\nrow 5 5 1\nend 1\n",
+        Status::Clean,
+    ),
+    // Pages resume between edits.
+    (
+        "put 1 1 4\nput 1 0 3\nput 0 1 2\nput 0 0 1\ncursor c -5 -5 5 5\npage c 2\n\
+        put -1 -1 8\nput 2 2 9\npage c 10\npage c 10\n",
+        "new\nnew\nnew\nnew\nready\nrow 0 0 1\nrow 0 1 2\nmore 2\n\
+        new\nnew\nrow 1 0 3\nrow 1 1 4\nrow 2 2 9\nend 3\nend 0\n",
+        Status::Clean,
+    ),
+    // Cursor limit.
+    (
+        "page q 1\n\
+        cursor c1 0 0 1 1\ncursor c2 0 0 1 1\ncursor c3 0 0 1 1\ncursor c4 0 0 1 1\n\
+        cursor c5 0 0 1 1\ncursor c6 0 0 1 1\ncursor c7 0 0 1 1\ncursor c8 0 0 1 1\n\
+        cursor c9 0 0 1 1\ncursor c10 0 0 1 1\ncursor c11 0 0 1 1\ncursor c12 0 0 1 1\n\
+        cursor c13 0 0 1 1\ncursor c14 0 0 1 1\ncursor c15 0 0 1 1\ncursor c16 0 0 1 1\n\
+        cursor c17 0 0 1 1\ncursor c1 0 0 2 2\n",
+        "error cursor\n\
+        ready\nready\nready\nready\nready\nready\nready\nready\n\
+        ready\nready\nready\nready\nready\nready\nready\nready\n\
+        error cursors\nready\n",
+        Status::Refused,
+    ),
+    // Each number of dimensions.
+    (
+        "open points 1\nput 1 7\nget 1\n",
+        "opened\nnew\nvalue 7\n",
+        Status::Clean,
+    ),
+    (
+        "open points 3\nput 1 2 3 7\ncursor c 0 0 0 9 9 9\npage c 1\npage c 1\ndel 1 2 3\n",
+        "opened\nnew\nready\nrow 1 2 3 7\nend 1\nend 0\ngone 7\n",
+        Status::Clean,
+    ),
+    (
+        "open points 8\nput 1 2 3 4 5 6 7 8 9\nwindow 0 0 0 0 0 0 0 0 9 9 9 9 9 9 9 9\ncount\n",
+        "opened\nnew\nrow 1 2 3 4 5 6 7 8 9\nend 1\ncount 1\n",
+        Status::Clean,
+    ),
+];
 
+// The tables of this file and of those below it.
 #[test]
-fn put_then_get(rt: HostRuntime) -> Result<(), Fail> {
-    let script = "put 3 4 17\nget 3 4\nget 4 3\n";
-    let case = run(script, "new\nvalue 17\nnone\n", Status::Clean);
-    check(&rt, rt.alloc(), &case)?;
-    Ok(())
-}
-
-#[test]
-fn put_replaces(rt: HostRuntime) -> Result<(), Fail> {
-    let script = "put 3 4 17\nput 3 4 18\nget 3 4\n";
-    let case = run(script, "new\nold 17\nvalue 18\n", Status::Clean);
-    check(&rt, rt.alloc(), &case)?;
+fn scripts(rt: HostRuntime) -> Result<(), Fail> {
+    check_each(&rt, rt.alloc(), &POINTS)?;
+    check_each(&rt, rt.alloc(), &BOXES)?;
+    check_each(&rt, rt.alloc(), &DISTANCES)?;
+    check_each(&rt, rt.alloc(), &PAIRS)?;
+    check_each(&rt, rt.alloc(), &SIZES)?;
+    check_each(&rt, rt.alloc(), &UNDOS)?;
+    check_each(&rt, rt.alloc(), &WIDTHS)?;
     Ok(())
 }
 
@@ -155,119 +273,6 @@ fn blank_lines_and_carriage_returns(rt: HostRuntime) -> Result<(), Fail> {
     let mut case = run(script, "new\nvalue 17\n", Status::Clean);
     case.piece = 1;
     check(&rt, rt.alloc(), &case)?;
-    Ok(())
-}
-
-#[test]
-fn extreme_coordinates(rt: HostRuntime) -> Result<(), Fail> {
-    let script = "put -2147483648 2147483647 18446744073709551615\n\
-        get -2147483648 +2147483647\n";
-    let output = "new\nvalue 18446744073709551615\n";
-    check(&rt, rt.alloc(), &run(script, output, Status::Clean))?;
-    Ok(())
-}
-
-// Each line has several faults, and the first in the order of the refusals is told.
-#[test]
-fn refused_words(rt: HostRuntime) -> Result<(), Fail> {
-    let script = "fly 1 x\nput 1 2\nput 1 x 2\nput 1 2 -1\nopen boxes x\nopen boxes 9\n\
-        open points 17 max 1\nopen points 0\nput 1 2147483648 2\nmove 1 1 2\n\
-        move 1 1 2 x\nmove 1 1 2 -2147483649\nget 1\n\
-        open points 3 max 0\nput 1 1 9999999999 1\nput 1 1 1 1\nget 1 1\n\
-        page c/d 1\n";
-    let output = "error word\nerror count\nerror number\nerror number\nerror number\n\
-        error dims\nerror dims\nerror dims\nerror range\nerror count\n\
-        error number\nerror range\nerror count\n\
-        opened\nerror range\nerror full\nerror count\nerror name\n";
-    check(&rt, rt.alloc(), &run(script, output, Status::Refused))?;
-    Ok(())
-}
-
-#[test]
-fn full_table(rt: HostRuntime) -> Result<(), Fail> {
-    let script = "open points 2 max 1\nput 0 0 1\nput 1 1 1\nput 0 0 2\n\
-        move 0 0 1 1\ncount\ndel 0 0\ndel 1 1\nput 1 1 1\nclear\nput 5 5 1\nput 6 6 1\n";
-    let output = "opened\nnew\nerror full\nold 1\nmoved\ncount 1\nnone\ngone 2\nnew\ncleared\n\
-        new\nerror full\n";
-    check(&rt, rt.alloc(), &run(script, output, Status::Refused))?;
-    Ok(())
-}
-
-#[test]
-fn moves(rt: HostRuntime) -> Result<(), Fail> {
-    let script = "put 0 0 1\nput 1 1 2\nmove 5 5 6 6\nmove 0 0 1 1\nmove 0 0 0 0\nmove 5 5 5 5\n\
-        move 0 0 -7 7\nget 0 0\nget -7 7\n";
-    let output = "new\nnew\nnone\ntaken\nmoved\nnone\nmoved\nnone\nvalue 1\n";
-    check(&rt, rt.alloc(), &run(script, output, Status::Clean))?;
-    Ok(())
-}
-
-#[test]
-fn unit_square_in_z_order(rt: HostRuntime) -> Result<(), Fail> {
-    let script = "put 1 1 4\nput 1 0 3\nput 0 1 2\nput 0 0 1\nwindow 0 0 1 1\n";
-    let output = "new\nnew\nnew\nnew\nrow 0 0 1\nrow 0 1 2\nrow 1 0 3\nrow 1 1 4\nend 4\n";
-    check(&rt, rt.alloc(), &run(script, output, Status::Clean))?;
-    Ok(())
-}
-
-#[test]
-fn z_order_across_signs(rt: HostRuntime) -> Result<(), Fail> {
-    let script = "put 0 0 1\nput 0 -1 2\nput -1 0 3\nput -1 -1 4\nwindow -9 -9 9 9\n";
-    let output = "new\nnew\nnew\nnew\nrow -1 -1 4\nrow -1 0 3\nrow 0 -1 2\nrow 0 0 1\nend 4\n";
-    check(&rt, rt.alloc(), &run(script, output, Status::Clean))?;
-    Ok(())
-}
-
-#[test]
-fn reversed_and_single_windows(rt: HostRuntime) -> Result<(), Fail> {
-    let script = "put 5 5 1\nwindow 5 5 4 9\nwindow 5 5 5 5\n";
-    let output = "new\nend 0\nrow 5 5 1\nend 1\n";
-    check(&rt, rt.alloc(), &run(script, output, Status::Clean))?;
-    Ok(())
-}
-
-#[test]
-fn pages_resume_between_edits(rt: HostRuntime) -> Result<(), Fail> {
-    let script = "put 1 1 4\nput 1 0 3\nput 0 1 2\nput 0 0 1\ncursor c -5 -5 5 5\npage c 2\n\
-        put -1 -1 8\nput 2 2 9\npage c 10\npage c 10\n";
-    let output = "new\nnew\nnew\nnew\nready\nrow 0 0 1\nrow 0 1 2\nmore 2\n\
-        new\nnew\nrow 1 0 3\nrow 1 1 4\nrow 2 2 9\nend 3\nend 0\n";
-    check(&rt, rt.alloc(), &run(script, output, Status::Clean))?;
-    Ok(())
-}
-
-#[test]
-fn cursor_limit(rt: HostRuntime) -> Result<(), Fail> {
-    let script = "page q 1\n\
-        cursor c1 0 0 1 1\ncursor c2 0 0 1 1\ncursor c3 0 0 1 1\ncursor c4 0 0 1 1\n\
-        cursor c5 0 0 1 1\ncursor c6 0 0 1 1\ncursor c7 0 0 1 1\ncursor c8 0 0 1 1\n\
-        cursor c9 0 0 1 1\ncursor c10 0 0 1 1\ncursor c11 0 0 1 1\ncursor c12 0 0 1 1\n\
-        cursor c13 0 0 1 1\ncursor c14 0 0 1 1\ncursor c15 0 0 1 1\ncursor c16 0 0 1 1\n\
-        cursor c17 0 0 1 1\ncursor c1 0 0 2 2\n";
-    let output = "error cursor\n\
-        ready\nready\nready\nready\nready\nready\nready\nready\n\
-        ready\nready\nready\nready\nready\nready\nready\nready\n\
-        error cursors\nready\n";
-    check(&rt, rt.alloc(), &run(script, output, Status::Refused))?;
-    Ok(())
-}
-
-#[test]
-fn each_number_of_dimensions(rt: HostRuntime) -> Result<(), Fail> {
-    let cases = [
-        ("open points 1\nput 1 7\nget 1\n", "opened\nnew\nvalue 7\n"),
-        (
-            "open points 3\nput 1 2 3 7\ncursor c 0 0 0 9 9 9\npage c 1\npage c 1\ndel 1 2 3\n",
-            "opened\nnew\nready\nrow 1 2 3 7\nend 1\nend 0\ngone 7\n",
-        ),
-        (
-            "open points 8\nput 1 2 3 4 5 6 7 8 9\nwindow 0 0 0 0 0 0 0 0 9 9 9 9 9 9 9 9\ncount\n",
-            "opened\nnew\nrow 1 2 3 4 5 6 7 8 9\nend 1\ncount 1\n",
-        ),
-    ];
-    for (script, output) in cases {
-        check(&rt, rt.alloc(), &run(script, output, Status::Clean))?;
-    }
     Ok(())
 }
 

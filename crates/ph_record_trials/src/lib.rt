@@ -9,4 +9,4 @@ mod tests;
 
 pub use backs::{is_cube_back, is_linear_back};
 pub use items::{Item, Items};
-pub use records::{cube_of, linear_of};
+pub use records::record_of;

@@ -1,6 +1,6 @@
 //! The records of lists of entries.
 
-ghost use Rattle.std.specs.Prelude.{◌≡◌, ◌≤◌, true, false, length, IfSome};
+ghost use Rattle.std.specs.Prelude.{◌≡◌, ◌≤◌, length, IfSome};
 ghost use Rattle.ph_specs.specs.Record.{first_in};
 ghost use Rattle.ph_specs.specs.Layout.{IsRecord};
 
@@ -12,11 +12,16 @@ use std::alloc::Global;
 // More words than a record of two dimensions has.
 const ROOM: usize = 64;
 
-/// The linear record of entries, or none where they make no record or memory is wanted.
-pub fn linear_of<const D: usize>(alloc: Global, level: u32, items: &[Item]) -> Option<Words>
+/// The record of entries in the cube layout or the linear one, or none where they make no record or memory is wanted.
+pub fn record_of<const D: usize>(
+    alloc: Global,
+    cube: bool,
+    level: u32,
+    items: &[Item],
+) -> Option<Words>
     requires some { 1 ≤ D }
     requires few { D ≤ 2 }
-    ensures { IfSome result (λ w. IsRecord false D w.words × ((first_in w.words).entries ≡ length items.now)) }
+    ensures { IfSome result (λ w. IsRecord cube D w.words × ((first_in w.words).entries ≡ length items.now)) }
 {
     if !is_writable(D, level, items) {
         return None;
@@ -25,23 +30,10 @@ pub fn linear_of<const D: usize>(alloc: Global, level: u32, items: &[Item]) -> O
         return None;
     };
     let from = Items { items };
+    if cube {
+        ph_cube::by_dims::write::<Dim<D>, Items<'_>>(&mut words, level, &from);
+        return Some(words);
+    }
     ph_linear::by_dims::write::<Dim<D>, Items<'_>>(&mut words, level, &from);
-    Some(words)
-}
-
-/// The cube record of entries, or none where they make no record or memory is wanted.
-pub fn cube_of<const D: usize>(alloc: Global, level: u32, items: &[Item]) -> Option<Words>
-    requires some { 1 ≤ D }
-    requires few { D ≤ 2 }
-    ensures { IfSome result (λ w. IsRecord true D w.words × ((first_in w.words).entries ≡ length items.now)) }
-{
-    if !is_writable(D, level, items) {
-        return None;
-    }
-    let Ok(mut words) = Words::with_room(alloc, ROOM) else {
-        return None;
-    };
-    let from = Items { items };
-    ph_cube::by_dims::write::<Dim<D>, Items<'_>>(&mut words, level, &from);
     Some(words)
 }

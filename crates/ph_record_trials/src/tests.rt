@@ -2,7 +2,7 @@
 
 ghost use Rattle.std.specs.Prelude.{◌≤◌};
 
-use crate::{Item, cube_of, is_cube_back, is_linear_back, linear_of};
+use crate::{Item, is_cube_back, is_linear_back, record_of};
 use ph_bits::Words;
 use ph_cube::by_dims as cube_calls;
 use ph_linear::by_dims as linear_calls;
@@ -64,10 +64,10 @@ fn is_back<const D: usize>(alloc: Global, level: u32, items: &[Item]) -> bool
     requires some { 1 ≤ D }
     requires few { D ≤ 2 }
 {
-    let Some(linear) = linear_of::<D>(alloc, level, items) else {
+    let Some(linear) = record_of::<D>(alloc, false, level, items) else {
         return false;
     };
-    let Some(cube) = cube_of::<D>(alloc, level, items) else {
+    let Some(cube) = record_of::<D>(alloc, true, level, items) else {
         return false;
     };
     is_linear_back(linear.as_slice(), D, items) && is_cube_back(cube.as_slice(), D, items)
@@ -128,24 +128,24 @@ fn has_words(record: Option<Words>, want: &[u64]) -> bool {
 #[test]
 fn records_by_hand(rt: HostRuntime) {
     let alloc = rt.alloc();
-    let across = linear_of::<2>(alloc, 31, &[point(3, (3, 4), 17)]);
+    let across = record_of::<2>(alloc, false, 31, &[point(3, (3, 4), 17)]);
     assert!(rt; has_words(across, &[0x1f00000001000000, 0x60000000c0000002, 0, 0x11]));
-    let ends = linear_of::<2>(alloc, 0, &[point(0, (0, 0), 1), point(3, (0, 0), 2)]);
+    let ends = record_of::<2>(alloc, false, 0, &[point(0, (0, 0), 1), point(3, (0, 0), 2)]);
     assert!(rt; has_words(ends, &[0x0000000002000000, 0x0c00000000000000, 1, 2]));
     let three = [
         point(0, (0, 0), 1),
         point(1, (0, 0), 3),
         point(3, (0, 0), 2),
     ];
-    let three = cube_of::<2>(alloc, 0, &three);
+    let three = record_of::<2>(alloc, true, 0, &three);
     assert!(rt; has_words(three, &[0x0001000003000000, 0x5100000000000000, 1, 3, 2]));
     let both = [child(0, (2, 0)), point(1, (1, 0), 9)];
-    let linear = linear_of::<1>(alloc, 2, &both);
+    let linear = record_of::<1>(alloc, false, 2, &both);
     assert!(rt; has_words(linear, &[0x0200000002000001, 0x9900000000000000, 9]));
-    let cube = cube_of::<1>(alloc, 2, &both);
+    let cube = record_of::<1>(alloc, true, 2, &both);
     assert!(rt; has_words(cube, &[0x0201000002000001, 0x9900000000000000, 9]));
     let pair = [point(0, (1, 3), 7), child(3, (2, 0))];
-    let pair = linear_of::<2>(alloc, 2, &pair);
+    let pair = record_of::<2>(alloc, false, 2, &pair);
     assert!(rt; has_words(pair, &[0x0200000002000001, 0x4de0000000000000, 7]));
     let full = [
         point(0, (1, 0), 5),
@@ -153,7 +153,7 @@ fn records_by_hand(rt: HostRuntime) {
         child(2, (0, 0)),
         point(3, (1, 1), 8),
     ];
-    let full = cube_of::<2>(alloc, 1, &full);
+    let full = record_of::<2>(alloc, true, 1, &full);
     assert!(rt; has_words(full, &[0x0101000004000001, 0x5983000000000000, 5, 6, 8]));
 }
 
@@ -190,12 +190,12 @@ macro_rules! read_three {
 #[test]
 fn reads_of_each_layout(rt: HostRuntime) {
     let three = [point(0, (1, 2), 5), child(1, (3, 0)), point(3, (2, 1), 7)];
-    let Some(linear) = linear_of::<2>(rt.alloc(), 2, &three) else {
+    let Some(linear) = record_of::<2>(rt.alloc(), false, 2, &three) else {
         panic!(rt; "no linear record");
     };
     read_three!(linear_calls, rt, linear.as_slice());
     assert_eq!(rt; linear_calls::bits_of(2, 3, 2), 21);
-    let Some(cube) = cube_of::<2>(rt.alloc(), 2, &three) else {
+    let Some(cube) = record_of::<2>(rt.alloc(), true, 2, &three) else {
         panic!(rt; "no cube record");
     };
     read_three!(cube_calls, rt, cube.as_slice());

@@ -1,4 +1,5 @@
 -- `Pieces` has the laws that callers cite; the others are steps of this crate's proofs.
+mod AsciiBytes
 mod FaultText
 mod Draws
 mod EightDigits

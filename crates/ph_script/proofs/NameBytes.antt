@@ -1,24 +1,19 @@
 -- What the bytes of a name are, and how they are kept.
-use Rattle.std.proofs.Common.{◌≡◌, ℕ, ◌-◌, ◌<◌, ◌≤◌, List, [], ◌∷◌, ◌++◌, length, take, drop, true, refl, ap, arith}
-use Rattle.std.specs.Prelude.{IsAscii, IsUtf8, replicate, nat_lt, nat_le, ◌&&◌}
+use Rattle.std.proofs.Common.{◌≡◌, ℕ, ◌-◌, ◌<◌, ◌≤◌, List, ◌++◌, length, take, drop, true, refl, ap, arith}
+use Rattle.std.specs.Prelude.{IsUtf8, replicate, nat_lt, nat_le, ◌&&◌}
 use Rattle.std.specs.List.{list_all}
 use Rattle.std.proofs.lemmas.Bool.{and_parts}
 use Rattle.std.proofs.lemmas.Bool.Decides.{nat_tests}
 use Rattle.std.proofs.lemmas.List.{take_at, drop-replicate}
-use Rattle.std.proofs.lemmas.Str.{IsUtf8-from_ascii}
-use Rattle.std.proofs.lemmas.Str.Ascii.{IsAscii-nil, IsAscii-cons}
 use Rattle.ph_specs.specs.Lines.{is_name, is_name_byte}
 use Rattle.ph_script.specs.KeptName.{IsKept}
+use Rattle.ph_script.proofs.AsciiBytes.{ascii-text}
 
 byte-ascii : (b : ℕ) → is_name_byte b ≡ true → b < 128
 byte-ascii b h = grind (arith, nat_tests)
 
-bytes-ascii : (bs : List ℕ) → list_all is_name_byte bs ≡ true → IsAscii bs
-bytes-ascii [] h = IsAscii-nil
-bytes-ascii (b ∷ bs) h = let p = and_parts _ _ h in IsAscii-cons b bs (byte-ascii b p.0) (bytes-ascii bs p.1)
-
 pub name-text : (name : List ℕ) → is_name name ≡ true → IsUtf8 name
-name-text name h = IsUtf8-from_ascii name (bytes-ascii name (and_parts _ _ h).1)
+name-text name h = ascii-text is_name_byte byte-ascii name (and_parts _ _ h).1
 
 name-limit : (name : List ℕ) → is_name name ≡ true → length name ≤ 32
 name-limit name h =

@@ -1,14 +1,12 @@
 -- Whatever pieces a script comes in, its lines are those that are shown, and their readings too.
-use Rattle.std.proofs.Common.{◌≡◌, ℕ, ◌-◌, ◌<◌, ◌≤◌, List, ◌++◌, length, false, refl, sym, ap, ◌∙◌, subst, arith, inl, inr}
-use Rattle.std.specs.Prelude.{nat_lt, ◌==◌, slice_index}
+use Rattle.std.proofs.Common.{◌≡◌, ℕ, ◌-◌, ◌<◌, ◌≤◌, List, ◌++◌, length, false, refl, sym, ap, ◌∙◌, subst, arith}
+use Rattle.std.specs.Prelude.{nat_lt}
 use Rattle.std.specs.Str.Lines.{strip_carriage_return}
 use Rattle.std.proofs.lemmas.Bool.{lt-ltb}
 use Rattle.std.proofs.lemmas.Bool.Decides.{nat_tests}
-use Rattle.std.proofs.lemmas.List.{length-take}
 use Rattle.ph_specs.specs.Lines.{words}
 use Rattle.ph_specs.specs.Command.{Reading, reading, reading_by, Form, forms, read_words_by}
 use Rattle.ph_specs.specs.Reply.{Reply as Answer}
-use Rattle.ph_specs.proofs.laws.Put.{either}
 use Rattle.ph_script.specs.declared.lines.Line.{Line}
 use Rattle.ph_script.specs.declared.lines.Line.TheVariants.{Text, Long}
 use Rattle.ph_script.specs.Shown.{kept, IsLine}
@@ -36,13 +34,3 @@ reading-long known line h = rw (lt-ltb 4096 (length line) h) refl
 pub line-reading : (dims : ℕ) (line : List ℕ) (shown : Line) → IsLine line shown → reading dims line ≡ reading_of_line dims shown
 line-reading dims line (Text text) h = reading-short (forms dims) line h.0 ∙ ap (λ xs. read_words_by (forms dims) (words xs)) (sym h.1)
 line-reading dims line Long h = reading-long (forms dims) line h
-
-strip-limit : (line : List ℕ) → length (strip_carriage_return line) ≤ length line
-strip-limit line =
-    elim (either (slice_index line (length line - 1) == 13)) [
-      | inl return ↦ rw return (omega (arith, length-take (length line - 1) line))
-      | inr other ↦ rw other (omega arith)
-    ]
-
-pub text-limit : (line shown : List ℕ) → length line ≤ 4096 → shown ≡ strip_carriage_return line → length shown ≤ 4096
-text-limit line shown h e = omega (arith, h, ap length e, strip-limit line)

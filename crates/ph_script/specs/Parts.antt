@@ -46,15 +46,19 @@ counts_at [] ws = []
 counts_at (place ∷ places) [] = []
 counts_at (place ∷ places) (word ∷ ws) = counts_in place word ++ counts_at places ws
 
+-- what words in their places make, one behind the other, of what was got before
+abbrev pub by_words : {T : Type 0} → (T → Place → List ℕ → T) → T → List Place → List (List ℕ) → T
+by_words next got [] ws = got
+by_words next got (place ∷ places) [] = got
+by_words next got (place ∷ places) (word ∷ ws) = by_words next (next got place word) places ws
+
 -- the name that was read last, behind one that was read before or none: with one word in its place, and with all
 abbrev pub named : Option (List ℕ) → Place → List ℕ → Option (List ℕ)
 named got CursorName word = Some word
 named got _ word = got
 
 abbrev pub name_from : Option (List ℕ) → List Place → List (List ℕ) → Option (List ℕ)
-name_from got [] ws = got
-name_from got (place ∷ places) [] = got
-name_from got (place ∷ places) (word ∷ ws) = name_from (named got place word) places ws
+name_from got places ws = by_words named got places ws
 
 -- the file's name, in the same way
 abbrev pub filed : Option (List ℕ) → Place → List ℕ → Option (List ℕ)
@@ -62,9 +66,7 @@ filed got FileName word = Some word
 filed got _ word = got
 
 abbrev pub file_from : Option (List ℕ) → List Place → List (List ℕ) → Option (List ℕ)
-file_from got [] ws = got
-file_from got (place ∷ places) [] = got
-file_from got (place ∷ places) (word ∷ ws) = file_from (filed got place word) places ws
+file_from got places ws = by_words filed got places ws
 
 -- whether the last word in a place for one of two words is the second: with one word in its place, and with all
 abbrev pub second_in : Bool → Place → List ℕ → Bool
@@ -72,9 +74,7 @@ second_in got (OneOf (first ∷ second ∷ [])) word = bytes_eq word second
 second_in got _ word = got
 
 abbrev pub second_from : Bool → List Place → List (List ℕ) → Bool
-second_from got [] ws = got
-second_from got (place ∷ places) [] = got
-second_from got (place ∷ places) (word ∷ ws) = second_from (second_in got place word) places ws
+second_from got places ws = by_words second_in got places ws
 
 -- what the first and the second of two words say: `points` and `boxes`, or `a` and `b`
 abbrev pub kind_by : Bool → Kind

@@ -1,15 +1,10 @@
 -- What a script is by its lines, read in pieces.
-use Rattle.std.specs.Prelude.{◌≡◌, ℕ, List, length}
+use Rattle.std.specs.Prelude.{ℕ}
 use Rattle.ph_specs.specs.Lines.{words}
 use Rattle.ph_specs.specs.Command.{Reading, read_words}
 use Rattle.ph_specs.specs.Reply.{Reply as Answer}
 use Rattle.ph_script.specs.declared.lines.Line.{Line}
 use Rattle.ph_script.specs.declared.lines.Line.TheVariants.{Text, Long}
-use Rattle.ph_script.specs.Shown.{feed_at}
-
--- there is no line feed
-abbrev pub IsUnbroken : List ℕ → Type 0
-IsUnbroken line = feed_at line ≡ length line
 
 -- what a line is, by how it is shown
 abbrev pub reading_of_line : ℕ → Line → Reading

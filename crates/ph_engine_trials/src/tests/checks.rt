@@ -1,7 +1,7 @@
 //! Checks of files, by the words of the program.
 use super::files::{
-    BINARY, EIGHT_BY_EIGHT, ONE, REVERSED, SIXTEEN, TWO, WIDEST, altered, files_failing, migrated,
-    preset,
+    BINARY, EIGHT_BY_EIGHT, ONE, REVERSED, SIXTEEN, TWO, WIDEST, altered, files_failing,
+    files_holding, migrated,
 };
 use super::{Case, check_over, run};
 use ph_engine::Status;
@@ -66,8 +66,7 @@ fn check_of_snapshots(rt: HostRuntime) -> Result<(), Fail> {
         (b"", "bad magic\n", Status::Refused),
     ];
     for (bytes, output, status) in cases {
-        let mut files = files_failing(rt.alloc(), 0)?;
-        preset(&rt, &mut files, "x.pht", bytes);
+        let mut files = files_holding(&rt, rt.alloc(), 0, &[("x.pht", bytes)])?;
         let case = check_of("check x.pht", output, status);
         check_over(&rt, rt.alloc(), &case, &mut files)?;
     }
@@ -87,8 +86,7 @@ fn checks_that_fail(rt: HostRuntime) -> Result<(), Fail> {
         (40, 0, 2, sizes, Status::Clean),
     ];
     for (file_bytes, failing_call, failing_write, output, status) in cases {
-        let mut files = files_failing(rt.alloc(), failing_call)?;
-        preset(&rt, &mut files, "one.pht", ONE);
+        let mut files = files_holding(&rt, rt.alloc(), failing_call, &[("one.pht", ONE)])?;
         let mut case = check_of("check one.pht", output, status);
         case.file_bytes = file_bytes;
         case.failing_write = failing_write;

@@ -1,6 +1,6 @@
 //! Scripts that save tables to files, and load them.
 use super::checks::check_of;
-use super::{check_over, run};
+use super::{Trial, check_over, run};
 use ph_engine::Status;
 use ph_io::MemoryFiles;
 use std::alloc::{AllocError, Global};
@@ -109,22 +109,68 @@ pub(super) fn preset(rt: &impl Abort, files: &mut MemoryFiles, name: &str, bytes
     assert!(rt; files.preset(name, bytes));
 }
 
+// Such room that holds these files.
+pub(super) fn files_holding(
+    rt: &impl Abort,
+    alloc: Global,
+    call: u64,
+    held: &[(&str, &[u8])],
+) -> Result<MemoryFiles, AllocError> {
+    let mut files = files_failing(alloc, call)?;
+    for (name, bytes) in held {
+        preset(rt, &mut files, name, bytes);
+    }
+    Ok(files)
+}
+
+// Checks scripts, each over these files.
+pub(super) fn check_each_over(
+    rt: &impl Abort,
+    alloc: Global,
+    held: &[(&str, &[u8])],
+    trials: &[Trial],
+) -> Result<(), AllocError> {
+    for (script, output, status) in trials {
+        let mut files = files_holding(rt, alloc, 0, held)?;
+        check_over(rt, alloc, &run(script, output, *status), &mut files)?;
+    }
+    Ok(())
+}
+
+// Checks a script over these files, behind which they hold those.
+pub(super) fn check_kept(
+    rt: &impl Abort,
+    alloc: Global,
+    held: &[(&str, &[u8])],
+    trial: Trial,
+    kept: &[(&str, &[u8])],
+) -> Result<(), AllocError> {
+    let (script, output, status) = trial;
+    let mut files = files_holding(rt, alloc, 0, held)?;
+    check_over(rt, alloc, &run(script, output, status), &mut files)?;
+    for (name, bytes) in kept {
+        assert_eq!(rt; files.get(name), Some(*bytes), "{name}");
+    }
+    Ok(())
+}
+
 #[test]
 fn saved_empty_and_one(rt: HostRuntime) -> Result<(), Fail> {
-    let script = "save e.pht\nput 3 4 17\nsave one.pht\n";
-    let case = run(script, "saved 8\nnew\nsaved 40\n", Status::Clean);
+    let trial = (
+        "save e.pht\nput 3 4 17\nsave one.pht\n",
+        "saved 8\nnew\nsaved 40\n",
+        Status::Clean,
+    );
     let one = migrated(rt.alloc(), ONE)?;
-    let mut files = files_failing(rt.alloc(), 0)?;
-    check_over(&rt, rt.alloc(), &case, &mut files)?;
-    assert_eq!(rt; files.get("e.pht"), Some(EMPTY));
-    assert_eq!(rt; files.get("one.pht"), Some(one.as_slice()));
+    let kept = [("e.pht", EMPTY), ("one.pht", one.as_slice())];
+    check_kept(&rt, rt.alloc(), &[], trial, &kept)?;
     Ok(())
 }
 
 // The header names the kind, the dimensions and the width.
 #[test]
 fn saved_in_version_two(rt: HostRuntime) -> Result<(), Fail> {
-    let cases: [(&str, &str, &[u8]); 5] = [
+    let cases: [(&'static str, &'static str, &[u8]); 5] = [
         (
             "put 3 4 17\nsave x.pht\n",
             "new\nsaved 40\n",
@@ -157,10 +203,8 @@ fn saved_in_version_two(rt: HostRuntime) -> Result<(), Fail> {
         ),
     ];
     for (script, output, bytes) in cases {
-        let mut files = files_failing(rt.alloc(), 0)?;
-        let case = run(script, output, Status::Clean);
-        check_over(&rt, rt.alloc(), &case, &mut files)?;
-        assert_eq!(rt; files.get("x.pht"), Some(bytes));
+        let trial = (script, output, Status::Clean);
+        check_kept(&rt, rt.alloc(), &[], trial, &[("x.pht", bytes)])?;
     }
     Ok(())
 }
@@ -168,13 +212,14 @@ fn saved_in_version_two(rt: HostRuntime) -> Result<(), Fail> {
 // A file of version 1 is loaded and saved, and that one is loaded.
 #[test]
 fn migrated_snapshot(rt: HostRuntime) -> Result<(), Fail> {
+    let trial = (
+        "load two.pht\nsave two2.pht\nload two2.pht\n",
+        "loaded 2\nsaved 64\nloaded 2\n",
+        Status::Clean,
+    );
     let second = migrated(rt.alloc(), TWO)?;
-    let mut files = files_failing(rt.alloc(), 0)?;
-    preset(&rt, &mut files, "two.pht", TWO);
-    let script = "load two.pht\nsave two2.pht\nload two2.pht\n";
-    let case = run(script, "loaded 2\nsaved 64\nloaded 2\n", Status::Clean);
-    check_over(&rt, rt.alloc(), &case, &mut files)?;
-    assert_eq!(rt; files.get("two2.pht"), Some(second.as_slice()));
+    let kept = [("two2.pht", second.as_slice())];
+    check_kept(&rt, rt.alloc(), &[("two.pht", TWO)], trial, &kept)?;
     Ok(())
 }
 
@@ -197,8 +242,8 @@ fn altered_headers(rt: HostRuntime) -> Result<(), Fail> {
     ];
     for (bytes, at, byte, loaded, checked) in cases {
         let changed = altered(rt.alloc(), bytes, at, byte)?;
-        let mut files = files_failing(rt.alloc(), 0)?;
-        preset(&rt, &mut files, "x.pht", changed.as_slice());
+        let held = [("x.pht", changed.as_slice())];
+        let mut files = files_holding(&rt, rt.alloc(), 0, &held)?;
         let case = run("load x.pht\n", loaded, Status::Refused);
         check_over(&rt, rt.alloc(), &case, &mut files)?;
         let case = check_of("check x.pht", checked, Status::Refused);
@@ -214,18 +259,21 @@ fn refused_loads_keep_the_table(rt: HostRuntime) -> Result<(), Fail> {
     longer.push(0)?;
     let mut shorter = Vec::from_slice(rt.alloc(), ONE)?;
     shorter.truncate(39);
-    let script = "put 9 9 9\nload cut.pht\nload pad.pht\nload more.pht\nload none.pht\ncount\n\
-        load one.pht\nget 3 4\nget 9 9\n";
-    let output = "new\nbad short 8\nbad node 8\nbad extra 40\nbad magic\ncount 1\n\
-        loaded 1\nvalue 17\nnone\n";
-    let mut files = files_failing(rt.alloc(), 0)?;
-    preset(&rt, &mut files, "cut.pht", shorter.as_slice());
-    preset(&rt, &mut files, "pad.pht", padded.as_slice());
-    preset(&rt, &mut files, "more.pht", longer.as_slice());
-    preset(&rt, &mut files, "none.pht", b"");
-    preset(&rt, &mut files, "one.pht", ONE);
-    let case = run(script, output, Status::Refused);
-    check_over(&rt, rt.alloc(), &case, &mut files)?;
+    let held: [(&str, &[u8]); 5] = [
+        ("cut.pht", shorter.as_slice()),
+        ("pad.pht", padded.as_slice()),
+        ("more.pht", longer.as_slice()),
+        ("none.pht", b""),
+        ("one.pht", ONE),
+    ];
+    let trials = [(
+        "put 9 9 9\nload cut.pht\nload pad.pht\nload more.pht\nload none.pht\ncount\n\
+        load one.pht\nget 3 4\nget 9 9\n",
+        "new\nbad short 8\nbad node 8\nbad extra 40\nbad magic\ncount 1\n\
+        loaded 1\nvalue 17\nnone\n",
+        Status::Refused,
+    )];
+    check_each_over(&rt, rt.alloc(), &held, &trials)?;
     Ok(())
 }
 
@@ -233,28 +281,29 @@ fn refused_loads_keep_the_table(rt: HostRuntime) -> Result<(), Fail> {
 #[test]
 fn loads_into_other_slots(rt: HostRuntime) -> Result<(), Fail> {
     let points = altered(rt.alloc(), REVERSED, 4, 0)?;
-    let cases = [
+    let held = [
+        ("rev.pht", REVERSED),
+        ("points.pht", points.as_slice()),
+        ("two.pht", TWO),
+    ];
+    let trials = [
         (
             "open boxes 1\nput 1 5 1\nload rev.pht\nload points.pht\ncount\n",
             "opened\nnew\nbad node 8\nbad dims\ncount 1\n",
+            Status::Refused,
         ),
         (
             "cursor c 0 0 9 9\nload points.pht\nget 7 3\npage c 1\nopen points 3\nload two.pht\n",
             "ready\nloaded 1\nvalue 1\nrow 7 3 1\nend 1\nopened\nbad dims\n",
+            Status::Refused,
         ),
         (
             "open points 2 max 1\nput 5 5 5\nload two.pht\nput 6 6 6\nload points.pht\nput 0 0 1\n",
             "opened\nnew\nerror full\nerror full\nloaded 1\nerror full\n",
+            Status::Refused,
         ),
     ];
-    for (script, output) in cases {
-        let mut files = files_failing(rt.alloc(), 0)?;
-        preset(&rt, &mut files, "rev.pht", REVERSED);
-        preset(&rt, &mut files, "points.pht", points.as_slice());
-        preset(&rt, &mut files, "two.pht", TWO);
-        let case = run(script, output, Status::Refused);
-        check_over(&rt, rt.alloc(), &case, &mut files)?;
-    }
+    check_each_over(&rt, rt.alloc(), &held, &trials)?;
     Ok(())
 }
 
@@ -262,8 +311,7 @@ fn loads_into_other_slots(rt: HostRuntime) -> Result<(), Fail> {
 fn file_faults(rt: HostRuntime) -> Result<(), Fail> {
     let script = "save x.pht\nload gone.pht\nsave x.pht\nload one.pht\n";
     let output = "error file\nerror file\nsaved 8\nloaded 1\n";
-    let mut files = files_failing(rt.alloc(), 1)?;
-    preset(&rt, &mut files, "one.pht", ONE);
+    let mut files = files_holding(&rt, rt.alloc(), 1, &[("one.pht", ONE)])?;
     let case = run(script, output, Status::Refused);
     check_over(&rt, rt.alloc(), &case, &mut files)?;
     Ok(())
@@ -274,8 +322,7 @@ fn file_faults(rt: HostRuntime) -> Result<(), Fail> {
 fn failed_saves_keep_the_file(rt: HostRuntime) -> Result<(), Fail> {
     let script = "save one.pht\ncount\nload one.pht\n";
     for call in 1..4 {
-        let mut files = files_failing(rt.alloc(), call)?;
-        preset(&rt, &mut files, "one.pht", ONE);
+        let mut files = files_holding(&rt, rt.alloc(), call, &[("one.pht", ONE)])?;
         let case = run(script, "error file\ncount 0\nloaded 1\n", Status::Refused);
         check_over(&rt, rt.alloc(), &case, &mut files)?;
         assert_eq!(rt; files.get("one.pht"), Some(ONE));
@@ -285,8 +332,7 @@ fn failed_saves_keep_the_file(rt: HostRuntime) -> Result<(), Fail> {
 
 #[test]
 fn file_too_long(rt: HostRuntime) -> Result<(), Fail> {
-    let mut files = files_failing(rt.alloc(), 0)?;
-    preset(&rt, &mut files, "one.pht", ONE);
+    let mut files = files_holding(&rt, rt.alloc(), 0, &[("one.pht", ONE)])?;
     let mut case = run("load one.pht\n", "error file\n", Status::Refused);
     case.file_bytes = 39;
     check_over(&rt, rt.alloc(), &case, &mut files)?;
@@ -299,14 +345,16 @@ fn file_too_long(rt: HostRuntime) -> Result<(), Fail> {
 
 #[test]
 fn snapshots_through_edits(rt: HostRuntime) -> Result<(), Fail> {
-    let script = "load two.pht\nput 0 1 3\nsave three.pht\ndel 0 1\nsave two2.pht\n";
-    let output = "loaded 2\nnew\nsaved 72\ngone 3\nsaved 64\n";
-    let mut files = files_failing(rt.alloc(), 0)?;
-    preset(&rt, &mut files, "two.pht", TWO);
-    let case = run(script, output, Status::Clean);
-    check_over(&rt, rt.alloc(), &case, &mut files)?;
+    let trial = (
+        "load two.pht\nput 0 1 3\nsave three.pht\ndel 0 1\nsave two2.pht\n",
+        "loaded 2\nnew\nsaved 72\ngone 3\nsaved 64\n",
+        Status::Clean,
+    );
     let (two, three) = (migrated(rt.alloc(), TWO)?, migrated(rt.alloc(), THREE)?);
-    assert_eq!(rt; files.get("three.pht"), Some(three.as_slice()));
-    assert_eq!(rt; files.get("two2.pht"), Some(two.as_slice()));
+    let kept = [
+        ("three.pht", three.as_slice()),
+        ("two2.pht", two.as_slice()),
+    ];
+    check_kept(&rt, rt.alloc(), &[("two.pht", TWO)], trial, &kept)?;
     Ok(())
 }

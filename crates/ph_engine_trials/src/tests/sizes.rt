@@ -2,39 +2,37 @@
 ghost use Rattle.std.specs.Prelude.{◌≤◌};
 
 use super::files::preset;
-use super::{check, check_over, run};
+use super::{Trial, check, check_over, run};
 use ph_engine::Status;
 use ph_io::MemoryFiles;
 use std::alloc::AllocError;
 use std::test::Fail;
 
-#[test]
-fn stats_through_layouts(rt: HostRuntime) -> Result<(), Fail> {
-    let script =
-        "put 0 0 1\nstats\nput 1 1 2\nstats\nput 0 1 3\nstats\ndel 0 1\nstats\ndel 1 1\nstats\n";
-    let output = "new\nrows 1 nodes 1 linear 1 cube 0 words 4\nnew\n\
+// Scripts about the sizes of a tree.
+pub(super) const SIZES: [Trial; 2] = [
+    // Stats through layouts.
+    (
+        "put 0 0 1\nstats\nput 1 1 2\nstats\nput 0 1 3\nstats\ndel 0 1\nstats\ndel 1 1\nstats\n",
+        "new\nrows 1 nodes 1 linear 1 cube 0 words 4\nnew\n\
         rows 2 nodes 2 linear 2 cube 0 words 7\nnew\nrows 3 nodes 2 linear 1 cube 1 words 8\n\
         gone 3\nrows 2 nodes 2 linear 2 cube 0 words 7\ngone 2\n\
-        rows 1 nodes 1 linear 1 cube 0 words 4\n";
-    check(&rt, rt.alloc(), &run(script, output, Status::Clean))?;
-    Ok(())
-}
-
-#[test]
-fn deepest_path(rt: HostRuntime) -> Result<(), Fail> {
-    let script = "open points 1\nput 0 1\nput 1 1\nput 2 1\nput 4 1\nput 8 1\nput 16 1\nput 32 1\n\
+        rows 1 nodes 1 linear 1 cube 0 words 4\n",
+        Status::Clean,
+    ),
+    // Deepest path.
+    (
+        "open points 1\nput 0 1\nput 1 1\nput 2 1\nput 4 1\nput 8 1\nput 16 1\nput 32 1\n\
         put 64 1\nput 128 1\nput 256 1\nput 512 1\nput 1024 1\nput 2048 1\nput 4096 1\n\
         put 8192 1\nput 16384 1\nput 32768 1\nput 65536 1\nput 131072 1\nput 262144 1\n\
         put 524288 1\nput 1048576 1\nput 2097152 1\nput 4194304 1\nput 8388608 1\n\
         put 16777216 1\nput 33554432 1\nput 67108864 1\nput 134217728 1\nput 268435456 1\n\
-        put 536870912 1\nput 1073741824 1\nstats\nget 0\n";
-    let output =
+        put 536870912 1\nput 1073741824 1\nstats\nget 0\n",
         "opened\nnew\nnew\nnew\nnew\nnew\nnew\nnew\nnew\nnew\nnew\nnew\nnew\nnew\nnew\nnew\nnew\n\
         new\nnew\nnew\nnew\nnew\nnew\nnew\nnew\nnew\nnew\nnew\nnew\nnew\nnew\nnew\nnew\n\
-        rows 32 nodes 32 linear 32 cube 0 words 96\nvalue 1\n";
-    check(&rt, rt.alloc(), &run(script, output, Status::Clean))?;
-    Ok(())
-}
+        rows 32 nodes 32 linear 32 cube 0 words 96\nvalue 1\n",
+        Status::Clean,
+    ),
+];
 
 // A side of the square has one point of its diagonal, far down.
 #[test]
