@@ -3,13 +3,13 @@
 
 ghost use Rattle.std.specs.Prelude.{◌≡◌, ◌+◌, ◌<◌};
 
-use std::marker::Model;
+use std::marker::{Brand, Model};
 use std::sync::ledger::{Blank, Book, Ledger, Share};
 
 /// The number of steps taken so far, without bound. Only [`Steps::tick`] changes it.
 ///
 /// A function that counts takes `&mut Steps<L>` for any `L`. One whose caller counts nothing is
-/// reached through a function that is given `Blank::new(1)` and makes its counter of it.
+/// reached through a function that is given `Blank::new(1)` and makes its counter of it, as [`with_new_counters`] does.
 #[derive(Drop)]
 pub struct Steps<L: Ledger> {
     book: Book<L>,
@@ -66,4 +66,36 @@ impl<V: Ledger, C: Ledger> Counters<V, C> {
             changes: Steps::new(changes),
         }
     }
+}
+
+/// Work that counts, whatever the ledgers of its counters are.
+pub trait Counting {
+    /// What comes of it.
+    type Outcome;
+
+    ghost gives: { Self → Self.Outcome → Type 0 } = { λ _ _. Unit {0} };
+
+    /// Does the work.
+    fn run<V: Ledger, C: Ledger>(self, counters: &mut Counters<V, C>) -> Self::Outcome
+        ensures { gives self result };
+}
+
+/// Does work with new counters, which nobody reads. It is for programs and tests: elsewhere it would hide what is counted.
+pub fn with_new_counters<W: Counting>(work: W) -> W::Outcome
+    ensures { W.gives work result }
+{
+    with_counters::<W, Brand, Brand>(work, Blank::new(1), Blank::new(1))
+}
+
+// Does work with counters of these blanks.
+fn with_counters<W: Counting, V: Ledger, C: Ledger>(
+    work: W,
+    visits: Blank,
+    changes: Blank,
+) -> W::Outcome
+    requires visits { (visits.name ≡ V.name) × (visits.parts ≡ V.parts) × (0 < visits.parts) }
+    requires changes { (changes.name ≡ C.name) × (changes.parts ≡ C.parts) × (0 < changes.parts) }
+    ensures { W.gives work result }
+{
+    work.run(&mut Counters::<V, C>::new(visits, changes))
 }
