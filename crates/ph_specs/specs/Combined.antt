@@ -1,5 +1,6 @@
 -- The three set operations on tables as one: two tables side by side in Z-order, of which some rows are kept.
-use Rattle.std.specs.Prelude.{ℕ, List, [], ◌∷◌, ◌++◌, filter, Bool, if◌then◌else◌}
+use Rattle.std.specs.Prelude.{◌≡◌, ℕ, List, [], ◌∷◌, ◌++◌, filter, Bool, true, if◌then◌else◌}
+use Rattle.std.specs.List.{AllByRecursion as Each}
 use Rattle.ph_specs.specs.ZOrder.{before}
 use Rattle.ph_specs.specs.Table.{Row, has}
 
@@ -20,3 +21,7 @@ abbrev pub combined : ℕ → Bool → Bool → Bool → List Row → List Row �
 combined w left both right [] b = chosen right b
 combined w left both right (x ∷ a) b =
     chosen right (earlier w x b) ++ (chosen (if has b x.point then both else left) (x ∷ []) ++ combined w left both right a (later w x b))
+
+-- each row of the first list comes before each row of the second
+abbrev pub AreParted : ℕ → List Row → List Row → Type 0
+AreParted w xs ys = Each (λ x. Each (λ y. before w x.point y.point ≡ true) ys) xs

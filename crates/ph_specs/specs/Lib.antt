@@ -43,3 +43,8 @@ pub mod Refusals
 pub mod Engine
 pub mod Generator
 pub mod Program
+pub mod TableNames
+pub mod TreeNames
+pub mod RecordNames
+pub mod WorkNames
+pub mod ProgramNames
