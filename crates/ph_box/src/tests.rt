@@ -1,5 +1,5 @@
 ghost use Rattle.std.specs.Prelude.{◌≡◌, ◌*◌, ◌≤◌};
-ghost use Rattle.ph_specs.specs.Coordinate.{IsPoint};
+ghost use Rattle.ph_specs.specs.TableNames.{IsPoint};
 
 use super::*;
 use ph_coord::{Point, Width, is_at_most};
@@ -71,32 +71,31 @@ fn check<const K: usize, const D: usize>(
 
 #[test]
 fn boxes_of_one_dimension(rt: HostRuntime) {
-    let stored = [
-        ([2], [5], SAME),
-        ([5], [7], MEETS),
-        ([0], [2], MEETS),
-        ([1], [4], MEETS),
-        ([3], [6], MEETS),
-        ([6], [7], APART),
-        ([0], [1], APART),
-        ([3], [4], INSIDE),
-        ([2], [4], INSIDE),
-        ([3], [5], INSIDE),
-        ([5], [5], INSIDE),
-        ([6], [6], APART),
-        ([2], [6], COVERS),
-        ([1], [6], COVERS),
-    ];
-    check::<1, 2>(&rt, 32, [2], [5], &stored);
-    let around_one = [
-        ([3], [3], SAME),
-        ([3], [5], COVERS),
-        ([0], [3], COVERS),
-        ([2], [4], COVERS),
-        ([4], [4], APART),
-        ([0], [2], APART),
-    ];
-    check::<1, 2>(&rt, 32, [3], [3], &around_one);
+    // The bounds of the asked box and those of a stored one.
+    for (lo, hi, low, high, listed) in [
+        (2, 5, 2, 5, SAME),
+        (2, 5, 5, 7, MEETS),
+        (2, 5, 0, 2, MEETS),
+        (2, 5, 1, 4, MEETS),
+        (2, 5, 3, 6, MEETS),
+        (2, 5, 6, 7, APART),
+        (2, 5, 0, 1, APART),
+        (2, 5, 3, 4, INSIDE),
+        (2, 5, 2, 4, INSIDE),
+        (2, 5, 3, 5, INSIDE),
+        (2, 5, 5, 5, INSIDE),
+        (2, 5, 6, 6, APART),
+        (2, 5, 2, 6, COVERS),
+        (2, 5, 1, 6, COVERS),
+        (3, 3, 3, 3, SAME),
+        (3, 3, 3, 5, COVERS),
+        (3, 3, 0, 3, COVERS),
+        (3, 3, 2, 4, COVERS),
+        (3, 3, 4, 4, APART),
+        (3, 3, 0, 2, APART),
+    ] {
+        check::<1, 2>(&rt, 32, [lo], [hi], &[([low], [high], listed)]);
+    }
 }
 
 #[test]

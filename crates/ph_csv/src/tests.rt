@@ -2,7 +2,8 @@
 ghost use Rattle.std.specs.Prelude.{◌≤◌};
 
 use crate::{CsvFault, read_rows, row_line};
-use ph_coord::{Kind, Point, Row, Width};
+use ph_coord::Kind::{self, Boxes, Points};
+use ph_coord::{Point, Row, Width};
 use std::alloc::Global;
 use std::test::Fail;
 
@@ -91,59 +92,49 @@ fn headers(rt: HostRuntime) -> Result<(), Fail> {
     Ok(())
 }
 
-#[test]
-fn faults_of_points(rt: HostRuntime) -> Result<(), Fail> {
-    let cases: [(&[u8], CsvFault); 22] = [
-        (b"1,2\n", CsvFault::Fields(1)),
-        (b"1,2,3,4\n", CsvFault::Fields(1)),
-        (b"1,2,3\n1,2,3,\n", CsvFault::Fields(2)),
-        (b"\"\"\n", CsvFault::Fields(1)),
-        (b"1,2,3\n\n\n1;2;3\n", CsvFault::Fields(2)),
-        (b"x,2,3\n", CsvFault::Number(1)),
-        (b"lat,lon,id\n4737,854,1\n", CsvFault::Number(1)),
-        (b"1,2,3\n1,2,\"3\"\"\"", CsvFault::Number(2)),
-        (b"1,,3\n", CsvFault::Number(1)),
-        (b"1, 2,3\n", CsvFault::Number(1)),
-        (b"1,2.0,3\n", CsvFault::Number(1)),
-        (b"1,\xff,3\n", CsvFault::Number(1)),
-        // A line feed in quotes belongs to the field.
-        (b"1,\"2\n\",3\n", CsvFault::Number(1)),
-        (b"1,2,-1\n", CsvFault::Number(1)),
-        (b"1,2,18446744073709551616\n", CsvFault::Number(1)),
-        // A byte order mark behind the first byte is no number's.
-        (b"1,2,3\n\xef\xbb\xbf1,2,3\n", CsvFault::Number(2)),
-        (b"2147483648,2,3\n", CsvFault::Range(1)),
-        (b"1,2,3\n1,-2147483649,3\n", CsvFault::Range(2)),
-        (b"-9223372036854775808,2,3\n", CsvFault::Range(1)),
-        (b"1,9223372036854775808,3\n", CsvFault::Range(1)),
-        (b"-9223372036854775809,2,3\n", CsvFault::Range(1)),
-        (FAR, CsvFault::Range(1)),
-    ];
-    for (text, fault) in cases {
-        let answered = count::<2>(rt.alloc(), text, Kind::Points, false);
-        assert_eq!(rt; answered, Err(fault));
-    }
-    Ok(())
-}
+// Texts without a header that are refused.
+const REFUSED: [(Kind, &[u8], CsvFault); 30] = [
+    (Points, b"1,2\n", CsvFault::Fields(1)),
+    (Points, b"1,2,3,4\n", CsvFault::Fields(1)),
+    (Points, b"1,2,3\n1,2,3,\n", CsvFault::Fields(2)),
+    (Points, b"\"\"\n", CsvFault::Fields(1)),
+    (Points, b"1,2,3\n\n\n1;2;3\n", CsvFault::Fields(2)),
+    (Points, b"x,2,3\n", CsvFault::Number(1)),
+    (Points, b"lat,lon,id\n4737,854,1\n", CsvFault::Number(1)),
+    (Points, b"1,2,3\n1,2,\"3\"\"\"", CsvFault::Number(2)),
+    (Points, b"1,,3\n", CsvFault::Number(1)),
+    (Points, b"1, 2,3\n", CsvFault::Number(1)),
+    (Points, b"1,2.0,3\n", CsvFault::Number(1)),
+    (Points, b"1,\xff,3\n", CsvFault::Number(1)),
+    // A line feed in quotes belongs to the field.
+    (Points, b"1,\"2\n\",3\n", CsvFault::Number(1)),
+    (Points, b"1,2,-1\n", CsvFault::Number(1)),
+    (Points, b"1,2,18446744073709551616\n", CsvFault::Number(1)),
+    // A byte order mark behind the first byte is no number's.
+    (Points, b"1,2,3\n\xef\xbb\xbf1,2,3\n", CsvFault::Number(2)),
+    (Points, b"2147483648,2,3\n", CsvFault::Range(1)),
+    (Points, b"1,2,3\n1,-2147483649,3\n", CsvFault::Range(2)),
+    (Points, b"-9223372036854775808,2,3\n", CsvFault::Range(1)),
+    (Points, b"1,9223372036854775808,3\n", CsvFault::Range(1)),
+    (Points, b"-9223372036854775809,2,3\n", CsvFault::Range(1)),
+    (Points, FAR, CsvFault::Range(1)),
+    // Of two faults the one of the earlier record is told, and in one record the one that is tried first.
+    (Boxes, b"1,x\n", CsvFault::Fields(1)),
+    (Boxes, b"5,2147483648,1,x\n", CsvFault::Fields(1)),
+    (Boxes, b"2147483648,x,1\n", CsvFault::Number(1)),
+    (Boxes, b"1,2147483648,-1\n", CsvFault::Number(1)),
+    (Boxes, b"5,-2147483649,1\n", CsvFault::Range(1)),
+    (Boxes, b"5,4,1\n1,x\n", CsvFault::Reversed(1)),
+    (Boxes, b"4,5,1\n9,2147483648,1\nx,1,1\n", CsvFault::Range(2)),
+    (Boxes, b"1,5,7\n9,2,8\n", CsvFault::Reversed(2)),
+];
 
-// Of two faults the one of the earlier record is told, and in one record the one that is tried first.
 #[test]
-fn faults_together(rt: HostRuntime) -> Result<(), Fail> {
-    let cases: [(&[u8], CsvFault); 8] = [
-        (b"1,x\n", CsvFault::Fields(1)),
-        (b"5,2147483648,1,x\n", CsvFault::Fields(1)),
-        (b"2147483648,x,1\n", CsvFault::Number(1)),
-        (b"1,2147483648,-1\n", CsvFault::Number(1)),
-        (b"5,-2147483649,1\n", CsvFault::Range(1)),
-        (b"5,4,1\n1,x\n", CsvFault::Reversed(1)),
-        (b"4,5,1\n9,2147483648,1\nx,1,1\n", CsvFault::Range(2)),
-        (b"1,5,7\n9,2,8\n", CsvFault::Reversed(2)),
-    ];
-    for (text, fault) in cases {
-        let answered = count::<2>(rt.alloc(), text, Kind::Boxes, false);
+fn faults(rt: HostRuntime) {
+    for (kind, text, fault) in REFUSED {
+        let answered = count::<2>(rt.alloc(), text, kind, false);
         assert_eq!(rt; answered, Err(fault));
     }
-    Ok(())
 }
 
 #[test]

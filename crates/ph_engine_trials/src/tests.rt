@@ -8,6 +8,7 @@ mod cursors;
 mod devices;
 mod distances;
 mod files;
+mod kept;
 mod pairs;
 mod records;
 mod sizes;
@@ -276,30 +277,41 @@ fn blank_lines_and_carriage_returns(rt: HostRuntime) -> Result<(), Fail> {
     Ok(())
 }
 
-#[test]
-fn usage_line(rt: HostRuntime) -> Result<(), Fail> {
-    let usage = "usage: phq run | phq check FILE | phq soak N START\n";
-    let mut case = run("put 3 4 17\n", usage, Status::Usage);
-    case.words = "run now";
-    check(&rt, rt.alloc(), &case)?;
-    case.words = "";
-    check(&rt, rt.alloc(), &case)?;
+// Checks words that are answered by one line, over a sink that takes it and over one that fails.
+fn check_line(
+    rt: &impl Abort,
+    alloc: Global,
+    words: &'static str,
+    line: &'static str,
+    status: Status,
+) -> Result<(), AllocError> {
+    let mut case = run("put 3 4 17\n", line, status);
+    case.words = words;
+    check(rt, alloc, &case)?;
     case.failing_write = 1;
     case.output = "";
     case.status = Status::WriteFault;
-    check(&rt, rt.alloc(), &case)?;
+    check(rt, alloc, &case)
+}
+
+#[test]
+fn usage_line(rt: HostRuntime) -> Result<(), Fail> {
+    let usage = "usage: phq run | phq check FILE | phq soak N START\n";
+    check_line(&rt, rt.alloc(), "run now", usage, Status::Usage)?;
+    check_line(&rt, rt.alloc(), "", usage, Status::Usage)?;
     Ok(())
 }
 
 #[test]
 fn script_too_long(rt: HostRuntime) -> Result<(), Fail> {
-    let mut case = run("count\ncount\n", "count 0\n", Status::TooLong);
-    case.script_bytes = 8;
-    check(&rt, rt.alloc(), &case)?;
-    case.script_bytes = 12;
-    case.output = "count 0\ncount 0\n";
-    case.status = Status::Clean;
-    check(&rt, rt.alloc(), &case)?;
+    for (bytes, output, status) in [
+        (8, "count 0\n", Status::TooLong),
+        (12, "count 0\ncount 0\n", Status::Clean),
+    ] {
+        let mut case = run("count\ncount\n", output, status);
+        case.script_bytes = bytes;
+        check(&rt, rt.alloc(), &case)?;
+    }
     Ok(())
 }
 
@@ -318,19 +330,15 @@ fn read_and_write_faults(rt: HostRuntime) -> Result<(), Fail> {
 
 #[test]
 fn longest_line(rt: HostRuntime) -> Result<(), Fail> {
-    let mut line = String::new(rt.alloc());
-    for _ in 0..4096 {
-        line.push('#')?;
+    let longer = [b'#'; 4097];
+    for (bytes, output, status) in [
+        (4096, "", Status::Clean),
+        (4097, "error long\n", Status::Refused),
+    ] {
+        assert!(rt; bytes <= longer.len());
+        let mut case = run(str::from_utf8(&longer[..bytes])?, output, status);
+        case.script_bytes = 5000;
+        check(&rt, rt.alloc(), &case)?;
     }
-    let mut case = run("", "", Status::Clean);
-    case.script_bytes = 5000;
-    case.script = line.as_str();
-    check(&rt, rt.alloc(), &case)?;
-    let mut longer = line.clone()?;
-    longer.push('#')?;
-    case.script = longer.as_str();
-    case.output = "error long\n";
-    case.status = Status::Refused;
-    check(&rt, rt.alloc(), &case)?;
     Ok(())
 }

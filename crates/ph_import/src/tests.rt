@@ -1,17 +1,15 @@
 //! Rows into trees that may have few more.
-ghost use Rattle.std.specs.Prelude.{◌≡◌, ◌<◌};
-ghost use Rattle.ph_specs.specs.Coordinate.{IsPoint};
+ghost use Rattle.ph_specs.specs.TableNames.{IsPoint};
 
 use crate::ImportFault;
 use crate::rows::put_rows;
 use ph_coord::{Point, Row, Width};
-use ph_steps::Steps;
+use ph_steps::{Counters, Counting, with_new_counters};
 use ph_tree::PhTree;
 use ph_undo::Kept;
 use std::alloc::Global;
-use std::marker::Brand;
 use std::process::Abort;
-use std::sync::ledger::{Blank, Ledger};
+use std::sync::ledger::Ledger;
 use std::test::Fail;
 
 // A point of one dimension, and a value.
@@ -26,6 +24,14 @@ struct Case {
     len: u64,
     // What stands at the points 1 to 3 then.
     values: [Option<u64>; 3],
+}
+
+// A case that is checked.
+#[derive(Drop)]
+struct Checked<'c, A: Abort> {
+    rt: &'c A,
+    alloc: Global,
+    case: &'c Case,
 }
 
 fn width(rt: &impl Abort) -> Width {
@@ -47,36 +53,27 @@ fn row(rt: &impl Abort, w: Width, pair: Pair) -> Row<1>
     }
 }
 
-fn check(rt: &impl Abort, alloc: Global, case: &Case) -> Result<(), Fail> {
-    check_counted::<Brand, Brand>(rt, alloc, case, Blank::new(1), Blank::new(1))
-}
+impl<A: Abort> Counting for Checked<'_, A> {
+    type Outcome = Result<(), Fail>;
 
-fn check_counted<V: Ledger, C: Ledger>(
-    rt: &impl Abort,
-    alloc: Global,
-    case: &Case,
-    visits: Blank,
-    changes: Blank,
-) -> Result<(), Fail>
-    requires visits { (visits.name ≡ V.name) × (visits.parts ≡ V.parts) × (0 < visits.parts) }
-    requires changes { (changes.name ≡ C.name) × (changes.parts ≡ C.parts) × (0 < changes.parts) }
-{
-    let mut visits: Steps<V> = Steps::new(visits);
-    let mut changes: Steps<C> = Steps::new(changes);
-    let w = width(rt);
-    let mut kept = Kept::new(PhTree::new(alloc, w, case.max));
-    let first = row(rt, w, case.before);
-    kept.put(first.point, first.value, &mut visits, &mut changes)?;
-    let [a, b, c] = case.rows;
-    let rows = [row(rt, w, a), row(rt, w, b), row(rt, w, c)];
-    let result = put_rows(alloc, &mut kept, &rows, &mut visits, &mut changes);
-    let tree = kept.tree();
-    assert_eq!(rt; (result, tree.len()), (case.result, case.len));
-    let w = tree.width();
-    for (x, value) in [1, 2, 3].into_iter().zip(case.values) {
-        assert_eq!(rt; tree.get(&point(rt, w, x), &mut visits), value, "at {x}");
+    fn run<V: Ledger, C: Ledger>(self, counters: &mut Counters<V, C>) -> Result<(), Fail> {
+        let Checked { rt, alloc, case } = self;
+        let Counters { visits, changes } = counters;
+        let w = width(rt);
+        let mut kept = Kept::new(PhTree::new(alloc, w, case.max));
+        let first = row(rt, w, case.before);
+        kept.put(first.point, first.value, visits, changes)?;
+        let [a, b, c] = case.rows;
+        let rows = [row(rt, w, a), row(rt, w, b), row(rt, w, c)];
+        let result = put_rows(alloc, &mut kept, &rows, visits, changes);
+        let tree = kept.tree();
+        assert_eq!(rt; (result, tree.len()), (case.result, case.len));
+        let w = tree.width();
+        for (x, value) in [1, 2, 3].into_iter().zip(case.values) {
+            assert_eq!(rt; tree.get(&point(rt, w, x), visits), value, "at {x}");
+        }
+        Ok(())
     }
-    Ok(())
 }
 
 #[test]
@@ -119,7 +116,11 @@ fn trees_nearly_full(rt: HostRuntime) -> Result<(), Fail> {
         ),
     ];
     for case in &cases {
-        check(&rt, rt.alloc(), case)?;
+        with_new_counters(Checked {
+            rt: &rt,
+            alloc: rt.alloc(),
+            case,
+        })?;
     }
     Ok(())
 }

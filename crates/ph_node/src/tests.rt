@@ -4,13 +4,14 @@ ghost use Rattle.std.specs.Prelude.{◌≡◌, ◌<◌};
 
 mod twins;
 
-use crate::{NoMemory, Node, NodeOf, NodeRef, Spot, What};
+use crate::{Dim, Node, NodeOf, NodeRef, Spot, What};
 use ph_steps::Steps;
 use std::alloc::Global;
 use std::marker::Brand;
 use std::process::Abort;
 use std::sync::ledger::{Blank, Ledger};
 use std::test::Fail;
+use twins::there_and_back;
 
 const OLD: [u64; 16] = [9, 3, 0, 0, 0, 0, 0, 0, 0, 0, 0, 0, 0, 0, 0, 0];
 
@@ -41,36 +42,42 @@ fn is_entry(node: NodeRef<'_, 2>, i: usize, want: &Seen) -> bool {
     (entry.addr, entry.body[0], entry.body[1], value) == *want
 }
 
-fn child_at<'t>(node: NodeRef<'t, 2>, i: usize) -> Option<&'t Node<2>> {
-    if i >= node.len() {
-        return None;
+// Whether a node is at a level and has these entries.
+fn is_node(node: NodeRef<'_, 2>, level: u32, wanted: &[Seen]) -> bool {
+    if (node.level(), node.len()) != (level, wanted.len()) {
+        return false;
     }
-    match node.entry(i).what {
-        What::Value(_) => None,
-        What::Child(child) => Some(child),
+    for (i, want) in wanted.iter().enumerate() {
+        if !is_entry(node, i, want) {
+            return false;
+        }
     }
+    true
 }
 
-fn outcome<V: Ledger, C: Ledger>(
+// Visits the child at a place.
+fn visit_child<'t, L: Ledger>(
     rt: &impl Abort,
-    alloc: Global,
-    visits: Blank,
-    changes: Blank,
-) -> Result<(), NoMemory>
-    requires visits { (visits.name ≡ V.name) × (visits.parts ≡ V.parts) × (0 < visits.parts) }
-    requires changes { (changes.name ≡ C.name) × (changes.parts ≡ C.parts) × (0 < changes.parts) }
-{
-    let mut visits: Steps<V> = Steps::new(visits);
-    let mut changes: Steps<C> = Steps::new(changes);
-    let mut node: Node<2> = NodeOf::single(alloc, 5, 2, OLD, 70, &mut changes)?;
-    node.add(0, 1, BESIDE, 71, &mut changes)?;
-    node.set_value(FIRST, 72, &mut changes);
-    node.split(SECOND, &NEAR, 73, &mut changes)?;
-    node.split(SECOND, &FAR, 74, &mut changes)?;
-    let root = node.visit(&mut visits);
-    assert_eq!(rt; (root.level(), root.len()), (5, 2));
-    assert!(rt; is_entry(root, 0, &(1, 4, 30, Some(72))));
-    assert!(rt; is_entry(root, 1, &(2, 0, 0, None)));
+    node: NodeRef<'t, 2>,
+    i: usize,
+    steps: &mut Steps<L>,
+) -> NodeRef<'t, 2> {
+    if i < node.len() {
+        if let What::Child(child) = node.entry(i).what {
+            return child.visit(steps);
+        }
+    }
+    panic!(rt; "no child")
+}
+
+fn outcome<L: Ledger>(rt: &impl Abort, alloc: Global, steps: &mut Steps<L>) -> Result<(), Fail> {
+    let mut node: Node<2> = NodeOf::single(alloc, 5, 2, OLD, 70, steps)?;
+    node.add(0, 1, BESIDE, 71, steps)?;
+    node.set_value(FIRST, 72, steps);
+    node.split(SECOND, &NEAR, 73, steps)?;
+    node.split(SECOND, &FAR, 74, steps)?;
+    let root = node.visit(steps);
+    assert!(rt; is_node(root, 5, &[(1, 4, 30, Some(72)), (2, 0, 0, None)]));
     for (addr, found, next) in [
         (0, None, Some(0)),
         (1, Some(0), Some(0)),
@@ -80,81 +87,42 @@ fn outcome<V: Ledger, C: Ledger>(
         assert_eq!(rt; root.find(addr), found, "at {addr}");
         assert_eq!(rt; root.next_at_or_after(addr), next, "at {addr}");
     }
-    let Some(upper) = child_at(root, 1) else {
-        panic!(rt; "no child");
-    };
-    let upper = upper.visit(&mut visits);
-    assert_eq!(rt; (upper.level(), upper.len()), (4, 2));
-    assert!(rt; is_entry(upper, 0, &(0, 0, 0, None)));
-    assert!(rt; is_entry(upper, 1, &(2, 1, 3, Some(74))));
-    let Some(lower) = child_at(upper, 0) else {
-        panic!(rt; "no child");
-    };
-    let lower = lower.visit(&mut visits);
-    assert_eq!(rt; (lower.level(), lower.len()), (3, 2));
-    assert!(rt; is_entry(lower, 0, &(0, 1, 3, Some(73))));
-    assert!(rt; is_entry(lower, 1, &(2, 1, 3, Some(70))));
+    let upper = visit_child(rt, root, 1, steps);
+    assert!(rt; is_node(upper, 4, &[(0, 0, 0, None), (2, 1, 3, Some(74))]));
+    let lower = visit_child(rt, upper, 0, steps);
+    assert!(rt; is_node(lower, 3, &[(0, 1, 3, Some(73)), (2, 1, 3, Some(70))]));
     Ok(())
 }
 
-fn removals<V: Ledger, C: Ledger>(
-    rt: &impl Abort,
-    alloc: Global,
-    visits: Blank,
-    changes: Blank,
-) -> Result<(), NoMemory>
-    requires visits { (visits.name ≡ V.name) × (visits.parts ≡ V.parts) × (0 < visits.parts) }
-    requires changes { (changes.name ≡ C.name) × (changes.parts ≡ C.parts) × (0 < changes.parts) }
-{
-    let mut visits: Steps<V> = Steps::new(visits);
-    let mut changes: Steps<C> = Steps::new(changes);
-    let mut node: Node<2> = NodeOf::single(alloc, 5, 2, OLD, 70, &mut changes)?;
-    node.add(0, 1, BESIDE, 71, &mut changes)?;
-    node.split(SECOND, &NEAR, 73, &mut changes)?;
-    node.merge(SECOND, 0, &mut changes);
-    let root = node.visit(&mut visits);
-    assert_eq!(rt; (root.level(), root.len()), (5, 2));
-    assert!(rt; is_entry(root, 0, &(1, 4, 30, Some(71))));
-    assert!(rt; is_entry(root, 1, &(2, 9, 3, Some(70))));
-    node.drop_entry(FIRST, None, &mut changes);
-    let root = node.visit(&mut visits);
-    assert_eq!(rt; (root.level(), root.len()), (5, 1));
-    assert!(rt; is_entry(root, 0, &(2, 9, 3, Some(70))));
-    node.dissolve(&mut changes);
+fn removals<L: Ledger>(rt: &impl Abort, alloc: Global, steps: &mut Steps<L>) -> Result<(), Fail> {
+    let mut node: Node<2> = NodeOf::single(alloc, 5, 2, OLD, 70, steps)?;
+    node.add(0, 1, BESIDE, 71, steps)?;
+    node.split(SECOND, &NEAR, 73, steps)?;
+    node.merge(SECOND, 0, steps);
+    let root = node.visit(steps);
+    assert!(rt; is_node(root, 5, &[(1, 4, 30, Some(71)), (2, 9, 3, Some(70))]));
+    node.drop_entry(FIRST, None, steps);
+    let root = node.visit(steps);
+    assert!(rt; is_node(root, 5, &[(2, 9, 3, Some(70))]));
+    node.dissolve(steps);
     Ok(())
 }
 
 // A node that goes from between a node and a child, which then stands where it stood, and a child that moves to another block.
-fn lifts<V: Ledger, C: Ledger>(
-    rt: &impl Abort,
-    alloc: Global,
-    visits: Blank,
-    changes: Blank,
-) -> Result<(), NoMemory>
-    requires visits { (visits.name ≡ V.name) × (visits.parts ≡ V.parts) × (0 < visits.parts) }
-    requires changes { (changes.name ≡ C.name) × (changes.parts ≡ C.parts) × (0 < changes.parts) }
-{
-    let mut visits: Steps<V> = Steps::new(visits);
-    let mut changes: Steps<C> = Steps::new(changes);
-    let mut node: Node<2> = NodeOf::single(alloc, 5, 2, OLD, 70, &mut changes)?;
-    node.add(0, 1, BESIDE, 71, &mut changes)?;
-    node.split(SECOND, &NEAR, 73, &mut changes)?;
-    node.split(SECOND, &FAR, 74, &mut changes)?;
-    node.merge(SECOND, 1, &mut changes);
-    let root = node.visit(&mut visits);
+fn lifts<L: Ledger>(rt: &impl Abort, alloc: Global, steps: &mut Steps<L>) -> Result<(), Fail> {
+    let mut node: Node<2> = NodeOf::single(alloc, 5, 2, OLD, 70, steps)?;
+    node.add(0, 1, BESIDE, 71, steps)?;
+    node.split(SECOND, &NEAR, 73, steps)?;
+    node.split(SECOND, &FAR, 74, steps)?;
+    node.merge(SECOND, 1, steps);
+    let root = node.visit(steps);
     assert_eq!(rt; (root.words().len(), root.children().len()), (3, 1));
-    assert!(rt; is_entry(root, 0, &(1, 4, 30, Some(71))));
-    assert!(rt; is_entry(root, 1, &(2, 0, 0, None)));
-    node.drop_entry(FIRST, None, &mut changes);
-    let root = node.visit(&mut visits);
-    assert_eq!(rt; (root.level(), root.len()), (5, 1));
-    let Some(lower) = child_at(root, 0) else {
-        panic!(rt; "no child");
-    };
-    let lower = lower.visit(&mut visits);
-    assert_eq!(rt; (lower.level(), lower.len()), (3, 2));
-    assert!(rt; is_entry(lower, 0, &(0, 1, 3, Some(73))));
-    assert!(rt; is_entry(lower, 1, &(2, 1, 3, Some(70))));
+    assert!(rt; is_node(root, 5, &[(1, 4, 30, Some(71)), (2, 0, 0, None)]));
+    node.drop_entry(FIRST, None, steps);
+    let root = node.visit(steps);
+    assert!(rt; is_node(root, 5, &[(2, 0, 0, None)]));
+    let lower = visit_child(rt, root, 0, steps);
+    assert!(rt; is_node(lower, 3, &[(0, 1, 3, Some(73)), (2, 1, 3, Some(70))]));
     Ok(())
 }
 
@@ -163,57 +131,31 @@ fn has_words(words: &[u64], want: &[u64]) -> bool {
 }
 
 // The words of nodes, and that a node has nothing beside its block.
-fn layouts<V: Ledger, C: Ledger>(
-    rt: &impl Abort,
-    alloc: Global,
-    visits: Blank,
-    changes: Blank,
-) -> Result<(), NoMemory>
-    requires visits { (visits.name ≡ V.name) × (visits.parts ≡ V.parts) × (0 < visits.parts) }
-    requires changes { (changes.name ≡ C.name) × (changes.parts ≡ C.parts) × (0 < changes.parts) }
-{
-    let mut visits: Steps<V> = Steps::new(visits);
-    let mut changes: Steps<C> = Steps::new(changes);
+fn layouts<L: Ledger>(rt: &impl Abort, alloc: Global, steps: &mut Steps<L>) -> Result<(), Fail> {
     let body = [3, 4, 0, 0, 0, 0, 0, 0, 0, 0, 0, 0, 0, 0, 0, 0];
-    let across: Node<2> = NodeOf::single(alloc, 31, 3, body, 17, &mut changes)?;
-    let words = across.visit(&mut visits).words();
+    let across: Node<2> = NodeOf::single(alloc, 31, 3, body, 17, steps)?;
+    let words = across.visit(steps).words();
     assert!(rt; has_words(words, &[0x1f00000001000000, 0x60000000c0000002, 0, 0x11]));
     let NodeOf { block: _, dims: _ } = across;
-    let mut node: Node<2> = NodeOf::single(alloc, 31, 3, [0; 16], 1, &mut changes)?;
+    let mut node: Node<2> = NodeOf::single(alloc, 31, 3, [0; 16], 1, steps)?;
     let spot = Spot { place: 0, addr: 3 };
-    node.split(spot, &ONES, 2, &mut changes)?;
-    let root = node.visit(&mut visits);
+    node.split(spot, &ONES, 2, steps)?;
+    let root = node.visit(steps);
     assert!(rt; has_words(root.words(), &[0x1f00000001000001, 0xe000000000000000, 0]));
-    let Some(child) = child_at(root, 0) else {
-        panic!(rt; "no child");
-    };
-    let words = child.visit(&mut visits).words();
+    let words = visit_child(rt, root, 0, steps).words();
     assert!(rt; has_words(words, &[0x0000000002000000, 0x0c00000000000000, 1, 2]));
     let slot = node.child_mut(spot, 0);
-    slot.node_mut().add(1, 1, [0; 16], 3, &mut changes)?;
-    let Some(child) = child_at(node.visit(&mut visits), 0) else {
-        panic!(rt; "no child");
-    };
-    let words = child.visit(&mut visits).words();
+    slot.node_mut().add(1, 1, [0; 16], 3, steps)?;
+    let words = visit_child(rt, node.visit(steps), 0, steps).words();
     assert!(rt; has_words(words, &[0x0001000003000000, 0x5100000000000000, 1, 3, 2]));
     Ok(())
 }
 
-fn spots<V: Ledger, C: Ledger>(
-    rt: &impl Abort,
-    alloc: Global,
-    visits: Blank,
-    changes: Blank,
-) -> Result<(), NoMemory>
-    requires visits { (visits.name ≡ V.name) × (visits.parts ≡ V.parts) × (0 < visits.parts) }
-    requires changes { (changes.name ≡ C.name) × (changes.parts ≡ C.parts) × (0 < changes.parts) }
-{
-    let mut visits: Steps<V> = Steps::new(visits);
-    let mut changes: Steps<C> = Steps::new(changes);
-    let mut node: Node<2> = NodeOf::single(alloc, 5, 2, OLD, 70, &mut changes)?;
-    node.split(Spot { place: 0, addr: 2 }, &NEAR, 73, &mut changes)?;
-    node.add(0, 1, BESIDE, 71, &mut changes)?;
-    let root = node.visit(&mut visits);
+fn spots<L: Ledger>(rt: &impl Abort, alloc: Global, steps: &mut Steps<L>) -> Result<(), Fail> {
+    let mut node: Node<2> = NodeOf::single(alloc, 5, 2, OLD, 70, steps)?;
+    node.split(Spot { place: 0, addr: 2 }, &NEAR, 73, steps)?;
+    node.add(0, 1, BESIDE, 71, steps)?;
+    let root = node.visit(steps);
     assert_eq!(rt; (root.words().len(), root.children().len()), (3, 1));
     assert!(rt; !root.is_cube());
     assert_eq!(rt; root.search(0).err(), Some(0));
@@ -240,32 +182,24 @@ fn spots<V: Ledger, C: Ledger>(
     Ok(())
 }
 
-#[test]
-fn words_of_nodes(rt: HostRuntime) -> Result<(), Fail> {
-    layouts::<Brand, Brand>(&rt, rt.alloc(), Blank::new(1), Blank::new(1))?;
+// All of these, and those of twins, over one counter.
+fn trials<L: Ledger>(rt: &impl Abort, alloc: Global, blank: Blank) -> Result<(), Fail>
+    requires { (blank.name ≡ L.name) × (blank.parts ≡ L.parts) × (0 < blank.parts) }
+{
+    let mut steps: Steps<L> = Steps::new(blank);
+    layouts(rt, alloc, &mut steps)?;
+    outcome(rt, alloc, &mut steps)?;
+    removals(rt, alloc, &mut steps)?;
+    lifts(rt, alloc, &mut steps)?;
+    spots(rt, alloc, &mut steps)?;
+    there_and_back::<Dim<2>, L>(rt, alloc, 5, 4, &mut steps)?;
+    there_and_back::<Dim<3>, L>(rt, alloc, 5, 8, &mut steps)?;
+    there_and_back::<Dim<8>, L>(rt, alloc, 3, 256, &mut steps)?;
+    there_and_back::<Dim<16>, L>(rt, alloc, 0, 7720, &mut steps)?;
     Ok(())
 }
 
 #[test]
-fn splits_and_edits(rt: HostRuntime) -> Result<(), Fail> {
-    outcome::<Brand, Brand>(&rt, rt.alloc(), Blank::new(1), Blank::new(1))?;
-    Ok(())
-}
-
-#[test]
-fn merges_and_drops(rt: HostRuntime) -> Result<(), Fail> {
-    removals::<Brand, Brand>(&rt, rt.alloc(), Blank::new(1), Blank::new(1))?;
-    Ok(())
-}
-
-#[test]
-fn spots_and_records(rt: HostRuntime) -> Result<(), Fail> {
-    spots::<Brand, Brand>(&rt, rt.alloc(), Blank::new(1), Blank::new(1))?;
-    Ok(())
-}
-
-#[test]
-fn lifted_children(rt: HostRuntime) -> Result<(), Fail> {
-    lifts::<Brand, Brand>(&rt, rt.alloc(), Blank::new(1), Blank::new(1))?;
-    Ok(())
+fn nodes(rt: HostRuntime) -> Result<(), Fail> {
+    trials::<Brand>(&rt, rt.alloc(), Blank::new(1))
 }

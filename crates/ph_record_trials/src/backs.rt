@@ -1,8 +1,7 @@
 //! Whether records are read as the lists of entries that they were written of.
 
 ghost use Rattle.std.specs.Prelude.{◌≡◌, ◌≤◌, ◌<◌, ◌^◌, true, false, length, IfSome};
-ghost use Rattle.ph_specs.specs.Record.{first_in};
-ghost use Rattle.ph_specs.specs.Layout.{IsRecord};
+ghost use Rattle.ph_specs.specs.RecordNames.{first_in, IsRecord};
 
 use crate::items::Item;
 use ph_bits::Packed;

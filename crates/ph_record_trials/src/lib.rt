@@ -6,6 +6,8 @@ mod items;
 mod records;
 #[cfg(test)]
 mod tests;
+#[cfg(test)]
+mod words;
 
 pub use backs::{is_cube_back, is_linear_back};
 pub use items::{Item, Items};

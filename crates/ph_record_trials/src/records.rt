@@ -1,8 +1,7 @@
 //! The records of lists of entries.
 
 ghost use Rattle.std.specs.Prelude.{◌≡◌, ◌≤◌, length, IfSome};
-ghost use Rattle.ph_specs.specs.Record.{first_in};
-ghost use Rattle.ph_specs.specs.Layout.{IsRecord};
+ghost use Rattle.ph_specs.specs.RecordNames.{first_in, IsRecord};
 
 use crate::items::{Item, Items, is_writable};
 use ph_bits::Words;

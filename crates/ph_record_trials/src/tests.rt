@@ -19,6 +19,12 @@ macro_rules! body {
     ($x:expr, $y:expr, $z:expr) => {
         [$x, $y, $z, 0, 0, 0, 0, 0, 0, 0, 0, 0, 0, 0, 0, 0]
     };
+    ($a:expr, $b:expr, $c:expr, $d:expr, $e:expr, $f:expr, $g:expr, $h:expr) => {
+        [$a, $b, $c, $d, $e, $f, $g, $h, 0, 0, 0, 0, 0, 0, 0, 0]
+    };
+    ($($field:expr),*) => {
+        [$($field),*]
+    };
 }
 
 // An edit of an entry at a place, where so many entries go and so many come.

@@ -1,7 +1,7 @@
 //! Trees that were edited in different orders, compared with each other.
 
 ghost use Rattle.std.specs.Prelude.{◌≡◌, ◌<◌, ◌≤◌};
-ghost use Rattle.ph_specs.specs.Coordinate.{IsPoint};
+ghost use Rattle.ph_specs.specs.TableNames.{IsPoint};
 
 use crate::edits::{GREATEST, LEAST, edit};
 use crate::pair::{Pair, point};

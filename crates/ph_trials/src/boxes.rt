@@ -1,7 +1,7 @@
 //! Windows of boxes beside the questions that they answer.
 
 ghost use Rattle.std.specs.Prelude.{◌≡◌, ◌*◌, ◌<◌, ◌≤◌};
-ghost use Rattle.ph_specs.specs.Coordinate.{IsPoint};
+ghost use Rattle.ph_specs.specs.TableNames.{IsPoint};
 
 use crate::edits::draw;
 use crate::pair::Pair;

@@ -1,7 +1,7 @@
 //! Random edits of a tree and of a table.
 
 ghost use Rattle.std.specs.Prelude.{◌≡◌, ◌<◌, ◌≤◌};
-ghost use Rattle.ph_specs.specs.Coordinate.{IsPoint};
+ghost use Rattle.ph_specs.specs.TableNames.{IsPoint};
 
 use crate::pair::{Pair, point};
 use ph_coord::Point;

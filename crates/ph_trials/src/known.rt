@@ -1,7 +1,7 @@
 //! Trees whose nodes are known from outside.
 
 ghost use Rattle.std.specs.Prelude.{◌≡◌, ◌<◌, ◌≤◌};
-ghost use Rattle.ph_specs.specs.Coordinate.{IsPoint};
+ghost use Rattle.ph_specs.specs.TableNames.{IsPoint};
 
 use ph_coord::{Point, Width};
 use ph_node::{NodeRef, What};

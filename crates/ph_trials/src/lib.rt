@@ -9,7 +9,13 @@ mod boxes;
 #[cfg(test)]
 mod builds;
 #[cfg(test)]
+mod distances;
+#[cfg(test)]
 mod edits;
+#[cfg(test)]
+mod joins;
+#[cfg(test)]
+mod kept;
 #[cfg(test)]
 mod known;
 #[cfg(test)]
@@ -21,6 +27,8 @@ mod pair;
 #[cfg(test)]
 mod records;
 mod same;
+#[cfg(test)]
+mod sets;
 #[cfg(test)]
 mod windows;
 

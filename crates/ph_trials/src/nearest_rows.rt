@@ -1,7 +1,7 @@
 //! The nearest rows of a tree, and those within a radius, beside those of a table, between random edits.
 
 ghost use Rattle.std.specs.Prelude.{◌≡◌, ◌<◌, ◌≤◌};
-ghost use Rattle.ph_specs.specs.Coordinate.{IsPoint};
+ghost use Rattle.ph_specs.specs.TableNames.{IsPoint};
 
 use crate::edits::{BINARY, GREATEST, LEAST, WIDEST, draw, edit};
 use crate::pair::Pair;

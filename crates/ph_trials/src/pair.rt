@@ -1,7 +1,7 @@
 //! A tree and the plain table beside it, which are edited alike.
 
 ghost use Rattle.std.specs.Prelude.{◌≡◌, ◌<◌, ◌≤◌};
-ghost use Rattle.ph_specs.specs.Coordinate.{IsPoint};
+ghost use Rattle.ph_specs.specs.TableNames.{IsPoint};
 
 use crate::is_shape;
 use crate::records::are_written_anew;

@@ -2,7 +2,7 @@
 
 ghost use Rattle.std.specs.Prelude.{◌≡◌, ◌+◌, ◌^◌, ◌≤◌, IfOk};
 ghost use Rattle.ph_bits.specs.Block.{room_of};
-ghost use Rattle.ph_specs.specs.Digits.{words_for};
+ghost use Rattle.ph_specs.specs.RecordNames.{words_for};
 ghost use Rattle.ph_node.specs.Kept.{IsNodeOf};
 ghost use Rattle.ph_node.specs.Shown.{shown};
 

@@ -2,10 +2,8 @@
 
 ghost use Rattle.std.specs.Prelude.{◌≡◌, ◌<◌, ◌≤◌, ◌↔◌, length, slice_get, IsTrue, IfOk, IfSome};
 ghost use Rattle.std.specs.Option.{option_copied};
-ghost use Rattle.ph_specs.specs.Lawful.{IsLawfulFrom};
-ghost use Rattle.ph_specs.specs.Node.{entries};
-ghost use Rattle.ph_specs.specs.Shape.{shape};
-ghost use Rattle.ph_specs.specs.Table.{IsTable};
+ghost use Rattle.ph_specs.specs.TreeNames.{IsLawfulFrom, entries, shape};
+ghost use Rattle.ph_specs.specs.TableNames.{IsTable};
 ghost use Rattle.ph_node.specs.Shown.{entry_of};
 
 use ph_coord::{Dim, Dims, Row, Width};

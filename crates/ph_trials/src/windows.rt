@@ -1,7 +1,7 @@
 //! Windows and pages of a tree beside windows of a table, between random edits.
 
 ghost use Rattle.std.specs.Prelude.{◌≡◌, ◌<◌, ◌≤◌};
-ghost use Rattle.ph_specs.specs.Coordinate.{IsPoint};
+ghost use Rattle.ph_specs.specs.TableNames.{IsPoint};
 ghost use Rattle.ph_window.specs.Page.{IsLast};
 
 use crate::edits::{BINARY, GREATEST, LEAST, WIDEST, draw, edit};

@@ -1,10 +1,7 @@
 //! The two layouts by one trait.
 
 ghost use Rattle.std.specs.Prelude.{◌≡◌, ◌+◌, ◌^◌, ◌<◌, ◌≤◌, Bool};
-ghost use Rattle.ph_specs.specs.Digits.{words_for};
-ghost use Rattle.ph_specs.specs.Pack.{record_in};
-ghost use Rattle.ph_specs.specs.Record.{first_in};
-ghost use Rattle.ph_specs.specs.Layout.{IsRecord};
+ghost use Rattle.ph_specs.specs.RecordNames.{words_for, record_in, first_in, IsRecord};
 ghost use Rattle.ph_bits.specs.Block.{room_of};
 ghost use Rattle.record_bench.specs.Listed.{points, digits};
 

@@ -36,13 +36,8 @@ fn main(rt: HostRuntime) -> ExitCode {
 
 // What the words of the command line ask for, if they can be had and are right.
 fn requested(rt: &HostRuntime) -> Option<Request> {
-    let mut args = env::args(rt).ok()?;
-    let _program = args.next();
-    let collected: Result<Vec<String>, _> = args.collect(rt.alloc());
-    let Ok(words) = collected else {
-        return None;
-    };
-    read_request(words.as_slice())
+    let words: Vec<String> = env::args(rt).ok()?.collect(rt.alloc()).ok()?;
+    read_request(words.get(1..)?)
 }
 
 fn serve(rt: &HostRuntime, request: &Request) -> ExitCode {

@@ -1,8 +1,7 @@
 //! Records of points.
 
 ghost use Rattle.std.specs.Prelude.{◌≡◌, ◌+◌, ◌<◌, ◌^◌};
-ghost use Rattle.ph_specs.specs.Digits.{words_for};
-ghost use Rattle.ph_specs.specs.Layout.{IsRecord};
+ghost use Rattle.ph_specs.specs.RecordNames.{words_for, IsRecord};
 ghost use Rattle.record_bench.specs.Listed.{digits};
 
 use crate::layouts::Layout;

@@ -2,10 +2,9 @@
 
 ghost use Rattle.std.specs.Prelude.{◌≡◌, ◌+◌, ◌*◌, ◌≤◌, Some, length, IfOk, OnOk, OnErr};
 ghost use Rattle.ph_specs.specs.declared.Kind.{Kind};
-ghost use Rattle.ph_specs.specs.Coordinate.{IsPoint};
-ghost use Rattle.ph_specs.specs.Snapshot.{snap};
-ghost use Rattle.ph_specs.specs.Window.{window};
-ghost use Rattle.ph_specs.specs.WorkSets.{meets};
+ghost use Rattle.ph_specs.specs.TableNames.{IsPoint, window};
+ghost use Rattle.ph_specs.specs.RecordNames.{snap};
+ghost use Rattle.ph_specs.specs.WorkNames.{meets};
 ghost use Rattle.ph_tree.specs.Tree.{with_row};
 
 use crate::error::TourError;

@@ -10,12 +10,7 @@ mod stages;
 
 use error::TourError;
 use ph_steps::Steps;
-use ph_tree::PhTree;
-use points::{MOST, width};
-use stages::{
-    get_rows, list_nearest, list_window, put_rows, refuse_bytes, refuse_row, remove_row,
-    save_and_load,
-};
+use stages::Tour;
 use std::marker::Brand;
 use std::sync::ledger::{Blank, Ledger};
 
@@ -32,15 +27,13 @@ fn show_all<V: Ledger, C: Ledger>(
     requires visits { (visits.name ≡ V.name) × (visits.parts ≡ V.parts) × (0 < visits.parts) }
     requires changes { (changes.name ≡ C.name) × (changes.parts ≡ C.parts) × (0 < changes.parts) }
 {
-    let mut visits: Steps<V> = Steps::new(visits);
-    let mut changes: Steps<C> = Steps::new(changes);
-    let mut tree: PhTree<2> = PhTree::new(rt.alloc(), width(), MOST);
-    put_rows(rt, &mut tree, &mut visits, &mut changes)?;
-    refuse_row(rt, &mut tree, &mut visits, &mut changes)?;
-    get_rows(rt, &tree, &mut visits)?;
-    list_window(rt, rt.alloc(), &tree, &mut visits)?;
-    list_nearest(rt, rt.alloc(), &tree, &mut visits)?;
-    remove_row(rt, &mut tree, &mut visits, &mut changes)?;
-    save_and_load(rt, rt.alloc(), &tree, &mut visits, &mut changes)?;
-    refuse_bytes(rt, rt.alloc(), &tree, &mut visits, &mut changes)
+    let mut tour: Tour<V, C> = Tour::new(rt.alloc(), Steps::new(visits), Steps::new(changes));
+    tour.put_rows(rt)?;
+    tour.refuse_row(rt)?;
+    tour.get_rows(rt)?;
+    tour.list_window(rt)?;
+    tour.list_nearest(rt)?;
+    tour.remove_row(rt)?;
+    tour.save_and_load(rt)?;
+    tour.refuse_bytes(rt)
 }

@@ -1,7 +1,7 @@
 //! The points of the tour.
 
 ghost use Rattle.std.specs.Prelude.{◌≡◌, IfOk};
-ghost use Rattle.ph_specs.specs.Coordinate.{IsPoint};
+ghost use Rattle.ph_specs.specs.TableNames.{IsPoint};
 
 use crate::error::TourError;
 use ph_coord::{Point, Width};

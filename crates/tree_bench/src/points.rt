@@ -1,7 +1,7 @@
 //! The points that are put.
 
 ghost use Rattle.std.specs.Prelude.{◌≡◌, ◌<◌, ◌^◌, IsTrue};
-ghost use Rattle.ph_specs.specs.Coordinate.{fits, IsPoint};
+ghost use Rattle.ph_specs.specs.TableNames.{fits, IsPoint};
 
 use ph_coord::{Point, Width};
 use rand_core::{Rng, SeedableRng};

@@ -4,23 +4,22 @@ ghost use Rattle.std.specs.Prelude.{◌≡◌, ◌<◌};
 use ph_engine::{Answer, Engine, Limits};
 use ph_io::{MemoryFiles, MemorySink};
 use ph_script::{CoordBuffer, read_command};
-use ph_steps::Steps;
+use ph_steps::Counters;
 use std::alloc::{AllocError, Global};
 use std::marker::Brand;
 use std::process::Abort;
 use std::sync::ledger::{Blank, Ledger};
 use std::test::Fail;
 
-// Does the command of a line, and gives what it wrote.
-fn written_by<V: Ledger, C: Ledger>(
+// Does the command of a line. It is refused where its reply is an error.
+fn check_line<V: Ledger, C: Ledger>(
     rt: &impl Abort,
     alloc: Global,
     engine: &mut Engine,
     line: &str,
-    answer: Answer,
-    visits: &mut Steps<V>,
-    changes: &mut Steps<C>,
-) -> Result<MemorySink, AllocError> {
+    reply: &str,
+    counters: &mut Counters<V, C>,
+) -> Result<(), AllocError> {
     let limits = Limits {
         script_bytes: 4096,
         file_bytes: 4096,
@@ -32,29 +31,40 @@ fn written_by<V: Ledger, C: Ledger>(
     let command = read_command(line.as_bytes(), engine.dims(), &mut coords);
     let Ok(Some(command)) = command else {
         assert!(rt; false, "{line} is no command");
-        return Ok(sink);
+        return Ok(());
     };
     let done = engine.exec(
-        alloc, &command, &mut sink, &mut files, &limits, visits, changes,
+        alloc,
+        &command,
+        &mut sink,
+        &mut files,
+        &limits,
+        &mut counters.visits,
+        &mut counters.changes,
     );
+    let answer = if reply.as_bytes().starts_with(b"error") {
+        Answer::Refused
+    } else {
+        Answer::Good
+    };
     assert_eq!(rt; done, Ok(answer), "{line}");
-    Ok(sink)
+    assert_eq!(rt; sink.bytes(), reply.as_bytes(), "{line}");
+    Ok(())
 }
 
 fn check_each<V: Ledger, C: Ledger>(
     rt: &impl Abort,
     alloc: Global,
-    cases: &[(&str, &str, Answer)],
+    cases: &[(&str, &str)],
     visits: Blank,
     changes: Blank,
 ) -> Result<(), AllocError>
     requires visits { (visits.name ≡ V.name) × (visits.parts ≡ V.parts) × (0 < visits.parts) }
     requires changes { (changes.name ≡ C.name) × (changes.parts ≡ C.parts) × (0 < changes.parts) }
 {
-    let mut visits: Steps<V> = Steps::new(visits);
-    let mut changes: Steps<C> = Steps::new(changes);
+    let mut counters: Counters<V, C> = Counters::new(visits, changes);
     let engine = &mut Engine::new(alloc);
-    check_lines(rt, alloc, engine, cases, &mut visits, &mut changes)
+    check_lines(rt, alloc, engine, cases, &mut counters)
 }
 
 // The engine is lent, so that it is let go in one place alone: the proof of a function that has one grows with each way out.
@@ -62,13 +72,11 @@ fn check_lines<V: Ledger, C: Ledger>(
     rt: &impl Abort,
     alloc: Global,
     engine: &mut Engine,
-    cases: &[(&str, &str, Answer)],
-    visits: &mut Steps<V>,
-    changes: &mut Steps<C>,
+    cases: &[(&str, &str)],
+    counters: &mut Counters<V, C>,
 ) -> Result<(), AllocError> {
-    for (line, reply, answer) in cases {
-        let sink = written_by(rt, alloc, engine, line, *answer, visits, changes)?;
-        assert_eq!(rt; sink.bytes(), reply.as_bytes(), "{line}");
+    for (line, reply) in cases {
+        check_line(rt, alloc, engine, line, reply, counters)?;
     }
     Ok(())
 }
@@ -77,18 +85,18 @@ fn check_lines<V: Ledger, C: Ledger>(
 #[test]
 fn each_command_by_itself(rt: HostRuntime) -> Result<(), Fail> {
     let cases = [
-        ("open points 2 max 1", "opened\n", Answer::Good),
-        ("put 0 0 1", "new\n", Answer::Good),
-        ("put 1 1 1", "error full\n", Answer::Refused),
-        ("put 0 0 2", "old 1\n", Answer::Good),
-        ("move 0 0 1 1", "moved\n", Answer::Good),
-        ("count", "count 1\n", Answer::Good),
-        ("del 0 0", "none\n", Answer::Good),
-        ("del 1 1", "gone 2\n", Answer::Good),
-        ("put 1 1 1", "new\n", Answer::Good),
-        ("clear", "cleared\n", Answer::Good),
-        ("put 5 5 1", "new\n", Answer::Good),
-        ("put 6 6 1", "error full\n", Answer::Refused),
+        ("open points 2 max 1", "opened\n"),
+        ("put 0 0 1", "new\n"),
+        ("put 1 1 1", "error full\n"),
+        ("put 0 0 2", "old 1\n"),
+        ("move 0 0 1 1", "moved\n"),
+        ("count", "count 1\n"),
+        ("del 0 0", "none\n"),
+        ("del 1 1", "gone 2\n"),
+        ("put 1 1 1", "new\n"),
+        ("clear", "cleared\n"),
+        ("put 5 5 1", "new\n"),
+        ("put 6 6 1", "error full\n"),
     ];
     check_each::<Brand, Brand>(&rt, rt.alloc(), &cases, Blank::new(1), Blank::new(1))?;
     Ok(())

@@ -1,5 +1,6 @@
 //! Scripts that save tables to files, and load them.
 use super::checks::check_of;
+use super::records::TWO_RECORDS;
 use super::{Trial, check_over, run};
 use ph_engine::Status;
 use ph_io::MemoryFiles;
@@ -90,10 +91,13 @@ pub(super) fn altered(
     Ok(altered)
 }
 
-// The same records behind the header of version 2.
-pub(super) fn migrated(alloc: Global, first: &[u8]) -> Result<Vec<u8>, AllocError> {
+// The same records behind the header of version 2, where they stand behind one of version 1, and else the same bytes.
+pub(super) fn migrated(alloc: Global, bytes: &[u8]) -> Result<Vec<u8>, AllocError> {
+    if !bytes.starts_with(b"PHT1") {
+        return Vec::from_slice(alloc, bytes);
+    }
     let mut second = Vec::from_slice(alloc, HEADER)?;
-    for byte in first.iter().skip(8) {
+    for byte in bytes.iter().skip(8) {
         second.push(*byte)?;
     }
     Ok(second)
@@ -134,92 +138,6 @@ pub(super) fn check_each_over(
         let mut files = files_holding(rt, alloc, 0, held)?;
         check_over(rt, alloc, &run(script, output, *status), &mut files)?;
     }
-    Ok(())
-}
-
-// Checks a script over these files, behind which they hold those.
-pub(super) fn check_kept(
-    rt: &impl Abort,
-    alloc: Global,
-    held: &[(&str, &[u8])],
-    trial: Trial,
-    kept: &[(&str, &[u8])],
-) -> Result<(), AllocError> {
-    let (script, output, status) = trial;
-    let mut files = files_holding(rt, alloc, 0, held)?;
-    check_over(rt, alloc, &run(script, output, status), &mut files)?;
-    for (name, bytes) in kept {
-        assert_eq!(rt; files.get(name), Some(*bytes), "{name}");
-    }
-    Ok(())
-}
-
-#[test]
-fn saved_empty_and_one(rt: HostRuntime) -> Result<(), Fail> {
-    let trial = (
-        "save e.pht\nput 3 4 17\nsave one.pht\n",
-        "saved 8\nnew\nsaved 40\n",
-        Status::Clean,
-    );
-    let one = migrated(rt.alloc(), ONE)?;
-    let kept = [("e.pht", EMPTY), ("one.pht", one.as_slice())];
-    check_kept(&rt, rt.alloc(), &[], trial, &kept)?;
-    Ok(())
-}
-
-// The header names the kind, the dimensions and the width.
-#[test]
-fn saved_in_version_two(rt: HostRuntime) -> Result<(), Fail> {
-    let cases: [(&'static str, &'static str, &[u8]); 5] = [
-        (
-            "put 3 4 17\nsave x.pht\n",
-            "new\nsaved 40\n",
-            b"PHT2\x00\x02\x20\x01\
-            \x1f\x00\x00\x00\x01\x00\x00\x00\
-            \x60\x00\x00\x00\xc0\x00\x00\x02\
-            \x00\x00\x00\x00\x00\x00\x00\x00\
-            \x00\x00\x00\x00\x00\x00\x00\x11",
-        ),
-        (
-            "open boxes 8 bits 62\nsave x.pht\n",
-            "opened\nsaved 8\n",
-            b"PHT2\x01\x10\x3e\x00",
-        ),
-        (
-            "open points 1 bits 62\nput -1 7\nsave x.pht\n",
-            "opened\nnew\nsaved 32\n",
-            WIDEST,
-        ),
-        (
-            "open points 16 bits 1\nput 0 0 0 0 0 0 0 0 0 0 0 0 0 0 0 0 5\n\
-            put -1 -1 -1 -1 -1 -1 -1 -1 -1 -1 -1 -1 -1 -1 -1 -1 6\nsave x.pht\n",
-            "opened\nnew\nnew\nsaved 40\n",
-            SIXTEEN,
-        ),
-        (
-            "open boxes 8 bits 1\nput -1 -1 -1 -1 -1 -1 -1 -1 0 0 0 0 0 0 0 0 7\nsave x.pht\n",
-            "opened\nnew\nsaved 32\n",
-            EIGHT_BY_EIGHT,
-        ),
-    ];
-    for (script, output, bytes) in cases {
-        let trial = (script, output, Status::Clean);
-        check_kept(&rt, rt.alloc(), &[], trial, &[("x.pht", bytes)])?;
-    }
-    Ok(())
-}
-
-// A file of version 1 is loaded and saved, and that one is loaded.
-#[test]
-fn migrated_snapshot(rt: HostRuntime) -> Result<(), Fail> {
-    let trial = (
-        "load two.pht\nsave two2.pht\nload two2.pht\n",
-        "loaded 2\nsaved 64\nloaded 2\n",
-        Status::Clean,
-    );
-    let second = migrated(rt.alloc(), TWO)?;
-    let kept = [("two2.pht", second.as_slice())];
-    check_kept(&rt, rt.alloc(), &[("two.pht", TWO)], trial, &kept)?;
     Ok(())
 }
 
@@ -308,29 +226,6 @@ fn loads_into_other_slots(rt: HostRuntime) -> Result<(), Fail> {
 }
 
 #[test]
-fn file_faults(rt: HostRuntime) -> Result<(), Fail> {
-    let script = "save x.pht\nload gone.pht\nsave x.pht\nload one.pht\n";
-    let output = "error file\nerror file\nsaved 8\nloaded 1\n";
-    let mut files = files_holding(&rt, rt.alloc(), 1, &[("one.pht", ONE)])?;
-    let case = run(script, output, Status::Refused);
-    check_over(&rt, rt.alloc(), &case, &mut files)?;
-    Ok(())
-}
-
-// Whichever call fails, a save leaves the file as it was.
-#[test]
-fn failed_saves_keep_the_file(rt: HostRuntime) -> Result<(), Fail> {
-    let script = "save one.pht\ncount\nload one.pht\n";
-    for call in 1..4 {
-        let mut files = files_holding(&rt, rt.alloc(), call, &[("one.pht", ONE)])?;
-        let case = run(script, "error file\ncount 0\nloaded 1\n", Status::Refused);
-        check_over(&rt, rt.alloc(), &case, &mut files)?;
-        assert_eq!(rt; files.get("one.pht"), Some(ONE));
-    }
-    Ok(())
-}
-
-#[test]
 fn file_too_long(rt: HostRuntime) -> Result<(), Fail> {
     let mut files = files_holding(&rt, rt.alloc(), 0, &[("one.pht", ONE)])?;
     let mut case = run("load one.pht\n", "error file\n", Status::Refused);
@@ -343,18 +238,43 @@ fn file_too_long(rt: HostRuntime) -> Result<(), Fail> {
     Ok(())
 }
 
+// How many of the first calls of files are to fail, one in each run, and a script and what is answered to it in each.
+const FAILING: [(u64, &str, &str); 4] = [
+    (
+        1,
+        "save x.pht\nload gone.pht\nsave x.pht\nload one.pht\n",
+        "error file\nerror file\nsaved 8\nloaded 1\n",
+    ),
+    (
+        3,
+        "save one.pht\ncount\nload one.pht\n",
+        "error file\ncount 0\nloaded 1\n",
+    ),
+    (
+        1,
+        "put 9 9 9\nimport b.csv\ncount\nimport b.csv\n",
+        "new\nerror file\ncount 1\nimported 2\n",
+    ),
+    (
+        3,
+        "put 3 4 17\nexport b.csv\nimport b.csv\n",
+        "new\nerror file\nimported 2\n",
+    ),
+];
+
+// Whichever call fails, the files that are there stay as they were, and so does the table.
 #[test]
-fn snapshots_through_edits(rt: HostRuntime) -> Result<(), Fail> {
-    let trial = (
-        "load two.pht\nput 0 1 3\nsave three.pht\ndel 0 1\nsave two2.pht\n",
-        "loaded 2\nnew\nsaved 72\ngone 3\nsaved 64\n",
-        Status::Clean,
-    );
-    let (two, three) = (migrated(rt.alloc(), TWO)?, migrated(rt.alloc(), THREE)?);
-    let kept = [
-        ("three.pht", three.as_slice()),
-        ("two2.pht", two.as_slice()),
-    ];
-    check_kept(&rt, rt.alloc(), &[("two.pht", TWO)], trial, &kept)?;
+fn failing_calls(rt: HostRuntime) -> Result<(), Fail> {
+    let held: [(&str, &[u8]); 2] = [("one.pht", ONE), ("b.csv", TWO_RECORDS)];
+    for (calls, script, output) in FAILING {
+        let case = run(script, output, Status::Refused);
+        for call in 1..=calls {
+            let mut files = files_holding(&rt, rt.alloc(), call, &held)?;
+            check_over(&rt, rt.alloc(), &case, &mut files)?;
+            for (name, bytes) in &held {
+                assert_eq!(rt; files.get(name), Some(*bytes), "{name} of call {call}");
+            }
+        }
+    }
     Ok(())
 }

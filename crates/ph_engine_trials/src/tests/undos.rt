@@ -1,6 +1,6 @@
 //! Edits that are taken back.
 use super::Trial;
-use super::files::{ONE, TWO, check_each_over, check_kept, migrated};
+use super::files::{ONE, check_each_over};
 use ph_engine::Status;
 use std::test::Fail;
 
@@ -63,19 +63,6 @@ pub(super) const UNDOS: [Trial; 9] = [
         Status::Refused,
     ),
 ];
-
-#[test]
-fn undo_restores_bytes(rt: HostRuntime) -> Result<(), Fail> {
-    let trial = (
-        "put 0 0 1\nput 1 1 2\nkeep 8\nsave x.pht\nput 0 1 3\nmove 0 0 7 7\ndel 1 1\nback 3\nsave y.pht\n",
-        "new\nnew\nkeeping 8\nsaved 64\nnew\nmoved\ngone 2\nback 3\nsaved 64\n",
-        Status::Clean,
-    );
-    let two = migrated(rt.alloc(), TWO)?;
-    let kept = [("x.pht", two.as_slice()), ("y.pht", two.as_slice())];
-    check_kept(&rt, rt.alloc(), &[], trial, &kept)?;
-    Ok(())
-}
 
 // Behind each of them the table is another one, and the depth is as before. One that is refused forgets nothing.
 const FORGOTTEN: [Trial; 3] = [

@@ -1,19 +1,8 @@
 //! Scripts about slots of other widths than 32, and of as many dimensions as there may be.
 use super::Trial;
-use super::files::{BINARY, check_each_over, check_kept};
+use super::files::check_each_over;
 use ph_engine::Status;
 use std::test::Fail;
-
-#[test]
-fn one_bit_wide(rt: HostRuntime) -> Result<(), Fail> {
-    let trial = (
-        "open points 1 bits 1\nput 0 5\nput -1 6\nput 1 7\nstats\nsave w1.pht\n",
-        "opened\nnew\nnew\nerror range\nrows 2 nodes 1 linear 1 cube 0 words 4\nsaved 40\n",
-        Status::Refused,
-    );
-    check_kept(&rt, rt.alloc(), &[], trial, &[("w1.pht", BINARY)])?;
-    Ok(())
-}
 
 // Scripts about other widths than 32.
 pub(super) const WIDTHS: [Trial; 3] = [

@@ -1,25 +1,22 @@
 //! A node that points come into and go out of where its record lies, beside one whose record is laid out anew each time.
 
 ghost use Rattle.std.specs.Prelude.{◌≡◌, ◌+◌, ◌^◌, ◌<◌, ◌≤◌, true, None, length, MatchOption, IfOk, position};
-ghost use Rattle.ph_specs.specs.EntryEdits.{has_address, what_at};
-ghost use Rattle.ph_specs.specs.Node.{entries};
-ghost use Rattle.ph_specs.specs.Pack.{pack};
-ghost use Rattle.ph_specs.proofs.laws.Unpacked.{child_nodes};
+ghost use Rattle.ph_specs.specs.TreeNames.{has_address, what_at, entries, child_nodes};
+ghost use Rattle.ph_specs.specs.RecordNames.{pack};
 ghost use Rattle.ph_bits.specs.Block.{room_of};
 ghost use Rattle.ph_node.specs.Bodies.{IsBodyArray};
 ghost use Rattle.ph_node.specs.Places.{place_for};
 ghost use Rattle.ph_node.specs.Split.{IsValue};
 ghost use Rattle.ph_node.specs.Spots.{IsSpot};
 
-use crate::{Dim, Dims, NoMemory, NodeOf, Spot, points};
+use super::has_words;
+use crate::{Dims, NoMemory, NodeOf, Spot, points};
 use ph_bits::Words;
 use ph_digits::body_below;
 use ph_steps::Steps;
 use std::alloc::Global;
-use std::marker::Brand;
 use std::process::Abort;
-use std::sync::ledger::{Blank, Ledger};
-use std::test::Fail;
+use std::sync::ledger::Ledger;
 
 // How the record of a node is changed.
 #[derive(Clone, Copy, PartialEq)]
@@ -92,52 +89,38 @@ fn spare_for<P: Dims>(node: &NodeOf<P>, relaid: bool) -> Result<Option<Words>, N
     Ok(Some(words))
 }
 
-// Adds a point at an address where none is, with a body and a value of its own.
-fn add<P: Dims, V: Ledger, C: Ledger>(
+// Brings a point to an address where none is, with a body and a value of its own, and lets one that is there go, where another is left.
+fn turn<P: Dims, L: Ledger>(
     node: &mut NodeOf<P>,
     addr: u32,
     way: Way,
-    visits: &mut Steps<V>,
-    changes: &mut Steps<C>,
+    steps: &mut Steps<L>,
 ) -> Result<(), NoMemory>
     requires { addr < 2 ^ P.D }
 {
-    let seen = node.visit(visits);
-    let Err(i) = seen.search(addr) else {
-        return Ok(());
-    };
-    let body = body_for::<P>(seen.level(), addr as u64);
-    let v = addr as u64 * 3;
-    match way {
-        Way::AsItLies => node.add(i, addr, body, v, changes),
-        Way::Anew => add_anew(node, i, addr, body, v),
+    let seen = node.visit(steps);
+    match seen.search(addr) {
+        Err(i) => {
+            let body = body_for::<P>(seen.level(), addr as u64);
+            let v = addr as u64 * 3;
+            match way {
+                Way::AsItLies => node.add(i, addr, body, v, steps),
+                Way::Anew => add_anew(node, i, addr, body, v),
+            }
+        }
+        Ok(spot) => {
+            if seen.len() < 2 || seen.is_child(spot) {
+                return Ok(());
+            }
+            if way == Way::Anew {
+                return drop_anew(node, spot);
+            }
+            let relaid = seen.is_relaid();
+            let spare = spare_for(node, relaid)?;
+            node.drop_entry(spot, spare, steps);
+            Ok(())
+        }
     }
-}
-
-// Lets the point at an address go, where one is and another is left.
-fn drop_at<P: Dims, V: Ledger, C: Ledger>(
-    node: &mut NodeOf<P>,
-    addr: u32,
-    way: Way,
-    visits: &mut Steps<V>,
-    changes: &mut Steps<C>,
-) -> Result<(), NoMemory>
-    requires { addr < 2 ^ P.D }
-{
-    let seen = node.visit(visits);
-    let Ok(spot) = seen.search(addr) else {
-        return Ok(());
-    };
-    if seen.len() < 2 || seen.is_child(spot) {
-        return Ok(());
-    }
-    if way == Way::Anew {
-        return drop_anew(node, spot);
-    }
-    let relaid = seen.is_relaid();
-    let spare = spare_for(node, relaid)?;
-    node.drop_entry(spot, spare, changes);
-    Ok(())
 }
 
 // The k-th address in an order in which neighbours lie far apart. All below 2^D come before one comes again.
@@ -159,78 +142,31 @@ fn way_for(k: u32, most: u32) -> Way
     }
 }
 
-fn has_words(words: &[u64], want: &[u64]) -> bool {
-    *words == *want
-}
-
 // Brings points to two nodes until they have `most`, and takes all but one out again, in both layouts.
-fn there_and_back<P: Dims, V: Ledger, C: Ledger>(
+pub(crate) fn there_and_back<P: Dims, L: Ledger>(
     rt: &impl Abort,
     alloc: Global,
     level: u32,
     most: u32,
-    visits: Blank,
-    changes: Blank,
+    steps: &mut Steps<L>,
 ) -> Result<(), NoMemory>
     requires some { 1 ≤ P.D }
     requires few { P.D ≤ 16 }
     requires low { level ≤ 61 }
-    requires visits { (visits.name ≡ V.name) × (visits.parts ≡ V.parts) × (0 < visits.parts) }
-    requires changes { (changes.name ≡ C.name) × (changes.parts ≡ C.parts) × (0 < changes.parts) }
 {
-    let mut visits: Steps<V> = Steps::new(visits);
-    let mut changes: Steps<C> = Steps::new(changes);
     let body = body_for::<P>(level, 0);
-    let mut node: NodeOf<P> = NodeOf::single(alloc, level, 0, body, 0, &mut changes)?;
-    let mut twin: NodeOf<P> = NodeOf::single(alloc, level, 0, body, 0, &mut changes)?;
-    for k in 1..most {
-        let addr = scattered::<P>(k);
-        add(&mut node, addr, Way::AsItLies, &mut visits, &mut changes)?;
-        add(&mut twin, addr, way_for(k, most), &mut visits, &mut changes)?;
-        assert!(rt;
-            has_words(
-                node.visit(&mut visits).words(),
-                twin.visit(&mut visits).words()
-            ),
-            "{k}"
-        );
+    let mut node: NodeOf<P> = NodeOf::single(alloc, level, 0, body, 0, steps)?;
+    let mut twin: NodeOf<P> = NodeOf::single(alloc, level, 0, body, 0, steps)?;
+    for left in [(most as usize, true), (1, false)] {
+        for k in 1..most {
+            let addr = scattered::<P>(k);
+            turn(&mut node, addr, Way::AsItLies, steps)?;
+            turn(&mut twin, addr, way_for(k, most), steps)?;
+            let words = twin.visit(steps).words();
+            assert!(rt; has_words(node.visit(steps).words(), words), "{k}");
+        }
+        let seen = node.visit(steps);
+        assert_eq!(rt; (seen.len(), seen.is_cube()), left);
     }
-    assert!(rt; node.visit(&mut visits).is_cube());
-    for k in 1..most {
-        let addr = scattered::<P>(k);
-        drop_at(&mut node, addr, Way::AsItLies, &mut visits, &mut changes)?;
-        drop_at(&mut twin, addr, way_for(k, most), &mut visits, &mut changes)?;
-        assert!(rt;
-            has_words(
-                node.visit(&mut visits).words(),
-                twin.visit(&mut visits).words()
-            ),
-            "{k}"
-        );
-    }
-    let left = node.visit(&mut visits);
-    assert_eq!(rt; (left.len(), left.is_cube()), (1, false));
-    Ok(())
-}
-
-#[test]
-fn few_dimensions(rt: HostRuntime) -> Result<(), Fail> {
-    let alloc = rt.alloc();
-    there_and_back::<Dim<2>, Brand, Brand>(&rt, alloc, 5, 4, Blank::new(1), Blank::new(1))?;
-    there_and_back::<Dim<3>, Brand, Brand>(&rt, alloc, 5, 8, Blank::new(1), Blank::new(1))?;
-    there_and_back::<Dim<8>, Brand, Brand>(&rt, alloc, 3, 256, Blank::new(1), Blank::new(1))?;
-    Ok(())
-}
-
-#[test]
-fn sixteen_dimensions(rt: HostRuntime) -> Result<(), Fail> {
-    there_and_back::<Dim<16>, Brand, Brand>(
-        &rt,
-        rt.alloc(),
-        0,
-        7720,
-        Blank::new(1),
-        Blank::new(1),
-    )?;
     Ok(())
 }

@@ -23,7 +23,7 @@ macro_rules! try_rows {
     };
 }
 
-// No entry has a body at the lowest level.
+// At the lowest level, where no entry has a body, and with the longest fields.
 #[test]
 fn points_of_one_dimension(rt: HostRuntime) {
     try_rows! { rt, 1,
@@ -33,12 +33,6 @@ fn points_of_one_dimension(rt: HostRuntime) {
         1 at 1: [0] = 91:
             [0x0001000001000000, 0x4000000000000000, 5]
             or [0x0001000002000000, 0x5000000000000000, 5, 91];
-    }
-}
-
-#[test]
-fn points_with_the_longest_fields(rt: HostRuntime) {
-    try_rows! { rt, 1,
         0 at 0: [543804029693342780] = 90:
             [0x3d01000001000000, 0x1000000000000000, 0x1027c4d30e1aef10, 6]
             or [0x3d01000002000000, 0x53c5fd7120a61a1e, 0x1027c4d30e1aef10, 90, 6];
@@ -67,6 +61,7 @@ fn points_of_two_dimensions(rt: HostRuntime) {
     }
 }
 
+// In one word, and in several.
 #[test]
 fn points_of_three_dimensions(rt: HostRuntime) {
     try_rows! { rt, 3,
@@ -82,12 +77,6 @@ fn points_of_three_dimensions(rt: HostRuntime) {
         2 at 3: [1, 1, 0] = 93:
             [0x0101000003000001, 0x8404218018000000, 7, 11]
             or [0x0101000004000001, 0x850421e018000000, 7, 93, 11];
-    }
-}
-
-#[test]
-fn points_in_several_words(rt: HostRuntime) {
-    try_rows! { rt, 3,
         2 at 4: [6, 31, 1] = 94:
             [0x0501000003000002, 0x600241207ff00000, 0x000000000000007b, 0x0d00000000000000, 5]
             or [0x0501000004000002, 0x604241207ff00000, 0x00037c200000007b, 0x0d00000000000000, 5, 94];

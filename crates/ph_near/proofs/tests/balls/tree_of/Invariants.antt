@@ -1,5 +1,0 @@
-use Rattle.std.proofs.Common.{◌≡◌}
-use Rattle.ph_near.proofs.tests.balls.tree_of.Given as goal
-
-abbrev pub invariant-loop-coords : goal.invariant-loop-coords
-invariant-loop-coords _ l = l.tree.width ≡ 32

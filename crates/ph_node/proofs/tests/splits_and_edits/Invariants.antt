@@ -1,7 +1,0 @@
-use Rattle.ph_node.proofs.tests.splits_and_edits.Given as goal
-
-abbrev pub ghosts-outcome-V-Ledger : goal.ghosts-outcome-V-Ledger
-ghosts-outcome-V-Ledger g a = record { name = a.visits.name; parts = a.visits.parts }
-
-abbrev pub ghosts-outcome-C-Ledger : goal.ghosts-outcome-C-Ledger
-ghosts-outcome-C-Ledger g a = record { name = a.changes.name; parts = a.changes.parts }

@@ -1,0 +1,153 @@
+//! A few edits, and what stands after they were taken back.
+
+ghost use Rattle.std.specs.Prelude.{◌≡◌, ◌<◌};
+
+use super::trees::{empty, point};
+use ph_steps::Counters;
+use ph_undo::Kept;
+use std::alloc::Global;
+use std::marker::Brand;
+use std::process::Abort;
+use std::sync::ledger::{Blank, Ledger};
+use std::test::Fail;
+
+// What is done to a tree.
+#[derive(Clone, Copy)]
+enum Act {
+    Keep(u16),
+    Put([i64; 2], u64),
+    Del([i64; 2]),
+    Move([i64; 2], [i64; 2]),
+    Back,
+    Forget,
+}
+
+// What is done, and how many edits can be taken back after it, and how many rows there are.
+type Line = (Act, u32, u64);
+
+fn follow<V: Ledger, C: Ledger>(
+    rt: &impl Abort,
+    alloc: Global,
+    kept: &mut Kept<2>,
+    act: Act,
+    counters: &mut Counters<V, C>,
+) -> Result<(), Fail> {
+    let width = kept.tree().width();
+    let visits = &mut counters.visits;
+    let changes = &mut counters.changes;
+    match act {
+        Act::Keep(n) => kept.keep(alloc, u32::from(n))?,
+        Act::Put(at, value) => {
+            kept.put(point(rt, width, &at), value, visits, changes)?;
+        }
+        Act::Del(at) => {
+            kept.del(&point(rt, width, &at), visits, changes)?;
+        }
+        Act::Move(from, to) => {
+            let (from, to) = (point(rt, width, &from), point(rt, width, &to));
+            kept.relocate(&from, &to, visits, changes)?;
+        }
+        Act::Back => {
+            kept.back_one(visits, changes)?;
+        }
+        Act::Forget => kept.forget(),
+    }
+    Ok(())
+}
+
+fn run<V: Ledger, C: Ledger>(
+    rt: &impl Abort,
+    alloc: Global,
+    kept: &mut Kept<2>,
+    script: &[Line],
+    counters: &mut Counters<V, C>,
+) -> Result<(), Fail> {
+    for line in script {
+        follow(rt, alloc, kept, line.0, counters)?;
+        assert_eq!(rt; (kept.steps(), kept.tree().len()), (line.1, line.2));
+    }
+    Ok(())
+}
+
+fn get<V: Ledger, C: Ledger>(
+    rt: &impl Abort,
+    kept: &Kept<2>,
+    at: [i64; 2],
+    counters: &mut Counters<V, C>,
+) -> Option<u64> {
+    let p = point(rt, kept.tree().width(), &at);
+    kept.tree().get(&p, &mut counters.visits)
+}
+
+// Of three puts the last two are kept.
+const THREE_PUTS: [Line; 7] = [
+    (Act::Keep(2), 0, 0),
+    (Act::Put([0, 0], 1), 1, 1),
+    (Act::Put([1, 1], 2), 2, 2),
+    (Act::Put([0, 0], 5), 2, 2),
+    (Act::Back, 1, 2),
+    (Act::Back, 0, 1),
+    (Act::Back, 0, 1),
+];
+
+const TWO_PUTS: [Line; 2] = [(Act::Put([0, 0], 1), 0, 1), (Act::Put([1, 1], 2), 0, 2)];
+
+// A put, a move and a removal, and beside them what is no edit.
+const EACH_EDIT: [Line; 11] = [
+    (Act::Keep(8), 0, 2),
+    (Act::Put([0, 1], 3), 1, 3),
+    (Act::Move([0, 0], [7, 7]), 2, 3),
+    (Act::Move([7, 7], [7, 7]), 2, 3),
+    (Act::Move([7, 7], [0, 1]), 2, 3),
+    (Act::Move([5, 5], [6, 6]), 2, 3),
+    (Act::Del([1, 1]), 3, 2),
+    (Act::Del([1, 1]), 3, 2),
+    (Act::Back, 2, 3),
+    (Act::Back, 1, 3),
+    (Act::Back, 0, 2),
+];
+
+// A full tree takes a removal back, and what is forgotten does not come back.
+const FORGOTTEN: [Line; 10] = [
+    (Act::Keep(3), 0, 2),
+    (Act::Del([0, 0]), 1, 1),
+    (Act::Back, 0, 2),
+    (Act::Put([0, 0], 3), 1, 2),
+    (Act::Forget, 0, 2),
+    (Act::Back, 0, 2),
+    (Act::Del([1, 1]), 1, 1),
+    (Act::Keep(0), 0, 1),
+    (Act::Del([0, 0]), 0, 0),
+    (Act::Back, 0, 0),
+];
+
+fn known<V: Ledger, C: Ledger>(
+    rt: &impl Abort,
+    alloc: Global,
+    visits: Blank,
+    changes: Blank,
+) -> Result<(), Fail>
+    requires visits { (visits.name ≡ V.name) × (visits.parts ≡ V.parts) × (0 < visits.parts) }
+    requires changes { (changes.name ≡ C.name) × (changes.parts ≡ C.parts) × (0 < changes.parts) }
+{
+    let mut counters: Counters<V, C> = Counters::new(visits, changes);
+    let mut kept: Kept<2> = empty(rt, alloc, 7);
+    run(rt, alloc, &mut kept, &THREE_PUTS, &mut counters)?;
+    assert_eq!(rt; get(rt, &kept, [0, 0], &mut counters), Some(1));
+    assert_eq!(rt; get(rt, &kept, [1, 1], &mut counters), None);
+    let mut kept: Kept<2> = empty(rt, alloc, 7);
+    run(rt, alloc, &mut kept, &TWO_PUTS, &mut counters)?;
+    let before = kept.tree().stats(&mut counters.visits);
+    run(rt, alloc, &mut kept, &EACH_EDIT, &mut counters)?;
+    assert_eq!(rt; get(rt, &kept, [0, 0], &mut counters), Some(1));
+    assert_eq!(rt; get(rt, &kept, [1, 1], &mut counters), Some(2));
+    assert_eq!(rt; kept.tree().stats(&mut counters.visits), before);
+    let mut kept: Kept<2> = empty(rt, alloc, 2);
+    run(rt, alloc, &mut kept, &TWO_PUTS, &mut counters)?;
+    run(rt, alloc, &mut kept, &FORGOTTEN, &mut counters)
+}
+
+#[test]
+fn known_edits(rt: HostRuntime) -> Result<(), Fail> {
+    known::<Brand, Brand>(&rt, rt.alloc(), Blank::new(1), Blank::new(1))
+}
