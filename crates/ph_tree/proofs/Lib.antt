@@ -1,6 +1,7 @@
 -- Lemmas on trees.
 pub mod Compared
 mod Fewer
+mod Fields
 mod Gone
 mod NodeRooms
 mod Offsets
