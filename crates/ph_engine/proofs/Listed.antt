@@ -4,6 +4,7 @@ use Rattle.std.specs.Prelude.{◌↔◌, ◌<◌, ◌≢◌, IsSome, ℤ, Option
 use Rattle.std.specs.List.{list_all}
 use Rattle.std.proofs.lemmas.Bool.{and_parts}
 use Rattle.ph_io.specs.Giving.{Taken, Given}
+use Rattle.ph_io.specs.declared.streams.Sink.{Ghosts as SinkTells}
 use Rattle.ph_specs.specs.Coordinate.{is_point}
 use Rattle.ph_specs.specs.Table.{Row, IsTable}
 use Rattle.ph_specs.specs.Reply.{Reply, reply_text, replies_text}
@@ -17,6 +18,7 @@ use Rattle.ph_engine.specs.Doing.{refuses}
 use Rattle.ph_engine.specs.Listing.{FrontListed, PageListed, Lists, met, page_replies, is_more}
 use Rattle.ph_engine.specs.Machine.{is_refusal}
 use Rattle.ph_engine.specs.Slots.{AnyTable}
+use Rattle.ph_engine.specs.Told.{taken_by}
 use Rattle.ph_engine.specs.Working.{most_to_resume, least_to_resume}
 use Rattle.ph_io.specs.Writing.{WritesFront}
 use Rattle.ph_engine.specs.declared.status.Answer.{Answer}
@@ -77,6 +79,11 @@ pub record IsListed {X : Type 0} (f : X → Reply) (all left : List X) (count : 
   pub given : IsGiven (map f all ++ Reply.End (length all) ∷ []) (map f left ++ Reply.End (length all) ∷ []) a b
   pub counted : count + length left ≡ length all
   pub cost : now_v + now_due ≡ v + due
+
+-- the same of a sink, as it was when the loop began and as it is now
+abbrev pub IsListedBy : {O X : Type 0} → SinkTells O → (X → Reply) → List X → List X → ℕ → O → O → ℕ → ℕ → ℕ → ℕ → Type 0
+IsListedBy sink f all left count out now_out v due now_v now_due =
+    IsListed f all left count (taken_by sink out) (taken_by sink now_out) (sink.faults out) (sink.faults now_out) v due now_v now_due
 
 pub none_listed : {X : Type 0} (f : X → Reply) (all : List X) (a : Taken) (faults v due : ℕ) → IsListed f all all 0 a a faults faults v due v due
 none_listed f all a faults v due = record { later = omega arith; given = none_given _ a; counted = omega arith; cost = refl }

@@ -3,3 +3,4 @@ pub mod Stacks
 pub mod Knowns
 pub mod Paths
 pub mod Roots
+pub mod Rising

@@ -117,25 +117,28 @@ pub passed-count : (bad : Bad) (places : List Place) (ws : List (List ℕ)) → 
 unfolding read_among
 passed-count bad places ws sized f word fs e is = rw (is, e, sized) refl
 
--- its own words are not there
+-- it has as many, and its own words are there or not
+by-own : (bad wrong : Bad) (places : List Place) (ws : List (List ℕ)) (b : Bool) → (wrong ≡ Count → ⊥) →
+    IsFault wrong (length places == length ws) (pointwise number_fits places ws) (pointwise name_fits places ws) →
+    pointwise fixed_fits places ws ≡ b → (f : Form) (word : List ℕ) (fs : List Form) → f.places ≡ places → bytes_eq f.word word ≡ true →
+    read_among bad word ws (f ∷ fs) ≡ (if b then Reading.Refused (bad_reply wrong) else read_among wrong word ws fs)
+unfolding read_among
+by-own bad Word places ws b m h own f word fs e is = absurd h
+by-own bad Count places ws b m h own f word fs e is = absurd (m refl)
+by-own bad Number places ws true m h own f word fs e is = rw (is, e, h.0, own, h.1) refl
+by-own bad Number places ws false m h own f word fs e is = rw (is, e, h.0, own, h.1) refl
+by-own bad Name places ws true m h own f word fs e is = rw (is, e, h.0, own, h.1, h.2) refl
+by-own bad Name places ws false m h own f word fs e is = rw (is, e, h.0, own, h.1) refl
+
 pub passed-own : (bad wrong : Bad) (places : List Place) (ws : List (List ℕ)) → (wrong ≡ Count → ⊥) →
     IsFault wrong (length places == length ws) (pointwise number_fits places ws) (pointwise name_fits places ws) →
     pointwise fixed_fits places ws ≡ false → IsPassed bad wrong places ws
-unfolding read_among
-passed-own bad Word places ws m h own f word fs e is = absurd h
-passed-own bad Count places ws m h own f word fs e is = absurd (m refl)
-passed-own bad Number places ws m h own f word fs e is = rw (is, e, h.0, own, h.1) refl
-passed-own bad Name places ws m h own f word fs e is = rw (is, e, h.0, own, h.1) refl
+passed-own bad wrong places ws m h own = by-own bad wrong places ws false m h own
 
--- its own words are there
 pub refusing-own : (bad wrong : Bad) (places : List Place) (ws : List (List ℕ)) → (wrong ≡ Count → ⊥) →
     IsFault wrong (length places == length ws) (pointwise number_fits places ws) (pointwise name_fits places ws) →
     pointwise fixed_fits places ws ≡ true → IsRefusing bad wrong places ws
-unfolding read_among
-refusing-own bad Word places ws m h own f word fs e is = absurd h
-refusing-own bad Count places ws m h own f word fs e is = absurd (m refl)
-refusing-own bad Number places ws m h own f word fs e is = rw (is, e, h.0, own, h.1) refl
-refusing-own bad Name places ws m h own f word fs e is = rw (is, e, h.0, own, h.1, h.2) refl
+refusing-own bad wrong places ws m h own = by-own bad wrong places ws true m h own
 
 -- what the words of a line are, by the forms of its first word
 pub line-reads : (all : List (List ℕ)) (word : List ℕ) (ws : List (List ℕ)) (fs : List Form) → all ≡ word ∷ ws →

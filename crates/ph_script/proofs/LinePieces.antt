@@ -93,6 +93,19 @@ line-whole over old line begun rest back front end shown b v empty r f t is =
     let whole : front ≡ line ++ before_feed rest = t ∙ rw (none, r, f) refl in
     subst (λ xs. IsLine xs shown) whole is
 
+-- a line that a line feed ends, in bytes from a place on
+pub record IsEnded (line bytes : List ℕ) (at end : ℕ) (shown : Line) : Type 0 where
+  pub none : [] ≡ unended line bytes
+  pub given : (feed_at bytes < length bytes) × IsLine (line ++ before_feed bytes) shown
+  pub place : at + (end + 1) ≡ at + feed_at bytes + 1
+
+pub ends : (line bytes back : List ℕ) (at end : ℕ) (shown : Line) → back ≡ bytes → Some end ≡ position is_feed back →
+    (feed_at bytes ≡ end → IsLine (line ++ before_feed bytes) shown) → IsEnded line bytes at end shown
+ends line bytes back at end shown same found is =
+    let f : position is_feed bytes ≡ Some end = rw (← same) (sym found) in
+    let feed = feed-some bytes end f in
+    record { none = sym (ended line bytes end f); given = (omega (arith, feed.0, feed.1), is feed.0); place = omega (arith, feed.0) }
+
 -- the first line feed by the search of `memchr`
 no-feed : (bytes : List ℕ) (k : ℕ) → ¬ (is_byte 10 (slice_index bytes k) ≡ true) → is_feed (get_or bytes k 0) ≡ false
 no-feed bytes k h =

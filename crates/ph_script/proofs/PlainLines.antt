@@ -204,9 +204,9 @@ fit-plain Overlap dims cs ns name file h = h
 fit-plain Inside dims cs ns name file h = h
 fit-plain Covers dims cs ns name file h = h
 
-pub plain-fit : (plain : Plain) (dims : ℕ) (ws : List (List ℕ)) (cs : List Coord) (n : ℕ) →
+pub plain-fit : {plain : Plain} {dims : ℕ} {ws : List (List ℕ)} {cs : List Coord} {n : ℕ} →
     IsPlain plain dims ws cs n → IsFit (verb_of plain) dims cs (number_by plain n) None None
-plain-fit plain dims ws cs n h =
+plain-fit {plain} {dims} {ws} {cs} {n} h =
     let places = places_by (verb_of plain) dims in
     fit-plain plain dims cs (number_by plain n) _ _
     (fit-of (verb_of plain) dims places h.behind cs (number_by plain n) (name_from None places h.behind)
@@ -233,13 +233,14 @@ reads-plain Overlap dims ws h = one-form (form-plain Overlap dims) ws h
 reads-plain Inside dims ws h = one-form (form-plain Inside dims) ws h
 reads-plain Covers dims ws h = one-form (form-plain Covers dims) ws h
 
-pub plain-does : (plain : Plain) (dims : ℕ) (ws : List (List ℕ)) (cs : List Coord) (n : ℕ) (made : Command) →
+pub plain-does : {plain : Plain} {dims : ℕ} {ws : List (List ℕ)} {cs : List Coord} {n : ℕ} {made : Command} →
     IsPlain plain dims ws cs n → ((t : List (List ℕ)) →
     made ≡ command_by (verb_of plain) dims (numbers_of cs ++ map pos (number_by plain n)) t) →
-    read_words dims ws ≡ Reading.Do made
-plain-does plain dims ws cs n made h makes =
+    Reading.Do made ≡ read_words dims ws
+plain-does {plain} {dims} {ws} {cs} {n} {made} h makes =
     let places = places_by (verb_of plain) dims in
-    ap (λ l. read_words dims l) h.line ∙ reads-plain plain dims h.behind (eq-eqb (length places) (length h.behind) h.size)
+    sym
+    (ap (λ l. read_words dims l) h.line ∙ reads-plain plain dims h.behind (eq-eqb (length places) (length h.behind) h.size)
     ∙ does (word_of plain) (verb_of plain) dims places places h.behind cs (number_by plain n)
     (name_from None places h.behind) (file_from None places h.behind) (second_from false places h.behind) made
-    refl refl h.numbers h.names h.coords_are h.counts_are refl refl refl (λ t _. makes t)
+    refl refl h.numbers h.names h.coords_are h.counts_are refl refl refl (λ t _. makes t))

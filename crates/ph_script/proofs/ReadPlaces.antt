@@ -7,7 +7,7 @@ use Rattle.std.specs.Cmp.Lexicographic.{pointwise}
 use Rattle.std.proofs.lemmas.List.{append-nil, map-append}
 use Rattle.std.proofs.lemmas.Bool.{and_parts}
 use Rattle.ph_specs.specs.Lines.{number}
-use Rattle.ph_specs.specs.Command.{Command, Place, form, number_fits, name_fits, numbers, texts, coordinates, count, value, radius, fixed, read_form, Reading}
+use Rattle.ph_specs.specs.Command.{Command, Place, form, number_fits, name_fits, numbers, texts, coordinates, first_word, kinds, count, value, fixed, read_form, Reading}
 use Rattle.ph_specs.specs.Command.Place.{Coordinate, Below, CursorName, FileName, OneOf}
 use Rattle.ph_script.specs.declared.coords.Coord.{Coord}
 use Rattle.ph_script.specs.declared.forms.Verb.{Verb}
@@ -115,6 +115,45 @@ led-on {behind} {cs} {ds} {ns} {ms} {zs} {ys} a b =
       same = a.same ∙ rw (b.same, append_assoc zs ys (numbers behind b.left)) refl;
     }
 
+-- one of some words, and a number behind it
+record LedNumber (words : List (List ℕ)) (limit : ℕ) (behind : List Place) (ws : List (List ℕ)) : Type 0 where
+  kept : ℕ
+  below : kept < limit
+  led : Led (OneOf words ∷ Below limit ∷ behind) ws behind [] (kept ∷ []) (pos kept ∷ [])
+
+led-number : (words : List (List ℕ)) (limit : ℕ) (behind : List Place) (ws : List (List ℕ)) → limit ≤ 2 ^ 128 →
+    pointwise number_fits (OneOf words ∷ Below limit ∷ behind) ws ≡ true → LedNumber words limit behind ws
+led-number words limit behind ws l h =
+    let a = led-fixed words (Below limit ∷ behind) ws h in
+    let b = led-count limit behind a.left l a.fits in
+    record { kept = b.kept; below = b.below; led = led-on a b.led }
+
+-- the kind and the dimensions of a new table, and a word with a number behind them
+record LedOpen (word : List ℕ) (limit : ℕ) (ws : List (List ℕ)) : Type 0 where
+  size : ℕ
+  more : ℕ
+  few : size < 2 ^ 32
+  below : more < limit
+  led : Led (kinds ∷ count ∷ fixed word ∷ Below limit ∷ []) ws [] [] (size ∷ more ∷ []) (pos size ∷ pos more ∷ [])
+  said : second_from false (kinds ∷ count ∷ fixed word ∷ Below limit ∷ []) ws ≡
+      bytes_eq (first_word (texts (kinds ∷ count ∷ fixed word ∷ Below limit ∷ []) ws)) (codes "boxes")
+
+led-open : (word : List ℕ) (limit : ℕ) (ws : List (List ℕ)) → limit ≤ 2 ^ 128 →
+    pointwise number_fits (kinds ∷ count ∷ fixed word ∷ Below limit ∷ []) ws ≡ true → LedOpen word limit ws
+led-open word limit [] l h = absurd (let k : false ≡ true = h in cc)
+led-open word limit (w ∷ ws) l h =
+    let a = led-number (codes "points" ∷ codes "boxes" ∷ []) (2 ^ 32) (fixed word ∷ Below limit ∷ []) (w ∷ ws) (lit≤ tt) h in
+    let b = led-number (word ∷ []) limit [] a.led.left l a.led.fits in
+    let second = bytes_eq w (codes "boxes") in
+    record {
+      size = a.kept;
+      more = b.kept;
+      few = a.below;
+      below = b.below;
+      led = led-on a.led b.led;
+      said = unsaid-count second (2 ^ 32) (fixed word ∷ Below limit ∷ []) ws (λ vs. unsaid-fixed second word limit [] vs (λ us. refl));
+    }
+
 record LedPoint (dims : ℕ) (behind : List Place) (ws : List (List ℕ)) : Type 0 where
   at : List Coord
   size : length at ≡ dims
@@ -126,6 +165,32 @@ led-point (suc dims) behind ws h =
     let c = led-coordinate (coordinates dims ++ behind) ws h in
     let p = led-point dims behind c.1.left c.1.fits in
     record { at = c.0 ∷ p.at; size = ap suc p.size; led = led-on c.1 p.led }
+
+-- a point, and a number behind it
+record LedBeside (dims limit : ℕ) (ws : List (List ℕ)) : Type 0 where
+  cs : List Coord
+  kept : ℕ
+  zs : List ℤ
+  led : Led (coordinates dims ++ Below limit ∷ []) ws [] cs (kept ∷ []) zs
+  size : length cs ≡ dims
+  below : kept < limit
+  same : zs ≡ numbers_of cs ++ pos kept ∷ []
+
+led-beside : (dims limit : ℕ) (ws : List (List ℕ)) → limit ≤ 2 ^ 128 →
+    pointwise number_fits (coordinates dims ++ Below limit ∷ []) ws ≡ true → LedBeside dims limit ws
+led-beside dims limit ws l h =
+    let p = led-point dims (Below limit ∷ []) ws h in
+    let b = led-count limit [] p.led.left l p.led.fits in
+    let e = append-nil p.at in
+    record {
+      cs = p.at ++ [];
+      kept = b.kept;
+      zs = numbers_of p.at ++ pos b.kept ∷ [];
+      led = led-on p.led b.led;
+      size = rw e p.size;
+      below = b.below;
+      same = rw e refl;
+    }
 
 -- the parts in the places of each form are what it asks
 pub record Reads (verb : Verb) (dims : ℕ) (ws : List (List ℕ)) : Type 0 where
@@ -180,46 +245,25 @@ led-corners dims ws h =
 pub reads : (verb : Verb) (dims : ℕ) (ws : List (List ℕ)) → pointwise number_fits (places_by verb dims) ws ≡ true → Reads verb dims ws
 reads Open dims [] h = absurd (let k : false ≡ true = h in cc)
 reads Open dims (w ∷ ws) h =
-    let a = led-fixed (codes "points" ∷ codes "boxes" ∷ []) (count ∷ []) (w ∷ ws) h in
-    let b = led-count (2 ^ 32) [] a.left (lit≤ tt) a.fits in
-    closing Open dims (w ∷ ws) (led-on a b.led) (refl, refl, b.below) refl (unsaid-count (bytes_eq w (codes "boxes")) (2 ^ 32) [] ws (λ vs. refl))
-reads OpenBits dims [] h = absurd (let k : false ≡ true = h in cc)
-reads OpenBits dims (w ∷ ws) h =
-    let a = led-fixed (codes "points" ∷ codes "boxes" ∷ []) (count ∷ fixed (codes "bits") ∷ count ∷ []) (w ∷ ws) h in
-    let b = led-count (2 ^ 32) (fixed (codes "bits") ∷ count ∷ []) a.left (lit≤ tt) a.fits in
-    let c = led-fixed (codes "bits" ∷ []) (count ∷ []) b.led.left b.led.fits in
-    let d = led-count (2 ^ 32) [] c.left (lit≤ tt) c.fits in
-    let second = bytes_eq w (codes "boxes") in
-    closing OpenBits dims (w ∷ ws) (led-on a (led-on b.led (led-on c d.led))) (refl, refl, b.below, d.below) refl
-    (unsaid-count second (2 ^ 32) (fixed (codes "bits") ∷ count ∷ []) ws
-    (λ vs. unsaid-fixed second (codes "bits") (2 ^ 32) [] vs (λ us. refl)))
-reads OpenMax dims [] h = absurd (let k : false ≡ true = h in cc)
-reads OpenMax dims (w ∷ ws) h =
-    let a = led-fixed (codes "points" ∷ codes "boxes" ∷ []) (count ∷ fixed (codes "max") ∷ value ∷ []) (w ∷ ws) h in
-    let b = led-count (2 ^ 32) (fixed (codes "max") ∷ value ∷ []) a.left (lit≤ tt) a.fits in
-    let c = led-fixed (codes "max" ∷ []) (value ∷ []) b.led.left b.led.fits in
-    let d = led-count (2 ^ 64) [] c.left (lit≤ tt) c.fits in
-    closing OpenMax dims (w ∷ ws) (led-on a (led-on b.led (led-on c d.led))) (refl, refl, b.below, d.below) refl
-    (unsaid-count (bytes_eq w (codes "boxes")) (2 ^ 32) (fixed (codes "max") ∷ value ∷ []) ws
-    (λ vs. unsaid-fixed (bytes_eq w (codes "boxes")) (codes "max") (2 ^ 64) [] vs (λ us. refl)))
+    let a = led-number (codes "points" ∷ codes "boxes" ∷ []) (2 ^ 32) [] (w ∷ ws) (lit≤ tt) h in
+    closing Open dims (w ∷ ws) a.led (refl, refl, a.below) refl (unsaid-count (bytes_eq w (codes "boxes")) (2 ^ 32) [] ws (λ vs. refl))
+reads OpenBits dims ws h =
+    let o = led-open (codes "bits") (2 ^ 32) ws (lit≤ tt) h in
+    closing OpenBits dims ws o.led (refl, refl, o.few, o.below) refl o.said
+reads OpenMax dims ws h =
+    let o = led-open (codes "max") (2 ^ 64) ws (lit≤ tt) h in
+    closing OpenMax dims ws o.led (refl, refl, o.few, o.below) refl o.said
 reads OpenBitsMax dims [] h = absurd (let k : false ≡ true = h in cc)
 reads OpenBitsMax dims (w ∷ ws) h =
-    let a = led-fixed (codes "points" ∷ codes "boxes" ∷ []) (count ∷ fixed (codes "bits") ∷ count ∷ fixed (codes "max") ∷ value ∷ []) (w ∷ ws) h in
-    let b = led-count (2 ^ 32) (fixed (codes "bits") ∷ count ∷ fixed (codes "max") ∷ value ∷ []) a.left (lit≤ tt) a.fits in
-    let c = led-fixed (codes "bits" ∷ []) (count ∷ fixed (codes "max") ∷ value ∷ []) b.led.left b.led.fits in
-    let d = led-count (2 ^ 32) (fixed (codes "max") ∷ value ∷ []) c.left (lit≤ tt) c.fits in
-    let e = led-fixed (codes "max" ∷ []) (value ∷ []) d.led.left d.led.fits in
-    let f = led-count (2 ^ 64) [] e.left (lit≤ tt) e.fits in
+    let a = led-number (codes "points" ∷ codes "boxes" ∷ []) (2 ^ 32) (fixed (codes "bits") ∷ count ∷ fixed (codes "max") ∷ value ∷ []) (w ∷ ws) (lit≤ tt) h in
+    let b = led-number (codes "bits" ∷ []) (2 ^ 32) (fixed (codes "max") ∷ value ∷ []) a.led.left (lit≤ tt) a.led.fits in
+    let c = led-number (codes "max" ∷ []) (2 ^ 64) [] b.led.left (lit≤ tt) b.led.fits in
     let second = bytes_eq w (codes "boxes") in
-    closing OpenBitsMax dims (w ∷ ws) (led-on a (led-on b.led (led-on c (led-on d.led (led-on e f.led))))) (refl, refl, b.below, d.below, f.below) refl
+    closing OpenBitsMax dims (w ∷ ws) (led-on a.led (led-on b.led c.led)) (refl, refl, a.below, b.below, c.below) refl
     (unsaid-count second (2 ^ 32) (fixed (codes "bits") ∷ count ∷ fixed (codes "max") ∷ value ∷ []) ws
     (λ vs. unsaid-fixed second (codes "bits") (2 ^ 32) (fixed (codes "max") ∷ value ∷ []) vs
     (λ us. unsaid-fixed second (codes "max") (2 ^ 64) [] us (λ ts. refl))))
-reads Put dims ws h =
-    let p = led-point dims (value ∷ []) ws h in
-    let b = led-count (2 ^ 64) [] p.led.left (lit≤ tt) p.led.fits in
-    let e = append-nil p.at in
-    closing Put dims ws (led-on p.led b.led) (rw e p.size, refl, b.below) (rw e refl) tt
+reads Put dims ws h = let b = led-beside dims (2 ^ 64) ws (lit≤ tt) h in closing Put dims ws b.led (b.size, refl, b.below) b.same tt
 reads Get dims ws h =
     let p = led-get dims ws h in
     closing Get dims ws p.1 (p.2, refl) (sym (append-nil (numbers_of p.0))) tt
@@ -240,16 +284,8 @@ reads Page dims (w ∷ ws) h =
     let b = led-count (2 ^ 32) [] ws (lit≤ tt) h in
     let n = unnamed-count (Some w) (2 ^ 32) ws in
     closing Page dims (w ∷ ws) (led-name w b.led) (refl, refl, b.below, rw n refl) refl n
-reads Near dims ws h =
-    let p = led-point dims (count ∷ []) ws h in
-    let b = led-count (2 ^ 32) [] p.led.left (lit≤ tt) p.led.fits in
-    let e = append-nil p.at in
-    closing Near dims ws (led-on p.led b.led) (rw e p.size, refl, b.below) (rw e refl) tt
-reads Within dims ws h =
-    let p = led-point dims (radius ∷ []) ws h in
-    let b = led-count (2 ^ 128) [] p.led.left (lit≤ tt) p.led.fits in
-    let e = append-nil p.at in
-    closing Within dims ws (led-on p.led b.led) (rw e p.size, refl) (rw e refl) tt
+reads Near dims ws h = let b = led-beside dims (2 ^ 32) ws (lit≤ tt) h in closing Near dims ws b.led (b.size, refl, b.below) b.same tt
+reads Within dims ws h = let b = led-beside dims (2 ^ 128) ws (lit≤ tt) h in closing Within dims ws b.led (b.size, refl) b.same tt
 reads Overlap dims ws h = let p = led-get dims ws h in closing Overlap dims ws p.1 (p.2, refl) (sym (append-nil (numbers_of p.0))) tt
 reads Inside dims ws h = let p = led-get dims ws h in closing Inside dims ws p.1 (p.2, refl) (sym (append-nil (numbers_of p.0))) tt
 reads Covers dims ws h = let p = led-get dims ws h in closing Covers dims ws p.1 (p.2, refl) (sym (append-nil (numbers_of p.0))) tt

@@ -13,13 +13,14 @@ use Rattle.ph_specs.proofs.lemmas.RowsBehind.{IsUnder, Each-each}
 use Rattle.ph_specs.proofs.laws.EntryLists.{entries-lawful, entry-lawful}
 use Rattle.ph_specs.proofs.laws.Paths.{placed_child}
 use Rattle.ph_node.specs.Merge.{addr_at}
+use Rattle.ph_path.proofs.Rising.{Rising, lawful-rising}
 use Rattle.ph_specs.specs.WorkSets.{seen_nodes}
 use Rattle.ph_set.specs.Parts.{IsPart, openings, part_rows, part_nodes, rows_in, nodes_in, rows_on, nodes_on, behind, stretch}
 use Rattle.ph_specs.proofs.laws.Combined.{AreParted}
 use Rattle.ph_set.proofs.Parting.{IsRowAt, entry_nodes, part-some, rows-first, rows-append, nodes-first, nodes-append}
 use Rattle.ph_set.proofs.Parting.{behind-rows, rows-below, rows-from, entry-holds, parted-by, behind-part}
 use Rattle.ph_set.proofs.Sights.{seen-append, seen-first, seen-front, seen-back}
-use Rattle.ph_set.proofs.Walking.{entry_at, entry-there, whole-rows, whole-nodes, Rising, lawful-rising, IsNext, rising-behind}
+use Rattle.ph_set.proofs.Walking.{entry_at, entry-there, whole-rows, whole-nodes, IsNext, rising-behind}
 use Rattle.ph_set.proofs.Walking.{rising-front, IsCut, cut-entry, cut-between, stretch-step, stretch-front, stretch-rest}
 
 Each-take : {X : Type 0} (P : X → Type 0) (k : ℕ) (xs : List X) → Each P xs → Each P (take k xs)

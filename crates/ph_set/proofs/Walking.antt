@@ -5,9 +5,9 @@ use Rattle.std.specs.Prelude.{Option, Some, None, slice_get, position, nat_le, n
 use Rattle.std.specs.List.{AllByRecursion as Each}
 use Rattle.std.proofs.lemmas.List.{take-append-drop}
 use Rattle.std.proofs.lemmas.Bool.{cases_lt, le-leb, lt-leb, eqb-false}
-use Rattle.ph_specs.specs.Node.{Entries, end, point, child, Entry, What, value, node, PlainNode, listed, entries}
+use Rattle.ph_specs.specs.Node.{Entry, What, value, node, PlainNode, entries}
 use Rattle.ph_specs.specs.EntryEdits.{what_at, has_address}
-use Rattle.ph_specs.specs.Lawful.{IsBody, IsLawfulEntry, IsLawfulFrom, put_together}
+use Rattle.ph_specs.specs.Lawful.{IsBody, IsLawfulEntry, put_together}
 use Rattle.ph_specs.proofs.laws.EntryLists.{chained-listed, entry-lawful}
 use Rattle.ph_specs.proofs.laws.EntryEdits.{IsAbsent, absent-by}
 use Rattle.ph_specs.proofs.lemmas.RowsBehind.{Each-each}
@@ -18,6 +18,7 @@ use Rattle.ph_node.specs.Spots.{IsSpot, joined_digits}
 use Rattle.ph_node.specs.declared.spots.Spot.{Spot}
 use Rattle.ph_path.proofs.Knowns.{above-whole, wider}
 use Rattle.ph_path.proofs.Paths.{drop-at}
+use Rattle.ph_path.proofs.Rising.{Rising}
 use Rattle.ph_set.specs.Parts.{IsPart, height, part_rows, part_nodes, rows_in, nodes_in, behind, openings, stretch}
 use Rattle.ph_set.proofs.Parting.{rows-first, nodes-first, entry_nodes, behind-part, behind-height}
 
@@ -144,15 +145,6 @@ step-nodes w c from to ds new o es l m e f =
     omega (arith, a, b, length-append (entry_nodes w c (behind c ds (entry_at es from)) (entry_at es from).what) (nodes_in w c ds (stretch (from + 1) to es)))
 
 -- ---- addresses rise
-
-abbrev pub Rising : ℕ → List Entry → Type 0
-Rising least [] = Unit {0}
-Rising least (e ∷ es) = (least ≤ e.addr) × Rising (e.addr + 1) es
-
-pub lawful-rising : (d b least : ℕ) (e : Entries) → IsLawfulFrom d b least e → Rising least (listed e)
-lawful-rising d b least end h = tt
-lawful-rising d b least (point a body v rest) h = (h.0, lawful-rising d b (a + 1) rest h.3)
-lawful-rising d b least (child a body c chain rest) h = (h.0, lawful-rising d b (a + 1) rest h.7)
 
 pub rising-from : (least : ℕ) (es : List Entry) → Rising least es → Each (λ e. least ≤ e.addr) es
 rising-from least [] h = tt

@@ -1,11 +1,10 @@
 -- Words whose first word keeps its rules, and those whose tables keep theirs too.
 use Rattle.std.proofs.Common.{◌≡◌, ℕ, ◌+◌, ◌^◌, ◌<◌, ◌≤◌, refl, sym, ◌∙◌, ap, subst, arith, List, length, Bool, true}
-use Rattle.std.specs.Prelude.{◌&&◌, ◌||◌, ◌==◌, nat_le, nat_lt}
+use Rattle.std.specs.Prelude.{◌||◌, ◌==◌, nat_lt}
+use Rattle.std.proofs.lemmas.Bool.{and_parts}
 use Rattle.std.proofs.lemmas.Bool.Decides.{nat_tests}
 use Rattle.ph_specs.specs.Record.{First, first_in, has_cube, record_words}
-use Rattle.ph_specs.specs.Pack.{layout}
-use Rattle.ph_specs.specs.Load.{Place as Stand, root, under, known, level_fits, least_entries, first_fits, has_zeros_from}
-use Rattle.ph_specs.proofs.lemmas.Tests.{and-parts}
+use Rattle.ph_specs.specs.Load.{Place as Stand, root, under, known, least_entries, first_fits, has_zeros_from}
 use Rattle.ph_specs.proofs.laws.RecordAgain.{IsFirst, first-facts}
 use Rattle.std.proofs.Common.{false}
 use Rattle.ph_specs.specs.Layout.{IsRecord, entries_as}
@@ -38,15 +37,7 @@ no-children : (level children : ℕ) → (nat_lt 0 level || (children == 0)) ≡
 no-children level children h e = grind (arith, nat_tests)
 
 bottom : (width dims : ℕ) (p : Stand) (f : First) → first_fits width dims p f ≡ true → f.level ≡ 0 → f.children ≡ 0
-bottom width dims p f h =
-    let t1 : Bool = level_fits width p f.level && (nat_le (least_entries p) f.entries && nat_le f.entries (2 ^ dims)) in
-    let t2 : Bool = t1 && (nat_le f.children f.entries && (nat_lt 0 f.level || (f.children == 0))) in
-    let t3 : Bool = t2 && (f.layout == layout (has_cube dims f)) in
-    let a : (t3 ≡ true) × (has_zeros_from f.level (known dims p) ≡ true) = and-parts t3 _ h in
-    let b : (t2 ≡ true) × ((f.layout == layout (has_cube dims f)) ≡ true) = and-parts t2 _ a.0 in
-    let c : (t1 ≡ true) × ((nat_le f.children f.entries && (nat_lt 0 f.level || (f.children == 0))) ≡ true) = and-parts t1 _ b.0 in
-    let g : (nat_le f.children f.entries ≡ true) × ((nat_lt 0 f.level || (f.children == 0)) ≡ true) = and-parts (nat_le f.children f.entries) _ c.1 in
-    no-children f.level f.children g.1
+bottom width dims p f h = no-children f.level f.children (and_parts _ _ (and_parts _ _ (and_parts _ _ (and_parts _ _ h).0).0).1).1
 
 module _ (form : Form) (place : Place) (k : IsForm form) (s : IsStanding form.width form.dims place) where
   abbrev p : Stand

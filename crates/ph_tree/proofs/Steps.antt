@@ -26,6 +26,7 @@ use Rattle.ph_node.specs.Split.{IsBelow, body_at, entry_below, part_place, split
 use Rattle.ph_node.specs.Spots.{IsSpot}
 use Rattle.ph_node.specs.declared.spots.Spot.{Spot}
 use Rattle.ph_node.proofs.Merges.{above-zeros}
+use Rattle.ph_node.proofs.Standing.{parts_at, parts_there}
 use Rattle.ph_tree.specs.Step.{IsAt, IsApart, IsApartAt}
 
 abbrev no_entry : Entry
@@ -33,22 +34,13 @@ no_entry = point_entry 0 [] 0
 
 -- ---- reading
 
--- entry i by its parts
-abbrev pub entry_at : List Entry → ℕ → Entry
-entry_at xs i = record { addr = addr_at xs i; body = body_at xs i; what = what_at xs i }
-
-pub entry_there : (xs : List Entry) (i : ℕ) → i < length xs → slice_get xs i ≡ Some (entry_at xs i)
-entry_there [] i l = absurd (omega (arith, l))
-entry_there (x ∷ xs) zero l = refl
-entry_there (x ∷ xs) (suc i) l = entry_there xs i (omega (arith, l))
-
 -- the entry that a search by the point's address comes to
 pub at_entry : (w : ℕ) (p : List ℤ) (t : PlainNode) (level a : ℕ) (spot : Spot) → level ≡ t.level →
     a ≡ address w p level → Some spot.place ≡ position (has_address a) (entries t) → IsSpot (entries t) spot →
-    IsAt w p t spot (entry_at (entries t) spot.place)
+    IsAt w p t spot (parts_at (entries t) spot.place)
 at_entry w p t level a spot l d f h =
-    let g = entry_there (entries t) spot.place h.within in
-    (g, laws.address-found a spot.place (entries t) (entry_at (entries t) spot.place) (sym f) g ∙ d ∙ ap (address w p) l, h.address)
+    let g = parts_there (entries t) spot.place h.within in
+    (g, laws.address-found a spot.place (entries t) (parts_at (entries t) spot.place) (sym f) g ∙ d ∙ ap (address w p) l, h.address)
 
 -- a body beside the digits of a point, by its offsets
 module _ (w level : ℕ) (p : List ℤ) (xs os : List ℕ) (r : Bool) (given : os ≡ map (offset w) p) where

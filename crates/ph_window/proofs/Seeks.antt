@@ -8,26 +8,17 @@ use Rattle.std.proofs.lemmas.Option.{slice_get_within, get_or_from_slice_get, sl
 use Rattle.std.proofs.lemmas.List.Quantifiers.{position-Some}
 use Rattle.std.proofs.lemmas.List.Sums.{fails_before_first}
 use Rattle.ph_specs.specs.EntryEdits.{point_entry, what_at}
-use Rattle.ph_specs.specs.Node.{Entries, end, point, child, Entry, PlainNode, entries, listed}
-use Rattle.ph_specs.specs.Lawful.{IsLawfulFrom}
+use Rattle.ph_specs.specs.Node.{Entry, PlainNode, entries}
 use Rattle.ph_specs.specs.Masks.{fits_masks, IsNext, IsNextOf}
 use Rattle.ph_specs.proofs.laws.MaskBounds.{fits-between}
 use Rattle.ph_node.specs.Split.{body_at}
 use Rattle.ph_node.specs.Spots.{IsSpot}
 use Rattle.ph_node.specs.declared.spots.Spot.{Spot}
 use Rattle.ph_path.proofs.Paths.{read-entry}
+use Rattle.ph_path.proofs.Rising.{Rising, lawful-rising}
 use Rattle.ph_window.specs.Seek.{AreShut, IsPassed, IsNextEntry, CanSeek, IsSought}
 
 -- ---- addresses rise
-
-abbrev pub Rising : ℕ → List Entry → Type 0
-Rising least [] = Unit {0}
-Rising least (e ∷ es) = (least ≤ e.addr) × Rising (e.addr + 1) es
-
-pub lawful-rising : (dims b least : ℕ) (e : Entries) → IsLawfulFrom dims b least e → Rising least (listed e)
-lawful-rising dims b least end h = tt
-lawful-rising dims b least (point a body v rest) h = (h.0, lawful-rising dims b (a + 1) rest h.3)
-lawful-rising dims b least (child a body c chain rest) h = (h.0, lawful-rising dims b (a + 1) rest h.7)
 
 at-least : (least : ℕ) (es : List Entry) (j : ℕ) (f : Entry) → Rising least es → slice_get es j ≡ Some f → least ≤ f.addr
 at-least least [] j f h g = absurd (let no : ◌≡◌ {A = Option Entry} None (Some f) = g in cc)

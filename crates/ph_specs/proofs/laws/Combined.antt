@@ -10,6 +10,7 @@ use Rattle.ph_specs.proofs.lemmas.RowsBehind.{Each-each}
 use Rattle.ph_specs.proofs.laws.Order.{before_irrefl, before_trans}
 use Rattle.ph_specs.proofs.laws.Put.{either, same_from_test}
 use Rattle.ph_specs.specs.Combined.{chosen, earlier, later, combined}
+pub use Rattle.ph_specs.specs.Combined.{AreParted}
 
 -- ---- the order of two points
 
@@ -79,10 +80,6 @@ find-back (u ∷ us) vs p h =
     ap (λ t. if t then Some u.value else find (us ++ vs) p) h.0 ∙ find-back us vs p h.1
 
 -- ---- two tables that are cut at one place of the Z-order
-
--- each row of the first list comes before each row of the second
-abbrev pub AreParted : ℕ → List Row → List Row → Type 0
-AreParted w xs ys = Each (λ x. Each (λ y. before w x.point y.point ≡ true) ys) xs
 
 pub parted-none : (w : ℕ) (xs : List Row) → AreParted w xs []
 parted-none w [] = tt

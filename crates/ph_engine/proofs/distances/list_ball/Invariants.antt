@@ -1,12 +1,10 @@
 use Rattle.std.proofs.Common.{length}
 use Rattle.ph_engine.specs.Listing.{hit_said}
-use Rattle.ph_engine.specs.Told.{taken_by}
-use Rattle.ph_engine.proofs.Listed.{IsListed}
+use Rattle.ph_engine.proofs.Listed.{IsListedBy}
 use Rattle.ph_engine.proofs.distances.list_ball.Given as goal
 
 abbrev pub invariant-hits : goal.invariant-hits
-invariant-hits g l = IsListed hit_said l.initial.ball.hits l.ball.hits l.count (taken_by g.O.Sink l.initial.out)
-    (taken_by g.O.Sink l.out) (g.O.Sink.faults l.initial.out) (g.O.Sink.faults l.out) l.initial.visits
+invariant-hits g l = IsListedBy g.O.Sink hit_said l.initial.ball.hits l.ball.hits l.count l.initial.out l.out l.initial.visits
     l.initial.ball.visits l.visits l.ball.visits
 
 abbrev pub decreases-hits : goal.decreases-hits

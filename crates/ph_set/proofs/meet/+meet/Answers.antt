@@ -1,4 +1,4 @@
-use Rattle.std.proofs.Common.{rules, ◌≡◌, ◌+◌, ◌<◌, ◌≤◌, ◌++◌, length, map, take, OnOk, None, refl, sym, ◌∙◌, ap, subst, arith, append_assoc}
+use Rattle.std.proofs.Common.{rules, ◌≡◌, ℕ, ◌+◌, ◌<◌, ◌≤◌, ◌++◌, length, map, take, OnOk, None, refl, sym, ◌∙◌, ap, subst, arith, append_assoc}
 use Rattle.ph_specs.specs.Node.{entries, node, value}
 use Rattle.ph_node.specs.Shown.{shown}
 use Rattle.ph_specs.specs.Combined.{chosen}
@@ -6,12 +6,21 @@ use Rattle.ph_set.specs.Held.{IsLawfulPart, held_what, part_digits, part_what}
 use Rattle.ph_set.specs.Meeting.{kept_of, kept_parts, IsParting}
 use Rattle.ph_set.specs.Parts.{AreListed, height, rows_in, stretch}
 use Rattle.ph_set.proofs.Meetings.{after-two, after-three, both-values, sides-start, sides-work, sides-end, sides-end-work, rest-cost}
-use Rattle.ph_set.proofs.Overs.{over-by, over-found, found-cost, none-place, over-missed, missed-cost}
+use Rattle.ph_set.proofs.Overs.{IsOver, over-by, over-found, found-cost, none-place, over-missed, missed-cost}
 use Rattle.ph_set.proofs.Pairs.{paired, both-passed, both-cost}
 use Rattle.ph_set.specs.Sides.{kept_from, side_digits, side_entries, side_node}
-use Rattle.ph_set.proofs.meet.+meet.Goals.{side_by_side-then-loop-i-test+else-j-rights, side_by_side-else-loop-i-test}
+use Rattle.ph_set.proofs.meet.+meet.Given.{Over}
+use Rattle.ph_set.proofs.meet.+meet.Goals.{over-After-body_address, side_by_side-then-loop-i-test+else-j-rights, side_by_side-else-loop-i-test}
 use Rattle.ph_set.proofs.Walking.{wide-digits, new-lawful, spot-behind}
 use Rattle.ph_set.proofs.meet.+meet.Goals as goal
+
+-- the lower part lies at one address in the node
+lies_over : (g : Over) (t : ℕ) (c : over-After-body_address g t) →
+    IsOver c.args.plan.now.width g.P.Dims.D (part_digits g.P.Dims.D c.args.x.now) (shown c.args.a)
+    (take g.P.Dims.D c.args.y.now.digits) (part_what c.args.y.now) c.body_address.result
+lies_over g t c =
+    over-by g.P.Dims.D c.args.y.now.digits c.requires.whole c.requires.part c.requires.lower c.requires.agree
+    c.level.ensures.value c.D-dims.ensures c.body_address.ensures.value
 
 pub meet-returns-in-Value-Value-clause-rows : goal.meet-returns-in-Value-Value-clause-rows
 meet-returns-in-Value-Value-clause-rows g t c =
@@ -31,8 +40,7 @@ pub over-returns-in_err-list_stretch_if-in-Ok-clause-visits : goal.over-returns-
 over-returns-in_err-list_stretch_if-in-Ok-clause-visits g t c =
     let there = spot-behind c.args.plan.now.width g.P.Dims.D (part_digits g.P.Dims.D c.args.x.now) (shown c.args.a) c.requires.whole c.in-Ok.spot
     c.in-Ok.ensures.spot in
-    let over = over-by g.P.Dims.D c.args.y.now.digits c.requires.whole c.requires.part c.requires.lower c.requires.agree
-    c.level.ensures.value c.D-dims.ensures c.body_address.ensures.value in
+    let over = lies_over g t (goal.at.over-returns-in_err-list_stretch_if-in-Ok-clause-visits g t c).After-body_address in
     let bound = found-cost c.args.plan.now c.args.left over c.in-Ok.ensures.spot c.in-Ok.ensures.found there refl c.len-end.ensures in
     omega (arith, bound, c.list_stretch_if.ensures.visits)
 
@@ -50,36 +58,31 @@ over-meet_either-requires g t c κs within =
 
 pub over-returns-in_err-meet_either-in-Ok-clause-visits : goal.over-returns-in_err-meet_either-in-Ok-clause-visits
 over-returns-in_err-meet_either-in-Ok-clause-visits g t c =
-    let over = over-by g.P.Dims.D c.args.y.now.digits c.requires.whole c.requires.part c.requires.lower c.requires.agree
-    c.level.ensures.value c.D-dims.ensures c.body_address.ensures.value in
+    let over = lies_over g t (goal.at.over-returns-in_err-meet_either-in-Ok-clause-visits g t c).After-body_address in
     let bound = found-cost c.args.plan.now c.args.left over c.in-Ok.ensures.spot c.in-Ok.ensures.found c.part_at-part.ensures.digits c.part_at-part.ensures.held
     c.len-end.ensures in
     omega (arith, bound, c.list_stretch_if.ensures.visits, c.part_at-part.ensures.visits, c.meet_either.ensures.visits)
 
 pub over-list_stretch_if-requires-in-Err-clause-within : goal.over-list_stretch_if-requires-in-Err-clause-within
 over-list_stretch_if-requires-in-Err-clause-within g t c =
-    let over = over-by g.P.Dims.D c.args.y.now.digits c.requires.whole c.requires.part c.requires.lower c.requires.agree
-    c.level.ensures.value c.D-dims.ensures c.body_address.ensures.value in
+    let over = lies_over g t (goal.at.over-list_stretch_if-requires-in-Err-clause-within g t c).After-body_address in
     none-place c.args.plan.now c.args.left over c.in-Err.ensures.absent c.in-Err.ensures.place c.len-end.ensures
 
 pub over-returns-in_err-list_stretch_if-in-Err-clause-visits : goal.over-returns-in_err-list_stretch_if-in-Err-clause-visits
 over-returns-in_err-list_stretch_if-in-Err-clause-visits g t c =
-    let over = over-by g.P.Dims.D c.args.y.now.digits c.requires.whole c.requires.part c.requires.lower c.requires.agree
-    c.level.ensures.value c.D-dims.ensures c.body_address.ensures.value in
+    let over = lies_over g t (goal.at.over-returns-in_err-list_stretch_if-in-Err-clause-visits g t c).After-body_address in
     let bound = missed-cost c.args.plan.now c.args.left over c.in-Err.ensures.absent c.in-Err.ensures.place c.len-end.ensures in
     omega (arith, bound, c.list_stretch_if-in-Err.ensures.visits)
 
 pub over-returns-in_err-list_part_if-in-Err-clause-visits : goal.over-returns-in_err-list_part_if-in-Err-clause-visits
 over-returns-in_err-list_part_if-in-Err-clause-visits g t c =
-    let over = over-by g.P.Dims.D c.args.y.now.digits c.requires.whole c.requires.part c.requires.lower c.requires.agree
-    c.level.ensures.value c.D-dims.ensures c.body_address.ensures.value in
+    let over = lies_over g t (goal.at.over-returns-in_err-list_part_if-in-Err-clause-visits g t c).After-body_address in
     let bound = missed-cost c.args.plan.now c.args.left over c.in-Err.ensures.absent c.in-Err.ensures.place c.len-end.ensures in
     omega (arith, bound, c.list_stretch_if-in-Err.ensures.visits, c.list_part_if.ensures.visits)
 
 pub over-returns-in_ok-meet_either-in-Ok-clause-rows : goal.over-returns-in_ok-meet_either-in-Ok-clause-rows
 over-returns-in_ok-meet_either-in-Ok-clause-rows g t c =
-    let over = over-by g.P.Dims.D c.args.y.now.digits c.requires.whole c.requires.part c.requires.lower c.requires.agree
-    c.level.ensures.value c.D-dims.ensures c.body_address.ensures.value in
+    let over = lies_over g t (goal.at.over-returns-in_ok-meet_either-in-Ok-clause-rows g t c).After-body_address in
     subst (λ all. OnOk c.list_stretch_if-in-Ok.result (map g.P.Space.row_of c.list_stretch_if-in-Ok.new.rows.items ≡ all))
     (after-three _ _ _ _ _ _ _ c.in_ok-list_stretch_if-in-Ok.ensures.rows c.in_ok-meet_either-in-Ok.ensures.rows
     (over-found c.args.plan.now c.args.left over c.in-Ok.ensures.spot c.in-Ok.ensures.found c.part_at-part.ensures.digits c.part_at-part.ensures.held
@@ -88,16 +91,14 @@ over-returns-in_ok-meet_either-in-Ok-clause-rows g t c =
 
 pub over-returns-in_ok-meet_either-in-Ok-clause-visits : goal.over-returns-in_ok-meet_either-in-Ok-clause-visits
 over-returns-in_ok-meet_either-in-Ok-clause-visits g t c =
-    let over = over-by g.P.Dims.D c.args.y.now.digits c.requires.whole c.requires.part c.requires.lower c.requires.agree
-    c.level.ensures.value c.D-dims.ensures c.body_address.ensures.value in
+    let over = lies_over g t (goal.at.over-returns-in_ok-meet_either-in-Ok-clause-visits g t c).After-body_address in
     let bound = found-cost c.args.plan.now c.args.left over c.in-Ok.ensures.spot c.in-Ok.ensures.found c.part_at-part.ensures.digits c.part_at-part.ensures.held
     c.len-end.ensures in
     omega (arith, bound, c.list_stretch_if.ensures.visits, c.part_at-part.ensures.visits, c.meet_either.ensures.visits, c.list_stretch_if-in-Ok.ensures.visits)
 
 pub over-returns-in_ok-list_part_if-in-Err-clause-rows : goal.over-returns-in_ok-list_part_if-in-Err-clause-rows
 over-returns-in_ok-list_part_if-in-Err-clause-rows g t c =
-    let over = over-by g.P.Dims.D c.args.y.now.digits c.requires.whole c.requires.part c.requires.lower c.requires.agree
-    c.level.ensures.value c.D-dims.ensures c.body_address.ensures.value in
+    let over = lies_over g t (goal.at.over-returns-in_ok-list_part_if-in-Err-clause-rows g t c).After-body_address in
     subst (λ all. OnOk c.list_stretch_if-in-Err-2.result (map g.P.Space.row_of c.list_stretch_if-in-Err-2.new.rows.items ≡ all))
     (after-three _ _ _ _ _ _ _ c.in_ok-list_stretch_if-in-Err.ensures.rows c.in_ok-list_part_if-in-Err.ensures.rows
     (over-missed c.args.plan.now c.args.left over c.in-Err.ensures.absent c.in-Err.ensures.place c.len-end.ensures))
@@ -105,8 +106,7 @@ over-returns-in_ok-list_part_if-in-Err-clause-rows g t c =
 
 pub over-returns-in_ok-list_part_if-in-Err-clause-visits : goal.over-returns-in_ok-list_part_if-in-Err-clause-visits
 over-returns-in_ok-list_part_if-in-Err-clause-visits g t c =
-    let over = over-by g.P.Dims.D c.args.y.now.digits c.requires.whole c.requires.part c.requires.lower c.requires.agree
-    c.level.ensures.value c.D-dims.ensures c.body_address.ensures.value in
+    let over = lies_over g t (goal.at.over-returns-in_ok-list_part_if-in-Err-clause-visits g t c).After-body_address in
     let bound = missed-cost c.args.plan.now c.args.left over c.in-Err.ensures.absent c.in-Err.ensures.place c.len-end.ensures in
     omega (arith, bound, c.list_stretch_if-in-Err.ensures.visits, c.list_part_if.ensures.visits, c.list_stretch_if-in-Err-2.ensures.visits)
 

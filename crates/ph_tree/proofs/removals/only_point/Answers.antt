@@ -2,7 +2,8 @@ use Rattle.std.proofs.Common.{arith, sym, ap, ◌∙◌}
 use Rattle.ph_specs.specs.Node.{entries}
 use Rattle.ph_node.specs.Shown.{shown, what_of}
 use Rattle.ph_tree.specs.Step.{IsAt}
-use Rattle.ph_tree.proofs.Steps.{entry_at, at_entry, same_below, other_below}
+use Rattle.ph_node.proofs.Standing.{parts_at}
+use Rattle.ph_tree.proofs.Steps.{at_entry, same_below, other_below}
 use Rattle.ph_tree.proofs.Gone.{IsOwn, own_found, own_length, nowhere_is, none_many, other_many, child_many, left_one}
 use Rattle.ph_tree.proofs.removals.only_point.Given.{Over}
 use Rattle.ph_tree.proofs.removals.only_point.Goals.{In-Ok}
@@ -10,7 +11,7 @@ use Rattle.ph_tree.proofs.removals.only_point.Goals as goal
 
 -- the entry that was found stands at the point's address
 at : (g : Over) (c : In-Ok g) → IsAt c.args.key.now.width c.args.key.now.point (shown c.args.node) c.in-Ok.spot
-    (entry_at (entries (shown c.args.node)) c.in-Ok.spot.place)
+    (parts_at (entries (shown c.args.node)) c.in-Ok.spot.place)
 at g c =
     at_entry c.args.key.now.width c.args.key.now.point (shown c.args.node) _ _ c.in-Ok.spot c.level.ensures.value
     c.address.ensures.value c.in-Ok.ensures.found c.in-Ok.ensures.spot
@@ -36,7 +37,7 @@ returns-then-is_below g c =
     let w = c.args.key.now.width in
     let p = c.args.key.now.point in
     let n = shown c.args.node in
-    let x = entry_at (entries n) c.in-Ok.spot.place in
+    let x = parts_at (entries n) c.in-Ok.spot.place in
     let own : IsOwn w p n c.in-Ok.spot c.in-Value.value = (
       x,
       at g (goal.at.returns-then-is_below g c).In-Ok,
@@ -50,7 +51,7 @@ returns-then-is_below g c =
 pub returns-else-is_below : goal.returns-else-is_below
 returns-else-is_below g c =
     let n = shown c.args.node in
-    let x = entry_at (entries n) c.in-Ok.spot.place in
+    let x = parts_at (entries n) c.in-Ok.spot.place in
     other_many c.args.key.now.width g.P.Dims.D c.args.key.now.point n c.requires.lawful 1 c.requires.some c.in-Ok.spot x c.in-Value.value
     (at g (goal.at.returns-else-is_below g c).In-Ok)
     (sym c.what.ensures ∙ ap (λ u. what_of u) c.in-Value.is)
@@ -60,6 +61,6 @@ pub returns-in-Child : goal.returns-in-Child
 returns-in-Child g c =
     let n = shown c.args.node in
     child_many c.args.key.now.width g.P.Dims.D c.args.key.now.point n c.requires.lawful 1 c.requires.some c.in-Ok.spot
-    (entry_at (entries n) c.in-Ok.spot.place) _
+    (parts_at (entries n) c.in-Ok.spot.place) _
     (at g (goal.at.returns-in-Child g c).In-Ok)
     (sym c.what.ensures ∙ ap (λ u. what_of u) c.in-Child.is)

@@ -8,14 +8,15 @@ use Rattle.ph_node.specs.Shown.{shown, what_of}
 use Rattle.ph_node.specs.Split.{IsNode}
 use Rattle.ph_specs.proofs.laws.DelEntries.{lawful-child}
 use Rattle.ph_tree.specs.Step.{IsAt, IsApart, opened_for}
-use Rattle.ph_tree.proofs.Steps.{entry_at, entry_there, at_entry, same_below, other_below, same_between, other_between}
+use Rattle.ph_node.proofs.Standing.{parts_at, parts_there}
+use Rattle.ph_tree.proofs.Steps.{at_entry, same_below, other_below, same_between, other_between}
 use Rattle.ph_tree.proofs.step.step.Given.{Over}
 use Rattle.ph_tree.proofs.step.step.Goals.{In-Ok}
 use Rattle.ph_tree.proofs.step.step.Goals as goal
 
 -- the entry that was found stands at the point's address
 at : (g : Over) (c : In-Ok g) → IsAt c.args.key.now.width c.args.key.now.point (shown c.args.node) c.in-Ok.spot
-    (entry_at (entries (shown c.args.node)) c.in-Ok.spot.place)
+    (parts_at (entries (shown c.args.node)) c.in-Ok.spot.place)
 at g c = at_entry c.args.key.now.width c.args.key.now.point (shown c.args.node) _ _ c.in-Ok.spot c.level.ensures.value
     c.address.ensures.value c.in-Ok.ensures.found c.in-Ok.ensures.spot
 
@@ -29,9 +30,9 @@ is_below-requires g c =
 pub is_joined-requires : goal.is_joined-requires
 is_joined-requires g c =
     let n = shown c.args.node in
-    let found = entry_at (entries n) c.in-Ok.spot.place in
+    let found = parts_at (entries n) c.in-Ok.spot.place in
     let below = lawful-child g.P.Dims.D n.level 0 n.chain c.in-Ok.spot.place found (shown c.visit-below.result)
-    c.requires.lawful (entry_there (entries n) c.in-Ok.spot.place c.in-Ok.ensures.spot.within)
+    c.requires.lawful (parts_there (entries n) c.in-Ok.spot.place c.in-Ok.ensures.spot.within)
     (sym c.ranked-rank.ensures.what ∙ ap (λ u. what_of u) c.in-Child.is ∙ ap node (sym c.visit-below.ensures.shows)) in
     record {
       spot = c.in-Ok.ensures.spot;
@@ -53,7 +54,7 @@ returns-in-Err-clause-step g c =
 pub returns-then-is_below-clause-step : goal.returns-then-is_below-clause-step
 returns-then-is_below-clause-step g c =
     let n = shown c.args.node in
-    let x = entry_at (entries n) c.in-Ok.spot.place in (
+    let x = parts_at (entries n) c.in-Ok.spot.place in (
       x,
       at g (goal.at.returns-then-is_below-clause-step g c).In-Ok,
       sym c.ranked-rank.ensures.what ∙ ap (λ u. what_of u) c.in-Value.is,
@@ -64,7 +65,7 @@ returns-then-is_below-clause-step g c =
 pub returns-else-is_below-clause-step : goal.returns-else-is_below-clause-step
 returns-else-is_below-clause-step g c =
     let n = shown c.args.node in
-    let x = entry_at (entries n) c.in-Ok.spot.place in
+    let x = parts_at (entries n) c.in-Ok.spot.place in
     let what = sym c.ranked-rank.ensures.what ∙ ap (λ u. what_of u) c.in-Value.is in (
       x,
       at g (goal.at.returns-else-is_below-clause-step g c).In-Ok,
@@ -77,7 +78,7 @@ returns-else-is_below-clause-step g c =
 pub returns-then-is_joined-clause-step : goal.returns-then-is_joined-clause-step
 returns-then-is_joined-clause-step g c =
     let n = shown c.args.node in
-    let x = entry_at (entries n) c.in-Ok.spot.place in (
+    let x = parts_at (entries n) c.in-Ok.spot.place in (
       x,
       at g (goal.at.returns-then-is_joined-clause-step g c).In-Ok,
       sym c.ranked-rank.ensures.what ∙ ap (λ u. what_of u) c.in-Child.is ∙ ap node (sym c.visit-below.ensures.shows),
@@ -89,7 +90,7 @@ returns-then-is_joined-clause-step g c =
 pub returns-else-is_joined-clause-step : goal.returns-else-is_joined-clause-step
 returns-else-is_joined-clause-step g c =
     let n = shown c.args.node in
-    let x = entry_at (entries n) c.in-Ok.spot.place in
+    let x = parts_at (entries n) c.in-Ok.spot.place in
     let what = sym c.ranked-rank.ensures.what ∙ ap (λ u. what_of u) c.in-Child.is ∙ ap node (sym c.visit-below.ensures.shows) in (
       x,
       at g (goal.at.returns-else-is_joined-clause-step g c).In-Ok,

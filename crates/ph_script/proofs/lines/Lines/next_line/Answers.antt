@@ -1,51 +1,33 @@
-use Rattle.std.proofs.Common.{◌≡◌, ◌++◌, refl, sym, ap, ◌∙◌, drop, vec_len, arith}
+use Rattle.std.proofs.Common.{◌≡◌, ◌++◌, refl, sym, ap, ◌∙◌, drop, vec_len}
 use Rattle.std.specs.List.{position}
-use Rattle.std.specs.Prelude.{Some, None}
+use Rattle.std.specs.Prelude.{None}
 use Rattle.ph_script.specs.Shown.{is_feed, kept}
-use Rattle.ph_script.proofs.LinePieces.{feed-some, feed-none, ended, not_ended, no-byte, line-shown, line-whole, line-goes_on}
+use Rattle.ph_script.proofs.LinePieces.{feed-none, not_ended, ends, no-byte, line-shown, line-whole, line-goes_on}
 use Rattle.ph_script.proofs.lines.Lines.next_line.Goals as goal
 
 pub returns-then-is_whole : goal.returns-then-is_whole
 returns-then-is_whole c =
     let rest = drop c.args.at.now c.args.piece.now in
-    let found : position is_feed rest ≡ Some c.in-Some.end = rw (← c.split_at.ensures.back) (sym c.in-Some.ensures) in
-    let feed = feed-some rest c.in-Some.end found in (
-      (refl, (λ _. tt), sym (ended c.args.self.now rest c.in-Some.end found)),
-      record {
-        rests = tt;
-        given = (
-          omega (arith, feed.0, feed.1),
-          line-whole c.self.inside.is_over c.self.inside.buffer.items
-              c.args.self.now c.begin.new.buffer.items rest c.split_at.result.1.now c.split_at-in-Some.result.0.now
-              c.in-Some.end c.show.result c.begin.ensures.items c.self.view_is
-              (no-byte c.begin.new.buffer.items (vec_len c.begin.new.buffer)
-              (sym c.is_empty-is_whole.ensures ∙ c.if-is_whole.true) c.begin.new.buffer.ok.0) c.split_at.ensures.back
-              feed.0 c.split_at-in-Some.ensures.front c.show.ensures,
-        );
-        place = omega (arith, feed.0);
-      },
-    )
+    let line = ends c.args.self.now rest _ c.args.at.now c.in-Some.end c.show.result c.split_at.ensures.back c.in-Some.ensures
+    (λ feed. line-whole c.self.inside.is_over c.self.inside.buffer.items
+    c.args.self.now c.begin.new.buffer.items rest c.split_at.result.1.now c.split_at-in-Some.result.0.now
+    c.in-Some.end c.show.result c.begin.ensures.items c.self.view_is
+    (no-byte c.begin.new.buffer.items (vec_len c.begin.new.buffer)
+    (sym c.is_empty-is_whole.ensures ∙ c.if-is_whole.true) c.begin.new.buffer.ok.0) c.split_at.ensures.back
+    feed c.split_at-in-Some.ensures.front c.show.ensures) in
+    ((refl, (λ _. tt), line.none), record { rests = tt; given = line.given; place = line.place })
 
 pub returns-else-is_whole : goal.returns-else-is_whole
 returns-else-is_whole c =
     let rest = drop c.args.at.now c.args.piece.now in
-    let found : position is_feed rest ≡ Some c.in-Some.end = rw (← c.split_at.ensures.back) (sym c.in-Some.ensures) in
-    let feed = feed-some rest c.in-Some.end found in (
-      (refl, (λ _. tt), sym (ended c.args.self.now rest c.in-Some.end found)),
-      record {
-        rests = tt;
-        given = (
-          omega (arith, feed.0, feed.1),
-          line-shown c.self.inside.is_over c.self.inside.buffer.items
-              c.args.self.now c.begin.new.buffer.items rest c.split_at.result.1.now c.keep.new.buffer.items
-              c.deref.result.now c.in-Some.end c.show-in-Some.result c.begin.ensures.items c.self.view_is
-              c.split_at.ensures.back feed.0
-              (c.keep.ensures.items ∙ ap (λ l. kept (c.begin.new.buffer.items ++ l)) c.split_at-in-Some.ensures.front)
-              c.deref.ensures.value c.show-in-Some.ensures,
-        );
-        place = omega (arith, feed.0);
-      },
-    )
+    let line = ends c.args.self.now rest _ c.args.at.now c.in-Some.end c.show-in-Some.result c.split_at.ensures.back c.in-Some.ensures
+    (λ feed. line-shown c.self.inside.is_over c.self.inside.buffer.items
+    c.args.self.now c.begin.new.buffer.items rest c.split_at.result.1.now c.keep.new.buffer.items
+    c.deref.result.now c.in-Some.end c.show-in-Some.result c.begin.ensures.items c.self.view_is
+    c.split_at.ensures.back feed
+    (c.keep.ensures.items ∙ ap (λ l. kept (c.begin.new.buffer.items ++ l)) c.split_at-in-Some.ensures.front)
+    c.deref.ensures.value c.show-in-Some.ensures) in
+    ((refl, (λ _. tt), line.none), record { rests = tt; given = line.given; place = line.place })
 
 pub returns-in-None : goal.returns-in-None
 returns-in-None c =

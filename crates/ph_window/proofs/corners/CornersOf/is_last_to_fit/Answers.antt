@@ -2,9 +2,10 @@ use Rattle.std.proofs.Common.{◌+◌, refl, arith, eqb-true}
 use Rattle.ph_specs.specs.Node.{entries}
 use Rattle.ph_node.specs.Shown.{shown}
 use Rattle.ph_path.proofs.Paths.{read-entry}
+use Rattle.ph_path.proofs.Rising.{lawful-rising}
 use Rattle.ph_window.proofs.Areas.{none-left, out-none}
 use Rattle.ph_window.proofs.Between.{at-seen}
-use Rattle.ph_window.proofs.Seeks.{behind-upper, lawful-rising}
+use Rattle.ph_window.proofs.Seeks.{behind-upper}
 use Rattle.ph_window.proofs.corners.CornersOf.is_last_to_fit.Goals as goal
 
 pub returns : goal.returns
