@@ -1,8 +1,8 @@
 //! Fields beside numbers, compared in place.
 
 ghost use Rattle.std.specs.Prelude.{◌≡◌, ◌+◌, ◌*◌, ◌^◌, ◌<◌, ◌≤◌, length, map};
-ghost use Rattle.ph_specs.specs.Digits.{field, number_of};
-ghost use Rattle.ph_specs.specs.PutTree.{same_digits};
+ghost use Rattle.ph_specs.specs.RecordNames.{field, number_of};
+ghost use Rattle.ph_specs.specs.TreeNames.{same_digits};
 ghost use Rattle.ph_bits.specs.Fields.{IsCut, cut, digits_row};
 
 use crate::fields::field;

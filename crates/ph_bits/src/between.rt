@@ -1,8 +1,7 @@
 //! Fields behind digits that are known, compared with bounds in place.
 
 ghost use Rattle.std.specs.Prelude.{◌≡◌, ◌+◌, ◌*◌, ◌^◌, ◌≤◌, ◌&&◌, nat_le, length};
-ghost use Rattle.ph_specs.specs.Lawful.{IsBody, put_together};
-ghost use Rattle.ph_specs.specs.PutTree.{body_above};
+ghost use Rattle.ph_specs.specs.TreeNames.{IsBody, put_together, body_above};
 ghost use Rattle.ph_bits.specs.Between.{each_between};
 ghost use Rattle.ph_bits.specs.Fields.{digits_row};
 

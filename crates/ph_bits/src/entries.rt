@@ -1,8 +1,8 @@
 //! Entries as a record has them.
 
 ghost use Rattle.std.specs.Prelude.{◌≡◌, ℕ, ◌<◌, Some, List, length, map, slice_get};
-ghost use Rattle.ph_specs.specs.Node.{Flat};
-ghost use Rattle.ph_specs.specs.Layout.{unvalued};
+ghost use Rattle.ph_specs.specs.TreeNames.{Flat};
+ghost use Rattle.ph_specs.specs.RecordNames.{unvalued};
 
 use ph_coord::Dims;
 

@@ -17,8 +17,6 @@ mod moves;
 mod pens;
 mod places;
 mod rows;
-#[cfg(test)]
-mod tests;
 mod words;
 
 pub use apart::row_distance;

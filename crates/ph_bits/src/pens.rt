@@ -2,7 +2,7 @@
 
 ghost use Rattle.std.specs.Prelude.{◌≡◌, ◌+◌, ◌-◌, ◌*◌, ◌^◌, ◌<◌, ◌≤◌, ◌++◌, ℕ, List, length, take, map};
 ghost use Rattle.std.specs.List.{AllByRecursion as Each};
-ghost use Rattle.ph_specs.specs.Digits.{Field, field, number_after, digits_of, words_for, words_of};
+ghost use Rattle.ph_specs.specs.RecordNames.{Field, field, number_after, digits_of, words_for, words_of};
 ghost use Rattle.ph_bits.specs.Block.{room_of, IsSamePlaces};
 ghost use Rattle.ph_bits.specs.Fields.{number_in};
 ghost use Rattle.ph_bits.specs.Written.{IsPen, digits_by, number_by};

@@ -1,7 +1,7 @@
 //! Fields of one width, one behind the other.
 
 ghost use Rattle.std.specs.Prelude.{◌≡◌, ◌+◌, ◌-◌, ◌*◌, ◌^◌, ◌≤◌, length, take, drop, replicate};
-ghost use Rattle.ph_specs.specs.Digits.{pieces};
+ghost use Rattle.ph_specs.specs.RecordNames.{pieces};
 ghost use Rattle.ph_bits.specs.Fields.{IsRowIn, digits_row};
 
 use crate::fields::field;

@@ -1,6 +1,6 @@
 //! Boxes as points: the coordinates of the low corner, and then those of the high corner.
 ghost use Rattle.std.specs.Prelude.{◌≡◌, ◌+◌, ◌*◌, ◌<◌, ◌≤◌, ◌++◌, length, take, drop, slice_get, false, true, Some, IfSome, MatchOption};
-ghost use Rattle.ph_specs.specs.Coordinate.{at_most, high_corner, low_corner, IsBox, IsPoint};
+ghost use Rattle.ph_specs.specs.TableNames.{at_most, high_corner, low_corner, IsBox, IsPoint};
 
 use ph_coord::{Point, Width, is_at_most};
 use std::array::from_fn;

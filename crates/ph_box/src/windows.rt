@@ -1,7 +1,6 @@
 //! The windows that answer questions about boxes.
 ghost use Rattle.std.specs.Prelude.{◌≡◌, ◌*◌, ◌≤◌, ◌++◌, length, replicate};
-ghost use Rattle.ph_specs.specs.Boxes.{IsWindowFor};
-ghost use Rattle.ph_specs.specs.Coordinate.{greatest, least, IsPoint};
+ghost use Rattle.ph_specs.specs.TableNames.{IsWindowFor, greatest, least, IsPoint};
 ghost use Rattle.ph_box.specs.Questions.{asks, low_bound, high_bound};
 
 use crate::corners::joined;

@@ -2,10 +2,7 @@
 ghost use Rattle.std.specs.Prelude.{◌≡◌, ◌≤◌, ◌<◌, ◌^◌, not, IfOk, OnOk, IsTrue};
 ghost use Rattle.std.specs.List.{list_all, AllByRecursion as Each};
 ghost use Rattle.std.specs.List.Sorted.{IsSortedBy};
-ghost use Rattle.ph_specs.specs.Coordinate.{is_point, IsPoint};
-ghost use Rattle.ph_specs.specs.Sets.{table_of};
-ghost use Rattle.ph_specs.specs.Table.{put, is_value, IsRising, IsTable};
-ghost use Rattle.ph_specs.specs.ZOrder.{before};
+ghost use Rattle.ph_specs.specs.TableNames.{is_point, IsPoint, table_of, put, is_value, IsRising, IsTable, before};
 ghost use Rattle.ph_bulk.specs.Order.{row_before, is_last, without_last};
 
 use crate::NoMemory;

@@ -1,9 +1,7 @@
 //! The nodes of rows.
 ghost use Rattle.std.specs.Prelude.{◌≡◌, ◌<◌, ◌≤◌, ◌+◌, [], length, map, IfOk, OnOk};
 ghost use Rattle.std.specs.List.{AllByRecursion as Each};
-ghost use Rattle.ph_specs.specs.Lawful.{IsLawfulFrom, count};
-ghost use Rattle.ph_specs.specs.NodeSize.{node_size, nodes_in};
-ghost use Rattle.ph_specs.proofs.laws.Unpacked.{child_nodes};
+ghost use Rattle.ph_specs.specs.TreeNames.{IsLawfulFrom, count, node_size, nodes_in, child_nodes};
 ghost use Rattle.ph_node.specs.Slots.{nodes_of};
 ghost use Rattle.ph_shape.specs.Groups.{IsGroup};
 ghost use Rattle.ph_bulk.specs.Parts.{IsPart, chain_of, node_made};

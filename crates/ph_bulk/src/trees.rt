@@ -1,7 +1,7 @@
 //! A tree of rows in their order.
 ghost use Rattle.std.specs.Prelude.{◌≡◌, ◌+◌, ◌-◌, ◌^◌, ◌≤◌, length, IfOk, OnOk};
-ghost use Rattle.ph_specs.specs.Table.{IsTable};
-ghost use Rattle.ph_specs.specs.WorkSets.{all_nodes};
+ghost use Rattle.ph_specs.specs.TableNames.{IsTable};
+ghost use Rattle.ph_specs.specs.WorkNames.{all_nodes};
 
 use crate::NoMemory;
 use crate::nodes::node_of;

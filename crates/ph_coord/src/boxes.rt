@@ -1,6 +1,6 @@
 //! Boxes: points whose first half is the least corner and whose second half is the greatest.
 ghost use Rattle.std.specs.Prelude.{◌≡◌, ◌%◌, length};
-ghost use Rattle.ph_specs.specs.Coordinate.{at_most, is_box as the_is_box};
+ghost use Rattle.ph_specs.specs.TableNames.{at_most, is_box as the_is_box};
 
 use crate::point::Point;
 

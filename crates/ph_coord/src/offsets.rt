@@ -1,7 +1,7 @@
 //! The offsets of coordinates.
 ghost use Rattle.std.specs.Prelude.{◌≡◌, ◌≤◌, ◌-◌, length, take, drop, map, replicate, IsTrue};
 ghost use Rattle.std.specs.List.{list_all};
-ghost use Rattle.ph_specs.specs.Coordinate.{fits, offset};
+ghost use Rattle.ph_specs.specs.TableNames.{fits, offset};
 
 use crate::width::Width;
 

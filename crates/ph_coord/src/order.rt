@@ -1,8 +1,7 @@
 //! The Z-order (G. M. Morton, 1966), read place by place.
 ghost use Rattle.std.specs.Prelude.{◌≡◌, ◌<◌, ◌≤◌, ◌^◌, length, IsTrue};
 ghost use Rattle.std.specs.List.{list_all};
-ghost use Rattle.ph_specs.specs.Coordinate.{fits, digit, IsPoint};
-ghost use Rattle.ph_specs.specs.ZOrder.{address, before};
+ghost use Rattle.ph_specs.specs.TableNames.{fits, digit, IsPoint, address, before};
 
 use crate::point::Point;
 use crate::width::Width;

@@ -2,7 +2,7 @@
 ghost use Rattle.std.specs.Prelude.{◌≡◌, ◌<◌, ◌^◌, length, map, slice_get, Some, IsTrue};
 ghost use Rattle.std.specs.List.{list_all, AllByRecursion as Each};
 ghost use Rattle.std.specs.Option.{SomeIff};
-ghost use Rattle.ph_specs.specs.Coordinate.{coordinate, fits, offset, IsPoint};
+ghost use Rattle.ph_specs.specs.TableNames.{coordinate, fits, offset, IsPoint};
 
 use crate::offsets::offsets_of;
 use crate::width::Width;
@@ -99,7 +99,7 @@ pub struct Row<const D: usize> {
 }
 
 impl<const D: usize> Model for Row<D> {
-    ghost use Rattle.ph_specs.specs.Table.{Row as TableRow};
+    ghost use Rattle.ph_specs.specs.TableNames.{Row as TableRow};
 
     ghost Value = { TableRow };
 

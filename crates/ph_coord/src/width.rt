@@ -1,7 +1,7 @@
 //! The width of a coordinate in bits.
 ghost use Rattle.std.specs.Prelude.{IsTrue, ◌≡◌, ◌+◌, ◌<◌, ◌≤◌, ◌^◌, ◌-◌};
 ghost use Rattle.std.specs.Option.{SomeIff};
-ghost use Rattle.ph_specs.specs.Coordinate.{half, least, greatest, offset, coordinate, fits};
+ghost use Rattle.ph_specs.specs.TableNames.{half, least, greatest, offset, coordinate, fits};
 
 use std::marker::Model;
 

@@ -1,6 +1,6 @@
 //! The line of a row.
 ghost use Rattle.std.specs.Prelude.{◌≡◌, ◌≤◌, ◌+◌, ◌++◌, length};
-ghost use Rattle.ph_specs.specs.Csv.{csv_line};
+ghost use Rattle.ph_specs.specs.ProgramNames.{csv_line};
 ghost use Rattle.ph_csv.specs.LineText.{coords_text};
 
 use arrayvec::ArrayString;

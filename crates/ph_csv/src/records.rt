@@ -1,7 +1,7 @@
 //! The records of a text, one after another.
 ghost use Rattle.std.specs.Prelude.{◌≡◌, ◌≤◌, length, Some, IfOk};
 ghost use Rattle.csv.specs.Records.{fields_of};
-ghost use Rattle.ph_specs.specs.Csv.{records};
+ghost use Rattle.ph_specs.specs.ProgramNames.{records};
 ghost use Rattle.ph_csv.specs.Left.{IsReading, ReadsNext, left_in, rest_in};
 
 use crate::NoMemory;

@@ -1,10 +1,9 @@
 //! The row of one record.
 ghost use Rattle.std.specs.Prelude.{◌≡◌, ◌≤◌, Ok, length, not, ◌&&◌, IfOk, IfErr};
 ghost use Rattle.csv.specs.Records.{fields_of};
-ghost use Rattle.ph_specs.specs.Coordinate.{IsPoint, IsBox, is_box as the_is_box};
-ghost use Rattle.ph_specs.specs.Table.{row};
+ghost use Rattle.ph_specs.specs.TableNames.{IsPoint, IsBox, is_box as the_is_box, row};
 ghost use Rattle.ph_specs.specs.declared.Kind.TheVariants.{Boxes};
-ghost use Rattle.ph_specs.specs.Csv.{read_record, is_boxes};
+ghost use Rattle.ph_specs.specs.ProgramNames.{read_record, is_boxes};
 ghost use Rattle.ph_csv.specs.Faults.{IsFault, row_answer};
 
 use crate::fault::CsvFault;

@@ -1,9 +1,9 @@
 //! The rows of a text.
 ghost use Rattle.std.specs.Prelude.{◌≡◌, ◌≤◌, ◌<◌, ◌+◌, ◌^◌, Some, length, Ok, IfOk, IfErr};
 ghost use Rattle.std.specs.List.{AllByRecursion as Each};
-ghost use Rattle.ph_specs.specs.Coordinate.{IsPoint, IsBox};
+ghost use Rattle.ph_specs.specs.TableNames.{IsPoint, IsBox};
 ghost use Rattle.ph_specs.specs.declared.Kind.TheVariants.{Boxes};
-ghost use Rattle.ph_specs.specs.Csv.{csv_rows, read_records};
+ghost use Rattle.ph_specs.specs.ProgramNames.{csv_rows, read_records};
 ghost use Rattle.ph_csv.specs.Faults.{IsFault};
 ghost use Rattle.ph_csv.specs.Left.{IsReading, left_in, rest_in};
 

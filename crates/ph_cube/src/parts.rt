@@ -1,9 +1,7 @@
 //! Single parts of a cube record.
 
 ghost use Rattle.std.specs.Prelude.{◌≡◌, ◌+◌, ◌*◌, ◌^◌, ◌<◌, ◌≤◌, ◌==◌, true, length};
-ghost use Rattle.ph_specs.specs.Digits.{digits_at};
-ghost use Rattle.ph_specs.specs.Record.{first_in};
-ghost use Rattle.ph_specs.specs.Layout.{IsRecord, entries_as};
+ghost use Rattle.ph_specs.specs.RecordNames.{digits_at, first_in, IsRecord, entries_as};
 ghost use Rattle.ph_bits.specs.Fields.{ones_in};
 ghost use Rattle.ph_bits.specs.Packed.{rank_at, IsBodyAt};
 ghost use Rattle.ph_cube.specs.Cube.{twos_in, HIGH};

@@ -1,10 +1,9 @@
 //! Writing a cube record: the kinds of all addresses, their bodies, and then the values.
 
 ghost use Rattle.std.specs.Prelude.{◌≡◌, ◌+◌, ◌*◌, ◌^◌, ◌<◌, ◌≤◌, true, length, drop, map};
-ghost use Rattle.ph_specs.specs.Digits.{number_after, words_for};
-ghost use Rattle.ph_specs.specs.Pack.{children, values, bodies, body_fields, cube_digits, record_in, places, at_address, place_kind, place_body};
+ghost use Rattle.ph_specs.specs.RecordNames.{number_after, words_for, children, values, bodies, body_fields, cube_digits, record_in, places, at_address, place_kind};
+ghost use Rattle.ph_specs.specs.RecordNames.{place_body, unvalued, AreRising};
 ghost use Rattle.std.specs.Option.{option_map};
-ghost use Rattle.ph_specs.specs.Layout.{unvalued, AreRising};
 ghost use Rattle.ph_bits.specs.Block.{room_of, IsSamePlaces};
 ghost use Rattle.ph_bits.specs.Packed.{read_of};
 ghost use Rattle.ph_bits.specs.Written.{IsPen, digits_by, number_by};

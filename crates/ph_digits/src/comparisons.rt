@@ -1,7 +1,7 @@
 //! Bodies beside the digits of words, compared in place.
 
 ghost use Rattle.std.specs.Prelude.{◌≡◌, ◌<◌, length};
-ghost use Rattle.ph_specs.specs.PutTree.{body_above, body_below, same_digits};
+ghost use Rattle.ph_specs.specs.TreeNames.{body_above, body_below, same_digits};
 
 use crate::words::{digits_above, digits_below};
 

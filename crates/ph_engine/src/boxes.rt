@@ -1,8 +1,7 @@
 //! Questions about boxes, which are windows in twice as many dimensions.
 ghost use Rattle.std.specs.Prelude.{◌≡◌, ◌*◌, ◌≤◌, true, length};
 ghost use Rattle.std.specs.List.{list_all};
-ghost use Rattle.ph_specs.specs.Boxes.{IsWindowFor, AreBoxes};
-ghost use Rattle.ph_specs.specs.Coordinate.{fits, low_corner, high_corner, IsPoint};
+ghost use Rattle.ph_specs.specs.TableNames.{IsWindowFor, AreBoxes, fits, low_corner, high_corner, IsPoint};
 ghost use Rattle.ph_script.specs.Meaning.{numbers_of};
 ghost use Rattle.ph_box.specs.Questions.{asks, low_bound, high_bound};
 ghost use Rattle.ph_engine.specs.Listing.{ListsBoxes};

@@ -1,9 +1,8 @@
 //! The check of a file that holds a saved table.
 ghost use Rattle.std.specs.Prelude.{◌≡◌, ◌≤◌, ◌+◌, [], false, length, IfOk, IfErr, Ok};
 ghost use Rattle.ph_io.specs.Causes.{Rose};
-ghost use Rattle.ph_specs.specs.Program.{checked_words, own_fault, words_of_snapshot};
-ghost use Rattle.ph_specs.specs.Reply.{line_of};
-ghost use Rattle.ph_specs.specs.Stats.{stats};
+ghost use Rattle.ph_specs.specs.ProgramNames.{checked_words, own_fault, words_of_snapshot, line_of};
+ghost use Rattle.ph_specs.specs.RecordNames.{stats};
 ghost use Rattle.ph_snap.specs.Faults.{IsLoadFault};
 ghost use Rattle.ph_engine.specs.Checking.{CheckDone, HasSizes, IsSavedAs, LineGiven, front_of, nodes_saved, status_of};
 ghost use Rattle.ph_engine.specs.Listing.{node_count};

@@ -1,8 +1,8 @@
 //! What each command does to a tree.
 ghost use Rattle.std.specs.Prelude.{◌≡◌, ◌≤◌, [], None, true, length};
 ghost use Rattle.std.specs.List.{list_all};
-ghost use Rattle.ph_specs.specs.Coordinate.{fits, IsPoint};
-ghost use Rattle.ph_specs.specs.Command.{Command as Asked};
+ghost use Rattle.ph_specs.specs.TableNames.{fits, IsPoint};
+ghost use Rattle.ph_specs.specs.ProgramNames.{Command as Asked};
 ghost use Rattle.ph_script.specs.Meaning.{number_of_coord, numbers_of, reply_of};
 ghost use Rattle.ph_engine.specs.Doing.{Looked, Idled, ServedOr};
 ghost use Rattle.ph_engine.specs.Slots.{table_at, slot_of};

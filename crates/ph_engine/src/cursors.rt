@@ -3,7 +3,7 @@ ghost use Rattle.std.specs.Prelude.{◌≡◌, ◌<◌, ◌≤◌, true, length,
 ghost use Rattle.std.specs.Ordering.{nat_cmp};
 ghost use Rattle.std.specs.Cmp.Lexicographic.{slice_cmp};
 ghost use Rattle.std.specs.FinMap.Entries.{is_sorted};
-ghost use Rattle.ph_specs.specs.Named.{has_name};
+ghost use Rattle.ph_specs.specs.ProgramNames.{has_name};
 ghost use Rattle.ph_engine.specs.Naming.{place};
 ghost use Rattle.ph_engine.specs.Slots.{named, entered};
 

@@ -1,7 +1,7 @@
 //! Commands whose replies list rows with their distances from a point.
 ghost use Rattle.std.specs.Prelude.{◌≡◌, ◌≤◌, true, length};
 ghost use Rattle.std.specs.List.{list_all};
-ghost use Rattle.ph_specs.specs.Coordinate.{fits};
+ghost use Rattle.ph_specs.specs.TableNames.{fits};
 ghost use Rattle.ph_script.specs.Meaning.{numbers_of};
 ghost use Rattle.ph_engine.specs.Listing.{hit_replies, Lists, ListsNear, ListsBall};
 ghost use Rattle.ph_engine.specs.Slots.{tree_at};

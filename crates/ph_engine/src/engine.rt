@@ -1,9 +1,6 @@
 //! The state of the program, and what a command does to it.
 ghost use Rattle.std.specs.Prelude.{◌≡◌, ◌<◌, ◌≤◌, ◌^◌, []};
-ghost use Rattle.ph_specs.specs.Command.{Command as Asked};
-ghost use Rattle.ph_specs.specs.Program.{opened};
-ghost use Rattle.ph_specs.specs.Reply.{Reply as Replied};
-ghost use Rattle.ph_specs.specs.State.{new_engine, current, slot_at};
+ghost use Rattle.ph_specs.specs.ProgramNames.{Command as Asked, opened, Reply as Replied, new_engine, current, slot_at};
 ghost use Rattle.ph_script.specs.Meaning.{command_of, reply_of};
 ghost use Rattle.ph_script.specs.Fit.{HasDims};
 ghost use Rattle.ph_engine.specs.Comparing.{Compares};
@@ -32,7 +29,7 @@ pub struct Engine {
 }
 
 impl Model for Engine {
-    ghost use Rattle.ph_specs.specs.State.{Engine as State};
+    ghost use Rattle.ph_specs.specs.ProgramNames.{Engine as State};
 
     ghost Value = { State };
 

@@ -1,7 +1,7 @@
 //! Commands on files: a table as a snapshot, and back.
 ghost use Rattle.std.specs.Prelude.{◌≡◌, ◌≤◌, ◌+◌, true, length, IfOk, OnOk};
-ghost use Rattle.ph_specs.specs.Snapshot.{snap};
-ghost use Rattle.ph_specs.specs.WorkSets.{all_nodes};
+ghost use Rattle.ph_specs.specs.RecordNames.{snap};
+ghost use Rattle.ph_specs.specs.WorkNames.{all_nodes};
 ghost use Rattle.ph_script.specs.Meaning.{reply_of};
 ghost use Rattle.ph_engine.specs.Drafting.{FilledOr};
 ghost use Rattle.ph_engine.specs.Filing.{EnteredOr, LoadsNodes, LoadsOr, SameFrame, TableLoaded, TableSaved, TellsFault, TellsUnfetched, loaded_reply, loaded_table};

@@ -1,8 +1,8 @@
 //! Commands whose replies list rows, line by line, as a walk finds them.
 ghost use Rattle.std.specs.Prelude.{◌≡◌, ◌≤◌, true, length};
 ghost use Rattle.std.specs.List.{list_all};
-ghost use Rattle.ph_specs.specs.Coordinate.{fits, IsPoint};
-ghost use Rattle.ph_specs.specs.Engine.{page_end};
+ghost use Rattle.ph_specs.specs.TableNames.{fits, IsPoint};
+ghost use Rattle.ph_specs.specs.ProgramNames.{page_end};
 ghost use Rattle.ph_script.specs.Meaning.{numbers_of, reply_of};
 ghost use Rattle.ph_window.specs.Page.{IsLast};
 ghost use Rattle.ph_engine.specs.Listing.{ListsWindow, ListsPage, is_more};

@@ -1,7 +1,7 @@
 //! Replies, and the sink that takes their texts.
 ghost use Rattle.std.specs.Prelude.{◌≡◌, ◌≤◌, IfOk, IfErr, OnOk, OnErr};
 ghost use Rattle.ph_io.specs.Giving.{Given};
-ghost use Rattle.ph_specs.specs.Reply.{Reply as Replied, reply_text as text_of};
+ghost use Rattle.ph_specs.specs.ProgramNames.{Reply as Replied, reply_text as text_of};
 ghost use Rattle.ph_script.specs.Meaning.{reply_of};
 ghost use Rattle.ph_engine.specs.Machine.{is_refusal};
 ghost use Rattle.ph_engine.specs.Doing.{refuses};

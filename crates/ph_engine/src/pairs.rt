@@ -1,6 +1,6 @@
 //! The pairs of overlapping boxes of two trees, line by line, as a join finds them.
 ghost use Rattle.std.specs.Prelude.{◌≡◌, ◌*◌, ◌≤◌};
-ghost use Rattle.ph_specs.specs.Boxes.{AreBoxes};
+ghost use Rattle.ph_specs.specs.TableNames.{AreBoxes};
 ghost use Rattle.ph_engine.specs.Pairing.{ListsPairs};
 ghost use Rattle.ph_engine.specs.Slots.{tree_at};
 ghost use Rattle.ph_engine.specs.Statuses.{StopHasCause};

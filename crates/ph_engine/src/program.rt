@@ -1,6 +1,6 @@
 //! The program as one call.
 ghost use Rattle.std.specs.Prelude.{◌≡◌, ◌≢◌, ◌<◌, ◌^◌, map, string_bytes};
-ghost use Rattle.ph_specs.specs.Program.{Task as Asked, task};
+ghost use Rattle.ph_specs.specs.ProgramNames.{Task as Asked, task};
 ghost use Rattle.ph_engine.specs.Ending.{TopEnds, TellsUsage};
 ghost use Rattle.ph_engine.specs.Statuses.{HasWriteCause};
 ghost use Rattle.ph_engine.specs.Told.{seen_by, taken_by};

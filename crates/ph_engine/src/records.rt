@@ -1,9 +1,9 @@
 //! Commands on files of records: rows as comma-separated fields, a line each.
 ghost use Rattle.std.specs.Prelude.{◌≡◌, ◌≤◌, ◌+◌, true, length, Ok, OnOk};
 ghost use Rattle.std.specs.List.{AllByRecursion as Each};
-ghost use Rattle.ph_specs.specs.Coordinate.{IsPoint};
-ghost use Rattle.ph_specs.specs.Csv.{csv_rows, csv_line, csv_text};
-ghost use Rattle.ph_specs.specs.WorkSets.{all_nodes};
+ghost use Rattle.ph_specs.specs.TableNames.{IsPoint};
+ghost use Rattle.ph_specs.specs.ProgramNames.{csv_rows, csv_line, csv_text};
+ghost use Rattle.ph_specs.specs.WorkNames.{all_nodes};
 ghost use Rattle.ph_script.specs.Meaning.{reply_of};
 ghost use Rattle.ph_engine.specs.Filing.{SameFrame};
 ghost use Rattle.ph_engine.specs.Recording.{import_changes, import_visits, AppendedOr, ExportedOr, ImportsOr, TableExported, TableImported, TellsRecord};

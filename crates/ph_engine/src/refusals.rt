@@ -1,10 +1,10 @@
 //! Why a slot refuses a command, where that is told without files.
 ghost use Rattle.std.specs.Prelude.{◌≡◌, ◌&&◌, nat_le, length};
 ghost use Rattle.std.specs.List.{list_all};
-ghost use Rattle.ph_specs.specs.Coordinate.{at_most, fits, is_box};
+ghost use Rattle.ph_specs.specs.TableNames.{at_most, fits, is_box};
 ghost use Rattle.ph_specs.specs.Command.Command.{Get as AskGet, Relocate as AskRelocate};
-ghost use Rattle.ph_specs.specs.Refusals.{most_dims, has_wrong_dims as asks_wrong_dims, has_wrong_kind as asks_wrong_kind};
-ghost use Rattle.ph_specs.specs.Load.{is_width};
+ghost use Rattle.ph_specs.specs.ProgramNames.{most_dims, has_wrong_dims as asks_wrong_dims, has_wrong_kind as asks_wrong_kind};
+ghost use Rattle.ph_specs.specs.RecordNames.{is_width};
 ghost use Rattle.ph_script.specs.Meaning.{command_of, number_of_coord, numbers_of, reply_of};
 ghost use Rattle.ph_engine.specs.Causes.{refusal_reply};
 ghost use Rattle.ph_engine.specs.Refusing.{names_points_outside, names_reversed};

@@ -3,7 +3,7 @@ ghost use Rattle.std.specs.Prelude.{◌≡◌, ◌≤◌, ◌<◌, ◌+◌, ◌^
 ghost use Rattle.std.specs.Io.KnownBytes.{ReadConsumes, IsAtEnd};
 ghost use Rattle.ph_io.specs.Causes.{HasCause, Rose};
 ghost use Rattle.ph_io.specs.Giving.{Given};
-ghost use Rattle.ph_specs.specs.Reply.{reply_text as text_of};
+ghost use Rattle.ph_specs.specs.ProgramNames.{reply_text as text_of};
 ghost use Rattle.ph_script.specs.Meaning.{reply_of, bad_reply as reply_to};
 ghost use Rattle.ph_engine.specs.Machine.{is_refusal};
 ghost use Rattle.ph_io.specs.Writing.{WritesFront};

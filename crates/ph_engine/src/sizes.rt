@@ -1,7 +1,7 @@
 //! Lines with the sizes of a tree. A line is one piece for a sink, so it is composed in a text first.
 ghost use Rattle.std.specs.Prelude.{◌≡◌, ◌≤◌, ◌+◌, ◌∷◌, [], ◌++◌, length};
 ghost use Rattle.std.specs.List.{join_with_byte};
-ghost use Rattle.ph_specs.specs.Reply.{line_of, stats_words};
+ghost use Rattle.ph_specs.specs.ProgramNames.{line_of, stats_words};
 ghost use Rattle.ph_tree.specs.Stats.{stats_of};
 ghost use Rattle.ph_engine.specs.Listing.{ListsSizes};
 ghost use Rattle.ph_engine.specs.Slots.{tree_at};

@@ -1,11 +1,8 @@
 //! A table with what belongs to it, and what a command does to it.
 ghost use Rattle.std.specs.Prelude.{◌≡◌, ◌<◌, ◌≤◌, ◌+◌, ◌^◌, None, true, false, not, ◌&&◌, nat_le, length, option_map};
 ghost use Rattle.ph_specs.specs.Command.Command.{Back as AskBack, Begin as AskBegin, Cursor as AskCursor, Page as AskPage};
-ghost use Rattle.ph_specs.specs.Named.{has_name};
-ghost use Rattle.ph_specs.specs.Refusals.{has_wrong_dims, lacks_cursor, has_too_many_cursors};
-ghost use Rattle.ph_specs.specs.Engine.{opened_dims};
-ghost use Rattle.ph_specs.specs.State.{new_slot};
-ghost use Rattle.ph_specs.specs.Stats.{stats};
+ghost use Rattle.ph_specs.specs.ProgramNames.{has_name, has_wrong_dims, lacks_cursor, has_too_many_cursors, opened_dims, new_slot};
+ghost use Rattle.ph_specs.specs.RecordNames.{stats};
 ghost use Rattle.ph_script.specs.Meaning.{command_of, numbers_of, reply_of};
 ghost use Rattle.ph_script.specs.Fit.{HasDims};
 ghost use Rattle.ph_tree.specs.Stats.{stats_of};
@@ -49,7 +46,7 @@ pub struct Slot {
 }
 
 impl Model for Slot {
-    ghost use Rattle.ph_specs.specs.State.{Slot as State};
+    ghost use Rattle.ph_specs.specs.ProgramNames.{Slot as State};
     ghost use Rattle.ph_engine.specs.Slots.{any_table, named, slot_of, IsSlot};
 
     ghost Value = { State };

@@ -1,8 +1,7 @@
 //! Runs of generated commands, with a line about what they leave.
 ghost use Rattle.std.specs.Prelude.{◌≡◌, ◌<◌, ◌≤◌, ◌++◌, ◌∷◌, [], ◌^◌, None, Some, codes, decimal};
 ghost use Rattle.ph_io.specs.Causes.{Rose};
-ghost use Rattle.ph_specs.specs.Reply.{line_of, stats_words};
-ghost use Rattle.ph_specs.specs.State.{current};
+ghost use Rattle.ph_specs.specs.ProgramNames.{line_of, stats_words, current};
 ghost use Rattle.ph_tree.specs.Stats.{stats_of};
 ghost use Rattle.ph_engine.specs.Beside.{beside};
 ghost use Rattle.ph_engine.specs.Soaking.{AreDrawn, SoakDone, SoakedOr};

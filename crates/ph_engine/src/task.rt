@@ -1,9 +1,7 @@
 //! What the words behind the program's name ask for.
 ghost use Rattle.std.specs.Prelude.{◌≡◌, ◌+◌, ◌∷◌, [], true, map, string_bytes};
 ghost use Rattle.std.specs.Option.{SomeIff};
-ghost use Rattle.ph_specs.specs.Command.{is_number_below};
-ghost use Rattle.ph_specs.specs.Lines.{number};
-ghost use Rattle.ph_specs.specs.Program.{task, number_of_word};
+ghost use Rattle.ph_specs.specs.ProgramNames.{is_number_below, number, task, number_of_word};
 ghost use Rattle.ph_engine.specs.Asking.{asked};
 
 use ph_coord::{Number, read_number};

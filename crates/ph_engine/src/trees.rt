@@ -1,12 +1,9 @@
 //! A tree of any number of dimensions that a slot can have, with the commands about its rows.
 ghost use Rattle.std.specs.Prelude.{◌≡◌, ◌≤◌, ◌+◌, None, true, length, IfOk, IfErr, OnOk};
 ghost use Rattle.std.specs.List.{list_all};
-ghost use Rattle.ph_specs.specs.Coordinate.{fits};
-ghost use Rattle.ph_specs.specs.Command.{Command as Asked};
-ghost use Rattle.ph_specs.specs.Csv.{csv_text};
-ghost use Rattle.ph_specs.specs.Load.{load_fault};
-ghost use Rattle.ph_specs.specs.Snapshot.{snap};
-ghost use Rattle.ph_specs.specs.Stats.{stats};
+ghost use Rattle.ph_specs.specs.TableNames.{fits};
+ghost use Rattle.ph_specs.specs.ProgramNames.{Command as Asked, csv_text};
+ghost use Rattle.ph_specs.specs.RecordNames.{load_fault, snap, stats};
 ghost use Rattle.ph_script.specs.Meaning.{numbers_of, reply_of};
 ghost use Rattle.ph_snap.specs.Faults.{IsLoadFault};
 ghost use Rattle.ph_tree.specs.Stats.{stats_of};

@@ -1,6 +1,6 @@
 //! Trees that keep their last edits: how many are kept, and edits that are taken back.
 ghost use Rattle.std.specs.Prelude.{◌≡◌, ◌≤◌, length};
-ghost use Rattle.ph_specs.specs.Past.{without_past};
+ghost use Rattle.ph_specs.specs.TableNames.{without_past};
 ghost use Rattle.ph_engine.specs.Slots.{table_at};
 ghost use Rattle.ph_engine.specs.Undoing.{KeepsOr, GoesBackOr, BackWork};
 

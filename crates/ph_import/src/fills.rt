@@ -1,9 +1,8 @@
 //! Rows into a tree that has none.
 ghost use Rattle.std.specs.Prelude.{◌≡◌, [], length, OnErr};
 ghost use Rattle.std.specs.List.{AllByRecursion as Each};
-ghost use Rattle.ph_specs.specs.Coordinate.{IsPoint};
-ghost use Rattle.ph_specs.specs.Sets.{table_of};
-ghost use Rattle.ph_specs.specs.WorkSets.{all_nodes};
+ghost use Rattle.ph_specs.specs.TableNames.{IsPoint, table_of};
+ghost use Rattle.ph_specs.specs.WorkNames.{all_nodes};
 ghost use Rattle.ph_import.specs.Imported.{IsImported};
 
 use crate::fault::ImportFault;

@@ -1,7 +1,7 @@
 //! Rows into a tree, by whether it has some.
 ghost use Rattle.std.specs.Prelude.{◌≡◌, ◌≢◌, ◌+◌, ◌≤◌, [], length, OnErr, IsErrOf};
 ghost use Rattle.std.specs.List.{AllByRecursion as Each};
-ghost use Rattle.ph_specs.specs.Coordinate.{IsPoint};
+ghost use Rattle.ph_specs.specs.TableNames.{IsPoint};
 ghost use Rattle.ph_import.specs.Imported.{most_visits, most_changes, IsImported, IsPart};
 
 use crate::fault::ImportFault;

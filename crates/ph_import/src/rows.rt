@@ -1,8 +1,7 @@
 //! Rows into a tree.
 ghost use Rattle.std.specs.Prelude.{◌≡◌, ◌+◌, ◌*◌, ◌≤◌, length, OnOk, OnErr, IsErrOf};
 ghost use Rattle.std.specs.List.{AllByRecursion as Each};
-ghost use Rattle.ph_specs.specs.Coordinate.{IsPoint};
-ghost use Rattle.ph_specs.specs.Sets.{put_all};
+ghost use Rattle.ph_specs.specs.TableNames.{IsPoint, put_all};
 ghost use Rattle.ph_import.specs.Imported.{with_some, IsImported, IsPart};
 
 use crate::fault::ImportFault;

@@ -1,7 +1,7 @@
 //! Files in memory, that fail where they are told to and where their room is used up.
 ghost use Rattle.std.specs.Prelude.{◌≡◌, ◌≤◌, ◌⊎◌, ◌↔◌, ◌++◌, true, false, Some, [], length};
 ghost use Rattle.std.specs.Prelude.{option_map, IfOk, IsErr, OnOk, MatchResult, IsTrue, IsFalse, Err, if◌then◌else◌, refl};
-ghost use Rattle.ph_specs.specs.Named.{lookup};
+ghost use Rattle.ph_specs.specs.ProgramNames.{lookup};
 ghost use Rattle.ph_io.specs.Causes.{Rose};
 ghost use Rattle.ph_io.specs.Shelf.{Fetches, FetchCounts, Counts};
 ghost use Rattle.ph_io.specs.Shelved.{CallFails, called, failed, faulted, HasNoRoom, IsOneMore, HasRoomFor, with_file, drafting, dropping, filing, finishing, is_failure};

@@ -1,7 +1,7 @@
 //! Files that are kept in memory, in the order of their names.
 ghost use Rattle.std.specs.Prelude.{◌≡◌, ◌<◌, ◌≤◌, ◌↔◌, ◌+◌, [], All, map, length, option_map, IfOk, IsTrue, if◌then◌else◌, vec_len, vec_capacity};
 ghost use Rattle.std.specs.List.{insert};
-ghost use Rattle.ph_specs.specs.Named.{lookup, enter};
+ghost use Rattle.ph_specs.specs.ProgramNames.{lookup, enter};
 ghost use Rattle.ph_io.specs.Storing.{file_of, IsRoomy, IsPlace};
 
 use crate::NoMemory;

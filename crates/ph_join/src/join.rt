@@ -1,8 +1,7 @@
 //! The pairs of overlapping boxes of two trees, one after another.
 ghost use Rattle.std.specs.Prelude.{◌≡◌, ◌*◌, ◌+◌, ◌≤◌, drop, slice_get, None};
-ghost use Rattle.ph_specs.specs.Boxes.{AreBoxes};
-ghost use Rattle.ph_specs.specs.Sets.{pairs};
-ghost use Rattle.ph_specs.specs.WorkSets.{join_visits};
+ghost use Rattle.ph_specs.specs.TableNames.{AreBoxes, pairs};
+ghost use Rattle.ph_specs.specs.WorkNames.{join_visits};
 
 use crate::partners::{Partners, PartnersOf, next_of};
 use crate::seen::{AsRow, AsTree};

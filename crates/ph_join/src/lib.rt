@@ -4,7 +4,5 @@
 mod join;
 mod partners;
 mod seen;
-#[cfg(test)]
-mod tests;
 
 pub use join::{Join, JoinOf};

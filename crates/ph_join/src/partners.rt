@@ -1,9 +1,7 @@
 //! One box, and the boxes of a tree that overlap it.
 ghost use Rattle.std.specs.Prelude.{◌≡◌, ◌*◌, ◌+◌, ◌≤◌, length, drop, slice_get, None};
-ghost use Rattle.ph_specs.specs.Boxes.{AreBoxes};
-ghost use Rattle.ph_specs.specs.Coordinate.{IsPoint};
-ghost use Rattle.ph_specs.specs.Sets.{partners};
-ghost use Rattle.ph_specs.specs.WorkSets.{partner_nodes};
+ghost use Rattle.ph_specs.specs.TableNames.{AreBoxes, IsPoint, partners};
+ghost use Rattle.ph_specs.specs.WorkNames.{partner_nodes};
 ghost use Rattle.ph_join.specs.Joining.{pairs_at, visits_at};
 
 use crate::seen::AsRow;
@@ -25,7 +23,7 @@ pub(crate) struct PartnersOf<'t, P: Dims, R: AsRow + Drop> {
 pub(crate) type Partners<'t, const D: usize> = PartnersOf<'t, Dim<D>, Row<D>>;
 
 impl<'t, P: Dims, R: AsRow + Drop> Model for PartnersOf<'t, P, R> {
-    ghost use Rattle.ph_specs.specs.Sets.{paired};
+    ghost use Rattle.ph_specs.specs.TableNames.{paired};
     ghost use Rattle.ph_join.specs.Joining.{Joining};
 
     ghost Value = { Joining };

@@ -2,8 +2,7 @@
 
 ghost use Rattle.std.specs.Prelude.{◌≡◌, ◌+◌, ◌*◌, ◌^◌, ◌<◌, ◌≤◌, length, take, replicate};
 ghost use Rattle.std.specs.List.{AllByRecursion as Each};
-ghost use Rattle.ph_specs.specs.Digits.{field, number_of};
-ghost use Rattle.ph_specs.specs.Pack.{bodies, body_fields};
+ghost use Rattle.ph_specs.specs.RecordNames.{field, number_of, bodies, body_fields};
 ghost use Rattle.ph_linear.specs.Edited.{IsColumn, IsOver, IsColumnOver};
 
 use ph_bits::{Edit, set_field};

@@ -1,8 +1,7 @@
 //! The first word of a record, in either layout.
 
 ghost use Rattle.std.specs.Prelude.{◌≡◌, ◌^◌, ◌<◌, ◌≤◌, length};
-ghost use Rattle.ph_specs.specs.Pack.{first_word};
-ghost use Rattle.ph_specs.specs.Record.{first_in};
+ghost use Rattle.ph_specs.specs.RecordNames.{first_word, first_in};
 
 /// How many entries a record has.
 #[inline(always)]

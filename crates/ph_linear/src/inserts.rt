@@ -1,9 +1,7 @@
 //! Putting a new point into a linear record where the record lies.
 
 ghost use Rattle.std.specs.Prelude.{◌≡◌, ◌+◌, ◌-◌, ◌^◌, ◌<◌, ◌≤◌, ◌∷◌, ◌++◌, false, length, take, drop};
-ghost use Rattle.ph_specs.specs.Layout.{IsRecord, AreRising};
-ghost use Rattle.ph_specs.specs.Pack.{record_in};
-ghost use Rattle.ph_specs.specs.Record.{first_in};
+ghost use Rattle.ph_specs.specs.RecordNames.{IsRecord, AreRising, record_in, first_in};
 ghost use Rattle.ph_bits.specs.Edits.{edited_as};
 ghost use Rattle.ph_linear.specs.Resized.{IsOpenable, values_open};
 

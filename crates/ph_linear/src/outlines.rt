@@ -2,7 +2,7 @@
 //! or that of one that became a point or that came is put in.
 
 ghost use Rattle.std.specs.Prelude.{◌≡◌, ◌+◌, ◌-◌, ◌^◌, ◌<◌, ◌≤◌, ◌∷◌, ◌++◌, [], length, take, drop, slice_set};
-ghost use Rattle.ph_specs.specs.Pack.{first_word};
+ghost use Rattle.ph_specs.specs.RecordNames.{first_word};
 ghost use Rattle.ph_linear.specs.Edited.{IsOutlined, with_values};
 
 use crate::heads::first_of;

@@ -1,9 +1,7 @@
 //! Single parts of a linear record.
 
 ghost use Rattle.std.specs.Prelude.{◌≡◌, ◌+◌, ◌*◌, ◌^◌, ◌<◌, ◌≤◌, ◌==◌, true, false, length, slice_index_or};
-ghost use Rattle.ph_specs.specs.Digits.{digits_at};
-ghost use Rattle.ph_specs.specs.Record.{first_in};
-ghost use Rattle.ph_specs.specs.Layout.{IsRecord, entries_as};
+ghost use Rattle.ph_specs.specs.RecordNames.{digits_at, first_in, IsRecord, entries_as};
 ghost use Rattle.ph_bits.specs.Packed.{rank_at};
 ghost use Rattle.ph_linear.specs.Linear.{kinds, addresses};
 

@@ -2,9 +2,7 @@
 
 ghost use Rattle.std.specs.Prelude.{◌≡◌, ◌+◌, ◌-◌, ◌*◌, ◌/◌, ◌%◌, ◌^◌, ◌<◌, ◌≤◌, false, length, take};
 ghost use Rattle.std.specs.List.{AllByRecursion as Each};
-ghost use Rattle.ph_specs.specs.Digits.{digits_of, words_for};
-ghost use Rattle.ph_specs.specs.Layout.{IsRecord};
-ghost use Rattle.ph_specs.specs.Record.{first_in};
+ghost use Rattle.ph_specs.specs.RecordNames.{digits_of, words_for, IsRecord, first_in};
 ghost use Rattle.ph_bits.specs.Moved.{IsMoved};
 ghost use Rattle.ph_linear.specs.Edited.{IsColumn, IsOver};
 ghost use Rattle.ph_linear.specs.Runs.{AreColumns, AreColumnsOf, digits_more, runs_without, runs_with, with_fields};

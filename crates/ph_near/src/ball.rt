@@ -1,8 +1,7 @@
 //! The rows within a radius of a point, one after the other.
 ghost use Rattle.std.specs.Prelude.{◌≡◌, ◌+◌, ◌≤◌, length, drop, slice_get, None};
-ghost use Rattle.ph_specs.specs.Coordinate.{IsPoint};
-ghost use Rattle.ph_specs.specs.Distance.{within};
-ghost use Rattle.ph_specs.specs.WorkSets.{ball};
+ghost use Rattle.ph_specs.specs.TableNames.{IsPoint, within};
+ghost use Rattle.ph_specs.specs.WorkNames.{ball};
 ghost use Rattle.ph_table.specs.Hits.{hits_of};
 
 use crate::sphere::SphereOf;

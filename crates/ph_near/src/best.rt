@@ -2,12 +2,10 @@
 
 ghost use Rattle.std.specs.Prelude.{◌≡◌, ◌+◌, ◌≤◌, length, map, IfOk, IsOk};
 ghost use Rattle.std.specs.Option.{option_copied};
-ghost use Rattle.ph_specs.specs.Coordinate.{coordinate, IsPoint};
-ghost use Rattle.ph_specs.specs.Lawful.{IsBody, IsLawful, rows};
-ghost use Rattle.ph_specs.specs.Distance.{near};
-ghost use Rattle.ph_specs.specs.Nearness.{IsNearest};
+ghost use Rattle.ph_specs.specs.TableNames.{coordinate, IsPoint, near, IsNearest};
+ghost use Rattle.ph_specs.specs.TreeNames.{IsBody, IsLawful, rows};
 ghost use Rattle.ph_near.specs.Nearest.{rows_hit};
-ghost use Rattle.ph_specs.specs.WorkSets.{reach};
+ghost use Rattle.ph_specs.specs.WorkNames.{reach};
 ghost use Rattle.ph_table.specs.Hits.{hits_of};
 
 use crate::opening::{Opened, enter, open};

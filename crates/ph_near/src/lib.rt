@@ -9,8 +9,6 @@ mod halves;
 mod opening;
 mod ranking;
 mod sphere;
-#[cfg(test)]
-mod tests;
 mod waiting;
 
 pub use ball::{Ball, BallOf};

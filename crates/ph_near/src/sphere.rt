@@ -1,10 +1,7 @@
 //! The points within a radius of a center.
 ghost use Rattle.std.specs.Prelude.{◌≡◌, ◌≤◌, ◌-◌, true, false, map};
-ghost use Rattle.ph_specs.specs.Coordinate.{offset, IsPoint};
-ghost use Rattle.ph_specs.specs.Distance.{distance};
-ghost use Rattle.ph_specs.specs.EntryEdits.{what_at};
-ghost use Rattle.ph_specs.specs.Lawful.{IsBody, IsLawfulFrom};
-ghost use Rattle.ph_specs.specs.Node.{entries};
+ghost use Rattle.ph_specs.specs.TableNames.{offset, IsPoint, distance};
+ghost use Rattle.ph_specs.specs.TreeNames.{what_at, IsBody, IsLawfulFrom, entries};
 ghost use Rattle.ph_node.specs.Kinds.{is_node};
 ghost use Rattle.ph_node.specs.Shown.{shown};
 ghost use Rattle.ph_node.specs.Split.{body_at};
@@ -126,7 +123,7 @@ impl<P: Dims> SphereOf<P> {
 }
 
 impl<P: Dims> Area<P> for SphereOf<P> {
-    ghost use Rattle.ph_specs.specs.Distance.{distance};
+    ghost use Rattle.ph_specs.specs.TableNames.{distance};
     ghost use Rattle.ph_near.specs.BallSphere.{points_of, center_of};
 
     type Told = u128;

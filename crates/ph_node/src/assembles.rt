@@ -1,7 +1,7 @@
 //! A node of a record that is there.
 
 ghost use Rattle.std.specs.Prelude.{◌≡◌, ◌+◌, length};
-ghost use Rattle.ph_specs.specs.Record.{first_in, unpacked};
+ghost use Rattle.ph_specs.specs.RecordNames.{first_in, unpacked};
 ghost use Rattle.ph_node.specs.Recorded.{IsLaidOut};
 ghost use Rattle.ph_node.specs.Slots.{nodes_of};
 

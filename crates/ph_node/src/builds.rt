@@ -1,9 +1,7 @@
 //! A block of given entries, for a node of them.
 
 ghost use Rattle.std.specs.Prelude.{◌≡◌, ◌≤◌, [], length, IfOk};
-ghost use Rattle.ph_specs.specs.Layout.{AreRising};
-ghost use Rattle.ph_specs.specs.Pack.{children as children_of, record_of};
-ghost use Rattle.ph_specs.specs.Record.{first_in};
+ghost use Rattle.ph_specs.specs.RecordNames.{AreRising, children as children_of, record_of, first_in};
 ghost use Rattle.ph_node.specs.Recorded.{IsLaidOut};
 
 use crate::node::{NodeOf, SlotOf};

@@ -1,7 +1,7 @@
 //! Records that differ from an old record in one entry: one more, one less, or one changed.
 
 ghost use Rattle.std.specs.Prelude.{◌≡◌, ◌+◌, ◌^◌, ◌<◌, ◌≤◌, true, false};
-ghost use Rattle.ph_specs.specs.Record.{first_in};
+ghost use Rattle.ph_specs.specs.RecordNames.{first_in};
 ghost use Rattle.ph_bits.specs.Packed.{IsPadded};
 ghost use Rattle.ph_node.specs.Recorded.{IsSource};
 

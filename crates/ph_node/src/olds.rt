@@ -1,9 +1,8 @@
 //! What edits read of a node.
 
 ghost use Rattle.std.specs.Prelude.{◌≡◌, ◌+◌, ◌^◌, ◌<◌, ◌≤◌, length, take};
-ghost use Rattle.ph_specs.specs.EntryEdits.{what_at};
-ghost use Rattle.ph_specs.specs.Node.{entries};
-ghost use Rattle.ph_specs.specs.Pack.{values, record_of};
+ghost use Rattle.ph_specs.specs.TreeNames.{what_at, entries};
+ghost use Rattle.ph_specs.specs.RecordNames.{values, record_of};
 ghost use Rattle.ph_node.specs.OneEdit.{IsOldEntry, flats_of};
 ghost use Rattle.ph_node.specs.Split.{IsValue};
 ghost use Rattle.ph_node.specs.Spots.{IsSpot};

@@ -1,8 +1,8 @@
 //! The record of two entries, one of them a point.
 
 ghost use Rattle.std.specs.Prelude.{◌≡◌, ◌≢◌, ◌+◌, ◌-◌, ◌<◌, ◌≤◌, take, length, if◌then◌else◌, Some, None, IfOk};
-ghost use Rattle.ph_specs.specs.Pack.{record_of};
-ghost use Rattle.ph_specs.specs.PutTree.{body_address};
+ghost use Rattle.ph_specs.specs.RecordNames.{record_of};
+ghost use Rattle.ph_specs.specs.TreeNames.{body_address};
 ghost use Rattle.ph_bits.specs.Block.{room_of};
 ghost use Rattle.ph_bits.specs.Edits.{words_wanted};
 ghost use Rattle.ph_bits.specs.Packed.{IsPadded};

@@ -1,12 +1,8 @@
 //! What a visit shows of a node.
 
 ghost use Rattle.std.specs.Prelude.{◌≡◌, ◌+◌, ◌*◌, ◌^◌, ◌<◌, ◌≤◌, None, Some, nat_le, length, map, take, position, slice_get, IfOk, IfErr};
-ghost use Rattle.ph_specs.specs.Node.{entries, flat};
-ghost use Rattle.ph_specs.specs.Pack.{is_cube, pack};
-ghost use Rattle.ph_specs.proofs.laws.Unpacked.{child_nodes};
-ghost use Rattle.ph_specs.specs.EntryEdits.{has_address, what_at};
-ghost use Rattle.ph_specs.specs.Lawful.{HasZerosFrom, IsBody};
-ghost use Rattle.ph_specs.specs.PutTree.{body_above, body_below, same_digits};
+ghost use Rattle.ph_specs.specs.TreeNames.{entries, flat, child_nodes, has_address, what_at, HasZerosFrom, IsBody, body_above, body_below, same_digits};
+ghost use Rattle.ph_specs.specs.RecordNames.{is_cube, pack};
 ghost use Rattle.ph_bits.specs.Apart.{IsDistanceWithin};
 ghost use Rattle.ph_bits.specs.Between.{each_between};
 ghost use Rattle.ph_bits.specs.Fields.{cut, digits_row};

@@ -1,12 +1,10 @@
 //! An entry less, and a child of two entries whose place one of them takes. Neither takes memory.
 
 ghost use Rattle.std.specs.Prelude.{◌≡◌, ◌+◌, ◌-◌, ◌<◌, ◌≤◌, true, false, length, MatchOption, if◌then◌else◌};
-ghost use Rattle.ph_specs.specs.Node.{node_of, entries};
-ghost use Rattle.ph_specs.specs.EntryEdits.{what_at, without};
+ghost use Rattle.ph_specs.specs.TreeNames.{node_of, entries, what_at, without, child_nodes};
 ghost use Rattle.ph_node.specs.Split.{IsValue, body_at};
 ghost use Rattle.ph_node.specs.Spots.{IsSpot};
-ghost use Rattle.ph_specs.specs.Pack.{pack};
-ghost use Rattle.ph_specs.proofs.laws.Unpacked.{child_nodes};
+ghost use Rattle.ph_specs.specs.RecordNames.{pack};
 ghost use Rattle.ph_bits.specs.Block.{room_of};
 ghost use Rattle.ph_bits.specs.Edits.{edited};
 ghost use Rattle.ph_node.specs.Merge.{IsPair, entries_held, merge_node};

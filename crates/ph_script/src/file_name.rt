@@ -4,7 +4,7 @@ ghost use Rattle.std.specs.Option.{SomeIff};
 ghost use Rattle.std.specs.List.{list_all};
 ghost use Rattle.std.specs.Cmp.{partial_equiv_from_equiv};
 ghost use Rattle.std.specs.Cmp.Lexicographic.{pointwise, nat_list_eq_equiv};
-ghost use Rattle.ph_specs.specs.Lines.{is_file_name, is_printed};
+ghost use Rattle.ph_specs.specs.ProgramNames.{is_file_name, is_printed};
 
 use std::marker::Model;
 use std::{fmt, str};
@@ -20,7 +20,7 @@ pub struct FileName<'t> {
 
 impl<'t> Model for FileName<'t> {
     ghost use Rattle.std.specs.Prelude.{◌≡◌, ℕ, List, true};
-    ghost use Rattle.ph_specs.specs.Lines.{is_file_name};
+    ghost use Rattle.ph_specs.specs.ProgramNames.{is_file_name};
 
     ghost Value = { List ℕ };
 

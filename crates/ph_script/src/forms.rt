@@ -1,7 +1,7 @@
 //! The forms of the commands.
 ghost use Rattle.std.specs.Prelude.{◌≡◌, ℕ, length, map, replicate};
 ghost use Rattle.std.specs.List.{AllByRecursion};
-ghost use Rattle.ph_specs.specs.Command.{forms as all_forms};
+ghost use Rattle.ph_specs.specs.ProgramNames.{forms as all_forms};
 ghost use Rattle.ph_script.specs.Forms.{place_of, group_of, form_of, IsRow};
 
 use ph_specs::SetOperation;

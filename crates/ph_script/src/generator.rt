@@ -1,6 +1,6 @@
 //! Commands that are made of drawn numbers.
 ghost use Rattle.std.specs.Prelude.{◌≡◌, ◌<◌, ◌^◌, ◌≤◌, ◌≤ℤ◌, ◌∷◌, ◌++◌, [], length, pos, neg_ℤ, MatchOption, IfSome};
-ghost use Rattle.ph_specs.specs.Generator.{next_state, draw_of, small_coordinate, command_of_draws, generate};
+ghost use Rattle.ph_specs.specs.ProgramNames.{next_state, draw_of, small_coordinate, command_of_draws, generate};
 ghost use Rattle.ph_script.specs.Meaning.{command_of, numbers_of};
 ghost use Rattle.ph_script.specs.Fit.{HasDims};
 ghost use Rattle.ph_script.specs.declared.coords.Coord.TheVariants.{Whole as Coordinate};
@@ -28,8 +28,7 @@ pub struct Gen {
 
 impl Model for Gen {
     ghost use Rattle.std.specs.Prelude.{List, ◌<◌, ◌^◌};
-    ghost use Rattle.ph_specs.specs.Command.{Command};
-    ghost use Rattle.ph_specs.specs.Generator.{generate_from};
+    ghost use Rattle.ph_specs.specs.ProgramNames.{Command, generate_from};
 
     ghost Value = { List Command };
 

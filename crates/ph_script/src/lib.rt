@@ -16,8 +16,6 @@ mod plain;
 mod read;
 mod reply;
 mod spread;
-#[cfg(test)]
-mod tests;
 mod text;
 mod words;
 

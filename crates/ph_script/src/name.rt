@@ -5,7 +5,7 @@ ghost use Rattle.std.specs.List.{list_all};
 ghost use Rattle.std.specs.Ordering.{nat_cmp};
 ghost use Rattle.std.specs.Cmp.{partial_equiv_from_equiv};
 ghost use Rattle.std.specs.Cmp.Lexicographic.{pointwise, slice_cmp, nat_list_eq_equiv, nat_list_cmp_total, texts_po, texts_ties};
-ghost use Rattle.ph_specs.specs.Lines.{is_name, is_name_byte};
+ghost use Rattle.ph_specs.specs.ProgramNames.{is_name, is_name_byte};
 
 use std::cmp::Ordering;
 use std::marker::Model;

@@ -3,7 +3,7 @@ ghost use Rattle.std.specs.Prelude.{◌≡◌, ◌+◌, ◌<◌, ◌≤◌, ◌^
 ghost use Rattle.std.specs.Prelude.{length, slice_index, pos, neg_ℤ, Some, IfSome};
 ghost use Rattle.ph_coord.specs.declared.number.Number.TheVariants.{Whole};
 ghost use Rattle.ph_coord.specs.Spelling.{number_of};
-ghost use Rattle.ph_specs.specs.Lines.{is_blank};
+ghost use Rattle.ph_specs.specs.ProgramNames.{is_blank};
 ghost use Rattle.ph_script.specs.declared.coords.Coord.TheVariants.{Whole as WholeCoord};
 ghost use Rattle.ph_script.specs.Parts.{coord_of, count_of};
 ghost use Rattle.ph_script.specs.Words.{IsNumbered, IsNumberAt};

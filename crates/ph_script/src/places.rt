@@ -3,8 +3,7 @@ ghost use Rattle.std.specs.Prelude.{◌≡◌, ◌≤◌, ◌+◌, ◌==◌, ◌
 ghost use Rattle.std.specs.List.{sum_by};
 ghost use Rattle.std.specs.Cmp.Lexicographic.{pointwise};
 ghost use Rattle.arrayvec.specs.ArrayVec.{array_vec_len};
-ghost use Rattle.ph_specs.specs.Lines.{words};
-ghost use Rattle.ph_specs.specs.Command.{number_fits, name_fits, fixed_fits};
+ghost use Rattle.ph_specs.specs.ProgramNames.{words, number_fits, name_fits, fixed_fits};
 ghost use Rattle.ph_script.specs.Forms.{place_of, spread_of};
 ghost use Rattle.ph_script.specs.Parts.{coords_in, counts_in, coords_room, counts_room, named, filed, second_in};
 ghost use Rattle.ph_script.specs.Fit.{IsFault, IsRead};

@@ -1,6 +1,6 @@
 //! The plain lines: a command's word, its coordinates, and a number or none behind them.
 ghost use Rattle.std.specs.Prelude.{◌≡◌, ◌≤◌, ◌+◌, ◌++◌, ◌∷◌, [], ℕ, List, length, drop, map, pos, None, IfSome};
-ghost use Rattle.ph_specs.specs.Lines.{words};
+ghost use Rattle.ph_specs.specs.ProgramNames.{words};
 ghost use Rattle.ph_script.specs.Meaning.{command_of, numbers_of};
 ghost use Rattle.ph_script.specs.Forms.{command_by};
 ghost use Rattle.ph_script.specs.Fit.{IsFit, HasDims};

@@ -1,8 +1,7 @@
 //! The reading of a line.
 ghost use Rattle.std.specs.Prelude.{◌≡◌, ◌≤◌, ◌<◌, ◌^◌, ◌==◌, ◌++◌, [], ℕ, List, length, map, slice_index, pos, false, None, Some, IfSome, IsSome, MatchResult};
 ghost use Rattle.std.specs.Cmp.Lexicographic.{pointwise};
-ghost use Rattle.ph_specs.specs.Lines.{words};
-ghost use Rattle.ph_specs.specs.Command.{form, forms, number_fits, name_fits, read_form as by_form, read_words, Reading};
+ghost use Rattle.ph_specs.specs.ProgramNames.{words, form, forms, number_fits, name_fits, read_form as by_form, read_words, Reading};
 ghost use Rattle.ph_script.specs.Forms.{places_by, command_by, read_among, spread_of, counted, IsPassed, IsRefusing};
 ghost use Rattle.ph_script.specs.declared.command.Bad.TheVariants.{Word as BadWord};
 ghost use Rattle.ph_script.specs.declared.command.Command.TheVariants.{Begin};
@@ -307,9 +306,9 @@ fn read_other<'c>(
     Ok(command)
 }
 
-/// The same by the forms of all commands.
+// The same by the forms of all commands.
 #[inline(never)]
-pub(crate) fn read_any<'c>(
+fn read_any<'c>(
     line: &'c [u8],
     dims: usize,
     coords: &'c mut CoordBuffer,

@@ -1,6 +1,6 @@
 //! The texts of replies.
 ghost use Rattle.std.specs.Prelude.{◌≡◌, ◌≤◌, ◌+◌, ◌*◌, ◌∷◌, [], ◌++◌, length, codes, decimal};
-ghost use Rattle.ph_specs.specs.Reply.{Reply as Replied, reply_text as text_of_reply, row_words, line_of};
+ghost use Rattle.ph_specs.specs.ProgramNames.{Reply as Replied, reply_text as text_of_reply, row_words, line_of};
 ghost use Rattle.ph_script.specs.Meaning.{reply_of};
 ghost use Rattle.ph_script.specs.RowNumbers.{numbers_line, row_numbers};
 

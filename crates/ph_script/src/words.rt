@@ -1,7 +1,7 @@
 //! The words of a line.
 ghost use Rattle.std.specs.Prelude.{◌≡◌, ◌<◌, ◌≤◌, ◌∷◌, [], length, take, not, true, false, MatchOption, IfSome};
 ghost use Rattle.std.specs.List.{position, position_or_len};
-ghost use Rattle.ph_specs.specs.Lines.{is_blank, words};
+ghost use Rattle.ph_specs.specs.ProgramNames.{is_blank, words};
 ghost use Rattle.ph_script.specs.Words.{IsNumbered};
 
 use crate::numbers::{Short, number_at};

@@ -13,8 +13,6 @@ mod part;
 mod plan;
 mod roots;
 mod side;
-#[cfg(test)]
-mod tests;
 mod trees;
 
 pub use error::SetFault;

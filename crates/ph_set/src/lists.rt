@@ -1,13 +1,11 @@
 //! All rows of a part of a tree.
 ghost use Rattle.std.specs.Prelude.{◌≡◌, ◌+◌, ◌≤◌, [], length, take, OnOk};
-ghost use Rattle.ph_specs.specs.Node.{entries, node as held_node};
+ghost use Rattle.ph_specs.specs.TreeNames.{entries, node as held_node, IsBody, digits_from};
 ghost use Rattle.ph_node.specs.Shown.{shown};
-ghost use Rattle.ph_specs.specs.Combined.{chosen};
-ghost use Rattle.ph_specs.specs.WorkSets.{seen_nodes};
+ghost use Rattle.ph_specs.specs.TableNames.{chosen};
+ghost use Rattle.ph_specs.specs.WorkNames.{seen_nodes};
 ghost use Rattle.ph_set.specs.Held.{IsLawfulPart, nodes_held, rows_held};
 ghost use Rattle.ph_set.specs.Meeting.{alone};
-ghost use Rattle.ph_specs.specs.Lawful.{IsBody};
-ghost use Rattle.ph_specs.specs.PutTree.{digits_from};
 ghost use Rattle.ph_node.specs.Spots.{IsSpot};
 ghost use Rattle.ph_set.specs.Parts.{AreListed, IsPart, digits_over, nodes_over, rows_over, spot_openings, spot_rows, stretch_nodes, stretch_rows};
 ghost use Rattle.ph_set.specs.Sides.{side_digits, side_entries, side_node};

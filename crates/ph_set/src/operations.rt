@@ -1,7 +1,7 @@
 //! The three set operations.
 ghost use Rattle.std.specs.Prelude.{◌≡◌, ◌+◌, ◌≤◌, IfOk};
-ghost use Rattle.ph_specs.specs.Table.{IsTable};
-ghost use Rattle.ph_specs.specs.WorkSets.{all_nodes};
+ghost use Rattle.ph_specs.specs.TableNames.{IsTable};
+ghost use Rattle.ph_specs.specs.WorkNames.{all_nodes};
 ghost use Rattle.ph_set.specs.Meeting.{kept, work};
 ghost use Rattle.ph_set.specs.Operations.{plan_of, rows_of, most_visits};
 

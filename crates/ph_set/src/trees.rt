@@ -1,8 +1,7 @@
 //! The three set operations, as trees.
 ghost use Rattle.std.specs.Prelude.{◌≡◌, ◌+◌, ◌≤◌, ◌<◌, length, IfOk, IsErrOf};
-ghost use Rattle.ph_specs.specs.Sets.{union as union_of, common as common_of, minus as minus_of};
-ghost use Rattle.ph_specs.specs.Table.{IsTable};
-ghost use Rattle.ph_specs.specs.WorkSets.{all_nodes, touch};
+ghost use Rattle.ph_specs.specs.TableNames.{union as union_of, common as common_of, minus as minus_of, IsTable};
+ghost use Rattle.ph_specs.specs.WorkNames.{all_nodes, touch};
 ghost use Rattle.ph_set.specs.Made.{IsMade};
 ghost use Rattle.ph_set.specs.Operations.{rows_of, most_visits};
 

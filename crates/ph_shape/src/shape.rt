@@ -1,8 +1,7 @@
 //! The shape of a table.
 ghost use Rattle.std.specs.Prelude.{◌≡◌, ◌<◌, ◌≤◌, ◌+◌, length, map, IfOk};
-ghost use Rattle.ph_specs.specs.Lawful.{IsLawful, rows as rows_in};
-ghost use Rattle.ph_specs.specs.Shape.{node_at, node_below, shape};
-ghost use Rattle.ph_specs.specs.Table.{IsTable};
+ghost use Rattle.ph_specs.specs.TreeNames.{IsLawful, rows as rows_in, node_at, node_below, shape};
+ghost use Rattle.ph_specs.specs.TableNames.{IsTable};
 ghost use Rattle.ph_shape.specs.Bodies.{IsFilled};
 ghost use Rattle.ph_shape.specs.Groups.{HaveAddress, IsGroup, group_entry};
 ghost use Rattle.ph_shape.specs.View.{entry_of};

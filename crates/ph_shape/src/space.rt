@@ -3,10 +3,8 @@
 //! The recursions over a tree are generic in the number of dimensions as a type, and reach what is written for a const
 //! parameter through this trait.
 ghost use Rattle.std.specs.Prelude.{◌≡◌, ◌<◌, ◌≤◌, take, map, MatchOption};
-ghost use Rattle.ph_specs.specs.Coordinate.{IsPoint, coordinate};
-ghost use Rattle.ph_specs.specs.Shape.{digits_below, digits_between};
-ghost use Rattle.ph_specs.specs.Table.{Row as TableRow};
-ghost use Rattle.ph_specs.specs.ZOrder.{address};
+ghost use Rattle.ph_specs.specs.TableNames.{IsPoint, coordinate, Row as TableRow, address};
+ghost use Rattle.ph_specs.specs.TreeNames.{digits_below, digits_between};
 ghost use Rattle.ph_zorder.specs.Compared.{IsTopDifference};
 ghost use Rattle.ph_shape.specs.Bodies.{filled, AreBelow};
 

@@ -4,7 +4,7 @@ ghost use Rattle.std.specs.Prelude.{◌≡◌, ◌+◌, ◌≤◌, [], ◌++◌,
 ghost use Rattle.ph_io.specs.Causes.{HasCause};
 ghost use Rattle.ph_io.specs.Giving.{Given, taken_of};
 ghost use Rattle.ph_io.specs.Writing.{WritesFront};
-ghost use Rattle.ph_specs.specs.Digits.{bytes_of, word_bytes};
+ghost use Rattle.ph_specs.specs.RecordNames.{bytes_of, word_bytes};
 ghost use Rattle.ph_snap.specs.Saving.{Passed};
 
 use ph_io::{Failed, Sink, write_piece};

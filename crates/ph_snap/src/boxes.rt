@@ -2,9 +2,8 @@
 
 ghost use Rattle.std.specs.Prelude.{◌≡◌, ◌+◌, ◌*◌, ◌^◌, ◌%◌, ◌<◌, ◌≤◌, ◌++◌, ℕ, true, length, map, take, Some, slice_get, IfSome};
 ghost use Rattle.std.specs.List.{list_all};
-ghost use Rattle.ph_specs.specs.Coordinate.{at_most, coordinate};
-ghost use Rattle.ph_specs.specs.Load.{known, box_fits as the_box_fits, boxes_fit as the_boxes_fit, has_zeros_from, places_under};
-ghost use Rattle.ph_specs.specs.Record.{Read, first_in, entries_in};
+ghost use Rattle.ph_specs.specs.TableNames.{at_most, coordinate};
+ghost use Rattle.ph_specs.specs.RecordNames.{known, box_fits as the_box_fits, boxes_fit as the_boxes_fit, has_zeros_from, places_under, Read, first_in, entries_in};
 ghost use Rattle.ph_bits.specs.Fields.{digits_row};
 ghost use Rattle.ph_node.specs.Recorded.{IsLaidOut};
 ghost use Rattle.ph_snap.specs.Forms.{IsForm};

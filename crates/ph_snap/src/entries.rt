@@ -1,7 +1,7 @@
 //! The entries of a record.
 
 ghost use Rattle.std.specs.Prelude.{◌≡◌, ◌<◌};
-ghost use Rattle.ph_specs.specs.Record.{first_in, has_cube};
+ghost use Rattle.ph_specs.specs.RecordNames.{first_in, has_cube};
 ghost use Rattle.ph_node.specs.Recorded.{IsLaidOut};
 ghost use Rattle.ph_snap.specs.Frames.{IsEntry};
 

@@ -1,9 +1,8 @@
 //! The first word of a record, and the rules on it.
 
 ghost use Rattle.std.specs.Prelude.{◌≡◌, ◌+◌, ◌*◌, ◌^◌, ◌<◌, ◌≤◌, ◌==◌, ◌&&◌, ◌||◌, nat_le, nat_lt, false};
-ghost use Rattle.ph_specs.specs.Load.{first_fits as the_first_fits, level_fits as the_level_fits, least_entries, known, has_zeros_from};
-ghost use Rattle.ph_specs.specs.Pack.{is_cube, layout};
-ghost use Rattle.ph_specs.specs.Record.{first_of, has_cube, table_digits, record_words};
+ghost use Rattle.ph_specs.specs.RecordNames.{first_fits as the_first_fits, level_fits as the_level_fits, least_entries, known, has_zeros_from, is_cube, layout};
+ghost use Rattle.ph_specs.specs.RecordNames.{first_of, has_cube, table_digits, record_words};
 ghost use Rattle.ph_snap.specs.Forms.{IsForm};
 ghost use Rattle.ph_snap.specs.Frames.{said_by};
 ghost use Rattle.ph_snap.specs.Standing.{place_of, IsStanding};

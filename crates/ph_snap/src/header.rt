@@ -1,8 +1,7 @@
 //! The header of a snapshot.
 
 ghost use Rattle.std.specs.Prelude.{◌≡◌, ◌==◌, ◌≤◌, true, false, IfOk, IfErr};
-ghost use Rattle.ph_specs.specs.Load.{has_magic as is_magic, is_flag, is_width, dims_fit};
-ghost use Rattle.ph_specs.specs.Snapshot.{kind_byte};
+ghost use Rattle.ph_specs.specs.RecordNames.{has_magic as is_magic, is_flag, is_width, dims_fit, kind_byte};
 ghost use Rattle.ph_snap.specs.Headers.{IsHeader, IsHeaderFault, Tested};
 
 use crate::fault::LoadFault;

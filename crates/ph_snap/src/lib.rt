@@ -14,8 +14,6 @@ mod places;
 mod records;
 mod saves;
 mod tables;
-#[cfg(test)]
-mod tests;
 
 pub use fault::LoadFault;
 pub use header::{Header, read_header};

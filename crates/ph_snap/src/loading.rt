@@ -1,11 +1,9 @@
 //! The tree of a snapshot.
 
 ghost use Rattle.std.specs.Prelude.{◌≡◌, ◌+◌, ◌*◌, ◌-◌, ◌^◌, ◌≤◌, true, false, None, Some, Ok, length, drop, slice_index, IfOk, IfErr};
-ghost use Rattle.ph_specs.specs.Load.{load_fault, body_fault};
-ghost use Rattle.ph_specs.specs.NodeSize.{node_size};
-ghost use Rattle.ph_specs.specs.SavedTable.{first_node, read_nodes, read_snapshot};
-ghost use Rattle.ph_specs.specs.SnapshotOf.{IsSnapshotOf};
-ghost use Rattle.ph_specs.specs.WorkSets.{all_nodes};
+ghost use Rattle.ph_specs.specs.RecordNames.{load_fault, body_fault, first_node, read_nodes, read_snapshot, IsSnapshotOf};
+ghost use Rattle.ph_specs.specs.TreeNames.{node_size};
+ghost use Rattle.ph_specs.specs.WorkNames.{all_nodes};
 ghost use Rattle.ph_snap.specs.Faults.{IsLoadFault};
 ghost use Rattle.ph_snap.specs.Forms.{IsForm};
 ghost use Rattle.ph_snap.specs.Reads.{points};

@@ -1,9 +1,8 @@
 //! One record of the bytes of a snapshot.
 
 ghost use Rattle.std.specs.Prelude.{◌≡◌, ◌+◌, ◌*◌, ◌^◌, ◌<◌, ◌≤◌, true, None, length, map, take, drop, IfOk, IfErr};
-ghost use Rattle.ph_specs.specs.Digits.{field, number_of};
-ghost use Rattle.ph_specs.specs.Load.{record_fault, next_record, next_first, words_in, rest_fits as the_rest_fits, first_fits as the_first_fits};
-ghost use Rattle.ph_specs.specs.Record.{first_in};
+ghost use Rattle.ph_specs.specs.RecordNames.{field, number_of, record_fault, next_record, next_first, words_in, rest_fits as the_rest_fits};
+ghost use Rattle.ph_specs.specs.RecordNames.{first_fits as the_first_fits, first_in};
 ghost use Rattle.ph_node.specs.Recorded.{IsLaidOut};
 ghost use Rattle.ph_snap.specs.Faults.{IsLoadFault};
 ghost use Rattle.ph_snap.specs.Forms.{IsForm};

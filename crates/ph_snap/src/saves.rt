@@ -6,10 +6,10 @@ ghost use Rattle.ph_io.specs.Causes.{HasCause};
 ghost use Rattle.ph_io.specs.Giving.{Given, taken_of};
 ghost use Rattle.ph_io.specs.Writing.{WritesFront};
 ghost use Rattle.ph_specs.specs.declared.Kind.{Kind};
-ghost use Rattle.ph_specs.specs.Node.{nodes};
-ghost use Rattle.ph_specs.specs.Snapshot.{snap, kind_byte, magic};
-ghost use Rattle.ph_specs.specs.Table.{Row, IsTable};
-ghost use Rattle.ph_specs.specs.WorkSets.{all_nodes};
+ghost use Rattle.ph_specs.specs.TreeNames.{nodes};
+ghost use Rattle.ph_specs.specs.RecordNames.{snap, kind_byte, magic};
+ghost use Rattle.ph_specs.specs.TableNames.{Row, IsTable};
+ghost use Rattle.ph_specs.specs.WorkNames.{all_nodes};
 ghost use Rattle.ph_snap.specs.Saving.{PassesNodes, VisitsAll};
 
 use crate::block::Block;

@@ -1,6 +1,6 @@
 //! Points between two corners.
 ghost use Rattle.std.specs.Prelude.{◌≡◌};
-ghost use Rattle.ph_specs.specs.Window.{is_between as lies_between};
+ghost use Rattle.ph_specs.specs.TableNames.{is_between as lies_between};
 
 use ph_coord::{Point, is_at_most};
 

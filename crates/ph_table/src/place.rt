@@ -1,7 +1,6 @@
 //! Where a point stands among rows.
 ghost use Rattle.std.specs.Prelude.{◌≡◌, ◌≤◌};
-ghost use Rattle.ph_specs.specs.Coordinate.{IsPoint};
-ghost use Rattle.ph_specs.specs.Table.{IsTable};
+ghost use Rattle.ph_specs.specs.TableNames.{IsPoint, IsTable};
 ghost use Rattle.ph_table.specs.Place.{IsCut, IsPlace};
 
 use ph_coord::{Point, Row, Width, z_before};

@@ -1,9 +1,6 @@
 //! The plain index.
 ghost use Rattle.std.specs.Prelude.{◌≡◌, ◌<◌, ◌≤◌, [], IfOk, OnOk, OnErr, IsSome, IsOk};
-ghost use Rattle.ph_specs.specs.Coordinate.{IsPoint};
-ghost use Rattle.ph_specs.specs.Table.{IsTable, find, put, del};
-ghost use Rattle.ph_specs.specs.Window.{window, is_between as lies_between};
-ghost use Rattle.ph_specs.specs.Distance.{near};
+ghost use Rattle.ph_specs.specs.TableNames.{IsPoint, IsTable, find, put, del, window, is_between as lies_between, near};
 ghost use Rattle.ph_table.specs.Hits.{hits_of};
 ghost use Rattle.ph_table.specs.Rows.{wide, put_answer};
 
@@ -32,7 +29,7 @@ pub struct Table<const D: usize> {
 }
 
 impl<const D: usize> Model for Table<D> {
-    ghost use Rattle.ph_specs.specs.Table.{IsTable};
+    ghost use Rattle.ph_specs.specs.TableNames.{IsTable};
     ghost use Rattle.ph_table.specs.Rows.{WideRows, wide};
 
     ghost Value = { WideRows };

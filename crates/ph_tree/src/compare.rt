@@ -1,8 +1,7 @@
 //! Whether nodes are the same.
 
 ghost use Rattle.std.specs.Prelude.{◌≡◌, ◌+◌, ◌≤◌, ◌↔◌, Some, length, IsTrue};
-ghost use Rattle.ph_specs.specs.Lawful.{IsLawfulFrom};
-ghost use Rattle.ph_specs.specs.Node.{nodes};
+ghost use Rattle.ph_specs.specs.TreeNames.{IsLawfulFrom, nodes};
 
 use ph_coord::Dims;
 use ph_node::NodeOf;

@@ -2,9 +2,8 @@
 
 ghost use Rattle.std.specs.Prelude.{◌≡◌, ◌<◌, ◌≤◌, ◌^◌, length, take, map, IsTrue};
 ghost use Rattle.std.specs.List.{list_all};
-ghost use Rattle.ph_specs.specs.Coordinate.{fits, offset, IsPoint};
-ghost use Rattle.ph_specs.specs.ZOrder.{address};
-ghost use Rattle.ph_specs.specs.Shape.{digits_below};
+ghost use Rattle.ph_specs.specs.TableNames.{fits, offset, IsPoint, address};
+ghost use Rattle.ph_specs.specs.TreeNames.{digits_below};
 ghost use Rattle.ph_node.specs.Bodies.{IsBodyArray, IsFilled};
 
 use ph_coord::{Dims, Width, offsets_of};

@@ -1,10 +1,8 @@
 //! Moving the value at one point to another.
 
 ghost use Rattle.std.specs.Prelude.{◌≡◌, ◌+◌, ◌*◌, ◌^◌, ◌<◌, ◌≤◌, Some};
-ghost use Rattle.ph_specs.specs.Coordinate.{IsPoint};
-ghost use Rattle.ph_specs.specs.Lawful.{IsLawful};
-ghost use Rattle.ph_specs.specs.PutTree.{find_tree, put_tree};
-ghost use Rattle.ph_specs.specs.DelTree.{del_tree};
+ghost use Rattle.ph_specs.specs.TableNames.{IsPoint};
+ghost use Rattle.ph_specs.specs.TreeNames.{IsLawful, find_tree, put_tree, del_tree};
 ghost use Rattle.ph_tree.specs.Moves.{IsMoveOf};
 ghost use Rattle.ph_tree.specs.Opened.{opened_in};
 ghost use Rattle.ph_tree.specs.Rooms.{spare_left_in};

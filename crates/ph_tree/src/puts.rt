@@ -1,11 +1,8 @@
 //! Putting a value at a point, below a node and in a tree.
 
 ghost use Rattle.std.specs.Prelude.{◌≡◌, ◌+◌, ◌*◌, ◌^◌, ◌<◌, ◌≤◌, None, Some, position, IfOk};
-ghost use Rattle.ph_specs.specs.ZOrder.{address};
-ghost use Rattle.ph_specs.specs.Node.{entries, node_of, value};
-ghost use Rattle.ph_specs.specs.Lawful.{IsLawful, IsLawfulFrom};
-ghost use Rattle.ph_specs.specs.PutTree.{find_node, find_tree, put_node, put_tree};
-ghost use Rattle.ph_specs.specs.EntryEdits.{has_address, what_at, with_what};
+ghost use Rattle.ph_specs.specs.TableNames.{address};
+ghost use Rattle.ph_specs.specs.TreeNames.{entries, node_of, value, IsLawful, IsLawfulFrom, find_node, find_tree, put_node, put_tree, has_address, what_at, with_what};
 ghost use Rattle.ph_node.specs.Places.{place_for};
 ghost use Rattle.ph_node.specs.Split.{IsValue};
 ghost use Rattle.ph_node.specs.Spots.{IsSpot};

@@ -1,8 +1,8 @@
 //! A block that an edit takes before its first change, for a change behind it.
 
 ghost use Rattle.std.specs.Prelude.{◌≡◌, ◌+◌, ◌^◌, ◌<◌, ◌≤◌, None, IsTrue};
-ghost use Rattle.ph_specs.specs.Lawful.{IsLawfulFrom, count};
-ghost use Rattle.ph_specs.specs.Pack.{is_cube};
+ghost use Rattle.ph_specs.specs.TreeNames.{IsLawfulFrom, count};
+ghost use Rattle.ph_specs.specs.RecordNames.{is_cube};
 ghost use Rattle.ph_node.specs.Shown.{shown};
 ghost use Rattle.ph_tree.specs.Rooms.{is_relaid_near, spare_room, more_words};
 ghost use Rattle.ph_tree.specs.Spare.{IsRoomy};

@@ -2,9 +2,9 @@
 
 ghost use Rattle.std.specs.Prelude.{◌≡◌, ◌+◌, ◌^◌, ◌<◌, ◌≤◌, Some, length};
 ghost use Rattle.std.specs.Option.{option_copied};
-ghost use Rattle.ph_specs.specs.Node.{nodes};
-ghost use Rattle.ph_specs.specs.Stats.{stats};
-ghost use Rattle.ph_specs.specs.WorkSets.{all_nodes};
+ghost use Rattle.ph_specs.specs.TreeNames.{nodes};
+ghost use Rattle.ph_specs.specs.RecordNames.{stats};
+ghost use Rattle.ph_specs.specs.WorkNames.{all_nodes};
 ghost use Rattle.ph_tree.specs.Stats.{counted, no_counts, stats_of, with_node, IsFew};
 
 use crate::tree::PhTree;

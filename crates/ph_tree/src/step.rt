@@ -1,10 +1,8 @@
 //! One step of a look-up or of an edit: what a node says of a point.
 
 ghost use Rattle.std.specs.Prelude.{◌≡◌, ◌<◌, ◌-◌, ◌≤◌, map};
-ghost use Rattle.ph_specs.specs.Coordinate.{offset};
-ghost use Rattle.ph_specs.specs.Lawful.{HasZerosFrom, IsBody, IsLawfulFrom};
-ghost use Rattle.ph_specs.specs.Node.{entries};
-ghost use Rattle.ph_specs.specs.PutTree.{body_above, body_below, same_digits};
+ghost use Rattle.ph_specs.specs.TableNames.{offset};
+ghost use Rattle.ph_specs.specs.TreeNames.{HasZerosFrom, IsBody, IsLawfulFrom, entries, body_above, body_below, same_digits};
 ghost use Rattle.ph_node.specs.Shown.{shown};
 ghost use Rattle.ph_node.specs.Split.{body_at};
 ghost use Rattle.ph_node.specs.Spots.{IsSpot};

@@ -2,11 +2,9 @@
 
 ghost use Rattle.std.specs.Prelude.{◌≡◌, ◌≢◌, ◌+◌, ◌-◌, ◌*◌, ◌^◌, ◌<◌, ◌≤◌, ◌↔◌, [], length, None, IsTrue, false};
 ghost use Rattle.std.specs.Option.{option_copied};
-ghost use Rattle.ph_specs.specs.Coordinate.{IsPoint};
-ghost use Rattle.ph_specs.specs.Lawful.{IsLawful, rows};
-ghost use Rattle.ph_specs.specs.Table.{IsTable, find};
-ghost use Rattle.ph_specs.specs.Shape.{shape};
-ghost use Rattle.ph_specs.specs.WorkSets.{all_nodes, path};
+ghost use Rattle.ph_specs.specs.TableNames.{IsPoint, IsTable, find};
+ghost use Rattle.ph_specs.specs.TreeNames.{IsLawful, rows, shape};
+ghost use Rattle.ph_specs.specs.WorkNames.{all_nodes, path};
 ghost use Rattle.ph_tree.specs.Tree.{with_row, without_row};
 ghost use Rattle.ph_tree.specs.Puts.{IsPutRow};
 ghost use Rattle.ph_tree.specs.Removals.{IsRemovedRow};
@@ -27,9 +25,6 @@ use ph_table::Put;
 use std::alloc::Global;
 use std::marker::Model;
 use std::sync::ledger::Ledger;
-
-#[cfg(test)]
-mod tests;
 
 /// A table of at most `max` rows, at points of D dimensions and of one width.
 ///

@@ -1,9 +1,8 @@
 //! A tree with its last edits.
 
 ghost use Rattle.std.specs.Prelude.{◌≡◌, ◌+◌, ◌*◌, ◌≤◌, [], length, OnOk, OnErr, IsOk};
-ghost use Rattle.ph_specs.specs.Coordinate.{IsPoint};
-ghost use Rattle.ph_specs.specs.Past.{without_past, keep, put_kept, del_kept, move_kept};
-ghost use Rattle.ph_specs.specs.WorkSets.{path};
+ghost use Rattle.ph_specs.specs.TableNames.{IsPoint, without_past, keep, put_kept, del_kept, move_kept};
+ghost use Rattle.ph_specs.specs.WorkNames.{path};
 ghost use Rattle.ph_tree.specs.Puts.{IsPutRow};
 ghost use Rattle.ph_tree.specs.Removals.{IsRemovedRow};
 ghost use Rattle.ph_tree.specs.Moves.{IsMoved};
@@ -21,9 +20,6 @@ use std::alloc::Global;
 use std::marker::Model;
 use std::sync::ledger::Ledger;
 
-#[cfg(test)]
-mod tests;
-
 /// A tree that keeps the tables from before its last edits, at most `depth` of them, by the inverses of the edits.
 ///
 /// Each put is an edit, also one of the value that stands there already. A removal is one where a row is at the point, and a
@@ -40,7 +36,7 @@ pub struct Kept<const D: usize> {
 }
 
 impl<const D: usize> Model for Kept<D> {
-    ghost use Rattle.ph_specs.specs.Past.{Past};
+    ghost use Rattle.ph_specs.specs.TableNames.{Past};
 
     ghost Value = { Past };
 

@@ -1,14 +1,8 @@
 //! The points between two corners.
 ghost use Rattle.std.specs.Prelude.{◌≡◌, ◌<◌, ◌≤◌, ◌-◌, ◌+◌, ◌&&◌, true, false, nat_le, length, map, replicate};
-ghost use Rattle.ph_specs.specs.Coordinate.{offset, IsPoint};
-ghost use Rattle.ph_specs.specs.EntryEdits.{what_at};
-ghost use Rattle.ph_specs.specs.Lawful.{IsLawfulFrom};
-ghost use Rattle.ph_specs.specs.Masks.{masks as the_masks};
-ghost use Rattle.ph_specs.specs.Node.{entries};
-ghost use Rattle.ph_specs.specs.PutTree.{body_above};
-ghost use Rattle.ph_specs.specs.Region.{meets_window};
-ghost use Rattle.ph_specs.specs.Window.{is_between as lies_between};
-ghost use Rattle.ph_specs.specs.WindowWalk.{node_region};
+ghost use Rattle.ph_specs.specs.TableNames.{offset, IsPoint, is_between as lies_between};
+ghost use Rattle.ph_specs.specs.TreeNames.{what_at, IsLawfulFrom, entries, body_above};
+ghost use Rattle.ph_specs.specs.WorkNames.{masks as the_masks, meets_window, node_region};
 ghost use Rattle.ph_node.specs.Between.{each_between};
 ghost use Rattle.ph_node.specs.Kinds.{is_node};
 ghost use Rattle.ph_node.specs.Shown.{shown};

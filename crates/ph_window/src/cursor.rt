@@ -1,8 +1,7 @@
 //! Cursors, from which pages of a window begin.
 ghost use Rattle.std.specs.Prelude.{◌≡◌, ◌≢◌, ◌+◌, ◌<◌, ◌≤◌, None, [], length, IsSome};
-ghost use Rattle.ph_specs.specs.Coordinate.{IsPoint};
-ghost use Rattle.ph_specs.specs.Window.{rest};
-ghost use Rattle.ph_specs.specs.WorkSets.{meets};
+ghost use Rattle.ph_specs.specs.TableNames.{IsPoint, rest};
+ghost use Rattle.ph_specs.specs.WorkNames.{meets};
 ghost use Rattle.ph_window.specs.Page.{IsLast};
 
 use crate::page::{Page, PageOf};
@@ -22,7 +21,7 @@ pub struct Cursor<const D: usize> {
 }
 
 impl<const D: usize> Model for Cursor<D> {
-    ghost use Rattle.ph_specs.specs.Window.{Cursor as TheCursor};
+    ghost use Rattle.ph_specs.specs.TableNames.{Cursor as TheCursor};
 
     ghost Value = { TheCursor };
 

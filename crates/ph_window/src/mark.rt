@@ -1,7 +1,6 @@
 //! The point behind which a walk goes on.
 ghost use Rattle.std.specs.Prelude.{◌≡◌, ◌<◌, ◌≤◌, ◌^◌, map};
-ghost use Rattle.ph_specs.specs.Coordinate.{offset, IsPoint};
-ghost use Rattle.ph_specs.specs.ZOrder.{address, before};
+ghost use Rattle.ph_specs.specs.TableNames.{offset, IsPoint, address, before};
 ghost use Rattle.ph_path.specs.Known.{known_at, point_at};
 ghost use Rattle.ph_window.specs.Resumed.{IsStand};
 

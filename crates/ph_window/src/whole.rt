@@ -1,8 +1,7 @@
 //! The window of all rows of a tree.
 ghost use Rattle.std.specs.Prelude.{◌≡◌, ◌≤◌, length};
-ghost use Rattle.ph_specs.specs.Coordinate.{IsPoint};
-ghost use Rattle.ph_specs.specs.Window.{lowest, highest};
-ghost use Rattle.ph_specs.specs.WorkSets.{all_nodes};
+ghost use Rattle.ph_specs.specs.TableNames.{IsPoint, lowest, highest};
+ghost use Rattle.ph_specs.specs.WorkNames.{all_nodes};
 
 use crate::window::{Window, WindowOf};
 use ph_coord::{Dim, Point, Width};

@@ -1,9 +1,8 @@
 //! The rows of a window, one after the other.
 ghost use Rattle.std.specs.Prelude.{◌≡◌, ◌≢◌, ◌+◌, ◌<◌, ◌≤◌, [], length, drop, slice_get, None};
-ghost use Rattle.ph_specs.specs.Coordinate.{IsPoint};
-ghost use Rattle.ph_specs.specs.Window.{window, rest};
+ghost use Rattle.ph_specs.specs.TableNames.{IsPoint, window, rest};
 ghost use Rattle.ph_window.specs.Window.{behind};
-ghost use Rattle.ph_specs.specs.WorkSets.{meets};
+ghost use Rattle.ph_specs.specs.WorkNames.{meets};
 
 use crate::corners::CornersOf;
 use crate::mark::MarkOf;

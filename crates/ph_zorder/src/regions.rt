@@ -1,9 +1,8 @@
 //! Regions, and the masks by which a window tells their parts apart.
 ghost use Rattle.std.specs.Prelude.{◌≡◌, ◌↔◌, ◌+◌, ◌-◌, ◌<◌, ◌≤◌, ◌^◌, ◌&&◌, ℕ, ℤ, List, true, None, nat_le, length, IfSome, if◌then◌else◌};
 ghost use Rattle.std.specs.List.{AllByRecursion as Each};
-ghost use Rattle.ph_specs.specs.Coordinate.{IsPoint};
-ghost use Rattle.ph_specs.specs.Masks.{fits_some, masks as the_masks, InPart};
-ghost use Rattle.ph_specs.specs.Region.{InBoth};
+ghost use Rattle.ph_specs.specs.TableNames.{IsPoint};
+ghost use Rattle.ph_specs.specs.WorkNames.{fits_some, masks as the_masks, InPart, InBoth};
 ghost use Rattle.ph_zorder.specs.Sides.{side_masks};
 
 use ph_coord::{Point, Width};
@@ -18,7 +17,7 @@ pub struct Region<const D: usize> {
 }
 
 impl<const D: usize> Model for Region<D> {
-    ghost use Rattle.ph_specs.specs.Region.{Region as TheRegion};
+    ghost use Rattle.ph_specs.specs.WorkNames.{Region as TheRegion};
 
     ghost Value = { TheRegion };
 

@@ -1,6 +1,6 @@
 //! Two slots side by side.
 ghost use Rattle.std.specs.Prelude.{◌≡◌, None, option_map};
-ghost use Rattle.ph_specs.specs.Refusals.{join_refusal, points_differ};
+ghost use Rattle.ph_specs.specs.ProgramNames.{join_refusal, points_differ};
 ghost use Rattle.ph_engine.specs.Causes.{refusal_reply};
 ghost use Rattle.ph_engine.specs.Comparing.{IsCompared};
 ghost use Rattle.ph_engine.specs.Pairing.{JoinsSlots, CombinesSlots, VisitsSlots};

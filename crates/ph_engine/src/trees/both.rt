@@ -1,6 +1,6 @@
 //! Two trees of any number of dimensions side by side.
 ghost use Rattle.std.specs.Prelude.{◌≡◌, ◌≤◌, [], length};
-ghost use Rattle.ph_specs.specs.Past.{without_past};
+ghost use Rattle.ph_specs.specs.TableNames.{without_past};
 ghost use Rattle.ph_specs.specs.declared.Kind.TheVariants.{Boxes, Points};
 ghost use Rattle.ph_engine.specs.Comparing.{IsCompared};
 ghost use Rattle.ph_engine.specs.Pairing.{ListsPairs, MadeOr, VisitsBoth};

@@ -1,7 +1,7 @@
 //! What a tree of any number of dimensions gives to a sink: rows of questions, pages and sizes.
 ghost use Rattle.std.specs.Prelude.{◌≡◌, length, true};
 ghost use Rattle.std.specs.List.{list_all};
-ghost use Rattle.ph_specs.specs.Coordinate.{fits};
+ghost use Rattle.ph_specs.specs.TableNames.{fits};
 ghost use Rattle.ph_specs.specs.declared.Kind.TheVariants.{Boxes};
 ghost use Rattle.ph_script.specs.Meaning.{numbers_of};
 ghost use Rattle.ph_engine.specs.Listing.{ListsWindow, ListsNear, ListsBall, ListsBoxes, ListsAnyPage, ListsSizes};
