@@ -78,24 +78,19 @@ impl Files for CleanFiles {
 #[cfg(test)]
 mod tests {
     use super::*;
-    use std::test::Fail;
-
-    fn fetch_from<F: Files>(files: &mut F, into: &mut Vec<u8>) -> Result<(), FetchFault> {
-        files.fetch("a", 9, into)
-    }
-
-    fn save_to<F: Files>(files: &mut F) -> Result<(), Failed> {
-        files.begin("a")?;
-        files.append(b"12")?;
-        files.finish()
-    }
+    use crate::tests::{check_fetch, check_save};
 
     #[test]
-    fn keeps_nothing(rt: HostRuntime) -> Result<(), Fail> {
+    fn keeps_nothing(rt: HostRuntime) {
         let mut files = CleanFiles::new();
         let mut into = Vec::new(rt.alloc());
-        assert_eq!(rt; save_to(&mut files), Ok(()));
-        assert_eq!(rt; fetch_from(&mut files, &mut into), Err(FetchFault::Absent));
-        Ok(())
+        check_save(&rt, &mut files, "a", b"12", Ok(()));
+        check_fetch(
+            &rt,
+            &mut files,
+            ("a", 9),
+            &mut into,
+            Err(FetchFault::Absent),
+        );
     }
 }

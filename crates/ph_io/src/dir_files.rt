@@ -242,153 +242,154 @@ impl<'r, R: rt::Files> Files for DirFiles<'r, R> {
 #[cfg(test)]
 mod tests {
     use super::*;
-    use crate::tests::fetch_from;
+    use crate::tests::{check_fetch, check_save};
     use std::os::unix::fs::symlink;
-    use std::test::Fail;
+    use std::process::Abort;
 
-    fn begin_in<F: Files>(files: &mut F, name: &str) -> Result<(), Failed> {
-        if name.len() > 255 {
-            return Ok(());
-        }
-        files.begin(name)
+    fn check_begin<F: Files>(
+        rt: &impl Abort,
+        files: &mut F,
+        name: &str,
+        answer: Result<(), Failed>,
+    ) {
+        assert!(rt; name.len() <= 255);
+        assert!(rt; files.begin(name) == answer);
     }
 
-    // Saves a piece twice.
-    fn save_to<F: Files>(files: &mut F, name: &str, piece: &[u8]) -> Result<(), Failed> {
-        if name.len() > 255 {
-            return Ok(());
-        }
-        files.begin(name)?;
-        files.append(piece)?;
-        files.append(piece)?;
-        files.finish()
+    fn check_exists<R: rt::Files + Abort>(rt: &R, name: &str, wanted: bool) {
+        assert!(rt; fs::exists(rt, name).ok() == Some(wanted));
     }
 
     #[test]
-    fn saves_and_fetches(rt: HostRuntime) -> Result<(), Fail> {
+    fn saves_and_fetches(rt: HostRuntime) {
         let mut files = DirFiles::new(&rt);
         let mut into = Vec::new(rt.alloc());
-        let absent = fetch_from(&mut files, "e.pht", 9, &mut into);
-        assert_eq!(rt; absent, Err(FetchFault::Failed));
-        assert_eq!(rt; files.faults, 1);
-        assert_eq!(rt; save_to(&mut files, "e.pht", b"PHT1"), Ok(()));
-        assert_eq!(rt; fs::exists(&rt, "e.pht.part")?, false);
-        for (most, answer) in [(9, Ok(())), (7, Err(FetchFault::Over)), (8, Ok(()))] {
-            assert_eq!(rt; fetch_from(&mut files, "e.pht", most, &mut into), answer);
-        }
-        assert_eq!(rt; into.as_slice(), b"PHT1PHT1".as_slice());
-        assert_eq!(rt; save_to(&mut files, "e.pht", b"ab"), Ok(()));
-        assert_eq!(rt; fetch_from(&mut files, "e.pht", 8, &mut into), Ok(()));
-        assert_eq!(rt; into.as_slice(), b"abab".as_slice());
-        assert_eq!(rt; files.faults, 1);
-        fs::remove_file(&rt, "e.pht")?;
-        Ok(())
-    }
-
-    #[test]
-    fn keeps_the_former_file_where_a_save_fails(rt: HostRuntime) -> Result<(), Fail> {
-        let mut files = DirFiles::new(&rt);
-        let mut into = Vec::new(rt.alloc());
-        fs::write(&rt, "former.pht", "old")?;
-        // No file is begun in place of a link, also where that leads to a file, nor in place of a folder.
-        symlink(&rt, "former.pht", "former.pht.part")?;
-        assert_eq!(rt; save_to(&mut files, "former.pht", b"ab"), Err(Failed));
-        assert_eq!(rt; fs::exists(&rt, "former.pht.part")?, true);
-        fs::remove_file(&rt, "former.pht.part")?;
-        fs::create_dir(&rt, "former.pht.part")?;
-        assert_eq!(rt; save_to(&mut files, "former.pht", b"ab"), Err(Failed));
-        assert_eq!(rt; files.faults, 2);
-        assert_eq!(rt; fetch_from(&mut files, "former.pht", 3, &mut into), Ok(()));
-        assert_eq!(rt; into.as_slice(), b"old".as_slice());
-        fs::remove_dir(&rt, "former.pht.part")?;
-        fs::remove_file(&rt, "former.pht")?;
-        Ok(())
-    }
-
-    #[test]
-    fn fails_for_a_folder(rt: HostRuntime) -> Result<(), Fail> {
-        let mut files = DirFiles::new(&rt);
-        let mut into = Vec::new(rt.alloc());
-        fs::create_dir(&rt, "folder.pht")?;
-        fs::write(&rt, "folder.pht/inner", "old")?;
-        let folder = fetch_from(&mut files, "folder.pht", 9, &mut into);
-        assert_eq!(rt; folder, Err(FetchFault::Failed));
-        assert_eq!(rt; save_to(&mut files, "folder.pht", b"ab"), Err(Failed));
-        assert_eq!(rt; fs::exists(&rt, "folder.pht.part")?, false);
-        assert_eq!(rt; files.faults, 2);
-        assert_eq!(rt;
-            fetch_from(&mut files, "folder.pht/inner", 3, &mut into),
-            Ok(())
+        check_fetch(
+            &rt,
+            &mut files,
+            ("e.pht", 9),
+            &mut into,
+            Err(FetchFault::Failed),
         );
-        assert_eq!(rt; into.as_slice(), b"old".as_slice());
-        fs::remove_dir_all(&rt, "folder.pht")?;
-        Ok(())
+        assert!(rt; files.faults == 1);
+        check_save(&rt, &mut files, "e.pht", b"PHT1", Ok(()));
+        check_exists(&rt, "e.pht.part", false);
+        for (most, wanted) in [
+            (9, Ok(b"PHT1PHT1".as_slice())),
+            (7, Err(FetchFault::Over)),
+            (8, Ok(b"PHT1PHT1")),
+        ] {
+            check_fetch(&rt, &mut files, ("e.pht", most), &mut into, wanted);
+        }
+        check_save(&rt, &mut files, "e.pht", b"ab", Ok(()));
+        check_fetch(&rt, &mut files, ("e.pht", 8), &mut into, Ok(b"abab"));
+        assert!(rt; files.faults == 1);
+        fs::remove_file(&rt, "e.pht").expect(&rt, "remove_file");
+    }
+
+    #[test]
+    fn keeps_the_former_file_where_a_save_fails(rt: HostRuntime) {
+        let mut files = DirFiles::new(&rt);
+        let mut into = Vec::new(rt.alloc());
+        fs::write(&rt, "former.pht", "old").expect(&rt, "write");
+        // No file is begun in place of a link, also where that leads to a file, nor in place of a folder.
+        symlink(&rt, "former.pht", "former.pht.part").expect(&rt, "symlink");
+        check_save(&rt, &mut files, "former.pht", b"ab", Err(Failed));
+        check_exists(&rt, "former.pht.part", true);
+        fs::remove_file(&rt, "former.pht.part").expect(&rt, "remove_file");
+        fs::create_dir(&rt, "former.pht.part").expect(&rt, "create_dir");
+        check_save(&rt, &mut files, "former.pht", b"ab", Err(Failed));
+        assert!(rt; files.faults == 2);
+        check_fetch(&rt, &mut files, ("former.pht", 3), &mut into, Ok(b"old"));
+        fs::remove_dir(&rt, "former.pht.part").expect(&rt, "remove_dir");
+        fs::remove_file(&rt, "former.pht").expect(&rt, "remove_file");
+    }
+
+    #[test]
+    fn fails_for_a_folder(rt: HostRuntime) {
+        let mut files = DirFiles::new(&rt);
+        let mut into = Vec::new(rt.alloc());
+        fs::create_dir(&rt, "folder.pht").expect(&rt, "create_dir");
+        fs::write(&rt, "folder.pht/inner", "old").expect(&rt, "write");
+        check_fetch(
+            &rt,
+            &mut files,
+            ("folder.pht", 9),
+            &mut into,
+            Err(FetchFault::Failed),
+        );
+        check_save(&rt, &mut files, "folder.pht", b"ab", Err(Failed));
+        check_exists(&rt, "folder.pht.part", false);
+        assert!(rt; files.faults == 2);
+        check_fetch(
+            &rt,
+            &mut files,
+            ("folder.pht/inner", 3),
+            &mut into,
+            Ok(b"old"),
+        );
+        fs::remove_dir_all(&rt, "folder.pht").expect(&rt, "remove_dir_all");
     }
 
     // A device that never ends, and a link to it.
     #[test]
-    fn fails_for_a_device(rt: HostRuntime) -> Result<(), Fail> {
+    fn fails_for_a_device(rt: HostRuntime) {
         let mut files = DirFiles::new(&rt);
         let mut into = Vec::new(rt.alloc());
-        symlink(&rt, "/dev/zero", "device.pht")?;
+        symlink(&rt, "/dev/zero", "device.pht").expect(&rt, "symlink");
         for name in ["/dev/zero", "device.pht"] {
-            let device = fetch_from(&mut files, name, 9, &mut into);
-            assert_eq!(rt; device, Err(FetchFault::Failed));
+            check_fetch(
+                &rt,
+                &mut files,
+                (name, 9),
+                &mut into,
+                Err(FetchFault::Failed),
+            );
         }
-        assert_eq!(rt; save_to(&mut files, "device.pht", b"ab"), Err(Failed));
-        assert_eq!(rt; files.faults, 3);
-        assert_eq!(rt; fs::exists(&rt, "device.pht.part")?, false);
-        fs::remove_file(&rt, "device.pht")?;
-        Ok(())
+        check_save(&rt, &mut files, "device.pht", b"ab", Err(Failed));
+        assert!(rt; files.faults == 3);
+        check_exists(&rt, "device.pht.part", false);
+        fs::remove_file(&rt, "device.pht").expect(&rt, "remove_file");
     }
 
     // The link becomes a file, and what it led to stays.
     #[test]
-    fn replaces_a_link(rt: HostRuntime) -> Result<(), Fail> {
+    fn replaces_a_link(rt: HostRuntime) {
         let mut files = DirFiles::new(&rt);
         let mut into = Vec::new(rt.alloc());
-        fs::write(&rt, "led_to.pht", "old")?;
-        symlink(&rt, "led_to.pht", "link.pht")?;
-        assert_eq!(rt; fetch_from(&mut files, "link.pht", 3, &mut into), Ok(()));
-        assert_eq!(rt; into.as_slice(), b"old".as_slice());
-        assert_eq!(rt; save_to(&mut files, "link.pht", b"ab"), Ok(()));
+        fs::write(&rt, "led_to.pht", "old").expect(&rt, "write");
+        symlink(&rt, "led_to.pht", "link.pht").expect(&rt, "symlink");
+        check_fetch(&rt, &mut files, ("link.pht", 3), &mut into, Ok(b"old"));
+        check_save(&rt, &mut files, "link.pht", b"ab", Ok(()));
         for (name, bytes) in [("led_to.pht", b"old".as_slice()), ("link.pht", b"abab")] {
-            assert_eq!(rt; fetch_from(&mut files, name, 4, &mut into), Ok(()));
-            assert_eq!(rt; into.as_slice(), bytes);
-            fs::remove_file(&rt, name)?;
+            check_fetch(&rt, &mut files, (name, 4), &mut into, Ok(bytes));
+            fs::remove_file(&rt, name).expect(&rt, "remove_file");
         }
-        Ok(())
     }
 
     #[test]
-    fn drops_a_file_that_is_begun(rt: HostRuntime) -> Result<(), Fail> {
+    fn drops_a_file_that_is_begun(rt: HostRuntime) {
         let mut files = DirFiles::new(&rt);
-        assert_eq!(rt; begin_in(&mut files, "a"), Ok(()));
-        assert_eq!(rt; fs::exists(&rt, "a.part")?, true);
-        assert_eq!(rt; begin_in(&mut files, "b"), Ok(()));
-        assert_eq!(rt; fs::exists(&rt, "a.part")?, false);
-        assert_eq!(rt; begin_in(&mut files, "absent/c"), Err(Failed));
-        assert_eq!(rt; fs::exists(&rt, "b.part")?, false);
-        assert_eq!(rt; files.faults, 1);
-        Ok(())
+        check_begin(&rt, &mut files, "a", Ok(()));
+        check_exists(&rt, "a.part", true);
+        check_begin(&rt, &mut files, "b", Ok(()));
+        check_exists(&rt, "a.part", false);
+        check_begin(&rt, &mut files, "absent/c", Err(Failed));
+        check_exists(&rt, "b.part", false);
+        assert!(rt; files.faults == 1);
     }
 
     #[test]
-    fn saves_names_of_at_most_250_bytes(rt: HostRuntime) -> Result<(), Fail> {
+    fn saves_names_of_at_most_250_bytes(rt: HostRuntime) {
         let mut files = DirFiles::new(&rt);
         let mut into = Vec::new(rt.alloc());
-        let longest = "n".repeat(rt.alloc(), 250)?;
-        assert_eq!(rt; save_to(&mut files, longest.as_str(), b"ab"), Ok(()));
-        let longer = "n".repeat(rt.alloc(), 251)?;
-        assert_eq!(rt; save_to(&mut files, longer.as_str(), b"ab"), Err(Failed));
-        fs::write(&rt, longer.as_str(), "abc")?;
-        assert_eq!(rt;
-            fetch_from(&mut files, longer.as_str(), 9, &mut into),
-            Ok(())
-        );
-        assert_eq!(rt; into.as_slice(), b"abc".as_slice());
-        fs::remove_file(&rt, longest.as_str())?;
-        fs::remove_file(&rt, longer.as_str())?;
-        Ok(())
+        let longest = "n".repeat(rt.alloc(), 250).expect(&rt, "memory");
+        check_save(&rt, &mut files, longest.as_str(), b"ab", Ok(()));
+        let longer = "n".repeat(rt.alloc(), 251).expect(&rt, "memory");
+        check_save(&rt, &mut files, longer.as_str(), b"ab", Err(Failed));
+        fs::write(&rt, longer.as_str(), "abc").expect(&rt, "write");
+        check_fetch(&rt, &mut files, (longer.as_str(), 9), &mut into, Ok(b"abc"));
+        fs::remove_file(&rt, longest.as_str()).expect(&rt, "remove_file");
+        fs::remove_file(&rt, longer.as_str()).expect(&rt, "remove_file");
     }
 }

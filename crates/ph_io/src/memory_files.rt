@@ -243,105 +243,106 @@ impl Files for MemoryFiles {
 #[cfg(test)]
 mod tests {
     use super::*;
-    use crate::tests::fetch_from;
-    use std::test::Fail;
+    use crate::tests::{check_fetch, check_save};
+    use std::process::Abort;
 
-    const BYTES: [u8; 4] = *b"xyxy";
+    const SAVED: &[u8] = b"xyxy";
 
-    // Begins a file of these bytes, and appends them half by half.
-    fn write_to<F: Files>(files: &mut F, name: &str) -> Result<(), Failed> {
-        if name.len() > 255 {
-            return Ok(());
-        }
-        files.begin(name)?;
-        files.append(&BYTES[..2])?;
-        files.append(&BYTES[2..])
+    // A file of two pieces that is not finished.
+    fn check_draft<F: Files>(rt: &impl Abort, files: &mut F, name: &str) {
+        assert!(rt; name.len() <= 255);
+        assert!(rt; files.begin(name) == Ok(()));
+        assert!(rt; files.append(b"xy") == Ok(()));
+        assert!(rt; files.append(b"xy") == Ok(()));
     }
 
-    fn save_to<F: Files>(files: &mut F, name: &str) -> Result<(), Failed> {
-        if name.len() > 255 {
-            return Ok(());
-        }
-        files.begin(name)?;
-        files.append(&BYTES[..2])?;
-        files.append(&BYTES[2..])?;
-        files.finish()
+    fn check_stored(rt: &impl Abort, files: &MemoryFiles, name: &str, wanted: Option<&[u8]>) {
+        assert!(rt; files.get(name) == wanted);
     }
 
     #[test]
-    fn saves_and_fetches(rt: HostRuntime) -> Result<(), Fail> {
-        let mut files = MemoryFiles::new(rt.alloc(), 2, 4, Vec::new(rt.alloc()))?;
+    fn saves_and_fetches(rt: HostRuntime) {
+        let mut files = MemoryFiles::new(rt.alloc(), 2, 4, Vec::new(rt.alloc())).expect(
+            &rt, "memory",
+        );
         let mut into = Vec::new(rt.alloc());
-        assert_eq!(rt; files.preset("b", b"123"), true);
-        for (most, answer) in [(2, Err(FetchFault::Over)), (3, Ok(())), (4, Ok(()))] {
-            assert_eq!(rt; fetch_from(&mut files, "b", most, &mut into), answer);
+        assert!(rt; files.preset("b", b"123"));
+        for (most, wanted) in [
+            (2, Err(FetchFault::Over)),
+            (3, Ok(b"123".as_slice())),
+            (4, Ok(b"123")),
+        ] {
+            check_fetch(&rt, &mut files, ("b", most), &mut into, wanted);
         }
-        assert_eq!(rt; into.as_slice(), b"123".as_slice());
-        assert_eq!(rt; write_to(&mut files, "a"), Ok(()));
-        assert_eq!(rt; files.get("a"), None);
-        assert_eq!(rt;
-            fetch_from(&mut files, "a", 9, &mut into),
-            Err(FetchFault::Absent)
+        check_draft(&rt, &mut files, "a");
+        check_stored(&rt, &files, "a", None);
+        check_fetch(
+            &rt,
+            &mut files,
+            ("a", 9),
+            &mut into,
+            Err(FetchFault::Absent),
         );
         for name in ["a", "b"] {
-            assert_eq!(rt; save_to(&mut files, name), Ok(()));
-            assert_eq!(rt; files.get(name), Some(BYTES.as_slice()));
-            assert_eq!(rt; fetch_from(&mut files, name, 4, &mut into), Ok(()));
-            assert_eq!(rt; into.as_slice(), BYTES.as_slice());
+            check_save(&rt, &mut files, name, b"xy", Ok(()));
+            check_stored(&rt, &files, name, Some(SAVED));
+            check_fetch(&rt, &mut files, (name, 4), &mut into, Ok(SAVED));
         }
-        assert_eq!(rt; files.faults, 0);
-        Ok(())
+        assert!(rt; files.faults == 0);
     }
 
     #[test]
-    fn each_call_fails_in_turn(rt: HostRuntime) -> Result<(), Fail> {
+    fn each_call_fails_in_turn(rt: HostRuntime) {
         for turn in 1..=5 {
-            let fails = vec![in rt.alloc(); turn]?;
-            let mut files = MemoryFiles::new(rt.alloc(), 1, 4, fails)?;
+            let fails = vec![in rt.alloc(); turn].expect(&rt, "memory");
+            let mut files = MemoryFiles::new(rt.alloc(), 1, 4, fails).expect(&rt, "memory");
             let mut into = Vec::new(rt.alloc());
-            assert_eq!(rt; files.preset("a", b"old"), true);
+            assert!(rt; files.preset("a", b"old"));
             if turn < 5 {
-                assert_eq!(rt; save_to(&mut files, "a"), Err(Failed));
-                assert_eq!(rt; files.get("a"), Some(b"old".as_slice()));
-                assert_eq!(rt; save_to(&mut files, "a"), Ok(()));
+                check_save(&rt, &mut files, "a", b"xy", Err(Failed));
+                check_stored(&rt, &files, "a", Some(b"old"));
+                check_save(&rt, &mut files, "a", b"xy", Ok(()));
             } else {
-                assert_eq!(rt; save_to(&mut files, "a"), Ok(()));
-                assert_eq!(rt;
-                    fetch_from(&mut files, "a", 4, &mut into),
-                    Err(FetchFault::Failed)
+                check_save(&rt, &mut files, "a", b"xy", Ok(()));
+                check_fetch(
+                    &rt,
+                    &mut files,
+                    ("a", 4),
+                    &mut into,
+                    Err(FetchFault::Failed),
                 );
             }
-            assert_eq!(rt; fetch_from(&mut files, "a", 4, &mut into), Ok(()));
-            assert_eq!(rt; into.as_slice(), BYTES.as_slice());
-            assert_eq!(rt; files.faults, 1);
+            check_fetch(&rt, &mut files, ("a", 4), &mut into, Ok(SAVED));
+            assert!(rt; files.faults == 1);
         }
-        Ok(())
     }
 
     #[test]
-    fn has_room_for_so_many_bytes(rt: HostRuntime) -> Result<(), Fail> {
-        let mut files = MemoryFiles::new(rt.alloc(), 2, 3, Vec::new(rt.alloc()))?;
-        assert_eq!(rt; files.preset("a", b"1234"), false);
-        assert_eq!(rt; files.preset("a", b"123"), true);
-        assert_eq!(rt; save_to(&mut files, "a"), Err(Failed));
-        assert_eq!(rt; files.get("a"), Some(b"123".as_slice()));
-        assert_eq!(rt; files.faults, 1);
-        Ok(())
+    fn has_room_for_so_many_bytes(rt: HostRuntime) {
+        let mut files = MemoryFiles::new(rt.alloc(), 2, 3, Vec::new(rt.alloc())).expect(
+            &rt, "memory",
+        );
+        assert!(rt; !files.preset("a", b"1234"));
+        assert!(rt; files.preset("a", b"123"));
+        check_save(&rt, &mut files, "a", b"xy", Err(Failed));
+        check_stored(&rt, &files, "a", Some(b"123"));
+        assert!(rt; files.faults == 1);
     }
 
     #[test]
-    fn has_room_for_so_many_names(rt: HostRuntime) -> Result<(), Fail> {
-        let mut files = MemoryFiles::new(rt.alloc(), 2, 4, Vec::new(rt.alloc()))?;
-        assert_eq!(rt; save_to(&mut files, "c"), Ok(()));
-        assert_eq!(rt; files.preset("a", b"1"), true);
-        assert_eq!(rt; save_to(&mut files, "b"), Err(Failed));
-        assert_eq!(rt; files.preset("b", b"2"), false);
-        assert_eq!(rt; files.get("b"), None);
-        assert_eq!(rt; save_to(&mut files, "a"), Ok(()));
-        assert_eq!(rt; files.preset("c", b"3"), true);
-        assert_eq!(rt; files.get("a"), Some(BYTES.as_slice()));
-        assert_eq!(rt; files.get("c"), Some(b"3".as_slice()));
-        assert_eq!(rt; files.faults, 1);
-        Ok(())
+    fn has_room_for_so_many_names(rt: HostRuntime) {
+        let mut files = MemoryFiles::new(rt.alloc(), 2, 4, Vec::new(rt.alloc())).expect(
+            &rt, "memory",
+        );
+        check_save(&rt, &mut files, "c", b"xy", Ok(()));
+        assert!(rt; files.preset("a", b"1"));
+        check_save(&rt, &mut files, "b", b"xy", Err(Failed));
+        assert!(rt; !files.preset("b", b"2"));
+        check_stored(&rt, &files, "b", None);
+        check_save(&rt, &mut files, "a", b"xy", Ok(()));
+        assert!(rt; files.preset("c", b"3"));
+        check_stored(&rt, &files, "a", Some(SAVED));
+        check_stored(&rt, &files, "c", Some(b"3"));
+        assert!(rt; files.faults == 1);
     }
 }

@@ -120,29 +120,23 @@ impl Sink for MemorySink {
 #[cfg(test)]
 mod tests {
     use super::*;
-    use std::test::Fail;
-
-    fn write_to<S: Sink>(sink: &mut S, piece: &[u8]) -> Result<usize, Failed> {
-        sink.write(piece)
-    }
+    use crate::tests::check_write;
 
     #[test]
-    fn takes_pieces_up_to_its_room(rt: HostRuntime) -> Result<(), Fail> {
-        let fails = vec![in rt.alloc(); 2u64]?;
-        let mut sink = MemorySink::with_room(rt.alloc(), 5, 2, fails)?;
-        let steps = [
+    fn takes_pieces_up_to_its_room(rt: HostRuntime) {
+        let fails = vec![in rt.alloc(); 2u64].expect(&rt, "memory");
+        let mut sink = MemorySink::with_room(rt.alloc(), 5, 2, fails).expect(&rt, "memory");
+        for (piece, answer, faults) in [
             (b"abc".as_slice(), Ok(2), 0),
-            (b"cde".as_slice(), Err(Failed), 1),
-            (b"cde".as_slice(), Ok(2), 1),
-            (b"ef".as_slice(), Ok(1), 1),
-            (b"".as_slice(), Ok(0), 1),
-            (b"f".as_slice(), Err(Failed), 2),
-        ];
-        for (piece, answer, faults) in steps {
-            assert_eq!(rt; write_to(&mut sink, piece), answer);
-            assert_eq!(rt; sink.faults, faults);
+            (b"cde", Err(Failed), 1),
+            (b"cde", Ok(2), 1),
+            (b"ef", Ok(1), 1),
+            (b"", Ok(0), 1),
+            (b"f", Err(Failed), 2),
+        ] {
+            check_write(&rt, &mut sink, piece, answer);
+            assert!(rt; sink.faults == faults);
         }
-        assert_eq!(rt; sink.bytes(), b"abcde".as_slice());
-        Ok(())
+        assert!(rt; sink.bytes() == b"abcde".as_slice());
     }
 }

@@ -127,6 +127,7 @@ impl<W: Write> Sink for StdSink<W> {
 #[cfg(test)]
 mod tests {
     use super::*;
+    use crate::tests::{check_read, check_write};
     use std::io::{Error, ErrorKind};
 
     #[derive(Drop)]
@@ -151,27 +152,18 @@ mod tests {
         }
     }
 
-    fn read_from<S: Source>(source: &mut S, into: &mut [u8; 4]) -> Result<usize, Failed> {
-        source.read(into)
-    }
-
-    fn write_to<S: Sink>(sink: &mut S, piece: &[u8]) -> Result<usize, Failed> {
-        sink.write(piece)
-    }
-
     #[test]
     fn reads_and_counts_faults(rt: HostRuntime) {
         let mut into = [0u8; 4];
         let mut source = StdSource::new(b"abcdef".as_slice());
         for (answer, stands) in [(Ok(4), *b"abcd"), (Ok(2), *b"efcd"), (Ok(0), *b"efcd")] {
-            assert_eq!(rt; read_from(&mut source, &mut into), answer);
-            assert_eq!(rt; into, stands);
+            check_read(&rt, &mut source, &mut into, answer, &stands);
         }
-        assert_eq!(rt; source.faults, 0);
+        assert!(rt; source.faults == 0);
         let mut broken = StdSource::new(Broken);
         for faults in 1..=2 {
-            assert_eq!(rt; read_from(&mut broken, &mut into), Err(Failed));
-            assert_eq!(rt; broken.faults, faults);
+            check_read(&rt, &mut broken, &mut into, Err(Failed), b"efcd");
+            assert!(rt; broken.faults == faults);
         }
     }
 
@@ -179,18 +171,18 @@ mod tests {
     fn writes_and_counts_faults(rt: HostRuntime) {
         let mut sink = StdSink::new(Vec::new(rt.alloc()));
         for piece in [b"abc".as_slice(), b"", b"de"] {
-            assert_eq!(rt; write_to(&mut sink, piece), Ok(piece.len()));
+            check_write(&rt, &mut sink, piece, Ok(piece.len()));
         }
-        assert_eq!(rt; sink.writer.as_slice(), b"abcde".as_slice());
-        assert_eq!(rt; sink.faults, 0);
+        assert!(rt; sink.writer.as_slice() == b"abcde".as_slice());
+        assert!(rt; sink.faults == 0);
         let mut broken = StdSink::new(Broken);
         for (piece, answer, faults) in [
             (b"".as_slice(), Ok(0), 0),
-            (b"a".as_slice(), Err(Failed), 1),
-            (b"!".as_slice(), Err(Failed), 2),
+            (b"a", Err(Failed), 1),
+            (b"!", Err(Failed), 2),
         ] {
-            assert_eq!(rt; write_to(&mut broken, piece), answer);
-            assert_eq!(rt; broken.faults, faults);
+            check_write(&rt, &mut broken, piece, answer);
+            assert!(rt; broken.faults == faults);
         }
     }
 }

@@ -1,14 +1,64 @@
-//! Calls of any files, for the tests of each kind.
-use crate::{FetchFault, Files};
+//! What any sources, sinks and files are to answer, for the tests of each kind.
+ghost use Rattle.std.specs.Prelude.{◌≤◌, length};
 
-pub(crate) fn fetch_from<F: Files>(
+use crate::{Failed, FetchFault, Files, Sink, Source};
+use std::process::Abort;
+
+// A read is answered so, and these bytes stand behind it.
+pub(crate) fn check_read<S: Source>(
+    rt: &impl Abort,
+    source: &mut S,
+    into: &mut [u8],
+    answer: Result<usize, Failed>,
+    stands: &[u8],
+) {
+    assert!(rt; !into.is_empty());
+    assert!(rt; source.read(into) == answer);
+    assert!(rt; *into == *stands);
+}
+
+pub(crate) fn check_write<S: Sink>(
+    rt: &impl Abort,
+    sink: &mut S,
+    piece: &[u8],
+    answer: Result<usize, Failed>,
+) {
+    assert!(rt; sink.write(piece) == answer);
+}
+
+// A fetch of at most so many bytes of a file gives these, or is refused so.
+pub(crate) fn check_fetch<F: Files>(
+    rt: &impl Abort,
+    files: &mut F,
+    (name, most): (&str, u64),
+    into: &mut Vec<u8>,
+    wanted: Result<&[u8], FetchFault>,
+) {
+    assert!(rt; name.len() <= 255);
+    let answer = files.fetch(name, most, into);
+    match wanted {
+        Ok(bytes) => assert!(rt; answer == Ok(()) && into.as_slice() == bytes),
+        Err(fault) => assert!(rt; answer == Err(fault)),
+    }
+}
+
+fn save<F: Files>(files: &mut F, name: &str, piece: &[u8]) -> Result<(), Failed>
+    requires { length name.now ≤ 255 }
+{
+    files.begin(name)?;
+    files.append(piece)?;
+    files.append(piece)?;
+    files.finish()
+}
+
+// A file that has a piece twice is saved, or that is refused.
+pub(crate) fn check_save<F: Files>(
+    rt: &impl Abort,
     files: &mut F,
     name: &str,
-    most: u64,
-    into: &mut Vec<u8>,
-) -> Result<(), FetchFault> {
-    if name.len() > 255 {
-        return Err(FetchFault::NoMemory);
-    }
-    files.fetch(name, most, into)
+    piece: &[u8],
+    answer: Result<(), Failed>,
+) {
+    assert!(rt; name.len() <= 255);
+    assert!(rt; save(files, name, piece) == answer);
 }
