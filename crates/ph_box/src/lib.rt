@@ -3,8 +3,6 @@
 
 mod corners;
 mod question;
-#[cfg(test)]
-mod tests;
 mod windows;
 
 pub use corners::{join_box, split_box};

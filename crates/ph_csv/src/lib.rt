@@ -7,8 +7,6 @@ mod line;
 mod records;
 mod row;
 mod rows;
-#[cfg(test)]
-mod tests;
 
 pub use fault::CsvFault;
 pub use line::{LINE_BYTES, row_line};

@@ -9,8 +9,6 @@ mod plain;
 mod rows;
 mod shape;
 mod space;
-#[cfg(test)]
-mod tests;
 
 pub use cuts::group_len;
 pub use plain::{Plain, PlainOf};

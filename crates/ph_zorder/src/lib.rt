@@ -6,8 +6,6 @@ mod distances;
 mod order;
 mod regions;
 mod steps;
-#[cfg(test)]
-mod tests;
 
 pub use distances::{distance, least_distance, offset_distance, offset_least_distance};
 pub use order::{address, top_difference, z_cmp};

@@ -1,8 +1,9 @@
+//! Which boxes overlap another, lie inside it and cover it.
 ghost use Rattle.std.specs.Prelude.{◌≡◌, ◌*◌, ◌≤◌};
-ghost use Rattle.ph_specs.specs.TableNames.{IsPoint};
 
-use super::*;
-use ph_coord::{Point, Width, is_at_most};
+use super::{point, width};
+use ph_box::{Question, bounds, join_box, split_box};
+use ph_coord::{Point, is_at_most};
 use std::process::Abort;
 
 // Whether a box overlaps the asked one, lies inside it, and covers it.
@@ -17,22 +18,6 @@ const INSIDE: Listed = [true, true, false];
 const COVERS: Listed = [true, false, true];
 
 const SAME: Listed = [true, true, true];
-
-fn width(rt: &impl Abort, bits: u32) -> Width {
-    let Some(w) = Width::new(bits) else {
-        panic!(rt; "no width");
-    };
-    w
-}
-
-fn point<const K: usize>(rt: &impl Abort, w: Width, coords: &[i64]) -> Point<K>
-    ensures { IsPoint w K result }
-{
-    let Some(p) = Point::from_slice(w, coords) else {
-        panic!(rt; "no point");
-    };
-    p
-}
 
 fn is_between<const D: usize>(p: &Point<D>, bounds: &(Point<D>, Point<D>)) -> bool {
     is_at_most(bounds.0.as_slice(), p.as_slice()) && is_at_most(p.as_slice(), bounds.1.as_slice())

@@ -1,9 +1,9 @@
 //! Texts whose rows and faults are known.
 ghost use Rattle.std.specs.Prelude.{◌≤◌};
 
-use crate::{CsvFault, read_rows, row_line};
 use ph_coord::Kind::{self, Boxes, Points};
 use ph_coord::{Point, Row, Width};
+use ph_csv::{CsvFault, read_rows, row_line};
 use std::alloc::Global;
 use std::test::Fail;
 

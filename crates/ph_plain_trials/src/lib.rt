@@ -1,0 +1,6 @@
+//! What stands beside the tree, with answers that are known from outside: the Z-order, boxes, the plain index, plain trees,
+//! and rows as records of text.
+#![tactic(auto)]
+
+#[cfg(test)]
+mod tests;

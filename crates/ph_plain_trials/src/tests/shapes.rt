@@ -1,0 +1,66 @@
+//! The plain tree of rows, and the rows of a plain tree.
+ghost use Rattle.std.specs.Prelude.{◌≡◌};
+ghost use Rattle.ph_specs.specs.TableNames.{row};
+
+use super::{point, width};
+use ph_coord::{Row, Width};
+use ph_shape::{NoMemory, Plain, rows_of, shape_of};
+use std::process::Abort;
+
+#[test]
+fn no_rows(rt: HostRuntime) -> Result<(), NoMemory> {
+    let w = width(&rt, 32);
+    let root: Option<Plain<2>> = shape_of(rt.alloc(), w, &[])?;
+    assert!(rt; root.is_none());
+    let rows: Vec<Row<2>> = rows_of(rt.alloc(), w, None)?;
+    assert!(rt; rows.is_empty());
+    Ok(())
+}
+
+fn row(rt: &impl Abort, w: Width, coords: [i64; 2], value: u64) -> Row<2>
+    ensures { result ≡ row coords value }
+{
+    Row {
+        point: point(rt, w, &coords),
+        value,
+    }
+}
+
+// The level of a node, and the address and the value of each entry, which is a child where it has none.
+fn check_node(rt: &impl Abort, node: &Plain<2>, level: u32, entries: &[(u32, Option<u64>)]) {
+    assert!(rt; (node.level(), node.len()) == (level, entries.len()));
+    for (i, entry) in entries.iter().enumerate() {
+        assert!(rt; i < node.len());
+        assert!(rt; (node.addr(i), node.value(i)) == *entry);
+    }
+}
+
+#[test]
+fn three_rows(rt: HostRuntime) -> Result<(), NoMemory> {
+    let w = width(&rt, 32);
+    let rows = [
+        row(&rt, w, [0, 0], 1),
+        row(&rt, w, [0, 1], 3),
+        row(&rt, w, [1, 1], 2),
+    ];
+    let shape = shape_of(rt.alloc(), w, &rows)?;
+    let Some(root) = &shape else {
+        panic!(rt; "no root")
+    };
+    check_node(&rt, root, 31, &[(0b11, None)]);
+    assert!(rt; root.len() == 1);
+    let Some(child) = root.child(0) else {
+        panic!(rt; "no child")
+    };
+    check_node(
+        &rt,
+        child,
+        0,
+        &[(0b00, Some(1)), (0b01, Some(3)), (0b11, Some(2))],
+    );
+    assert!(rt; child.len() == 3);
+    assert!(rt; child.body(2) == [0; 16] && child.child(2).is_none());
+    let again = rows_of(rt.alloc(), w, Some(root))?;
+    assert!(rt; again.as_slice() == rows.as_slice());
+    Ok(())
+}

@@ -1,5 +1,0 @@
-use Rattle.std.proofs.Common.{◌≡◌}
-use Rattle.ph_table.proofs.table.tests.unit_square_in_z_order.Given as goal
-
-abbrev pub invariant-loop-coords : goal.invariant-loop-coords
-invariant-loop-coords g l = l.table.width ≡ l.w
