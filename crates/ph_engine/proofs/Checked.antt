@@ -27,17 +27,17 @@ use Rattle.ph_snap.specs.declared.fault.LoadFault.{LoadFault}
 use Rattle.ph_engine.specs.Beside.{AreTold, Filings, beside_sink}
 use Rattle.ph_engine.specs.Checking.{FileHasSizes, HasSizes, IsSavedAs, LineGiven, CheckDone, bytes_checked, nodes_saved, nodes_unless, status_of}
 use Rattle.ph_engine.specs.Filing.{TellsFault, TellsUnfetched}
-use Rattle.ph_engine.specs.Loading.{IsWithinBytes}
-use Rattle.ph_engine.specs.Machine.{is_refusal, one_if}
+use Rattle.ph_any_tree.specs.Loading.{IsWithinBytes}
+use Rattle.ph_any_tree.specs.Telling.{is_refusal, StopHasCause, ToldOr}
+use Rattle.ph_any_tree.specs.Working.{one_if}
 use Rattle.ph_engine.specs.ScriptMachine.{told_files}
-use Rattle.ph_engine.specs.Slots.{AnyTable}
-use Rattle.ph_engine.specs.Statuses.{IsRead, StopHasCause}
-use Rattle.ph_engine.specs.Telling.{ToldOr}
-use Rattle.ph_engine.specs.declared.status.Answer.{Answer}
-use Rattle.ph_engine.specs.declared.status.Answer.TheVariants as answer
+use Rattle.ph_any_tree.specs.Tables.{AnyTable}
+use Rattle.ph_engine.specs.Statuses.{IsRead}
+use Rattle.ph_any_tree.specs.declared.answer.Answer.{Answer}
+use Rattle.ph_any_tree.specs.declared.answer.Answer.TheVariants as answer
 use Rattle.ph_engine.specs.declared.status.Status.TheVariants.{Clean, Refused, WriteFault, Memory}
-use Rattle.ph_engine.specs.declared.status.Stop.{Stop}
-use Rattle.ph_engine.specs.declared.status.Stop.TheVariants as stop
+use Rattle.ph_any_tree.specs.declared.answer.Stop.{Stop}
+use Rattle.ph_any_tree.specs.declared.answer.Stop.TheVariants as stop
 use Rattle.ph_engine.proofs.OwnDims.{own-dims}
 use Rattle.ph_engine.proofs.Filed.{fetched, unfetched, failed-once, failed-never}
 

@@ -1,18 +1,20 @@
 -- How a script is fed: nothing, a part of a line, a line, and one piece after another.
-use Rattle.std.proofs.Common.{◌≡◌, ℕ, ◌<◌, Bool, true, false, ◌||◌, List, [], ◌∷◌, ◌++◌, length, take, refl, ap, sym, ◌∙◌, append_assoc, append-nil, subst, arith}
+use Rattle.std.proofs.Common.{◌≡◌, ℕ, ◌<◌, Bool, true, false, ◌||◌, List, [], ◌∷◌, ◌++◌, length, take, refl, ap, sym, ◌∙◌, append_assoc, append-nil}
+use Rattle.std.proofs.Common.{subst, arith}
 use Rattle.std.specs.Prelude.{Ok, Err}
 use Rattle.ph_io.specs.Giving.{Given}
 use Rattle.ph_engine.specs.Beside.{Beside}
 use Rattle.ph_specs.specs.Lines.{LF, lines}
 use Rattle.ph_specs.proofs.laws.Put.{and}
 use Rattle.ph_engine.specs.Costs.{Spent}
-use Rattle.ph_engine.specs.Machine.{Machine, Met, Turn, turn, answers, after, is_refusal, some_refused, lines_of, KEPT, KEPT-is}
+use Rattle.ph_engine.specs.Machine.{Machine, Met, Turn, turn, answers, after, some_refused, lines_of, KEPT, KEPT-is}
+use Rattle.ph_any_tree.specs.Telling.{is_refusal}
 use Rattle.ph_engine.specs.Cutting.{ended, is_unbroken}
 use Rattle.ph_engine.specs.Answering.{Said, SaidOr}
 use Rattle.ph_engine.specs.Feeding.{Fed, Halted, FedOr, Feeds, AtEnd, EndsOr}
 use Rattle.ph_engine.specs.Statuses.{read_status, stop_status}
-use Rattle.ph_engine.specs.declared.status.Stop.{Stop}
-use Rattle.ph_engine.specs.declared.status.Stop.TheVariants.{WriteFault, NoMemory}
+use Rattle.ph_any_tree.specs.declared.answer.Stop.{Stop}
+use Rattle.ph_any_tree.specs.declared.answer.Stop.TheVariants.{WriteFault, NoMemory}
 use Rattle.ph_io.proofs.Appending.{given_none, given_both}
 use Rattle.ph_engine.proofs.Cuts.{lines-unbroken, ended-append, all-append, take-front, take-none, take-empty}
 use Rattle.ph_engine.proofs.Machines.{answers-append, after-append, refused-append, lines-append, or_false}

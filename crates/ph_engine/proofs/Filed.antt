@@ -14,8 +14,8 @@ use Rattle.ph_specs.specs.Past.{without_past}
 use Rattle.ph_specs.specs.Command.{Command}
 use Rattle.ph_specs.specs.Named.{Named, lookup, enter}
 use Rattle.ph_specs.specs.Reply.{Reply}
-use Rattle.ph_specs.specs.Refusals.{or_else, refusal, fetch, short_enough, bytes_of, refuse_if, refuse_if_bad}
-use Rattle.ph_specs.specs.Refusals.{has_file_fault, is_full, is_too_far_back, table_read, read_length}
+use Rattle.ph_specs.specs.Refusals.{or_else, refusal, fetch, short_enough, bytes_of, refuse_if, refuse_if_bad, has_file_fault, is_full}
+use Rattle.ph_specs.specs.Refusals.{is_too_far_back, table_read, read_length}
 use Rattle.ph_specs.specs.SavedTable.{read_snapshot}
 use Rattle.ph_specs.specs.Snapshot.{snap}
 use Rattle.ph_specs.specs.State.{Slot, Engine, Files, current, outcome}
@@ -28,17 +28,18 @@ use Rattle.ph_specs.specs.declared.Kind.TheVariants.{Points, Boxes}
 use Rattle.ph_script.specs.declared.reply.Reply.{Reply as Told}
 use Rattle.ph_script.specs.Meaning.{reply_of}
 use Rattle.ph_engine.specs.Beside.{aside, beside_sink, Filings, Tells, IsTold, StillTells}
-use Rattle.ph_engine.specs.Doing.{is_on_slot, Begun, Does, DoneOr, Unfiled, Knows, ServedOr, Leads, MakesNodes, HoldsFound, file_read}
-use Rattle.ph_engine.specs.Doing.{rows_loaded, rows_read, is_page, cut_engine, starved_engine, takes_memory, uses_files}
-use Rattle.ph_engine.specs.Drafting.{Shelf, Unfilled}
-use Rattle.ph_engine.specs.Filing.{Filed, FiledOr, Entered, LoadsNodes, LoadsOr, TellsUnfetched, read_table, read_reply}
+use Rattle.ph_engine.specs.Doing.{is_on_slot, Begun, DoneOr, Unfiled, Knows, Leads, MakesNodes, HoldsFound, file_read, rows_loaded, rows_read}
+use Rattle.ph_engine.specs.Doing.{is_page, cut_engine, starved_engine, uses_files}
+use Rattle.ph_any_tree.specs.Served.{Does, ServedOr, takes_memory}
+use Rattle.ph_any_tree.specs.Shelves.{Shelf, Unfilled, Entered}
+use Rattle.ph_engine.specs.Filing.{Filed, FiledOr, LoadsNodes, LoadsOr, TellsUnfetched, read_table, read_reply}
 use Rattle.ph_engine.specs.Refusing.{early_refusal, late_refusal}
-use Rattle.ph_engine.specs.Slots.{table_at, AnyTable, slot_of, engine_of}
-use Rattle.ph_engine.specs.Working.{work, work_of, engine_bounds, least_unless, IsAtMost, IsAtLeast}
-use Rattle.ph_engine.specs.Telling.{Tells as Says, ToldOr}
-use Rattle.ph_engine.specs.declared.status.Answer.{Answer}
-use Rattle.ph_engine.specs.declared.status.Stop.{Stop}
-use Rattle.ph_engine.specs.declared.status.Stop.TheVariants.{WriteFault, NoMemory}
+use Rattle.ph_any_tree.specs.Tables.{table_at, AnyTable, slot_of, engine_of}
+use Rattle.ph_any_tree.specs.Working.{work, work_of, engine_bounds, least_unless, IsAtMost, IsAtLeast}
+use Rattle.ph_any_tree.specs.Telling.{Tells as Says, ToldOr}
+use Rattle.ph_any_tree.specs.declared.answer.Answer.{Answer}
+use Rattle.ph_any_tree.specs.declared.answer.Stop.{Stop}
+use Rattle.ph_any_tree.specs.declared.answer.Stop.TheVariants.{WriteFault, NoMemory}
 use Rattle.ph_engine.proofs.Commanded.{one-text, told-told}
 use Rattle.ph_engine.proofs.Plain.{IsPlain, does-at, work-at, wants-at}
 use Rattle.ph_engine.proofs.Refused.{refusal-parts, alone}

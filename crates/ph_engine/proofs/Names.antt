@@ -1,6 +1,6 @@
 -- Entries in the order of their names, and the place of a name among them.
-use Rattle.std.proofs.Common.{◌≡◌, ◌≤◌, ◌<◌, ◌+◌, ℕ, zero, suc, Bool, true, false, List, [], ◌∷◌, ◌++◌, length}
-use Rattle.std.proofs.Common.{take, drop, refl, ap, sym, ◌∙◌, subst, arith, cond, get_or, add-one, ◌&&◌}
+use Rattle.std.proofs.Common.{◌≡◌, ◌≤◌, ◌<◌, ◌+◌, ℕ, zero, suc, Bool, true, false, List, [], ◌∷◌, ◌++◌, length, take, drop, refl, ap, sym, ◌∙◌, subst}
+use Rattle.std.proofs.Common.{arith, cond, get_or, add-one, ◌&&◌}
 use Rattle.std.specs.Prelude.{Option, Some, Result, Ok, Err, is_some, is_ok, slice_get, option_map, IfOk}
 use Rattle.std.specs.List.{AllByRecursion, refill}
 use Rattle.std.specs.Ordering.{nat_cmp, is_eq}

@@ -4,8 +4,8 @@ use Rattle.std.specs.Prelude.{◌==◌, ◌&&◌, nat_le, if◌then◌else◌, s
 use Rattle.ph_specs.specs.declared.Kind.{Kind}
 use Rattle.ph_specs.specs.declared.Kind.TheVariants.{Points, Boxes}
 use Rattle.ph_specs.specs.Load.{Fault, bad_magic, bad_header, bad_dims, bad_short, bad_node, bad_extra, Place, first_failed, header_tests_1}
-use Rattle.ph_specs.specs.Load.{header_tests, has_magic, has_byte, is_flag, is_width, dims_fit, named_width, first_fits, rest_fits}
-use Rattle.ph_specs.specs.Load.{record_fault, records_fault, next_first, next_record, places_of, places_at_start, body_fault, fault_by}
+use Rattle.ph_specs.specs.Load.{header_tests, has_magic, has_byte, is_flag, is_width, dims_fit, named_width, first_fits, rest_fits, record_fault}
+use Rattle.ph_specs.specs.Load.{records_fault, next_first, next_record, places_of, places_at_start, body_fault, fault_by}
 use Rattle.ph_specs.specs.Program.{check_line, named_kind, own_fault, words_unless, words_of_file}
 use Rattle.ph_specs.specs.Record.{record_words}
 use Rattle.ph_specs.specs.Refusals.{fetch}

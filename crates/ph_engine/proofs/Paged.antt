@@ -20,21 +20,23 @@ use Rattle.ph_specs.specs.Window.{Cursor, next_cursor, page, has_more, window}
 use Rattle.ph_script.specs.declared.command.Command.{Command as Written}
 use Rattle.ph_script.specs.Meaning.{command_of}
 use Rattle.ph_engine.specs.Beside.{beside_sink}
-use Rattle.ph_engine.specs.Doing.{is_on_slot, Begun, Does, DoneOr, DoneWith, is_page}
-use Rattle.ph_engine.specs.Listing.{Lists, ListsNear, reached, FrontListed, PageListed, page_replies, met, answered}
-use Rattle.ph_engine.specs.Machine.{is_refusal}
+use Rattle.ph_engine.specs.Doing.{is_on_slot, Begun, DoneOr, DoneWith, is_page}
+use Rattle.ph_any_tree.specs.Served.{Does}
+use Rattle.ph_any_tree.specs.Listing.{Lists, ListsNear, reached, FrontListed, PageListed, page_replies, met, answered}
+use Rattle.ph_any_tree.specs.Telling.{is_refusal}
 use Rattle.ph_engine.specs.Refusing.{early_refusal, late_refusal}
 use Rattle.ph_engine.specs.Naming.{place}
-use Rattle.ph_engine.specs.Slots.{AnyTable, slot_of, engine_of, cursor_of, named}
+use Rattle.ph_any_tree.specs.Tables.{AnyTable, slot_of, engine_of, cursor_of}
+use Rattle.ph_engine.specs.Slots.{named}
 use Rattle.std.proofs.lemmas.Bool.{lt-ltb}
-use Rattle.ph_engine.specs.Working.{work, engine_bounds, most_to_resume}
+use Rattle.ph_any_tree.specs.Working.{work, engine_bounds, most_to_resume}
 use Rattle.ph_box.specs.Questions.{low_bound, high_bound}
 use Rattle.ph_box.specs.declared.question.Question.{Question}
 use Rattle.ph_box.specs.declared.question.Question.TheVariants.{Overlap, Inside, Cover}
-use Rattle.ph_engine.specs.declared.status.Answer.{Answer}
-use Rattle.ph_engine.specs.declared.status.Answer.TheVariants.{Good}
-use Rattle.ph_engine.specs.declared.status.Stop.{Stop}
-use Rattle.ph_engine.specs.declared.status.Stop.TheVariants.{WriteFault, NoMemory}
+use Rattle.ph_any_tree.specs.declared.answer.Answer.{Answer}
+use Rattle.ph_any_tree.specs.declared.answer.Answer.TheVariants.{Good}
+use Rattle.ph_any_tree.specs.declared.answer.Stop.{Stop}
+use Rattle.ph_any_tree.specs.declared.answer.Stop.TheVariants.{WriteFault, NoMemory}
 use Rattle.ph_engine.specs.declared.cursors.Held.{Held}
 use Rattle.ph_io.proofs.Appending.{given_none}
 use Rattle.ph_engine.proofs.Commanded.{Most, done-all, no-faults, told-told}

@@ -11,36 +11,38 @@ use Rattle.ph_specs.specs.Boxes.{AreBoxes}
 use Rattle.ph_specs.specs.Command.{Command}
 use Rattle.ph_specs.specs.Engine.{pair_listing, unless_refused}
 use Rattle.ph_specs.specs.Named.{Named}
-use Rattle.ph_specs.specs.Refusals.{refusal, slot_refusal, or_else, refuse_if, join_refusal, combine_refusal, points_differ, same_kind, has_wrong_kind, boxes_of}
+use Rattle.ph_specs.specs.Refusals.{refusal, slot_refusal, or_else, refuse_if, join_refusal, combine_refusal, points_differ, same_kind}
+use Rattle.ph_specs.specs.Refusals.{has_wrong_kind, boxes_of}
 use Rattle.ph_specs.specs.Reply.{Reply, reply_text, replies_text}
 use Rattle.ph_specs.specs.Coordinate.{IsBox}
-use Rattle.ph_specs.specs.Sets.{put_all, pairs, combine}
+use Rattle.ph_specs.specs.Sets.{pairs, combine}
 use Rattle.ph_specs.specs.State.{Slot, Engine, Files, current, other, slot_at, other_at, put_slot, with_slot, outcome}
-use Rattle.ph_specs.specs.Table.{Row, put, has}
+use Rattle.ph_specs.specs.Table.{Row, has}
 use Rattle.ph_specs.specs.Window.{Cursor}
 use Rattle.ph_specs.specs.WorkSets.{join_visits}
-use Rattle.ph_specs.proofs.laws.BoxRows.{boxes-put}
 use Rattle.ph_specs.proofs.laws.WindowRest.{Each-filter}
 use Rattle.ph_set.specs.declared.error.SetFault.{SetFault}
 use Rattle.ph_set.specs.declared.error.SetFault.TheVariants.{Full, NoMemory}
 use Rattle.ph_script.specs.declared.reply.Reply.{Reply as Told}
 use Rattle.ph_script.specs.Meaning.{reply_of}
 use Rattle.ph_engine.specs.Beside.{beside_sink}
-use Rattle.ph_engine.specs.Doing.{Does, DoneBeside}
-use Rattle.ph_engine.specs.Filing.{QuietOr, SameFrame}
-use Rattle.ph_engine.specs.Machine.{is_refusal}
-use Rattle.ph_engine.specs.Pairing.{pair_said, JoinsSlots, MadeOr, combined_slot, combined_reply, combined_changes, combined_table, CombinesSlots, VisitsSlots}
+use Rattle.ph_any_tree.specs.Served.{Does}
+use Rattle.ph_engine.specs.Doing.{DoneBeside}
+use Rattle.ph_engine.specs.Filing.{QuietOr}
+use Rattle.ph_any_tree.specs.Tables.{SameFrame, AnyTable, slot_of, IsOfKind}
+use Rattle.ph_any_tree.specs.Telling.{is_refusal, Tells}
+use Rattle.ph_any_tree.specs.Pairing.{pair_said, MadeOr, combined_table}
+use Rattle.ph_engine.specs.Pairing.{JoinsSlots, combined_slot, combined_reply, combined_changes, CombinesSlots, VisitsSlots}
 use Rattle.ph_engine.specs.Refusing.{early_refusal, frame_refusal}
-use Rattle.ph_engine.specs.Slots.{AnyTable, slot_of, IsOfKind}
-use Rattle.ph_engine.specs.Telling.{Tells}
-use Rattle.ph_engine.specs.Working.{work_of, IsAtMost, IsAtLeast}
-use Rattle.ph_engine.specs.declared.status.Answer.{Answer}
-use Rattle.ph_engine.specs.declared.status.Stop.{Stop}
+use Rattle.ph_any_tree.specs.Working.{work_of, IsAtMost, IsAtLeast}
+use Rattle.ph_any_tree.specs.declared.answer.Answer.{Answer}
+use Rattle.ph_any_tree.specs.declared.answer.Stop.{Stop}
 use Rattle.ph_engine.proofs.Commanded.{done-said, told-told}
 use Rattle.ph_engine.proofs.Filed.{filed-quietly, leaves-filings}
 use Rattle.ph_engine.proofs.Lifted.{same}
 use Rattle.ph_engine.proofs.Paged.{listing-beside}
-use Rattle.ph_engine.proofs.Slotted.{of-kind-still}
+use Rattle.ph_any_tree.proofs.Frames.{of-kind-still}
+use Rattle.ph_any_tree.proofs.Frames.{boxes-put-all}
 
 -- ---- pairs that are listed
 
@@ -171,12 +173,6 @@ combine-at operation e fields s now visits now_visits changes now_changes result
     CombinesSlots operation (slot_at y fields) (other_at y fields) s changes now_changes result →
     QuietOr fields (Command.Combine operation) visits now_visits changes now_changes (put_slot y fields s) result) w
     (λ k h. combine-quiet operation fields s visits now_visits changes now_changes k result h) k h)
-
--- ---- what is made of boxes is boxes
-
-pub boxes-put-all : (w : ℕ) (rows table : List Row) → AreBoxes table → AreBoxes rows → AreBoxes (put_all w table rows)
-boxes-put-all w [] table h k = h
-boxes-put-all w (r ∷ rows) table h k = boxes-put-all w rows (put w table r.point r.value) (boxes-put w table r.point r.value k.0 h) k.1
 
 boxes-combine : (operation : SetOperation) (w : ℕ) (a b : List Row) → AreBoxes a → AreBoxes b → AreBoxes (combine operation w a b)
 boxes-combine Union w a b h k = boxes-put-all w a b k h

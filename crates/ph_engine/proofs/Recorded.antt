@@ -1,41 +1,30 @@
 -- What imports and exports do.
-use Rattle.std.proofs.lemmas.List.{take-take}
-use Rattle.std.proofs.lemmas.Bool.{cases_lt}
-use Rattle.std.proofs.Common.{◌≡◌, ◌<◌, ◌≤◌, ◌+◌, ◌-◌, inl, inr, lt-ltb, le-ltb, arith, ℕ, zero, suc, Bool, true, false, List, [], ◌∷◌, length}
-use Rattle.std.proofs.Common.{take, refl, rules, ap, sym, ◌∙◌}
-use Rattle.std.specs.Prelude.{◌⊎◌, ◌||◌, Some, None, nat_lt, if◌then◌else◌, Result, Ok, Err, Option}
-use Rattle.ph_csv.specs.Faults.{IsFault}
-use Rattle.ph_csv.specs.declared.fault.CsvFault.{CsvFault}
+use Rattle.std.proofs.Common.{◌≡◌, ◌≤◌, ◌+◌, ℕ, Bool, true, false, List, [], ◌∷◌, length, refl, rules, ap, sym, ◌∙◌}
+use Rattle.std.specs.Prelude.{◌||◌, Some, None, nat_lt, if◌then◌else◌, Result, Ok, Err, Option}
 use Rattle.ph_io.specs.Shelf.{Stays, Fetches}
 use Rattle.ph_specs.specs.Command.{Command}
-use Rattle.ph_specs.specs.Boxes.{AreBoxes}
 use Rattle.ph_specs.specs.Csv.{csv_rows, csv_text}
 use Rattle.ph_specs.specs.Engine.{act, unless_refused, import_outcome}
 use Rattle.ph_specs.specs.Named.{Named, lookup}
 use Rattle.ph_specs.specs.Refusals.{bytes_of, import_rows, put_all_read, read_length, refuse_if, refuse_if_bad}
 use Rattle.ph_specs.specs.Reply.{Reply}
-use Rattle.ph_specs.specs.Sets.{put_all}
 use Rattle.ph_specs.specs.State.{Slot, Files, outcome, past_in, with_past}
 use Rattle.ph_specs.specs.Table.{Row}
 use Rattle.ph_specs.specs.Window.{Cursor}
 use Rattle.ph_specs.specs.WorkSets.{all_nodes}
 use Rattle.ph_specs.specs.declared.Kind.{Kind}
-use Rattle.ph_specs.specs.declared.Kind.TheVariants.{Boxes}
 use Rattle.ph_script.specs.declared.reply.Reply.{Reply as Told}
 use Rattle.ph_script.specs.Meaning.{reply_of}
-use Rattle.ph_import.specs.Imported.{with_some, IsPart}
-use Rattle.ph_specs.specs.Past.{Past}
-use Rattle.ph_engine.specs.Doing.{first_rows, has_none, rows_put, with_first}
+use Rattle.ph_import.specs.Imported.{with_some}
+use Rattle.ph_any_tree.specs.Recording.{first_rows, has_none, import_changes, import_visits, ImportsOr, imported_table, imported_reply, is_overfull}
+use Rattle.ph_any_tree.specs.Recording.{table_with, table_with_some, table_with_first}
+use Rattle.ph_engine.specs.Doing.{rows_put, with_first}
 use Rattle.ph_engine.specs.Beside.{aside}
-use Rattle.ph_engine.specs.Drafting.{Shelf, Unfilled}
-use Rattle.ph_engine.specs.Filing.{Entered, Filed, FiledOr, SameFrame}
-use Rattle.ph_engine.specs.Recording.{import_changes, import_visits, ImportsOr, TellsRecord, imported_table}
-use Rattle.ph_engine.specs.Recording.{imported_reply, is_overfull, table_with, table_with_some, table_with_first}
-use Rattle.ph_engine.specs.Slots.{AnyTable, table_at, slot_of, engine_of}
-use Rattle.ph_engine.specs.Working.{import_bounds, work_of, IsAtMost}
-use Rattle.ph_engine.proofs.Pairings.{boxes-put-all}
+use Rattle.ph_any_tree.specs.Shelves.{Shelf, Unfilled, Entered}
+use Rattle.ph_engine.specs.Filing.{Filed, FiledOr}
+use Rattle.ph_any_tree.specs.Tables.{AnyTable, slot_of, engine_of}
+use Rattle.ph_any_tree.specs.Working.{import_bounds, work_of, IsAtMost}
 use Rattle.ph_engine.proofs.Filed.{IsFetch, IsStore, fetched-act, fetched-filed, fetched-starved, never-early, stored-filed, unstored-filed}
-use Rattle.ph_engine.proofs.Slotted.{of-kind-still}
 
 -- ---- import
 
@@ -153,91 +142,6 @@ module _ (most : ℕ) (kind : Kind) (t : AnyTable) (cursors : Named Cursor) (nam
       ∙ ap (λ read. engine_of (slot_of kind (table_with_first t h.0 read) cursors)) (sym (read-is kind t cursors files name bytes header l))
       ∙ some-first kind t cursors h.0 (import_rows (slot_of kind t cursors) files name header))
       (import-most few less)
-
--- a text without rows
-pub imports-none : {E : Type 0} (t : AnyTable) (read : Result (List Row) Reply) (fault : CsvFault)
-    (result : Result Told E) → IsFault read fault → TellsRecord fault result → ImportsOr t read t result
-imports-none t read fault (Ok reply) f h = let is : read ≡ Err (reply_of reply) = h read f in (ap (imported_table t) (sym is), ap (imported_reply t) (sym is))
-imports-none t (Ok rows) fault (Err error) f h = (
-  0,
-  elim (is_overfull t rows || has_none t.tree.table)
-      as (λ b. t ≡ (if b then t else table_with_some t (first_rows 0 rows))) [ true ↦ refl | false ↦ refl ],
-)
-imports-none t (Err fault) by (Err error) f h = (0, refl)
-
--- ---- rows of a kind
-
-boxes-take : (n : ℕ) (rows : List Row) → AreBoxes rows → AreBoxes (take n rows)
-boxes-take zero rows h = tt
-boxes-take (suc n) [] h = h
-boxes-take (suc n) (r ∷ rows) h = (h.0, boxes-take n rows h.1)
-
-frame-with : (kind : Kind) (t : AnyTable) (rows : List Row) → (kind ≡ Boxes → AreBoxes rows) → SameFrame kind t (table_with t rows)
-frame-with kind t rows h = record {
-  width = refl;
-  dims = refl;
-  of_kind = of-kind-still kind t (table_with t rows) refl
-      (λ e b c. (boxes-put-all t.tree.width rows t.tree.table b (h e), tt));
-}
-
-frame-still : (kind : Kind) (t : AnyTable) → SameFrame kind t t
-frame-still kind t = record { width = refl; dims = refl; of_kind = λ k. k }
-
-frame-some : (kind : Kind) (t : AnyTable) (rows : List Row) → (kind ≡ Boxes → AreBoxes rows) → SameFrame kind t (table_with_some t rows)
-frame-some kind t [] h = frame-still kind t
-frame-some kind t (r ∷ rows) h = frame-with kind t (r ∷ rows) h
-
--- an import keeps the frame of a table, where the rows that it reads are of the kind
-pub rows-frame : {E : Type 0} (kind : Kind) (t now : AnyTable) (rows : List Row) (result : Result Told E) →
-    (kind ≡ Boxes → AreBoxes rows) → ImportsOr t (Ok rows) now result → SameFrame kind t now
-rows-frame kind t now rows (Ok reply) b h =
-    rw h.0 (elim (is_overfull t rows) as (λ full. SameFrame kind t (if full then t else table_with t rows))
-    [ true ↦ frame-still kind t | false ↦ frame-with kind t rows b ])
-rows-frame kind t now rows (Err error) b h =
-    rw h.1 (elim (is_overfull t rows || has_none t.tree.table) as (λ full. SameFrame kind t (if full then t else table_with_some t (first_rows h.0 rows))) [
-      | true ↦ frame-still kind t
-      | false ↦ frame-some kind t (first_rows h.0 rows) (λ e. boxes-take h.0 (take (length rows - 1) rows) (boxes-take (length rows - 1) rows (b e)))
-    ])
-
--- memory was missing for some of the rows
-part-put : {E : Type 0} (t : AnyTable) (now : Past) (rows : List Row) (error : E) →
-    (is_overfull t rows || has_none t.tree.table) ≡ false → IsPart t.tree now rows →
-    ImportsOr {E = E} t (Ok rows) (table_at t.dims now) (Err error)
-part-put t now rows error none h =
-    let front : first_rows h.part rows ≡ take h.part rows = take-take h.part (length rows - 1) rows (omega (arith, h.few)) in
-    (h.part, ap (table_at t.dims) h.state ∙ ap (λ x. table_with_some t x) (sym front) ∙ sym (ap (λ b. if b then t else table_with_some t (first_rows h.part rows)) none))
-
--- or before the first of them
-unput : {E : Type 0} (t : AnyTable) (now : Past) (rows : List Row) (error : E) →
-    (is_overfull t rows || has_none t.tree.table) ≡ true → now ≡ t.tree →
-    ImportsOr {E = E} t (Ok rows) (table_at t.dims now) (Err error)
-unput t now rows error first same =
-    (0, ap (table_at t.dims) same ∙ sym (ap (λ b. if b then t else table_with_some t (first_rows 0 rows)) first))
-
--- a table has rows, or none
-some-or-none : (rows : List Row) → (rows ≡ []) ⊎ ((rows ≡ [] → ⊥) × (has_none rows ≡ false))
-some-or-none [] = inl refl
-some-or-none (r ∷ rows) = inr (λ e. cc, refl)
-
-either-true : (a : Bool) → (a || true) ≡ true
-either-true true = refl
-either-true false = refl
-
-none-behind : (a b : Bool) → a ≡ false → b ≡ false → (a || b) ≡ false
-none-behind a b h k = ap (λ x. x || b) h ∙ k
-
-pub starved-put : {E : Type 0} (t : AnyTable) (now : Past) (rows : List Row) (error : E) →
-    (t.tree.max < length (put_all t.tree.width t.tree.table rows) → now ≡ t.tree) →
-    (t.tree.table ≡ [] → now ≡ t.tree) → ((t.tree.table ≡ [] → ⊥) → IsPart t.tree now rows) →
-    ImportsOr {E = E} t (Ok rows) (table_at t.dims now) (Err error)
-starved-put t now rows error full empty part =
-    elim (some-or-none t.tree.table) [
-      | inl none ↦ unput t now rows error (ap (λ xs. is_overfull t rows || has_none xs) none ∙ either-true (is_overfull t rows)) (empty none)
-      | inr some ↦ elim (cases_lt t.tree.max (length (put_all t.tree.width t.tree.table rows))) [
-        | inl h ↦ unput t now rows error (ap (λ b. b || has_none t.tree.table) (lt-ltb _ _ h)) (full h)
-        | inr h ↦ part-put t now rows error (none-behind _ _ (le-ltb _ _ h) some.1) (part some.0)
-      ]
-    ]
 
 -- ---- export
 

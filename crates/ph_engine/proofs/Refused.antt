@@ -8,12 +8,12 @@ use Rattle.ph_specs.specs.declared.Kind.TheVariants.{Points, Boxes}
 use Rattle.ph_specs.specs.Command.{Command}
 use Rattle.ph_specs.specs.Reply.{Reply}
 use Rattle.ph_specs.specs.State.{Slot, Engine, Files, current}
-use Rattle.ph_specs.specs.Refusals.{refusal, slot_refusal, slots_refusal, or_else, refuse_if, has_wrong_dims, boxes_of}
-use Rattle.ph_specs.specs.Refusals.{has_wrong_kind, is_out_of_range, is_reversed, lacks_cursor, has_too_many_cursors}
+use Rattle.ph_specs.specs.Refusals.{refusal, slot_refusal, slots_refusal, or_else, refuse_if, has_wrong_dims, boxes_of, has_wrong_kind}
+use Rattle.ph_specs.specs.Refusals.{is_out_of_range, is_reversed, lacks_cursor, has_too_many_cursors}
 use Rattle.ph_engine.specs.Refusing.{early_refusal, late_refusal, names_points_outside, names_reversed}
 use Rattle.ph_script.specs.declared.command.Command.{Command as Written}
 use Rattle.ph_script.specs.Meaning.{command_of}
-use Rattle.ph_engine.specs.Slots.{engine_of}
+use Rattle.ph_any_tree.specs.Tables.{engine_of}
 use Rattle.ph_engine.specs.Doing.{Begun, is_on_slot, goes_together}
 
 -- a cause behind which others are looked for

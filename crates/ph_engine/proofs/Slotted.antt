@@ -1,6 +1,6 @@
 -- What a slot keeps, a command keeps.
-use Rattle.std.proofs.Common.{◌≡◌, ◌≤◌, ◌+◌, ℕ, zero, suc, take, Bool, true, false, List, [], ◌∷◌, length, refl, ap, sym, subst, ◌∙◌, arith, cond, get_or}
-use Rattle.std.specs.Prelude.{Option, Some, None, Result, Ok, Err, ℤ, not, ◌%◌, ◌-◌, ◌&&◌, if◌then◌else◌}
+use Rattle.std.proofs.Common.{◌≡◌, ◌≤◌, ◌+◌, ℕ, zero, suc, take, Bool, true, false, List, [], ◌∷◌, length, refl, ap, sym, subst, ◌∙◌, arith, cond}
+use Rattle.std.specs.Prelude.{Option, Some, None, Result, Ok, Err, ℤ, not, ◌%◌, ◌&&◌, if◌then◌else◌}
 use Rattle.std.specs.List.{AllByRecursion, list_all}
 use Rattle.std.specs.Ordering.{nat_cmp}
 use Rattle.std.specs.Cmp.Lexicographic.{slice_cmp}
@@ -21,16 +21,15 @@ use Rattle.ph_specs.specs.Window.{Cursor}
 use Rattle.ph_specs.specs.Engine.{effect, unless_refused, opened_dims}
 use Rattle.ph_script.specs.declared.reply.Reply.{Reply as Told}
 use Rattle.ph_specs.proofs.laws.BoxRows.{boxes-put, boxes-del, boxes-move}
-use Rattle.ph_engine.specs.Doing.{ServedOr}
-use Rattle.ph_engine.specs.Filing.{SameFrame}
-use Rattle.ph_engine.specs.Slots.{AnyTable, any_table, empty_table, slot_of, engine_of, cursor_of, cursor_dims, named, entered, IsOfKind, IsCursorIn, IsSlot}
+use Rattle.ph_any_tree.specs.Served.{ServedOr}
+use Rattle.ph_any_tree.specs.Tables.{SameFrame, AnyTable, empty_table, slot_of, engine_of, cursor_of, IsCursorIn}
+use Rattle.ph_engine.specs.Slots.{named, entered, IsSlot}
 use Rattle.ph_engine.specs.Refusing.{early_refusal}
 use Rattle.ph_engine.specs.declared.cursors.Held.{Held}
-use Rattle.ph_engine.specs.declared.cursors.AnyCursor.{AnyCursor}
-use Rattle.ph_engine.specs.declared.cursors.AnyCursor.TheVariants as at
-use Rattle.ph_engine.specs.declared.trees.AnyTree.{AnyTree}
+use Rattle.ph_any_tree.specs.declared.any_cursor.AnyCursor.{AnyCursor}
 use Rattle.ph_engine.proofs.Refused.{unreversed}
 use Rattle.ph_engine.proofs.Names.{true-is, is-true, sorted-entered, length-entered, all-entered}
+use Rattle.ph_any_tree.proofs.Frames.{of-kind-still}
 
 -- ---- rows that are boxes
 
@@ -64,12 +63,6 @@ pub record KeepsFrame (kind : Kind) (t : AnyTable) (command : Command) : Type 0 
   pub same : (r : Option Reply) → let s = current (unless_refused r (engine_of (slot_of Points t [])) [] command).engine in (s.width ≡ t.tree.width) × (s.dims ≡ t.dims)
   pub boxes : (r : Option Reply) → kind ≡ Boxes → AreBoxes t.tree.table → AllByRecursion AreBoxes t.tree.past →
       HasBoxes (current (unless_refused r (engine_of (slot_of Points t [])) [] command).engine)
-
-pub of-kind-still : (kind : Kind) (t now : AnyTable) → now.dims ≡ t.dims →
-    (kind ≡ Boxes → AreBoxes t.tree.table → AllByRecursion AreBoxes t.tree.past →
-    AreBoxes now.tree.table × AllByRecursion AreBoxes now.tree.past) → IsOfKind kind t → IsOfKind kind now
-of-kind-still Points t now d b h = h
-of-kind-still Boxes t now d b h = let k = b refl h.1 h.2 in (rw d h.0, k.0, k.1)
 
 pub same-frame : {E : Type 0} (kind : Kind) (t now : AnyTable) (command : Command) (outcome : Result Told E)
     (v now_v c now_c : ℕ) → KeepsFrame kind t command → ServedOr t command now v now_v c now_c outcome → SameFrame kind t now
@@ -164,36 +157,6 @@ pub frame-kept : {E : Type 0} {kind : Kind} {t : AnyTable} {held : List Held} {c
     ServedOr t command now v now_v c now_c outcome → IsSlot kind t held → IsSlot kind now held
 frame-kept {kind} {t} {held} {command} now outcome v now_v c now_c k h s =
     slot-keeps kind t now held (same-frame kind t now command outcome v now_v c now_c k h) s
-
--- the cursors of each number of dimensions, from 1 on
-abbrev variants : List (Cursor → AnyCursor)
-variants = at.D1 ∷ at.D2 ∷ at.D3 ∷ at.D4 ∷ at.D5 ∷ at.D6 ∷ at.D7 ∷ at.D8 ∷ at.D9 ∷ at.D10 ∷ at.D11 ∷ at.D12 ∷ at.D13 ∷ at.D14 ∷ at.D15 ∷ at.D16 ∷ []
-
--- a cursor is known by its number of dimensions
-abbrev pub by_dims : ℕ → Cursor → AnyCursor
-by_dims dims = get_or variants (dims - 1) at.D1
-
-pub by-dims : (c : AnyCursor) → c ≡ by_dims (cursor_dims c) (cursor_of c)
-by-dims (at.D1 c) = refl
-by-dims (at.D2 c) = refl
-by-dims (at.D3 c) = refl
-by-dims (at.D4 c) = refl
-by-dims (at.D5 c) = refl
-by-dims (at.D6 c) = refl
-by-dims (at.D7 c) = refl
-by-dims (at.D8 c) = refl
-by-dims (at.D9 c) = refl
-by-dims (at.D10 c) = refl
-by-dims (at.D11 c) = refl
-by-dims (at.D12 c) = refl
-by-dims (at.D13 c) = refl
-by-dims (at.D14 c) = refl
-by-dims (at.D15 c) = refl
-by-dims (at.D16 c) = refl
-
--- a cursor that has as many dimensions as a tree
-pub cursor-at : (c : AnyCursor) (tree variant : AnyTree) → cursor_dims c ≡ (any_table tree).dims → tree ≡ variant → c ≡ by_dims (any_table variant).dims (cursor_of c)
-cursor-at c tree variant d e = by-dims c ∙ ap (λ n. by_dims n (cursor_of c)) (d ∙ ap (λ t. (any_table t).dims) e)
 
 -- ---- a slot that is opened
 

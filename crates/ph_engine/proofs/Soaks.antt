@@ -1,6 +1,6 @@
 -- A run of generated commands, one more at a time, from what each of them answers.
-use Rattle.std.proofs.Common.{◌≡◌, ◌≤◌, ◌<◌, ◌+◌, ◌-◌, ◌%◌, ◌^◌, ℕ, zero, suc, inl, inr, arith, Bool, true, false, List}
-use Rattle.std.proofs.Common.{[], ◌∷◌, ◌++◌, length, take, refl, ap, sym, ◌∙◌, append_assoc, append-nil}
+use Rattle.std.proofs.Common.{◌≡◌, ◌≤◌, ◌<◌, ◌+◌, ◌-◌, ◌%◌, ◌^◌, ℕ, zero, suc, inl, inr, arith, Bool, true, false, List, [], ◌∷◌, ◌++◌, length, take}
+use Rattle.std.proofs.Common.{refl, ap, sym, ◌∙◌, append_assoc, append-nil}
 use Rattle.std.proofs.lemmas.Grind.{common_steps}
 use Rattle.std.specs.Prelude.{Option, Some, None, nat_le, ◌&&◌, slice_index_or, codes, decimal, pos, ◌+ℤ◌}
 use Rattle.std.specs.List.{list_all}
@@ -18,16 +18,14 @@ use Rattle.ph_specs.specs.Refusals.{refusal}
 use Rattle.ph_specs.specs.Past.{Past, put_kept, del_kept, move_kept}
 use Rattle.ph_specs.specs.State.{Slot, Engine, Files, outcome, current, with_slot, with_past, past_in}
 use Rattle.ph_specs.specs.Stats.{Stats, stats}
-use Rattle.ph_specs.specs.Table.{put}
 use Rattle.ph_specs.specs.Engine.{act, after, effect, unless_refused}
 use Rattle.ph_engine.specs.Beside.{Beside, alone, beside, Tells}
 use Rattle.ph_engine.specs.Doing.{Done, Undone, Leads, Knows, HoldsFound, file_read, starved_engine}
-use Rattle.ph_engine.specs.Machine.{Work, one_if}
+use Rattle.ph_any_tree.specs.Working.{Work, one_if, work_of, nodes_of, IsAtMost, IsAtLeast}
 use Rattle.ph_engine.specs.Soaking.{is_drawn, AreDrawn, sum_work, visits_most, Soaked, SoakedInPart, SoakDone}
-use Rattle.ph_engine.specs.Working.{work_of, nodes_of, IsAtMost, IsAtLeast}
-use Rattle.ph_engine.specs.declared.status.Answer.{Answer}
+use Rattle.ph_any_tree.specs.declared.answer.Answer.{Answer}
 use Rattle.ph_engine.specs.declared.status.Status.TheVariants.{Clean, WriteFault}
-use Rattle.ph_engine.proofs.Replies.{texts-append}
+use Rattle.ph_any_tree.proofs.Replies.{texts-append}
 
 -- ---- the commands that are drawn
 

@@ -14,8 +14,8 @@ use Rattle.ph_specs.specs.Window.{Cursor}
 use Rattle.ph_script.specs.declared.reply.Reply.{Reply as Told}
 use Rattle.ph_script.specs.Meaning.{reply_of}
 use Rattle.ph_engine.specs.Filing.{QuietOr}
-use Rattle.ph_engine.specs.Slots.{AnyTable, slot_of, engine_of}
-use Rattle.ph_engine.specs.Undoing.{GoesBackOr, BackWork}
+use Rattle.ph_any_tree.specs.Tables.{AnyTable, slot_of, engine_of}
+use Rattle.ph_any_tree.specs.Undoing.{GoesBackOr, BackWork}
 use Rattle.ph_engine.proofs.Filed.{filed-quietly, leaves-filings}
 use Rattle.ph_engine.proofs.Commanded.{told-told}
 

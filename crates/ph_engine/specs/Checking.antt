@@ -1,6 +1,6 @@
 -- What a check of a file does.
-use Rattle.std.specs.Prelude.{◌≡◌, ◌≤◌, ◌⊎◌, ℕ, ◌+◌, ◌/◌, Bool, true, false, List, [], ◌∷◌, ◌++◌, length}
-use Rattle.std.specs.Prelude.{slice_index, codes, decimal, Option, Some, None, Result, Ok, Err}
+use Rattle.std.specs.Prelude.{◌≡◌, ◌≤◌, ◌⊎◌, ℕ, ◌+◌, ◌/◌, Bool, true, false, List, [], ◌∷◌, ◌++◌, length, slice_index, codes, decimal, Option, Some}
+use Rattle.std.specs.Prelude.{None, Result, Ok, Err}
 use Rattle.ph_io.specs.Causes.{Rose}
 use Rattle.ph_io.specs.Giving.{Taken, Given}
 use Rattle.ph_io.specs.Shelf.{Stays}
@@ -19,17 +19,17 @@ use Rattle.ph_specs.specs.Stats.{stats}
 use Rattle.ph_specs.specs.Table.{Row}
 use Rattle.ph_specs.specs.WorkSets.{all_nodes}
 use Rattle.ph_engine.specs.Beside.{Beside, AreTold, Filings}
-use Rattle.ph_engine.specs.Doing.{refuses}
-use Rattle.ph_engine.specs.Machine.{is_refusal, one_if}
+use Rattle.ph_any_tree.specs.Telling.{refuses, is_refusal}
+use Rattle.ph_any_tree.specs.Working.{one_if}
 use Rattle.ph_engine.specs.ScriptMachine.{told_files}
 use Rattle.ph_engine.specs.Seen.{Seen}
-use Rattle.ph_engine.specs.Slots.{AnyTable}
+use Rattle.ph_any_tree.specs.Tables.{AnyTable}
 use Rattle.ph_engine.specs.Statuses.{IsRead, read_status, stop_status}
-use Rattle.ph_engine.specs.declared.status.Answer.{Answer}
+use Rattle.ph_any_tree.specs.declared.answer.Answer.{Answer}
 use Rattle.ph_engine.specs.declared.status.Status.{Status}
 use Rattle.ph_engine.specs.declared.status.Status.TheVariants.{Clean, Refused, WriteFault, Memory}
-use Rattle.ph_engine.specs.declared.status.Stop.{Stop}
-use Rattle.ph_engine.specs.declared.status.Stop.TheVariants as stop
+use Rattle.ph_any_tree.specs.declared.answer.Stop.{Stop}
+use Rattle.ph_any_tree.specs.declared.answer.Stop.TheVariants as stop
 
 -- ---- bytes
 

@@ -1,52 +1,29 @@
 -- What a command of the code does, by the definition of commands.
-use Rattle.std.specs.Prelude.{◌≡◌, ◌⊎◌, ◌<◌, ◌≤◌, ℕ, ◌+◌, ◌-◌, Bool, true, false, not, ◌&&◌, ◌||◌, nat_lt, if◌then◌else◌}
-use Rattle.std.specs.Prelude.{List, [], ◌∷◌, length, take, Option, Some, None, is_none, Result, Ok, Err}
+use Rattle.std.specs.Prelude.{◌≡◌, ◌⊎◌, ◌<◌, ◌≤◌, ℕ, ◌+◌, Bool, true, false, ◌&&◌, ◌||◌, nat_lt, if◌then◌else◌, List, [], ◌∷◌, length, take}
+use Rattle.std.specs.Prelude.{Option, Some, None, is_none, Result, Ok, Err}
 use Rattle.ph_io.specs.Giving.{Taken, Given}
 use Rattle.ph_specs.specs.Command.{Command}
 use Rattle.ph_specs.specs.Reply.{Reply, replies_text}
-use Rattle.ph_specs.specs.declared.Kind.TheVariants.{Points}
-use Rattle.ph_specs.specs.Shape.{shape}
-use Rattle.ph_specs.specs.Table.{Row, has}
+use Rattle.ph_specs.specs.Table.{Row}
 use Rattle.ph_specs.specs.Sets.{put_all}
 use Rattle.ph_specs.specs.Past.{back}
 use Rattle.ph_specs.specs.Refusals.{import_rows, table_read}
-use Rattle.ph_tree.specs.Rooms.{spare_wanted_in}
 use Rattle.ph_import.specs.Imported.{with_some}
 use Rattle.ph_specs.specs.State.{Slot, Engine, Files, Outcome, outcome, past_in, with_past, current, other, with_slot}
 use Rattle.ph_specs.specs.Engine.{act}
 use Rattle.ph_specs.specs.WorkSets.{all_nodes}
-use Rattle.ph_specs.specs.Named.{Named, lookup}
-use Rattle.ph_specs.specs.Window.{Cursor}
-use Rattle.ph_script.specs.declared.reply.Reply.{Reply as Told}
-use Rattle.ph_script.specs.Meaning.{reply_of}
+use Rattle.ph_specs.specs.Named.{lookup}
 use Rattle.ph_engine.specs.Beside.{Beside, beside_sink, IsTold, StillTells, Filings}
-use Rattle.ph_engine.specs.Machine.{is_refusal, one_if}
+use Rattle.ph_any_tree.specs.Telling.{is_refusal}
+use Rattle.ph_any_tree.specs.Working.{one_if, work_of, IsAtMost, IsAtLeast}
 use Rattle.ph_engine.specs.Refusing.{early_refusal, frame_refusal}
-use Rattle.ph_engine.specs.Working.{work_of, IsAtMost, IsAtLeast}
-use Rattle.ph_engine.specs.Slots.{AnyTable, slot_of, engine_of}
-use Rattle.ph_engine.specs.declared.status.Answer.{Answer}
-use Rattle.ph_engine.specs.declared.status.Answer.TheVariants.{Good, Refused}
-use Rattle.ph_engine.specs.declared.status.Stop.{Stop}
-use Rattle.ph_engine.specs.declared.status.Stop.TheVariants.{WriteFault, NoMemory}
-
--- ---- commands that know no files
-
--- with whatever files, the command has these replies, leads to this engine and leaves the files
-abbrev pub Does : Engine → Command → Engine → List Reply → Type 0
-Does e command now replies = (most : ℕ) (files : Files) (fault : Bool) → act most e files fault command ≡ outcome now files replies
-
--- the same of an engine in which this slot is current
-abbrev pub DoesAt : Slot → Command → Slot → List Reply → Type 0
-DoesAt s command now replies = Does (engine_of s) command (engine_of now) replies
-
--- the counters rose as far as the command's bounds let them, and as far as they must
-abbrev pub MostAt : Slot → Command → ℕ → ℕ → ℕ → ℕ → Type 0
-MostAt s command visits now_visits changes now_changes =
-    (most : ℕ) (files : Files) (fault : Bool) → IsAtMost (work_of most (engine_of s) files fault command) visits now_visits changes now_changes
-
-abbrev pub LeastAt : Slot → Command → ℕ → ℕ → ℕ → ℕ → Type 0
-LeastAt s command visits now_visits changes now_changes =
-    (most : ℕ) (files : Files) (fault : Bool) → IsAtLeast (work_of most (engine_of s) files fault command) visits now_visits changes now_changes
+use Rattle.ph_any_tree.specs.Tables.{engine_of}
+use Rattle.ph_any_tree.specs.declared.answer.Answer.{Answer}
+use Rattle.ph_any_tree.specs.declared.answer.Stop.{Stop}
+use Rattle.ph_any_tree.specs.declared.answer.Stop.TheVariants.{WriteFault, NoMemory}
+use Rattle.ph_any_tree.specs.Telling.{refuses}
+use Rattle.ph_any_tree.specs.Served.{DoesAt, MostAt, LeastAt, takes_memory}
+use Rattle.ph_any_tree.specs.Recording.{has_none, first_rows}
 
 -- ---- all commands
 
@@ -139,20 +116,6 @@ abbrev pub MakesNodes : Slot → Files → Command → ℕ → ℕ → Type 0
 MakesNodes s files command changes now_changes =
     (rows : List Row) → rows_loaded s files command ≡ Some rows → now_changes ≤ changes + length (all_nodes s.width s.dims rows)
 
--- whether a command takes memory on a slot: a put of a row that is new and has room, a removal of a row that is there, a move to another point,
--- and what keeps nodes, rows or bytes in memory while it goes
-abbrev pub takes_memory : Slot → Command → Bool
-takes_memory s (Command.Put p v) = not (has s.table p) && nat_lt (length s.table) s.max
-takes_memory s (Command.Del p) = nat_lt 0 (spare_wanted_in s.width s.dims (shape s.width s.table) p)
-takes_memory s (Command.Relocate p q) = has s.table p && not (has s.table q)
-takes_memory s (Command.Near q n) = nat_lt 0 n
-takes_memory s (Command.Load name) = true
-takes_memory s (Command.Import name header) = true
-takes_memory s (Command.Combine operation) = true
-takes_memory s (Command.Keep n) = nat_lt 0 n
-takes_memory s (Command.Back n) = nat_lt 0 n
-takes_memory s _ = false
-
 -- whether it may want memory on a slot: it takes some, and is not refused before
 abbrev pub slot_wants : Slot → Command → Bool
 slot_wants s command = is_none (early_refusal s command) && takes_memory s command
@@ -166,35 +129,11 @@ goes_together e _ = true
 abbrev pub wants_memory : Engine → Command → Bool
 wants_memory e command = goes_together e command && slot_wants (current e) command
 
--- A command on a table of points, whatever cursors stand beside it, has this reply and leads to this table. What it does to boxes is the same,
--- where it is not refused.
-pub record Served (t : AnyTable) (command : Command) (now : AnyTable) (reply : Reply) (visits now_visits changes now_changes : ℕ) : Type 0 where
-  pub does : (cursors : Named Cursor) → DoesAt (slot_of Points t cursors) command (slot_of Points now cursors) (reply ∷ [])
-  pub most : (cursors : Named Cursor) → MostAt (slot_of Points t cursors) command visits now_visits changes now_changes
-  pub least : (cursors : Named Cursor) → LeastAt (slot_of Points t cursors) command visits now_visits changes now_changes
-
--- the same without a change, and without any work
-pub record Looked (t : AnyTable) (command : Command) (now : AnyTable) (reply : Reply) (visits now_visits : ℕ) : Type 0 where
-  pub served : (changes : ℕ) → Served t command now reply visits now_visits changes changes
-
-pub record Idled (t : AnyTable) (command : Command) (now : AnyTable) (reply : Reply) : Type 0 where
-  pub served : (visits changes : ℕ) → Served t command now reply visits visits changes changes
-
 -- a command that makes a slot another one, without any work
 pub record Begun (s : Slot) (command : Command) (now : Slot) (reply : Reply) : Type 0 where
   pub does : DoesAt s command now (reply ∷ [])
   pub most : (visits changes : ℕ) → MostAt s command visits visits changes changes
   pub least : (visits changes : ℕ) → LeastAt s command visits visits changes changes
-
--- memory was missing for the command, which may want it
-pub record Unserved (t : AnyTable) (command : Command) (now : AnyTable) (visits now_visits changes now_changes : ℕ) : Type 0 where
-  pub stays : now ≡ t
-  pub wanted : (cursors : Named Cursor) → takes_memory (slot_of Points t cursors) command ≡ true
-  pub most : (cursors : Named Cursor) → MostAt (slot_of Points t cursors) command visits now_visits changes now_changes
-
-abbrev pub ServedOr : {E : Type 0} → AnyTable → Command → AnyTable → ℕ → ℕ → ℕ → ℕ → Result Told E → Type 0
-ServedOr t command now visits now_visits changes now_changes (Ok reply) = Served t command now (reply_of reply) visits now_visits changes now_changes
-ServedOr t command now visits now_visits changes now_changes (Err error) = Unserved t command now visits now_visits changes now_changes
 
 -- the engine behind a command of whose reply a write failed: a page leaves its cursor as it was
 abbrev pub is_page : Command → Bool
@@ -204,11 +143,6 @@ is_page _ = false
 abbrev pub cut_engine : Engine → Command → Engine → Engine
 cut_engine e command after = if is_page command then e else after
 
--- whether a table has no row
-abbrev pub has_none : List Row → Bool
-has_none [] = true
-has_none (r ∷ rows) = false
-
 -- the rows that an import puts one after another, if it has read them and the table has some and may have them too
 abbrev pub rows_put : Slot → Result (List Row) Reply → Option (List Row)
 rows_put s (Ok rows) = if nat_lt s.max (length (put_all s.width s.table rows)) || has_none s.table then None else Some rows
@@ -217,10 +151,6 @@ rows_put s (Err fault) = None
 abbrev pub imported : Slot → Files → Command → Option (List Row)
 imported s files (Command.Import name header) = rows_put s (import_rows s files name header)
 imported s files _ = None
-
--- at most so many rows in front, and never all
-abbrev pub first_rows : ℕ → List Row → List Row
-first_rows n rows = take n (take (length rows - 1) rows)
 
 -- The engine in which memory is missing. Of an import into rows that would be done some first rows are in, and not all; where one is in, no edits are kept.
 abbrev pub with_first : Engine → ℕ → Option (List Row) → Engine
@@ -234,10 +164,6 @@ with_back e n asked = let s = current e in with_slot e (with_past s (back (past_
 abbrev pub starved_engine : Engine → Files → Command → ℕ → Engine
 starved_engine e files (Command.Back asked) n = with_back e n asked
 starved_engine e files command n = with_first e n (imported (current e) files command)
-
-abbrev pub refuses : Answer → Bool
-refuses Good = false
-refuses Refused = true
 
 -- The command was done, and its replies written. The files failed in it or not.
 pub record Done (most : ℕ) (e : Engine) (command : Command) (b now_b : Beside) (now : Engine) (answer : Answer) : Type 0 where

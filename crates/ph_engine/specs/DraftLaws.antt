@@ -1,18 +1,9 @@
 -- What a sink over the file that is begun leaves, a later state leaves too.
-use Rattle.std.specs.Prelude.{◌≡◌, Bool, true, false, Option, Some, None, refl}
+use Rattle.std.specs.Prelude.{◌≡◌, Bool, true, false, refl}
 use Rattle.std.proofs.Common.{◌∙◌, arith}
 use Rattle.ph_io.specs.Causes.{Rose}
-use Rattle.ph_io.specs.Shelf.{Stays}
 use Rattle.ph_engine.specs.Drafting.{Drafted, Follows}
-
-pub stays_itself : {X : Type 0} (a : Option X) → Stays a a
-stays_itself None = tt
-stays_itself (Some x) = refl
-
-pub stays_on : {X : Type 0} (a b c : Option X) → Stays a b → Stays b c → Stays a c
-stays_on None b c h k = tt
-stays_on (Some x) None c h k = absurd (let no : None ≡ Some x = h in cc)
-stays_on (Some x) (Some y) c h k = k ∙ h
+use Rattle.ph_any_tree.proofs.Shelves.{stays_itself, stays_on}
 
 pub follows_itself : (a : Drafted) → Follows a a
 follows_itself a =

@@ -7,7 +7,7 @@ use Rattle.ph_specs.specs.Command.{Command}
 use Rattle.ph_specs.specs.Reply.{Reply}
 use Rattle.ph_specs.specs.declared.Kind.{Kind}
 use Rattle.ph_specs.specs.Load.{Fault}
-use Rattle.ph_specs.specs.Named.{Named, enter}
+use Rattle.ph_specs.specs.Named.{Named}
 use Rattle.ph_specs.specs.Past.{without_past}
 use Rattle.ph_specs.specs.SavedTable.{fault_reply, read_snapshot}
 use Rattle.ph_specs.specs.State.{Slot, Engine, Files, current}
@@ -22,10 +22,10 @@ use Rattle.ph_snap.specs.declared.fault.LoadFault.{LoadFault}
 use Rattle.ph_snap.specs.declared.fault.LoadFault.TheVariants as by
 use Rattle.ph_engine.specs.Beside.{Beside, Filings, aside, with_visits, with_changes}
 use Rattle.ph_engine.specs.Doing.{Knows, Leads, MakesNodes, Unfiled, uses_files}
-use Rattle.ph_engine.specs.Drafting.{Shelf, Unfilled}
-use Rattle.ph_engine.specs.Machine.{one_if}
-use Rattle.ph_engine.specs.Slots.{AnyTable, table_at, slot_of, engine_of, IsOfKind}
-use Rattle.ph_engine.specs.Working.{work_of, IsAtMost, IsAtLeast}
+use Rattle.ph_any_tree.specs.Shelves.{Shelf, Unfilled}
+use Rattle.ph_any_tree.specs.Working.{one_if, work_of, IsAtMost, IsAtLeast}
+use Rattle.ph_any_tree.specs.Tables.{AnyTable, table_at, slot_of, engine_of}
+use Rattle.ph_any_tree.specs.Shelves.{Entered}
 
 -- A command has this reply and leads to this engine. The files failed in it or not.
 pub record Filed (most : ℕ) (e : Engine) (command : Command) (b now_b : Beside) (now : Engine) (reply : Reply) : Type 0 where
@@ -55,14 +55,6 @@ pub record Shows (s : Slot) (command : Command) (visits now_visits : ℕ) (reply
 -- A command on a slot has this reply, whatever was counted of changes, of which it makes none, and however many bytes a file may have.
 pub record Replies (s : Slot) (command : Command) (b now_b : Beside) (now : Slot) (reply : Reply) : Type 0 where
   pub filed : (most changes : ℕ) → Filed most (engine_of s) command (with_changes changes b) (with_changes changes now_b) (engine_of now) reply
-
--- ---- a file that is written
-
--- the bytes are a file under the name, and nothing failed
-pub record Entered (before now : Shelf) (name bytes : List ℕ) (count : ℕ) : Type 0 where
-  pub counted : count ≡ length bytes
-  pub later : before.faults ≤ now.faults
-  pub entered : (files : Files) → before.files ≡ Some files → now.files ≡ Some (enter name bytes files)
 
 abbrev pub EnteredOr : Shelf → Shelf → List ℕ → List ℕ → Result ℕ Failed → Type 0
 EnteredOr before now name bytes (Ok count) = Entered before now name bytes count
@@ -99,12 +91,6 @@ LoadsOr kind t bytes now (Err error) = now ≡ t
 abbrev pub LoadsNodes : {T E : Type 0} → Kind → AnyTable → List ℕ → Result T E → ℕ → ℕ → Type 0
 LoadsNodes kind t bytes result changes now_changes =
     (rows : List Row) → read_snapshot kind t.dims t.tree.width bytes ≡ Ok rows → OnOk result (now_changes ≤ changes + length (all_nodes t.tree.width t.dims rows))
-
--- a table of the same width, number of dimensions and kind
-pub record SameFrame (kind : Kind) (t now : AnyTable) : Type 0 where
-  pub width : now.tree.width ≡ t.tree.width
-  pub dims : now.dims ≡ t.dims
-  pub of_kind : IsOfKind kind t → IsOfKind kind now
 
 -- a load of a table, whatever cursors stand beside it and whatever was counted of visits
 pub record TableLoaded {E : Type 0} (most : ℕ) (kind : Kind) (t : AnyTable) (name : List ℕ) (b now_b : Beside) (now : AnyTable) (result : Result Told E) : Type 0 where

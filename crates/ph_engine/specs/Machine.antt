@@ -1,6 +1,7 @@
 -- A machine that answers lines, one after another, and what each of them meets of the files.
-use Rattle.std.specs.Prelude.{◌≡◌, ℕ, ◌+◌, Bool, true, false, ◌||◌, List, [], ◌∷◌, ◌++◌, map, nat_eq, codes, Option, None, refl}
-use Rattle.std.specs.List.{starts_with}
+use Rattle.std.specs.Prelude.{◌≡◌, ℕ, ◌+◌, Bool, false, ◌||◌, List, [], ◌∷◌, ◌++◌, map, Option, None, refl}
+use Rattle.ph_any_tree.specs.Working.{one_if, Work}
+use Rattle.ph_any_tree.specs.Telling.{is_refusal}
 
 -- what a line meets of the files: whether they fail in it, and the bytes of the file that it reads, where there is one
 pub record Met : Type 0 where
@@ -22,13 +23,6 @@ pub record Turn : Type 0 where
 abbrev pub turn : List ℕ → Met → Turn
 turn line met = record { line = line; met = met }
 
--- bounds of the nodes visited and of the changes made
-pub record Work : Type 0 where
-  pub most_visits : ℕ
-  pub least_visits : ℕ
-  pub most_changes : ℕ
-  pub least_changes : ℕ
-
 -- The bytes of the answer to a line in a state, and the state behind it. The state where a write of the answer failed, and
 -- that in which memory is missing, behind so many parts of what the line asks for. Whether the line may want memory, whether
 -- it asks for a file, and its work.
@@ -40,10 +34,6 @@ pub record Machine (S : Type 0) : Type 0 where
   pub wants : S → Turn → Bool
   pub uses : S → Turn → Bool
   pub work : S → Turn → Work
-
--- whether an answer is a refusal
-abbrev pub is_refusal : List ℕ → Bool
-is_refusal answer = starts_with nat_eq answer (codes "error") || starts_with nat_eq answer (codes "bad")
 
 -- the answers to lines, and the state behind them
 abbrev pub answers : {S : Type 0} → Machine S → S → List Turn → List ℕ
@@ -72,10 +62,6 @@ total bound m s (t ∷ ts) = bound (m.work s t) + total bound m (m.next s t) ts
 -- the lines alone, and in how many of them the files fail
 abbrev pub lines_of : List Turn → List (List ℕ)
 lines_of ts = map (λ t. t.line) ts
-
-abbrev pub one_if : Bool → ℕ
-one_if true = 1
-one_if false = 0
 
 abbrev pub faults_of : List Bool → ℕ
 faults_of [] = 0

@@ -7,7 +7,8 @@ use Rattle.ph_specs.specs.Command.{Command}
 use Rattle.ph_specs.specs.Reply.{Reply}
 use Rattle.ph_specs.specs.State.{Slot, Files}
 use Rattle.ph_specs.specs.Refusals.{points_of, boxes_of, refuse_if, refuse_if_bad, has_wrong_dims, has_wrong_kind, is_out_of_range, is_reversed}
-use Rattle.ph_specs.specs.Refusals.{lacks_cursor, has_too_many_cursors, has_file_fault, table_read, is_full, is_too_far_back, points_differ, same_kind}
+use Rattle.ph_specs.specs.Refusals.{lacks_cursor, has_too_many_cursors, has_file_fault, table_read, is_full, is_too_far_back, points_differ}
+use Rattle.ph_specs.specs.Refusals.{same_kind}
 
 -- some point of the command has a coordinate that the width has not
 abbrev pub names_points_outside : ℕ → Command → Bool

@@ -1,9 +1,9 @@
 -- What a status says.
-use Rattle.std.specs.Prelude.{◌≤◌, ◌≡◌, ◌⊎◌, ℕ, List, length, Bool, if◌then◌else◌, Option, Some, None, Result, IsErrOf}
+use Rattle.std.specs.Prelude.{◌≤◌, ◌≡◌, ◌⊎◌, ℕ, List, length, Bool, if◌then◌else◌, Option, Some, None}
 use Rattle.ph_engine.specs.declared.status.Status.{Status}
 use Rattle.ph_engine.specs.declared.status.Status.TheVariants.{Clean, Refused, Usage, ReadFault, WriteFault, Memory}
-use Rattle.ph_engine.specs.declared.status.Stop.{Stop}
-use Rattle.ph_engine.specs.declared.status.Stop.TheVariants as stop
+use Rattle.ph_any_tree.specs.declared.answer.Stop.{Stop}
+use Rattle.ph_any_tree.specs.declared.answer.Stop.TheVariants as stop
 use Rattle.ph_io.specs.Causes.{Rose}
 
 -- the script was read to its end
@@ -16,11 +16,6 @@ read_status refused = if refused then Refused else Clean
 abbrev pub stop_status : Stop → Status
 stop_status stop.WriteFault = WriteFault
 stop_status stop.NoMemory = Memory
-
--- the count did not fall, and a write fault is answered only where it rose
-pub record StopHasCause {T : Type 0} (before now : ℕ) (result : Result T Stop) : Type 0 where
-  pub later : before ≤ now
-  pub write : IsErrOf result stop.WriteFault → Rose before now
 
 -- the same by a status
 pub record HasWriteCause (before now : ℕ) (status : Status) : Type 0 where

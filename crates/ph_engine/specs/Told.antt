@@ -1,26 +1,19 @@
 -- What sources, sinks and files tell, whatever they are.
 use Rattle.std.specs.Prelude.{ℕ, Bool}
-use Rattle.ph_io.specs.Giving.{Taken, taken_of}
 use Rattle.ph_io.specs.declared.files.Files.{Ghosts as FilesTell}
 use Rattle.ph_io.specs.declared.streams.Sink.{Ghosts as SinkTells}
 use Rattle.ph_io.specs.declared.streams.Source.{Ghosts as SourceTells}
 use Rattle.ph_specs.specs.State.{Engine}
+use Rattle.ph_any_tree.specs.Told.{taken_by}
 use Rattle.ph_engine.specs.Beside.{Beside, alone, aside, beside}
-use Rattle.ph_engine.specs.Drafting.{Drafted, Shelf, drafted, shelf}
+use Rattle.ph_engine.specs.Drafting.{Drafted, drafted}
 use Rattle.ph_engine.specs.Seen.{Seen, seen}
 use Rattle.ph_engine.specs.Standing.{Standing, standing}
 
-module _ {O : Type 0} (sink : SinkTells O) where
-  abbrev pub taken_by : O → Taken
-  taken_by out = taken_of (sink.written out) (sink.amount out)
-
-  abbrev pub alone_by : O → ℕ → ℕ → Beside
-  alone_by out visits changes = alone (taken_by out) visits changes
+abbrev pub alone_by : {O : Type 0} → SinkTells O → O → ℕ → ℕ → Beside
+alone_by sink out visits changes = alone (taken_by sink out) visits changes
 
 module _ {F : Type 0} (store : FilesTell F) where
-  abbrev pub shelf_by : F → Shelf
-  shelf_by files = shelf (store.files files) (store.draft files) (store.faults files) (store.is_begun files)
-
   -- a sink over the files, by its loan of them, the writes that came late, and whether none has failed
   abbrev pub drafted_by : ℕ → F → ℕ → Bool → Drafted
   drafted_by loan files late works = drafted loan (store.files files) (store.draft files) (store.faults files) late works

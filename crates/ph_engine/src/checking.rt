@@ -5,19 +5,17 @@ ghost use Rattle.ph_specs.specs.ProgramNames.{checked_words, own_fault, words_of
 ghost use Rattle.ph_specs.specs.RecordNames.{stats};
 ghost use Rattle.ph_snap.specs.Faults.{IsLoadFault};
 ghost use Rattle.ph_engine.specs.Checking.{CheckDone, HasSizes, IsSavedAs, LineGiven, front_of, nodes_saved, status_of};
-ghost use Rattle.ph_engine.specs.Listing.{node_count};
-ghost use Rattle.ph_engine.specs.Loading.{IsWithinBytes};
-ghost use Rattle.ph_engine.specs.Machine.{is_refusal};
-ghost use Rattle.ph_engine.specs.Slots.{any_table};
-ghost use Rattle.ph_engine.specs.Statuses.{StopHasCause};
-ghost use Rattle.ph_engine.specs.Told.{beside_by, taken_by};
+ghost use Rattle.ph_any_tree.specs.Listing.{node_count};
+ghost use Rattle.ph_any_tree.specs.Loading.{IsWithinBytes};
+ghost use Rattle.ph_any_tree.specs.Telling.{is_refusal, StopHasCause};
+ghost use Rattle.ph_any_tree.specs.Tables.{any_table};
+ghost use Rattle.ph_engine.specs.Told.{beside_by};
+ghost use Rattle.ph_any_tree.specs.Told.{taken_by};
 
 use crate::filing::{fault_reply, fetch_reply};
-use crate::output::tell;
-use crate::sizes::{LINE, push_count, push_sizes};
-use crate::status::{Answer, Limits, Status, Stop};
-use crate::trees::AnyTree;
+use crate::status::{Limits, Status};
 use arrayvec::ArrayString;
+use ph_any_tree::{Answer, AnyTree, LINE_BYTES, Stop, push_count, push_sizes, tell};
 use ph_coord::{Kind, Width};
 use ph_io::{Failed, Files, Sink, write_piece};
 use ph_script::{FileName, Text};
@@ -107,7 +105,11 @@ fn read_tree<C: Ledger>(
 }
 
 // The line of a table: what its rows are, with their dimensions, and the sizes of its tree.
-fn table_line<V: Ledger>(kind: Kind, tree: &AnyTree, visits: &mut Steps<V>) -> ArrayString<LINE>
+fn table_line<V: Ledger>(
+    kind: Kind,
+    tree: &AnyTree,
+    visits: &mut Steps<V>,
+) -> ArrayString<LINE_BYTES>
     ensures line { let t = any_table tree.now in
         result.bytes ≡ line_of (checked_words kind t.dims (stats t.tree.width t.dims t.tree.table)) }
     ensures visits { visits.new ≡ visits.old + node_count (any_table tree.now) }
@@ -120,7 +122,7 @@ fn table_line<V: Ledger>(kind: Kind, tree: &AnyTree, visits: &mut Steps<V>) -> A
 }
 
 // Appends what rows are, and the number with which their table is opened.
-fn push_kind(line: &mut ArrayString<LINE>, kind: Kind, dims: u32)
+fn push_kind(line: &mut ArrayString<LINE_BYTES>, kind: Kind, dims: u32)
     requires { line.old.bytes ≡ [] }
     ensures bytes { line.new.bytes ≡ front_of kind dims }
     ensures len { length line.new.bytes ≤ 18 }

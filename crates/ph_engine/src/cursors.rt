@@ -8,6 +8,7 @@ ghost use Rattle.ph_engine.specs.Naming.{place};
 ghost use Rattle.ph_engine.specs.Slots.{named, entered};
 
 use arrayvec::ArrayVec;
+use ph_any_tree::AnyCursor;
 use ph_coord::Point;
 use ph_script::Name;
 use ph_window::Cursor;
@@ -15,27 +16,6 @@ use std::cmp::Ordering;
 
 // The most cursors of a slot.
 pub(crate) const CURSORS: usize = 16;
-
-/// A cursor, by its number of dimensions: 1 to 16.
-#[derive(Clone, Copy)]
-pub enum AnyCursor {
-    D1(Cursor<1>),
-    D2(Cursor<2>),
-    D3(Cursor<3>),
-    D4(Cursor<4>),
-    D5(Cursor<5>),
-    D6(Cursor<6>),
-    D7(Cursor<7>),
-    D8(Cursor<8>),
-    D9(Cursor<9>),
-    D10(Cursor<10>),
-    D11(Cursor<11>),
-    D12(Cursor<12>),
-    D13(Cursor<13>),
-    D14(Cursor<14>),
-    D15(Cursor<15>),
-    D16(Cursor<16>),
-}
 
 /// A cursor with its name.
 #[derive(Clone, Copy)]

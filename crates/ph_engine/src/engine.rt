@@ -6,12 +6,13 @@ ghost use Rattle.ph_script.specs.Fit.{HasDims};
 ghost use Rattle.ph_engine.specs.Comparing.{Compares};
 ghost use Rattle.ph_engine.specs.Doing.{DoneOr, DoneBeside};
 ghost use Rattle.ph_engine.specs.Filing.{QuietOr};
-ghost use Rattle.ph_engine.specs.Statuses.{StopHasCause};
-ghost use Rattle.ph_engine.specs.Told.{beside_by, taken_by};
+ghost use Rattle.ph_any_tree.specs.Telling.{StopHasCause};
+ghost use Rattle.ph_engine.specs.Told.{beside_by};
+ghost use Rattle.ph_any_tree.specs.Told.{taken_by};
 
-use crate::output::{say, tell};
 use crate::slot::Slot;
-use crate::status::{Answer, Limits, Stop};
+use crate::status::Limits;
+use ph_any_tree::{Answer, Stop, say, tell};
 use ph_io::{Files, Sink};
 use ph_script::{Command, Reply, SetOperation, Text, Which};
 use ph_steps::Steps;

@@ -1,23 +1,26 @@
 //! Commands on files: a table as a snapshot, and back.
-ghost use Rattle.std.specs.Prelude.{◌≡◌, ◌≤◌, ◌+◌, true, length, IfOk, OnOk};
-ghost use Rattle.ph_specs.specs.RecordNames.{snap};
-ghost use Rattle.ph_specs.specs.WorkNames.{all_nodes};
+ghost use Rattle.std.specs.Prelude.{◌≡◌, true, length, IfOk};
+ghost use Rattle.ph_snap.specs.Saving.{VisitsAll};
 ghost use Rattle.ph_script.specs.Meaning.{reply_of};
 ghost use Rattle.ph_engine.specs.Drafting.{FilledOr};
-ghost use Rattle.ph_engine.specs.Filing.{EnteredOr, LoadsNodes, LoadsOr, SameFrame, TableLoaded, TableSaved, TellsFault, TellsUnfetched, loaded_reply, loaded_table};
-ghost use Rattle.ph_engine.specs.Loading.{IsWithinBytes};
-ghost use Rattle.ph_engine.specs.Slots.{IsOfKind, any_table};
-ghost use Rattle.ph_engine.specs.Told.{aside_by, shelf_by};
+ghost use Rattle.ph_engine.specs.Filing.{EnteredOr, LoadsNodes, LoadsOr, TableLoaded, TableSaved, TellsFault, TellsUnfetched, loaded_reply};
+ghost use Rattle.ph_engine.specs.Filing.{loaded_table};
+ghost use Rattle.ph_any_tree.specs.Tables.{SameFrame, IsOfKind, any_table};
+ghost use Rattle.ph_any_tree.specs.Loading.{IsWithinBytes};
+ghost use Rattle.ph_engine.specs.Told.{aside_by};
+ghost use Rattle.ph_any_tree.specs.Listing.{node_count};
+ghost use Rattle.ph_any_tree.specs.Saving.{snap_of};
+ghost use Rattle.ph_any_tree.specs.Told.{shelf_by};
 
 use crate::file_sink::FileSink;
 use crate::status::Limits;
-use crate::trees::AnyTree;
+use ph_any_tree::AnyTree;
 use ph_coord::Kind;
 use ph_io::{Failed, FetchFault, Files};
 use ph_script::{FileName, Reply};
-use ph_snap::{LoadFault, save};
+use ph_snap::LoadFault;
 use ph_steps::Steps;
-use ph_tree::{NoMemory, PhTree};
+use ph_tree::NoMemory;
 use std::alloc::Global;
 use std::sync::ledger::Ledger;
 
@@ -34,24 +37,22 @@ pub(crate) fn save_table<F: Files, V: Ledger>(
         (aside_by F.Files files.new visits.new 0)
         (reply_of result) }
 {
-    match tree.save(kind, file, files, visits) {
+    match save_tree(tree, kind, file, files, visits) {
         Ok(count) => Reply::Saved(count),
         Err(Failed) => Reply::ErrorFile,
     }
 }
 
 // Writes the snapshot of a tree to a file of this name, and tells how many bytes it has. Where the files fail, one of the name stays as it was.
-pub(crate) fn save_tree<const D: usize, F: Files, V: Ledger>(
-    tree: &PhTree<D>,
+fn save_tree<F: Files, V: Ledger>(
+    tree: &AnyTree,
     kind: Kind,
     file: &FileName<'_>,
     files: &mut F,
     visits: &mut Steps<V>,
 ) -> Result<u128, Failed>
-    ensures entered { EnteredOr (shelf_by F.Files files.old) (shelf_by F.Files files.new) file.now (snap kind D tree.now.width tree.now.table) result }
-    ensures kept { visits.old ≤ visits.new }
-    ensures few { visits.new ≤ visits.old + length (all_nodes tree.now.width D tree.now.table) }
-    ensures all { OnOk result (visits.new ≡ visits.old + length (all_nodes tree.now.width D tree.now.table)) }
+    ensures entered { EnteredOr (shelf_by F.Files files.old) (shelf_by F.Files files.new) file.now (snap_of kind (any_table tree.now)) result }
+    ensures visits { VisitsAll (node_count (any_table tree.now)) visits.old visits.new result }
 {
     files.begin(file.as_str())?;
     let count = append_tree(tree, kind, files, visits)?;
@@ -60,21 +61,19 @@ pub(crate) fn save_tree<const D: usize, F: Files, V: Ledger>(
 }
 
 // Appends the snapshot of a tree to the file that is begun.
-fn append_tree<const D: usize, F: Files, V: Ledger>(
-    tree: &PhTree<D>,
+fn append_tree<F: Files, V: Ledger>(
+    tree: &AnyTree,
     kind: Kind,
     files: &mut F,
     visits: &mut Steps<V>,
 ) -> Result<u128, Failed>
     requires begun { F.is_begun files.old ≡ true }
-    ensures filled { FilledOr (shelf_by F.Files files.old) (shelf_by F.Files files.new) (snap kind D tree.now.width tree.now.table) result }
-    ensures count { IfOk result (λ n. n ≡ length (snap kind D tree.now.width tree.now.table)) }
-    ensures kept { visits.old ≤ visits.new }
-    ensures few { visits.new ≤ visits.old + length (all_nodes tree.now.width D tree.now.table) }
-    ensures all { OnOk result (visits.new ≡ visits.old + length (all_nodes tree.now.width D tree.now.table)) }
+    ensures filled { FilledOr (shelf_by F.Files files.old) (shelf_by F.Files files.new) (snap_of kind (any_table tree.now)) result }
+    ensures count { IfOk result (λ n. n ≡ length (snap_of kind (any_table tree.now))) }
+    ensures visits { VisitsAll (node_count (any_table tree.now)) visits.old visits.new result }
 {
     let mut sink = FileSink::new(files);
-    match save(tree, kind, &mut sink, visits) {
+    match tree.save(kind, &mut sink, visits) {
         Ok(count) => { if sink.works { Ok(count) } else { Err(Failed) } }
         Err(Failed) => Err(Failed),
     }

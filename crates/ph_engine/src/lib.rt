@@ -1,33 +1,23 @@
 //! The engine: a script in, replies out.
 #![tactic(auto)]
 
-mod boxes;
 mod checking;
-mod combining;
-mod commands;
 mod cursors;
-mod distances;
 mod engine;
 mod file_sink;
 mod filing;
-mod listing;
-mod output;
-mod pairs;
 mod program;
 mod records;
 mod refusals;
 mod run;
-mod sizes;
 mod slot;
 mod soaking;
 mod status;
 mod task;
-mod trees;
-mod undoing;
 
-pub use cursors::{AnyCursor, Held};
+pub use cursors::Held;
 pub use engine::Engine;
+pub use ph_any_tree::{Answer, AnyCursor, AnyTree, Stop};
 pub use program::top;
 pub use slot::Slot;
-pub use status::{Answer, Limits, Status, Stop};
-pub use trees::AnyTree;
+pub use status::{Limits, Status};

@@ -3,7 +3,8 @@ ghost use Rattle.std.specs.Prelude.{◌≡◌, ◌≢◌, ◌<◌, ◌^◌, map,
 ghost use Rattle.ph_specs.specs.ProgramNames.{Task as Asked, task};
 ghost use Rattle.ph_engine.specs.Ending.{TopEnds, TellsUsage};
 ghost use Rattle.ph_engine.specs.Statuses.{HasWriteCause};
-ghost use Rattle.ph_engine.specs.Told.{seen_by, taken_by};
+ghost use Rattle.ph_engine.specs.Told.{seen_by};
+ghost use Rattle.ph_any_tree.specs.Told.{taken_by};
 
 use crate::checking::check;
 use crate::engine::Engine;

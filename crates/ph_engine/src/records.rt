@@ -1,27 +1,17 @@
 //! Commands on files of records: rows as comma-separated fields, a line each.
-ghost use Rattle.std.specs.Prelude.{◌≡◌, ◌≤◌, ◌+◌, true, length, Ok, OnOk};
-ghost use Rattle.std.specs.List.{AllByRecursion as Each};
-ghost use Rattle.ph_specs.specs.TableNames.{IsPoint};
-ghost use Rattle.ph_specs.specs.ProgramNames.{csv_rows, csv_line, csv_text};
-ghost use Rattle.ph_specs.specs.WorkNames.{all_nodes};
 ghost use Rattle.ph_script.specs.Meaning.{reply_of};
-ghost use Rattle.ph_engine.specs.Filing.{SameFrame};
-ghost use Rattle.ph_engine.specs.Recording.{import_changes, import_visits, AppendedOr, ExportedOr, ImportsOr, TableExported, TableImported, TellsRecord};
-ghost use Rattle.ph_engine.specs.Slots.{any_table, table_at};
-ghost use Rattle.ph_engine.specs.Told.{aside_by, shelf_by};
+ghost use Rattle.ph_any_tree.specs.Tables.{SameFrame, any_table};
+ghost use Rattle.ph_engine.specs.Recording.{TableExported, TableImported};
+ghost use Rattle.ph_engine.specs.Told.{aside_by};
 
 use crate::filing::fetch_reply;
 use crate::status::Limits;
-use crate::trees::AnyTree;
-use ph_coord::{Kind, Row};
-use ph_csv::{CsvFault, read_rows, row_line};
-use ph_import::{ImportFault, import_rows};
+use ph_any_tree::AnyTree;
+use ph_coord::Kind;
 use ph_io::{Failed, Files};
 use ph_script::{FileName, Reply};
 use ph_steps::Steps;
-use ph_tree::{NoMemory, PhTree};
-use ph_undo::Kept;
-use ph_window::Window;
+use ph_tree::NoMemory;
 use std::alloc::Global;
 use std::sync::ledger::Ledger;
 
@@ -50,66 +40,6 @@ pub(crate) fn import_table<F: Files, V: Ledger, C: Ledger>(
     }
 }
 
-// The same of a text.
-pub(crate) fn import_text<const D: usize, V: Ledger, C: Ledger>(
-    kept: &mut Kept<D>,
-    alloc: Global,
-    text: &[u8],
-    kind: Kind,
-    header: bool,
-    visits: &mut Steps<V>,
-    changes: &mut Steps<C>,
-) -> Result<Reply, NoMemory>
-    requires { D ≤ 16 }
-    ensures imports { ImportsOr (table_at D kept.old) (csv_rows kept.old.width D kind header text.now) (table_at D kept.new) result }
-    ensures frame { SameFrame kind (table_at D kept.old) (table_at D kept.new) }
-    ensures later { visits.old ≤ visits.new }
-    ensures few { visits.new ≤ visits.old + import_visits (table_at D kept.old) (csv_rows kept.old.width D kind header text.now) }
-    ensures grown { changes.old ≤ changes.new }
-    ensures changes { changes.new ≤ changes.old + import_changes (table_at D kept.old) (csv_rows kept.old.width D kind header text.now) }
-{
-    match read_rows(alloc, text, kept.tree().width(), kind, header) {
-        Ok(rows) => put_read(kept, alloc, rows, visits, changes),
-        Err(fault) => record_reply(fault),
-    }
-}
-
-// Puts rows into a tree, if it has room for all of them.
-fn put_read<const D: usize, V: Ledger, C: Ledger>(
-    kept: &mut Kept<D>,
-    alloc: Global,
-    rows: Vec<Row<D>>,
-    visits: &mut Steps<V>,
-    changes: &mut Steps<C>,
-) -> Result<Reply, NoMemory>
-    requires { Each (λ r. IsPoint kept.old.width D r.point) rows.items }
-    ensures imports { ImportsOr (table_at D kept.old) (Ok rows.entry.items) (table_at D kept.new) result }
-    ensures later { visits.old ≤ visits.new }
-    ensures few { visits.new ≤ visits.old + import_visits (table_at D kept.old) (Ok rows.entry.items) }
-    ensures grown { changes.old ≤ changes.new }
-    ensures changes { changes.new ≤ changes.old + import_changes (table_at D kept.old) (Ok rows.entry.items) }
-{
-    let count = rows.len() as u64;
-    match import_rows(alloc, kept, rows, visits, changes) {
-        Ok(()) => Ok(Reply::Imported(count)),
-        Err(ImportFault::Full) => Ok(Reply::ErrorFull),
-        Err(ImportFault::NoMemory) => Err(NoMemory),
-    }
-}
-
-// What is replied to a fault of a text.
-fn record_reply(fault: CsvFault) -> Result<Reply, NoMemory>
-    ensures { TellsRecord fault result }
-{
-    match fault {
-        CsvFault::Fields(n) => Ok(Reply::BadFields(n)),
-        CsvFault::Number(n) => Ok(Reply::BadNumber(n)),
-        CsvFault::Range(n) => Ok(Reply::BadRange(n)),
-        CsvFault::Reversed(n) => Ok(Reply::BadReversed(n)),
-        CsvFault::NoMemory => Err(NoMemory),
-    }
-}
-
 // Writes the rows of a tree to a file of this name, in place of one that has it.
 pub(crate) fn export_table<F: Files, V: Ledger>(
     tree: &AnyTree,
@@ -126,52 +56,4 @@ pub(crate) fn export_table<F: Files, V: Ledger>(
         Ok(()) => Reply::Exported(tree.len()),
         Err(Failed) => Reply::ErrorFile,
     }
-}
-
-// The same of a tree of D dimensions. Where the files fail, one of the name stays as it was.
-pub(crate) fn export_tree<const D: usize, F: Files, V: Ledger>(
-    tree: &PhTree<D>,
-    file: &FileName<'_>,
-    files: &mut F,
-    visits: &mut Steps<V>,
-) -> Result<(), Failed>
-    requires { D ≤ 16 }
-    ensures exported { ExportedOr (shelf_by F.Files files.old) (shelf_by F.Files files.new) file.now (csv_text tree.now.table) result }
-    ensures later { visits.old ≤ visits.new }
-    ensures few { visits.new ≤ visits.old + length (all_nodes tree.now.width D tree.now.table) }
-    ensures all { OnOk result (visits.new ≡ visits.old + length (all_nodes tree.now.width D tree.now.table)) }
-{
-    files.begin(file.as_str())?;
-    append_rows(tree, files, visits)?;
-    files.finish()?;
-    Ok(())
-}
-
-// Appends the lines of all rows to the file that is begun.
-fn append_rows<const D: usize, F: Files, V: Ledger>(
-    tree: &PhTree<D>,
-    files: &mut F,
-    visits: &mut Steps<V>,
-) -> Result<(), Failed>
-    requires limit { D ≤ 16 }
-    requires begun { F.is_begun files.old ≡ true }
-    ensures appended { AppendedOr (shelf_by F.Files files.old) (shelf_by F.Files files.new) (csv_text tree.now.table) result }
-    ensures later { visits.old ≤ visits.new }
-    ensures few { visits.new ≤ visits.old + length (all_nodes tree.now.width D tree.now.table) }
-    ensures all { OnOk result (visits.new ≡ visits.old + length (all_nodes tree.now.width D tree.now.table)) }
-{
-    let mut window = Window::whole(tree);
-    'rows: while let Some(row) = window.next(visits) {
-        append_row(&row, files)?;
-    }
-    Ok(())
-}
-
-// Appends the line of a row to the file that is begun.
-fn append_row<const D: usize, F: Files>(row: &Row<D>, files: &mut F) -> Result<(), Failed>
-    requires limit { D ≤ 16 }
-    requires begun { F.is_begun files.old ≡ true }
-    ensures { AppendedOr (shelf_by F.Files files.old) (shelf_by F.Files files.new) (csv_line row.now) result }
-{
-    files.append(row_line(row).as_str().as_bytes())
 }

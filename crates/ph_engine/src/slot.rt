@@ -10,19 +10,19 @@ ghost use Rattle.ph_engine.specs.Causes.{refusal_reply};
 ghost use Rattle.ph_engine.specs.Doing.{Begun, DoneWith, DoneOr, is_on_row, is_on_slot, is_sure, is_tried, is_listed};
 ghost use Rattle.ph_engine.specs.Filing.{FiledOr, QuietOr, Replies};
 ghost use Rattle.ph_engine.specs.Refusing.{early_refusal, cursor_refusal};
-ghost use Rattle.ph_engine.specs.Slots.{engine_of};
-ghost use Rattle.ph_engine.specs.Statuses.{StopHasCause};
-ghost use Rattle.ph_engine.specs.Working.{nodes_of};
-ghost use Rattle.ph_engine.specs.Told.{aside_by, beside_by, taken_by};
+ghost use Rattle.ph_any_tree.specs.Tables.{engine_of};
+ghost use Rattle.ph_any_tree.specs.Telling.{StopHasCause};
+ghost use Rattle.ph_any_tree.specs.Working.{nodes_of};
+ghost use Rattle.ph_engine.specs.Told.{aside_by, beside_by};
+ghost use Rattle.ph_any_tree.specs.Told.{taken_by};
 
 use crate::cursors::{CURSORS, Held, enter, place_of};
 use crate::filing::{load_table, save_table};
-use crate::output::{say, tell};
 use crate::records::{export_table, import_table};
 use crate::refusals::{Refusal, has_wrong_dims, has_wrong_kind, is_out_of_range, is_reversed};
-use crate::status::{Answer, Limits, Stop};
-use crate::trees::AnyTree;
+use crate::status::Limits;
 use arrayvec::ArrayVec;
+use ph_any_tree::{Answer, AnyTree, Stop, say, tell};
 use ph_box::Question;
 use ph_coord::{Kind, Width};
 use ph_io::{Files, Sink};
@@ -47,7 +47,8 @@ pub struct Slot {
 
 impl Model for Slot {
     ghost use Rattle.ph_specs.specs.ProgramNames.{Slot as State};
-    ghost use Rattle.ph_engine.specs.Slots.{any_table, named, slot_of, IsSlot};
+    ghost use Rattle.ph_any_tree.specs.Tables.{any_table, slot_of};
+    ghost use Rattle.ph_engine.specs.Slots.{named, IsSlot};
 
     ghost Value = { State };
 

@@ -8,10 +8,10 @@ ghost use Rattle.ph_engine.specs.Soaking.{AreDrawn, SoakDone, SoakedOr};
 ghost use Rattle.ph_engine.specs.Told.{alone_by};
 
 use crate::engine::Engine;
-use crate::sizes::{LINE, push_count, push_sizes};
-use crate::status::{Limits, Status, Stop};
+use crate::status::{Limits, Status};
 use arrayvec::ArrayString;
 use itoa::Buffer;
+use ph_any_tree::{LINE_BYTES, Stop, push_count, push_sizes};
 use ph_io::{CleanFiles, CountSink, Failed, Sink, write_piece};
 use ph_script::{CoordBuffer, Gen, Text, Which};
 use ph_steps::Steps;
@@ -89,7 +89,7 @@ fn exec_all<V: Ledger, C: Ledger>(
 }
 
 // The line about so many commands.
-fn soak_line(n: u32, sizes: &Stats, bytes: u64) -> ArrayString<LINE>
+fn soak_line(n: u32, sizes: &Stats, bytes: u64) -> ArrayString<LINE_BYTES>
     ensures { result.bytes ≡ line_of (codes "soak" ∷ decimal n ∷ stats_words (stats_of sizes.now) ++ codes "bytes" ∷ decimal bytes ∷ []) }
 {
     let mut line = ArrayString::new();

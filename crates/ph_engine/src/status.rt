@@ -1,4 +1,4 @@
-//! How commands, and a call of the program, end.
+//! How a call of the program ends, and how much it takes.
 
 /// How a call of `top` ends. The number of a status is that with which the program ends.
 #[derive(Clone, Copy, Debug, PartialEq, Eq)]
@@ -26,22 +26,4 @@ pub struct Limits {
     pub script_bytes: u64,
     /// The bytes of a file that is read, at most; below `2^63`.
     pub file_bytes: u64,
-}
-
-/// How a command is answered.
-#[derive(Clone, Copy, Debug, PartialEq, Eq)]
-pub enum Answer {
-    Good,
-    /// The reply begins with `error` or `bad`.
-    Refused,
-}
-
-/// Why a command has no whole answer.
-#[derive(Clone, Copy, Debug, PartialEq, Eq)]
-pub enum Stop {
-    /// A write failed: a front of the replies was written, and the command is done, but a page leaves its cursor as it was.
-    WriteFault,
-    /// Memory was missing: nothing was written or done, but of an import some first rows may be in the table, and of edits that were to
-    /// be taken back some last ones may be.
-    NoMemory,
 }

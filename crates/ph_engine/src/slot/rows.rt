@@ -5,7 +5,7 @@ ghost use Rattle.ph_script.specs.Meaning.{numbers_of, reply_of};
 ghost use Rattle.ph_engine.specs.Causes.{refusal_reply};
 ghost use Rattle.ph_engine.specs.Filing.{QuietOr, Shows};
 ghost use Rattle.ph_engine.specs.Refusing.{early_refusal};
-ghost use Rattle.ph_engine.specs.Slots.{engine_of};
+ghost use Rattle.ph_any_tree.specs.Tables.{engine_of};
 
 use super::Slot;
 use crate::refusals::{Refusal, are_no_boxes, are_outside, is_no_box, is_outside};

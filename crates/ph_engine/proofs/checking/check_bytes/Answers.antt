@@ -1,5 +1,5 @@
 use Rattle.std.proofs.Common.{arith}
-use Rattle.ph_engine.specs.Slots.{any_table}
+use Rattle.ph_any_tree.specs.Tables.{any_table}
 use Rattle.ph_engine.proofs.Checked.{fault-given, fault-sizes, has-sizes, nodes-are, sizes-given}
 use Rattle.ph_engine.proofs.checking.check_bytes.Goals as goal
 

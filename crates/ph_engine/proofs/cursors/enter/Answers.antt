@@ -3,7 +3,8 @@ use Rattle.std.specs.Prelude.{Ok, Err}
 use Rattle.std.proofs.Math.ListN.{set}
 use Rattle.std.proofs.lemmas.List.{length-set}
 use Rattle.ph_engine.specs.Naming.{place, entered_at}
-use Rattle.ph_engine.specs.Slots.{cursor_of, named}
+use Rattle.ph_any_tree.specs.Tables.{cursor_of}
+use Rattle.ph_engine.specs.Slots.{named}
 use Rattle.ph_engine.proofs.Names.{room-for, refilled}
 use Rattle.ph_engine.proofs.cursors.enter.Goals as goal
 

@@ -3,7 +3,7 @@ use Rattle.std.specs.Prelude.{Err}
 use Rattle.std.specs.Ordering.{nat_cmp}
 use Rattle.std.specs.Cmp.Lexicographic.{slice_cmp}
 use Rattle.ph_engine.specs.declared.cursors.Held.{Held}
-use Rattle.ph_engine.specs.Slots.{cursor_of}
+use Rattle.ph_any_tree.specs.Tables.{cursor_of}
 use Rattle.ph_engine.proofs.Names.{behind-less, behind-equal, behind-greater, behind-all}
 use Rattle.ph_engine.proofs.cursors.place_of.Goals as goal
 

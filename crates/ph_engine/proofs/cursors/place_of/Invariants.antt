@@ -1,6 +1,7 @@
 use Rattle.std.proofs.Common.{◌≡◌}
 use Rattle.ph_engine.specs.Naming.{place}
-use Rattle.ph_engine.specs.Slots.{named, cursor_of}
+use Rattle.ph_engine.specs.Slots.{named}
+use Rattle.ph_any_tree.specs.Tables.{cursor_of}
 use Rattle.ph_engine.proofs.Names.{place_behind}
 use Rattle.ph_engine.proofs.cursors.place_of.Given as goal
 

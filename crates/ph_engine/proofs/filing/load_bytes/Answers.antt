@@ -1,4 +1,4 @@
-use Rattle.ph_engine.specs.Slots.{any_table}
+use Rattle.ph_any_tree.specs.Tables.{any_table}
 use Rattle.ph_engine.proofs.Loads.{loaded-frame, loads-none, nodes-loaded, nodes-none}
 use Rattle.ph_engine.proofs.filing.load_bytes.Goals as goal
 

@@ -1,6 +1,6 @@
 use Rattle.std.proofs.Common.{refl}
 use Rattle.ph_specs.specs.Command.{Command}
-use Rattle.ph_engine.specs.Slots.{any_table, slot_of}
+use Rattle.ph_any_tree.specs.Tables.{any_table, slot_of}
 use Rattle.ph_engine.proofs.Filed.{unfetched-filed-or}
 use Rattle.ph_engine.proofs.Recorded.{fetch-import, imported-filed-or}
 use Rattle.ph_engine.proofs.Loads.{same-frame-still}
@@ -17,7 +17,7 @@ returns-in-Ok-clause-imported g c =
           c.import.new.visits c.args.changes.now c.import.new.changes
           (g.F.Files.files c.args.files.now) (g.F.Files.files c.fetch.new.self) (any_table c.import.new.self)
           c.import.result (rw (c.as_slice.ensures.value, ← c.as_str.ensures.value) e.fetches) (rw c.as_slice.ensures.value e.within)
-          e.files e.counts i.imports i.later i.few i.kept i.changes;
+          e.files e.counts i.imports i.later i.few_visits i.kept i.few_changes;
     }
 
 pub returns : goal.returns

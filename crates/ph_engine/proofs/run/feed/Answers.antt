@@ -1,15 +1,14 @@
 use Rattle.std.proofs.Common.{◌≡◌, ℕ, List, refl, sym, subst, ◌∷◌, [], ◌++◌, take, drop, ◌∙◌, ap, arith}
 use Rattle.ph_specs.specs.Lines.{LF}
-use Rattle.ph_script.specs.Shown.{before_feed}
+use Rattle.ph_script.specs.Shown.{before_feed, IsLine}
 use Rattle.ph_engine.specs.Machine.{KEPT}
 use Rattle.std.specs.Prelude.{Bool, false, Result, Ok, Err}
 use Rattle.ph_engine.specs.Feeding.{Fed}
 use Rattle.ph_engine.specs.Told.{beside_by}
 use Rattle.ph_script.specs.declared.lines.Line.{Line}
-use Rattle.ph_script.specs.Shown.{IsLine}
 use Rattle.ph_engine.specs.Answering.{SaysOr}
 use Rattle.ph_engine.specs.Beside.{Beside}
-use Rattle.ph_engine.specs.declared.status.Stop.{Stop}
+use Rattle.ph_any_tree.specs.declared.answer.Stop.{Stop}
 use Rattle.ph_engine.specs.ScriptMachine.{Whole, whole, told_now, script_machine}
 use Rattle.ph_engine.proofs.Feeds.{fed-none, line-said, line-stopped, then-fed, then-stopped, then-part}
 use Rattle.ph_engine.proofs.Scans.{feed-unbroken, none-unbroken, feed-next, feed-within, whole as whole-piece, unended-feed, unended-none}

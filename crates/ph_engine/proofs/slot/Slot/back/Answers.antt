@@ -1,5 +1,6 @@
 use Rattle.std.proofs.Common.{rules}
-use Rattle.ph_engine.specs.Slots.{any_table, named}
+use Rattle.ph_any_tree.specs.Tables.{any_table}
+use Rattle.ph_engine.specs.Slots.{named}
 use Rattle.ph_engine.proofs.Undos.{back-quiet}
 use Rattle.ph_engine.proofs.slot.Slot.back.Goals as goal
 

@@ -1,6 +1,7 @@
 use Rattle.std.proofs.Common.{sym, ◌∙◌}
 use Rattle.ph_engine.specs.Refusing.{frame_refusal}
-use Rattle.ph_engine.specs.Slots.{any_table, named}
+use Rattle.ph_any_tree.specs.Tables.{any_table}
+use Rattle.ph_engine.specs.Slots.{named}
 use Rattle.ph_engine.proofs.Pairings.{combined-frame}
 use Rattle.ph_engine.proofs.Slotted.{slot-keeps}
 use Rattle.ph_engine.proofs.slot.Slot.combine.Goals as goal

@@ -1,7 +1,8 @@
 use Rattle.std.proofs.Common.{ap, sym, ◌∙◌}
 use Rattle.std.specs.Prelude.{is_ok}
 use Rattle.ph_engine.specs.Naming.{place}
-use Rattle.ph_engine.specs.Slots.{any_table, named}
+use Rattle.ph_any_tree.specs.Tables.{any_table}
+use Rattle.ph_engine.specs.Slots.{named}
 use Rattle.ph_engine.proofs.Names.{has-place}
 use Rattle.ph_engine.proofs.Slotted.{names-sorted}
 use Rattle.ph_engine.proofs.slot.Slot.has_cursor.Goals as goal

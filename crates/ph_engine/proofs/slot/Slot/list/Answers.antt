@@ -1,5 +1,6 @@
 use Rattle.std.proofs.Common.{sym}
-use Rattle.ph_engine.specs.Slots.{any_table, named}
+use Rattle.ph_any_tree.specs.Tables.{any_table}
+use Rattle.ph_engine.specs.Slots.{named}
 use Rattle.ph_box.specs.declared.question.Question.TheVariants.{Overlap, Inside, Cover}
 use Rattle.ph_engine.proofs.Groups.{all-lists}
 use Rattle.ph_engine.proofs.Paged.{arm-listed, lists-window, lists-ball, lists-boxes, lists-sizes, near-listed}

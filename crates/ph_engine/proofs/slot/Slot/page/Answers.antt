@@ -5,7 +5,8 @@ use Rattle.ph_specs.specs.Command.{Command}
 use Rattle.ph_specs.specs.Named.{enter, lookup}
 use Rattle.ph_engine.specs.Naming.{place}
 use Rattle.ph_engine.specs.Refusing.{early_refusal}
-use Rattle.ph_engine.specs.Slots.{any_table, named, slot_of, cursor_of, IsCursorIn}
+use Rattle.ph_any_tree.specs.Tables.{any_table, slot_of, cursor_of, IsCursorIn}
+use Rattle.ph_engine.specs.Slots.{named}
 use Rattle.ph_engine.specs.declared.cursors.Held.{Held}
 use Rattle.ph_engine.proofs.Names.{has-place, under-entered, all-at}
 use Rattle.ph_engine.proofs.Paged.{cursor-there, found-there, page-done, page-stopped}

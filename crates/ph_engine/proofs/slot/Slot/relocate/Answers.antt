@@ -3,7 +3,8 @@ use Rattle.std.specs.Prelude.{Some}
 use Rattle.ph_specs.specs.Command.{Command}
 use Rattle.ph_script.specs.Meaning.{numbers_of}
 use Rattle.ph_engine.specs.Refusing.{early_refusal}
-use Rattle.ph_engine.specs.Slots.{any_table, named}
+use Rattle.ph_any_tree.specs.Tables.{any_table}
+use Rattle.ph_engine.specs.Slots.{named}
 use Rattle.ph_engine.proofs.Plain.{plain-move}
 use Rattle.ph_engine.proofs.Quiet.{refused-quiet, served-quiet}
 use Rattle.ph_engine.proofs.Slotted.{frame-kept, move-frame}

@@ -1,6 +1,7 @@
 use Rattle.std.proofs.Common.{sym}
 use Rattle.std.specs.Prelude.{Ok}
-use Rattle.ph_engine.specs.Slots.{any_table, named, slot_of}
+use Rattle.ph_any_tree.specs.Tables.{any_table, slot_of}
+use Rattle.ph_engine.specs.Slots.{named}
 use Rattle.ph_engine.proofs.Filed.{filed-begun, filed-served}
 use Rattle.ph_engine.proofs.Groups.{all-sure}
 use Rattle.ph_engine.proofs.Plain.{plain-count, plain-clear}

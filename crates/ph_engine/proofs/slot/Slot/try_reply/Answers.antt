@@ -1,4 +1,5 @@
-use Rattle.ph_engine.specs.Slots.{any_table, named}
+use Rattle.ph_any_tree.specs.Tables.{any_table}
+use Rattle.ph_engine.specs.Slots.{named}
 use Rattle.ph_engine.proofs.Groups.{all-tried}
 use Rattle.ph_engine.proofs.Slotted.{slot-keeps}
 use Rattle.ph_engine.proofs.slot.Slot.try_reply.Goals as goal

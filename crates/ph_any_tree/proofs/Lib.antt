@@ -1,0 +1,12 @@
+pub mod Replies
+pub mod SizeLines
+pub mod Listed
+pub mod Hits
+pub mod Asked
+pub mod Compared
+pub mod Far
+pub mod Backward
+pub mod Shelves
+pub mod Frames
+pub mod Imports
+pub mod Cursors

@@ -1,0 +1,13 @@
+pub mod Working
+pub mod Tables
+pub mod Telling
+pub mod Served
+pub mod Comparing
+pub mod Listing
+pub mod Pairing
+pub mod Shelves
+pub mod Saving
+pub mod Recording
+pub mod Undoing
+pub mod Loading
+pub mod Told
