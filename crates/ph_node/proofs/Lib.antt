@@ -36,3 +36,4 @@ mod Slotted
 mod Spliced
 mod ValuePlaces
 mod Valued
+mod Fields

@@ -25,8 +25,6 @@ mod rewrites;
 mod singles;
 mod splits;
 mod spots;
-#[cfg(test)]
-mod tests;
 
 pub use node::{Node, NodeOf, Slot, SlotOf};
 pub use ph_coord::{Dim, Dims};

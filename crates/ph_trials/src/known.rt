@@ -3,6 +3,8 @@
 ghost use Rattle.std.specs.Prelude.{◌≡◌, ◌<◌, ◌≤◌};
 ghost use Rattle.ph_specs.specs.TableNames.{IsPoint};
 
+use crate::crowded::crowds;
+use crate::nodes::nodes;
 use ph_coord::{Point, Width};
 use ph_node::{NodeRef, What};
 use ph_steps::{Counters, Steps};
@@ -21,12 +23,14 @@ enum Case {
     DeepestPath,
     DeepestPathGone,
     CrowdedCube,
+    Crowds,
     Dimensions,
     FullTable,
     Moves,
+    Nodes,
 }
 
-fn empty<const D: usize>(rt: &impl Abort, alloc: Global, max: u64) -> PhTree<D>
+pub(crate) fn empty<const D: usize>(rt: &impl Abort, alloc: Global, max: u64) -> PhTree<D>
     requires some { 1 ≤ D }
     requires few { D ≤ 16 }
 {
@@ -62,7 +66,7 @@ fn put<const D: usize, V: Ledger, C: Ledger>(
 }
 
 // A put of a new point.
-fn put_new<const D: usize, V: Ledger, C: Ledger>(
+pub(crate) fn put_new<const D: usize, V: Ledger, C: Ledger>(
     rt: &impl Abort,
     tree: &mut PhTree<D>,
     coords: &[i64],
@@ -75,7 +79,7 @@ fn put_new<const D: usize, V: Ledger, C: Ledger>(
 }
 
 // A removal that is to find this.
-fn del<const D: usize, V: Ledger, C: Ledger>(
+pub(crate) fn del<const D: usize, V: Ledger, C: Ledger>(
     rt: &impl Abort,
     tree: &mut PhTree<D>,
     coords: &[i64],
@@ -92,7 +96,7 @@ fn del<const D: usize, V: Ledger, C: Ledger>(
 }
 
 // The child of entry i, visited.
-fn child<'t, const D: usize, V: Ledger>(
+pub(crate) fn child<'t, const D: usize, V: Ledger>(
     rt: &impl Abort,
     node: NodeRef<'t, D>,
     i: usize,
@@ -117,7 +121,7 @@ fn is_point<const D: usize>(node: NodeRef<'_, D>, i: usize, v: u64) -> bool {
     }
 }
 
-fn root<'t, const D: usize, V: Ledger>(
+pub(crate) fn root<'t, const D: usize, V: Ledger>(
     rt: &impl Abort,
     tree: &'t PhTree<D>,
     visits: &mut Steps<V>,
@@ -343,6 +347,7 @@ fn outcome<V: Ledger, C: Ledger>(
         Case::DeepestPath => deepest_path(rt, alloc, &mut counters),
         Case::DeepestPathGone => deepest_path_gone(rt, alloc, &mut counters),
         Case::CrowdedCube => crowded_cube(rt, alloc, &mut counters),
+        Case::Crowds => crowds(rt, alloc, &mut counters),
         Case::Dimensions => {
             dimensions::<1, V, C>(rt, alloc, &mut counters);
             dimensions::<2, V, C>(rt, alloc, &mut counters);
@@ -352,6 +357,7 @@ fn outcome<V: Ledger, C: Ledger>(
         }
         Case::FullTable => full_table(rt, alloc, &mut counters),
         Case::Moves => moves(rt, alloc, &mut counters),
+        Case::Nodes => nodes(rt, alloc, &mut counters.visits),
     }
 }
 
@@ -397,4 +403,14 @@ fn the_full_table(rt: HostRuntime) {
 #[test]
 fn moves_in_a_full_tree(rt: HostRuntime) {
     check(&rt, rt.alloc(), Case::Moves);
+}
+
+#[test]
+fn crowded_nodes(rt: HostRuntime) {
+    check(&rt, rt.alloc(), Case::Crowds);
+}
+
+#[test]
+fn nodes_edit_by_edit(rt: HostRuntime) {
+    check(&rt, rt.alloc(), Case::Nodes);
 }

@@ -9,6 +9,8 @@ mod boxes;
 #[cfg(test)]
 mod builds;
 #[cfg(test)]
+mod crowded;
+#[cfg(test)]
 mod distances;
 #[cfg(test)]
 mod edits;
@@ -20,6 +22,8 @@ mod kept;
 mod known;
 #[cfg(test)]
 mod nearest_rows;
+#[cfg(test)]
+mod nodes;
 #[cfg(test)]
 mod orders;
 #[cfg(test)]

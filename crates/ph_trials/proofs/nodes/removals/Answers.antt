@@ -1,5 +1,5 @@
 use Rattle.std.proofs.Common.{arith, refl}
-use Rattle.ph_node.proofs.tests.removals.Goals as goal
+use Rattle.ph_trials.proofs.nodes.removals.Goals as goal
 
 pub merge-requires-clause-child : goal.merge-requires-clause-child
 merge-requires-clause-child g c =

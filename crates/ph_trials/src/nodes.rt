@@ -1,17 +1,10 @@
-//! A node through its edits, with entries that are known from outside.
+//! A node through its edits, with entries and words that are known from outside.
 
-ghost use Rattle.std.specs.Prelude.{◌≡◌, ◌<◌};
-
-mod twins;
-
-use crate::{Dim, Node, NodeOf, NodeRef, Spot, What};
+use ph_node::{NoMemory, Node, NodeOf, NodeRef, Spot, What};
 use ph_steps::Steps;
 use std::alloc::Global;
-use std::marker::Brand;
 use std::process::Abort;
-use std::sync::ledger::{Blank, Ledger};
-use std::test::Fail;
-use twins::there_and_back;
+use std::sync::ledger::Ledger;
 
 const OLD: [u64; 16] = [9, 3, 0, 0, 0, 0, 0, 0, 0, 0, 0, 0, 0, 0, 0, 0];
 
@@ -70,7 +63,11 @@ fn visit_child<'t, L: Ledger>(
     panic!(rt; "no child")
 }
 
-fn outcome<L: Ledger>(rt: &impl Abort, alloc: Global, steps: &mut Steps<L>) -> Result<(), Fail> {
+fn outcome<L: Ledger>(
+    rt: &impl Abort,
+    alloc: Global,
+    steps: &mut Steps<L>,
+) -> Result<(), NoMemory> {
     let mut node: Node<2> = NodeOf::single(alloc, 5, 2, OLD, 70, steps)?;
     node.add(0, 1, BESIDE, 71, steps)?;
     node.set_value(FIRST, 72, steps);
@@ -94,7 +91,11 @@ fn outcome<L: Ledger>(rt: &impl Abort, alloc: Global, steps: &mut Steps<L>) -> R
     Ok(())
 }
 
-fn removals<L: Ledger>(rt: &impl Abort, alloc: Global, steps: &mut Steps<L>) -> Result<(), Fail> {
+fn removals<L: Ledger>(
+    rt: &impl Abort,
+    alloc: Global,
+    steps: &mut Steps<L>,
+) -> Result<(), NoMemory> {
     let mut node: Node<2> = NodeOf::single(alloc, 5, 2, OLD, 70, steps)?;
     node.add(0, 1, BESIDE, 71, steps)?;
     node.split(SECOND, &NEAR, 73, steps)?;
@@ -109,14 +110,14 @@ fn removals<L: Ledger>(rt: &impl Abort, alloc: Global, steps: &mut Steps<L>) -> 
 }
 
 // A node that goes from between a node and a child, which then stands where it stood, and a child that moves to another block.
-fn lifts<L: Ledger>(rt: &impl Abort, alloc: Global, steps: &mut Steps<L>) -> Result<(), Fail> {
+fn lifts<L: Ledger>(rt: &impl Abort, alloc: Global, steps: &mut Steps<L>) -> Result<(), NoMemory> {
     let mut node: Node<2> = NodeOf::single(alloc, 5, 2, OLD, 70, steps)?;
     node.add(0, 1, BESIDE, 71, steps)?;
     node.split(SECOND, &NEAR, 73, steps)?;
     node.split(SECOND, &FAR, 74, steps)?;
     node.merge(SECOND, 1, steps);
     let root = node.visit(steps);
-    assert_eq!(rt; (root.words().len(), root.children().len()), (3, 1));
+    assert!(rt; (root.words().len(), root.children().len()) == (3, 1));
     assert!(rt; is_node(root, 5, &[(1, 4, 30, Some(71)), (2, 0, 0, None)]));
     node.drop_entry(FIRST, None, steps);
     let root = node.visit(steps);
@@ -130,13 +131,16 @@ fn has_words(words: &[u64], want: &[u64]) -> bool {
     *words == *want
 }
 
-// The words of nodes, and that a node has nothing beside its block.
-fn layouts<L: Ledger>(rt: &impl Abort, alloc: Global, steps: &mut Steps<L>) -> Result<(), Fail> {
+// The words of nodes.
+fn layouts<L: Ledger>(
+    rt: &impl Abort,
+    alloc: Global,
+    steps: &mut Steps<L>,
+) -> Result<(), NoMemory> {
     let body = [3, 4, 0, 0, 0, 0, 0, 0, 0, 0, 0, 0, 0, 0, 0, 0];
     let across: Node<2> = NodeOf::single(alloc, 31, 3, body, 17, steps)?;
     let words = across.visit(steps).words();
     assert!(rt; has_words(words, &[0x1f00000001000000, 0x60000000c0000002, 0, 0x11]));
-    let NodeOf { block: _, dims: _ } = across;
     let mut node: Node<2> = NodeOf::single(alloc, 31, 3, [0; 16], 1, steps)?;
     let spot = Spot { place: 0, addr: 3 };
     node.split(spot, &ONES, 2, steps)?;
@@ -151,12 +155,12 @@ fn layouts<L: Ledger>(rt: &impl Abort, alloc: Global, steps: &mut Steps<L>) -> R
     Ok(())
 }
 
-fn spots<L: Ledger>(rt: &impl Abort, alloc: Global, steps: &mut Steps<L>) -> Result<(), Fail> {
+fn spots<L: Ledger>(rt: &impl Abort, alloc: Global, steps: &mut Steps<L>) -> Result<(), NoMemory> {
     let mut node: Node<2> = NodeOf::single(alloc, 5, 2, OLD, 70, steps)?;
     node.split(Spot { place: 0, addr: 2 }, &NEAR, 73, steps)?;
     node.add(0, 1, BESIDE, 71, steps)?;
     let root = node.visit(steps);
-    assert_eq!(rt; (root.words().len(), root.children().len()), (3, 1));
+    assert!(rt; (root.words().len(), root.children().len()) == (3, 1));
     assert!(rt; !root.is_cube());
     assert_eq!(rt; root.search(0).err(), Some(0));
     assert_eq!(rt; root.search(3).err(), Some(2));
@@ -182,24 +186,15 @@ fn spots<L: Ledger>(rt: &impl Abort, alloc: Global, steps: &mut Steps<L>) -> Res
     Ok(())
 }
 
-// All of these, and those of twins, over one counter.
-fn trials<L: Ledger>(rt: &impl Abort, alloc: Global, blank: Blank) -> Result<(), Fail>
-    requires { (blank.name ≡ L.name) × (blank.parts ≡ L.parts) × (0 < blank.parts) }
-{
-    let mut steps: Steps<L> = Steps::new(blank);
-    layouts(rt, alloc, &mut steps)?;
-    outcome(rt, alloc, &mut steps)?;
-    removals(rt, alloc, &mut steps)?;
-    lifts(rt, alloc, &mut steps)?;
-    spots(rt, alloc, &mut steps)?;
-    there_and_back::<Dim<2>, L>(rt, alloc, 5, 4, &mut steps)?;
-    there_and_back::<Dim<3>, L>(rt, alloc, 5, 8, &mut steps)?;
-    there_and_back::<Dim<8>, L>(rt, alloc, 3, 256, &mut steps)?;
-    there_and_back::<Dim<16>, L>(rt, alloc, 0, 7720, &mut steps)?;
-    Ok(())
-}
-
-#[test]
-fn nodes(rt: HostRuntime) -> Result<(), Fail> {
-    trials::<Brand>(&rt, rt.alloc(), Blank::new(1))
+// All of these, over one counter.
+pub(crate) fn nodes<L: Ledger>(rt: &impl Abort, alloc: Global, steps: &mut Steps<L>) {
+    for answer in [
+        layouts(rt, alloc, steps),
+        outcome(rt, alloc, steps),
+        removals(rt, alloc, steps),
+        lifts(rt, alloc, steps),
+        spots(rt, alloc, steps),
+    ] {
+        assert!(rt; answer == Ok(()));
+    }
 }
