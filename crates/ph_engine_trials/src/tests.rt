@@ -23,11 +23,10 @@ use ph_engine::{Engine, Limits, Status, top};
 use ph_io::{MemoryFiles, MemorySink, MemorySource};
 use ph_steps::Steps;
 use sizes::SIZES;
-use std::alloc::{AllocError, Global};
+use std::alloc::Global;
 use std::marker::Brand;
 use std::process::Abort;
 use std::sync::ledger::{Blank, Ledger};
-use std::test::Fail;
 use undos::UNDOS;
 use widths::WIDTHS;
 
@@ -65,30 +64,23 @@ fn run<'a>(script: &'a str, output: &'a str, status: Status) -> Case<'a> {
 }
 
 // Checks scripts, each over no files.
-fn check_each(rt: &impl Abort, alloc: Global, trials: &[Trial]) -> Result<(), AllocError> {
+fn check_each(rt: &impl Abort, alloc: Global, trials: &[Trial]) {
     for (script, output, status) in trials {
-        check(rt, alloc, &run(script, output, *status))?;
+        check(rt, alloc, &run(script, output, *status));
     }
-    Ok(())
 }
 
 // Checks a case over no files.
-fn check(rt: &impl Abort, alloc: Global, case: &Case<'_>) -> Result<(), AllocError> {
-    let mut files = MemoryFiles::new(alloc, 0, 0, Vec::new(alloc))?;
+fn check(rt: &impl Abort, alloc: Global, case: &Case<'_>) {
+    let mut files = MemoryFiles::new(alloc, 0, 0, Vec::new(alloc)).expect(rt, "memory");
     check_over(rt, alloc, case, &mut files)
 }
 
-fn check_over(
-    rt: &impl Abort,
-    alloc: Global,
-    case: &Case<'_>,
-    files: &mut MemoryFiles,
-) -> Result<(), AllocError> {
-    let (status, sink) = answer_over(rt, alloc, case, files)?;
+fn check_over(rt: &impl Abort, alloc: Global, case: &Case<'_>, files: &mut MemoryFiles) {
+    let (status, sink) = answer_over(rt, alloc, case, files);
     let script = case.script;
-    assert_eq!(rt; sink.bytes(), case.output.as_bytes(), "{script}");
-    assert_eq!(rt; status, case.status, "{script}");
-    Ok(())
+    assert!(rt; sink.bytes() == case.output.as_bytes(), "{script}");
+    assert!(rt; status == case.status, "{script}");
 }
 
 // Runs a case, and gives its status and what was written.
@@ -97,7 +89,7 @@ fn answer_over(
     alloc: Global,
     case: &Case<'_>,
     files: &mut MemoryFiles,
-) -> Result<(Status, MemorySink), AllocError> {
+) -> (Status, MemorySink) {
     answer_counted::<Brand, Brand>(rt, alloc, case, files, Blank::new(1), Blank::new(1))
 }
 
@@ -108,7 +100,7 @@ fn answer_counted<V: Ledger, C: Ledger>(
     files: &mut MemoryFiles,
     visits: Blank,
     changes: Blank,
-) -> Result<(Status, MemorySink), AllocError>
+) -> (Status, MemorySink)
     requires visits { (visits.name ≡ V.name) × (visits.parts ≡ V.parts) × (0 < visits.parts) }
     requires changes { (changes.name ≡ C.name) × (changes.parts ≡ C.parts) × (0 < changes.parts) }
 {
@@ -116,17 +108,21 @@ fn answer_counted<V: Ledger, C: Ledger>(
     let mut changes: Steps<C> = Steps::new(changes);
     let mut words = Vec::new(alloc);
     for word in case.words.split_whitespace() {
-        words.push(String::from_str(alloc, word)?)?;
+        words
+            .push(String::from_str(alloc, word).expect(rt, "memory"))
+            .expect(rt, "memory");
     }
     assert!(rt; 0 < case.piece);
     assert!(rt; 0 < case.written_piece);
     assert!(rt; case.script_bytes < 1 << 63);
     assert!(rt; case.file_bytes < 1 << 63);
-    let script = Vec::from_slice(alloc, case.script.as_bytes())?;
-    let failing_reads = vec![in alloc; case.failing_read]?;
-    let failing_writes = vec![in alloc; case.failing_write]?;
+    let script = Vec::from_slice(alloc, case.script.as_bytes()).expect(rt, "memory");
+    let failing_reads = vec![in alloc; case.failing_read].expect(rt, "memory");
+    let failing_writes = vec![in alloc; case.failing_write].expect(rt, "memory");
     let mut source = MemorySource::new(script, case.piece, failing_reads);
-    let mut sink = MemorySink::with_room(alloc, 2000, case.written_piece, failing_writes)?;
+    let mut sink = MemorySink::with_room(alloc, 2000, case.written_piece, failing_writes).expect(
+        rt, "memory",
+    );
     let mut engine = Engine::new(alloc);
     let limits = Limits {
         script_bytes: case.script_bytes,
@@ -143,7 +139,7 @@ fn answer_counted<V: Ledger, C: Ledger>(
         &mut visits,
         &mut changes,
     );
-    Ok((status, sink))
+    (status, sink)
 }
 
 // Scripts about points.
@@ -257,24 +253,22 @@ const POINTS: [Trial; 15] = [
 
 // The tables of this file and of those below it.
 #[test]
-fn scripts(rt: HostRuntime) -> Result<(), Fail> {
-    check_each(&rt, rt.alloc(), &POINTS)?;
-    check_each(&rt, rt.alloc(), &BOXES)?;
-    check_each(&rt, rt.alloc(), &DISTANCES)?;
-    check_each(&rt, rt.alloc(), &PAIRS)?;
-    check_each(&rt, rt.alloc(), &SIZES)?;
-    check_each(&rt, rt.alloc(), &UNDOS)?;
-    check_each(&rt, rt.alloc(), &WIDTHS)?;
-    Ok(())
+fn scripts(rt: HostRuntime) {
+    check_each(&rt, rt.alloc(), &POINTS);
+    check_each(&rt, rt.alloc(), &BOXES);
+    check_each(&rt, rt.alloc(), &DISTANCES);
+    check_each(&rt, rt.alloc(), &PAIRS);
+    check_each(&rt, rt.alloc(), &SIZES);
+    check_each(&rt, rt.alloc(), &UNDOS);
+    check_each(&rt, rt.alloc(), &WIDTHS);
 }
 
 #[test]
-fn blank_lines_and_carriage_returns(rt: HostRuntime) -> Result<(), Fail> {
+fn blank_lines_and_carriage_returns(rt: HostRuntime) {
     let script = "# start\r\n\r\n\tput  3 4\t17 \r\nget 3 4";
     let mut case = run(script, "new\nvalue 17\n", Status::Clean);
     case.piece = 1;
-    check(&rt, rt.alloc(), &case)?;
-    Ok(())
+    check(&rt, rt.alloc(), &case);
 }
 
 // Checks words that are answered by one line, over a sink that takes it and over one that fails.
@@ -284,10 +278,10 @@ fn check_line(
     words: &'static str,
     line: &'static str,
     status: Status,
-) -> Result<(), AllocError> {
+) {
     let mut case = run("put 3 4 17\n", line, status);
     case.words = words;
-    check(rt, alloc, &case)?;
+    check(rt, alloc, &case);
     case.failing_write = 1;
     case.output = "";
     case.status = Status::WriteFault;
@@ -295,50 +289,50 @@ fn check_line(
 }
 
 #[test]
-fn usage_line(rt: HostRuntime) -> Result<(), Fail> {
+fn usage_line(rt: HostRuntime) {
     let usage = "usage: phq run | phq check FILE | phq soak N START\n";
-    check_line(&rt, rt.alloc(), "run now", usage, Status::Usage)?;
-    check_line(&rt, rt.alloc(), "", usage, Status::Usage)?;
-    Ok(())
+    check_line(&rt, rt.alloc(), "run now", usage, Status::Usage);
+    check_line(&rt, rt.alloc(), "", usage, Status::Usage);
 }
 
 #[test]
-fn script_too_long(rt: HostRuntime) -> Result<(), Fail> {
+fn script_too_long(rt: HostRuntime) {
     for (bytes, output, status) in [
         (8, "count 0\n", Status::TooLong),
         (12, "count 0\ncount 0\n", Status::Clean),
     ] {
         let mut case = run("count\ncount\n", output, status);
         case.script_bytes = bytes;
-        check(&rt, rt.alloc(), &case)?;
+        check(&rt, rt.alloc(), &case);
     }
-    Ok(())
 }
 
 #[test]
-fn read_and_write_faults(rt: HostRuntime) -> Result<(), Fail> {
+fn read_and_write_faults(rt: HostRuntime) {
     let mut read_fault = run("count\ncount\n", "count 0\n", Status::ReadFault);
     read_fault.piece = 6;
     read_fault.failing_read = 2;
-    check(&rt, rt.alloc(), &read_fault)?;
+    check(&rt, rt.alloc(), &read_fault);
     let script = "put 3 4 17\nput 3 4 18\nget 3 4\n";
     let mut write_fault = run(script, "new\nold 17\n", Status::WriteFault);
     write_fault.failing_write = 3;
-    check(&rt, rt.alloc(), &write_fault)?;
-    Ok(())
+    check(&rt, rt.alloc(), &write_fault);
 }
 
 #[test]
-fn longest_line(rt: HostRuntime) -> Result<(), Fail> {
+fn longest_line(rt: HostRuntime) {
     let longer = [b'#'; 4097];
     for (bytes, output, status) in [
         (4096, "", Status::Clean),
         (4097, "error long\n", Status::Refused),
     ] {
         assert!(rt; bytes <= longer.len());
-        let mut case = run(str::from_utf8(&longer[..bytes])?, output, status);
+        let mut case = run(
+            str::from_utf8(&longer[..bytes]).expect(&rt, "text"),
+            output,
+            status,
+        );
         case.script_bytes = 5000;
-        check(&rt, rt.alloc(), &case)?;
+        check(&rt, rt.alloc(), &case);
     }
-    Ok(())
 }

@@ -5,7 +5,6 @@ use super::files::{
 };
 use super::{Case, check_over, run};
 use ph_engine::Status;
-use std::test::Fail;
 
 // A check in place of a run.
 pub(super) fn check_of<'a>(words: &'a str, output: &'a str, status: Status) -> Case<'a> {
@@ -15,11 +14,11 @@ pub(super) fn check_of<'a>(words: &'a str, output: &'a str, status: Status) -> C
 }
 
 #[test]
-fn check_of_snapshots(rt: HostRuntime) -> Result<(), Fail> {
-    let boxes = altered(rt.alloc(), TWO, 4, 1)?;
-    let mut cut = Vec::from_slice(rt.alloc(), ONE)?;
+fn check_of_snapshots(rt: HostRuntime) {
+    let boxes = altered(&rt, rt.alloc(), TWO, 4, 1);
+    let mut cut = Vec::from_slice(rt.alloc(), ONE).expect(&rt, "memory");
     cut.truncate(39);
-    let second = migrated(rt.alloc(), TWO)?;
+    let second = migrated(&rt, rt.alloc(), TWO);
     let cases: [(&[u8], &str, Status); 11] = [
         (
             ONE,
@@ -66,18 +65,22 @@ fn check_of_snapshots(rt: HostRuntime) -> Result<(), Fail> {
         (b"", "bad magic\n", Status::Refused),
     ];
     for (bytes, output, status) in cases {
-        let mut files = files_holding(&rt, rt.alloc(), 0, &[("x.pht", bytes)])?;
+        let mut files = files_holding(&rt, rt.alloc(), 0, &[("x.pht", bytes)]);
         let case = check_of("check x.pht", output, status);
-        check_over(&rt, rt.alloc(), &case, &mut files)?;
+        check_over(&rt, rt.alloc(), &case, &mut files);
     }
     let case = check_of("check gone.pht", "error file\n", Status::Refused);
-    check_over(&rt, rt.alloc(), &case, &mut files_failing(rt.alloc(), 0)?)?;
-    Ok(())
+    check_over(
+        &rt,
+        rt.alloc(),
+        &case,
+        &mut files_failing(&rt, rt.alloc(), 0),
+    );
 }
 
 // A file that is too long, files that fail, and a sink whose first write fails. The line is a single write.
 #[test]
-fn checks_that_fail(rt: HostRuntime) -> Result<(), Fail> {
+fn checks_that_fail(rt: HostRuntime) {
     let sizes = "points 2 rows 1 nodes 1 linear 1 cube 0 words 4\n";
     let cases = [
         (39, 0, 0, "error file\n", Status::Refused),
@@ -86,11 +89,10 @@ fn checks_that_fail(rt: HostRuntime) -> Result<(), Fail> {
         (40, 0, 2, sizes, Status::Clean),
     ];
     for (file_bytes, failing_call, failing_write, output, status) in cases {
-        let mut files = files_holding(&rt, rt.alloc(), failing_call, &[("one.pht", ONE)])?;
+        let mut files = files_holding(&rt, rt.alloc(), failing_call, &[("one.pht", ONE)]);
         let mut case = check_of("check one.pht", output, status);
         case.file_bytes = file_bytes;
         case.failing_write = failing_write;
-        check_over(&rt, rt.alloc(), &case, &mut files)?;
+        check_over(&rt, rt.alloc(), &case, &mut files);
     }
-    Ok(())
 }

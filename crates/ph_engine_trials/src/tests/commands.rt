@@ -5,11 +5,10 @@ use ph_engine::{Answer, Engine, Limits};
 use ph_io::{MemoryFiles, MemorySink};
 use ph_script::{CoordBuffer, read_command};
 use ph_steps::Counters;
-use std::alloc::{AllocError, Global};
+use std::alloc::Global;
 use std::marker::Brand;
 use std::process::Abort;
 use std::sync::ledger::{Blank, Ledger};
-use std::test::Fail;
 
 // Does the command of a line. It is refused where its reply is an error.
 fn check_line<V: Ledger, C: Ledger>(
@@ -19,19 +18,19 @@ fn check_line<V: Ledger, C: Ledger>(
     line: &str,
     reply: &str,
     counters: &mut Counters<V, C>,
-) -> Result<(), AllocError> {
+) {
     let limits = Limits {
         script_bytes: 4096,
         file_bytes: 4096,
     };
-    let mut sink = MemorySink::with_room(alloc, 100, 100, Vec::new(alloc))?;
-    let mut files = MemoryFiles::new(alloc, 0, 0, Vec::new(alloc))?;
+    let mut sink = MemorySink::with_room(alloc, 100, 100, Vec::new(alloc)).expect(rt, "memory");
+    let mut files = MemoryFiles::new(alloc, 0, 0, Vec::new(alloc)).expect(rt, "memory");
     let mut coords = CoordBuffer::new();
     assert!(rt; line.len() <= 4096);
     let command = read_command(line.as_bytes(), engine.dims(), &mut coords);
     let Ok(Some(command)) = command else {
         assert!(rt; false, "{line} is no command");
-        return Ok(());
+        return;
     };
     let done = engine.exec(
         alloc,
@@ -47,9 +46,8 @@ fn check_line<V: Ledger, C: Ledger>(
     } else {
         Answer::Good
     };
-    assert_eq!(rt; done, Ok(answer), "{line}");
-    assert_eq!(rt; sink.bytes(), reply.as_bytes(), "{line}");
-    Ok(())
+    assert!(rt; done == Ok(answer), "{line}");
+    assert!(rt; sink.bytes() == reply.as_bytes(), "{line}");
 }
 
 fn check_each<V: Ledger, C: Ledger>(
@@ -58,7 +56,7 @@ fn check_each<V: Ledger, C: Ledger>(
     cases: &[(&str, &str)],
     visits: Blank,
     changes: Blank,
-) -> Result<(), AllocError>
+)
     requires visits { (visits.name ≡ V.name) × (visits.parts ≡ V.parts) × (0 < visits.parts) }
     requires changes { (changes.name ≡ C.name) × (changes.parts ≡ C.parts) × (0 < changes.parts) }
 {
@@ -67,23 +65,22 @@ fn check_each<V: Ledger, C: Ledger>(
     check_lines(rt, alloc, engine, cases, &mut counters)
 }
 
-// The engine is lent, so that it is let go in one place alone: the proof of a function that has one grows with each way out.
+// The engine is lent, so that it is let go in one place alone.
 fn check_lines<V: Ledger, C: Ledger>(
     rt: &impl Abort,
     alloc: Global,
     engine: &mut Engine,
     cases: &[(&str, &str)],
     counters: &mut Counters<V, C>,
-) -> Result<(), AllocError> {
+) {
     for (line, reply) in cases {
-        check_line(rt, alloc, engine, line, reply, counters)?;
+        check_line(rt, alloc, engine, line, reply, counters);
     }
-    Ok(())
 }
 
 // Those of a full table.
 #[test]
-fn each_command_by_itself(rt: HostRuntime) -> Result<(), Fail> {
+fn each_command_by_itself(rt: HostRuntime) {
     let cases = [
         ("open points 2 max 1", "opened\n"),
         ("put 0 0 1", "new\n"),
@@ -98,6 +95,5 @@ fn each_command_by_itself(rt: HostRuntime) -> Result<(), Fail> {
         ("put 5 5 1", "new\n"),
         ("put 6 6 1", "error full\n"),
     ];
-    check_each::<Brand, Brand>(&rt, rt.alloc(), &cases, Blank::new(1), Blank::new(1))?;
-    Ok(())
+    check_each::<Brand, Brand>(&rt, rt.alloc(), &cases, Blank::new(1), Blank::new(1));
 }

@@ -2,8 +2,8 @@
 use super::files::{EMPTY, ONE, THREE, TWO, files_failing, migrated, preset};
 use super::{answer_over, check, check_over, run};
 use ph_engine::Status;
-use std::alloc::{AllocError, Global};
-use std::test::Fail;
+use std::alloc::Global;
+use std::process::Abort;
 
 // Pages that resume between edits: each line, and what is answered to it.
 const PAGES: [(&str, &str); 10] = [
@@ -30,26 +30,26 @@ const ALONE: &[u8] = b"PHT2\x00\x02\x20\x01\
     \x00\x00\x00\x00\x00\x00\x00\x03";
 
 // The lines of the pages whose last byte is among so many, and their replies.
-fn pages_within(alloc: Global, bytes: usize) -> Result<(String, String), AllocError> {
+fn pages_within(rt: &impl Abort, alloc: Global, bytes: usize) -> (String, String) {
     let (mut script, mut output) = (String::new(alloc), String::new(alloc));
     for (line, reply) in PAGES {
         if bytes.saturating_sub(script.len()) < line.len() {
             break;
         }
-        script.push_str(line)?;
-        output.push_str(reply)?;
+        script.push_str(line).expect(rt, "memory");
+        output.push_str(reply).expect(rt, "memory");
     }
-    Ok((script, output))
+    (script, output)
 }
 
 // The lines that came whole are answered. The last read is the one that finds the end, and behind it there is none to fail.
 #[test]
-fn each_read_fails_in_turn(rt: HostRuntime) -> Result<(), Fail> {
-    let (script, _) = pages_within(rt.alloc(), usize::MAX)?;
+fn each_read_fails_in_turn(rt: HostRuntime) {
+    let (script, _) = pages_within(&rt, rt.alloc(), usize::MAX);
     let reads = script.len().div_ceil(PIECE).saturating_add(1);
     for read in 1..=reads.saturating_add(1) {
         let came = read.saturating_sub(1).saturating_mul(PIECE);
-        let (_, front) = pages_within(rt.alloc(), came)?;
+        let (_, front) = pages_within(&rt, rt.alloc(), came);
         let status = if read <= reads {
             Status::ReadFault
         } else {
@@ -58,43 +58,44 @@ fn each_read_fails_in_turn(rt: HostRuntime) -> Result<(), Fail> {
         let mut case = run(script.as_str(), front.as_str(), status);
         case.piece = PIECE;
         case.failing_read = read as u64;
-        check(&rt, rt.alloc(), &case)?;
+        check(&rt, rt.alloc(), &case);
     }
-    Ok(())
 }
 
 // What was written is a front of the replies, and longer by 1 to 3 bytes than in the run before.
 #[test]
-fn each_write_fails_in_turn(rt: HostRuntime) -> Result<(), Fail> {
-    let (script, output) = pages_within(rt.alloc(), usize::MAX)?;
+fn each_write_fails_in_turn(rt: HostRuntime) {
+    let (script, output) = pages_within(&rt, rt.alloc(), usize::MAX);
     let mut case = run(script.as_str(), "", Status::WriteFault);
     case.written_piece = 3;
     let (mut written, mut last) = (0, Status::WriteFault);
     'writes: for write in 1..=output.len() {
         case.failing_write = write as u64;
-        let mut files = files_failing(rt.alloc(), 0)?;
-        let (status, sink) = answer_over(&rt, rt.alloc(), &case, &mut files)?;
+        let mut files = files_failing(&rt, rt.alloc(), 0);
+        let (status, sink) = answer_over(&rt, rt.alloc(), &case, &mut files);
         let front = sink.bytes();
         assert!(rt; output.as_bytes().starts_with(front), "write {write}");
         last = status;
         if status == Status::Clean {
-            assert_eq!(rt; front.len(), output.len());
+            assert!(rt; front.len() == output.len());
             break 'writes;
         }
-        assert_eq!(rt; status, Status::WriteFault, "write {write}");
+        assert!(rt; status == Status::WriteFault, "write {write}");
         let more = front.len().saturating_sub(written);
         assert!(rt; more <= 3 && (0 < more || write == 1), "write {write}");
         written = front.len();
     }
-    assert_eq!(rt; last, Status::Clean);
-    Ok(())
+    assert!(rt; last == Status::Clean);
 }
 
 // A load that fails leaves the table without rows, and a save that fails the file as it was. Of the calls the first is the
 // load, those of either save come one behind the other, and the run behind the last one has no fault.
 #[test]
-fn each_call_of_the_files_fails_in_turn(rt: HostRuntime) -> Result<(), Fail> {
-    let (two, three) = (migrated(rt.alloc(), TWO)?, migrated(rt.alloc(), THREE)?);
+fn each_call_of_the_files_fails_in_turn(rt: HostRuntime) {
+    let (two, three) = (
+        migrated(&rt, rt.alloc(), TWO),
+        migrated(&rt, rt.alloc(), THREE),
+    );
     let script = "load two.pht\nput 0 1 3\nsave three.pht\ndel 0 1\nsave two2.pht\n";
     let cases: [(&str, &[u8], &[u8], Status); 4] = [
         (
@@ -127,18 +128,18 @@ fn each_call_of_the_files_fails_in_turn(rt: HostRuntime) -> Result<(), Fail> {
         let case = run(script, output, status);
         let mut is_met = false;
         'calls: for next in call..100 {
-            let mut files = files_failing(rt.alloc(), next)?;
+            let mut files = files_failing(&rt, rt.alloc(), next);
             preset(&rt, &mut files, "two.pht", TWO);
             preset(&rt, &mut files, "three.pht", ONE);
             preset(&rt, &mut files, "two2.pht", ONE);
-            let (ended, sink) = answer_over(&rt, rt.alloc(), &case, &mut files)?;
+            let (ended, sink) = answer_over(&rt, rt.alloc(), &case, &mut files);
             if sink.bytes() != output.as_bytes() {
                 call = next;
                 break 'calls;
             }
-            assert_eq!(rt; ended, status, "call {next}");
-            assert_eq!(rt; files.get("three.pht"), Some(first), "call {next}");
-            assert_eq!(rt; files.get("two2.pht"), Some(second), "call {next}");
+            assert!(rt; ended == status, "call {next}");
+            assert!(rt; files.get("three.pht") == Some(first), "call {next}");
+            assert!(rt; files.get("two2.pht") == Some(second), "call {next}");
             is_met = true;
             if ended == Status::Clean {
                 break 'calls;
@@ -146,19 +147,18 @@ fn each_call_of_the_files_fails_in_turn(rt: HostRuntime) -> Result<(), Fail> {
         }
         assert!(rt; is_met, "{output}");
     }
-    Ok(())
 }
 
 // A file of version 1 and one of version 2, of 64 bytes each.
 #[test]
-fn each_cut_of_a_snapshot(rt: HostRuntime) -> Result<(), Fail> {
-    let second = migrated(rt.alloc(), TWO)?;
+fn each_cut_of_a_snapshot(rt: HostRuntime) {
+    let second = migrated(&rt, rt.alloc(), TWO);
     for bytes in [TWO, second.as_slice()] {
         for length in 0..=64 {
-            let mut files = files_failing(rt.alloc(), 0)?;
+            let mut files = files_failing(&rt, rt.alloc(), 0);
             let cut = &bytes[..length.min(bytes.len())];
             preset(&rt, &mut files, "x.pht", cut);
-            let header = format!(in rt.alloc(); "bad header {length}\n")?;
+            let header = format!(in rt.alloc(); "bad header {length}\n").expect(&rt, "memory");
             let (output, status) = match length {
                 0..=3 => ("bad magic\n", Status::Refused),
                 4..=7 => (header.as_str(), Status::Refused),
@@ -167,8 +167,7 @@ fn each_cut_of_a_snapshot(rt: HostRuntime) -> Result<(), Fail> {
                 _ => ("loaded 2\n", Status::Clean),
             };
             let case = run("load x.pht\n", output, status);
-            check_over(&rt, rt.alloc(), &case, &mut files)?;
+            check_over(&rt, rt.alloc(), &case, &mut files);
         }
     }
-    Ok(())
 }

@@ -4,9 +4,8 @@ use super::records::TWO_RECORDS;
 use super::{Trial, check_over, run};
 use ph_engine::Status;
 use ph_io::MemoryFiles;
-use std::alloc::{AllocError, Global};
+use std::alloc::Global;
 use std::process::Abort;
-use std::test::Fail;
 
 // A table of points of two dimensions without rows, as it is saved.
 pub(super) const EMPTY: &[u8] = b"PHT2\x00\x02\x20\x00";
@@ -77,35 +76,36 @@ pub(super) const EIGHT_BY_EIGHT: &[u8] = b"PHT2\x01\x10\x01\x01\
 
 // The same bytes but for one.
 pub(super) fn altered(
+    rt: &impl Abort,
     alloc: Global,
     bytes: &[u8],
     at: usize,
     byte: u8,
-) -> Result<Vec<u8>, AllocError> {
-    let mut altered = Vec::from_slice(alloc, bytes)?;
+) -> Vec<u8> {
+    let mut altered = Vec::from_slice(alloc, bytes).expect(rt, "memory");
     for (i, old) in altered.as_mut_slice().iter_mut().enumerate() {
         if i == at {
             *old = byte;
         }
     }
-    Ok(altered)
+    altered
 }
 
 // The same records behind the header of version 2, where they stand behind one of version 1, and else the same bytes.
-pub(super) fn migrated(alloc: Global, bytes: &[u8]) -> Result<Vec<u8>, AllocError> {
+pub(super) fn migrated(rt: &impl Abort, alloc: Global, bytes: &[u8]) -> Vec<u8> {
     if !bytes.starts_with(b"PHT1") {
-        return Vec::from_slice(alloc, bytes);
+        return Vec::from_slice(alloc, bytes).expect(rt, "memory");
     }
-    let mut second = Vec::from_slice(alloc, HEADER)?;
+    let mut second = Vec::from_slice(alloc, HEADER).expect(rt, "memory");
     for byte in bytes.iter().skip(8) {
-        second.push(*byte)?;
+        second.push(*byte).expect(rt, "memory");
     }
-    Ok(second)
+    second
 }
 
 // Room for a few files, of whose calls one fails; none where its number is 0.
-pub(super) fn files_failing(alloc: Global, call: u64) -> Result<MemoryFiles, AllocError> {
-    MemoryFiles::new(alloc, 6, 4096, vec![in alloc; call]?)
+pub(super) fn files_failing(rt: &impl Abort, alloc: Global, call: u64) -> MemoryFiles {
+    MemoryFiles::new(alloc, 6, 4096, vec![in alloc; call].expect(rt, "memory")).expect(rt, "memory")
 }
 
 pub(super) fn preset(rt: &impl Abort, files: &mut MemoryFiles, name: &str, bytes: &[u8]) {
@@ -119,12 +119,12 @@ pub(super) fn files_holding(
     alloc: Global,
     call: u64,
     held: &[(&str, &[u8])],
-) -> Result<MemoryFiles, AllocError> {
-    let mut files = files_failing(alloc, call)?;
+) -> MemoryFiles {
+    let mut files = files_failing(rt, alloc, call);
     for (name, bytes) in held {
         preset(rt, &mut files, name, bytes);
     }
-    Ok(files)
+    files
 }
 
 // Checks scripts, each over these files.
@@ -133,18 +133,17 @@ pub(super) fn check_each_over(
     alloc: Global,
     held: &[(&str, &[u8])],
     trials: &[Trial],
-) -> Result<(), AllocError> {
+) {
     for (script, output, status) in trials {
-        let mut files = files_holding(rt, alloc, 0, held)?;
-        check_over(rt, alloc, &run(script, output, *status), &mut files)?;
+        let mut files = files_holding(rt, alloc, 0, held);
+        check_over(rt, alloc, &run(script, output, *status), &mut files);
     }
-    Ok(())
 }
 
 // What a load and what a check say of two rows with one byte of the header changed. A check asks for no kind, dimensions or width.
 #[test]
-fn altered_headers(rt: HostRuntime) -> Result<(), Fail> {
-    let second = migrated(rt.alloc(), TWO)?;
+fn altered_headers(rt: HostRuntime) {
+    let second = migrated(&rt, rt.alloc(), TWO);
     let cases = [
         (TWO, 3, 0x32, "bad dims\n", "bad extra 8\n"),
         (TWO, 3, 0x33, "bad magic\n", "bad magic\n"),
@@ -159,23 +158,22 @@ fn altered_headers(rt: HostRuntime) -> Result<(), Fail> {
         (&second, 7, 0x00, "bad extra 8\n", "bad extra 8\n"),
     ];
     for (bytes, at, byte, loaded, checked) in cases {
-        let changed = altered(rt.alloc(), bytes, at, byte)?;
+        let changed = altered(&rt, rt.alloc(), bytes, at, byte);
         let held = [("x.pht", changed.as_slice())];
-        let mut files = files_holding(&rt, rt.alloc(), 0, &held)?;
+        let mut files = files_holding(&rt, rt.alloc(), 0, &held);
         let case = run("load x.pht\n", loaded, Status::Refused);
-        check_over(&rt, rt.alloc(), &case, &mut files)?;
+        check_over(&rt, rt.alloc(), &case, &mut files);
         let case = check_of("check x.pht", checked, Status::Refused);
-        check_over(&rt, rt.alloc(), &case, &mut files)?;
+        check_over(&rt, rt.alloc(), &case, &mut files);
     }
-    Ok(())
 }
 
 #[test]
-fn refused_loads_keep_the_table(rt: HostRuntime) -> Result<(), Fail> {
-    let padded = altered(rt.alloc(), ONE, 31, 1)?;
-    let mut longer = Vec::from_slice(rt.alloc(), ONE)?;
-    longer.push(0)?;
-    let mut shorter = Vec::from_slice(rt.alloc(), ONE)?;
+fn refused_loads_keep_the_table(rt: HostRuntime) {
+    let padded = altered(&rt, rt.alloc(), ONE, 31, 1);
+    let mut longer = Vec::from_slice(rt.alloc(), ONE).expect(&rt, "memory");
+    longer.push(0).expect(&rt, "memory");
+    let mut shorter = Vec::from_slice(rt.alloc(), ONE).expect(&rt, "memory");
     shorter.truncate(39);
     let held: [(&str, &[u8]); 5] = [
         ("cut.pht", shorter.as_slice()),
@@ -191,14 +189,13 @@ fn refused_loads_keep_the_table(rt: HostRuntime) -> Result<(), Fail> {
         loaded 1\nvalue 17\nnone\n",
         Status::Refused,
     )];
-    check_each_over(&rt, rt.alloc(), &held, &trials)?;
-    Ok(())
+    check_each_over(&rt, rt.alloc(), &held, &trials);
 }
 
 // Of other kinds, of other dimensions, and with more rows than there may be.
 #[test]
-fn loads_into_other_slots(rt: HostRuntime) -> Result<(), Fail> {
-    let points = altered(rt.alloc(), REVERSED, 4, 0)?;
+fn loads_into_other_slots(rt: HostRuntime) {
+    let points = altered(&rt, rt.alloc(), REVERSED, 4, 0);
     let held = [
         ("rev.pht", REVERSED),
         ("points.pht", points.as_slice()),
@@ -221,21 +218,19 @@ fn loads_into_other_slots(rt: HostRuntime) -> Result<(), Fail> {
             Status::Refused,
         ),
     ];
-    check_each_over(&rt, rt.alloc(), &held, &trials)?;
-    Ok(())
+    check_each_over(&rt, rt.alloc(), &held, &trials);
 }
 
 #[test]
-fn file_too_long(rt: HostRuntime) -> Result<(), Fail> {
-    let mut files = files_holding(&rt, rt.alloc(), 0, &[("one.pht", ONE)])?;
+fn file_too_long(rt: HostRuntime) {
+    let mut files = files_holding(&rt, rt.alloc(), 0, &[("one.pht", ONE)]);
     let mut case = run("load one.pht\n", "error file\n", Status::Refused);
     case.file_bytes = 39;
-    check_over(&rt, rt.alloc(), &case, &mut files)?;
+    check_over(&rt, rt.alloc(), &case, &mut files);
     case.file_bytes = 40;
     case.output = "loaded 1\n";
     case.status = Status::Clean;
-    check_over(&rt, rt.alloc(), &case, &mut files)?;
-    Ok(())
+    check_over(&rt, rt.alloc(), &case, &mut files);
 }
 
 // How many of the first calls of files are to fail, one in each run, and a script and what is answered to it in each.
@@ -264,17 +259,16 @@ const FAILING: [(u64, &str, &str); 4] = [
 
 // Whichever call fails, the files that are there stay as they were, and so does the table.
 #[test]
-fn failing_calls(rt: HostRuntime) -> Result<(), Fail> {
+fn failing_calls(rt: HostRuntime) {
     let held: [(&str, &[u8]); 2] = [("one.pht", ONE), ("b.csv", TWO_RECORDS)];
     for (calls, script, output) in FAILING {
         let case = run(script, output, Status::Refused);
         for call in 1..=calls {
-            let mut files = files_holding(&rt, rt.alloc(), call, &held)?;
-            check_over(&rt, rt.alloc(), &case, &mut files)?;
+            let mut files = files_holding(&rt, rt.alloc(), call, &held);
+            check_over(&rt, rt.alloc(), &case, &mut files);
             for (name, bytes) in &held {
-                assert_eq!(rt; files.get(name), Some(*bytes), "{name} of call {call}");
+                assert!(rt; files.get(name) == Some(*bytes), "{name} of call {call}");
             }
         }
     }
-    Ok(())
 }

@@ -5,8 +5,7 @@ use super::files::preset;
 use super::{Trial, check, check_over, run};
 use ph_engine::Status;
 use ph_io::MemoryFiles;
-use std::alloc::AllocError;
-use std::test::Fail;
+use std::process::Abort;
 
 // Scripts about the sizes of a tree.
 pub(super) const SIZES: [Trial; 2] = [
@@ -36,49 +35,56 @@ pub(super) const SIZES: [Trial; 2] = [
 
 // A side of the square has one point of its diagonal, far down.
 #[test]
-fn diagonal_window(rt: HostRuntime) -> Result<(), Fail> {
+fn diagonal_window(rt: HostRuntime) {
     let mut script = String::new(rt.alloc());
     let mut output = String::new(rt.alloc());
     for i in 0..256 {
-        script.push_str(format!(in rt.alloc(); "put {i} {i} 1\n")?.as_str())?;
-        output.push_str("new\n")?;
+        let put = format!(in rt.alloc(); "put {i} {i} 1\n").expect(&rt, "memory");
+        append(&rt, &mut script, put.as_str());
+        append(&rt, &mut output, "new\n");
     }
-    script.push_str("stats\nwindow 0 0 255 0\n")?;
-    output.push_str("rows 256 nodes 256 linear 256 cube 0 words 769\nrow 0 0 1\nend 1\n")?;
+    append(&rt, &mut script, "stats\nwindow 0 0 255 0\n");
+    append(
+        &rt,
+        &mut output,
+        "rows 256 nodes 256 linear 256 cube 0 words 769\nrow 0 0 1\nend 1\n",
+    );
     check(
         &rt,
         rt.alloc(),
         &run(script.as_str(), output.as_str(), Status::Clean),
-    )?;
-    Ok(())
+    );
 }
 
 // Each point of zeros and ones.
 #[test]
-fn crowded_cube(rt: HostRuntime) -> Result<(), Fail> {
-    let mut script = String::from_str(rt.alloc(), "open points 8\n")?;
-    let mut output = String::from_str(rt.alloc(), "opened\n")?;
+fn crowded_cube(rt: HostRuntime) {
+    let mut script = String::from_str(rt.alloc(), "open points 8\n").expect(&rt, "memory");
+    let mut output = String::from_str(rt.alloc(), "opened\n").expect(&rt, "memory");
     for corner in 0..256 {
-        script.push_str("put ")?;
-        push_corner(&mut script, corner, 8, ' ')?;
-        script.push_str("1\n")?;
-        output.push_str("new\n")?;
+        append(&rt, &mut script, "put ");
+        push_corner(&rt, &mut script, corner, 8, ' ');
+        append(&rt, &mut script, "1\n");
+        append(&rt, &mut output, "new\n");
     }
-    script.push_str("stats\n")?;
-    output.push_str("rows 256 nodes 2 linear 1 cube 1 words 271\n")?;
+    append(&rt, &mut script, "stats\n");
+    append(
+        &rt,
+        &mut output,
+        "rows 256 nodes 2 linear 1 cube 1 words 271\n",
+    );
     let mut case = run(script.as_str(), output.as_str(), Status::Clean);
     case.script_bytes = 8000;
-    check(&rt, rt.alloc(), &case)?;
-    Ok(())
+    check(&rt, rt.alloc(), &case);
 }
 
 // The least node of sixteen dimensions that is smaller as a cube.
 #[test]
-fn crowded_cube_of_sixteen_dimensions(rt: HostRuntime) -> Result<(), Fail> {
+fn crowded_cube_of_sixteen_dimensions(rt: HostRuntime) {
     let mut records = String::new(rt.alloc());
     for corner in 0..7710 {
-        push_corner(&mut records, corner, 16, ',')?;
-        records.push_str("1\n")?;
+        push_corner(&rt, &mut records, corner, 16, ',');
+        append(&rt, &mut records, "1\n");
     }
     let script = "open points 16 bits 62\nimport corners.csv\nstats\n\
         put 0 0 0 1 1 1 1 0 0 0 0 1 1 1 1 0 1\nstats\nsave cube.pht\n\
@@ -87,21 +93,26 @@ fn crowded_cube_of_sixteen_dimensions(rt: HostRuntime) -> Result<(), Fail> {
         new\nrows 7711 nodes 2 linear 1 cube 1 words 9777\nsaved 78224\n\
         gone 1\nrows 7710 nodes 2 linear 2 cube 0 words 9776\n\
         loaded 7711\nrows 7711 nodes 2 linear 1 cube 1 words 9777\n";
-    let mut files = MemoryFiles::new(rt.alloc(), 2, 300_000, Vec::new(rt.alloc()))?;
+    let mut files = MemoryFiles::new(rt.alloc(), 2, 300_000, Vec::new(rt.alloc())).expect(
+        &rt, "memory",
+    );
     preset(&rt, &mut files, "corners.csv", records.as_bytes());
     let mut case = run(script, output, Status::Clean);
     case.file_bytes = 300_000;
-    check_over(&rt, rt.alloc(), &case, &mut files)?;
-    Ok(())
+    check_over(&rt, rt.alloc(), &case, &mut files);
 }
 
 // So many binary digits of a number, each with a mark behind it.
-fn push_corner(text: &mut String, corner: u32, dims: u32, mark: char) -> Result<(), AllocError>
+fn push_corner(rt: &impl Abort, text: &mut String, corner: u32, dims: u32, mark: char)
     requires { dims ≤ 32 }
 {
     for place in (0..dims).rev() {
-        text.push(if corner >> place & 1 == 1 { '1' } else { '0' })?;
-        text.push(mark)?;
+        text.push(if corner >> place & 1 == 1 { '1' } else { '0' })
+            .expect(rt, "memory");
+        text.push(mark).expect(rt, "memory");
     }
-    Ok(())
+}
+
+fn append(rt: &impl Abort, text: &mut String, more: &str) {
+    text.push_str(more).expect(rt, "memory");
 }

@@ -1,7 +1,6 @@
 //! Runs of generated commands.
 use super::check_line;
 use ph_engine::Status;
-use std::test::Fail;
 
 // Of none, of three and of many.
 const SOAKS: [(&str, &str); 3] = [
@@ -20,9 +19,8 @@ const SOAKS: [(&str, &str); 3] = [
 ];
 
 #[test]
-fn soaks(rt: HostRuntime) -> Result<(), Fail> {
+fn soaks(rt: HostRuntime) {
     for (words, line) in SOAKS {
-        check_line(&rt, rt.alloc(), words, line, Status::Clean)?;
+        check_line(&rt, rt.alloc(), words, line, Status::Clean);
     }
-    Ok(())
 }
