@@ -4,13 +4,9 @@
 #![tactic(auto)]
 
 mod bodies;
-mod comparisons;
 mod differences;
-#[cfg(test)]
-mod tests;
 mod words;
 
 pub use bodies::{body_above, body_address, body_below, join};
-pub use comparisons::{is_below, is_between};
 pub use differences::top_difference;
 pub use words::{address_digit, digit, digits_above, digits_below};

@@ -1,5 +1,5 @@
 -- Runs of digits that are moved together, and runs that are moved apart with fields between them.
-use Rattle.std.proofs.Common.{◌≡◌, ℕ, ◌+◌, ◌-◌, ◌*◌, ◌^◌, ◌≤◌, refl, sym, ◌∙◌, ap, subst, arith, List, length}
+use Rattle.std.proofs.Common.{◌≡◌, ℕ, ◌+◌, ◌*◌, ◌^◌, ◌≤◌, refl, sym, ◌∙◌, ap, subst, arith, List, length}
 use Rattle.ph_specs.specs.Digits.{digits_at}
 use Rattle.ph_specs.proofs.laws.WordDigits.{digits-parts}
 use Rattle.ph_bits.specs.Moved.{IsMoved}

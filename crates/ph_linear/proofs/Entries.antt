@@ -103,9 +103,6 @@ first-at xs a i l f g =
 
 -- ---- ranks
 
-mark : Bool → ℕ
-mark t = if t then 1 else 0
-
 pub count-more : (ks ads : List ℕ) (bs : List (List ℕ)) (n i : ℕ) → length ks ≡ n → length ads ≡ n → length bs ≡ n → i < n
     → children_in (take (suc i) (read_linear ks ads bs)) ≡ children_in (take i (read_linear ks ads bs)) + (if slice_index_or ks i 0 == 1 then 1 else 0)
 count-more [] ads bs n i e f g l = absurd (omega (arith, e, l))

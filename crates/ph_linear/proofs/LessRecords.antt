@@ -6,7 +6,7 @@ use Rattle.std.specs.List.{AllByRecursion as Each}
 use Rattle.std.proofs.Math.Nat.{mul-le-mul_left, pow-le-pow_right}
 use Rattle.std.proofs.lemmas.List.{take_at, drop-drop, length-drop, length-take-le}
 use Rattle.std.proofs.lemmas.Slice.{drop-append-drop}
-use Rattle.ph_specs.specs.Digits.{Field, field, number_of, number_after, digits_of, words_for, words_of}
+use Rattle.ph_specs.specs.Digits.{Field, field, number_of, digits_of, words_for, words_of}
 use Rattle.ph_specs.specs.Layout.{IsRecord, entries_as, values_as, AreRising}
 use Rattle.ph_specs.specs.Node.{Flat}
 use Rattle.ph_specs.specs.NodeSize.{points_in}
@@ -16,20 +16,15 @@ use Rattle.ph_specs.proofs.lemmas.LayoutTables.{children-few, table-digits}
 use Rattle.ph_specs.proofs.lemmas.Numbers.{length-words_of}
 use Rattle.ph_bits.specs.Edits.{edited_as}
 use Rattle.ph_bits.specs.declared.edits.Edit.{Edit}
-use Rattle.ph_linear.specs.Edited.{IsOutline, column_edited, new_values}
+use Rattle.ph_linear.specs.Edited.{IsOutline, new_values}
 use Rattle.ph_linear.specs.Resized.{IsClosable, points_less, values_closed, with_less}
-use Rattle.ph_linear.specs.Runs.{start, run, AreColumnsOf, runs_without, with_fields}
-use Rattle.ph_linear.specs.Written.{kind_fields, address_fields}
-use Rattle.ph_linear.specs.declared.copies.Column.{Column}
+use Rattle.ph_linear.specs.Runs.{start, run, AreColumnsOf, runs_around, runs_without, with_fields}
 use Rattle.ph_linear.specs.declared.outlines.Outline.{Outline}
 use Rattle.ph_linear.specs.declared.tables.Columns.{Columns}
-use Rattle.ph_linear.proofs.ClosedColumns.{ordered, ordered-at}
 use Rattle.ph_linear.proofs.EditedEntries.{length-new, values-put, points-within}
-use Rattle.ph_linear.proofs.EditedTables.{kinds-edited, addresses-edited, bodies-edited}
+use Rattle.ph_linear.proofs.EditedRuns.{edited-number}
 use Rattle.ph_linear.proofs.FieldWords.{words-equal}
 use Rattle.ph_linear.proofs.PutRecords.{points-more}
-use Rattle.ph_linear.proofs.RunNumbers.{column-runs, runs-meet, start-first, starts, addresses-at, bodies-at}
-use Rattle.ph_linear.proofs.Writing.{table-number}
 
 -- how many digits are left of columns of n entries
 sizes : (k kw a aw b bw n p : ℕ) → k ≡ 64 → kw ≡ 1 → a ≡ k + n * kw → b ≡ a + n * aw → p < n
@@ -93,79 +88,16 @@ module _ (dims : ℕ) (words : List ℕ) (e : Edit) (r : IsRecord false dims wor
       flat : (x y z w s : ℕ) → x + y + z + w ≡ s → x + (y + (z + (w + 0))) ≡ s
       flat x y z w s e = omega (arith, e)
 
-  none : (A : Type 0) (x : A) → replicate e.more x ≡ []
-  none A x = ap (λ t. replicate t x) more
-
-  -- a column without the entry, as two runs
-  two-runs : (c : Column) → c.count ≡ cs.kinds.count →
-      column_edited words c e [] ≡ run words (start c 0) (start c e.place) ∷ run words (start c (e.place + 1))
-      (start c cs.kinds.count) ∷ []
-  two-runs c m =
-      column-runs words c e [] (omega (arith, l, m, cols.many))
-      ∙ ap {B = List Field} (λ t. run words (start c 0) (start c e.place) ∷ run words (start c (e.place + t)) (start c c.count) ∷ []) less
-      ∙ ap {B = List Field} (λ t. run words (start c 0) (start c e.place) ∷ run words (start c (e.place + 1)) (start c t) ∷ []) m
-
   pub without-number : number_of (runs_without words cs e.place) ≡ number_of (linear_table dims (first_in words).level (edited_as false dims words e))
   without-number =
-      let c = cols.columns in
-      let p = e.place in
-      let o = ordered words cs p c (omega (arith, place-low, cols.many)) in
-      let u = ordered-at words cs p c (omega (arith, place-low, cols.many)) in
-      let a : ℕ = start cs.addresses 0 in
-      let d : ℕ = start cs.bodies 0 in
-      let k-end : start cs.kinds cs.kinds.count ≡ start cs.addresses 0 = sym (start-first cs.addresses ∙ c.addresses) in
-      let a-end : start cs.addresses cs.kinds.count ≡ start cs.bodies 0 = sym (start-first cs.bodies ∙ c.bodies) in
-      let begin : start cs.kinds 0 ≡ 64 = start-first cs.kinds ∙ c.begin in
-      let ks = column_edited words cs.kinds e [] in
-      let addrs = column_edited words cs.addresses e [] in
-      let bs = column_edited words cs.bodies e [] in
-      let k-runs : column_edited words cs.kinds e [] ≡ run words 64 (start cs.kinds p) ∷ run words (start cs.kinds (p + 1)) a ∷ [] =
-      two-runs cs.kinds refl
-      ∙ ap {B = List Field} (λ t. run words t (start cs.kinds p) ∷ run words (start cs.kinds (p + 1)) (start cs.kinds cs.kinds.count) ∷ []) begin
-      ∙ ap {B = List Field} (λ t. run words 64 (start cs.kinds p) ∷ run words (start cs.kinds (p + 1)) t ∷ []) k-end in
-      let a-runs : column_edited words cs.addresses e [] ≡ run words a (start cs.addresses p) ∷ run words (start cs.addresses (p + 1)) d ∷ [] =
-      two-runs cs.addresses c.addresses_many ∙ ap {B = List Field} (λ t. run words a (start cs.addresses p) ∷ run words (start cs.addresses (p + 1)) t ∷ []) a-end in
-      let b-runs : column_edited words cs.bodies e [] ≡ run words d (start cs.bodies p) ∷ run words (start cs.bodies (p + 1)) (start cs.bodies cs.bodies.count) ∷ [] =
-      two-runs cs.bodies c.bodies_many ∙
-      ap {B = List Field} (λ t. run words d (start cs.bodies p) ∷ run words (start cs.bodies (p + 1))
-      (start cs.bodies t) ∷ []) (sym c.bodies_many) in
-      let table : number_after (number_after (number_after 0 ks) addrs) bs ≡ number_of gs =
-      ap (λ t. number_after (number_after (number_after 0 (column_edited words cs.kinds e t)) addrs) bs)
-      (sym (none Field (field cs.kinds.width (if e.entry.child then 1 else 0))))
-      ∙ ap (λ t. number_after (number_after t addrs) bs) (kinds-edited dims words e r h l cs.kinds 0 c.begin c.one cols.many)
-      ∙ ap (λ t. number_after (number_after (number_after 0 (kind_fields es)) (column_edited words cs.addresses e t))
-      bs) (sym (none Field (field cs.addresses.width e.entry.addr)))
-      ∙ ap (λ t. number_after t bs) (addresses-edited dims words e r h l cs.addresses
-      (number_after 0 (kind_fields es)) (addresses-at dims words cs cols) cols.addresses_wide (c.addresses_many ∙ cols.many))
-      ∙ ap (λ t. number_after (number_after (number_after 0 (kind_fields es)) (address_fields dims es))
-      (column_edited words cs.bodies e (bodies (first_in words).level t))) (sym (none (List ℕ) (take dims e.entry.body)))
-      ∙ bodies-edited dims words e r h l cs.bodies
-      (number_after (number_after 0 (kind_fields es)) (address_fields dims es)) (bodies-at dims words cs cols) cols.bodies_wide
-      (c.bodies_many ∙ cols.many)
-      ∙ table-number dims (first_in words).level 0 es in
-      let r0 = run words 64 (start cs.kinds p) in
-      let r1 = run words (start cs.kinds (p + 1)) (start cs.addresses p) in
-      let r3 = run words (start cs.bodies (p + 1)) (start cs.bodies cs.bodies.count) in
-      let next : e.place + 1 ≤ cs.kinds.count = omega (arith, place-low, cols.many) in
-      let i1 : start cs.kinds (p + 1) ≤ start cs.addresses 0 = omega (arith, k-end, starts cs.kinds (p + 1) cs.kinds.count next) in
-      let i2 : start cs.addresses 0 ≤ start cs.addresses p = low cs.addresses p in
-      let i3 : start cs.addresses p ≤ 64 * length words = omega (arith, o.bodies, o.until, o.inside) in
-      let i4 : start cs.addresses (p + 1) ≤ start cs.bodies 0 = omega (arith, a-end, starts cs.addresses (p + 1) cs.kinds.count next) in
-      let i5 : start cs.bodies 0 ≤ start cs.bodies p = low cs.bodies p in
-      let i6 : start cs.bodies p ≤ 64 * length words = omega (arith, o.until, o.inside) in
+      let fk : Field = field cs.kinds.width (if e.entry.child then 1 else 0) in
+      let fa : Field = field cs.addresses.width e.entry.addr in
+      let row : List ℕ = take dims e.entry.body in
       sym
-      (runs-meet words (number_after 0 (r0 ∷ [])) (start cs.kinds (p + 1)) a (start cs.addresses p)
-      (run words (start cs.addresses (p + 1)) d ∷ run words d (start cs.bodies p) ∷ r3 ∷ []) i1 i2 i3
-      ∙ runs-meet words (number_after 0 (r0 ∷ r1 ∷ [])) (start cs.addresses (p + 1)) d (start cs.bodies p) (r3 ∷ []) i4 i5 i6)
-      ∙ sym
-      (ap (λ t. number_after (number_after (number_after 0 t) addrs) bs) k-runs
-      ∙ ap (λ t. number_after (number_after (number_after 0 (r0 ∷ run words (start cs.kinds (p + 1)) a ∷ [])) t) bs) a-runs
-      ∙ ap (λ t. number_after (number_after (number_after 0 (r0 ∷ run words (start cs.kinds (p + 1)) a ∷ []))
-      (run words a (start cs.addresses p) ∷ run words (start cs.addresses (p + 1)) d ∷ [])) t) b-runs)
-      ∙ table
-    where
-      low : (c : Column) (i : ℕ) → start c 0 ≤ start c i
-      low c i = omega arith
+      (ap (λ t. number_of (runs_around words cs e.place (e.place + t) (replicate e.more fk) (replicate e.more fa)
+      (bodies (first_in words).level (replicate e.more row)))) less
+      ∙ ap (λ t. number_of (runs_around words cs e.place (e.place + 1) (replicate t fk) (replicate t fa) (bodies (first_in words).level (replicate t row)))) more)
+      ∙ edited-number dims words e r h l cs cols
 
   -- ---- the values
 

@@ -17,6 +17,7 @@ pub mod FieldWords
 pub mod ClosedRuns
 pub mod ClosedColumns
 pub mod ClosedValues
+mod EditedRuns
 pub mod LessRecords
 pub mod OpenedColumns
 pub mod OpenedValues

@@ -1,11 +1,11 @@
 -- A record with a new point entry: its columns and its values are moved apart.
 use Rattle.std.proofs.Common.{◌≡◌, ℕ, suc, ◌+◌, ◌-◌, ◌*◌, ◌/◌, ◌^◌, ◌≤◌, ◌<◌, refl, sym, ◌∙◌, ap, arith, List, [], ◌∷◌, ◌++◌}
-use Rattle.std.proofs.Common.{length, length-append, take, drop, replicate, slice_set, slice_index_or, false}
+use Rattle.std.proofs.Common.{length, length-append, take, drop, replicate, slice_set, slice_index_or, Bool, false}
 use Rattle.std.specs.Prelude.{if◌then◌else◌}
 use Rattle.std.specs.List.{AllByRecursion as Each}
 use Rattle.std.proofs.Math.Nat.{mul-le-mul_left}
 use Rattle.std.proofs.lemmas.List.{append-nil, take-append-drop, length-drop, length-take-le}
-use Rattle.ph_specs.specs.Digits.{Field, field, number_of, number_after, digits_of, digits_at, words_for, words_of}
+use Rattle.ph_specs.specs.Digits.{Field, field, number_of, digits_of, digits_at, words_for, words_of}
 use Rattle.ph_specs.specs.Layout.{IsRecord, entries_as, values_as, AreRising}
 use Rattle.ph_specs.specs.Node.{Flat}
 use Rattle.ph_specs.specs.NodeSize.{points_in}
@@ -16,19 +16,16 @@ use Rattle.ph_specs.proofs.lemmas.LayoutTables.{children-few, table-digits}
 use Rattle.ph_specs.proofs.lemmas.Numbers.{length-words_of}
 use Rattle.ph_bits.specs.Edits.{edited_as}
 use Rattle.ph_bits.specs.declared.edits.Edit.{Edit}
-use Rattle.ph_linear.specs.Edited.{IsOutline, column_edited, new_values}
-use Rattle.ph_linear.specs.Runs.{start, run, AreColumnsOf, digits_more, runs_with, with_fields}
-use Rattle.ph_linear.specs.Written.{kind_fields, address_fields}
-use Rattle.ph_linear.specs.declared.copies.Column.{Column}
+use Rattle.ph_linear.specs.Edited.{IsOutline, new_values}
+use Rattle.ph_linear.specs.Runs.{start, run, runs_around, AreColumnsOf, digits_more, runs_with, with_fields}
 use Rattle.ph_linear.specs.declared.outlines.Outline.{Outline}
 use Rattle.ph_linear.specs.declared.tables.Columns.{Columns}
 use Rattle.ph_linear.proofs.ClosedColumns.{ordered}
 use Rattle.ph_linear.proofs.EditedEntries.{length-new, values-put, points-within}
-use Rattle.ph_linear.proofs.EditedTables.{kinds-edited, addresses-edited, bodies-edited}
 use Rattle.ph_linear.proofs.FieldWords.{each-back, words-equal}
-use Rattle.ph_linear.proofs.RunNumbers.{column-runs, runs-meet, start-first, addresses-at, bodies-at, starts}
+use Rattle.ph_linear.proofs.EditedRuns.{edited-number}
 use Rattle.ph_linear.proofs.OpenedColumns.{with-digits}
-use Rattle.ph_linear.proofs.Writing.{table-number, few}
+use Rattle.ph_linear.proofs.Writing.{few}
 
 -- how many digits there are of columns of n + 1 entries
 sizes-more : (k kw a aw b bw n : ℕ) → k ≡ 64 → kw ≡ 1 → a ≡ k + n * kw → b ≡ a + n * aw → b + n * bw - 64 + 1 + aw + bw ≡ (n + 1) * (1 + aw + bw)
@@ -78,84 +75,20 @@ module _ (dims : ℕ) (words : List ℕ) (e : Edit) (r : IsRecord false dims wor
   one-of : (A : Type 0) (x : A) → replicate e.more x ≡ x ∷ []
   one-of A x = ap (λ t. replicate t x) more
 
-  -- a column with new fields, as two runs and these between them
-  two-runs : (c : Column) (new : List Field) → c.count ≡ cs.kinds.count →
-      column_edited words c e new ≡ run words (start c 0) (start c e.place) ∷
-      (new ++ run words (start c e.place) (start c cs.kinds.count) ∷ [])
-  two-runs c new m =
-      let z : e.place + e.less ≡ e.place = omega (arith, less) in
-      column-runs words c e new (omega (arith, l, m, cols.many))
-      ∙ ap {B = List Field} (λ t. run words (start c 0) (start c e.place) ∷ (new ++ run words (start c t) (start c c.count) ∷ [])) z
-      ∙ ap {B = List Field} (λ t. run words (start c 0) (start c e.place) ∷ (new ++ run words (start c e.place) (start c t) ∷ [])) m
-
   pub with-number : number_of (runs_with words cs (first_in words).level dims e) ≡ number_of (linear_table dims (first_in words).level (edited_as false dims words e))
   with-number =
-      let c = cols.columns in
+      let z : e.place + e.less ≡ e.place = omega (arith, less) in
       let p = e.place in
-      let o = ordered words cs p c place-low in
-      let a : ℕ = start cs.addresses 0 in
-      let d : ℕ = start cs.bodies 0 in
-      let k-end : start cs.kinds cs.kinds.count ≡ start cs.addresses 0 = sym (start-first cs.addresses ∙ c.addresses) in
-      let a-end : start cs.addresses cs.kinds.count ≡ start cs.bodies 0 = sym (start-first cs.bodies ∙ c.bodies) in
-      let begin : start cs.kinds 0 ≡ 64 = start-first cs.kinds ∙ c.begin in
-      let row : List Field = body_fields b (take dims e.entry.body) in
-      let fk : Field = field 1 0 in
+      let fk : ℕ → Bool → Field = λ w t. field w (if t then 1 else 0) in
       let fa : Field = field cs.addresses.width e.entry.addr in
-      let r0 = run words 64 (start cs.kinds p) in
-      let r1 = run words (start cs.kinds p) (start cs.addresses p) in
-      let r2 = run words (start cs.addresses p) (start cs.bodies p) in
-      let r3 = run words (start cs.bodies p) (start cs.bodies cs.bodies.count) in
-      let ks = column_edited words cs.kinds e (fk ∷ []) in
-      let addrs = column_edited words cs.addresses e (fa ∷ []) in
-      let bs = column_edited words cs.bodies e row in
-      let k-runs : column_edited words cs.kinds e (fk ∷ []) ≡ run words 64 (start cs.kinds p) ∷ fk ∷ run words (start cs.kinds p) a ∷ [] =
-      two-runs cs.kinds (fk ∷ []) refl
-      ∙ ap {B = List Field} (λ t. run words t (start cs.kinds p) ∷ fk ∷ run words (start cs.kinds p) (start cs.kinds cs.kinds.count) ∷ []) begin
-      ∙ ap {B = List Field} (λ t. run words 64 (start cs.kinds p) ∷ fk ∷ run words (start cs.kinds p) t ∷ []) k-end in
-      let a-runs : column_edited words cs.addresses e (fa ∷ []) ≡ run words a (start cs.addresses p) ∷ fa ∷ run words (start cs.addresses p) d ∷ [] =
-      two-runs cs.addresses (fa ∷ []) c.addresses_many ∙
-      ap {B = List Field} (λ t. run words a (start cs.addresses p) ∷ fa ∷ run words (start cs.addresses p) t ∷ []) a-end in
-      let b-runs : column_edited words cs.bodies e row ≡ run words d (start cs.bodies p) ∷ (row ++ run words (start cs.bodies p) (start cs.bodies cs.bodies.count) ∷ []) =
-      two-runs cs.bodies row c.bodies_many ∙
-      ap {B = List Field} (λ t. run words d (start cs.bodies p) ∷
-      (row ++ run words (start cs.bodies p) (start cs.bodies t) ∷ [])) (sym c.bodies_many) in
-      let table : number_after (number_after (number_after 0 ks) addrs) bs ≡ number_of gs =
-      ap (λ t. number_after (number_after (number_after 0 (column_edited words cs.kinds e t)) addrs) bs) (sym new-kind)
-      ∙ ap (λ t. number_after (number_after t addrs) bs) (kinds-edited dims words e r h l cs.kinds 0 c.begin c.one cols.many)
-      ∙ ap (λ t. number_after (number_after (number_after 0 (kind_fields es)) (column_edited words cs.addresses e t)) bs) (sym (one-of Field fa))
-      ∙ ap (λ t. number_after t bs) (addresses-edited dims words e r h l cs.addresses
-      (number_after 0 (kind_fields es)) (addresses-at dims words cs cols) cols.addresses_wide (c.addresses_many ∙ cols.many))
-      ∙ ap (λ t. number_after (number_after (number_after 0 (kind_fields es)) (address_fields dims es))
-      (column_edited words cs.bodies e t)) (sym (ap (bodies b) (one-of (List ℕ) (take dims e.entry.body)) ∙ append-nil row))
-      ∙ bodies-edited dims words e r h l cs.bodies
-      (number_after (number_after 0 (kind_fields es)) (address_fields dims es)) (bodies-at dims words cs cols) cols.bodies_wide
-      (c.bodies_many ∙ cols.many)
-      ∙ table-number dims b 0 es in
-      let i1 : start cs.kinds p ≤ start cs.addresses 0 = omega (arith, k-end, starts cs.kinds p cs.kinds.count place-low) in
-      let i2 : start cs.addresses 0 ≤ start cs.addresses p = low cs.addresses p in
-      let i3 : start cs.addresses p ≤ 64 * length words = omega (arith, o.bodies, o.until, o.inside) in
-      let i4 : start cs.addresses p ≤ start cs.bodies 0 = omega (arith, a-end, starts cs.addresses p cs.kinds.count place-low) in
-      let i5 : start cs.bodies 0 ≤ start cs.bodies p = low cs.bodies p in
-      let i6 : start cs.bodies p ≤ 64 * length words = omega (arith, o.until, o.inside) in
+      let row : List ℕ = take dims e.entry.body in
       sym
-      (runs-meet words (number_after 0 (r0 ∷ fk ∷ [])) (start cs.kinds p) a (start cs.addresses p)
-      (fa ∷ run words (start cs.addresses p) d ∷ run words d (start cs.bodies p) ∷ row ++ r3 ∷ []) i1 i2 i3
-      ∙ runs-meet words (number_after 0 (r0 ∷ fk ∷ r1 ∷ fa ∷ [])) (start cs.addresses p) d (start cs.bodies p) (row ++ r3 ∷ []) i4 i5 i6)
-      ∙ sym
-      (ap (λ t. number_after (number_after (number_after 0 t) addrs) bs) k-runs
-      ∙ ap (λ t. number_after (number_after (number_after 0 (r0 ∷ fk ∷ run words (start cs.kinds p) a ∷ [])) t) bs) a-runs
-      ∙ ap (λ t. number_after (number_after (number_after 0 (r0 ∷ fk ∷ run words (start cs.kinds p) a ∷ []))
-      (run words a (start cs.addresses p) ∷ fa ∷ run words (start cs.addresses p) d ∷ [])) t) b-runs)
-      ∙ table
-    where
-      low : (c : Column) (i : ℕ) → start c 0 ≤ start c i
-      low c i = omega arith
-
-      new-kind : replicate e.more (field cs.kinds.width (if e.entry.child then 1 else 0)) ≡ field 1 0 ∷ []
-      new-kind =
-          one-of Field (field cs.kinds.width (if e.entry.child then 1 else 0))
-          ∙ ap {B = List Field} (λ t. field cs.kinds.width (if t then 1 else 0) ∷ []) point
-          ∙ ap {B = List Field} (λ t. field t 0 ∷ []) cols.columns.one
+      (ap (λ t. number_of (runs_around words cs p t (replicate e.more (fk cs.kinds.width e.entry.child)) (replicate e.more fa) (bodies b (replicate e.more row)))) z
+      ∙ ap (λ t. number_of (runs_around words cs p p (replicate t (fk cs.kinds.width e.entry.child)) (replicate t fa) (bodies b (replicate t row)))) more
+      ∙ ap (λ t. number_of (runs_around words cs p p (fk cs.kinds.width t ∷ []) (fa ∷ []) (bodies b (row ∷ [])))) point
+      ∙ ap (λ t. number_of (runs_around words cs p p (field t 0 ∷ []) (fa ∷ []) (bodies b (row ∷ [])))) cols.columns.one
+      ∙ ap (λ t. number_of (runs_around words cs p p (field 1 0 ∷ []) (fa ∷ []) t)) (append-nil (body_fields b row)))
+      ∙ edited-number dims words e r h l cs cols
 
   -- ---- words that begin as the record does
 

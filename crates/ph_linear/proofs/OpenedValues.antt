@@ -2,7 +2,7 @@
 use Rattle.std.proofs.Common.{◌≡◌, ℕ, suc, ◌+◌, ◌-◌, ◌≤◌, sym, ◌∙◌, ap, arith, List, [], ◌∷◌, ◌++◌, length, take, drop, slice_set}
 use Rattle.std.specs.List.{copy_within}
 use Rattle.std.proofs.lemmas.List.{append_assoc, take-take, drop_at, drop-take, drop-drop, drop_all, append-nil}
-use Rattle.std.proofs.lemmas.List.{length-drop, length-take-le, take-set-le, take-append-le, set_split, length-set}
+use Rattle.std.proofs.lemmas.List.{length-drop, length-take-le, take-set-le, take-append-le, set_split}
 use Rattle.std.proofs.lemmas.List.Edits.{take-paste, drop-paste, length-paste}
 
 -- words that are copied from a place on leave those in front of it
@@ -97,6 +97,3 @@ module _ (ws : List ℕ) (len v o f : ℕ) (value : ℕ) (l : o + f ≤ len) (m 
       ∙ drop_at (take v one) (take f (drop o one) ++ value ∷ rest) v a
       ∙ ap (λ t. t ++ value ∷ rest) (inner ∙ sym old-front)
       ∙ ap (λ t. take f (drop o (take len ws)) ++ value ∷ t) (sym old-back)
-
-  pub open-long : length (slice_set two (v + f) value) ≡ length ws
-  open-long = length-set two (v + f) value ∙ two-long

@@ -16,9 +16,6 @@ use Rattle.ph_linear.specs.Edited.{stretch, column_edited}
 
 -- ---- one row of fields
 
-fits : Field → Type 0
-fits f = f.number < 2 ^ f.width
-
 -- the digits of fields between others
 digits-inner : (fs gs hs : List Field) → Fit gs → Fit hs → number_of (fs ++ (gs ++ hs)) / 2 ^ digits_of hs % 2 ^ digits_of gs ≡ number_of gs
 digits-inner fs gs hs h k =

@@ -72,12 +72,6 @@ more (e ∷ es) (suc i) l =
     let k : suc i + 1 ≡ suc (i + 1) = omega arith in
     ap (λ t. take t (e ∷ es)) k ∙ ap {B = List Flat} (λ t. e ∷ t) (more es i (omega (arith, l)))
 
-pub whole : (es : List Flat) (n : ℕ) → n ≡ length es → take n es ≡ es
-whole [] zero e = refl
-whole [] (suc n) e = refl
-whole (x ∷ xs) zero e = absurd (omega (arith, e))
-whole (x ∷ xs) (suc n) e = ap {B = List Flat} (λ t. x ∷ t) (whole xs n (omega (arith, e)))
-
 pub kinds-more : (r : ℕ) (es : List Flat) (i : ℕ) → i < length es →
     number_after r (kind_fields (take (i + 1) es)) ≡ number_after r (kind_fields (take i es)) * 2 ^ 1 + child_mark
     (get_or es i no_flat).value

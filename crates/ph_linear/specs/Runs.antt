@@ -33,24 +33,22 @@ pub record AreColumnsOf (dims : ℕ) (words : List ℕ) (cs : Columns) : Type 0 
 abbrev pub run : List ℕ → ℕ → ℕ → Field
 run words from until = field (until - from) (digits_at words from (until - from))
 
+-- the columns with these fields in place of those of the entries from one up to another
+abbrev pub runs_around : List ℕ → Columns → ℕ → ℕ → List Field → List Field → List Field → List Field
+runs_around words cs i j kinds addresses bodies =
+    run words 64 (start cs.kinds i)
+    ∷ (kinds ++ run words (start cs.kinds j) (start cs.addresses i)
+    ∷ (addresses ++ run words (start cs.addresses j) (start cs.bodies i)
+    ∷ (bodies ++ run words (start cs.bodies j) (start cs.bodies cs.bodies.count) ∷ [])))
+
 -- the columns without an entry
 abbrev pub runs_without : List ℕ → Columns → ℕ → List Field
-runs_without words cs i =
-    run words 64 (start cs.kinds i)
-    ∷ run words (start cs.kinds (i + 1)) (start cs.addresses i)
-    ∷ run words (start cs.addresses (i + 1)) (start cs.bodies i)
-    ∷ run words (start cs.bodies (i + 1)) (start cs.bodies cs.bodies.count)
-    ∷ []
+runs_without words cs i = runs_around words cs i (i + 1) [] [] []
 
 -- the columns with a new point entry
 abbrev pub runs_with : List ℕ → Columns → ℕ → ℕ → Edit → List Field
 runs_with words cs level dims e =
-    run words 64 (start cs.kinds e.place)
-    ∷ field 1 0
-    ∷ run words (start cs.kinds e.place) (start cs.addresses e.place)
-    ∷ field cs.addresses.width e.entry.addr
-    ∷ run words (start cs.addresses e.place) (start cs.bodies e.place)
-    ∷ body_fields level (take dims e.entry.body) ++ run words (start cs.bodies e.place) (start cs.bodies cs.bodies.count) ∷ []
+    runs_around words cs e.place e.place (field 1 0 ∷ []) (field cs.addresses.width e.entry.addr ∷ []) (body_fields level (take dims e.entry.body))
 
 -- how many digits they have then
 abbrev pub digits_more : Columns → ℕ

@@ -73,17 +73,6 @@ pub half-picked : (digit low high n : ℕ) → (digit ≡ 0 → n ≡ low) → (
 half-picked zero low high n f g = f refl
 half-picked (suc digit) low high n f g = g (omega arith)
 
-pub halves-none : (addr i : ℕ) (low high : List ℕ) → length low ≤ i → halves_sum addr (drop i low) (drop i high) ≡ 0
-halves-none addr zero [] high l = refl
-halves-none addr (suc i) [] high l = refl
-halves-none addr zero (a ∷ low) high l = absurd (omega (arith, l))
-halves-none addr (suc i) (a ∷ low) [] l = none (drop i low)
-  where
-    none : (xs : List ℕ) → halves_sum addr xs [] ≡ 0
-    none [] = refl
-    none (x ∷ xs) = refl
-halves-none addr (suc i) (a ∷ low) (b ∷ high) l = halves-none addr i low high (omega (arith, l))
-
 -- ---- a row
 
 one-gap : (low y c t : ℕ) → y < t → (low + 0 - c) + (c - (low + 0 + (t - 1))) ≤ abs_diff (low + y) c

@@ -34,10 +34,6 @@ waiting-first x items h = Each-each items (λ y e. by_test y e (nat_lt y.distanc
 pub waiting-far : (limit : ℕ) (x : Waiting) (items : List Waiting) → limit < x.distance → IsUpperBound waiting_cmp x items → Each (λ i. limit < i.distance) items
 waiting-far limit x items l h = Each-each items (λ y k. omega (arith, l, k)) (waiting-first x items h)
 
-pub none-there : {X : Type 0} (P : X → Type 0) (xs : List X) → length xs ≡ 0 → Each P xs
-none-there P [] e = tt
-none-there P (x ∷ xs) e = absurd (omega (arith, e))
-
 pub first-there : {X : Type 0} (x : X) (xs : List X) → 0 < length xs → x ≡ get_or xs 0 x → In x xs
 first-there x [] l e = absurd (omega (arith, l))
 first-there x (y ∷ ys) l e = inl e

@@ -167,15 +167,6 @@ module _ {w d n : ℕ} {q : List ℤ} {table : List Row} {rows : List (Found d)}
       by_list [] f g = tt
       by_list (y ∷ ys) f g = (omega (arith, f.0, g.0.far), by_list ys f.1 g.1)
 
-  -- the ranked rows stand apart from all others
-  abbrev rest : List Item
-  rest = (node x ∷ others) ++ (h.far ++ over_items)
-
-  rest-far : Each (λ j. least_distance w x.region q ≤ item_distance w q j) ((node x ∷ others) ++ (h.far ++ map (found_item w) h.over))
-  rest-far =
-      Each-append (λ j. least_distance w x.region q ≤ item_distance w q j) (node x ∷ others) (h.far ++ over_items) (omega arith, first)
-      (Each-append (λ j. least_distance w x.region q ≤ item_distance w q j) h.far over_items far-far over-items)
-
   abbrev queue : List Item
   queue = all_items w (node x ∷ others) h.far rows h.over
 
@@ -321,6 +312,3 @@ module _ {w d n : ℕ} {q : List ℤ} {table : List Row} {rows : List (Found d)}
   pub few_visits : now ≤ before + length (reach w d table q n)
   few_visits =
       omega (arith, h.visits, searching-few w d n q table (record { listed = []; opened = h.opened; queue = all_items w line h.far rows h.over }) h.searching)
-
-  pub grown : before ≤ now
-  grown = omega (arith, h.visits)

@@ -32,16 +32,6 @@ pub record IsSameFront (place : ℕ) (xs ys xs-left ys-left : List ℕ) : Type 0
   pub second : body_address place ys ≡ body_address_from front place ys-left
   pub long : length xs-left ≡ length ys-left
 
-pub front-more : {place : ℕ} {xs ys us vs : List ℕ} (x y : ℕ) (xs-left ys-left : List ℕ) →
-    IsSameFront place xs ys us vs → us ≡ x ∷ xs-left → vs ≡ y ∷ ys-left → x / 2 ^ place % 2 ≡ y / 2 ^ place % 2 →
-    IsSameFront place xs ys xs-left ys-left
-front-more {place} {xs} {ys} {us} {vs} x y xs-left ys-left h e f g = record {
-  front = h.front * 2 + x / 2 ^ place % 2;
-  first = h.first ∙ ap (body_address_from h.front place) e;
-  second = h.second ∙ ap (body_address_from h.front place) f ∙ ap (λ d. body_address_from (h.front * 2 + d) place ys-left) (sym g);
-  long = omega (arith, h.long, ap length e, ap length f);
-}
-
 -- behind a smaller number as many digits make a smaller number
 address-grows : (s t k : ℕ) (xs ys : List ℕ) → length xs ≡ length ys → s < t → body_address_from s k xs < body_address_from t k ys
 address-grows s t k [] [] n h = h

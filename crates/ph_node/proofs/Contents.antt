@@ -92,10 +92,6 @@ own-nodes (e ∷ es) (suc i) = past e.what (nodes_held es) (ones_of (what_at es 
         let e : 1 + k ≡ suc k = omega arith in
         ap (λ j. take n (drop j (m ∷ ns))) e
 
-byte : (c : Bool) → bool_byte c ≡ (if c then 1 else 0)
-byte true = refl
-byte false = refl
-
 module _ (d : ℕ) (ws : List ℕ) (ns : List PlainNode) (t : PlainNode) (o : IsOld d ws ns t) (i : ℕ) (l : i < length (entries t)) where
   pub front_fits : before (entries t) i + ones_of (what_at (entries t) i) ≤ length ns
   front_fits = subst (λ (u : List PlainNode). before (entries t) i + ones_of (what_at (entries t) i) ≤ length u) o.nodes (front-fits (entries t) i l)

@@ -147,17 +147,3 @@ module _ (d : ℕ) (ws : List ℕ) (ns : List PlainNode) (t : PlainNode) (is : u
 
   pub node_is : AreKept d t.level 0 (entries t)
   node_is = subst (λ u. AreKept d u.level 0 (entries u)) is kept.node.rise
-
--- what is kept of one entry
-kept-get : (d level least : ℕ) (es : List Entry) (i : ℕ) → AreKept d level least es → i < length es →
-    ((get_or es i no_entry).addr < 2 ^ d) × IsBody d level (get_or es i no_entry).body
-kept-get d level least [] i k l = absurd (omega (arith, l))
-kept-get d level least (e ∷ es) zero k l = (k.1, k.2)
-kept-get d level least (e ∷ es) (suc i) k l = kept-get d level (e.addr + 1) es i k.3 (omega (arith, l))
-
-pub kept-at : (d level : ℕ) (es : List Entry) (i : ℕ) (e : Entry) → AreKept d level 0 es → i < length es →
-    slice_get es i ≡ Some e → (e.addr < 2 ^ d) × IsBody d level e.body
-kept-at d level es i e k l h =
-    let q : get_or es i no_entry ≡ e = get_or_from_slice_get es i e no_entry h in
-    let p : ((get_or es i no_entry).addr < 2 ^ d) × IsBody d level (get_or es i no_entry).body = kept-get d level 0 es i k l in
-    (subst (λ (x : Entry). x.addr < 2 ^ d) q p.0, subst (λ (x : Entry). IsBody d level x.body) q p.1)

@@ -74,9 +74,6 @@ pub above-is : (d b : ℕ) (xs : List ℕ) → length xs ≡ d → IsAbove d b (
 above-is d b xs e = record { long = above-long b xs ∙ e; zeros = above-zeros b xs }
 
 module _ (d w b a : ℕ) (xs body : List ℕ) (l : b < w) (h : IsBody d w xs) (k : IsBody d b body) where
-  abbrev joined : List ℕ
-  joined = put_together b a (body_above b xs) body
-
   above : IsAbove d b (body_above b xs)
   above = above-is d b xs h.0
 

@@ -377,9 +377,6 @@ module _ (w d : ℕ) (ds dt : List ℕ) (n m : PlainNode) (h : IsPart w d ds (no
       abbrev theirs : List Row
       theirs = part_rows w (behind m.level dt other) other.what
 
-      agreed : from_place (m.level + 1) ds ≡ from_place (m.level + 1) dt
-      agreed = subst (λ c. from_place (c + 1) ds ≡ from_place (c + 1) dt) (sym same) (sym agree)
-
       other-lawful : IsLawfulEntry d m.level other
       other-lawful = lawful-at w d dt m k j lj
 

@@ -146,13 +146,6 @@ module _ (bytes : List ℕ) (h : Header) (k : IsHeader bytes h) where
   pub header-width : (1 ≤ h.width) × (h.width ≤ 62)
   header-width = width-fits h.width k.wide
 
-  pub header-even : h.kind ≡ Boxes → h.dims % 2 ≡ 0
-  header-even e =
-      let a : ((nat_le 1 h.dims && nat_le h.dims (most_of h.version)) ≡ true) ×
-      (((kind_byte h.kind == 0) || (h.dims % 2 == 0)) ≡ true) =
-      and-parts (nat_le 1 h.dims && nat_le h.dims (most_of h.version)) _ k.fits in
-      eqb-true (h.dims % 2) 0 (ap (λ x. (kind_byte x == 0) || (h.dims % 2 == 0)) (sym e) ∙ a.1)
-
   module _ (kind : Kind) (dims width : ℕ) where
     wide : (if h.version == 1 then 32 else slice_index bytes 6) ≡ h.width
     wide = ap (λ b. if b then 32 else slice_index bytes 6) k.version_is.other ∙ k.width_is

@@ -7,7 +7,6 @@ mod NodeReads
 mod Stepping
 mod Wholes
 mod Fields
-mod Firsts
 mod Rules
 mod Sizes
 mod EntryParts

@@ -86,14 +86,6 @@ one-more : (kind : Kind) (width dims : ℕ) (p : Place) (ps : List Place) (from 
     faults kind width dims (p ∷ ps) from bytes ≡ records_fault (suc (length bytes)) kind width dims (p ∷ ps) from bytes
 one-more kind width dims p ps from bytes = same-faults (length bytes) (suc (length bytes)) kind width dims (p ∷ ps) from bytes (omega arith) (omega arith)
 
-pub one-some : (kind : Kind) (width dims : ℕ) (p : Place) (ps : List Place) (from : ℕ) (bytes : List ℕ) (f : Fault) →
-    record_fault kind width dims p from bytes ≡ Some f → faults kind width dims (p ∷ ps) from bytes ≡ Some f
-one-some kind width dims p ps from bytes f h =
-    let size : ℕ = 8 * record_words dims (next_first bytes) in
-    one-more kind width dims p ps from bytes ∙
-    ap (λ o. fault_or o (records_fault (length bytes) kind width dims
-    (places_of dims p (next_record dims bytes) ++ ps) (from + size) (drop size bytes))) h
-
 pub one-none : (kind : Kind) (width dims : ℕ) (p : Place) (ps : List Place) (from : ℕ) (bytes : List ℕ) →
     record_fault kind width dims p from bytes ≡ None →
     faults kind width dims (p ∷ ps) from bytes ≡
@@ -108,9 +100,6 @@ one-none kind width dims p ps from bytes h =
     (places_of dims p (next_record dims bytes) ++ ps) (from + size) (drop size bytes) (omega (arith, l)) (omega arith))
 
 module _ (kind : Kind) (width dims : ℕ) (bytes : List ℕ) where
-  pub none-start : (n : ℕ) → HaveNone kind width dims [] n bytes n
-  none-start n qs = refl
-
   pub none-more : (ps : List Place) (p : Place) (n mid end : ℕ) → HaveNone kind width dims ps n bytes mid →
       HaveNone kind width dims (p ∷ []) mid bytes end → HaveNone kind width dims (ps ++ p ∷ []) n bytes end
   none-more ps p n mid end h k qs =
@@ -128,15 +117,6 @@ module _ (kind : Kind) (width dims : ℕ) (bytes : List ℕ) where
 
   pub same-fault : (o q : Option Fault) (f : LoadFault) → o ≡ q → IsLoadFault q f → IsLoadFault o f
   same-fault o q f e h = subst (λ x. IsLoadFault x f) (sym e) h
-
-  fault-first : (p : Place) (qs : List Place) (n : ℕ) (g : Option Fault) →
-      IsGiven (record_fault kind width dims p n (drop n bytes)) g → IsGiven (faults kind width dims (p ∷ qs) n (drop n bytes)) g
-  fault-first p qs n None h = tt
-  fault-first p qs n (Some f) h = one-some kind width dims p qs n (drop n bytes) f h
-
-  -- a record with a fault
-  pub fault-now : (p : Place) (n : ℕ) (f : LoadFault) → IsLoadFault (record_fault kind width dims p n (drop n bytes)) f → HaveFault kind width dims (p ∷ []) n bytes f
-  fault-now p n f h qs = fault-first p qs n (fault_of f) h
 
   -- a record with no fault, above one that has one
   pub fault-below : (p : Place) (n mid : ℕ) (front back : List Place) (q : Place) (f : LoadFault) →

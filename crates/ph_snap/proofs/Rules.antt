@@ -166,9 +166,6 @@ padding-is dims words digits v l h e f =
     left d = omega arith
 
 module _ (words : List ℕ) (level dims m i k s : ℕ) (e : s ≡ level) (l : i < m) (f : k ≡ digits_at words (64 + i * 2) 2) where
-  abbrev body : List ℕ
-  body = digits_row words (64 + m * 2 + i * (dims * level)) level dims
-
   abbrev behind : Bool
   behind = absent_are_zero (digits_row words (64 + (i + 1) * 2) 2 (m - (i + 1))) (body_rows words (64 + m * 2 + (i + 1) * (dims * level)) level dims (m - (i + 1)))
 

@@ -21,9 +21,6 @@ use Rattle.ph_tree.proofs.Sizes.{trees, below-children}
 
 -- ---- nodes by their records and their children
 
-pub never : {A : Type 0} → (A → ⊥) → IsTrue false ↔ A
-never n = (λ f. absurd (let no : false ≡ true = f in cc), λ h. absurd (n h))
-
 -- trees that are lawful, each by itself
 abbrev pub AreLawful : ℕ → List PlainNode → Type 0
 AreLawful dims = Each (λ n. IsLawfulFrom dims n.level 0 n.chain)
@@ -82,9 +79,6 @@ module _ {P : Type 0} {dims : ℕ} {n m : PlainNode} {ws us : List ℕ} {ss ts :
       λ f. sym (seen-again h) ∙ ap (λ t. unpacked dims t (nodes_of ss)) e ∙ ap (λ t. unpacked dims us t) f ∙ seen-again k,
       λ f. h.children ∙ ap (λ t. child_nodes t.chain) f ∙ sym k.children,
     )
-
-pub first-other : {A : Type 0} {n m : PlainNode} {ns ms : List PlainNode} → (n ≡ m → ⊥) → ((n ∷ ns ≡ m ∷ ms) ↔ A) → A → ⊥
-first-other {A} {n} {m} {ns} {ms} differ h a = let g : n ∷ ns ≡ m ∷ ms = h.1 a in differ cc
 
 -- ---- whole trees
 

@@ -57,9 +57,6 @@ given_back w dims p os h e =
 -- ---- of a key
 
 module _ (dims w : ℕ) (os : List ℕ) (k : Key) (is : key dims w os ≡ k) where
-  width_is : w ≡ k.width
-  width_is = ap (λ u. u.width) is
-
   pub offsets_are : take dims os ≡ offsets k.width k.point
   offsets_are =
       sym (offsets-coordinate w (take dims os)) ∙ ap (λ u. offsets u.width u.point) is

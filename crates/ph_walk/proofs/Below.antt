@@ -53,9 +53,6 @@ nodes-inside w d b least m above (child a body c chain rest) l u h s k =
 module _ (d : ℕ) (a : Area) (exact : IsArea d a) (c m : ℕ) (above : List ℕ) (e : Entries) (low : c ≤ m)
     (top : m < a.width) (h : IsAbove d c above) (s : small a.width above) (k : IsLawfulFrom d c 0 e)
     (out : a.touches (node_region a.width m above) ≡ false) where
-  abbrev whole : Region
-  whole = node_region a.width m above
-
   corner : IsPoint a.width d (node_region a.width m above).corner
   corner = small-point a.width d above (omega (arith, top)) h.long s
 

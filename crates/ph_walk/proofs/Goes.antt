@@ -128,9 +128,6 @@ module _ {A : Type 0} {area : A} {d : ℕ} {a : Area} {IsNoted : ℕ → List �
       none : (path_rows a k.digits (f ∷ fs) ≡ path_rows a k.digits fs) × (path_nodes a k.digits (f ∷ fs) ≡ path_nodes a k.digits fs)
       none = nothing-left d a IsNoted k root f fs top-walk out
 
-      pub left-walk : IsWalk d a IsNoted k root new
-      left-walk = subst (IsWalk d a IsNoted k root) (sym into) (behind-walk d a IsNoted k root f fs top-walk)
-
       pub left-step : GoesOn k root new
       left-step =
           let s : path_steps new ≡ path_steps fs = ap path_steps into in

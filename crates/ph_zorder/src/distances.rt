@@ -77,8 +77,8 @@ pub fn offset_distance(w: Width, p: &[u64], q: &[u64]) -> u128
     sum
 }
 
-/// The least distance from a point to a region, where its corner and the point are given by the offsets of coordinates.
-pub fn offset_least_distance(w: Width, level: u32, corner: &[u64], q: &[u64]) -> u128
+// As `least_of`, where the region's corner and the point are given by the offsets of coordinates.
+fn offset_least_distance(w: Width, level: u32, corner: &[u64], q: &[u64]) -> u128
     requires few { length corner.now ≤ 16 }
     requires same { length corner.now ≡ length q.now }
     requires level { level < w }

@@ -7,7 +7,7 @@ mod order;
 mod regions;
 mod steps;
 
-pub use distances::{distance, least_distance, offset_distance, offset_least_distance};
+pub use distances::{distance, least_distance, offset_distance};
 pub use order::{address, top_difference, z_cmp};
 pub use regions::{Region, masks, offset_masks};
 pub use steps::next_address;

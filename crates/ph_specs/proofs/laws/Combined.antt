@@ -177,9 +177,3 @@ module _ (w : ℕ) (left both right : Bool) where
   sandwich-right p q r xs h k =
       let e : joined (xs ++ []) (q ++ r) ≡ joined xs q ++ chosen right r = combined-split xs [] q r k (parted-none w q) in
       combined-split [] xs p (q ++ r) tt h ∙ ap (λ t. chosen right p ++ t) (sym (ap (λ t. joined t (q ++ r)) (append-nothing xs [] refl)) ∙ e)
-
-  -- the first part of one table, and what of the other lies before it, at it and behind it
-  pub combined-step : (x xs p q r : List Row) → AreParted w p (x ++ xs) → AreParted w x r → AreParted w q xs →
-      joined (x ++ xs) (p ++ (q ++ r)) ≡ chosen right p ++ (joined x q ++ joined xs r)
-  combined-step x xs p q r h k l =
-      combined-split [] (x ++ xs) p (q ++ r) tt h ∙ ap (λ t. chosen right p ++ t) (combined-split x xs q r k l)

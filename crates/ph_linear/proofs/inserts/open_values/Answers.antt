@@ -1,4 +1,4 @@
-use Rattle.std.proofs.Common.{◌+◌, ◌-◌, take, drop, slice_set, ap, ◌∙◌}
+use Rattle.std.proofs.Common.{◌+◌, take, drop, slice_set, ap, ◌∙◌}
 use Rattle.std.specs.List.{copy_within}
 use Rattle.ph_linear.proofs.OpenedValues.{open-front, open-values}
 use Rattle.ph_linear.proofs.inserts.open_values.Goals as goal

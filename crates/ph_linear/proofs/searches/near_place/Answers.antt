@@ -1,4 +1,4 @@
-use Rattle.std.proofs.Common.{◌≡◌, ◌+◌, ◌*◌, ◌-◌, ◌/◌, ◌%◌, ◌<◌, ◌≤◌, ◌^◌, ℕ, sym, ◌∙◌, ap, subst, arith, List, length, slice_index_or, inl, inr}
+use Rattle.std.proofs.Common.{◌≡◌, ◌+◌, ◌*◌, ◌-◌, ◌/◌, ◌%◌, ◌<◌, ◌≤◌, ◌^◌, ℕ, ◌∙◌, ap, subst, arith, List, length, slice_index_or, inl, inr}
 use Rattle.ph_specs.specs.Digits.{digits_at}
 use Rattle.ph_specs.specs.Record.{first_in}
 use Rattle.ph_specs.proofs.laws.WordDigits.{each-fits}
