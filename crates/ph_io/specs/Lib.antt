@@ -1,10 +1,8 @@
 pub mod Amounts
 pub mod Causes
-pub mod Counted
 pub mod Counts
 pub mod Feed
 pub mod Giving
-pub mod Opened
 pub mod Pieces
 pub mod Shelf
 pub mod Shelved

@@ -74,23 +74,3 @@ impl Files for CleanFiles {
         Ok(())
     }
 }
-
-#[cfg(test)]
-mod tests {
-    use super::*;
-    use crate::tests::{check_fetch, check_save};
-
-    #[test]
-    fn keeps_nothing(rt: HostRuntime) {
-        let mut files = CleanFiles::new();
-        let mut into = Vec::new(rt.alloc());
-        check_save(&rt, &mut files, "a", b"12", Ok(()));
-        check_fetch(
-            &rt,
-            &mut files,
-            ("a", 9),
-            &mut into,
-            Err(FetchFault::Absent),
-        );
-    }
-}

@@ -63,18 +63,3 @@ impl Sink for CountSink {
         Ok(piece.len())
     }
 }
-
-#[cfg(test)]
-mod tests {
-    use super::*;
-    use crate::tests::check_write;
-
-    #[test]
-    fn counts_bytes(rt: HostRuntime) {
-        let mut sink = CountSink::new();
-        for (piece, taken) in [(b"abc".as_slice(), 3), (b"", 3), (b"de", 5)] {
-            check_write(&rt, &mut sink, piece, Ok(piece.len()));
-            assert!(rt; sink.taken() == taken);
-        }
-    }
-}

@@ -87,22 +87,3 @@ pub trait Files {
     /// Where the files are known, so is the draft.
     ghost draft_known: { (s : Self) → IsSome (files s) → IsSome (draft s) };
 }
-
-#[cfg(test)]
-mod tests {
-    use super::*;
-    use std::test::Fail;
-
-    #[test]
-    fn messages_are_names(rt: HostRuntime) -> Result<(), Fail> {
-        for (fault, message) in [
-            (FetchFault::Failed, "Failed"),
-            (FetchFault::Absent, "Absent"),
-            (FetchFault::Over, "Over"),
-            (FetchFault::NoMemory, "NoMemory"),
-        ] {
-            assert_eq!(rt; format!(in rt.alloc(); "{fault}")?.as_str(), message);
-        }
-        Ok(())
-    }
-}

@@ -9,27 +9,21 @@ mod clean;
 mod clean_files;
 mod copying;
 mod count_sink;
-mod dir_files;
 mod files;
 mod memory_files;
 mod memory_sink;
 mod memory_source;
 mod sending;
-mod standard;
 mod stored;
 mod streams;
-#[cfg(test)]
-mod tests;
 
 pub use clean::CleanSource;
 pub use clean_files::CleanFiles;
 pub use count_sink::CountSink;
-pub use dir_files::DirFiles;
 pub use files::{FetchFault, Files};
 pub use memory_files::MemoryFiles;
 pub use memory_sink::MemorySink;
 pub use memory_source::MemorySource;
 pub use sending::write_piece;
-pub use standard::{StdSink, StdSource};
 pub use std::alloc::AllocError as NoMemory;
 pub use streams::{Failed, Sink, Source};

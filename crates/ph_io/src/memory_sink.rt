@@ -116,27 +116,3 @@ impl Sink for MemorySink {
         Ok(count)
     }
 }
-
-#[cfg(test)]
-mod tests {
-    use super::*;
-    use crate::tests::check_write;
-
-    #[test]
-    fn takes_pieces_up_to_its_room(rt: HostRuntime) {
-        let fails = vec![in rt.alloc(); 2u64].expect(&rt, "memory");
-        let mut sink = MemorySink::with_room(rt.alloc(), 5, 2, fails).expect(&rt, "memory");
-        for (piece, answer, faults) in [
-            (b"abc".as_slice(), Ok(2), 0),
-            (b"cde", Err(Failed), 1),
-            (b"cde", Ok(2), 1),
-            (b"ef", Ok(1), 1),
-            (b"", Ok(0), 1),
-            (b"f", Err(Failed), 2),
-        ] {
-            check_write(&rt, &mut sink, piece, answer);
-            assert!(rt; sink.faults == faults);
-        }
-        assert!(rt; sink.bytes() == b"abcde".as_slice());
-    }
-}

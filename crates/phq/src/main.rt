@@ -3,8 +3,8 @@
 
 ghost use Rattle.std.specs.Prelude.{◌≡◌, ◌<◌};
 
-use ph_engine::{Engine, Limits, top};
-use ph_io::{DirFiles, StdSink, StdSource};
+use ph_edge::{DirFiles, Gathered, ReadAfter, Replies, StdSink, StdSource};
+use ph_engine::{Engine, Limits, Status, top};
 use ph_steps::Steps;
 use std::marker::Brand;
 use std::process::ExitCode;
@@ -19,6 +19,19 @@ const LIMITS: Limits = Limits {
 // The status where the words of the command line can't be had. `top` never answers it.
 const NO_WORDS: u8 = 7;
 
+// So many bytes of replies are gathered before they are written.
+const GATHERED_BYTES: usize = 1 << 16;
+
+// The words of the command line behind the program's name, if they can be had.
+fn words_of(rt: &HostRuntime) -> Option<Vec<String>> {
+    let Ok(mut args) = env::args(rt) else {
+        return None;
+    };
+    let _program = args.next();
+    let words: Result<Vec<String>, _> = args.collect(rt.alloc());
+    words.ok()
+}
+
 fn main(rt: HostRuntime) -> ExitCode {
     serve::<Brand, Brand>(rt, Blank::new(1), Blank::new(1))
 }
@@ -27,13 +40,14 @@ fn serve<V: Ledger, C: Ledger>(rt: HostRuntime, visits: Blank, changes: Blank) -
     requires visits { (visits.name ≡ V.name) × (visits.parts ≡ V.parts) × (0 < visits.parts) }
     requires changes { (changes.name ≡ C.name) × (changes.parts ≡ C.parts) × (0 < changes.parts) }
 {
-    let Ok(mut args) = env::args(&rt) else {
+    let Some(words) = words_of(&rt) else {
         return ExitCode::from(NO_WORDS);
     };
-    let _program = args.next();
-    let collected: Result<Vec<String>, _> = args.collect(rt.alloc());
-    let Ok(words) = collected else {
-        return ExitCode::from(NO_WORDS);
+    let Ok(replies) = Gathered::new(rt.alloc(), GATHERED_BYTES, rt.stdout()) else {
+        return ExitCode::from(Status::Memory as u8);
+    };
+    let Ok(mut files) = DirFiles::new(rt.alloc(), &rt, Replies::new(&replies)) else {
+        return ExitCode::from(Status::Memory as u8);
     };
     let mut visits: Steps<V> = Steps::new(visits);
     let mut changes: Steps<C> = Steps::new(changes);
@@ -41,9 +55,9 @@ fn serve<V: Ledger, C: Ledger>(rt: HostRuntime, visits: Blank, changes: Blank) -
     let status = top(
         rt.alloc(),
         words.as_slice(),
-        &mut StdSource::new(rt.stdin()),
-        &mut StdSink::new(rt.stdout()),
-        &mut DirFiles::new(&rt),
+        &mut StdSource::new(ReadAfter::new(rt.stdin(), &replies)),
+        &mut StdSink::new(Replies::new(&replies)),
+        &mut files,
         &mut engine,
         &LIMITS,
         &mut visits,
@@ -51,5 +65,9 @@ fn serve<V: Ledger, C: Ledger>(rt: HostRuntime, visits: Blank, changes: Blank) -
     );
     // The memory of the tables goes back with the process, all at once.
     mem::forget(engine);
+    // The replies behind the last read.
+    if replies.flush().is_err() {
+        return ExitCode::from(Status::WriteFault as u8);
+    }
     ExitCode::from(status as u8)
 }

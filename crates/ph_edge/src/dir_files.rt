@@ -1,18 +1,22 @@
 //! The trusted edge: the files of a file system.
-ghost use Rattle.std.specs.Prelude.{◌≡◌, ◌≤◌, true, false, None, Err, length, OnOk, OnErr};
+ghost use Rattle.std.specs.Prelude.{◌≡◌, ◌≤◌, ◌+◌, [], true, false, None, Err, length, OnOk, OnErr, IfOk};
+ghost use Rattle.std.specs.Io.KnownBytes.{Appends, Consumes, IsAtEnd, Keeps, append_known};
 ghost use Rattle.ph_io.specs.Counts.{next_count};
 ghost use Rattle.ph_io.specs.Causes.{Rose};
 ghost use Rattle.ph_io.specs.Shelf.{Map, Draft, Stays, Begins, Grows, Gains, FetchCounts, Counts};
 
-use crate::files::{FetchFault, Files};
-use crate::streams::Failed;
 use arrayvec::ArrayString;
-use std::fs::{Metadata, OpenFile};
+use ph_io::{Failed, FetchFault, Files, NoMemory};
+use std::alloc::Global;
+use std::fs::{File, Metadata, OpenFile};
 use std::io::{ErrorKind, Read, Write};
 use std::marker::Model;
 use std::{fs, io, rt};
 
 const PIECE_BYTES: usize = 4096;
+
+// So many bytes of a file that is begun are gathered before they are written.
+const GATHERED_BYTES: usize = 1 << 16;
 
 /// The files of a runtime, by their paths. Each error of the runtime is a fault.
 ///
@@ -21,9 +25,8 @@ const PIECE_BYTES: usize = 4096;
 /// is taken away again if the runtime lets it; whether it did is not told. So a user should know:
 ///
 /// - What is not there cannot be told from what cannot be opened, and `Absent` is never answered.
-/// - To save `x` writes over a file `x.part`, and fails where that is a link or no file.
-/// - A link is followed where it is fetched. Where a file is finished under its name, the file takes the
-///   place of the link.
+/// - To save `x` takes a file `x.part` away, and fails where that is a link or no file.
+/// - A link is followed where it is fetched, and no file is begun in its place.
 /// - Where a path may have names of at most 255 bytes, one of more than 250 can be fetched and not
 ///   saved.
 /// - A name is a path, and leads wherever the program may read and write, also out of its folder.
@@ -37,33 +40,40 @@ const PIECE_BYTES: usize = 4096;
 /// rename puts it in the place of the former one as a whole, is trusted of std and of the operating
 /// system. Nothing is said of a crash.
 #[derive(Drop)]
-pub struct DirFiles<'r, R: rt::Files> {
+pub struct DirFiles<'r, R: rt::Files, W: Write + Drop> {
     rt: &'r R,
     file: Option<R::File>,
     name: ArrayString<255>,
+    gathered: Vec<u8>,
+    ahead: W,
     faults: u64,
 }
 
-impl<'r, R: rt::Files> Model for DirFiles<'r, R> {
+impl<'r, R: rt::Files, W: Write + Drop> Model for DirFiles<'r, R, W> {
     ghost use Rattle.std.specs.Prelude.{is_some};
-    ghost use Rattle.ph_io.specs.Opened.{Opened};
+    ghost use Rattle.ph_edge.specs.Opened.{Opened};
 
     ghost Value = { Opened };
 
     ghost view = { λ s. record { is_begun = is_some s.file; faults = s.faults } };
 }
 
-impl<'r, R: rt::Files> DirFiles<'r, R> {
-    /// The files of this runtime, with no fault so far. It takes no memory.
-    pub fn new(rt: &'r R) -> DirFiles<'r, R>
-        ensures { result ≡ record { is_begun = false; faults = 0 } }
+impl<'r, R: rt::Files, W: Write + Drop> DirFiles<'r, R, W> {
+    /// The files of this runtime, with no fault so far. `ahead` is flushed before a file is finished, so that what was written to it is out by then.
+    ///
+    /// It takes memory for the bytes that it gathers, once: no call wants any later.
+    pub fn new(alloc: Global, rt: &'r R, ahead: W) -> Result<DirFiles<'r, R, W>, NoMemory>
+        ensures { IfOk result (λ files. files ≡ record { is_begun = false; faults = 0 }) }
     {
-        DirFiles {
+        let gathered = Vec::with_capacity(alloc, GATHERED_BYTES)?;
+        Ok(DirFiles {
             rt,
             file: None,
             name: ArrayString::new(),
+            gathered,
+            ahead,
             faults: 0,
-        }
+        })
     }
 
     /// Counts a fault.
@@ -89,6 +99,7 @@ impl<'r, R: rt::Files> DirFiles<'r, R> {
     {
         if self.file.is_some() {
             self.file = None;
+            self.gathered.clear();
             self.remove_part();
         }
     }
@@ -124,21 +135,60 @@ fn open_regular<R: rt::Files>(rt: &R, name: &str) -> io::Result<R::File> {
     Ok(file)
 }
 
-/// Creates the `.part` file of a name, where what has this name is a regular file or leads to one, or is not
-/// there. A `.part` file that is a link is not followed.
+/// Creates the `.part` file of a name, where what has this name is a regular file or is not there. A regular file with the
+/// name of the `.part` file is taken away first, so that nothing that stands there is ever written to.
 fn create_part<R: rt::Files>(rt: &R, name: &str) -> io::Result<R::File>
     requires { length name.now ≤ 255 }
 {
     let path = part_of(name);
-    if is_special(fs::metadata(rt, name)) || is_special(fs::symlink_metadata(rt, path.as_str())) {
+    if is_special(fs::symlink_metadata(rt, name)) {
         return Err(io::Error::from(ErrorKind::InvalidInput));
     }
-    fs::create(rt, path.as_str())
+    if is_regular(fs::symlink_metadata(rt, path.as_str())) {
+        fs::remove_file(rt, path.as_str())?;
+    }
+    File::create_new(rt, path.as_str())
+}
+
+/// Whether a regular file was found.
+fn is_regular(found: io::Result<Metadata>) -> bool {
+    match found {
+        Ok(found) => found.is_file(),
+        Err(_) => false,
+    }
+}
+
+/// Writes what was gathered.
+fn write_rest<W: Write>(file: &mut W, gathered: &mut Vec<u8>) -> io::Result<()>
+    ensures kept { OnOk result (Keeps (append_known (W.contents file.old) gathered.old.items) (W.contents file.new)) }
+    ensures none { OnOk result (gathered.new.items ≡ []) }
+{
+    file.write_all(gathered.as_slice())?;
+    gathered.clear();
+    Ok(())
+}
+
+/// Gathers a piece, and writes what was gathered where it has no room for it.
+fn gather<W: Write>(file: &mut W, gathered: &mut Vec<u8>, piece: &[u8]) -> io::Result<()>
+    ensures { OnOk result (Appends (append_known (W.contents file.old) gathered.old.items)
+        (append_known (W.contents file.new) gathered.new.items) piece.now) }
+{
+    if gathered.capacity() - gathered.len() < piece.len() {
+        write_rest(file, gathered)?;
+        if gathered.capacity() - gathered.len() < piece.len() {
+            return file.write_all(piece);
+        }
+    }
+    match gathered.extend_from_slice(piece) {
+        Ok(()) => Ok(()),
+        Err(_) => unreachable!(),
+    }
 }
 
 /// Makes `into` the bytes of an open file, which may be `most`.
 fn read_file<F: Read>(file: &mut F, most: u64, into: &mut Vec<u8>) -> Result<(), FetchFault>
-    ensures { OnOk result (length into.new.items ≤ most) }
+    ensures within { OnOk result (length into.new.items ≤ most) }
+    ensures whole { OnOk result (Consumes (F.remaining file.old) (F.remaining file.new) into.new.items × IsAtEnd (F.remaining file.new)) }
 {
     into.clear();
     let mut piece = [0u8; PIECE_BYTES];
@@ -158,7 +208,7 @@ fn read_file<F: Read>(file: &mut F, most: u64, into: &mut Vec<u8>) -> Result<(),
     }
 }
 
-impl<'r, R: rt::Files> Files for DirFiles<'r, R> {
+impl<'r, R: rt::Files, W: Write + Drop> Files for DirFiles<'r, R, W> {
     ghost files = { λ _. None };
 
     ghost draft = { λ _. None };
@@ -173,6 +223,7 @@ impl<'r, R: rt::Files> Files for DirFiles<'r, R> {
         requires { length name.now ≤ 255 }
         ensures within { OnOk result (length into.new.items ≤ most) }
         ensures counts { FetchCounts self.old.faults self.new.faults result }
+        ensures once { result ≡ Err FetchFault.Failed → self.new.faults ≡ next_count self.old.faults }
         ensures is_begun { self.new.is_begun ≡ self.old.is_begun }
     {
         let fetched = match open_regular(self.rt, name) {
@@ -192,6 +243,7 @@ impl<'r, R: rt::Files> Files for DirFiles<'r, R> {
         ensures err { OnErr result (Stays {X = Draft} None None) }
         ensures none { OnErr result (self.new.is_begun ≡ false) }
         ensures counts { Counts self.old.faults self.new.faults result }
+        ensures once { OnErr result (self.new.faults ≡ next_count self.old.faults) }
     {
         self.drop_draft();
         self.name.clear();
@@ -212,9 +264,10 @@ impl<'r, R: rt::Files> Files for DirFiles<'r, R> {
         ensures err { OnErr result (Stays {X = Draft} None None) }
         ensures none { OnErr result (self.new.is_begun ≡ false) }
         ensures counts { Counts self.old.faults self.new.faults result }
+        ensures once { OnErr result (self.new.faults ≡ next_count self.old.faults) }
     {
         if let Some(file) = &mut self.file {
-            if file.write_all(piece).is_ok() {
+            if gather(file, &mut self.gathered, piece).is_ok() {
                 return Ok(());
             }
         }
@@ -228,168 +281,22 @@ impl<'r, R: rt::Files> Files for DirFiles<'r, R> {
         ensures err { OnErr result (Stays {X = Map} None None) }
         ensures none { self.new.is_begun ≡ false }
         ensures counts { Counts self.old.faults self.new.faults result }
+        ensures once { OnErr result (self.new.faults ≡ next_count self.old.faults) }
     {
+        let written = match &mut self.file {
+            Some(file) => write_rest(file, &mut self.gathered).is_ok(),
+            None => false,
+        };
         self.file = None;
+        self.gathered.clear();
         let name = self.name.as_str();
-        if fs::rename(self.rt, part_of(name).as_str(), name).is_ok() {
+        if written
+            && self.ahead.flush().is_ok()
+            && fs::rename(self.rt, part_of(name).as_str(), name).is_ok()
+        {
             return Ok(());
         }
         self.remove_part();
         Err(self.fault())
-    }
-}
-
-#[cfg(test)]
-mod tests {
-    use super::*;
-    use crate::tests::{check_fetch, check_save};
-    use std::os::unix::fs::symlink;
-    use std::process::Abort;
-
-    fn check_begin<F: Files>(
-        rt: &impl Abort,
-        files: &mut F,
-        name: &str,
-        answer: Result<(), Failed>,
-    ) {
-        assert!(rt; name.len() <= 255);
-        assert!(rt; files.begin(name) == answer);
-    }
-
-    fn check_exists<R: rt::Files + Abort>(rt: &R, name: &str, wanted: bool) {
-        assert!(rt; fs::exists(rt, name).ok() == Some(wanted));
-    }
-
-    #[test]
-    fn saves_and_fetches(rt: HostRuntime) {
-        let mut files = DirFiles::new(&rt);
-        let mut into = Vec::new(rt.alloc());
-        check_fetch(
-            &rt,
-            &mut files,
-            ("e.pht", 9),
-            &mut into,
-            Err(FetchFault::Failed),
-        );
-        assert!(rt; files.faults == 1);
-        check_save(&rt, &mut files, "e.pht", b"PHT1", Ok(()));
-        check_exists(&rt, "e.pht.part", false);
-        for (most, wanted) in [
-            (9, Ok(b"PHT1PHT1".as_slice())),
-            (7, Err(FetchFault::Over)),
-            (8, Ok(b"PHT1PHT1")),
-        ] {
-            check_fetch(&rt, &mut files, ("e.pht", most), &mut into, wanted);
-        }
-        check_save(&rt, &mut files, "e.pht", b"ab", Ok(()));
-        check_fetch(&rt, &mut files, ("e.pht", 8), &mut into, Ok(b"abab"));
-        assert!(rt; files.faults == 1);
-        fs::remove_file(&rt, "e.pht").expect(&rt, "remove_file");
-    }
-
-    #[test]
-    fn keeps_the_former_file_where_a_save_fails(rt: HostRuntime) {
-        let mut files = DirFiles::new(&rt);
-        let mut into = Vec::new(rt.alloc());
-        fs::write(&rt, "former.pht", "old").expect(&rt, "write");
-        // No file is begun in place of a link, also where that leads to a file, nor in place of a folder.
-        symlink(&rt, "former.pht", "former.pht.part").expect(&rt, "symlink");
-        check_save(&rt, &mut files, "former.pht", b"ab", Err(Failed));
-        check_exists(&rt, "former.pht.part", true);
-        fs::remove_file(&rt, "former.pht.part").expect(&rt, "remove_file");
-        fs::create_dir(&rt, "former.pht.part").expect(&rt, "create_dir");
-        check_save(&rt, &mut files, "former.pht", b"ab", Err(Failed));
-        assert!(rt; files.faults == 2);
-        check_fetch(&rt, &mut files, ("former.pht", 3), &mut into, Ok(b"old"));
-        fs::remove_dir(&rt, "former.pht.part").expect(&rt, "remove_dir");
-        fs::remove_file(&rt, "former.pht").expect(&rt, "remove_file");
-    }
-
-    #[test]
-    fn fails_for_a_folder(rt: HostRuntime) {
-        let mut files = DirFiles::new(&rt);
-        let mut into = Vec::new(rt.alloc());
-        fs::create_dir(&rt, "folder.pht").expect(&rt, "create_dir");
-        fs::write(&rt, "folder.pht/inner", "old").expect(&rt, "write");
-        check_fetch(
-            &rt,
-            &mut files,
-            ("folder.pht", 9),
-            &mut into,
-            Err(FetchFault::Failed),
-        );
-        check_save(&rt, &mut files, "folder.pht", b"ab", Err(Failed));
-        check_exists(&rt, "folder.pht.part", false);
-        assert!(rt; files.faults == 2);
-        check_fetch(
-            &rt,
-            &mut files,
-            ("folder.pht/inner", 3),
-            &mut into,
-            Ok(b"old"),
-        );
-        fs::remove_dir_all(&rt, "folder.pht").expect(&rt, "remove_dir_all");
-    }
-
-    // A device that never ends, and a link to it.
-    #[test]
-    fn fails_for_a_device(rt: HostRuntime) {
-        let mut files = DirFiles::new(&rt);
-        let mut into = Vec::new(rt.alloc());
-        symlink(&rt, "/dev/zero", "device.pht").expect(&rt, "symlink");
-        for name in ["/dev/zero", "device.pht"] {
-            check_fetch(
-                &rt,
-                &mut files,
-                (name, 9),
-                &mut into,
-                Err(FetchFault::Failed),
-            );
-        }
-        check_save(&rt, &mut files, "device.pht", b"ab", Err(Failed));
-        assert!(rt; files.faults == 3);
-        check_exists(&rt, "device.pht.part", false);
-        fs::remove_file(&rt, "device.pht").expect(&rt, "remove_file");
-    }
-
-    // The link becomes a file, and what it led to stays.
-    #[test]
-    fn replaces_a_link(rt: HostRuntime) {
-        let mut files = DirFiles::new(&rt);
-        let mut into = Vec::new(rt.alloc());
-        fs::write(&rt, "led_to.pht", "old").expect(&rt, "write");
-        symlink(&rt, "led_to.pht", "link.pht").expect(&rt, "symlink");
-        check_fetch(&rt, &mut files, ("link.pht", 3), &mut into, Ok(b"old"));
-        check_save(&rt, &mut files, "link.pht", b"ab", Ok(()));
-        for (name, bytes) in [("led_to.pht", b"old".as_slice()), ("link.pht", b"abab")] {
-            check_fetch(&rt, &mut files, (name, 4), &mut into, Ok(bytes));
-            fs::remove_file(&rt, name).expect(&rt, "remove_file");
-        }
-    }
-
-    #[test]
-    fn drops_a_file_that_is_begun(rt: HostRuntime) {
-        let mut files = DirFiles::new(&rt);
-        check_begin(&rt, &mut files, "a", Ok(()));
-        check_exists(&rt, "a.part", true);
-        check_begin(&rt, &mut files, "b", Ok(()));
-        check_exists(&rt, "a.part", false);
-        check_begin(&rt, &mut files, "absent/c", Err(Failed));
-        check_exists(&rt, "b.part", false);
-        assert!(rt; files.faults == 1);
-    }
-
-    #[test]
-    fn saves_names_of_at_most_250_bytes(rt: HostRuntime) {
-        let mut files = DirFiles::new(&rt);
-        let mut into = Vec::new(rt.alloc());
-        let longest = "n".repeat(rt.alloc(), 250).expect(&rt, "memory");
-        check_save(&rt, &mut files, longest.as_str(), b"ab", Ok(()));
-        let longer = "n".repeat(rt.alloc(), 251).expect(&rt, "memory");
-        check_save(&rt, &mut files, longer.as_str(), b"ab", Err(Failed));
-        fs::write(&rt, longer.as_str(), "abc").expect(&rt, "write");
-        check_fetch(&rt, &mut files, (longer.as_str(), 9), &mut into, Ok(b"abc"));
-        fs::remove_file(&rt, longest.as_str()).expect(&rt, "remove_file");
-        fs::remove_file(&rt, longer.as_str()).expect(&rt, "remove_file");
     }
 }

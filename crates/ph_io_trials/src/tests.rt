@@ -1,11 +1,17 @@
-//! What any sources, sinks and files are to answer, for the tests of each kind.
+//! What any sources, sinks and files are to answer.
 ghost use Rattle.std.specs.Prelude.{◌≤◌, length};
 
-use crate::{Failed, FetchFault, Files, Sink, Source};
+mod dir_files;
+mod files;
+mod gathered;
+mod sinks;
+mod sources;
+
+use ph_io::{Failed, FetchFault, Files, Sink, Source};
 use std::process::Abort;
 
 // A read is answered so, and these bytes stand behind it.
-pub(crate) fn check_read<S: Source>(
+fn check_read<S: Source>(
     rt: &impl Abort,
     source: &mut S,
     into: &mut [u8],
@@ -17,7 +23,7 @@ pub(crate) fn check_read<S: Source>(
     assert!(rt; *into == *stands);
 }
 
-pub(crate) fn check_write<S: Sink>(
+fn check_write<S: Sink>(
     rt: &impl Abort,
     sink: &mut S,
     piece: &[u8],
@@ -27,7 +33,7 @@ pub(crate) fn check_write<S: Sink>(
 }
 
 // A fetch of at most so many bytes of a file gives these, or is refused so.
-pub(crate) fn check_fetch<F: Files>(
+fn check_fetch<F: Files>(
     rt: &impl Abort,
     files: &mut F,
     (name, most): (&str, u64),
@@ -52,7 +58,7 @@ fn save<F: Files>(files: &mut F, name: &str, piece: &[u8]) -> Result<(), Failed>
 }
 
 // A file that has a piece twice is saved, or that is refused.
-pub(crate) fn check_save<F: Files>(
+fn check_save<F: Files>(
     rt: &impl Abort,
     files: &mut F,
     name: &str,

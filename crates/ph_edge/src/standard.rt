@@ -6,7 +6,7 @@ ghost use Rattle.ph_io.specs.Amounts.{WriteAdds};
 ghost use Rattle.ph_io.specs.Causes.{HasCause};
 ghost use Rattle.ph_io.specs.Counts.{next_count};
 
-use crate::streams::{Failed, Sink, Source};
+use ph_io::{Failed, Sink, Source};
 use std::io::{Read, Write};
 use std::marker::Model;
 
@@ -22,7 +22,7 @@ pub struct StdSource<R> {
 }
 
 impl<R> Model for StdSource<R> {
-    ghost use Rattle.ph_io.specs.Counted.{Counted};
+    ghost use Rattle.ph_edge.specs.Counted.{Counted};
 
     ghost Value = { Counted R };
 
@@ -76,7 +76,7 @@ pub struct StdSink<W> {
 }
 
 impl<W> Model for StdSink<W> {
-    ghost use Rattle.ph_io.specs.Counted.{Counted};
+    ghost use Rattle.ph_edge.specs.Counted.{Counted};
 
     ghost Value = { Counted W };
 
@@ -120,69 +120,6 @@ impl<W: Write> Sink for StdSink<W> {
                 self.faults = self.faults.saturating_add(1);
                 Err(Failed)
             }
-        }
-    }
-}
-
-#[cfg(test)]
-mod tests {
-    use super::*;
-    use crate::tests::{check_read, check_write};
-    use std::io::{Error, ErrorKind};
-
-    #[derive(Drop)]
-    struct Broken;
-
-    impl Read for Broken {
-        fn read(&mut self, _into: &mut [u8]) -> std::io::Result<usize> {
-            Err(Error::from(ErrorKind::BrokenPipe))
-        }
-    }
-
-    impl Write for Broken {
-        fn write(&mut self, piece: &[u8]) -> std::io::Result<usize> {
-            match piece.first() {
-                Some(b'!') => Err(Error::from(ErrorKind::BrokenPipe)),
-                _ => Ok(0),
-            }
-        }
-
-        fn flush(&mut self) -> std::io::Result<()> {
-            Ok(())
-        }
-    }
-
-    #[test]
-    fn reads_and_counts_faults(rt: HostRuntime) {
-        let mut into = [0u8; 4];
-        let mut source = StdSource::new(b"abcdef".as_slice());
-        for (answer, stands) in [(Ok(4), *b"abcd"), (Ok(2), *b"efcd"), (Ok(0), *b"efcd")] {
-            check_read(&rt, &mut source, &mut into, answer, &stands);
-        }
-        assert!(rt; source.faults == 0);
-        let mut broken = StdSource::new(Broken);
-        for faults in 1..=2 {
-            check_read(&rt, &mut broken, &mut into, Err(Failed), b"efcd");
-            assert!(rt; broken.faults == faults);
-        }
-    }
-
-    #[test]
-    fn writes_and_counts_faults(rt: HostRuntime) {
-        let mut sink = StdSink::new(Vec::new(rt.alloc()));
-        for piece in [b"abc".as_slice(), b"", b"de"] {
-            check_write(&rt, &mut sink, piece, Ok(piece.len()));
-        }
-        assert!(rt; sink.writer.as_slice() == b"abcde".as_slice());
-        assert!(rt; sink.faults == 0);
-        let mut broken = StdSink::new(Broken);
-        for (piece, answer, faults) in [
-            (b"".as_slice(), Ok(0), 0),
-            (b"a", Err(Failed), 1),
-            (b"!", Err(Failed), 2),
-        ] {
-            check_write(&rt, &mut broken, piece, answer);
-            assert!(rt; broken.faults == faults);
         }
     }
 }
