@@ -12,8 +12,9 @@ use Rattle.ph_specs.specs.declared.Kind.{Kind}
 use Rattle.ph_specs.specs.declared.Kind.TheVariants.{Points, Boxes}
 use Rattle.ph_specs.specs.Load.{Fault, bad_magic, bad_header, bad_dims, bad_short, bad_node, bad_extra, named_width, load_fault}
 use Rattle.ph_specs.specs.Named.{lookup}
+use Rattle.ph_specs.specs.Command.{Command}
 use Rattle.ph_specs.specs.Program.{check_line, checked_words, named_kind, own_fault, words_of_snapshot, words_of_file, words_unless}
-use Rattle.ph_specs.specs.Refusals.{fetch, bytes_of}
+use Rattle.ph_specs.specs.Refusals.{fetch, short_enough, bytes_of}
 use Rattle.ph_specs.specs.Reply.{Reply, line_of, reply_text, reply_words}
 use Rattle.ph_specs.specs.SavedTable.{fault_reply, read_unless, rows_saved}
 use Rattle.ph_specs.specs.State.{Files}
@@ -24,8 +25,8 @@ use Rattle.ph_script.specs.declared.reply.Reply.{Reply as Told}
 use Rattle.ph_script.specs.Meaning.{reply_of}
 use Rattle.ph_snap.specs.Faults.{IsLoadFault}
 use Rattle.ph_snap.specs.declared.fault.LoadFault.{LoadFault}
-use Rattle.ph_engine.specs.Beside.{AreTold, Filings, beside_sink}
-use Rattle.ph_engine.specs.Checking.{FileHasSizes, HasSizes, IsSavedAs, LineGiven, CheckDone, bytes_checked, nodes_saved, nodes_unless, status_of}
+use Rattle.ph_engine.specs.Beside.{Filings, beside_sink}
+use Rattle.ph_engine.specs.Checking.{FileHasSizes, HasSizes, IsSavedAs, LineGiven, Meets, CheckDone, bytes_checked, nodes_saved, nodes_unless, status_of}
 use Rattle.ph_engine.specs.Filing.{TellsFault, TellsUnfetched}
 use Rattle.ph_any_tree.specs.Loading.{IsWithinBytes}
 use Rattle.ph_any_tree.specs.Telling.{is_refusal, StopHasCause, ToldOr}
@@ -39,7 +40,8 @@ use Rattle.ph_engine.specs.declared.status.Status.TheVariants.{Clean, Refused, W
 use Rattle.ph_any_tree.specs.declared.answer.Stop.{Stop}
 use Rattle.ph_any_tree.specs.declared.answer.Stop.TheVariants as stop
 use Rattle.ph_engine.proofs.OwnDims.{own-dims}
-use Rattle.ph_engine.proofs.Filed.{fetched, unfetched, failed-once, failed-never}
+use Rattle.ph_engine.proofs.OwnHeaders.{own-none}
+use Rattle.ph_engine.proofs.Filed.{fetched, fetch-load, has-fetched, absent, over, long_bytes, failed-once, failed-never}
 
 -- ---- bytes
 
@@ -214,87 +216,96 @@ snapshot-clean most files fault file bytes none fetched sound refused =
     let clash : true ≡ false = sym refused ∙ ap is_refusal line ∙ good in
     cc
 
-record IsBounded (clean : Type 0) (most : ℕ) (file : List ℕ) (told : Option Files) (visits now_visits changes now_changes : ℕ) : Type 0 where
+-- what was counted, over the files that a check may have met
+record IsBounded (clean : Type 0) (most : ℕ) (file : List ℕ) (told : Option Files) (found : Option (List ℕ)) (visits now_visits changes now_changes : ℕ) : Type 0 where
   kept_visits : visits ≤ now_visits
   kept_changes : changes ≤ now_changes
-  most_visits : AreTold told → now_visits ≤ visits + nodes_saved (bytes_checked most (told_files told) file)
-  most_changes : AreTold told → now_changes ≤ changes + length (bytes_checked most (told_files told) file) / 16
-  clean_changes : AreTold told → clean → now_changes ≤ changes + nodes_saved (bytes_checked most (told_files told) file)
+  most_visits : (files : Files) → Meets told file found files → now_visits ≤ visits + nodes_saved (bytes_checked most files file)
+  most_changes : (files : Files) → Meets told file found files → now_changes ≤ changes + length (bytes_checked most files file) / 16
+  clean_changes : (files : Files) → Meets told file found files → clean → now_changes ≤ changes + nodes_saved (bytes_checked most files file)
   few_visits : now_visits ≤ visits + most / 16
   few_changes : now_changes ≤ changes + most / 16
 
-no-work : (clean : Type 0) (most : ℕ) (file : List ℕ) (told : Option Files) (v c : ℕ) → IsBounded clean most file told v v c c
-no-work clean most file told v c = record {
-  clean_changes = λ t e. omega arith;
+no-work : (clean : Type 0) (most : ℕ) (file : List ℕ) (told : Option Files) (found : Option (List ℕ)) (v c : ℕ) → IsBounded clean most file told found v v c c
+no-work clean most file told found v c = record {
+  clean_changes = λ files m e. omega arith;
   kept_visits = omega arith;
   kept_changes = omega arith;
-  most_visits = λ t. omega arith;
-  most_changes = λ t. omega arith;
+  most_visits = λ files m. omega arith;
+  most_changes = λ files m. omega arith;
   few_visits = omega arith;
   few_changes = omega arith;
 }
 
+-- the line for files that give none of the name
+none-line : (most : ℕ) (files : Files) (file : List ℕ) → is_none (fetch most files file) ≡ true → check_line most files false file ≡ reply_text Reply.ErrorFile
+none-line most files file h = ap (λ o. line_of (words_of_file o)) (none-of (fetch most files file) h)
+  where
+    none-of : (o : Option (List ℕ)) → is_none o ≡ true → o ≡ None
+    none-of None h = refl
+    none-of (Some b) h = absurd (let clash : false ≡ true = h in cc)
+
+-- files that may have been met where it is found what those that are told have
+told-met : (told : Option Files) (file : List ℕ) (files : Files) → Meets told file (lookup file (told_files told)) files →
+    lookup file files ≡ lookup file (told_files told)
+told-met told file files (inl e) = ap (λ o. lookup file (told_files o)) (sym e)
+told-met told file files (inr h) = h
+
 module _ (most : ℕ) (file : List ℕ) (told now_told : Option Files) (f now_f : ℕ) (sink now_sink : Taken) where
-  -- by the line, which is that of the definition where the files were told
-  done-by : (v now_v c now_c : ℕ) (fault : Bool) (line : List ℕ) (result : Result Answer Stop) →
+  -- by the line, which is that of the definition for the files that may have been met
+  done-by : (v now_v c now_c : ℕ) (fault : Bool) (found : Option (List ℕ)) (line : List ℕ) (result : Result Answer Stop) →
       Filings true (one_if fault) f now_f → Stays told now_told →
-      (AreTold told → check_line most (told_files told) fault file ≡ line) → LineGiven sink now_sink line result →
-      (AreTold told → result ≡ Ok answer.Good → FileHasSizes (told_files told) file line) →
-      IsBounded (result ≡ Ok answer.Good) most file told v now_v c now_c →
+      ((files : Files) → Meets told file found files → check_line most files fault file ≡ line) → LineGiven sink now_sink line result →
+      ((files : Files) → Meets told file found files → result ≡ Ok answer.Good → FileHasSizes files file line) →
+      IsBounded (result ≡ Ok answer.Good) most file told found v now_v c now_c →
       CheckDone most file (beside_sink sink told f v c) (beside_sink now_sink now_told now_f now_v now_c) (status_of result)
-  done-by v now_v c now_c fault line result n k is g sizes b = record {
+  done-by v now_v c now_c fault found line result n k is g sizes b = record {
     fault = fault;
+    found = found;
     counted = n;
     kept = k;
     ends = ends-of sink now_sink line result;
-    whole = λ t r. subst (Given sink now_sink) (sym (is t)) (whole-of sink now_sink line result g r);
-    refusals = λ t e. ap is_refusal (is t) ∙ refused-of sink now_sink line result g e;
-    cleans = λ t e. ap is_refusal (is t) ∙ clean-of sink now_sink line result g e;
-    cut = λ t e. subst (WritesFront sink now_sink) (sym (is t)) (cut-of sink now_sink line result g e);
+    whole = λ files m r. subst (Given sink now_sink) (sym (is files m)) (whole-of sink now_sink line result g r);
+    refusals = λ files m e. ap is_refusal (is files m) ∙ refused-of sink now_sink line result g e;
+    cleans = λ files m e. ap is_refusal (is files m) ∙ clean-of sink now_sink line result g e;
+    cut = λ files m e. subst (WritesFront sink now_sink) (sym (is files m)) (cut-of sink now_sink line result g e);
     unwritten = unwritten-of sink now_sink line result g;
-    saved = λ t e. subst (FileHasSizes (told_files told) file) (sym (is t)) (sizes t (good-of sink now_sink line result e));
-    own_dims = λ t. own-dims most (told_files told) fault file;
+    saved = λ files m e. subst (FileHasSizes files file) (sym (is files m)) (sizes files m (good-of sink now_sink line result e));
+    own_dims = λ files m. own-dims most files fault file;
     kept_visits = b.kept_visits;
     kept_changes = b.kept_changes;
     most_visits = b.most_visits;
     most_changes = b.most_changes;
-    clean_changes = λ t e. b.clean_changes t (good-of sink now_sink line result e);
-    snapshot_clean = λ t none bytes fetched sound e. snapshot-clean most (told_files told) fault file bytes none
-        fetched sound (ap is_refusal (is t) ∙ refused-of sink now_sink line result g e);
+    clean_changes = λ files m e. b.clean_changes files m (good-of sink now_sink line result e);
+    snapshot_clean = λ files m none bytes fetched sound e.
+        snapshot-clean most files fault file bytes none fetched sound (ap is_refusal (is files m) ∙ refused-of sink now_sink line result g e);
+    snapshot_accepted = λ files m none bytes fetched kind dims width rows saved e.
+        snapshot-clean most files fault file bytes none fetched (own-none kind dims width bytes rows saved)
+        (ap is_refusal (is files m) ∙ refused-of sink now_sink line result g e);
     few_visits = b.few_visits;
     few_changes = b.few_changes;
   }
 
   -- a reply in place of the sizes: no file was read
-  unread-by : {E : Type 0} (v c : ℕ) (fault : Bool) (reply : Result Told E) (result : Result Answer Stop) →
+  unread-by : {E : Type 0} (v c : ℕ) (fault : Bool) (found : Option (List ℕ)) (reply : Result Told E) (result : Result Answer Stop) →
       Filings true (one_if fault) f now_f → Stays told now_told →
-      (AreTold told → check_line most (told_files told) fault file ≡ reply_text Reply.ErrorFile) →
+      ((files : Files) → Meets told file found files → check_line most files fault file ≡ reply_text Reply.ErrorFile) →
       IsReplyTo (reply_text Reply.ErrorFile) reply → ToldOr sink now_sink reply result →
       CheckDone most file (beside_sink sink told f v c) (beside_sink now_sink now_told now_f v c) (status_of result)
-  unread-by v c fault reply result n k is r t =
+  unread-by v c fault found reply result n k is r t =
       let given : LineGiven sink now_sink (reply_text Reply.ErrorFile) result = reply-given sink now_sink (reply_text Reply.ErrorFile) reply result r t in
-      done-by v v c c fault (reply_text Reply.ErrorFile) result n k is given
-      (λ _. never-good sink now_sink (reply_text Reply.ErrorFile) result refl given)
-      (no-work (result ≡ Ok answer.Good) most file told v c)
+      done-by v v c c fault found (reply_text Reply.ErrorFile) result n k is given
+      (λ files m. never-good sink now_sink (reply_text Reply.ErrorFile) result refl given)
+      (no-work (result ≡ Ok answer.Good) most file told found v c)
 
   -- memory was missing
   starved-by : (v c : ℕ) → now_f ≡ f → Stays told now_told → now_sink ≡ sink →
       CheckDone most file (beside_sink sink told f v c) (beside_sink now_sink now_told now_f v c) Memory
   starved-by v c n k s =
-      done-by v v c c false (check_line most (told_files told) false file) (Err stop.NoMemory) (failed-never f now_f (omega (arith, n))) k (λ t. refl) s
-      (λ t e. cc) (no-work _ most file told v c)
-
--- the line for a file that was not there, or too long
-unread-line : (most : ℕ) (file bytes : List ℕ) (told : Option Files) (fault : FetchFault) →
-    (fault ≡ unread.NoMemory → ⊥) → (fault ≡ unread.Failed → ⊥) → Fetches told file most bytes (Err fault) →
-    AreTold told → check_line most (told_files told) false file ≡ reply_text Reply.ErrorFile
-unread-line most file bytes None fault n m g t = absurd t
-unread-line most file bytes (Some files) fault n m g t = ap (λ o. line_of (words_of_file o))
-    (none-of (fetch most files file) (unfetched most files file bytes fault n m g))
-  where
-    none-of : (o : Option (List ℕ)) → is_none o ≡ true → o ≡ None
-    none-of None h = refl
-    none-of (Some b) h = absurd (let clash : false ≡ true = h in cc)
+      done-by v v c c false (lookup file (told_files told)) (check_line most (told_files told) false file) (Err stop.NoMemory)
+      (failed-never f now_f (omega (arith, n))) k
+      (λ files m. ap (λ o. line_of (words_of_file (short_enough most o))) (told-met told file files m)) s
+      (λ files m e. cc) (no-work _ most file told _ v c)
 
 module _ {E : Type 0} (most : ℕ) (file bytes : List ℕ) (told now_told : Option Files) (f now_f : ℕ)
     (sink now_sink : Taken) (v c : ℕ) (reply : Result Told E) (result : Result Answer Stop) where
@@ -310,31 +321,25 @@ module _ {E : Type 0} (most : ℕ) (file bytes : List ℕ) (told now_told : Opti
   starved-told (Err error) (Err stop.WriteFault) h t n k = absurd (let clash : stop.WriteFault ≡ stop.NoMemory = t.0 in cc)
   starved-told (Err error) (Err stop.NoMemory) h t n k = starved-by most file told now_told f now_f sink now_sink v c n k t.1
 
-  -- no file was read
+  -- No file was read. In place of one that was too long some bytes that are too many stand as what was found.
   pub unfetched-done : (fault : FetchFault) → TellsUnfetched fault reply → Fetches told file most bytes (Err fault) →
       FetchCounts f now_f (Err fault) → Stays told now_told → ToldOr sink now_sink reply result →
       CheckDone most file (beside_sink sink told f v c) (beside_sink now_sink now_told now_f v c) (status_of result)
   unfetched-done unread.Failed h g n k t =
-      unread-by most file told now_told f now_f sink now_sink v c true reply result (failed-once f now_f n.0 n.1) k (λ _. refl) (error-line reply unread.Failed h) t
+      unread-by most file told now_told f now_f sink now_sink v c true None reply result (failed-once f now_f n.0 n.1) k
+      (λ files m. refl) (error-line reply unread.Failed h) t
   unfetched-done unread.Absent h g n k t =
-      unread-by most file told now_told f now_f sink now_sink v c false reply result
+      unread-by most file told now_told f now_f sink now_sink v c false None reply result
       (failed-never f now_f (omega (arith, n))) k
-      (unread-line most file bytes told unread.Absent (λ e. cc) (λ e. cc) g) (error-line reply unread.Absent h) t
+      (λ files m. none-line most files file (absent (Command.Load file) file (fetch-load file) most bytes told files g m))
+      (error-line reply unread.Absent h) t
   unfetched-done unread.Over h g n k t =
-      unread-by most file told now_told f now_f sink now_sink v c false reply result
+      let long : Option (List ℕ) = Some (long_bytes (Command.Load file) file (fetch-load file) most) in
+      unread-by most file told now_told f now_f sink now_sink v c false long reply result
       (failed-never f now_f (omega (arith, n))) k
-      (unread-line most file bytes told unread.Over (λ e. cc) (λ e. cc) g) (error-line reply unread.Over h) t
+      (λ files m. none-line most files file (over (Command.Load file) file (fetch-load file) most bytes told files g m))
+      (error-line reply unread.Over h) t
   unfetched-done unread.NoMemory h g n k t = starved-told reply result h t n k
-
--- where the files were told, the bytes that were fetched are those of the file
-module _ (most : ℕ) (file bytes : List ℕ) where
-  read-fetched : (told : Option Files) → Fetches told file most bytes (Ok tt) → length bytes ≤ most → AreTold told → fetch most (told_files told) file ≡ Some bytes
-  read-fetched None g short t = absurd t
-  read-fetched (Some files) g short t = fetched most files file bytes g short
-
-  read-found : (told : Option Files) → Fetches told file most bytes (Ok tt) → AreTold told → lookup file (told_files told) ≡ Some bytes
-  read-found None g t = absurd t
-  read-found (Some files) g t = g
 
 -- a file was read, and its bytes were checked
 pub fetched-done : (most : ℕ) (file bytes : List ℕ) (told now_told : Option Files) (f now_f : ℕ)
@@ -346,16 +351,19 @@ pub fetched-done : (most : ℕ) (file bytes : List ℕ) (told now_told : Option 
     (result ≡ Ok answer.Good → now_c ≤ c + nodes_saved bytes) →
     CheckDone most file (beside_sink sink told f v c) (beside_sink now_sink now_told now_f now_v now_c) (status_of result)
 fetched-done most file bytes told now_told f now_f sink now_sink v now_v c now_c result g short n k line sizes visits most_v changes nodes =
-    let is : AreTold told → fetch most (told_files told) file ≡ Some bytes = read-fetched most file bytes told g short in
-    done-by most file told now_told f now_f sink now_sink v now_v c now_c false (line_of (words_of_snapshot bytes)) result
-    (failed-never f now_f (omega (arith, n))) k (λ t. ap (λ o. line_of (words_of_file o)) (is t)) line
-    (λ t e. record { bytes = bytes; found = read-found most file bytes told g t; sizes = sizes e })
+    let has : (files : Files) → Meets told file (Some bytes) files → lookup file files ≡ Some bytes =
+    λ files m. has-fetched (Command.Load file) file (fetch-load file) most bytes told files g m in
+    let is : (files : Files) → Meets told file (Some bytes) files → fetch most files file ≡ Some bytes =
+    λ files m. fetched most files file bytes (has files m) short in
+    done-by most file told now_told f now_f sink now_sink v now_v c now_c false (Some bytes) (line_of (words_of_snapshot bytes)) result
+    (failed-never f now_f (omega (arith, n))) k (λ files m. ap (λ o. line_of (words_of_file o)) (is files m)) line
+    (λ files m e. record { bytes = bytes; found = has files m; sizes = sizes e })
     (record {
       kept_visits = visits.kept;
       kept_changes = changes.kept;
-      most_visits = λ t. subst (λ o. now_v ≤ v + nodes_saved (bytes_of o)) (sym (is t)) most_v;
-      most_changes = λ t. subst (λ o. now_c ≤ c + length (bytes_of o) / 16) (sym (is t)) (omega (arith, changes.few));
-      clean_changes = λ t e. subst (λ o. now_c ≤ c + nodes_saved (bytes_of o)) (sym (is t)) (nodes e);
+      most_visits = λ files m. subst (λ o. now_v ≤ v + nodes_saved (bytes_of o)) (sym (is files m)) most_v;
+      most_changes = λ files m. subst (λ o. now_c ≤ c + length (bytes_of o) / 16) (sym (is files m)) (omega (arith, changes.few));
+      clean_changes = λ files m e. subst (λ o. now_c ≤ c + nodes_saved (bytes_of o)) (sym (is files m)) (nodes e);
       few_visits = omega (arith, visits.few, short);
       few_changes = omega (arith, changes.few, short);
     })

@@ -1,5 +1,5 @@
 -- What commands on files do, and what they have done once their replies were given to a sink.
-use Rattle.std.proofs.Common.{◌≡◌, ◌≤◌, ◌+◌, ◌*◌, ℕ, inl, inr, arith, Bool, true, false, List, [], ◌∷◌, length, refl, rules, ap, sym, ◌∙◌}
+use Rattle.std.proofs.Common.{◌≡◌, ◌≤◌, ◌+◌, ◌*◌, ℕ, inl, inr, arith, Bool, true, false, List, [], ◌∷◌, length, refl, ap, sym, ◌∙◌}
 use Rattle.std.specs.Prelude.{suc, replicate, ◌⊎◌, ◌<◌, ◌-◌, ◌^◌, ◌||◌, Some, None, is_none, nat_lt, if◌then◌else◌, Result, Ok, Err}
 use Rattle.std.specs.declared.option.Option.{Option}
 use Rattle.std.proofs.lemmas.Bool.{cases_lt, le-leb, lt-leb}
@@ -12,17 +12,15 @@ use Rattle.ph_io.specs.declared.files.FetchFault.TheVariants as by
 use Rattle.ph_io.proofs.Appending.{given_none}
 use Rattle.ph_specs.specs.Past.{without_past}
 use Rattle.ph_specs.specs.Command.{Command}
-use Rattle.ph_specs.specs.Named.{Named, lookup, enter}
+use Rattle.ph_specs.specs.Named.{Named, lookup}
 use Rattle.ph_specs.specs.Reply.{Reply}
 use Rattle.ph_specs.specs.Refusals.{or_else, refusal, fetch, short_enough, bytes_of, refuse_if, refuse_if_bad, has_file_fault, is_full}
 use Rattle.ph_specs.specs.Refusals.{is_too_far_back, table_read, read_length}
 use Rattle.ph_specs.specs.SavedTable.{read_snapshot}
-use Rattle.ph_specs.specs.Snapshot.{snap}
 use Rattle.ph_specs.specs.State.{Slot, Engine, Files, current, outcome}
 use Rattle.ph_specs.specs.Table.{Row}
 use Rattle.ph_specs.specs.Window.{Cursor}
-use Rattle.ph_specs.specs.WorkSets.{all_nodes}
-use Rattle.ph_specs.specs.Engine.{act, effect, unless_refused, load_outcome}
+use Rattle.ph_specs.specs.Engine.{act, unless_refused, load_outcome}
 use Rattle.ph_specs.specs.declared.Kind.{Kind}
 use Rattle.ph_specs.specs.declared.Kind.TheVariants.{Points, Boxes}
 use Rattle.ph_script.specs.declared.reply.Reply.{Reply as Told}
@@ -31,11 +29,10 @@ use Rattle.ph_engine.specs.Beside.{aside, beside_sink, Filings, Tells, IsTold, S
 use Rattle.ph_engine.specs.Doing.{is_on_slot, Begun, DoneOr, Unfiled, Knows, Leads, MakesNodes, HoldsFound, file_read, rows_loaded, rows_read}
 use Rattle.ph_engine.specs.Doing.{is_page, cut_engine, starved_engine, uses_files}
 use Rattle.ph_any_tree.specs.Served.{Does, ServedOr, takes_memory}
-use Rattle.ph_any_tree.specs.Shelves.{Shelf, Unfilled, Entered}
 use Rattle.ph_engine.specs.Filing.{Filed, FiledOr, LoadsNodes, LoadsOr, TellsUnfetched, read_table, read_reply}
 use Rattle.ph_engine.specs.Refusing.{early_refusal, late_refusal}
 use Rattle.ph_any_tree.specs.Tables.{table_at, AnyTable, slot_of, engine_of}
-use Rattle.ph_any_tree.specs.Working.{work, work_of, engine_bounds, least_unless, IsAtMost, IsAtLeast}
+use Rattle.ph_any_tree.specs.Working.{work_of, engine_bounds, least_unless, IsAtMost, IsAtLeast}
 use Rattle.ph_any_tree.specs.Telling.{Tells as Says, ToldOr}
 use Rattle.ph_any_tree.specs.declared.answer.Answer.{Answer}
 use Rattle.ph_any_tree.specs.declared.answer.Stop.{Stop}
@@ -190,87 +187,6 @@ never-early command points boxes s = by-kind s.kind
     by-kind Points = points s
     by-kind Boxes = boxes s
 
--- A command makes a file of these bytes and has this reply, is refused only where the files fail, and visits all nodes.
-pub record IsStore (command : Command) (name : List ℕ) (bytes : Slot → List ℕ) (reply : Slot → Reply) : Type 0 where
-  pub on_slot : is_on_slot command ≡ true
-  pub uses : uses_files command ≡ true
-  pub early : (s : Slot) → early_refusal s command ≡ None
-  pub late : (most : ℕ) (s : Slot) (files : Files) (fault : Bool) → late_refusal most s files fault command ≡ refuse_if fault Reply.ErrorFile None
-  pub makes : (s : Slot) (files : Files) → effect (engine_of s) files command ≡ outcome (engine_of s) (enter name (bytes s) files) (reply s ∷ [])
-  pub costs : (s : Slot) (files : Files) → engine_bounds (engine_of s) files command ≡ (let n = length (all_nodes s.width s.dims s.table) in work n n 0 0)
-
-module _ (command : Command) (name : List ℕ) (bytes : Slot → List ℕ) (reply : Slot → Reply) (k : IsStore command name bytes reply) where
-  store-refusal : (most : ℕ) (s : Slot) (files : Files) (fault : Bool) → refusal most (engine_of s) files fault command ≡ refuse_if fault Reply.ErrorFile None
-  store-refusal most s files fault = refusal-parts most (engine_of s) files fault command k.on_slot ∙
-      ap (λ r. or_else r (late_refusal most s files fault command)) (k.early s) ∙ k.late most s files fault
-
-  store-does : (most : ℕ) (s : Slot) (files : Files) → act most (engine_of s) files false command ≡ outcome (engine_of s) (enter name (bytes s) files) (reply s ∷ [])
-  store-does most s files = ap (λ r. unless_refused r (engine_of s) files command) (store-refusal most s files false) ∙ k.makes s files
-
-  store-fails : (most : ℕ) (s : Slot) (files : Files) → act most (engine_of s) files true command ≡ outcome (engine_of s) files (Reply.ErrorFile ∷ [])
-  store-fails most s files = ap (λ r. unless_refused r (engine_of s) files command) (store-refusal most s files true)
-
-  -- the files that it leads to: those that are told now, where some were told
-  entered-leads : (most : ℕ) (s : Slot) (told now_told : Option Files) →
-      ((files : Files) → told ≡ Some files → now_told ≡ Some (enter name (bytes s) files)) → (files : Files) →
-      Leads (act most (engine_of s) files false command) (engine_of s) files told now_told (reply s ∷ [])
-  entered-leads most s told now_told h files = record { after = enter name (bytes s) files; is = store-does most s files; told_files = h files }
-
-  unfilled-leads : (most : ℕ) (s : Slot) (told now_told : Option Files) → Stays told now_told → (files : Files) →
-      Leads (act most (engine_of s) files true command) (engine_of s) files told now_told (Reply.ErrorFile ∷ [])
-  unfilled-leads most s told now_told h files = record { after = files; is = store-fails most s files; told_files = stays-told told now_told files h }
-
-  module _ (most : ℕ) (s : Slot) (before now : Shelf) (v now_v c : ℕ) where
-    store-most : (files : Files) (fault : Bool) → now_v ≤ v + length (all_nodes s.width s.dims s.table) →
-        IsAtMost (work_of most (engine_of s) files fault command) v now_v c c
-    store-most files fault few = rw (k.costs s files) (record { few_visits = few; few_changes = omega arith })
-
-    pub stored-filed : now_v ≡ v + length (all_nodes s.width s.dims s.table) →
-        Entered before now name (bytes s) (length (bytes s)) →
-        Filed most (engine_of s) command (aside before.files before.faults v c) (aside now.files now.faults now_v c)
-        (engine_of s) (reply s)
-    stored-filed all h = record {
-      fault = false;
-      found = None;
-      counted = rw k.uses (failed-never before.faults now.faults h.later);
-      does = λ files x. entered-leads most s before.files now.files h.entered files;
-      most_work = λ files x. store-most files false (omega (arith, all));
-      least_work = λ files x. rw (k.costs s files, store-refusal most s files false) (record { enough_visits = omega (arith, all); enough_changes = omega arith });
-      nodes = λ files x rows is. omega arith;
-    }
-
-    pub unstored-filed : v ≤ now_v → now_v ≤ v + length (all_nodes s.width s.dims s.table) → Unfilled before now →
-        Filed most (engine_of s) command (aside before.files before.faults v c) (aside now.files now.faults now_v c)
-        (engine_of s) Reply.ErrorFile
-    unstored-filed later few h = record {
-      fault = true;
-      found = None;
-      counted = rw k.uses (failed-once before.faults now.faults h.later h.rose);
-      does = λ files x. unfilled-leads most s before.files now.files h.stays files;
-      most_work = λ files x. store-most files true few;
-      least_work = λ files x. rw (k.costs s files, store-refusal most s files true) (record { enough_visits = omega (arith, later); enough_changes = omega arith });
-      nodes = λ files x rows is. omega arith;
-    }
-
--- ---- save
-
-store-save : (name : List ℕ) → IsStore (Command.Save name) name (λ s. snap s.kind s.dims s.width s.table) (λ s. Reply.Saved (length (snap s.kind s.dims s.width s.table)))
-store-save name = search (rules, never-early)
-
-module _ (most : ℕ) (s : Slot) (name : List ℕ) (before now : Shelf) (v now_v c : ℕ) where
-  pub saved-filed : (count : ℕ) → now_v ≡ v + length (all_nodes s.width s.dims s.table) →
-      Entered before now name (snap s.kind s.dims s.width s.table) count →
-      Filed most (engine_of s) (Command.Save name) (aside before.files before.faults v c)
-      (aside now.files now.faults now_v c) (engine_of s) (Reply.Saved count)
-  saved-filed count all h = rw h.counted
-      (stored-filed (Command.Save name) name _ _ (store-save name) most s before now v now_v c all
-      (record { counted = refl; later = h.later; entered = h.entered }))
-
-  pub unsaved-filed : v ≤ now_v → now_v ≤ v + length (all_nodes s.width s.dims s.table) → Unfilled before now →
-      Filed most (engine_of s) (Command.Save name) (aside before.files before.faults v c)
-      (aside now.files now.faults now_v c) (engine_of s) Reply.ErrorFile
-  unsaved-filed later few h = unstored-filed (Command.Save name) name _ _ (store-save name) most s before now v now_v c later few h
-
 -- ---- commands that read a file
 
 -- A command reads a file, is refused for no cause before that, and may do nothing. Where memory is missing for the file, the engine stays.
@@ -337,7 +253,7 @@ module _ (command : Command) (name : List ℕ) (k : IsFetch command name) where
   unread most s told now_told files fault st h = record { after = files; is = none-fetched most s files fault h; told_files = stays-told told now_told files st }
 
   -- the bytes of a file that is too long
-  abbrev long_bytes : ℕ → List ℕ
+  abbrev pub long_bytes : ℕ → List ℕ
   long_bytes most = replicate (suc most) 0
 
   -- no file of the name is there, or one that is too long
@@ -349,17 +265,23 @@ module _ (command : Command) (name : List ℕ) (k : IsFetch command name) where
       ap (λ x. is_none (short_enough most x)) h ∙ ap (λ b. is_none (if b then Some (long_bytes most) else None))
       (lt-leb (length (long_bytes most)) most (omega (arith, length-replicate {A = ℕ} (suc most) 0)))
 
-  absent : (most : ℕ) (bytes : List ℕ) (told : Option Files) (files : Files) →
+  pub absent : (most : ℕ) (bytes : List ℕ) (told : Option Files) (files : Files) →
       Fetches told name most bytes (Err by.Absent) → Knows command told None files →
       (false || is_none (fetch most files name)) ≡ true
   absent most bytes told files g (inl e) = none-there most files (let at : Fetches (Some files) name most bytes (Err by.Absent) = rw e at g in at)
   absent most bytes told files g (inr h) = none-there most files (holds None files h)
 
-  over : (most : ℕ) (bytes : List ℕ) (told : Option Files) (files : Files) →
+  pub over : (most : ℕ) (bytes : List ℕ) (told : Option Files) (files : Files) →
       Fetches told name most bytes (Err by.Over) → Knows command told (Some (long_bytes most)) files →
       (false || is_none (fetch most files name)) ≡ true
   over most bytes told files g (inl e) = unfetched most files name bytes by.Over (λ no. cc) (λ no. cc) (rw e at g)
   over most bytes told files g (inr h) = long-there most files (holds (Some (long_bytes most)) files h)
+
+  -- files that it may have met have the bytes that were read
+  pub has-fetched : (most : ℕ) (bytes : List ℕ) (told : Option Files) (files : Files) →
+      Fetches told name most bytes (Ok tt) → Knows command told (Some bytes) files → lookup name files ≡ Some bytes
+  has-fetched most bytes told files g (inl e) = let at : Fetches (Some files) name most bytes (Ok tt) = rw e at g in at
+  has-fetched most bytes told files g (inr h) = holds (Some bytes) files h
 
   module _ (most : ℕ) (s : Slot) (bytes : List ℕ) (f now_f v now_v c now_c : ℕ) where
     fetch-least : (files : Files) (fault : Bool) → v ≤ now_v → c ≤ now_c → IsAtLeast (work_of most (engine_of s) files fault command) v now_v c now_c
@@ -372,11 +294,6 @@ module _ (command : Command) (name : List ℕ) (k : IsFetch command name) where
 
     fetch-idle : (files : Files) (fault : Bool) → now_v ≡ v → now_c ≡ c → IsAtMost (work_of most (engine_of s) files fault command) v now_v c now_c
     fetch-idle files fault h i = record { few_visits = omega (arith, h); few_changes = omega (arith, i) }
-
-    -- files that it may have met have the bytes that were read
-    has-fetched : (told : Option Files) (files : Files) → Fetches told name most bytes (Ok tt) → Knows command told (Some bytes) files → lookup name files ≡ Some bytes
-    has-fetched told files g (inl e) = let at : Fetches (Some files) name most bytes (Ok tt) = rw e at g in at
-    has-fetched told files g (inr h) = holds (Some bytes) files h
 
     -- a file was read, and what was to be done with its bytes is done
     pub fetched-filed : (told now_told : Option Files) (now : Engine) (reply : Reply) →
@@ -391,10 +308,10 @@ module _ (command : Command) (name : List ℕ) (k : IsFetch command name) where
       fault = false;
       found = Some bytes;
       counted = rw k.uses (failed-never f now_f (omega (arith, e)));
-      does = λ files x. record { after = files; is = does files (has-fetched told files g x); told_files = stays-told told now_told files st };
-      most_work = λ files x. few files (has-fetched told files g x);
+      does = λ files x. record { after = files; is = does files (has-fetched most bytes told files g x); told_files = stays-told told now_told files st };
+      most_work = λ files x. few files (has-fetched most bytes told files g x);
       least_work = λ files x. fetch-least files false h i;
-      nodes = λ files x. made files (has-fetched told files g x);
+      nodes = λ files x. made files (has-fetched most bytes told files g x);
     }
 
     -- no file could be read
@@ -464,7 +381,7 @@ module _ (command : Command) (name : List ℕ) (k : IsFetch command name) where
         IsAtMost (work_of most (engine_of s) files false command) v now_v c now_c) →
         Unfiled most (engine_of s) command (aside told f v c) (aside now_told now_f now_v now_c) now
     fetched-starved told now_told now part g st e is few =
-        starved told now_told (Some bytes) now part st e (λ files x. is files (has-fetched told files g x)) (λ files x. few files (has-fetched told files g x))
+        starved told now_told (Some bytes) now part st e (λ files x. is files (has-fetched most bytes told files g x)) (λ files x. few files (has-fetched most bytes told files g x))
 
 -- ---- load
 

@@ -12,11 +12,11 @@ pub mod Defined
 pub mod Refused
 pub mod Plain
 pub mod Commanded
-pub mod Drafts
 pub mod Filed
 pub mod Quiet
 pub mod Loads
 pub mod OwnDims
+pub mod OwnHeaders
 pub mod Checked
 pub mod Soaks
 pub mod Ends

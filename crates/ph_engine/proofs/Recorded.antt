@@ -1,9 +1,9 @@
 -- What imports and exports do.
-use Rattle.std.proofs.Common.{◌≡◌, ◌≤◌, ◌+◌, ℕ, Bool, true, false, List, [], ◌∷◌, length, refl, rules, ap, sym, ◌∙◌}
+use Rattle.std.proofs.Common.{◌≡◌, ◌≤◌, ◌+◌, ℕ, Bool, true, false, List, [], ◌∷◌, length, refl, ap, sym, ◌∙◌}
 use Rattle.std.specs.Prelude.{◌||◌, Some, None, nat_lt, if◌then◌else◌, Result, Ok, Err, Option}
 use Rattle.ph_io.specs.Shelf.{Stays, Fetches}
 use Rattle.ph_specs.specs.Command.{Command}
-use Rattle.ph_specs.specs.Csv.{csv_rows, csv_text}
+use Rattle.ph_specs.specs.Csv.{csv_rows}
 use Rattle.ph_specs.specs.Engine.{act, unless_refused, import_outcome}
 use Rattle.ph_specs.specs.Named.{Named, lookup}
 use Rattle.ph_specs.specs.Refusals.{bytes_of, import_rows, put_all_read, read_length, refuse_if, refuse_if_bad}
@@ -11,7 +11,6 @@ use Rattle.ph_specs.specs.Reply.{Reply}
 use Rattle.ph_specs.specs.State.{Slot, Files, outcome, past_in, with_past}
 use Rattle.ph_specs.specs.Table.{Row}
 use Rattle.ph_specs.specs.Window.{Cursor}
-use Rattle.ph_specs.specs.WorkSets.{all_nodes}
 use Rattle.ph_specs.specs.declared.Kind.{Kind}
 use Rattle.ph_script.specs.declared.reply.Reply.{Reply as Told}
 use Rattle.ph_script.specs.Meaning.{reply_of}
@@ -20,11 +19,10 @@ use Rattle.ph_any_tree.specs.Recording.{first_rows, has_none, import_changes, im
 use Rattle.ph_any_tree.specs.Recording.{table_with, table_with_some, table_with_first}
 use Rattle.ph_engine.specs.Doing.{rows_put, with_first}
 use Rattle.ph_engine.specs.Beside.{aside}
-use Rattle.ph_any_tree.specs.Shelves.{Shelf, Unfilled, Entered}
-use Rattle.ph_engine.specs.Filing.{Filed, FiledOr}
+use Rattle.ph_engine.specs.Filing.{FiledOr}
 use Rattle.ph_any_tree.specs.Tables.{AnyTable, slot_of, engine_of}
 use Rattle.ph_any_tree.specs.Working.{import_bounds, work_of, IsAtMost}
-use Rattle.ph_engine.proofs.Filed.{IsFetch, IsStore, fetched-act, fetched-filed, fetched-starved, never-early, stored-filed, unstored-filed}
+use Rattle.ph_engine.proofs.Filed.{IsFetch, fetched-act, fetched-filed, fetched-starved, never-early}
 
 -- ---- import
 
@@ -142,20 +140,3 @@ module _ (most : ℕ) (kind : Kind) (t : AnyTable) (cursors : Named Cursor) (nam
       ∙ ap (λ read. engine_of (slot_of kind (table_with_first t h.0 read) cursors)) (sym (read-is kind t cursors files name bytes header l))
       ∙ some-first kind t cursors h.0 (import_rows (slot_of kind t cursors) files name header))
       (import-most few less)
-
--- ---- export
-
-store-export : (name : List ℕ) → IsStore (Command.Export name) name (λ s. csv_text s.table) (λ s. Reply.Exported (length s.table))
-store-export name = search (rules, never-early)
-
-module _ (most : ℕ) (s : Slot) (name : List ℕ) (before now : Shelf) (v now_v c : ℕ) where
-  pub exported-filed : (count : ℕ) → count ≡ length s.table → now_v ≡ v + length (all_nodes s.width s.dims s.table) →
-      Entered before now name (csv_text s.table) (length (csv_text s.table)) →
-      Filed most (engine_of s) (Command.Export name) (aside before.files before.faults v c)
-      (aside now.files now.faults now_v c) (engine_of s) (Reply.Exported count)
-  exported-filed count n all h = rw n (stored-filed (Command.Export name) name _ _ (store-export name) most s before now v now_v c all h)
-
-  pub unexported-filed : v ≤ now_v → now_v ≤ v + length (all_nodes s.width s.dims s.table) → Unfilled before now →
-      Filed most (engine_of s) (Command.Export name) (aside before.files before.faults v c)
-      (aside now.files now.faults now_v c) (engine_of s) Reply.ErrorFile
-  unexported-filed later few h = unstored-filed (Command.Export name) name _ _ (store-export name) most s before now v now_v c later few h

@@ -8,7 +8,6 @@ use Rattle.ph_specs.specs.Command.{Command}
 use Rattle.ph_specs.specs.Engine.{unless_refused}
 use Rattle.ph_specs.specs.Named.{Named}
 use Rattle.ph_specs.specs.Refusals.{refusal, has_wrong_kind, boxes_of}
-use Rattle.ph_specs.specs.Reply.{Reply}
 use Rattle.ph_specs.specs.State.{Slot, Files, outcome}
 use Rattle.ph_specs.specs.Window.{Cursor}
 use Rattle.ph_script.specs.declared.reply.Reply.{Reply as Told}
@@ -27,22 +26,8 @@ module _ (kind : Kind) (t : AnyTable) (cursors : Named Cursor) (n : ℕ) where
   abbrev slot : Slot
   slot = slot_of kind t cursors
 
-  far : (most : ℕ) (files : Files) (fault : Bool) → length t.tree.past < n → refusal most (engine_of slot) files fault (Command.Back n) ≡ Some Reply.ErrorPast
-  far most files fault h = let k = kind-of-back kind n in rw (k.0, k.1, lt-ltb (length t.tree.past) n h) refl
-
   near : (most : ℕ) (files : Files) (fault : Bool) → n ≤ length t.tree.past → refusal most (engine_of slot) files fault (Command.Back n) ≡ None
   near most files fault h = let k = kind-of-back kind n in rw (k.0, k.1, le-ltb (length t.tree.past) n h) refl
-
-  pub back-refused : {E : Type 0} (v c : ℕ) (reply : Told) → reply_of reply ≡ Reply.ErrorPast →
-      length t.tree.past < n → QuietOr {E = E} (engine_of slot) (Command.Back n) v v c c (engine_of slot) (Ok reply)
-  back-refused v c reply said h = record {
-    filed = λ most files filings. filed-quietly most (engine_of slot) (engine_of slot) (Command.Back n) (reply_of reply) files filings v v c c
-        (λ most files fault. ap (λ r. unless_refused r (engine_of slot) files (Command.Back n))
-        (far most files fault h) ∙ (λ i. outcome (engine_of slot) files (sym said i ∷ [])))
-        (λ most files fault. record { few_visits = omega arith; few_changes = omega arith })
-        (λ most files fault. rw (far most files fault h) (record { enough_visits = omega arith; enough_changes = omega arith }))
-        (λ files rows is. absurd (let no : None ≡ Some rows = is in cc));
-  }
 
   pub back-quiet : {E : Type 0} (now : AnyTable) (v now_v c now_c : ℕ) (result : Result Told E) →
       n ≤ length t.tree.past → GoesBackOr t n now result → BackWork t n v now_v c now_c result →

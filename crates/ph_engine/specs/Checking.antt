@@ -18,10 +18,10 @@ use Rattle.ph_specs.specs.State.{Files}
 use Rattle.ph_specs.specs.Stats.{stats}
 use Rattle.ph_specs.specs.Table.{Row}
 use Rattle.ph_specs.specs.WorkSets.{all_nodes}
-use Rattle.ph_engine.specs.Beside.{Beside, AreTold, Filings}
+use Rattle.ph_engine.specs.Beside.{Beside, Filings}
+use Rattle.ph_engine.specs.Doing.{HoldsFound}
 use Rattle.ph_any_tree.specs.Telling.{refuses, is_refusal}
 use Rattle.ph_any_tree.specs.Working.{one_if}
-use Rattle.ph_engine.specs.ScriptMachine.{told_files}
 use Rattle.ph_engine.specs.Seen.{Seen}
 use Rattle.ph_any_tree.specs.Tables.{AnyTable}
 use Rattle.ph_engine.specs.Statuses.{IsRead, read_status, stop_status}
@@ -80,28 +80,36 @@ pub record FileHasSizes (files : Files) (file line : List ℕ) : Type 0 where
   pub found : lookup file files ≡ Some bytes
   pub sizes : HasSizes bytes line
 
--- A file was checked, and the files are as they were. Where they were told, the line is that of the definition, with a fault of
--- the files or without; it never tells that the dimensions are others than were asked for, since none were.
--- A file that is a snapshot is not refused, and where it is told so no more changes are counted than its tree has nodes.
+-- files that a check of this file may have met: those that are told, and any that have under its name what it found
+abbrev pub Meets : Option Files → List ℕ → Option (List ℕ) → Files → Type 0
+Meets told file found files = (told ≡ Some files) ⊎ HoldsFound (Some file) files found
+
+-- A file was checked, and the files are as they were. The line is that of the definition for the files that are told, and for any that have what it found under the
+-- name of the file, with a fault of the files or without; it never tells that the dimensions are others than were asked for, since none were.
+-- Where the files do not fail, one that is fetched and is the snapshot of some table is not refused. A clean one counts no more changes than its tree has nodes.
 pub record CheckDone (most : ℕ) (file : List ℕ) (b now_b : Beside) (status : Status) : Type 0 where
   pub fault : Bool
+  pub found : Option (List ℕ)
   pub counted : Filings true (one_if fault) b.filings now_b.filings
   pub kept : Stays b.files now_b.files
   pub ends : (status ≡ Clean) ⊎ ((status ≡ Refused) ⊎ ((status ≡ WriteFault) ⊎ (status ≡ Memory)))
-  pub whole : AreTold b.files → IsRead status → Given b.sink now_b.sink (check_line most (told_files b.files) fault file)
-  pub refusals : AreTold b.files → status ≡ Refused → is_refusal (check_line most (told_files b.files) fault file) ≡ true
-  pub cleans : AreTold b.files → status ≡ Clean → is_refusal (check_line most (told_files b.files) fault file) ≡ false
-  pub cut : AreTold b.files → status ≡ WriteFault → WritesFront b.sink now_b.sink (check_line most (told_files b.files) fault file)
+  pub whole : (files : Files) → Meets b.files file found files → IsRead status → Given b.sink now_b.sink (check_line most files fault file)
+  pub refusals : (files : Files) → Meets b.files file found files → status ≡ Refused → is_refusal (check_line most files fault file) ≡ true
+  pub cleans : (files : Files) → Meets b.files file found files → status ≡ Clean → is_refusal (check_line most files fault file) ≡ false
+  pub cut : (files : Files) → Meets b.files file found files → status ≡ WriteFault → WritesFront b.sink now_b.sink (check_line most files fault file)
   pub unwritten : status ≡ Memory → now_b.sink ≡ b.sink
-  pub saved : AreTold b.files → status ≡ Clean → FileHasSizes (told_files b.files) file (check_line most (told_files b.files) fault file)
-  pub own_dims : AreTold b.files → check_line most (told_files b.files) fault file ≡ reply_text Reply.BadDims → ⊥
+  pub saved : (files : Files) → Meets b.files file found files → status ≡ Clean → FileHasSizes files file (check_line most files fault file)
+  pub own_dims : (files : Files) → Meets b.files file found files → check_line most files fault file ≡ reply_text Reply.BadDims → ⊥
   pub kept_visits : b.visits ≤ now_b.visits
   pub kept_changes : b.changes ≤ now_b.changes
-  pub most_visits : AreTold b.files → now_b.visits ≤ b.visits + nodes_saved (bytes_checked most (told_files b.files) file)
-  pub most_changes : AreTold b.files → now_b.changes ≤ b.changes + length (bytes_checked most (told_files b.files) file) / 16
-  pub clean_changes : AreTold b.files → status ≡ Clean → now_b.changes ≤ b.changes + nodes_saved (bytes_checked most (told_files b.files) file)
-  pub snapshot_clean : AreTold b.files → fault ≡ false → (bytes : List ℕ)
-      → fetch most (told_files b.files) file ≡ Some bytes → own_fault bytes ≡ None → status ≡ Refused → ⊥
+  pub most_visits : (files : Files) → Meets b.files file found files → now_b.visits ≤ b.visits + nodes_saved (bytes_checked most files file)
+  pub most_changes : (files : Files) → Meets b.files file found files → now_b.changes ≤ b.changes + length (bytes_checked most files file) / 16
+  pub clean_changes : (files : Files) → Meets b.files file found files → status ≡ Clean → now_b.changes ≤ b.changes + nodes_saved (bytes_checked most files file)
+  pub snapshot_clean : (files : Files) → Meets b.files file found files → fault ≡ false → (bytes : List ℕ)
+      → fetch most files file ≡ Some bytes → own_fault bytes ≡ None → status ≡ Refused → ⊥
+  pub snapshot_accepted : (files : Files) → Meets b.files file found files → fault ≡ false → (bytes : List ℕ)
+      → fetch most files file ≡ Some bytes → (kind : Kind) (dims width : ℕ) (rows : List Row)
+      → IsSnapshotOf kind dims width bytes rows → status ≡ Refused → ⊥
   pub few_visits : now_b.visits ≤ b.visits + most / 16
   pub few_changes : now_b.changes ≤ b.changes + most / 16
 

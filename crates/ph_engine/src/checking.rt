@@ -77,7 +77,11 @@ fn check_bytes<O: Sink, V: Ledger, C: Ledger>(
     ensures cause { StopHasCause (O.faults out.old) (O.faults out.new) result }
 {
     match read_tree(alloc, bytes, changes) {
-        Ok((kind, tree)) => say_line(out, table_line(kind, &tree, visits).as_str()),
+        Ok((kind, tree)) => {
+            let line = table_line(kind, &tree, visits);
+            drop(tree);
+            say_line(out, line.as_str())
+        }
         Err(fault) => tell(out, &mut Text::new(), &fault_reply(fault)),
     }
 }

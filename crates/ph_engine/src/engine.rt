@@ -19,6 +19,7 @@ use ph_steps::Steps;
 use ph_tree::NoMemory;
 use std::alloc::Global;
 use std::marker::Model;
+use std::mem::replace;
 use std::sync::ledger::Ledger;
 
 /// The state of the program: two slots, of which one is current. It takes memory for the nodes of its trees alone.
@@ -63,7 +64,8 @@ impl Engine {
     pub(crate) fn open_points(&mut self, alloc: Global)
         ensures { self.new ≡ opened self.old [] }
     {
-        self.a = Slot::new(alloc);
+        // An assignment would let the former tree go here, in sixteen arms that each want a proof; `drop` has its own.
+        drop(replace(&mut self.a, Slot::new(alloc)));
         self.current = Which::A;
     }
 

@@ -141,6 +141,7 @@ fn replace(tree: &mut AnyTree, loaded: AnyTree) -> Reply
 {
     let rows = loaded.len();
     if rows > tree.max() {
+        drop(loaded);
         return Reply::ErrorFull;
     }
     tree.replace(loaded);

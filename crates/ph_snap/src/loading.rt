@@ -1,7 +1,8 @@
 //! The tree of a snapshot.
 
-ghost use Rattle.std.specs.Prelude.{◌≡◌, ◌+◌, ◌*◌, ◌-◌, ◌^◌, ◌≤◌, true, false, None, Some, Ok, length, drop, slice_index, IfOk, IfErr};
+ghost use Rattle.std.specs.Prelude.{◌≡◌, ◌+◌, ◌*◌, ◌-◌, ◌^◌, ◌≤◌, List, true, false, None, Some, Ok, length, drop, slice_index, IfOk, IfErr};
 ghost use Rattle.ph_specs.specs.RecordNames.{load_fault, body_fault, first_node, read_nodes, read_snapshot, IsSnapshotOf};
+ghost use Rattle.ph_specs.specs.TableNames.{Row};
 ghost use Rattle.ph_specs.specs.TreeNames.{node_size};
 ghost use Rattle.ph_specs.specs.WorkNames.{all_nodes};
 ghost use Rattle.ph_snap.specs.Faults.{IsLoadFault};
@@ -38,6 +39,7 @@ pub fn load<const D: usize, C: Ledger>(
     ensures width { IfOk result (λ t. t.width ≡ w) }
     ensures max { IfOk result (λ t. t.max ≡ 2 ^ 64 - 1) }
     ensures fault { IfErr result (λ e. IsLoadFault (load_fault kind D w bytes.now) e) }
+    ensures accepts { (t : List Row) → IsSnapshotOf kind D w bytes.now t → load_fault kind D w bytes.now ≡ None }
     ensures changes { 16 * changes.new ≤ 16 * changes.old + length bytes.now }
     ensures nodes { IfOk result (λ t. changes.new ≡ changes.old + length (all_nodes w D t.table)) }
     ensures kept { changes.old ≤ changes.new }

@@ -6,14 +6,14 @@ use Rattle.ph_engine.proofs.checking.check_bytes.Goals as goal
 pub returns-in-Ok-clause-line : goal.returns-in-Ok-clause-line
 returns-in-Ok-clause-line g c =
     sizes-given c.args.bytes.now c.in-Ok.kind (any_table c.in-Ok.tree) c.in-Ok.ensures.saved _ _ c.as_str.result.now
-    c.table_line.result.bytes c.say_line.result c.as_str.ensures.value c.table_line.ensures.line c.say_line.ensures.line
+    c.table_line-line.result.bytes c.say_line.result c.as_str.ensures.value c.table_line-line.ensures.line c.say_line.ensures.line
 
 pub returns-in-Ok-clause-sizes : goal.returns-in-Ok-clause-sizes
 returns-in-Ok-clause-sizes g c = λ e. has-sizes c.args.bytes.now c.in-Ok.kind (any_table c.in-Ok.tree) c.in-Ok.ensures.saved
 
 pub returns-in-Ok-clause-most_visits : goal.returns-in-Ok-clause-most_visits
 returns-in-Ok-clause-most_visits g c =
-    omega (arith, c.table_line.ensures.visits, nodes-are c.args.bytes.now c.in-Ok.kind (any_table c.in-Ok.tree) c.in-Ok.ensures.saved)
+    omega (arith, c.table_line-line.ensures.visits, nodes-are c.args.bytes.now c.in-Ok.kind (any_table c.in-Ok.tree) c.in-Ok.ensures.saved)
 
 pub returns-in-Ok-clause-nodes : goal.returns-in-Ok-clause-nodes
 returns-in-Ok-clause-nodes g c e = omega (arith, c.in-Ok.ensures.nodes, nodes-are c.args.bytes.now c.in-Ok.kind (any_table c.in-Ok.tree) c.in-Ok.ensures.saved)

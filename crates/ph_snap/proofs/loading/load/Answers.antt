@@ -1,6 +1,7 @@
 use Rattle.std.proofs.Common.{length, ap, sym, subst, ◌∙◌, arith}
 use Rattle.ph_specs.specs.SnapshotOf.{IsSnapshotOf}
 use Rattle.ph_specs.specs.WorkSets.{all_nodes}
+use Rattle.ph_specs.proofs.laws.Snapshots.{none-from_snapshot}
 use Rattle.ph_snap.proofs.Asked.{empty-is, root-asked, body-asked}
 use Rattle.ph_snap.proofs.Headings.{given-fault, other-fault, header-dims}
 use Rattle.ph_snap.proofs.Sizes.{rows-points, nodes-size}
@@ -69,3 +70,12 @@ pub returns-in-Err-load_root-clause-fault : goal.returns-in-Err-load_root-clause
 returns-in-Err-load_root-clause-fault g c =
     body-asked c.in-Ok.ensures.header (c.is_asked.ensures.yes c.if-not-is_asked.false) c.if-not-header.false c.bits.ensures.value
     c.in-Err-load_root.fault c.in-Err-load_root.ensures.err
+
+pub returns-in-Err-clause-accepts : goal.returns-in-Err-clause-accepts
+returns-in-Err-clause-accepts g c t h = none-from_snapshot c.args.kind g.row.D c.args.w c.args.bytes.now t h
+
+pub returns-then-not-is_asked-clause-accepts : goal.returns-then-not-is_asked-clause-accepts
+returns-then-not-is_asked-clause-accepts g c t h = none-from_snapshot c.args.kind g.row.D c.args.w c.args.bytes.now t h
+
+pub returns-in-Err-load_root-clause-accepts : goal.returns-in-Err-load_root-clause-accepts
+returns-in-Err-load_root-clause-accepts g c t h = none-from_snapshot c.args.kind g.row.D c.args.w c.args.bytes.now t h
