@@ -9,3 +9,4 @@ pub mod RowNumbers
 pub mod Unended
 pub mod Pieces
 pub mod KeptName
+pub mod LineParts

@@ -108,19 +108,37 @@ impl Plain {
 fn plain_word(line: &[u8]) -> Option<(Plain, usize)>
     ensures { IfSome result (λ r. line.now ≡ word_of r.0 ++ 32 ∷ drop r.1 line.now) }
 {
-    match line {
-        [b'p', b'u', b't', b' ', ..] => Some((Plain::Put, 4)),
-        [b'g', b'e', b't', b' ', ..] => Some((Plain::Get, 4)),
-        [b'd', b'e', b'l', b' ', ..] => Some((Plain::Del, 4)),
-        [b'm', b'o', b'v', b'e', b' ', ..] => Some((Plain::Relocate, 5)),
-        [b'w', b'i', b'n', b'd', b'o', b'w', b' ', ..] => Some((Plain::Window, 7)),
-        [b'n', b'e', b'a', b'r', b' ', ..] => Some((Plain::Near, 5)),
-        [b'w', b'i', b't', b'h', b'i', b'n', b' ', ..] => Some((Plain::Within, 7)),
-        [b'o', b'v', b'e', b'r', b'l', b'a', b'p', b' ', ..] => Some((Plain::Overlap, 8)),
-        [b'i', b'n', b's', b'i', b'd', b'e', b' ', ..] => Some((Plain::Inside, 7)),
-        [b'c', b'o', b'v', b'e', b'r', b's', b' ', ..] => Some((Plain::Covers, 7)),
-        _ => None,
+    if line.starts_with(b"put ") {
+        return Some((Plain::Put, 4));
     }
+    if line.starts_with(b"get ") {
+        return Some((Plain::Get, 4));
+    }
+    if line.starts_with(b"del ") {
+        return Some((Plain::Del, 4));
+    }
+    if line.starts_with(b"move ") {
+        return Some((Plain::Relocate, 5));
+    }
+    if line.starts_with(b"window ") {
+        return Some((Plain::Window, 7));
+    }
+    if line.starts_with(b"near ") {
+        return Some((Plain::Near, 5));
+    }
+    if line.starts_with(b"within ") {
+        return Some((Plain::Within, 7));
+    }
+    if line.starts_with(b"overlap ") {
+        return Some((Plain::Overlap, 8));
+    }
+    if line.starts_with(b"inside ") {
+        return Some((Plain::Inside, 7));
+    }
+    if line.starts_with(b"covers ") {
+        return Some((Plain::Covers, 7));
+    }
+    None
 }
 
 // The number of few digits that the word at a place spells, and the place behind the word and one blank. At the end of the line no blank

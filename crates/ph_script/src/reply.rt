@@ -4,7 +4,7 @@ use ph_specs::Which;
 /// The answer to a command, but for the rows and the pairs of rows that it lists and the sizes of a tree. Each is one line of the output.
 ///
 /// It is small, since one is made for each command.
-#[derive(Clone, Copy, Debug, PartialEq, Eq)]
+#[derive(Clone, Copy)]
 pub enum Reply {
     Opened,
     New,

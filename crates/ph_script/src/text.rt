@@ -2,6 +2,7 @@
 ghost use Rattle.std.specs.Prelude.{◌≡◌, ◌≤◌, ◌+◌, ◌*◌, ◌∷◌, [], ◌++◌, length, codes, decimal};
 ghost use Rattle.ph_specs.specs.ProgramNames.{Reply as Replied, reply_text as text_of_reply, row_words, line_of};
 ghost use Rattle.ph_script.specs.Meaning.{reply_of};
+ghost use Rattle.ph_script.specs.LineParts.{text_by, IsShort};
 ghost use Rattle.ph_script.specs.RowNumbers.{numbers_line, row_numbers};
 
 use crate::reply::Reply;
@@ -58,61 +59,82 @@ pub fn reply_text(reply: &Reply) -> Text
     text
 }
 
+// What the line of a reply is made of: a whole line, a word with a number behind it, or a faulty record by its number and a word for the fault.
+#[derive(Clone, Copy)]
+enum LineParts {
+    Fixed(&'static str),
+    Numbered(&'static str, u64),
+    Wide(&'static str, u128),
+    Record(u64, &'static str),
+}
+
+fn parts_of(reply: &Reply) -> LineParts
+    ensures text { text_of_reply (reply_of reply.now) ≡ text_by result }
+    ensures short { IsShort result }
+{
+    match reply {
+        Reply::Opened => LineParts::Fixed("opened\n"),
+        Reply::New => LineParts::Fixed("new\n"),
+        Reply::Old(value) => LineParts::Numbered("old", *value),
+        Reply::Value(value) => LineParts::Numbered("value", *value),
+        Reply::Absent => LineParts::Fixed("none\n"),
+        Reply::Gone(value) => LineParts::Numbered("gone", *value),
+        Reply::Moved => LineParts::Fixed("moved\n"),
+        Reply::Taken => LineParts::Fixed("taken\n"),
+        Reply::Rows(count) => LineParts::Numbered("count", *count),
+        Reply::Cleared => LineParts::Fixed("cleared\n"),
+        Reply::End(count) => LineParts::Wide("end", *count),
+        Reply::More(count) => LineParts::Numbered("more", u64::from(*count)),
+        Reply::Ready => LineParts::Fixed("ready\n"),
+        Reply::Saved(count) => LineParts::Wide("saved", *count),
+        Reply::Loaded(count) => LineParts::Numbered("loaded", *count),
+        Reply::Imported(count) => LineParts::Numbered("imported", *count),
+        Reply::Exported(count) => LineParts::Numbered("exported", *count),
+        Reply::Using(Which::A) => LineParts::Fixed("using a\n"),
+        Reply::Using(Which::B) => LineParts::Fixed("using b\n"),
+        Reply::Same => LineParts::Fixed("same\n"),
+        Reply::Differ => LineParts::Fixed("differ\n"),
+        Reply::Combined(count) => LineParts::Numbered("result", *count),
+        Reply::Keeping(count) => LineParts::Numbered("keeping", u64::from(*count)),
+        Reply::WentBack(count) => LineParts::Numbered("back", u64::from(*count)),
+        Reply::ErrorLong => LineParts::Fixed("error long\n"),
+        Reply::ErrorWord => LineParts::Fixed("error word\n"),
+        Reply::ErrorCount => LineParts::Fixed("error count\n"),
+        Reply::ErrorNumber => LineParts::Fixed("error number\n"),
+        Reply::ErrorName => LineParts::Fixed("error name\n"),
+        Reply::ErrorDims => LineParts::Fixed("error dims\n"),
+        Reply::ErrorKind => LineParts::Fixed("error kind\n"),
+        Reply::ErrorRange => LineParts::Fixed("error range\n"),
+        Reply::ErrorReversed => LineParts::Fixed("error reversed\n"),
+        Reply::ErrorCursor => LineParts::Fixed("error cursor\n"),
+        Reply::ErrorCursors => LineParts::Fixed("error cursors\n"),
+        Reply::ErrorFile => LineParts::Fixed("error file\n"),
+        Reply::ErrorFull => LineParts::Fixed("error full\n"),
+        Reply::ErrorPast => LineParts::Fixed("error past\n"),
+        Reply::BadMagic => LineParts::Fixed("bad magic\n"),
+        Reply::BadHeader(at) => LineParts::Numbered("bad header", *at),
+        Reply::BadDims => LineParts::Fixed("bad dims\n"),
+        Reply::BadShort(at) => LineParts::Numbered("bad short", *at),
+        Reply::BadNode(at) => LineParts::Numbered("bad node", *at),
+        Reply::BadExtra(at) => LineParts::Numbered("bad extra", *at),
+        Reply::BadFields(number) => LineParts::Record(*number, "fields"),
+        Reply::BadNumber(number) => LineParts::Record(*number, "number"),
+        Reply::BadRange(number) => LineParts::Record(*number, "range"),
+        Reply::BadReversed(number) => LineParts::Record(*number, "reversed"),
+    }
+}
+
 /// Makes a text the line of a reply, whatever it was before.
 pub fn write_text(text: &mut Text, reply: &Reply)
     ensures { text.new ≡ text_of_reply (reply_of reply.now) }
 {
     let line = &mut text.line;
     line.clear();
-    match reply {
-        Reply::Opened => line.push_str("opened\n"),
-        Reply::New => line.push_str("new\n"),
-        Reply::Old(value) => push_numbered(line, "old", *value),
-        Reply::Value(value) => push_numbered(line, "value", *value),
-        Reply::Absent => line.push_str("none\n"),
-        Reply::Gone(value) => push_numbered(line, "gone", *value),
-        Reply::Moved => line.push_str("moved\n"),
-        Reply::Taken => line.push_str("taken\n"),
-        Reply::Rows(count) => push_numbered(line, "count", *count),
-        Reply::Cleared => line.push_str("cleared\n"),
-        Reply::End(count) => push_numbered(line, "end", *count),
-        Reply::More(count) => push_numbered(line, "more", *count),
-        Reply::Ready => line.push_str("ready\n"),
-        Reply::Saved(count) => push_numbered(line, "saved", *count),
-        Reply::Loaded(count) => push_numbered(line, "loaded", *count),
-        Reply::Imported(count) => push_numbered(line, "imported", *count),
-        Reply::Exported(count) => push_numbered(line, "exported", *count),
-        Reply::Using(Which::A) => line.push_str("using a\n"),
-        Reply::Using(Which::B) => line.push_str("using b\n"),
-        Reply::Same => line.push_str("same\n"),
-        Reply::Differ => line.push_str("differ\n"),
-        Reply::Combined(count) => push_numbered(line, "result", *count),
-        Reply::Keeping(count) => push_numbered(line, "keeping", *count),
-        Reply::WentBack(count) => push_numbered(line, "back", *count),
-        Reply::ErrorLong => line.push_str("error long\n"),
-        Reply::ErrorWord => line.push_str("error word\n"),
-        Reply::ErrorCount => line.push_str("error count\n"),
-        Reply::ErrorNumber => line.push_str("error number\n"),
-        Reply::ErrorName => line.push_str("error name\n"),
-        Reply::ErrorDims => line.push_str("error dims\n"),
-        Reply::ErrorKind => line.push_str("error kind\n"),
-        Reply::ErrorRange => line.push_str("error range\n"),
-        Reply::ErrorReversed => line.push_str("error reversed\n"),
-        Reply::ErrorCursor => line.push_str("error cursor\n"),
-        Reply::ErrorCursors => line.push_str("error cursors\n"),
-        Reply::ErrorFile => line.push_str("error file\n"),
-        Reply::ErrorFull => line.push_str("error full\n"),
-        Reply::ErrorPast => line.push_str("error past\n"),
-        Reply::BadMagic => line.push_str("bad magic\n"),
-        Reply::BadHeader(at) => push_numbered(line, "bad header", *at),
-        Reply::BadDims => line.push_str("bad dims\n"),
-        Reply::BadShort(at) => push_numbered(line, "bad short", *at),
-        Reply::BadNode(at) => push_numbered(line, "bad node", *at),
-        Reply::BadExtra(at) => push_numbered(line, "bad extra", *at),
-        Reply::BadFields(number) => push_record(line, *number, "fields"),
-        Reply::BadNumber(number) => push_record(line, *number, "number"),
-        Reply::BadRange(number) => push_record(line, *number, "range"),
-        Reply::BadReversed(number) => push_record(line, *number, "reversed"),
+    match parts_of(reply) {
+        LineParts::Fixed(words) => line.push_str(words),
+        LineParts::Numbered(word, number) => push_numbered(line, word, number),
+        LineParts::Wide(word, number) => push_numbered(line, word, number),
+        LineParts::Record(number, fault) => push_record(line, number, fault),
     }
 }
 
