@@ -117,38 +117,3 @@ fn wide_size(digits: &[u8]) -> Option<u128>
     }
     Some(size)
 }
-
-#[cfg(test)]
-mod tests {
-    use super::*;
-
-    #[test]
-    fn spellings(rt: HostRuntime) {
-        let whole = |minus, size| Number::Whole { minus, size };
-        let cases: [(&[u8], Number); 14] = [
-            (b"0", whole(false, 0)),
-            (b"-0", whole(false, 0)),
-            (b"+007", whole(false, 7)),
-            (b"-12", whole(true, 12)),
-            (b"1152921504606846976", whole(false, 1152921504606846976)),
-            (b"-11529215046068469769", whole(true, 11529215046068469769)),
-            (b"18446744073709551616", whole(false, 18446744073709551616)),
-            (
-                b"000000000000000000000000000000000000000000000001",
-                whole(false, 1),
-            ),
-            (b"1152921504606846976x", Number::Not),
-            (
-                b"340282366920938463463374607431768211455",
-                whole(false, u128::MAX),
-            ),
-            (b"-340282366920938463463374607431768211456", Number::Wide),
-            (b"", Number::Not),
-            (b"+", Number::Not),
-            (b"1x", Number::Not),
-        ];
-        for (text, number) in cases {
-            assert_eq!(rt; read_number(text), number);
-        }
-    }
-}

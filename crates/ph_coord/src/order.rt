@@ -52,23 +52,3 @@ pub fn z_before<const D: usize>(w: Width, p: &Point<D>, q: &Point<D>) -> bool
     }
     false
 }
-
-#[cfg(test)]
-mod tests {
-    use super::*;
-    use std::test::Fail;
-
-    #[test]
-    fn z_order_across_signs(rt: HostRuntime) -> Result<(), Fail> {
-        let w = Width::new(32).ok_or("no width")?;
-        let rising: [[i64; 2]; 4] = [[-1, -1], [-1, 0], [0, -1], [0, 0]];
-        for (i, p) in rising.iter().enumerate() {
-            let p: Point<2> = Point::from_slice(w, p.as_slice()).ok_or("out of range")?;
-            for (j, q) in rising.iter().enumerate() {
-                let q = Point::from_slice(w, q.as_slice()).ok_or("out of range")?;
-                assert_eq!(rt; z_before(w, &p, &q), i < j);
-            }
-        }
-        Ok(())
-    }
-}

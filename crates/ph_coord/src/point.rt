@@ -107,19 +107,3 @@ impl<const D: usize> Model for Row<D> {
 
     ghost inverse = { λ r. record { point = r.point; value = r.value } };
 }
-
-#[cfg(test)]
-mod tests {
-    use super::*;
-    use std::test::Fail;
-
-    #[test]
-    fn offsets_and_back(rt: HostRuntime) -> Result<(), Fail> {
-        let w = Width::new(4).ok_or("no width")?;
-        let p: Point<3> = Point::from_slice(w, &[-8, 0, 7]).ok_or("no point")?;
-        let offsets: [u64; 4] = offsets_of(w, p.as_slice());
-        assert_eq!(rt; offsets, [0, 8, 15, 0]);
-        assert_eq!(rt; Point::from_offsets(w, &offsets[..3]), p);
-        Ok(())
-    }
-}

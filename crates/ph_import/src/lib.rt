@@ -6,8 +6,6 @@ mod fills;
 mod imports;
 mod room;
 mod rows;
-#[cfg(test)]
-mod tests;
 
 pub use fault::ImportFault;
 pub use imports::import_rows;

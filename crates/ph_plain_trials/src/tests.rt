@@ -7,6 +7,7 @@ mod csv;
 mod distances;
 mod shapes;
 mod tables;
+mod values;
 mod zorder;
 
 use ph_coord::{Point, Width};

@@ -1,12 +1,13 @@
-//! Records by hand, and all small records.
+//! Records by hand, and all small records. Calls with long contracts stand in functions that ensure nothing, so that no test carries those along.
 
-ghost use Rattle.std.specs.Prelude.{◌≤◌};
+ghost use Rattle.std.specs.Prelude.{◌≡◌, ◌≤◌, true, false};
+ghost use Rattle.ph_specs.specs.RecordNames.{IsRecord, first_in};
 
 use crate::{Item, is_cube_back, is_linear_back, record_of};
-use ph_bits::Words;
 use ph_cube::by_dims as cube_calls;
 use ph_linear::by_dims as linear_calls;
 use std::alloc::Global;
+use std::process::Abort;
 
 // A body whose last fields are zero.
 macro_rules! body {
@@ -27,15 +28,15 @@ macro_rules! body {
     };
 }
 
-// An edit of an entry at a place, where so many entries go and so many come.
+// An edit of an entry at a place and an address, where so many entries go and so many come.
 macro_rules! edit_at {
-    ($place:expr, $less:expr, $more:expr, $addr:expr, $child:literal, $body:expr, $value:expr) => {
+    ($at:expr, $less:expr, $more:expr, $child:literal, $body:expr, $value:expr) => {
         Edit {
-            place: $place,
+            place: $at.0,
             less: $less,
             more: $more,
             entry: Packed {
-                addr: $addr,
+                addr: $at.1,
                 child: $child,
                 body: $body,
                 rank: 0,
@@ -123,44 +124,66 @@ fn are_all_back<const D: usize>(alloc: Global, level: u32, codes: u32) -> bool
     true
 }
 
-// Whether a record was made, and has these words.
-fn has_words(record: Option<Words>, want: &[u64]) -> bool {
-    match record {
+// Whether the first words of a list are these.
+fn is_front(words: &[u64], len: usize, want: &[u64]) -> bool {
+    words.get(..len) == Some(want)
+}
+
+// Whether a list is made into a record of these words.
+fn is_made<const D: usize>(
+    alloc: Global,
+    cube: bool,
+    level: u32,
+    items: &[Item],
+    want: &[u64],
+) -> bool
+    requires some { 1 ≤ D }
+    requires few { D ≤ 2 }
+{
+    match record_of::<D>(alloc, cube, level, items) {
         Some(words) => *words.as_slice() == *want,
         None => false,
     }
 }
 
 #[test]
-fn records_by_hand(rt: HostRuntime) {
+fn linear_records_by_hand(rt: HostRuntime) {
     let alloc = rt.alloc();
-    let across = record_of::<2>(alloc, false, 31, &[point(3, (3, 4), 17)]);
-    assert!(rt; has_words(across, &[0x1f00000001000000, 0x60000000c0000002, 0, 0x11]));
-    let ends = record_of::<2>(alloc, false, 0, &[point(0, (0, 0), 1), point(3, (0, 0), 2)]);
-    assert!(rt; has_words(ends, &[0x0000000002000000, 0x0c00000000000000, 1, 2]));
+    let across = [point(3, (3, 4), 17)];
+    let want = [0x1f00000001000000, 0x60000000c0000002, 0, 0x11];
+    assert!(rt; is_made::<2>(alloc, false, 31, &across, &want));
+    let ends = [point(0, (0, 0), 1), point(3, (0, 0), 2)];
+    let want = [0x0000000002000000, 0x0c00000000000000, 1, 2];
+    assert!(rt; is_made::<2>(alloc, false, 0, &ends, &want));
+    let both = [child(0, (2, 0)), point(1, (1, 0), 9)];
+    let want = [0x0200000002000001, 0x9900000000000000, 9];
+    assert!(rt; is_made::<1>(alloc, false, 2, &both, &want));
+    let pair = [point(0, (1, 3), 7), child(3, (2, 0))];
+    let want = [0x0200000002000001, 0x4de0000000000000, 7];
+    assert!(rt; is_made::<2>(alloc, false, 2, &pair, &want));
+}
+
+#[test]
+fn cube_records_by_hand(rt: HostRuntime) {
+    let alloc = rt.alloc();
     let three = [
         point(0, (0, 0), 1),
         point(1, (0, 0), 3),
         point(3, (0, 0), 2),
     ];
-    let three = record_of::<2>(alloc, true, 0, &three);
-    assert!(rt; has_words(three, &[0x0001000003000000, 0x5100000000000000, 1, 3, 2]));
+    let want = [0x0001000003000000, 0x5100000000000000, 1, 3, 2];
+    assert!(rt; is_made::<2>(alloc, true, 0, &three, &want));
     let both = [child(0, (2, 0)), point(1, (1, 0), 9)];
-    let linear = record_of::<1>(alloc, false, 2, &both);
-    assert!(rt; has_words(linear, &[0x0200000002000001, 0x9900000000000000, 9]));
-    let cube = record_of::<1>(alloc, true, 2, &both);
-    assert!(rt; has_words(cube, &[0x0201000002000001, 0x9900000000000000, 9]));
-    let pair = [point(0, (1, 3), 7), child(3, (2, 0))];
-    let pair = record_of::<2>(alloc, false, 2, &pair);
-    assert!(rt; has_words(pair, &[0x0200000002000001, 0x4de0000000000000, 7]));
+    let want = [0x0201000002000001, 0x9900000000000000, 9];
+    assert!(rt; is_made::<1>(alloc, true, 2, &both, &want));
     let full = [
         point(0, (1, 0), 5),
         point(1, (0, 0), 6),
         child(2, (0, 0)),
         point(3, (1, 1), 8),
     ];
-    let full = record_of::<2>(alloc, true, 1, &full);
-    assert!(rt; has_words(full, &[0x0101000004000001, 0x5983000000000000, 5, 6, 8]));
+    let want = [0x0101000004000001, 0x5983000000000000, 5, 6, 8];
+    assert!(rt; is_made::<2>(alloc, true, 1, &full, &want));
 }
 
 #[test]
@@ -177,33 +200,63 @@ fn all_small_records(rt: HostRuntime) {
     }
 }
 
-// Each read of a layout, of a record of three entries.
-macro_rules! read_three {
+// What is found by an address in a record of three entries.
+macro_rules! find_in_three {
     ($layout:ident, $rt:expr, $words:expr) => {{
-        assert_eq!($rt; $layout::find($words, 2, 3), Some(2));
-        assert_eq!($rt; $layout::find($words, 2, 2), None);
-        assert_eq!($rt; $layout::next_at_or_after($words, 2, 2), Some(2));
-        let entry = $layout::entry($words, 2, 2);
-        assert_eq!($rt; (entry.addr, entry.child, entry.rank), (3, false, 1));
-        assert_eq!($rt; (entry.body[0], entry.body[1], entry.body[2]), (2, 1, 0));
+        assert!($rt; $layout::find($words, 2, 3) == Some(2));
+        assert!($rt; $layout::find($words, 2, 2).is_none());
+        assert!($rt; $layout::next_at_or_after($words, 2, 2) == Some(2));
         assert!($rt; $layout::find_entry($words, 2, 1).is_some());
-        assert_eq!($rt; $layout::address($words, 2, 1), 1);
-        assert!($rt; $layout::is_child($words, 2, 1));
-        assert_eq!($rt; $layout::rank($words, 2, 2), 1);
     }};
+}
+
+// What is read at a place of it.
+macro_rules! read_in_three {
+    ($layout:ident, $rt:expr, $words:expr) => {{
+        let entry = $layout::entry($words, 2, 2);
+        assert!($rt; (entry.addr, entry.child, entry.rank) == (3, false, 1));
+        assert!($rt; (entry.body[0], entry.body[1], entry.body[2]) == (2, 1, 0));
+        assert!($rt; $layout::address($words, 2, 1) == 1);
+        assert!($rt; $layout::is_child($words, 2, 1));
+        assert!($rt; $layout::rank($words, 2, 2) == 1);
+    }};
+}
+
+fn find_in_linear(rt: &impl Abort, words: &[u64])
+    requires { IsRecord false 2 words.now }
+{
+    find_in_three!(linear_calls, rt, words)
+}
+
+fn read_in_linear(rt: &impl Abort, words: &[u64])
+    requires record { IsRecord false 2 words.now }
+    requires count { (first_in words.now).entries ≡ 3 }
+{
+    read_in_three!(linear_calls, rt, words)
+}
+
+fn find_in_cube(rt: &impl Abort, words: &[u64])
+    requires { IsRecord true 2 words.now }
+{
+    find_in_three!(cube_calls, rt, words)
+}
+
+fn read_in_cube(rt: &impl Abort, words: &[u64])
+    requires record { IsRecord true 2 words.now }
+    requires count { (first_in words.now).entries ≡ 3 }
+{
+    read_in_three!(cube_calls, rt, words)
 }
 
 #[test]
 fn reads_of_each_layout(rt: HostRuntime) {
     let three = [point(0, (1, 2), 5), child(1, (3, 0)), point(3, (2, 1), 7)];
-    let Some(linear) = record_of::<2>(rt.alloc(), false, 2, &three) else {
-        panic!(rt; "no linear record");
-    };
-    read_three!(linear_calls, rt, linear.as_slice());
-    assert_eq!(rt; linear_calls::bits_of(2, 3, 2), 21);
-    let Some(cube) = record_of::<2>(rt.alloc(), true, 2, &three) else {
-        panic!(rt; "no cube record");
-    };
-    read_three!(cube_calls, rt, cube.as_slice());
-    assert_eq!(rt; cube_calls::bits_of(2, 3, 2), 24);
+    let linear = record_of::<2>(rt.alloc(), false, 2, &three).expect(&rt, "no linear record");
+    find_in_linear(&rt, linear.as_slice());
+    read_in_linear(&rt, linear.as_slice());
+    assert!(rt; linear_calls::bits_of(2, 3, 2) == 21);
+    let cube = record_of::<2>(rt.alloc(), true, 2, &three).expect(&rt, "no cube record");
+    find_in_cube(&rt, cube.as_slice());
+    read_in_cube(&rt, cube.as_slice());
+    assert!(rt; cube_calls::bits_of(2, 3, 2) == 24);
 }

@@ -3,8 +3,8 @@
 ghost use Rattle.std.specs.Prelude.{◌+◌, ◌<◌, ◌≤◌, ◌^◌};
 
 use ph_bits::{
-    Block, NoMemory, Pen, Words, field, is_row, is_row_between, join_row, move_down, move_up,
-    ones_before, row, row_distance, set_field,
+    Block, Pen, Words, field, is_row, is_row_between, join_row, move_down, move_up, ones_before,
+    row, row_distance, set_field,
 };
 use std::alloc::Global;
 use std::mem::size_of;
@@ -42,13 +42,9 @@ fn fields_at_every_place(rt: HostRuntime) {
     for width in 1..65 {
         for at in 0..128 {
             let read = field(&WORDS, at, width);
-            assert_eq!(rt;
-                read,
-                by_digits(&WORDS, at, width),
-                "{width} digits at {at}"
-            );
             let ones = ones_before(&WORDS, at, width as u64);
-            assert_eq!(rt; ones, read.count_ones() as u64, "{width} digits at {at}");
+            let same = read == by_digits(&WORDS, at, width) && ones == read.count_ones() as u64;
+            assert!(rt; same, "{width} digits at {at}");
         }
     }
 }
@@ -61,24 +57,30 @@ fn front(word: u64, width: u32) -> u64
     word >> (64 - width)
 }
 
+// Whether the digits of words are as they were, but for those of a field.
+fn is_only_in(words: &[u64; 4], at: u64, width: u64) -> bool
+    requires { at + width ≤ 256 }
+{
+    are_moved(words, 0, &WORDS, 0, at)
+        && are_moved(words, at + width, &WORDS, at + width, 256 - (at + width))
+}
+
+// Whether a field that is put is there, and nothing else is changed.
+fn is_put(at: u64, width: u32) -> bool
+    requires at { at ≤ 128 }
+    requires width { (1 ≤ width) × (width ≤ 64) }
+{
+    let v = front(WORDS[0], width);
+    let mut words = WORDS;
+    set_field(&mut words, at, width, v);
+    by_digits(&words, at, width) == v && is_only_in(&words, at, width as u64)
+}
+
 #[test]
 fn fields_put_at_every_place(rt: HostRuntime) {
     for width in 1..65 {
         for at in 0..128 {
-            let v = front(WORDS[0], width);
-            let mut words = WORDS;
-            set_field(&mut words, at, width, v);
-            let end = at + width as u64;
-            assert_eq!(rt; by_digits(&words, at, width), v, "{width} digits at {at}");
-            for place in 0..256 {
-                if place < at || end <= place {
-                    assert_eq!(rt;
-                        digit(&words, place),
-                        digit(&WORDS, place),
-                        "{width} digits at {at}"
-                    );
-                }
-            }
+            assert!(rt; is_put(at, width), "{width} digits at {at}");
         }
     }
 }
@@ -94,7 +96,7 @@ fn many_ones(rt: HostRuntime) {
         (1, 254, 190),
         (128, 128, 128),
     ] {
-        assert_eq!(rt; ones_before(&all, at, n), want, "{n} digits at {at}");
+        assert!(rt; ones_before(&all, at, n) == want, "{n} digits at {at}");
     }
 }
 
@@ -103,44 +105,56 @@ fn are_zeros(words: &[u64]) -> bool {
     words.iter().all(|word| *word == 0)
 }
 
+// Whether a block has so many zeros, and room for no more.
+fn is_zeros(words: &Words, len: usize) -> bool {
+    words.room() == len && words.len() == len && words.as_slice().iter().all(|word| *word == 0)
+}
+
 // A block of zeros, and what a reset leaves of it.
-fn block_of(rt: &impl Abort, alloc: Global, len: usize) -> Result<(), NoMemory>
+fn check_block(rt: &impl Abort, alloc: Global, len: usize)
     requires { len < 2 ^ 21 }
 {
-    let mut words = Words::zeroed(alloc, len)?;
-    assert!(rt; words.len() == len);
-    assert!(rt; words.room() == len);
-    assert!(rt; are_zeros(words.as_slice()));
+    let mut words = Words::zeroed(alloc, len).expect(rt, "memory");
+    assert!(rt; is_zeros(&words, len));
     if len > 0 {
         words.set(0, u64::MAX);
         assert!(rt; words.get(0) == u64::MAX);
     }
     words.reset(len);
-    assert!(rt; are_zeros(words.as_slice()));
+    assert!(rt; is_zeros(&words, len));
     words.reset(0);
-    assert!(rt; words.len() == 0);
-    assert!(rt; words.room() == len);
+    assert!(rt; words.len() == 0 && words.room() == len);
     if len > 1 {
-        words.push(9);
-        words.push(5);
-        assert!(rt; words.as_slice() == [9, 5].as_slice());
-        words.truncate(1);
-        assert!(rt; words.as_slice() == [9].as_slice());
-        assert!(rt; words.room() == len);
+        check_pushes(rt, &mut words);
     }
-    Ok(())
+}
+
+// Two words are put into a block, and one is left of them.
+fn check_pushes(rt: &impl Abort, words: &mut Words)
+    requires { 2 ≤ words.old.spare }
+{
+    let room = words.room();
+    words.push(9);
+    words.push(5);
+    assert!(rt; words.as_slice() == [9, 5].as_slice());
+    words.truncate(1);
+    assert!(rt; words.as_slice() == [9].as_slice());
+    assert!(rt; words.room() == room);
 }
 
 #[test]
-fn blocks(rt: HostRuntime) -> Result<(), NoMemory> {
+fn blocks(rt: HostRuntime) {
     assert!(rt; size_of::<Words>() == 16);
-    let mut words = Words::zeroed(rt.alloc(), 2)?;
+    check_block(&rt, rt.alloc(), 0);
+    check_block(&rt, rt.alloc(), 1);
+    check_block(&rt, rt.alloc(), 1000);
+}
+
+#[test]
+fn field_across_words(rt: HostRuntime) {
+    let mut words = Words::zeroed(rt.alloc(), 2).expect(&rt, "memory");
     set_field(words.as_mut_slice(), 60, 8, 0xab);
-    assert!(rt; words.get(0) == 0xa);
-    assert!(rt; words.get(1) == 0xb000_0000_0000_0000);
-    block_of(&rt, rt.alloc(), 0)?;
-    block_of(&rt, rt.alloc(), 1)?;
-    block_of(&rt, rt.alloc(), 1000)
+    assert!(rt; words.as_slice() == [0xa, 0xb000_0000_0000_0000].as_slice());
 }
 
 // Whether a block has these words, so many spare places and these values.
@@ -156,76 +170,108 @@ fn shows(block: &Block<Box<u64>>, words: &[u64], spare: usize, values: &[u64]) -
 }
 
 // A block with the words 7, 8, and room for four more or for values.
-fn small_block(alloc: Global) -> Result<Block<Box<u64>>, NoMemory> {
-    let mut words = Words::with_room(alloc, 6)?;
+fn small_block(rt: &impl Abort, alloc: Global) -> Block<Box<u64>> {
+    let mut words = Words::with_room(alloc, 6).expect(rt, "memory");
     words.push(7);
     words.push(8);
-    Ok(Block::of(words))
+    Block::of(words)
 }
 
-#[test]
-fn values_by_rank(rt: HostRuntime) -> Result<(), NoMemory> {
-    assert!(rt; size_of::<Block<Box<u64>>>() == 8);
-    let mut block = small_block(rt.alloc())?;
-    assert!(rt; shows(&block, &[7, 8], 4, &[]));
+// The blocks are lent to what follows, so that each is let go in one place alone.
+fn insert(rt: &impl Abort, block: &mut Block<Box<u64>>, rank: usize, number: u64) {
+    let value = Box::new(block.allocator(), number).expect(rt, "memory");
+    assert!(rt; block.spare() > 0);
+    assert!(rt; rank <= block.count());
+    block.insert(rank, value);
+}
+
+fn remove(rt: &impl Abort, block: &mut Block<Box<u64>>, rank: usize) -> u64 {
+    assert!(rt; rank < block.count());
+    *block.remove(rank)
+}
+
+fn check_inserts(rt: &impl Abort, block: &mut Block<Box<u64>>) {
+    assert!(rt; shows(block, &[7, 8], 4, &[]));
     for (rank, number, spare, want) in [
         (0, 1, 3, [1].as_slice()),
         (1, 2, 2, [1, 2].as_slice()),
         (0, 3, 1, [3, 1, 2].as_slice()),
         (2, 4, 0, [3, 1, 4, 2].as_slice()),
     ] {
-        assert!(rt; block.spare() > 0);
-        assert!(rt; rank <= block.count());
-        block.insert(rank, Box::new(rt.alloc(), number)?);
-        assert!(rt; shows(&block, &[7, 8], spare, want));
+        insert(rt, block, rank, number);
+        assert!(rt; shows(block, &[7, 8], spare, want));
     }
+}
+
+fn check_removes(rt: &impl Abort, block: &mut Block<Box<u64>>) {
     block.reverse();
-    assert!(rt; shows(&block, &[7, 8], 0, &[2, 4, 1, 3]));
+    assert!(rt; shows(block, &[7, 8], 0, &[2, 4, 1, 3]));
     for (rank, number, spare, want) in [
         (2, 1, 1, [2, 4, 3].as_slice()),
         (0, 2, 2, [4, 3].as_slice()),
         (1, 3, 3, [4].as_slice()),
     ] {
-        assert!(rt; rank < block.count());
-        assert!(rt; *block.remove(rank) == number);
-        assert!(rt; shows(&block, &[7, 8], spare, want));
+        assert!(rt; remove(rt, block, rank) == number);
+        assert!(rt; shows(block, &[7, 8], spare, want));
     }
-    Ok(())
 }
 
 #[test]
-fn values_beside_words(rt: HostRuntime) -> Result<(), NoMemory> {
-    let mut block = small_block(rt.alloc())?;
+fn values_by_rank(rt: HostRuntime) {
+    assert!(rt; size_of::<Block<Box<u64>>>() == 8);
+    let mut block = small_block(&rt, rt.alloc());
+    check_inserts(&rt, &mut block);
+    check_removes(&rt, &mut block);
+}
+
+// Puts 1, 2, 3 in front, and a word behind the words.
+fn fill(rt: &impl Abort, block: &mut Block<Box<u64>>) {
     for number in [3, 2, 1] {
+        let value = Box::new(block.allocator(), number).expect(rt, "memory");
         assert!(rt; block.spare() > 0);
-        block.put_first(Box::new(rt.alloc(), number)?);
+        block.put_first(value);
     }
     assert!(rt; block.spare() > 0);
     block.push(9);
+}
+
+// Writes over words and a value where they lie, and leaves one word.
+fn check_writes(rt: &impl Abort, block: &mut Block<Box<u64>>) {
     assert!(rt; block.len() == 3);
     block.set(0, 6);
     block.words_mut().reverse();
     assert!(rt; block.count() == 3);
     **block.value_mut(1) = 5;
-    assert!(rt; shows(&block, &[9, 8, 6], 0, &[1, 5, 3]));
+    assert!(rt; shows(block, &[9, 8, 6], 0, &[1, 5, 3]));
     assert!(rt; block.len() == 3);
     block.truncate(1);
-    assert!(rt; shows(&block, &[9], 2, &[1, 5, 3]));
-    let mut other = small_block(rt.alloc())?;
+    assert!(rt; shows(block, &[9], 2, &[1, 5, 3]));
+}
+
+// Moves the values of one block into another.
+fn check_taken(rt: &impl Abort, block: &mut Block<Box<u64>>, other: &mut Block<Box<u64>>) {
     assert!(rt; other.count() == 0);
     assert!(rt; block.count() <= other.spare());
-    other.take_values(&mut block);
-    assert!(rt; shows(&block, &[9], 5, &[]));
-    assert!(rt; shows(&other, &[7, 8], 1, &[1, 5, 3]));
+    other.take_values(block);
+    assert!(rt; shows(block, &[9], 5, &[]));
+    assert!(rt; shows(other, &[7, 8], 1, &[1, 5, 3]));
     assert!(rt; other.values().len() == 3);
     other.values_mut().reverse();
-    assert!(rt; shows(&other, &[7, 8], 1, &[3, 5, 1]));
-    Ok(())
+    assert!(rt; shows(other, &[7, 8], 1, &[3, 5, 1]));
 }
 
 #[test]
-fn written_fields(rt: HostRuntime) -> Result<(), NoMemory> {
-    let mut words = Words::with_room(rt.alloc(), 4)?;
+fn values_beside_words(rt: HostRuntime) {
+    let mut block = small_block(&rt, rt.alloc());
+    fill(&rt, &mut block);
+    check_writes(&rt, &mut block);
+    let mut other = small_block(&rt, rt.alloc());
+    check_taken(&rt, &mut block, &mut other);
+}
+
+#[test]
+fn written_fields(rt: HostRuntime) {
+    let mut words = Words::with_room(rt.alloc(), 4).expect(&rt, "memory");
     words.push(7);
     let mut pen = Pen::new();
     pen.put(&mut words, 4, 0xa);
@@ -241,29 +287,27 @@ fn written_fields(rt: HostRuntime) -> Result<(), NoMemory> {
     words.push(8);
     let want = [7, 0xaf79_bde0_2468_acf1, 0x3579_bde0_2400_0000, 8];
     assert!(rt; words.as_slice() == want.as_slice());
-    Ok(())
+}
+
+// Whether three numbers that are read are those of the row there, and are not with another digit, but for what is below it.
+fn are_rows(at: u64, width: u32) -> bool
+    requires at { at ≤ 30 }
+    requires width { width ≤ 40 }
+{
+    let body = row(&WORDS, at, width, 3);
+    let numbers = [body[0], body[1], body[2]];
+    let other = [body[0], body[1], body[2] ^ 1];
+    let even = (body[0] | body[1] | body[2]) & 1 == 0;
+    is_row(&WORDS, at, width, 0, &numbers)
+        && !is_row(&WORDS, at, width, 0, &other)
+        && is_row(&WORDS, at, width, 1, &other) == even
 }
 
 #[test]
 fn rows_beside_numbers(rt: HostRuntime) {
     for width in 1..40 {
         for at in 0..30 {
-            let body = row(&WORDS, at, width, 3);
-            let numbers = [body[0], body[1], body[2]];
-            let other = [body[0], body[1], body[2] ^ 1];
-            assert!(rt;
-                is_row(&WORDS, at, width, 0, &numbers),
-                "{width} digits at {at}"
-            );
-            assert!(rt;
-                !is_row(&WORDS, at, width, 0, &other),
-                "{width} digits at {at}"
-            );
-            let even = (body[0] | body[1] | body[2]) & 1 == 0;
-            assert!(rt;
-                is_row(&WORDS, at, width, 1, &other) == even,
-                "{width} digits at {at}"
-            );
+            assert!(rt; are_rows(at, width), "{width} digits at {at}");
         }
     }
 }
@@ -272,7 +316,7 @@ fn rows_beside_numbers(rt: HostRuntime) {
 fn rows_behind_digits(rt: HostRuntime) {
     let mut known = [0xf00, 0x100, 0x3ff];
     join_row(&[0xabcd_ef00_0000_0000], 0, 8, 0b101, &mut known);
-    assert_eq!(rt; known, [0xfab, 0x0cd, 0x3ef]);
+    assert!(rt; known == [0xfab, 0x0cd, 0x3ef]);
     let mut wide = [0, 1 << 61, 1];
     join_row(&WORDS, 64, 60, 0b010, &mut wide);
     let first = [
@@ -280,7 +324,7 @@ fn rows_behind_digits(rt: HostRuntime) {
         (1 << 61) + (1 << 60) + field(&WORDS, 124, 60),
         field(&WORDS, 184, 60),
     ];
-    assert_eq!(rt; wide, first);
+    assert!(rt; wide == first);
 }
 
 #[test]
@@ -308,10 +352,8 @@ fn rows_apart(rt: HostRuntime) {
         ([0xfa8, 0x0cd, 0x3f3], 8, None),
         ([0, 0x0cd, 0x3ef], u128::MAX, Some(4011 * 4011)),
     ] {
-        assert_eq!(rt;
-            row_distance(&words, 0, 8, 0b101, &known, &others, limit),
-            want
-        );
+        let distance = row_distance(&words, 0, 8, 0b101, &known, &others, limit);
+        assert!(rt; distance == want, "at most {limit}");
     }
 }
 

@@ -13,7 +13,6 @@ use std::alloc::Global;
 use std::marker::Brand;
 use std::process::Abort;
 use std::sync::ledger::{Blank, Ledger};
-use std::test::Fail;
 
 const SEED: u64 = 1975;
 
@@ -28,16 +27,16 @@ fn backwards<const D: usize, const W: u32, V: Ledger, C: Ledger>(
     alloc: Global,
     rows: &[Row<D>],
     counters: &mut Counters<V, C>,
-) -> Result<Pair<D, W>, Fail>
+) -> Pair<D, W>
     requires some { 1 ≤ D }
     requires few { D ≤ 16 }
 {
     let mut pair: Pair<D, W> = Pair::new(rt, alloc, u64::MAX);
     for row in rows.iter().rev() {
         let p = point::<D, W>(rt, row.point.as_slice());
-        pair.put(rt, p, row.value, counters)?;
+        pair.put(rt, p, row.value, counters);
     }
-    Ok(pair)
+    pair
 }
 
 // Whether the trees are the same, asked of each of them, is to be answered so.
@@ -48,8 +47,8 @@ fn assert_same<const D: usize, const W: u32, V: Ledger, C: Ledger>(
     expected: bool,
     counters: &mut Counters<V, C>,
 ) {
-    assert_eq!(rt; a.tree.same(&b.tree, &mut counters.visits), expected);
-    assert_eq!(rt; b.tree.same(&a.tree, &mut counters.visits), expected);
+    assert!(rt; a.tree.same(&b.tree, &mut counters.visits) == expected);
+    assert!(rt; b.tree.same(&a.tree, &mut counters.visits) == expected);
 }
 
 // Edits one of two trees at a point of both, each time in one respect, and takes that back.
@@ -60,24 +59,23 @@ fn edit_one<const D: usize, const W: u32, V: Ledger, C: Ledger>(
     p: Point<D>,
     v: u64,
     counters: &mut Counters<V, C>,
-) -> Result<(), Fail>
+)
     requires few { D ≤ 16 }
     requires point { IsPoint W D p }
 {
     let unused = point::<D, W>(rt, &[UNUSED; D]);
-    b.put(rt, p, v ^ 1, counters)?;
+    b.put(rt, p, v ^ 1, counters);
     assert_same(rt, a, b, false, counters);
-    b.put(rt, p, v, counters)?;
+    b.put(rt, p, v, counters);
     assert_same(rt, a, b, true, counters);
-    b.relocate(rt, &p, &unused, counters)?;
+    b.relocate(rt, &p, &unused, counters);
     assert_same(rt, a, b, false, counters);
-    b.relocate(rt, &unused, &p, counters)?;
+    b.relocate(rt, &unused, &p, counters);
     assert_same(rt, a, b, true, counters);
-    b.put(rt, unused, v, counters)?;
+    b.put(rt, unused, v, counters);
     assert_same(rt, a, b, false, counters);
-    b.del(rt, &unused, counters)?;
+    b.del(rt, &unused, counters);
     assert_same(rt, a, b, true, counters);
-    Ok(())
 }
 
 // Behind each random edit of a tree, another tree of the same rows.
@@ -86,45 +84,39 @@ fn pairs<const D: usize, const W: u32, V: Ledger, C: Ledger>(
     alloc: Global,
     choices: &[i64; 8],
     counters: &mut Counters<V, C>,
-) -> Result<(), Fail>
+)
     requires some { 1 ≤ D }
     requires few { D ≤ 16 }
 {
     let mut rng = Xoshiro256PlusPlus::seed_from_u64(SEED);
     let mut pair: Pair<D, W> = Pair::new(rt, alloc, u64::MAX);
     for v in 0..EDITS {
-        edit(rt, &mut pair, &mut rng, choices, v, counters)?;
+        edit(rt, &mut pair, &mut rng, choices, v, counters);
         let rows = pair.table.rows();
-        let mut other = backwards(rt, alloc, rows, counters)?;
+        let mut other = backwards(rt, alloc, rows, counters);
         assert_same(rt, &pair, &other, true, counters);
         if let Some(row) = rows.get((v % 8) as usize) {
             let p = point::<D, W>(rt, row.point.as_slice());
-            edit_one(rt, &pair, &mut other, p, row.value, counters)?;
+            edit_one(rt, &pair, &mut other, p, row.value, counters);
         }
     }
-    Ok(())
 }
 
-fn all_pairs<V: Ledger, C: Ledger>(
-    rt: &impl Abort,
-    alloc: Global,
-    visits: Blank,
-    changes: Blank,
-) -> Result<(), Fail>
+fn all_pairs<V: Ledger, C: Ledger>(rt: &impl Abort, alloc: Global, visits: Blank, changes: Blank)
     requires visits { (visits.name ≡ V.name) × (visits.parts ≡ V.parts) × (0 < visits.parts) }
     requires changes { (changes.name ≡ C.name) × (changes.parts ≡ C.parts) × (0 < changes.parts) }
 {
     let mut counters: Counters<V, C> = Counters::new(visits, changes);
     let choices = [LEAST, -2, -1, 0, 0, 1, 2, GREATEST];
-    pairs::<1, 32, V, C>(rt, alloc, &choices, &mut counters)?;
-    pairs::<2, 32, V, C>(rt, alloc, &choices, &mut counters)?;
-    pairs::<3, 32, V, C>(rt, alloc, &choices, &mut counters)?;
-    pairs::<8, 32, V, C>(rt, alloc, &choices, &mut counters)?;
-    pairs::<9, 7, V, C>(rt, alloc, &[-64, -2, -1, 0, 0, 1, 2, 63], &mut counters)?;
-    pairs::<16, 62, V, C>(rt, alloc, &choices, &mut counters)
+    pairs::<1, 32, V, C>(rt, alloc, &choices, &mut counters);
+    pairs::<2, 32, V, C>(rt, alloc, &choices, &mut counters);
+    pairs::<3, 32, V, C>(rt, alloc, &choices, &mut counters);
+    pairs::<8, 32, V, C>(rt, alloc, &choices, &mut counters);
+    pairs::<9, 7, V, C>(rt, alloc, &[-64, -2, -1, 0, 0, 1, 2, 63], &mut counters);
+    pairs::<16, 62, V, C>(rt, alloc, &choices, &mut counters);
 }
 
 #[test]
-fn trees_edited_in_different_orders(rt: HostRuntime) -> Result<(), Fail> {
-    all_pairs::<Brand, Brand>(&rt, rt.alloc(), Blank::new(1), Blank::new(1))
+fn trees_edited_in_different_orders(rt: HostRuntime) {
+    all_pairs::<Brand, Brand>(&rt, rt.alloc(), Blank::new(1), Blank::new(1));
 }

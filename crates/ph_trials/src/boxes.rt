@@ -15,7 +15,6 @@ use std::alloc::Global;
 use std::marker::Brand;
 use std::process::Abort;
 use std::sync::ledger::{Blank, Ledger};
-use std::test::Fail;
 
 const SEED: u64 = 1984;
 
@@ -50,21 +49,22 @@ fn is_listed<const K: usize, const D: usize>(
 
 // The rows of the table that are listed.
 fn listed<const K: usize, const D: usize, const W: u32>(
+    rt: &impl Abort,
     alloc: Global,
     pair: &Pair<D, W>,
     question: Question,
     lo: &Point<K>,
     hi: &Point<K>,
-) -> Result<Vec<Row<D>>, Fail>
+) -> Vec<Row<D>>
     requires { K * 2 ≡ D }
 {
     let mut rows = Vec::new(alloc);
     for row in pair.table.rows() {
         if is_listed(question, lo, hi, &row.point) {
-            rows.push(*row)?;
+            rows.push(*row).expect(rt, "memory");
         }
     }
-    Ok(rows)
+    rows
 }
 
 // The corners of a box.
@@ -88,7 +88,7 @@ fn fill<const K: usize, const D: usize, const W: u32, R: Rng, V: Ledger, C: Ledg
     pair: &mut Pair<D, W>,
     rng: &mut R,
     counters: &mut Counters<V, C>,
-) -> Result<(), Fail>
+)
     requires dims { K * 2 ≡ D }
     requires few { D ≤ 16 }
 {
@@ -97,9 +97,8 @@ fn fill<const K: usize, const D: usize, const W: u32, R: Rng, V: Ledger, C: Ledg
         let Some(p) = join_box(pair.table.width(), &lo, &hi) else {
             panic!(rt; "no box");
         };
-        pair.put(rt, p, v, counters)?;
+        pair.put(rt, p, v, counters);
     }
-    Ok(())
 }
 
 // Asks the three questions about random boxes.
@@ -107,44 +106,38 @@ fn boxes<const K: usize, const D: usize, const W: u32, V: Ledger, C: Ledger>(
     rt: &impl Abort,
     alloc: Global,
     counters: &mut Counters<V, C>,
-) -> Result<(), Fail>
+)
     requires dims { K * 2 ≡ D }
     requires some { 1 ≤ D }
     requires few { D ≤ 16 }
 {
     let mut rng = Xoshiro256PlusPlus::seed_from_u64(SEED);
     let mut pair: Pair<D, W> = Pair::new(rt, alloc, u64::MAX);
-    fill::<K, D, W, Xoshiro256PlusPlus, V, C>(rt, &mut pair, &mut rng, counters)?;
+    fill::<K, D, W, Xoshiro256PlusPlus, V, C>(rt, &mut pair, &mut rng, counters);
     for _ in 0..ASKED {
         let (lo, hi) = draw_box::<K, W, Xoshiro256PlusPlus>(rt, &mut rng);
         for question in [Question::Overlap, Question::Inside, Question::Cover] {
             let (low, high) = bounds(question, pair.table.width(), &lo, &hi);
-            let rows = listed(alloc, &pair, question, &lo, &hi)?;
+            let rows = listed(rt, alloc, &pair, question, &lo, &hi);
             list(rt, &pair, low, high, &rows, counters);
         }
     }
-    Ok(())
 }
 
-fn all_boxes<V: Ledger, C: Ledger>(
-    rt: &impl Abort,
-    alloc: Global,
-    visits: Blank,
-    changes: Blank,
-) -> Result<(), Fail>
+fn all_boxes<V: Ledger, C: Ledger>(rt: &impl Abort, alloc: Global, visits: Blank, changes: Blank)
     requires visits { (visits.name ≡ V.name) × (visits.parts ≡ V.parts) × (0 < visits.parts) }
     requires changes { (changes.name ≡ C.name) × (changes.parts ≡ C.parts) × (0 < changes.parts) }
 {
     let mut counters: Counters<V, C> = Counters::new(visits, changes);
-    boxes::<1, 2, 32, V, C>(rt, alloc, &mut counters)?;
-    boxes::<2, 4, 32, V, C>(rt, alloc, &mut counters)?;
-    boxes::<3, 6, 32, V, C>(rt, alloc, &mut counters)?;
-    boxes::<4, 8, 32, V, C>(rt, alloc, &mut counters)?;
-    boxes::<5, 10, 7, V, C>(rt, alloc, &mut counters)?;
-    boxes::<8, 16, 62, V, C>(rt, alloc, &mut counters)
+    boxes::<1, 2, 32, V, C>(rt, alloc, &mut counters);
+    boxes::<2, 4, 32, V, C>(rt, alloc, &mut counters);
+    boxes::<3, 6, 32, V, C>(rt, alloc, &mut counters);
+    boxes::<4, 8, 32, V, C>(rt, alloc, &mut counters);
+    boxes::<5, 10, 7, V, C>(rt, alloc, &mut counters);
+    boxes::<8, 16, 62, V, C>(rt, alloc, &mut counters);
 }
 
 #[test]
-fn boxes_by_windows(rt: HostRuntime) -> Result<(), Fail> {
-    all_boxes::<Brand, Brand>(&rt, rt.alloc(), Blank::new(1), Blank::new(1))
+fn boxes_by_windows(rt: HostRuntime) {
+    all_boxes::<Brand, Brand>(&rt, rt.alloc(), Blank::new(1), Blank::new(1));
 }

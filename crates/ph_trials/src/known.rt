@@ -89,10 +89,34 @@ pub(crate) fn del<const D: usize, V: Ledger, C: Ledger>(
     requires { D ≤ 16 }
 {
     let p = point(rt, tree, coords);
-    let Ok(answer) = tree.del(&p, &mut counters.visits, &mut counters.changes) else {
-        panic!(rt; "no memory");
-    };
-    assert_eq!(rt; answer, found);
+    let answer = tree.del(&p, &mut counters.visits, &mut counters.changes);
+    assert!(rt; answer == Ok(found));
+}
+
+// A move that is to find this.
+fn relocate<V: Ledger, C: Ledger>(
+    rt: &impl Abort,
+    tree: &mut PhTree<2>,
+    from: [i64; 2],
+    to: [i64; 2],
+    counters: &mut Counters<V, C>,
+    found: Moved,
+) {
+    let (p, q) = (point(rt, tree, &from), point(rt, tree, &to));
+    let answer = tree.relocate(&p, &q, &mut counters.visits, &mut counters.changes);
+    assert!(rt; answer == Ok(found));
+}
+
+// The value at a point.
+fn get<const D: usize, V: Ledger>(
+    rt: &impl Abort,
+    tree: &PhTree<D>,
+    coords: &[i64],
+    visits: &mut Steps<V>,
+) -> Option<u64>
+    requires { D ≤ 16 }
+{
+    tree.get(&point(rt, tree, coords), visits)
 }
 
 // The child of entry i, visited.
@@ -119,6 +143,11 @@ fn is_point<const D: usize>(node: NodeRef<'_, D>, i: usize, v: u64) -> bool {
         What::Value(u) => u == v && entry.addr as usize == i,
         What::Child(_) => false,
     }
+}
+
+// Whether a node is at a level and has so many entries.
+fn is_sized<const D: usize>(node: NodeRef<'_, D>, level: u32, len: usize) -> bool {
+    (node.level(), node.len()) == (level, len)
 }
 
 pub(crate) fn root<'t, const D: usize, V: Ledger>(
@@ -161,9 +190,9 @@ fn unit_square<V: Ledger, C: Ledger>(
             put_corner(rt, &mut tree, corner, counters);
         }
         let top = root(rt, &tree, &mut counters.visits);
-        assert_eq!(rt; (top.level(), top.len()), (31, 1), "order {order}");
+        assert!(rt; is_sized(top, 31, 1), "order {order}");
         let square = child(rt, top, 0, &mut counters.visits);
-        assert_eq!(rt; (square.level(), square.len()), (0, 4), "order {order}");
+        assert!(rt; is_sized(square, 0, 4), "order {order}");
         for i in 0..4 {
             assert!(rt; is_point(square, i, i as u64), "order {order}");
         }
@@ -178,7 +207,7 @@ fn each_split<V: Ledger, C: Ledger>(rt: &impl Abort, alloc: Global, counters: &m
         put_new(rt, &mut tree, &beside, 1, counters);
         let top = root(rt, &tree, &mut counters.visits);
         let split = child(rt, top, 0, &mut counters.visits);
-        assert_eq!(rt; (split.level(), split.len()), (place, 2));
+        assert!(rt; is_sized(split, place, 2), "place {place}");
         assert!(rt;
             is_point(split, 0, 0) && is_point(split, 1, 1),
             "place {place}"
@@ -201,11 +230,11 @@ fn deepest_path<V: Ledger, C: Ledger>(
     let mut node = root(rt, &tree, &mut counters.visits);
     for place in (0..31u32).rev() {
         node = child(rt, node, 0, &mut counters.visits);
-        assert_eq!(rt; (node.level(), node.len()), (place, 2));
+        assert!(rt; is_sized(node, place, 2), "place {place}");
         assert!(rt; is_point(node, 1, 1u64 << place), "place {place}");
     }
     assert!(rt; is_point(node, 0, 0));
-    assert_eq!(rt; tree.len(), 32);
+    assert!(rt; tree.len() == 32);
 }
 
 // Takes the powers of two out from the root's child down, and then zero.
@@ -229,10 +258,10 @@ fn deepest_path_gone<V: Ledger, C: Ledger>(
             0,
             &mut counters.visits,
         );
-        assert_eq!(rt; (top.level(), top.len()), (place - 1, 2));
+        assert!(rt; is_sized(top, place - 1, 2), "place {place}");
     }
     del(rt, &mut tree, &[1], counters, Some(9));
-    assert_eq!(rt; root(rt, &tree, &mut counters.visits).len(), 1);
+    assert!(rt; root(rt, &tree, &mut counters.visits).len() == 1);
     del(rt, &mut tree, &[0], counters, Some(7));
     assert!(rt; tree.root().is_none());
 }
@@ -258,7 +287,7 @@ fn crowded_cube<V: Ledger, C: Ledger>(
         0,
         &mut counters.visits,
     );
-    assert_eq!(rt; (cube.level(), cube.len()), (0, 256));
+    assert!(rt; is_sized(cube, 0, 256));
     for i in 0..256 {
         assert!(rt; is_point(cube, i, i as u64), "corner {i}");
     }
@@ -285,14 +314,12 @@ fn dimensions<const D: usize, V: Ledger, C: Ledger>(
                 Put::Old(i as u64)
             };
             put(rt, &mut tree, &coords, v, counters, Ok(found));
-            let p = point(rt, &tree, &coords);
-            assert_eq!(rt; tree.get(&p, &mut counters.visits), Some(v));
+            assert!(rt; get(rt, &tree, &coords, &mut counters.visits) == Some(v));
         }
     }
-    let p = point(rt, &tree, &[0; D]);
-    assert_eq!(rt; tree.get(&p, &mut counters.visits), None);
+    assert!(rt; get(rt, &tree, &[0; D], &mut counters.visits).is_none());
     tree.clear();
-    assert_eq!(rt; (tree.len(), tree.max()), (0, 16));
+    assert!(rt; (tree.len(), tree.max()) == (0, 16));
 }
 
 fn full_table<V: Ledger, C: Ledger>(rt: &impl Abort, alloc: Global, counters: &mut Counters<V, C>) {
@@ -300,7 +327,7 @@ fn full_table<V: Ledger, C: Ledger>(rt: &impl Abort, alloc: Global, counters: &m
     put_new(rt, &mut tree, &[0, 0], 1, counters);
     put(rt, &mut tree, &[1, 1], 2, counters, FULL);
     put(rt, &mut tree, &[0, 0], 3, counters, Ok(Put::Old(1)));
-    assert_eq!(rt; tree.len(), 1);
+    assert!(rt; tree.len() == 1);
     let mut none: PhTree<2> = empty(rt, alloc, 0);
     put(rt, &mut none, &[0, 0], 1, counters, FULL);
 }
@@ -318,15 +345,10 @@ fn moves<V: Ledger, C: Ledger>(rt: &impl Abort, alloc: Global, counters: &mut Co
         ([0, 0], [1, 1], Moved::Done),
         ([0, 0], [1, 1], Moved::Absent),
     ] {
-        let (p, q) = (point(rt, &tree, &from), point(rt, &tree, &to));
-        let Ok(answer) = tree.relocate(&p, &q, &mut counters.visits, &mut counters.changes) else {
-            panic!(rt; "no memory");
-        };
-        assert_eq!(rt; answer, found);
+        relocate(rt, &mut tree, from, to, counters, found);
     }
     for (coords, found) in [([0, 0], None), ([0, 1], Some(6)), ([1, 1], Some(5))] {
-        let p = point(rt, &tree, &coords);
-        assert_eq!(rt; tree.get(&p, &mut counters.visits), found);
+        assert!(rt; get(rt, &tree, &coords, &mut counters.visits) == found);
     }
 }
 

@@ -15,6 +15,8 @@ mod distances;
 #[cfg(test)]
 mod edits;
 #[cfg(test)]
+mod imports;
+#[cfg(test)]
 mod joins;
 #[cfg(test)]
 mod kept;

@@ -7,14 +7,13 @@ use crate::edits::{BINARY, GREATEST, LEAST, WIDEST, draw, edit};
 use crate::pair::Pair;
 use ph_coord::Point;
 use ph_near::{Ball, Hit, nearest};
-use ph_steps::Counters;
+use ph_steps::{Counters, Steps};
 use rand_core::SeedableRng;
 use rand_xoshiro::Xoshiro256PlusPlus;
 use std::alloc::Global;
 use std::marker::Brand;
 use std::process::Abort;
 use std::sync::ledger::{Blank, Ledger};
-use std::test::Fail;
 
 const SEED: u64 = 1999;
 
@@ -27,19 +26,16 @@ fn compare<const D: usize, const W: u32, V: Ledger, C: Ledger>(
     pair: &Pair<D, W>,
     q: Point<D>,
     counters: &mut Counters<V, C>,
-) -> Result<(), Fail>
+)
     requires few { D ≤ 16 }
     requires point { IsPoint W D q }
 {
-    let all = u32::try_from(pair.table.rows().len())
-        .ok()
-        .ok_or("too many rows")?;
+    let all = u32::try_from(pair.table.rows().len()).expect(rt, "few rows");
     for n in [0, 1, all / 2, all, u32::MAX] {
-        let hits = nearest(alloc, &pair.tree, q, n, &mut counters.visits)?;
-        let expected = pair.table.near(alloc, &q, n)?;
-        assert_eq!(rt; hits, expected);
+        let hits = nearest(alloc, &pair.tree, q, n, &mut counters.visits).expect(rt, "memory");
+        let expected = pair.table.near(alloc, &q, n).expect(rt, "memory");
+        assert!(rt; hits == expected);
     }
-    Ok(())
 }
 
 // The square of the distance of two points.
@@ -50,6 +46,15 @@ fn square(p: &[i64], q: &[i64]) -> u128 {
         sum = sum.saturating_add(gap.saturating_mul(gap));
     }
     sum
+}
+
+// Whether the next hit of a ball is this one, or there is none.
+fn gives<const D: usize, V: Ledger>(
+    ball: &mut Ball<'_, D>,
+    hit: Option<Hit<D>>,
+    visits: &mut Steps<V>,
+) -> bool {
+    ball.next(visits) == hit
 }
 
 // The rows within a radius are to be those of the table that are as near, in their order.
@@ -71,11 +76,11 @@ fn compare_ball<const D: usize, const W: u32, V: Ledger, C: Ledger>(
                 row: *row,
                 distance,
             };
-            assert_eq!(rt; ball.next(&mut counters.visits), Some(hit));
+            assert!(rt; gives(&mut ball, Some(hit), &mut counters.visits));
         }
     }
-    assert_eq!(rt; ball.next(&mut counters.visits), None);
-    assert_eq!(rt; ball.next(&mut counters.visits), None);
+    assert!(rt; gives(&mut ball, None, &mut counters.visits));
+    assert!(rt; gives(&mut ball, None, &mut counters.visits));
 }
 
 // Compares the nearest rows of some points, and those within some radii, between edits.
@@ -84,21 +89,20 @@ fn compare_between_edits<const D: usize, const W: u32, V: Ledger, C: Ledger>(
     alloc: Global,
     choices: &[i64; 8],
     counters: &mut Counters<V, C>,
-) -> Result<(), Fail>
+)
     requires some { 1 ≤ D }
     requires few { D ≤ 16 }
 {
     let mut rng = Xoshiro256PlusPlus::seed_from_u64(SEED);
     let mut pair: Pair<D, W> = Pair::new(rt, alloc, u64::MAX);
     for v in 0..EDITS {
-        edit(rt, &mut pair, &mut rng, choices, v, counters)?;
+        edit(rt, &mut pair, &mut rng, choices, v, counters);
         let q = draw::<D, W, Xoshiro256PlusPlus>(rt, &mut rng, choices);
-        compare(rt, alloc, &pair, q, counters)?;
+        compare(rt, alloc, &pair, q, counters);
         for r in [0, 1, 3, u128::MAX] {
             compare_ball(rt, &pair, q, r, counters);
         }
     }
-    Ok(())
 }
 
 fn all_dimensions<V: Ledger, C: Ledger>(
@@ -106,24 +110,24 @@ fn all_dimensions<V: Ledger, C: Ledger>(
     alloc: Global,
     visits: Blank,
     changes: Blank,
-) -> Result<(), Fail>
+)
     requires visits { (visits.name ≡ V.name) × (visits.parts ≡ V.parts) × (0 < visits.parts) }
     requires changes { (changes.name ≡ C.name) × (changes.parts ≡ C.parts) × (0 < changes.parts) }
 {
     let mut counters: Counters<V, C> = Counters::new(visits, changes);
     let line = [LEAST, -3, -2, -1, 0, 1, 2, GREATEST];
-    compare_between_edits::<1, 32, V, C>(rt, alloc, &line, &mut counters)?;
+    compare_between_edits::<1, 32, V, C>(rt, alloc, &line, &mut counters);
     let square = [LEAST, -2, -1, -1, 0, 0, 1, 2];
-    compare_between_edits::<2, 32, V, C>(rt, alloc, &square, &mut counters)?;
+    compare_between_edits::<2, 32, V, C>(rt, alloc, &square, &mut counters);
     let cube = [-1, -1, -1, 0, 0, 0, 1, GREATEST];
-    compare_between_edits::<3, 32, V, C>(rt, alloc, &cube, &mut counters)?;
+    compare_between_edits::<3, 32, V, C>(rt, alloc, &cube, &mut counters);
     let mostly_zero = [-1, 0, 0, 0, 0, 0, 0, 1];
-    compare_between_edits::<8, 32, V, C>(rt, alloc, &mostly_zero, &mut counters)?;
-    compare_between_edits::<9, 1, V, C>(rt, alloc, &BINARY, &mut counters)?;
-    compare_between_edits::<16, 62, V, C>(rt, alloc, &WIDEST, &mut counters)
+    compare_between_edits::<8, 32, V, C>(rt, alloc, &mostly_zero, &mut counters);
+    compare_between_edits::<9, 1, V, C>(rt, alloc, &BINARY, &mut counters);
+    compare_between_edits::<16, 62, V, C>(rt, alloc, &WIDEST, &mut counters);
 }
 
 #[test]
-fn nearest_rows_between_edits(rt: HostRuntime) -> Result<(), Fail> {
-    all_dimensions::<Brand, Brand>(&rt, rt.alloc(), Blank::new(1), Blank::new(1))
+fn nearest_rows_between_edits(rt: HostRuntime) {
+    all_dimensions::<Brand, Brand>(&rt, rt.alloc(), Blank::new(1), Blank::new(1));
 }

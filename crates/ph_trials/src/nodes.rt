@@ -1,6 +1,6 @@
 //! A node through its edits, with entries and words that are known from outside.
 
-use ph_node::{NoMemory, Node, NodeOf, NodeRef, Spot, What};
+use ph_node::{Node, NodeOf, NodeRef, Spot, What};
 use ph_steps::Steps;
 use std::alloc::Global;
 use std::process::Abort;
@@ -63,42 +63,38 @@ fn visit_child<'t, L: Ledger>(
     panic!(rt; "no child")
 }
 
-fn outcome<L: Ledger>(
-    rt: &impl Abort,
-    alloc: Global,
-    steps: &mut Steps<L>,
-) -> Result<(), NoMemory> {
-    let mut node: Node<2> = NodeOf::single(alloc, 5, 2, OLD, 70, steps)?;
-    node.add(0, 1, BESIDE, 71, steps)?;
-    node.set_value(FIRST, 72, steps);
-    node.split(SECOND, &NEAR, 73, steps)?;
-    node.split(SECOND, &FAR, 74, steps)?;
-    let root = node.visit(steps);
-    assert!(rt; is_node(root, 5, &[(1, 4, 30, Some(72)), (2, 0, 0, None)]));
+// What a node with entries at the addresses 1 and 2 finds.
+fn check_finds(rt: &impl Abort, node: NodeRef<'_, 2>) {
     for (addr, found, next) in [
         (0, None, Some(0)),
         (1, Some(0), Some(0)),
         (2, Some(1), Some(1)),
         (3, None, None),
     ] {
-        assert_eq!(rt; root.find(addr), found, "at {addr}");
-        assert_eq!(rt; root.next_at_or_after(addr), next, "at {addr}");
+        assert!(rt; node.find(addr) == found, "at {addr}");
+        assert!(rt; node.next_at_or_after(addr) == next, "at {addr}");
     }
+}
+
+fn outcome<L: Ledger>(rt: &impl Abort, alloc: Global, steps: &mut Steps<L>) {
+    let mut node: Node<2> = NodeOf::single(alloc, 5, 2, OLD, 70, steps).expect(rt, "memory");
+    node.add(0, 1, BESIDE, 71, steps).expect(rt, "memory");
+    node.set_value(FIRST, 72, steps);
+    node.split(SECOND, &NEAR, 73, steps).expect(rt, "memory");
+    node.split(SECOND, &FAR, 74, steps).expect(rt, "memory");
+    let root = node.visit(steps);
+    assert!(rt; is_node(root, 5, &[(1, 4, 30, Some(72)), (2, 0, 0, None)]));
+    check_finds(rt, root);
     let upper = visit_child(rt, root, 1, steps);
     assert!(rt; is_node(upper, 4, &[(0, 0, 0, None), (2, 1, 3, Some(74))]));
     let lower = visit_child(rt, upper, 0, steps);
     assert!(rt; is_node(lower, 3, &[(0, 1, 3, Some(73)), (2, 1, 3, Some(70))]));
-    Ok(())
 }
 
-fn removals<L: Ledger>(
-    rt: &impl Abort,
-    alloc: Global,
-    steps: &mut Steps<L>,
-) -> Result<(), NoMemory> {
-    let mut node: Node<2> = NodeOf::single(alloc, 5, 2, OLD, 70, steps)?;
-    node.add(0, 1, BESIDE, 71, steps)?;
-    node.split(SECOND, &NEAR, 73, steps)?;
+fn removals<L: Ledger>(rt: &impl Abort, alloc: Global, steps: &mut Steps<L>) {
+    let mut node: Node<2> = NodeOf::single(alloc, 5, 2, OLD, 70, steps).expect(rt, "memory");
+    node.add(0, 1, BESIDE, 71, steps).expect(rt, "memory");
+    node.split(SECOND, &NEAR, 73, steps).expect(rt, "memory");
     node.merge(SECOND, 0, steps);
     let root = node.visit(steps);
     assert!(rt; is_node(root, 5, &[(1, 4, 30, Some(71)), (2, 9, 3, Some(70))]));
@@ -106,15 +102,14 @@ fn removals<L: Ledger>(
     let root = node.visit(steps);
     assert!(rt; is_node(root, 5, &[(2, 9, 3, Some(70))]));
     node.dissolve(steps);
-    Ok(())
 }
 
 // A node that goes from between a node and a child, which then stands where it stood, and a child that moves to another block.
-fn lifts<L: Ledger>(rt: &impl Abort, alloc: Global, steps: &mut Steps<L>) -> Result<(), NoMemory> {
-    let mut node: Node<2> = NodeOf::single(alloc, 5, 2, OLD, 70, steps)?;
-    node.add(0, 1, BESIDE, 71, steps)?;
-    node.split(SECOND, &NEAR, 73, steps)?;
-    node.split(SECOND, &FAR, 74, steps)?;
+fn lifts<L: Ledger>(rt: &impl Abort, alloc: Global, steps: &mut Steps<L>) {
+    let mut node: Node<2> = NodeOf::single(alloc, 5, 2, OLD, 70, steps).expect(rt, "memory");
+    node.add(0, 1, BESIDE, 71, steps).expect(rt, "memory");
+    node.split(SECOND, &NEAR, 73, steps).expect(rt, "memory");
+    node.split(SECOND, &FAR, 74, steps).expect(rt, "memory");
     node.merge(SECOND, 1, steps);
     let root = node.visit(steps);
     assert!(rt; (root.words().len(), root.children().len()) == (3, 1));
@@ -124,7 +119,6 @@ fn lifts<L: Ledger>(rt: &impl Abort, alloc: Global, steps: &mut Steps<L>) -> Res
     assert!(rt; is_node(root, 5, &[(2, 0, 0, None)]));
     let lower = visit_child(rt, root, 0, steps);
     assert!(rt; is_node(lower, 3, &[(0, 1, 3, Some(73)), (2, 1, 3, Some(70))]));
-    Ok(())
 }
 
 fn has_words(words: &[u64], want: &[u64]) -> bool {
@@ -132,69 +126,93 @@ fn has_words(words: &[u64], want: &[u64]) -> bool {
 }
 
 // The words of nodes.
-fn layouts<L: Ledger>(
-    rt: &impl Abort,
-    alloc: Global,
-    steps: &mut Steps<L>,
-) -> Result<(), NoMemory> {
+fn layouts<L: Ledger>(rt: &impl Abort, alloc: Global, steps: &mut Steps<L>) {
     let body = [3, 4, 0, 0, 0, 0, 0, 0, 0, 0, 0, 0, 0, 0, 0, 0];
-    let across: Node<2> = NodeOf::single(alloc, 31, 3, body, 17, steps)?;
+    let across: Node<2> = NodeOf::single(alloc, 31, 3, body, 17, steps).expect(rt, "memory");
     let words = across.visit(steps).words();
     assert!(rt; has_words(words, &[0x1f00000001000000, 0x60000000c0000002, 0, 0x11]));
-    let mut node: Node<2> = NodeOf::single(alloc, 31, 3, [0; 16], 1, steps)?;
+}
+
+// The words of a node and its child, before and after the child gets an entry.
+fn child_layouts<L: Ledger>(rt: &impl Abort, alloc: Global, steps: &mut Steps<L>) {
+    let mut node: Node<2> = NodeOf::single(alloc, 31, 3, [0; 16], 1, steps).expect(rt, "memory");
     let spot = Spot { place: 0, addr: 3 };
-    node.split(spot, &ONES, 2, steps)?;
+    node.split(spot, &ONES, 2, steps).expect(rt, "memory");
     let root = node.visit(steps);
     assert!(rt; has_words(root.words(), &[0x1f00000001000001, 0xe000000000000000, 0]));
     let words = visit_child(rt, root, 0, steps).words();
     assert!(rt; has_words(words, &[0x0000000002000000, 0x0c00000000000000, 1, 2]));
     let slot = node.child_mut(spot, 0);
-    slot.node_mut().add(1, 1, [0; 16], 3, steps)?;
+    let added = slot.node_mut().add(1, 1, [0; 16], 3, steps);
+    assert!(rt; added.is_ok());
     let words = visit_child(rt, node.visit(steps), 0, steps).words();
     assert!(rt; has_words(words, &[0x0001000003000000, 0x5100000000000000, 1, 3, 2]));
-    Ok(())
 }
 
-fn spots<L: Ledger>(rt: &impl Abort, alloc: Global, steps: &mut Steps<L>) -> Result<(), NoMemory> {
-    let mut node: Node<2> = NodeOf::single(alloc, 5, 2, OLD, 70, steps)?;
-    node.split(Spot { place: 0, addr: 2 }, &NEAR, 73, steps)?;
-    node.add(0, 1, BESIDE, 71, steps)?;
-    let root = node.visit(steps);
-    assert!(rt; (root.words().len(), root.children().len()) == (3, 1));
-    assert!(rt; !root.is_cube());
-    assert_eq!(rt; root.search(0).err(), Some(0));
-    assert_eq!(rt; root.search(3).err(), Some(2));
-    let (point, child) = (root.spot(0), root.spot(1));
-    assert_eq!(rt; (point.addr, child.addr), (1, 2));
-    assert!(rt; root.is_below(point, &[4 + 32, 30]));
-    assert!(rt; !root.is_below(point, &[4 + 16, 30]));
-    assert!(rt; root.is_between(child, 3, &[9, 3]));
-    assert!(rt; !root.is_between(child, 3, &[16, 3]));
-    assert!(rt; root.is_child(child));
-    assert!(rt; !root.is_child(point));
+// What a node with a point at the address 1 and a child at 2 says of its records, and where others would stand.
+fn check_places(rt: &impl Abort, node: NodeRef<'_, 2>) {
+    assert!(rt; (node.words().len(), node.children().len()) == (3, 1));
+    assert!(rt; !node.is_cube());
+    assert!(rt; node.search(0).err() == Some(0));
+    assert!(rt; node.search(3).err() == Some(2));
+}
+
+// What it says of each of its spots.
+fn check_spots(rt: &impl Abort, node: NodeRef<'_, 2>) {
+    assert!(rt; node.len() == 2);
+    let (point, child) = (node.spot(0), node.spot(1));
+    assert!(rt; (point.addr, child.addr) == (1, 2));
+    assert!(rt; node.is_below(point, &[4 + 32, 30]));
+    assert!(rt; !node.is_below(point, &[4 + 16, 30]));
+    assert!(rt; node.is_between(child, 3, &[9, 3]));
+    assert!(rt; !node.is_between(child, 3, &[16, 3]));
+    assert!(rt; node.is_child(child));
+    assert!(rt; !node.is_child(point));
+}
+
+// Whether its point lies between two others.
+fn is_point_between(node: NodeRef<'_, 2>, low: &[u64; 2], high: &[u64; 2]) -> bool {
+    node.len() == 2 && node.lies_between(node.spot(0), &[64, 255], low, high)
+}
+
+// The square of the distance of its point from another, where that is within a limit.
+fn distance_within(node: NodeRef<'_, 2>, limit: u128) -> Option<u128> {
+    if node.len() != 2 {
+        return None;
+    }
+    node.distance_within(node.spot(0), &[64, 255], &[65, 250], limit)
+}
+
+// What it says of its point, which is (68, 254) below the digits of (64, 255).
+fn check_point(rt: &impl Abort, node: NodeRef<'_, 2>) {
+    assert!(rt; is_point_between(node, &[68, 0], &[68, 254]));
+    assert!(rt; !is_point_between(node, &[69, 0], &[99, 254]));
+    assert!(rt; !is_point_between(node, &[68, 0], &[68, 253]));
+    assert!(rt; distance_within(node, 25) == Some(25));
+    assert!(rt; distance_within(node, 24).is_none());
+    assert!(rt; node.len() == 2);
     let mut known = [64, 255];
-    assert!(rt; root.lies_between(point, &known, &[68, 0], &[68, 254]));
-    assert!(rt; !root.lies_between(point, &known, &[69, 0], &[99, 254]));
-    assert!(rt; !root.lies_between(point, &known, &[68, 0], &[68, 253]));
-    assert_eq!(rt;
-        root.distance_within(point, &known, &[65, 250], 25),
-        Some(25)
-    );
-    assert_eq!(rt; root.distance_within(point, &known, &[65, 250], 24), None);
-    root.join(point, &mut known);
-    assert_eq!(rt; known, [64 + 4, 192 + 32 + 30]);
-    Ok(())
+    node.join(node.spot(0), &mut known);
+    assert!(rt; known == [64 + 4, 192 + 32 + 30]);
+}
+
+fn spots<L: Ledger>(rt: &impl Abort, alloc: Global, steps: &mut Steps<L>) {
+    let mut node: Node<2> = NodeOf::single(alloc, 5, 2, OLD, 70, steps).expect(rt, "memory");
+    let spot = Spot { place: 0, addr: 2 };
+    node.split(spot, &NEAR, 73, steps).expect(rt, "memory");
+    node.add(0, 1, BESIDE, 71, steps).expect(rt, "memory");
+    let root = node.visit(steps);
+    check_places(rt, root);
+    check_spots(rt, root);
+    check_point(rt, root);
 }
 
 // All of these, over one counter.
 pub(crate) fn nodes<L: Ledger>(rt: &impl Abort, alloc: Global, steps: &mut Steps<L>) {
-    for answer in [
-        layouts(rt, alloc, steps),
-        outcome(rt, alloc, steps),
-        removals(rt, alloc, steps),
-        lifts(rt, alloc, steps),
-        spots(rt, alloc, steps),
-    ] {
-        assert!(rt; answer == Ok(()));
-    }
+    layouts(rt, alloc, steps);
+    child_layouts(rt, alloc, steps);
+    outcome(rt, alloc, steps);
+    removals(rt, alloc, steps);
+    lifts(rt, alloc, steps);
+    spots(rt, alloc, steps);
 }

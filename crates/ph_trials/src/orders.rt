@@ -8,7 +8,6 @@ use std::alloc::Global;
 use std::marker::Brand;
 use std::process::Abort;
 use std::sync::ledger::{Blank, Ledger};
-use std::test::Fail;
 
 const POINTS: [[i64; 2]; 3] = [[0, 0], [1, 1], [0, 1]];
 
@@ -31,33 +30,31 @@ fn put_and_delete<V: Ledger, C: Ledger>(
     puts: &[usize],
     dels: &[usize],
     counters: &mut Counters<V, C>,
-) -> Result<(), Fail> {
+) {
     let mut pair: Pair<2, 32> = Pair::new(rt, alloc, puts.len() as u64);
     for i in puts {
-        let coords = points.get(*i).ok_or("no point")?;
-        pair.put(rt, point::<2, 32>(rt, coords), *i as u64, counters)?;
-        pair.compare(rt, alloc, counters)?;
+        let coords = points.get(*i).expect(rt, "a point");
+        pair.put(rt, point::<2, 32>(rt, coords), *i as u64, counters);
+        pair.compare(rt, alloc, counters);
     }
     for i in dels {
-        let coords = points.get(*i).ok_or("no point")?;
-        pair.del(rt, &point::<2, 32>(rt, coords), counters)?;
-        pair.compare(rt, alloc, counters)?;
+        let coords = points.get(*i).expect(rt, "a point");
+        pair.del(rt, &point::<2, 32>(rt, coords), counters);
+        pair.compare(rt, alloc, counters);
     }
     assert!(rt; pair.tree.root().is_none());
-    Ok(())
 }
 
 fn three_points<V: Ledger, C: Ledger>(
     rt: &impl Abort,
     alloc: Global,
     counters: &mut Counters<V, C>,
-) -> Result<(), Fail> {
+) {
     for puts in ORDERS {
         for dels in ORDERS {
-            put_and_delete(rt, alloc, &POINTS, &puts, &dels, counters)?;
+            put_and_delete(rt, alloc, &POINTS, &puts, &dels, counters);
         }
     }
-    Ok(())
 }
 
 // The corners of the unit square, which are put and deleted in every order.
@@ -65,33 +62,27 @@ fn unit_square<V: Ledger, C: Ledger>(
     rt: &impl Abort,
     alloc: Global,
     counters: &mut Counters<V, C>,
-) -> Result<(), Fail> {
+) {
     for order in 0..64usize {
         let (a, b, c) = (order >> 4, order >> 2 & 3, order & 3);
         if a == b || b == c || a == c {
             continue;
         }
         let corners = [a, b, c, 6usize.saturating_sub(a + b + c)];
-        put_and_delete(rt, alloc, &CORNERS, &corners, &corners, counters)?;
+        put_and_delete(rt, alloc, &CORNERS, &corners, &corners, counters);
     }
-    Ok(())
 }
 
-fn every_order<V: Ledger, C: Ledger>(
-    rt: &impl Abort,
-    alloc: Global,
-    visits: Blank,
-    changes: Blank,
-) -> Result<(), Fail>
+fn every_order<V: Ledger, C: Ledger>(rt: &impl Abort, alloc: Global, visits: Blank, changes: Blank)
     requires visits { (visits.name ≡ V.name) × (visits.parts ≡ V.parts) × (0 < visits.parts) }
     requires changes { (changes.name ≡ C.name) × (changes.parts ≡ C.parts) × (0 < changes.parts) }
 {
     let mut counters: Counters<V, C> = Counters::new(visits, changes);
-    three_points(rt, alloc, &mut counters)?;
-    unit_square(rt, alloc, &mut counters)
+    three_points(rt, alloc, &mut counters);
+    unit_square(rt, alloc, &mut counters);
 }
 
 #[test]
-fn points_in_every_order(rt: HostRuntime) -> Result<(), Fail> {
-    every_order::<Brand, Brand>(&rt, rt.alloc(), Blank::new(1), Blank::new(1))
+fn points_in_every_order(rt: HostRuntime) {
+    every_order::<Brand, Brand>(&rt, rt.alloc(), Blank::new(1), Blank::new(1));
 }

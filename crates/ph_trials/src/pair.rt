@@ -12,7 +12,6 @@ use ph_tree::{Moved, PhTree, PutError};
 use std::alloc::Global;
 use std::process::Abort;
 use std::sync::ledger::Ledger;
-use std::test::Fail;
 
 // Of W bits a coordinate.
 #[derive(Drop)]
@@ -61,7 +60,7 @@ impl<const D: usize, const W: u32> Pair<D, W> {
         p: Point<D>,
         v: u64,
         counters: &mut Counters<V, C>,
-    ) -> Result<(), Fail>
+    )
         requires few { D ≤ 16 }
         requires point { IsPoint W D p }
     {
@@ -72,11 +71,10 @@ impl<const D: usize, const W: u32> Pair<D, W> {
             .put(p, v, &mut counters.visits, &mut counters.changes);
         if is_refused {
             assert!(rt; answer == Err(PutError::Full));
-            return Ok(());
+            return;
         }
-        let found = self.table.put(p, v)?;
-        assert_eq!(rt; answer?, found);
-        Ok(())
+        let found = self.table.put(p, v).expect(rt, "memory");
+        assert!(rt; answer == Ok(found));
     }
 
     pub(crate) fn del<V: Ledger, C: Ledger>(
@@ -84,16 +82,15 @@ impl<const D: usize, const W: u32> Pair<D, W> {
         rt: &impl Abort,
         p: &Point<D>,
         counters: &mut Counters<V, C>,
-    ) -> Result<(), Fail>
+    )
         requires few { D ≤ 16 }
         requires point { IsPoint W D p.now }
     {
         let answer = self
             .tree
-            .del(p, &mut counters.visits, &mut counters.changes)?;
+            .del(p, &mut counters.visits, &mut counters.changes);
         let found = self.table.del(p);
-        assert_eq!(rt; answer, found);
-        Ok(())
+        assert!(rt; answer == Ok(found));
     }
 
     pub(crate) fn relocate<V: Ledger, C: Ledger>(
@@ -102,34 +99,33 @@ impl<const D: usize, const W: u32> Pair<D, W> {
         from: &Point<D>,
         to: &Point<D>,
         counters: &mut Counters<V, C>,
-    ) -> Result<(), Fail>
+    )
         requires few { D ≤ 16 }
         requires from { IsPoint W D from.now }
         requires to { IsPoint W D to.now }
     {
         let answer = self
             .tree
-            .relocate(from, to, &mut counters.visits, &mut counters.changes)?;
-        let found = self.move_row(from, to)?;
-        assert_eq!(rt; answer, found);
-        Ok(())
+            .relocate(from, to, &mut counters.visits, &mut counters.changes);
+        let found = self.move_row(rt, from, to);
+        assert!(rt; answer == Ok(found));
     }
 
     // Moves a row of the table.
-    fn move_row(&mut self, from: &Point<D>, to: &Point<D>) -> Result<Moved, Fail>
+    fn move_row(&mut self, rt: &impl Abort, from: &Point<D>, to: &Point<D>) -> Moved
         requires few { D ≤ 16 }
         requires from { IsPoint W D from.now }
         requires to { IsPoint W D to.now }
     {
         let Some(v) = self.table.get(from) else {
-            return Ok(Moved::Absent);
+            return Moved::Absent;
         };
         if from != to && self.table.get(to).is_some() {
-            return Ok(Moved::Taken);
+            return Moved::Taken;
         }
         let _value = self.table.del(from);
-        let _put = self.table.put(*to, v)?;
-        Ok(Moved::Done)
+        let _put = self.table.put(*to, v).expect(rt, "memory");
+        Moved::Done
     }
 
     // The tree is to be the shape of the table's rows, and the records of its nodes those of their entries.
@@ -138,17 +134,17 @@ impl<const D: usize, const W: u32> Pair<D, W> {
         rt: &impl Abort,
         alloc: Global,
         counters: &mut Counters<V, C>,
-    ) -> Result<(), Fail>
+    )
         requires some { 1 ≤ D }
         requires few { D ≤ 16 }
     {
         let rows = self.table.rows();
-        assert_eq!(rt; self.tree.len(), rows.len() as u64);
+        assert!(rt; self.tree.len() == rows.len() as u64);
         let root = self.tree.root();
-        assert!(rt; is_shape(alloc, root, self.table.width(), rows, &mut counters.visits)?);
+        let width = self.table.width();
+        assert!(rt; is_shape(alloc, root, width, rows, &mut counters.visits) == Ok(true));
         if let Some(node) = root {
-            assert!(rt; are_written_anew(alloc, node, &mut counters.visits)?);
+            assert!(rt; are_written_anew(alloc, node, &mut counters.visits) == Ok(true));
         }
-        Ok(())
     }
 }

@@ -1,6 +1,6 @@
 //! Set operations of random tables beside trees to which rows are put one by one.
 
-ghost use Rattle.std.specs.Prelude.{◌≡◌, ◌≤◌, IfOk};
+ghost use Rattle.std.specs.Prelude.{◌≡◌, ◌≤◌};
 ghost use Rattle.ph_specs.specs.TableNames.{IsPoint};
 
 use ph_coord::{Point, Width};
@@ -12,7 +12,6 @@ use rand_xoshiro::Xoshiro256PlusPlus;
 use std::alloc::Global;
 use std::process::Abort;
 use std::sync::ledger::Ledger;
-use std::test::Fail;
 
 // Random rows: from which seed on, how many, and the numbers that their coordinates are drawn from, cut to the width.
 #[derive(Clone, Copy)]
@@ -153,57 +152,77 @@ impl<'c, const D: usize, const W: u32, V: Ledger, C: Ledger> Trial<'c, D, W, V, 
         PhTree::new(self.alloc, width::<W>(rt), max)
     }
 
-    fn put(&mut self, tree: &mut PhTree<D>, p: Point<D>, v: u64) -> Result<(), Fail>
+    fn put(&mut self, rt: &impl Abort, tree: &mut PhTree<D>, p: Point<D>, v: u64)
         requires width { tree.old.width ≡ W }
         requires point { IsPoint W D p }
         ensures { tree.new.width ≡ W }
     {
         let Counters { visits, changes } = &mut *self.counters;
-        tree.put(p, v, visits, changes)?;
-        Ok(())
+        let _put = tree.put(p, v, visits, changes).expect(rt, "a put");
     }
 
     // Puts the first rows of a draw.
-    fn put_rows(
-        &mut self,
-        rt: &impl Abort,
-        tree: &mut PhTree<D>,
-        draw: Draw,
-        rows: u64,
-        add: u64,
-    ) -> Result<(), Fail>
+    fn put_rows(&mut self, rt: &impl Abort, tree: &mut PhTree<D>, draw: Draw, rows: u64, add: u64)
         requires { tree.old.width ≡ W }
         ensures { tree.new.width ≡ W }
     {
         let mut rng = Xoshiro256PlusPlus::seed_from_u64(draw.seed);
         for i in 0..rows {
             let p = draw_point::<D, W, Xoshiro256PlusPlus>(rt, &mut rng, &draw.choices);
-            self.put(tree, p, add.wrapping_add(i))?;
+            self.put(rt, tree, p, add.wrapping_add(i));
         }
-        Ok(())
     }
 
-    // Puts the rows of the first table at whose points another tree has a row, or at whose points it has none.
-    fn put_beside(
-        &mut self,
-        rt: &impl Abort,
-        tree: &mut PhTree<D>,
-        other: &PhTree<D>,
-        beside: bool,
-    ) -> Result<(), Fail>
-        requires width { tree.old.width ≡ W }
-        requires other { other.now.width ≡ W }
-        ensures { tree.new.width ≡ W }
+    // The tree of the rows of the first table at whose points another tree has a row, or at whose points it has none.
+    fn first_beside(&mut self, rt: &impl Abort, other: &PhTree<D>, beside: bool) -> PhTree<D>
+        requires { other.now.width ≡ W }
+        ensures { result.width ≡ W }
     {
+        let mut tree = self.tree(rt, MOST);
         let draw = self.case.first;
         let mut rng = Xoshiro256PlusPlus::seed_from_u64(draw.seed);
         for i in 0..draw.rows {
             let p = draw_point::<D, W, Xoshiro256PlusPlus>(rt, &mut rng, &draw.choices);
             if other.get(&p, &mut self.counters.visits).is_some() == beside {
-                self.put(tree, p, FIRST.wrapping_add(i))?;
+                self.put(rt, &mut tree, p, FIRST.wrapping_add(i));
             }
         }
-        Ok(())
+        tree
+    }
+
+    // The union of two trees, for at most so many rows.
+    fn united(&mut self, rt: &impl Abort, a: &PhTree<D>, b: &PhTree<D>, max: u64) -> PhTree<D>
+        requires { a.now.width ≡ b.now.width }
+        ensures { result.width ≡ a.now.width }
+    {
+        let Counters { visits, changes } = &mut *self.counters;
+        union(self.alloc, a, b, max, visits, changes).expect(rt, "a union")
+    }
+
+    // Whether the union of two trees has more rows than this.
+    fn is_refused(&mut self, a: &PhTree<D>, b: &PhTree<D>, max: u64) -> bool
+        requires { a.now.width ≡ b.now.width }
+    {
+        let Counters { visits, changes } = &mut *self.counters;
+        union(self.alloc, a, b, max, visits, changes).err() == Some(SetFault::Full)
+    }
+
+    // The rows of a tree at points that another has.
+    fn shared(&mut self, rt: &impl Abort, a: &PhTree<D>, b: &PhTree<D>) -> PhTree<D>
+        requires { a.now.width ≡ b.now.width }
+        ensures { result.width ≡ a.now.width }
+    {
+        let Counters { visits, changes } = &mut *self.counters;
+        common(self.alloc, a, b, visits, changes).expect(rt, "memory")
+    }
+
+    // The rows of a tree at points that another has not.
+    fn without(&mut self, rt: &impl Abort, a: &PhTree<D>, b: &PhTree<D>) -> PhTree<D>
+        requires { a.now.width ≡ b.now.width }
+        ensures { result.width ≡ a.now.width }
+    {
+        let Counters { visits, changes } = &mut *self.counters;
+        minus(self.alloc, a, b, visits, changes).expect(rt, "memory")
     }
 
     // A tree is to have the rows and the nodes of another, and room for so many rows.
@@ -213,101 +232,111 @@ impl<'c, const D: usize, const W: u32, V: Ledger, C: Ledger> Trial<'c, D, W, V, 
         let visits = &mut self.counters.visits;
         assert!(rt; tree.same(wanted, visits));
         let stats = tree.stats(visits);
-        assert_eq!(rt; stats, wanted.stats(visits));
-        assert_eq!(rt; (tree.len(), tree.max()), (wanted.len(), max));
+        assert!(rt; stats == wanted.stats(visits));
+        assert!(rt; (tree.len(), tree.max()) == (wanted.len(), max));
+    }
+
+    // The common rows and the difference.
+    fn compare_parts(&mut self, rt: &impl Abort, a: &PhTree<D>, b: &PhTree<D>)
+        requires first { a.now.width ≡ W }
+        requires second { b.now.width ≡ W }
+    {
+        let (both, wanted) = (self.shared(rt, a, b), self.first_beside(rt, b, true));
+        self.compare(rt, &both, &wanted, MOST);
+        let (rest, wanted) = (self.without(rt, a, b), self.first_beside(rt, b, false));
+        self.compare(rt, &rest, &wanted, MOST);
     }
 
     // The union for as many rows as it has, and for one fewer.
-    fn compare_full(
-        &mut self,
-        rt: &impl Abort,
-        a: &PhTree<D>,
-        b: &PhTree<D>,
-        wanted: &PhTree<D>,
-    ) -> Result<(), Fail>
-        requires same { a.now.width ≡ b.now.width }
-        requires wanted { a.now.width ≡ wanted.now.width }
+    fn compare_union(&mut self, rt: &impl Abort, a: &PhTree<D>, b: &PhTree<D>)
+        requires first { a.now.width ≡ W }
+        requires second { b.now.width ≡ W }
     {
-        let (alloc, most) = (self.alloc, wanted.len());
-        let Counters { visits, changes } = &mut *self.counters;
-        if most > 0 {
-            let fewer = union(alloc, a, b, most - 1, visits, changes);
-            assert_eq!(rt; fewer.err(), Some(SetFault::Full));
-        }
-        let all = union(alloc, a, b, most, visits, changes)?;
-        self.compare(rt, &all, wanted, most);
-        Ok(())
+        let wanted = self.both_tables(rt);
+        let most = wanted.len();
+        assert!(rt; most == 0 || self.is_refused(a, b, most - 1));
+        let all = self.united(rt, a, b, most);
+        self.compare(rt, &all, &wanted, most);
     }
 
-    // The difference and the common rows together are the first table, and the union without the second is the difference. Both unions
-    // have the same points.
-    fn compare_laws(&mut self, rt: &impl Abort, a: &PhTree<D>, b: &PhTree<D>) -> Result<(), Fail>
+    // The difference and the common rows together are the first table, and the union without the second is the difference.
+    fn compare_laws(&mut self, rt: &impl Abort, a: &PhTree<D>, b: &PhTree<D>)
         requires { a.now.width ≡ b.now.width }
     {
-        let alloc = self.alloc;
-        let Counters { visits, changes } = &mut *self.counters;
-        let all = union(alloc, a, b, UNION, visits, changes)?;
-        let swapped = union(alloc, b, a, UNION, visits, changes)?;
-        let both = common(alloc, a, b, visits, changes)?;
-        let rest = minus(alloc, a, b, visits, changes)?;
-        let parts = union(alloc, &rest, &both, UNION, visits, changes)?;
-        let without = minus(alloc, &all, b, visits, changes)?;
-        let unions = union(alloc, &all, &swapped, UNION, visits, changes)?;
-        assert_eq!(rt; all.len(), swapped.len());
+        let rest = self.without(rt, a, b);
+        let both = self.shared(rt, a, b);
+        let parts = self.united(rt, &rest, &both, UNION);
         self.compare(rt, &parts, a, UNION);
-        self.compare(rt, &without, &rest, UNION);
-        self.compare(rt, &unions, &all, UNION);
-        Ok(())
+        let all = self.united(rt, a, b, UNION);
+        let left = self.without(rt, &all, b);
+        self.compare(rt, &left, &rest, UNION);
     }
 
-    fn second_table(&mut self, rt: &impl Abort) -> Result<PhTree<D>, Fail>
-        ensures { IfOk result (λ t. t.width ≡ W) }
+    // The unions either way round have the same points.
+    fn compare_swapped(&mut self, rt: &impl Abort, a: &PhTree<D>, b: &PhTree<D>)
+        requires { a.now.width ≡ b.now.width }
+    {
+        let all = self.united(rt, a, b, UNION);
+        let swapped = self.united(rt, b, a, UNION);
+        assert!(rt; all.len() == swapped.len());
+        let unions = self.united(rt, &all, &swapped, UNION);
+        self.compare(rt, &unions, &all, UNION);
+    }
+
+    fn first_table(&mut self, rt: &impl Abort) -> PhTree<D>
+        ensures { result.width ≡ W }
+    {
+        let first = self.case.first;
+        let mut table = self.tree(rt, MOST);
+        self.put_rows(rt, &mut table, first, first.rows, FIRST);
+        table
+    }
+
+    fn second_table(&mut self, rt: &impl Abort) -> PhTree<D>
+        ensures { result.width ≡ W }
     {
         let case = self.case;
         let mut table = self.tree(rt, UNION);
-        self.put_rows(rt, &mut table, case.second, case.second.rows, SECOND)?;
-        self.put_rows(rt, &mut table, case.first, case.shared, SHARED)?;
-        Ok(table)
+        self.put_rows(rt, &mut table, case.second, case.second.rows, SECOND);
+        self.put_rows(rt, &mut table, case.first, case.shared, SHARED);
+        table
     }
 
-    fn run(&mut self, rt: &impl Abort) -> Result<(), Fail> {
-        let (alloc, first) = (self.alloc, self.case.first);
-        let mut a = self.tree(rt, MOST);
-        let b = self.second_table(rt)?;
-        let mut all = self.second_table(rt)?;
-        self.put_rows(rt, &mut a, first, first.rows, FIRST)?;
-        self.put_rows(rt, &mut all, first, first.rows, FIRST)?;
-        let mut both = self.tree(rt, MOST);
-        let mut rest = self.tree(rt, MOST);
-        self.put_beside(rt, &mut both, &b, true)?;
-        self.put_beside(rt, &mut rest, &b, false)?;
-        let Counters { visits, changes } = &mut *self.counters;
-        let made = common(alloc, &a, &b, visits, changes)?;
-        let left = minus(alloc, &a, &b, visits, changes)?;
-        self.compare(rt, &made, &both, MOST);
-        self.compare(rt, &left, &rest, MOST);
-        self.compare_full(rt, &a, &b, &all)?;
-        self.compare_laws(rt, &a, &b)
+    // The second table, over which the rows of the first are put.
+    fn both_tables(&mut self, rt: &impl Abort) -> PhTree<D>
+        ensures { result.width ≡ W }
+    {
+        let first = self.case.first;
+        let mut table = self.second_table(rt);
+        self.put_rows(rt, &mut table, first, first.rows, FIRST);
+        table
+    }
+
+    fn run(&mut self, rt: &impl Abort) {
+        let (a, b) = (self.first_table(rt), self.second_table(rt));
+        self.compare_parts(rt, &a, &b);
+        self.compare_union(rt, &a, &b);
+        self.compare_laws(rt, &a, &b);
+        self.compare_swapped(rt, &a, &b);
     }
 }
 
 impl<A: Abort> Counting for AllCases<'_, A> {
-    type Outcome = Result<(), Fail>;
+    type Outcome = ();
 
-    fn run<V: Ledger, C: Ledger>(self, counters: &mut Counters<V, C>) -> Result<(), Fail> {
+    fn run<V: Ledger, C: Ledger>(self, counters: &mut Counters<V, C>) {
         let AllCases(rt, alloc) = self;
         for case in cases() {
-            Trial::<'_, 1, 32, V, C>::new(alloc, case, counters).run(rt)?;
-            Trial::<'_, 2, 62, V, C>::new(alloc, case, counters).run(rt)?;
-            Trial::<'_, 3, 1, V, C>::new(alloc, case, counters).run(rt)?;
-            Trial::<'_, 8, 32, V, C>::new(alloc, case, counters).run(rt)?;
-            Trial::<'_, 16, 62, V, C>::new(alloc, case, counters).run(rt)?;
+            Trial::<'_, 1, 32, V, C>::new(alloc, case, counters).run(rt);
+            Trial::<'_, 2, 62, V, C>::new(alloc, case, counters).run(rt);
+            Trial::<'_, 3, 1, V, C>::new(alloc, case, counters).run(rt);
+            Trial::<'_, 8, 32, V, C>::new(alloc, case, counters).run(rt);
+            Trial::<'_, 16, 62, V, C>::new(alloc, case, counters).run(rt);
         }
-        Ok(())
     }
 }
 
 #[test]
-fn random_tables(rt: HostRuntime) -> Result<(), Fail> {
-    with_new_counters(AllCases(&rt, rt.alloc()))
+fn random_tables(rt: HostRuntime) {
+    with_new_counters(AllCases(&rt, rt.alloc()));
 }

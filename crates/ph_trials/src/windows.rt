@@ -7,15 +7,14 @@ ghost use Rattle.ph_window.specs.Page.{IsLast};
 use crate::edits::{BINARY, GREATEST, LEAST, WIDEST, draw, edit};
 use crate::pair::{Pair, point};
 use ph_coord::{Point, Row, z_before};
-use ph_steps::Counters;
-use ph_window::{Cursor, Tail, Window};
+use ph_steps::{Counters, Steps};
+use ph_window::{Cursor, Page, Tail, Window};
 use rand_core::SeedableRng;
 use rand_xoshiro::Xoshiro256PlusPlus;
 use std::alloc::Global;
 use std::marker::Brand;
 use std::process::Abort;
 use std::sync::ledger::{Blank, Ledger};
-use std::test::Fail;
 
 const SEED: u64 = 1966;
 
@@ -50,6 +49,15 @@ pub(crate) fn corners<const D: usize, const W: u32>(
     (point::<D, W>(rt, &lo), point::<D, W>(rt, &hi))
 }
 
+// Whether the next row of a window is this one, or there is none.
+fn gives<const D: usize, V: Ledger>(
+    window: &mut Window<'_, D>,
+    row: Option<Row<D>>,
+    visits: &mut Steps<V>,
+) -> bool {
+    window.next(visits) == row
+}
+
 // Lists a window of the tree, which is to have these rows.
 pub(crate) fn list<const D: usize, const W: u32, V: Ledger, C: Ledger>(
     rt: &impl Abort,
@@ -65,10 +73,19 @@ pub(crate) fn list<const D: usize, const W: u32, V: Ledger, C: Ledger>(
 {
     let mut window = Window::new(&pair.tree, lo, hi);
     for row in rows {
-        assert_eq!(rt; window.next(&mut counters.visits), Some(*row));
+        assert!(rt; gives(&mut window, Some(*row), &mut counters.visits));
     }
-    assert_eq!(rt; window.next(&mut counters.visits), None);
-    assert_eq!(rt; window.next(&mut counters.visits), None);
+    assert!(rt; gives(&mut window, None, &mut counters.visits));
+    assert!(rt; gives(&mut window, None, &mut counters.visits));
+}
+
+// Whether the next row of a page is this one, or there is none.
+fn page_gives<const D: usize, V: Ledger>(
+    page: &mut Page<'_, D>,
+    row: Option<Row<D>>,
+    visits: &mut Steps<V>,
+) -> bool {
+    page.next(visits) == row
 }
 
 // Lists a page, which is to have the first of the rows that are left, and tells the last point behind it.
@@ -88,12 +105,12 @@ fn page<const D: usize, const W: u32, V: Ledger, C: Ledger>(
 {
     let mut page = cursor.page(&pair.tree, n, &mut counters.visits);
     for row in left.iter().take(n as usize) {
-        assert_eq!(rt; page.next(&mut counters.visits), Some(*row));
+        assert!(rt; page_gives(&mut page, Some(*row), &mut counters.visits));
     }
-    assert_eq!(rt; page.next(&mut counters.visits), None);
+    assert!(rt; page_gives(&mut page, None, &mut counters.visits));
     let behind = page.cursor();
     let is_more = page.tail(&mut counters.visits) == Tail::More;
-    assert_eq!(rt; is_more, (n as usize) < left.len());
+    assert!(rt; is_more == ((n as usize) < left.len()));
     match behind.last {
         Some(last) => Some(point::<D, W>(rt, last.as_slice())),
         None => None,
@@ -133,22 +150,25 @@ fn rows_behind<const D: usize, const W: u32>(
     alloc: Global,
     pair: &Pair<D, W>,
     cursor: &Cursor<D>,
-) -> Result<Vec<Row<D>>, Fail>
+) -> Vec<Row<D>>
     requires few { D ≤ 16 }
     requires last { IsLast W D cursor.now.last }
 {
-    let rows = pair.table.window(alloc, &cursor.lo, &cursor.hi)?;
+    let rows = pair
+        .table
+        .window(alloc, &cursor.lo, &cursor.hi)
+        .expect(rt, "memory");
     let Some(last) = cursor.last else {
-        return Ok(rows);
+        return rows;
     };
     let mut behind = Vec::new(alloc);
     for row in rows {
         let p = point::<D, W>(rt, row.point.as_slice());
         if z_before(pair.table.width(), &last, &p) {
-            behind.push(row)?;
+            behind.push(row).expect(rt, "memory");
         }
     }
-    Ok(behind)
+    behind
 }
 
 // Lists a window, at once and by pages of one, two and three rows.
@@ -159,17 +179,35 @@ fn compare<const D: usize, const W: u32, V: Ledger, C: Ledger>(
     lo: Point<D>,
     hi: Point<D>,
     counters: &mut Counters<V, C>,
-) -> Result<(), Fail>
+)
     requires few { D ≤ 16 }
     requires lo { IsPoint W D lo }
     requires hi { IsPoint W D hi }
 {
-    let rows = pair.table.window(alloc, &lo, &hi)?;
+    let rows = pair.table.window(alloc, &lo, &hi).expect(rt, "memory");
     list(rt, pair, lo, hi, &rows, counters);
     for n in 1..=3 {
         list_pages(rt, pair, lo, hi, &rows, n, counters);
     }
-    Ok(())
+}
+
+// Compares the windows with two points as corners, the bounds reversed in one dimension or in none, and that of the first alone.
+fn compare_between<const D: usize, const W: u32, V: Ledger, C: Ledger>(
+    rt: &impl Abort,
+    alloc: Global,
+    pair: &Pair<D, W>,
+    a: &Point<D>,
+    b: &Point<D>,
+    counters: &mut Counters<V, C>,
+)
+    requires few { D ≤ 16 }
+    requires point { IsPoint W D a.now }
+{
+    for reversed in 0..=D {
+        let (lo, hi) = corners::<D, W>(rt, a, b, reversed);
+        compare(rt, alloc, pair, lo, hi, counters);
+    }
+    compare(rt, alloc, pair, *a, *a, counters);
 }
 
 // Compares windows and a page between edits.
@@ -178,7 +216,7 @@ fn windows<const D: usize, const W: u32, V: Ledger, C: Ledger>(
     alloc: Global,
     choices: &[i64; 8],
     counters: &mut Counters<V, C>,
-) -> Result<(), Fail>
+)
     requires some { 1 ≤ D }
     requires few { D ≤ 16 }
 {
@@ -189,15 +227,11 @@ fn windows<const D: usize, const W: u32, V: Ledger, C: Ledger>(
     let greatest = point::<D, W>(rt, &[width.greatest(); D]);
     let mut last = None;
     for v in 0..EDITS {
-        edit(rt, &mut pair, &mut rng, choices, v, counters)?;
+        edit(rt, &mut pair, &mut rng, choices, v, counters);
         let a = draw::<D, W, Xoshiro256PlusPlus>(rt, &mut rng, choices);
         let b = draw::<D, W, Xoshiro256PlusPlus>(rt, &mut rng, choices);
-        for reversed in 0..=D {
-            let (lo, hi) = corners::<D, W>(rt, &a, &b, reversed);
-            compare(rt, alloc, &pair, lo, hi, counters)?;
-        }
-        compare(rt, alloc, &pair, a, a, counters)?;
-        compare(rt, alloc, &pair, least, greatest, counters)?;
+        compare_between(rt, alloc, &pair, &a, &b, counters);
+        compare(rt, alloc, &pair, least, greatest, counters);
         if v % CURSOR_EDITS == 0 {
             last = None;
         }
@@ -206,35 +240,29 @@ fn windows<const D: usize, const W: u32, V: Ledger, C: Ledger>(
             hi: greatest,
             last,
         };
-        let left = rows_behind(rt, alloc, &pair, &cursor)?;
+        let left = rows_behind(rt, alloc, &pair, &cursor);
         last = page(rt, &pair, &cursor, &left, 2, counters);
     }
-    Ok(())
 }
 
-fn all_windows<V: Ledger, C: Ledger>(
-    rt: &impl Abort,
-    alloc: Global,
-    visits: Blank,
-    changes: Blank,
-) -> Result<(), Fail>
+fn all_windows<V: Ledger, C: Ledger>(rt: &impl Abort, alloc: Global, visits: Blank, changes: Blank)
     requires visits { (visits.name ≡ V.name) × (visits.parts ≡ V.parts) × (0 < visits.parts) }
     requires changes { (changes.name ≡ C.name) × (changes.parts ≡ C.parts) × (0 < changes.parts) }
 {
     let mut counters: Counters<V, C> = Counters::new(visits, changes);
     let line = [LEAST, LEAST + 1, -2, -1, 0, 1, 2, GREATEST];
-    windows::<1, 32, V, C>(rt, alloc, &line, &mut counters)?;
+    windows::<1, 32, V, C>(rt, alloc, &line, &mut counters);
     let square = [LEAST, LEAST, -2, -1, 0, 0, 1, GREATEST];
-    windows::<2, 32, V, C>(rt, alloc, &square, &mut counters)?;
+    windows::<2, 32, V, C>(rt, alloc, &square, &mut counters);
     let cube = [LEAST, -1, -1, 0, 0, 1, 1, GREATEST];
-    windows::<3, 32, V, C>(rt, alloc, &cube, &mut counters)?;
+    windows::<3, 32, V, C>(rt, alloc, &cube, &mut counters);
     let mostly_zero = [LEAST, 0, 0, 0, 0, 0, 0, 1];
-    windows::<8, 32, V, C>(rt, alloc, &mostly_zero, &mut counters)?;
-    windows::<2, 1, V, C>(rt, alloc, &BINARY, &mut counters)?;
-    windows::<9, 62, V, C>(rt, alloc, &WIDEST, &mut counters)
+    windows::<8, 32, V, C>(rt, alloc, &mostly_zero, &mut counters);
+    windows::<2, 1, V, C>(rt, alloc, &BINARY, &mut counters);
+    windows::<9, 62, V, C>(rt, alloc, &WIDEST, &mut counters);
 }
 
 #[test]
-fn windows_between_edits(rt: HostRuntime) -> Result<(), Fail> {
-    all_windows::<Brand, Brand>(&rt, rt.alloc(), Blank::new(1), Blank::new(1))
+fn windows_between_edits(rt: HostRuntime) {
+    all_windows::<Brand, Brand>(&rt, rt.alloc(), Blank::new(1), Blank::new(1));
 }

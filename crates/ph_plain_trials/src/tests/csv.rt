@@ -5,7 +5,7 @@ use ph_coord::Kind::{self, Boxes, Points};
 use ph_coord::{Point, Row, Width};
 use ph_csv::{CsvFault, read_rows, row_line};
 use std::alloc::Global;
-use std::test::Fail;
+use std::process::Abort;
 
 const FAR: &[u8] = b"340282366920938463463374607431768211456,1,2\n";
 
@@ -17,7 +17,19 @@ fn read<const D: usize>(
 ) -> Result<Vec<Row<D>>, CsvFault>
     requires { D ≤ 16 }
 {
-    match Width::new(32) {
+    read_of_width(alloc, text, 32, kind, header)
+}
+
+fn read_of_width<const D: usize>(
+    alloc: Global,
+    text: &[u8],
+    bits: u32,
+    kind: Kind,
+    header: bool,
+) -> Result<Vec<Row<D>>, CsvFault>
+    requires { D ≤ 16 }
+{
+    match Width::new(bits) {
         Some(w) => read_rows(alloc, text, w, kind, header),
         None => Err(CsvFault::NoMemory),
     }
@@ -39,57 +51,67 @@ fn count<const D: usize>(
 ) -> Result<usize, CsvFault>
     requires { D ≤ 16 }
 {
-    let rows: Vec<Row<D>> = read(alloc, text, kind, header)?;
-    Ok(rows.len())
+    number_of(read::<D>(alloc, text, kind, header))
 }
 
-// Each text has the rows of the plain one.
-#[test]
-fn texts_of_the_same_rows(rt: HostRuntime) -> Result<(), Fail> {
-    let plain = b"3,-4,17\n-2147483648,2147483647,18446744073709551615\n";
-    let rows: Vec<Row<2>> = read(rt.alloc(), plain, Kind::Points, false)?;
-    assert_eq!(rt; rows.len(), 2);
-    assert_eq!(rt; rows[0], row([3, -4], 17));
-    assert_eq!(rt; rows[1], row([-2147483648, 2147483647], u64::MAX));
-    let others: [&[u8]; 7] = [
-        // No line feed at the end.
-        b"3,-4,17\n-2147483648,2147483647,18446744073709551615",
-        b"3,-4,17\r\n-2147483648,2147483647,18446744073709551615\r\n",
-        // A carriage return alone ends a record too.
-        b"3,-4,17\r-2147483648,2147483647,18446744073709551615\r",
-        b"\"3\",-4,\"17\"\n-2147483648,\"2147483647\",18446744073709551615\n",
-        b"\n3,-4,17\n\n\r\n-2147483648,2147483647,18446744073709551615\n\n",
-        b"\xef\xbb\xbf3,-4,17\n-2147483648,2147483647,18446744073709551615\n",
-        b"+3,-04,0017\n-2147483648,+2147483647,018446744073709551615\n",
-    ];
-    for text in others {
-        let same: Vec<Row<2>> = read(rt.alloc(), text, Kind::Points, false)?;
-        assert_eq!(rt; same.as_slice(), rows.as_slice());
+fn number_of<const D: usize>(read: Result<Vec<Row<D>>, CsvFault>) -> Result<usize, CsvFault> {
+    match read {
+        Ok(rows) => Ok(rows.len()),
+        Err(fault) => Err(fault),
     }
-    Ok(())
+}
+
+// Whether a text of points has these rows.
+fn are_rows(alloc: Global, text: &[u8], rows: &[Row<2>]) -> bool {
+    match read::<2>(alloc, text, Kind::Points, false) {
+        Ok(read) => *read == *rows,
+        Err(_) => false,
+    }
+}
+
+// Texts of the same rows.
+const SAME: [&[u8]; 8] = [
+    b"3,-4,17\n-2147483648,2147483647,18446744073709551615\n",
+    // No line feed at the end.
+    b"3,-4,17\n-2147483648,2147483647,18446744073709551615",
+    b"3,-4,17\r\n-2147483648,2147483647,18446744073709551615\r\n",
+    // A carriage return alone ends a record too.
+    b"3,-4,17\r-2147483648,2147483647,18446744073709551615\r",
+    b"\"3\",-4,\"17\"\n-2147483648,\"2147483647\",18446744073709551615\n",
+    b"\n3,-4,17\n\n\r\n-2147483648,2147483647,18446744073709551615\n\n",
+    b"\xef\xbb\xbf3,-4,17\n-2147483648,2147483647,18446744073709551615\n",
+    b"+3,-04,0017\n-2147483648,+2147483647,018446744073709551615\n",
+];
+
+#[test]
+fn texts_of_the_same_rows(rt: HostRuntime) {
+    let rows = [row([3, -4], 17), row([-2147483648, 2147483647], u64::MAX)];
+    for text in SAME {
+        assert!(rt; are_rows(rt.alloc(), text, &rows), "{text:?}");
+    }
 }
 
 // A header is passed over whatever it has, and is a record with a number.
+const HEADERS: [(&[u8], Result<usize, CsvFault>); 10] = [
+    (b"", Ok(0)),
+    (b"\n\r\n", Ok(0)),
+    (b"lat,lon,id", Ok(0)),
+    (b"1,2,3\n", Ok(0)),
+    (b"lat,lon,id\n4737,854,1\n5151,-13,2\n", Ok(2)),
+    (b"one field\n4737,854,1\n", Ok(1)),
+    (b"\xff\xfe\n4737,854,1\n", Ok(1)),
+    // The header has a line feed in quotes.
+    (b"\"lat\n\",lon,id\n4737,854,1\n", Ok(1)),
+    (b"\nlat,lon,id\n4737,854\n", Err(CsvFault::Fields(2))),
+    (b"lat,lon,id\n1,1,1\n\nx,1,1\n", Err(CsvFault::Number(3))),
+];
+
 #[test]
-fn headers(rt: HostRuntime) -> Result<(), Fail> {
-    let cases: [(&[u8], Result<usize, CsvFault>); 10] = [
-        (b"", Ok(0)),
-        (b"\n\r\n", Ok(0)),
-        (b"lat,lon,id", Ok(0)),
-        (b"1,2,3\n", Ok(0)),
-        (b"lat,lon,id\n4737,854,1\n5151,-13,2\n", Ok(2)),
-        (b"one field\n4737,854,1\n", Ok(1)),
-        (b"\xff\xfe\n4737,854,1\n", Ok(1)),
-        // The header has a line feed in quotes.
-        (b"\"lat\n\",lon,id\n4737,854,1\n", Ok(1)),
-        (b"\nlat,lon,id\n4737,854\n", Err(CsvFault::Fields(2))),
-        (b"lat,lon,id\n1,1,1\n\nx,1,1\n", Err(CsvFault::Number(3))),
-    ];
-    for (text, answer) in cases {
+fn headers(rt: HostRuntime) {
+    for (text, answer) in HEADERS {
         let answered = count::<2>(rt.alloc(), text, Kind::Points, true);
-        assert_eq!(rt; answered, answer);
+        assert!(rt; answered == answer, "{text:?}");
     }
-    Ok(())
 }
 
 // Texts without a header that are refused.
@@ -133,96 +155,81 @@ const REFUSED: [(Kind, &[u8], CsvFault); 30] = [
 fn faults(rt: HostRuntime) {
     for (kind, text, fault) in REFUSED {
         let answered = count::<2>(rt.alloc(), text, kind, false);
-        assert_eq!(rt; answered, Err(fault));
+        assert!(rt; answered == Err(fault), "{text:?}");
     }
 }
 
 #[test]
-fn boxes(rt: HostRuntime) -> Result<(), Fail> {
+fn boxes(rt: HostRuntime) {
     let touching = count::<4>(rt.alloc(), b"1,2,1,2,9\n-5,-5,5,5,9\n", Kind::Boxes, false);
-    assert_eq!(rt; touching, Ok(2));
+    assert!(rt; touching == Ok(2));
     let reversed = count::<4>(rt.alloc(), b"1,2,1,1,9\n", Kind::Boxes, false);
-    assert_eq!(rt; reversed, Err(CsvFault::Reversed(1)));
+    assert!(rt; reversed == Err(CsvFault::Reversed(1)));
     // No odd number of coordinates is a box.
     let odd = count::<3>(rt.alloc(), b"1,2,3,9\n", Kind::Boxes, false);
-    assert_eq!(rt; odd, Err(CsvFault::Reversed(1)));
-    Ok(())
+    assert!(rt; odd == Err(CsvFault::Reversed(1)));
 }
 
+const WIDTHS: [(u32, &[u8], Result<usize, CsvFault>); 5] = [
+    (1, b"-1,0,0\n", Ok(1)),
+    (1, b"1,0,0\n", Err(CsvFault::Range(1))),
+    (62, b"-2305843009213693952,2305843009213693951,0\n", Ok(1)),
+    (62, b"2305843009213693952,0,0\n", Err(CsvFault::Range(1))),
+    (62, b"0,-2305843009213693953,0\n", Err(CsvFault::Range(1))),
+];
+
 #[test]
-fn widths(rt: HostRuntime) -> Result<(), Fail> {
-    let cases: [(u32, &[u8], Result<usize, CsvFault>); 5] = [
-        (1, b"-1,0,0\n", Ok(1)),
-        (1, b"1,0,0\n", Err(CsvFault::Range(1))),
-        (62, b"-2305843009213693952,2305843009213693951,0\n", Ok(1)),
-        (62, b"2305843009213693952,0,0\n", Err(CsvFault::Range(1))),
-        (62, b"0,-2305843009213693953,0\n", Err(CsvFault::Range(1))),
-    ];
-    for (bits, text, answer) in cases {
-        let w = Width::new(bits).ok_or("no width")?;
-        let rows: Result<Vec<Row<2>>, CsvFault> = read_rows(
-            rt.alloc(),
-            text,
-            w,
-            Kind::Points,
-            false,
-        );
-        let answered = match rows {
-            Ok(rows) => Ok(rows.len()),
-            Err(fault) => Err(fault),
-        };
-        assert_eq!(rt; answered, answer);
+fn widths(rt: HostRuntime) {
+    for (bits, text, answer) in WIDTHS {
+        let rows = read_of_width::<2>(rt.alloc(), text, bits, Kind::Points, false);
+        assert!(rt; number_of(rows) == answer, "{text:?}");
     }
-    Ok(())
 }
 
 #[test]
-fn lines(rt: HostRuntime) -> Result<(), Fail> {
-    assert_eq!(rt; row_line(&row([4737, -854], 1)).as_str(), "4737,-854,1\n");
-    assert_eq!(rt;
-        row_line(&row([0], u64::MAX)).as_str(),
-        "0,18446744073709551615\n"
-    );
-    assert_eq!(rt; row_line(&row([i64::MIN; 16], u64::MAX)).len(), 357);
-    Ok(())
+fn lines(rt: HostRuntime) {
+    assert!(rt; row_line(&row([4737, -854], 1)).as_str() == "4737,-854,1\n");
+    assert!(rt; row_line(&row([0], u64::MAX)).as_str() == "0,18446744073709551615\n");
+    assert!(rt; row_line(&row([i64::MIN; 16], u64::MAX)).len() == 357);
+}
+
+// The lines of many rows.
+fn many_lines(rt: &impl Abort, alloc: Global) -> Vec<u8> {
+    let mut text = Vec::new(alloc);
+    for i in 0..4000u32 {
+        let line = row_line(&row([i64::from(i), -1], 1 << 63));
+        text.extend_from_slice(line.as_str().as_bytes())
+            .expect(rt, "memory");
+    }
+    text
 }
 
 // A text that is longer than what the reader of records holds at a time.
 #[test]
-fn many_records(rt: HostRuntime) -> Result<(), Fail> {
-    let mut text = Vec::new(rt.alloc());
-    for i in 0..4000u32 {
-        text.extend_from_slice(
-            row_line(&row([i64::from(i), -1], 1 << 63))
-                .as_str()
-                .as_bytes(),
-        )?;
-    }
-    let rows: Vec<Row<2>> = read(rt.alloc(), &text, Kind::Points, false)?;
-    assert_eq!(rt; rows.len(), 4000);
+fn many_records(rt: HostRuntime) {
+    let mut text = many_lines(&rt, rt.alloc());
+    let rows = read::<2>(rt.alloc(), &text, Kind::Points, false).expect(&rt, "rows");
+    assert!(rt; rows.len() == 4000);
     for (i, row) in rows.iter().enumerate() {
-        assert_eq!(rt; row.point.as_slice(), [i as i64, -1].as_slice());
+        assert!(rt; row.point.as_slice() == [i as i64, -1].as_slice());
     }
-    text.extend_from_slice(b"1,2\n")?;
-    assert_eq!(rt;
-        count::<2>(rt.alloc(), &text, Kind::Points, true),
-        Err(CsvFault::Fields(4001))
-    );
-    Ok(())
+    text.extend_from_slice(b"1,2\n").expect(&rt, "memory");
+    let answered = count::<2>(rt.alloc(), &text, Kind::Points, true);
+    assert!(rt; answered == Err(CsvFault::Fields(4001)));
 }
 
+const MESSAGES: [(CsvFault, &str); 5] = [
+    (CsvFault::Fields(1), "Fields"),
+    (CsvFault::Number(2), "Number"),
+    (CsvFault::Range(3), "Range"),
+    (CsvFault::Reversed(4), "Reversed"),
+    (CsvFault::NoMemory, "NoMemory"),
+];
+
 #[test]
-fn messages(rt: HostRuntime) -> Result<(), Fail> {
-    let cases = [
-        (CsvFault::Fields(1), "Fields"),
-        (CsvFault::Number(2), "Number"),
-        (CsvFault::Range(3), "Range"),
-        (CsvFault::Reversed(4), "Reversed"),
-        (CsvFault::NoMemory, "NoMemory"),
-    ];
-    for (fault, message) in cases {
-        let text = format!(in rt.alloc(); "{fault}")?;
-        assert_eq!(rt; text.as_str(), message);
+fn messages(rt: HostRuntime) {
+    for (fault, message) in MESSAGES {
+        let text = format!(in rt.alloc(); "{fault}").expect(&rt, "memory");
+        assert!(rt; text.as_str() == message, "{message}");
     }
-    Ok(())
 }

@@ -42,26 +42,29 @@ fn distances_of_the_ends(rt: HostRuntime) {
         ),
     ];
     for (ends, of_two, of_sixteen) in gaps {
-        assert_eq!(rt; end_to_end::<2>(&rt, w, ends), of_two);
-        assert_eq!(rt; end_to_end::<16>(&rt, w, ends), of_sixteen);
+        assert!(rt; end_to_end::<2>(&rt, w, ends) == of_two, "{ends:?}");
+        assert!(rt; end_to_end::<16>(&rt, w, ends) == of_sixteen, "{ends:?}");
     }
 }
+
+const REGIONS: [(u32, [i64; 2], u128); 7] = [
+    (2, [3, 3], 0),
+    (1, [1, -2], 0),
+    (1, [-1, -2], 1),
+    (1, [0, 0], 1),
+    (1, [-2, 1], 8),
+    (1, [3, 3], 16),
+    (0, [0, 0], 13),
+];
 
 #[test]
 fn distances_of_regions(rt: HostRuntime) {
     let w = width(&rt, 3);
     let corner = point::<2>(&rt, w, &[2, -3]);
-    for (level, q, want) in [
-        (2, [3, 3], 0),
-        (1, [1, -2], 0),
-        (1, [-1, -2], 1),
-        (1, [0, 0], 1),
-        (1, [-2, 1], 8),
-        (1, [3, 3], 16),
-        (0, [0, 0], 13),
-    ] {
+    for (level, q, want) in REGIONS {
         assert!(rt; level < w.bits());
         let q = point::<2>(&rt, w, &q);
-        assert_eq!(rt; least_distance(w, &Region { corner, level }, &q), want);
+        let distance = least_distance(w, &Region { corner, level }, &q);
+        assert!(rt; distance == want, "{q:?} at level {level}");
     }
 }

@@ -4,48 +4,48 @@ ghost use Rattle.std.specs.Prelude.{◌≡◌, ◌≤◌};
 use super::{point, width};
 use ph_coord::{Row, Width};
 use ph_table::{Hit, Put, Table};
-use std::alloc::AllocError;
+use std::alloc::Global;
 use std::process::Abort;
-use std::test::Fail;
 
 // A row by its coordinates and its value.
 type Given = ([i64; 2], u64);
 
 // Puts rows at points where none is.
-fn put_new(rt: &impl Abort, table: &mut Table<2>, rows: &[Given]) -> Result<(), AllocError>
+fn put_new(rt: &impl Abort, table: &mut Table<2>, rows: &[Given])
     requires { table.old.width ≡ 32 }
     ensures { table.new.width ≡ 32 }
 {
     let w = width(rt, 32);
     for (coords, value) in rows {
-        assert!(rt; table.put(point(rt, w, coords), *value)? == Put::New);
+        let put = table.put(point(rt, w, coords), *value).expect(rt, "memory");
+        assert!(rt; put == Put::New);
     }
-    Ok(())
 }
 
 fn is_row(row: &Row<2>, given: &Given) -> bool {
     row.point.as_slice() == given.0.as_slice() && row.value == given.1
 }
 
-#[test]
-fn unit_square_in_z_order(rt: HostRuntime) -> Result<(), Fail> {
-    let w = width(&rt, 32);
-    let mut table: Table<2> = Table::new(rt.alloc(), w);
-    put_new(
-        &rt,
-        &mut table,
-        &[([1, 1], 4), ([1, 0], 3), ([0, 1], 2), ([0, 0], 1)],
-    )?;
-    let (lo, hi) = (point(&rt, w, &[0, 0]), point(&rt, w, &[1, 1]));
-    let found = table.window(rt.alloc(), &lo, &hi)?;
-    assert!(rt; found.as_slice() == table.rows());
-    let expected = [([0, 0], 1), ([0, 1], 2), ([1, 0], 3), ([1, 1], 4)];
-    assert_eq!(rt; found.len(), expected.len());
-    for (row, given) in found.iter().zip(&expected) {
+fn check_rows(rt: &impl Abort, rows: &[Row<2>], expected: &[Given]) {
+    assert!(rt; rows.len() == expected.len());
+    for (row, given) in rows.iter().zip(expected) {
         assert!(rt; is_row(row, given));
     }
-    assert!(rt; table.put(lo, 5)? == Put::Old(1));
-    Ok(())
+}
+
+#[test]
+fn unit_square_in_z_order(rt: HostRuntime) {
+    let w = width(&rt, 32);
+    let mut table: Table<2> = Table::new(rt.alloc(), w);
+    let rows = [([1, 1], 4), ([1, 0], 3), ([0, 1], 2), ([0, 0], 1)];
+    put_new(&rt, &mut table, &rows);
+    let (lo, hi) = (point(&rt, w, &[0, 0]), point(&rt, w, &[1, 1]));
+    let found = table.window(rt.alloc(), &lo, &hi).expect(&rt, "memory");
+    assert!(rt; found.as_slice() == table.rows());
+    let expected = [([0, 0], 1), ([0, 1], 2), ([1, 0], 3), ([1, 1], 4)];
+    check_rows(&rt, found.as_slice(), &expected);
+    let put = table.put(lo, 5).expect(&rt, "memory");
+    assert!(rt; put == Put::Old(1));
 }
 
 // Rows at one distance from the origin, and one far away.
@@ -70,25 +70,31 @@ fn is_hit(hit: &Hit<2>, (given, distance): &(Given, u128)) -> bool {
     is_row(&hit.row, given) && hit.distance == *distance
 }
 
+// So many rows by their distance from the origin.
+fn check_nearest(rt: &impl Abort, alloc: Global, table: &Table<2>, n: u32, many: usize)
+    requires { table.now.width ≡ 32 }
+{
+    let origin = point(rt, width(rt, 32), &[0, 0]);
+    let hits = table.near(alloc, &origin, n).expect(rt, "memory");
+    assert!(rt; hits.len() == many);
+    for (hit, expected) in hits.iter().zip(&FROM_ORIGIN) {
+        assert!(rt; is_hit(hit, expected));
+    }
+}
+
 #[test]
-fn nearest_rows_in_order(rt: HostRuntime) -> Result<(), Fail> {
+fn nearest_rows_in_order(rt: HostRuntime) {
     let w = width(&rt, 32);
     let mut table: Table<2> = Table::new(rt.alloc(), w);
-    put_new(&rt, &mut table, &ROWS)?;
-    let origin = point(&rt, w, &[0, 0]);
-    for (n, many) in [(0, 0), (3, 3), (9, 5)] {
-        let hits = table.near(rt.alloc(), &origin, n)?;
-        assert_eq!(rt; hits.len(), many);
-        for (hit, expected) in hits.iter().zip(&FROM_ORIGIN) {
-            assert!(rt; is_hit(hit, expected));
-        }
-    }
+    put_new(&rt, &mut table, &ROWS);
+    check_nearest(&rt, rt.alloc(), &table, 0, 0);
+    check_nearest(&rt, rt.alloc(), &table, 3, 3);
+    check_nearest(&rt, rt.alloc(), &table, 9, 5);
     let corner = point(&rt, w, &[-2147483648, -2147483648]);
-    let hits = table.near(rt.alloc(), &corner, u32::MAX)?;
-    let farthest = hits.last().ok_or("no hits")?;
-    assert_eq!(rt;
-        (farthest.row.value, farthest.distance),
-        (5, 36893488130239234050)
-    );
-    Ok(())
+    let hits = table
+        .near(rt.alloc(), &corner, u32::MAX)
+        .expect(&rt, "memory");
+    let farthest = hits.last().expect(&rt, "no hits");
+    assert!(rt; farthest.row.value == 5);
+    assert!(rt; farthest.distance == 36893488130239234050);
 }

@@ -1,8 +1,47 @@
 //! Cube records by hand of one, two, three and eight dimensions, into which a point is put, and out of which it is taken again, where
 //! they lie.
 
+ghost use Rattle.std.specs.Prelude.{◌≡◌, ◌-◌, ◌≤◌, true, false, Some, length, map, take, slice_get};
+ghost use Rattle.ph_specs.specs.RecordNames.{IsRecord, AreRising, entries_as, is_child, first_in};
+ghost use Rattle.ph_bits.specs.Edits.{edited_as};
+ghost use Rattle.ph_cube.specs.Edited.{IsEditAt};
+ghost use Rattle.ph_record_trials.specs.Edits.{insert_of, remove_of};
+
+use super::is_front;
 use ph_bits::{Edit, Packed};
 use ph_cube::by_dims::{insert_point, remove_point};
+
+// Whether a point that is put into a record makes another record.
+fn is_put(
+    words: &mut [u64],
+    dims: usize,
+    at: (usize, u32),
+    body: [u64; 16],
+    value: u64,
+    want: &[u64],
+) -> bool
+    requires some { 1 ≤ length words.old }
+    requires record { IsRecord true dims (take (length words.old - 1) words.old) }
+    requires edit { IsEditAt dims (take (length words.old - 1) words.old) (insert_of at body value) at.1 }
+    requires entries { AreRising dims (first_in (take (length words.old - 1) words.old)).level 0
+        (edited_as true dims (take (length words.old - 1) words.old) (insert_of at body value)) }
+{
+    let edit = edit_at!(at, 0, 1, false, body, value);
+    insert_point(words, dims, &edit, at.1);
+    *words == *want
+}
+
+// Whether a point that is taken out of a record leaves another record.
+fn is_taken(words: &mut [u64], dims: usize, at: (usize, u32), want: &[u64]) -> bool
+    requires record { IsRecord true dims words.old }
+    requires edit { IsEditAt dims words.old (remove_of at) at.1 }
+    requires was { slice_get (map is_child (entries_as true dims words.old)) at.0 ≡ Some false }
+    requires entries { AreRising dims (first_in words.old).level 0 (edited_as true dims words.old (remove_of at)) }
+{
+    let edit = edit_at!(at, 1, 0, false, [9; 16], 0);
+    let len = remove_point(words, dims, &edit, at.1);
+    is_front(words, len, want)
+}
 
 // Each row is a place and its address, the body and the value of a point, and the records without it and with it: the point is put
 // into the one, and taken out of the other.
@@ -12,13 +51,9 @@ macro_rules! try_rows {
     )*) => {
         $({
             let mut words = [$($without,)* u64::MAX];
-            let edit = edit_at!($place, 0, 1, $addr, false, body!($($field),*), $value);
-            insert_point(&mut words, $dims, &edit, $addr);
-            assert!($rt; words[..] == [$($with),*]);
+            assert!($rt; is_put(&mut words, $dims, ($place, $addr), body!($($field),*), $value, &[$($with),*]));
             let mut words = [$($with),*];
-            let edit = edit_at!($place, 1, 0, $addr, false, [9; 16], 0);
-            let len = remove_point(&mut words, $dims, &edit, $addr);
-            assert!($rt; words[..len] == [$($without),*]);
+            assert!($rt; is_taken(&mut words, $dims, ($place, $addr), &[$($without),*]));
         })*
     };
 }
@@ -61,9 +96,8 @@ fn points_of_two_dimensions(rt: HostRuntime) {
     }
 }
 
-// In one word, and in several.
 #[test]
-fn points_of_three_dimensions(rt: HostRuntime) {
+fn points_of_three_dimensions_in_one_word(rt: HostRuntime) {
     try_rows! { rt, 3,
         0 at 0: [0, 1, 0] = 90:
             [0x0101000003000000, 0x050400b030000000, 7, 8, 11]
@@ -77,6 +111,12 @@ fn points_of_three_dimensions(rt: HostRuntime) {
         2 at 3: [1, 1, 0] = 93:
             [0x0101000003000001, 0x8404218018000000, 7, 11]
             or [0x0101000004000001, 0x850421e018000000, 7, 93, 11];
+    }
+}
+
+#[test]
+fn points_of_three_dimensions_in_several_words(rt: HostRuntime) {
+    try_rows! { rt, 3,
         2 at 4: [6, 31, 1] = 94:
             [0x0501000003000002, 0x600241207ff00000, 0x000000000000007b, 0x0d00000000000000, 5]
             or [0x0501000004000002, 0x604241207ff00000, 0x00037c200000007b, 0x0d00000000000000, 5, 94];

@@ -1,28 +1,86 @@
 //! Records by hand of two dimensions at level 2, in which an entry becomes a child or a point where it lies.
 
+ghost use Rattle.std.specs.Prelude.{◌≡◌, ◌-◌, ◌<◌, ◌≤◌, true, false, Some, length, map, take, slice_get};
+ghost use Rattle.ph_specs.specs.RecordNames.{IsRecord, AreRising, entries_as, read_address, is_child, first_in};
+ghost use Rattle.ph_bits.specs.Edits.{edited_as};
+ghost use Rattle.ph_cube.specs.Edited.{IsEditAt};
+ghost use Rattle.ph_record_trials.specs.Edits.{child_of, point_of};
+
+use super::is_front;
 use ph_bits::{Edit, Packed};
 use ph_cube::by_dims as cube;
 use ph_linear::by_dims as linear;
 
-// A call of a layout: one of a cube record also gets the address.
-macro_rules! put {
-    (linear, $put:ident, $words:ident, $addr:expr, $edit:ident) => {
-        linear::$put(&mut $words, 2, &$edit)
-    };
-    (cube, $put:ident, $words:ident, $addr:expr, $edit:ident) => {
-        cube::$put(&mut $words, 2, &$edit, $addr)
-    };
+// Whether an entry of a linear record that becomes a child makes another record.
+fn is_linear_child(words: &mut [u64], at: (usize, u32), body: [u64; 16], want: &[u64]) -> bool
+    requires record { IsRecord false 2 words.old }
+    requires within { at.0 < (first_in words.old).entries }
+    requires address { slice_get (map read_address (entries_as false 2 words.old)) at.0 ≡ Some at.1 }
+    requires entries { AreRising 2 (first_in words.old).level 0 (edited_as false 2 words.old (child_of at body)) }
+{
+    let edit = edit_at!(at, 1, 1, true, body, 0);
+    let len = linear::put_child(words, 2, &edit);
+    is_front(words, len, want)
 }
 
-// Makes a point of a record into a child by one edit, and the child into the point by another.
+// Whether a child of a linear record that becomes a point makes another record.
+fn is_linear_point(
+    words: &mut [u64],
+    at: (usize, u32),
+    body: [u64; 16],
+    value: u64,
+    want: &[u64],
+) -> bool
+    requires some { 1 ≤ length words.old }
+    requires record { IsRecord false 2 (take (length words.old - 1) words.old) }
+    requires was { slice_get (map is_child (entries_as false 2 (take (length words.old - 1) words.old))) at.0 ≡ Some true }
+    requires address { slice_get (map read_address (entries_as false 2 (take (length words.old - 1) words.old))) at.0 ≡ Some at.1 }
+    requires entries { AreRising 2 (first_in (take (length words.old - 1) words.old)).level 0
+        (edited_as false 2 (take (length words.old - 1) words.old) (point_of at body value)) }
+{
+    let edit = edit_at!(at, 1, 1, false, body, value);
+    linear::put_point(words, 2, &edit);
+    *words == *want
+}
+
+// Whether an entry of a cube record that becomes a child makes another record.
+fn is_cube_child(words: &mut [u64], at: (usize, u32), body: [u64; 16], want: &[u64]) -> bool
+    requires record { IsRecord true 2 words.old }
+    requires edit { IsEditAt 2 words.old (child_of at body) at.1 }
+    requires entries { AreRising 2 (first_in words.old).level 0 (edited_as true 2 words.old (child_of at body)) }
+{
+    let edit = edit_at!(at, 1, 1, true, body, 0);
+    let len = cube::put_child(words, 2, &edit, at.1);
+    is_front(words, len, want)
+}
+
+// Whether a child of a cube record that becomes a point makes another record.
+fn is_cube_point(
+    words: &mut [u64],
+    at: (usize, u32),
+    body: [u64; 16],
+    value: u64,
+    want: &[u64],
+) -> bool
+    requires some { 1 ≤ length words.old }
+    requires record { IsRecord true 2 (take (length words.old - 1) words.old) }
+    requires edit { IsEditAt 2 (take (length words.old - 1) words.old) (point_of at body value) at.1 }
+    requires was { slice_get (map is_child (entries_as true 2 (take (length words.old - 1) words.old))) at.0 ≡ Some true }
+    requires entries { AreRising 2 (first_in (take (length words.old - 1) words.old)).level 0
+        (edited_as true 2 (take (length words.old - 1) words.old) (point_of at body value)) }
+{
+    let edit = edit_at!(at, 1, 1, false, body, value);
+    cube::put_point(words, 2, &edit, at.1);
+    *words == *want
+}
+
+// Makes a point of a record into a child, and the child into the point.
 macro_rules! there_and_back {
-    ($rt:ident, $layout:ident, $addr:literal, [$($child:literal),*], $to_child:ident, [$($point:literal),*], $to_point:ident) => {
+    ($rt:ident, $at:ident, $is_child:ident, $child_body:ident, [$($child:literal),*], $is_point:ident, $point_body:ident, $value:literal, [$($point:literal),*]) => {
         let mut words = [$($point),*];
-        let len = put!($layout, put_child, words, $addr, $to_child);
-        assert!($rt; words[..len] == [$($child),*]);
+        assert!($rt; $is_child(&mut words, $at, $child_body, &[$($child),*]));
         let mut words = [$($child,)* u64::MAX];
-        put!($layout, put_point, words, $addr, $to_point);
-        assert!($rt; words[..] == [$($point),*]);
+        assert!($rt; $is_point(&mut words, $at, $point_body, $value, &[$($point),*]));
     };
 }
 
@@ -35,10 +93,9 @@ macro_rules! try_rows {
             cube $cube_child:tt or $cube_point:tt;
     )*) => {
         $({
-            let to_child = edit_at!($place, 1, 1, $addr, true, body!($cx, $cy), 0);
-            let to_point = edit_at!($place, 1, 1, $addr, false, body!($px, $py), $value);
-            there_and_back!($rt, linear, $addr, $linear_child, to_child, $linear_point, to_point);
-            there_and_back!($rt, cube, $addr, $cube_child, to_child, $cube_point, to_point);
+            let (at, child, point) = (($place, $addr), body!($cx, $cy), body!($px, $py));
+            there_and_back!($rt, at, is_linear_child, child, $linear_child, is_linear_point, point, $value, $linear_point);
+            there_and_back!($rt, at, is_cube_child, child, $cube_child, is_cube_point, point, $value, $cube_point);
         })*
     };
 }
@@ -61,11 +118,10 @@ fn entries_put(rt: HostRuntime) {
 
 #[test]
 fn child_gets_another_body(rt: HostRuntime) {
-    let edit = edit_at!(1, 1, 1, 1, true, body!(3, 0), 0);
     let mut words = [0x0200000003000001, 0x43b1c80000000000, 5, 7];
-    let len = put!(linear, put_child, words, 1, edit);
-    assert!(rt; words[..len] == [0x0200000003000001, 0x43b6480000000000, 5, 7]);
+    let want = [0x0200000003000001, 0x43b6480000000000, 5, 7];
+    assert!(rt; is_linear_child(&mut words, (1, 1), body!(3, 0), &want));
     let mut words = [0x0201000003000001, 0x6163090000000000, 5, 7];
-    let len = put!(cube, put_child, words, 1, edit);
-    assert!(rt; words[..len] == [0x0201000003000001, 0x616c090000000000, 5, 7]);
+    let want = [0x0201000003000001, 0x616c090000000000, 5, 7];
+    assert!(rt; is_cube_child(&mut words, (1, 1), body!(3, 0), &want));
 }

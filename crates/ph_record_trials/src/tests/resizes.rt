@@ -1,10 +1,51 @@
 //! Points that are left out of linear records, and put into them, where the records lie.
 
+ghost use Rattle.std.specs.Prelude.{◌≡◌, ◌<◌, ◌≤◌, false, Some, length, map, take, slice_get};
+ghost use Rattle.ph_specs.specs.RecordNames.{IsRecord, AreRising, entries_as, is_child, record_in, first_in};
+ghost use Rattle.ph_bits.specs.Edits.{edited_as};
+ghost use Rattle.ph_record_trials.specs.Edits.{insert_of, remove_of};
+
+use super::is_front;
 use ph_bits::{Edit, Packed};
 use ph_linear::by_dims as linear;
 
 // What stands in a word that is written over.
 const SPARE: u64 = u64::MAX;
+
+// Whether a record without a point of it is another record.
+fn is_without(words: &mut [u64], dims: usize, at: (usize, u32), want: &[u64]) -> bool
+    requires record { IsRecord false dims words.old }
+    requires within { at.0 < (first_in words.old).entries }
+    requires was { slice_get (map is_child (entries_as false dims words.old)) at.0 ≡ Some false }
+    requires entries { AreRising dims (first_in words.old).level 0 (edited_as false dims words.old (remove_of at)) }
+{
+    let edit = edit_at!(at, 1, 0, false, [9; 16], 0);
+    let len = linear::remove_point(words, dims, &edit);
+    is_front(words, len, want)
+}
+
+// Whether a record of `len` words with a point more is another record.
+fn is_with(
+    words: &mut [u64],
+    dims: usize,
+    len: usize,
+    at: (usize, u32),
+    body: [u64; 16],
+    value: u64,
+    want: &[u64],
+) -> bool
+    requires front { len ≤ length words.old }
+    requires record { IsRecord false dims (take len words.old) }
+    requires within { at.0 ≤ (first_in (take len words.old)).entries }
+    requires entries { AreRising dims (first_in (take len words.old)).level 0
+        (edited_as false dims (take len words.old) (insert_of at body value)) }
+    requires long { length words.old
+        ≡ length (record_in false dims (first_in (take len words.old)).level (edited_as false dims (take len words.old) (insert_of at body value))) }
+{
+    let edit = edit_at!(at, 0, 1, false, body, value);
+    linear::insert_point(words, dims, len, &edit);
+    *words == *want
+}
 
 // Behind each record, each row is a place and its address, the body and the value of a point of it, the record without that, how many
 // words this has, and as many words more as the record has.
@@ -17,13 +58,9 @@ macro_rules! try_rows {
     )*) => {
         $($({
             let mut words = $with;
-            let edit = edit_at!($place, 1, 0, $addr, false, body!($($field),*), $value);
-            let len = linear::remove_point(&mut words, $dims, &edit);
-            assert!($rt; words[..len] == [$($without),*]);
+            assert!($rt; is_without(&mut words, $dims, ($place, $addr), &[$($without),*]));
             let mut words = [$($without,)* $($spare),*];
-            let edit = edit_at!($place, 0, 1, $addr, false, body!($($field),*), $value);
-            linear::insert_point(&mut words, $dims, $len, &edit);
-            assert!($rt; words[..] == $with);
+            assert!($rt; is_with(&mut words, $dims, $len, ($place, $addr), body!($($field),*), $value, &$with));
         })*)*
     };
 }

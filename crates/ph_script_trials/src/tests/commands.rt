@@ -1,7 +1,8 @@
 //! Commands that lines spell, and commands that are drawn, as `Debug` shows them.
-use super::{are_shown, shown};
+use super::{check_shown, shown};
 use ph_script::{Coord, CoordBuffer, Coords, Gen, read_command};
-use std::test::Fail;
+use std::alloc::Global;
+use std::process::Abort;
 
 // Commands on rows.
 const ON_ROWS: [(&[u8], &str); 14] = [
@@ -156,35 +157,48 @@ const EXTREME: [(&[u8], &str); 6] = [
 ];
 
 #[test]
-fn read_commands(rt: HostRuntime) -> Result<(), Fail> {
-    are_shown(&rt, rt.alloc(), 2, &ON_ROWS)?;
-    are_shown(&rt, rt.alloc(), 2, &ON_TABLES)?;
-    are_shown(&rt, rt.alloc(), 2, &ON_SLOTS)?;
-    are_shown(&rt, rt.alloc(), 1, &EXTREME)?;
-    Ok(())
+fn read_commands(rt: HostRuntime) {
+    check_shown(&rt, rt.alloc(), 2, &ON_ROWS);
+    check_shown(&rt, rt.alloc(), 2, &ON_TABLES);
+    check_shown(&rt, rt.alloc(), 2, &ON_SLOTS);
+    check_shown(&rt, rt.alloc(), 1, &EXTREME);
 }
 
 #[test]
-fn sixteen_coordinates(rt: HostRuntime) -> Result<(), Fail> {
+fn lists_of_coordinates(rt: HostRuntime) {
     assert!(rt; Coords::from_slice(&[Coord::Far; 17]).is_none());
-    let list = [Coord::Whole(1); 16];
-    let at = Coords::from_slice(&list).ok_or("too many")?;
-    assert_eq!(rt; at.as_slice().len(), 16);
+    let at = Coords::from_slice(&[Coord::Whole(1); 16]).expect(&rt, "too many");
+    assert!(rt; at.as_slice().len() == 16);
+}
+
+#[test]
+fn sixteen_coordinates(rt: HostRuntime) {
+    let at = Coords::from_slice(&[Coord::Whole(1); 16]).expect(&rt, "too many");
     let mut coords = CoordBuffer::new();
     let line = b"move 1 1 1 1 1 1 1 1 1 1 1 1 1 1 1 1 2 2 2 2 2 2 2 2 2 2 2 2 2 2 2 2";
-    let command = shown(rt.alloc(), read_command(line, 16, &mut coords))?;
-    let from = format!(in rt.alloc(); "{at:?}")?;
-    let to = format!(in rt.alloc(); "{:?}", [Coord::Whole(2); 16])?;
+    let command = shown(&rt, rt.alloc(), read_command(line, 16, &mut coords));
     let wanted = format!(in rt.alloc();
-        "Relocate {{ from: {from}, to: Coords {{ list: {to} }} }}"
-    )?;
-    assert_eq!(rt; command.as_str(), wanted.as_str());
-    Ok(())
+        "Relocate {{ from: {at:?}, to: Coords {{ list: {:?} }} }}",
+        [Coord::Whole(2); 16]
+    );
+    assert!(rt; command == wanted.expect(&rt, "memory"));
+}
+
+// Checks the next of the commands that are drawn.
+fn check_next(
+    rt: &impl Abort,
+    alloc: Global,
+    drawn: &mut Gen,
+    coords: &mut CoordBuffer,
+    wanted: &str,
+) {
+    let next = format!(in alloc; "{:?}", drawn.next(coords)).expect(rt, "memory");
+    assert!(rt; next.as_str() == wanted, "{wanted} is drawn as {next}");
 }
 
 // A start counts modulo 2^31.
 #[test]
-fn drawn_commands(rt: HostRuntime) -> Result<(), Fail> {
+fn drawn_commands(rt: HostRuntime) {
     let wanted = [
         "Some(Del { at: Coords { list: [Whole(-178), Whole(-140)] } })",
         "Some(Get { at: Coords { list: [Whole(37), Whole(34)] } })",
@@ -196,9 +210,7 @@ fn drawn_commands(rt: HostRuntime) -> Result<(), Fail> {
         let mut drawn = Gen::new(3, start);
         let mut coords = CoordBuffer::new();
         for command in wanted {
-            let next = format!(in rt.alloc(); "{:?}", drawn.next(&mut coords))?;
-            assert_eq!(rt; next.as_str(), command);
+            check_next(&rt, rt.alloc(), &mut drawn, &mut coords, command);
         }
     }
-    Ok(())
 }

@@ -1,12 +1,16 @@
 //! The names of cursors and files.
 use ph_script::{Bad, CoordBuffer, FileName, Name, read_command};
-use std::test::Fail;
+use std::process::Abort;
+
+fn name(rt: &impl Abort, text: &str) -> Name {
+    Name::new(text).expect(rt, "no name")
+}
 
 #[test]
-fn names(rt: HostRuntime) -> Result<(), Fail> {
+fn names(rt: HostRuntime) {
     let longest = "abcdefghijklmnopqrstuvwxyz-_0123";
-    assert_eq!(rt; longest.len(), 32);
-    assert_eq!(rt; Name::new(longest).ok_or("no name")?.as_str(), longest);
+    assert!(rt; longest.len() == 32);
+    assert!(rt; name(&rt, longest).as_str() == longest);
     for text in [
         "",
         "a b",
@@ -15,27 +19,38 @@ fn names(rt: HostRuntime) -> Result<(), Fail> {
         "\u{e9}",
         "abcdefghijklmnopqrstuvwxyz-_01234",
     ] {
-        assert!(rt; Name::new(text).is_none());
+        assert!(rt; Name::new(text).is_none(), "{text}");
     }
-    let name = Name::new("a-").ok_or("no name")?;
-    assert!(rt; name == Name::new("a-").ok_or("no name")?);
-    assert!(rt; name < Name::new("a0").ok_or("no name")?);
-    assert!(rt; Name::new("a").ok_or("no name")? < name);
-    Ok(())
 }
 
 #[test]
-fn file_names(rt: HostRuntime) -> Result<(), Fail> {
+fn order_of_names(rt: HostRuntime) {
+    let (shorter, dash, zero) = (name(&rt, "a"), name(&rt, "a-"), name(&rt, "a0"));
+    assert!(rt; dash == name(&rt, "a-"));
+    assert!(rt; dash < zero);
+    assert!(rt; shorter < dash);
+}
+
+fn file_name<'t>(rt: &impl Abort, text: &'t str) -> FileName<'t> {
+    FileName::new(text).expect(rt, "no name")
+}
+
+#[test]
+fn file_names(rt: HostRuntime) {
     let longest = [b'~'; 255];
-    let file = FileName::new(str::from_utf8(&longest)?).ok_or("no name")?;
-    assert_eq!(rt; file.as_str().len(), 255);
-    let line = [b"load ".as_slice(), &[b'!'; 256]].concat(rt.alloc())?;
+    let text = str::from_utf8(&longest).expect(&rt, "text");
+    assert!(rt; file_name(&rt, text).as_str().len() == 255);
+    for text in ["", "a b", "a\u{7f}", "\u{e9}", "a\n"] {
+        assert!(rt; FileName::new(text).is_none(), "{text}");
+    }
+    assert!(rt; file_name(&rt, "a-") != file_name(&rt, "a"));
+}
+
+#[test]
+fn file_name_too_long(rt: HostRuntime) {
+    let line = [b"load ".as_slice(), &[b'!'; 256]]
+        .concat(rt.alloc())
+        .expect(&rt, "memory");
     let mut coords = CoordBuffer::new();
     assert!(rt; matches!(read_command(&line, 2, &mut coords), Err(Bad::Name)));
-    for text in ["", "a b", "a\u{7f}", "\u{e9}", "a\n"] {
-        assert!(rt; FileName::new(text).is_none());
-    }
-    let name = FileName::new("a-").ok_or("no name")?;
-    assert!(rt; name != FileName::new("a").ok_or("no name")?);
-    Ok(())
 }

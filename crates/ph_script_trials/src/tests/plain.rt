@@ -5,7 +5,6 @@ use super::shown;
 use ph_script::{CoordBuffer, read_command, read_plain_command};
 use std::alloc::Global;
 use std::process::Abort;
-use std::test::Fail;
 
 // Lines that the straight pass reads, and the commands that they spell.
 const PLAIN: [(&[u8], &str); 25] = [
@@ -238,41 +237,47 @@ fn is_plain(line: &[u8]) -> bool {
     read_plain_command(line, 2, &mut coords).is_some()
 }
 
-// Whether a line of two dimensions is shown so, also behind a blank, where the straight pass reads no line, and the straight pass reads
-// it or not.
-fn reads(alloc: Global, line: &[u8], plain: bool, wanted: &str) -> Result<bool, Fail>
-    requires { length line.now ≤ 4095 }
-{
-    let mut coords = CoordBuffer::new();
-    let command = shown(alloc, read_command(line, 2, &mut coords))?;
-    let mut behind = vec![in alloc; b' ']?;
-    behind.extend_from_slice(line)?;
-    let other = shown(alloc, read_command(&behind, 2, &mut coords))?;
-    let shown_so = command.as_str() == wanted && other.as_str() == wanted;
-    Ok(shown_so && is_plain(line) == plain && !is_plain(&behind))
-}
-
-fn are_read(
+// Whether a line of two dimensions is shown so.
+fn is_shown(
     rt: &impl Abort,
     alloc: Global,
-    plain: bool,
-    lines: &[(&[u8], &str)],
-) -> Result<(), Fail> {
+    line: &[u8],
+    coords: &mut CoordBuffer,
+    wanted: &str,
+) -> bool
+    requires { length line.now ≤ 4096 }
+{
+    shown(rt, alloc, read_command(line, 2, coords)).as_str() == wanted
+}
+
+// A line with a blank in front.
+fn behind_blank(rt: &impl Abort, alloc: Global, line: &[u8]) -> Vec<u8> {
+    [b" ".as_slice(), line].concat(alloc).expect(rt, "memory")
+}
+
+// The lines are shown so, also behind a blank, where the straight pass reads no line. The straight pass reads them or not.
+fn check_read(rt: &impl Abort, alloc: Global, plain: bool, lines: &[(&[u8], &str)]) {
+    let mut coords = CoordBuffer::new();
     for (line, wanted) in lines {
-        assert!(rt; line.len() <= 4095);
-        assert!(rt; reads(alloc, line, plain, wanted)?, "{wanted}");
+        assert!(rt; line.len() <= 4096);
+        assert!(rt; is_shown(rt, alloc, line, &mut coords, wanted), "{wanted}");
+        let behind = behind_blank(rt, alloc, line);
+        assert!(rt; behind.len() <= 4096);
+        assert!(rt;
+            is_shown(rt, alloc, &behind, &mut coords, wanted),
+            "{wanted}"
+        );
+        assert!(rt; is_plain(line) == plain, "{wanted}");
+        assert!(rt; !is_plain(&behind), "{wanted}");
     }
-    Ok(())
 }
 
 #[test]
-fn plain_lines(rt: HostRuntime) -> Result<(), Fail> {
-    are_read(&rt, rt.alloc(), true, &PLAIN)?;
-    Ok(())
+fn plain_lines(rt: HostRuntime) {
+    check_read(&rt, rt.alloc(), true, &PLAIN);
 }
 
 #[test]
-fn other_lines(rt: HostRuntime) -> Result<(), Fail> {
-    are_read(&rt, rt.alloc(), false, &OTHERS)?;
-    Ok(())
+fn other_lines(rt: HostRuntime) {
+    check_read(&rt, rt.alloc(), false, &OTHERS);
 }

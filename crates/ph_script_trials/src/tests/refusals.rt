@@ -1,6 +1,5 @@
 //! Lines that are no commands.
-use super::are_shown;
-use std::test::Fail;
+use super::check_shown;
 
 // The first cause is the reply: word, count, number, name.
 const REFUSED: [(&[u8], &str); 75] = [
@@ -87,7 +86,7 @@ const REFUSED: [(&[u8], &str); 75] = [
 ];
 
 #[test]
-fn lines_without_commands(rt: HostRuntime) -> Result<(), Fail> {
+fn lines_without_commands(rt: HostRuntime) {
     let lines: [(&[u8], &str); 5] = [
         (b"", "nothing"),
         (b" \t ", "nothing"),
@@ -95,12 +94,10 @@ fn lines_without_commands(rt: HostRuntime) -> Result<(), Fail> {
         (b"# put 1 2", "nothing"),
         (b"  #put 1 2 3", "nothing"),
     ];
-    are_shown(&rt, rt.alloc(), 2, &lines)?;
-    Ok(())
+    check_shown(&rt, rt.alloc(), 2, &lines);
 }
 
 #[test]
-fn refused_lines(rt: HostRuntime) -> Result<(), Fail> {
-    are_shown(&rt, rt.alloc(), 2, &REFUSED)?;
-    Ok(())
+fn refused_lines(rt: HostRuntime) {
+    check_shown(&rt, rt.alloc(), 2, &REFUSED);
 }

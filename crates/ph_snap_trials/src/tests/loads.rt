@@ -8,11 +8,10 @@ use super::{EMPTY, ONE_ROW, THREE_ROWS, TWO_ROWS, second_version, width};
 use ph_coord::{Kind, Point, Width};
 use ph_snap::{LoadFault, load};
 use ph_steps::{Counters, Steps};
-use std::alloc::{AllocError, Global};
+use std::alloc::Global;
 use std::marker::Brand;
 use std::process::Abort;
 use std::sync::ledger::{Blank, Ledger};
-use std::test::Fail;
 
 // Nodes of both layouts, with points and children: a root, and under it a node at level 2 and one at level 1, each with a
 // child at level 0.
@@ -99,94 +98,100 @@ fn outcome(
     outcome_in(rt, alloc, bytes, Kind::Points, 32, at)
 }
 
-// The same tree in both versions.
+// The value at a point of a tree is the same in both versions.
+fn check_row(rt: &impl Abort, alloc: Global, first: &[u8], at: [i64; 2], value: Option<u64>) {
+    assert!(rt; 8 <= first.len());
+    let second = second_version(rt, alloc, first);
+    assert!(rt; outcome(rt, alloc, first, at) == Ok(value), "{at:?}");
+    assert!(rt; outcome(rt, alloc, &second, at) == Ok(value), "{at:?}");
+}
+
+const ROWS: [(&[u8], [i64; 2], Option<u64>); 9] = [
+    (&EMPTY, [0, 0], None),
+    (&ONE_ROW, [3, 4], Some(17)),
+    (&ONE_ROW, [4, 3], None),
+    (&TWO_ROWS, [0, 0], Some(1)),
+    (&TWO_ROWS, [1, 1], Some(2)),
+    (&THREE_ROWS, [0, 0], Some(1)),
+    (&THREE_ROWS, [0, 1], Some(3)),
+    (&THREE_ROWS, [1, 0], None),
+    (&THREE_ROWS, [1, 1], Some(2)),
+];
+
 #[test]
-fn rows_of_trees(rt: HostRuntime) -> Result<(), Fail> {
-    let alloc = rt.alloc();
-    // With other digits in its addresses it is another tree.
+fn rows_of_trees(rt: HostRuntime) {
+    for (first, at, value) in ROWS {
+        check_row(&rt, rt.alloc(), first, at, value);
+    }
+}
+
+// With other digits in its addresses it is another tree.
+#[test]
+fn rows_of_other_digits(rt: HostRuntime) {
     let mut moved = TWO_ROWS;
     moved[40] = 0x08;
-    for (first, at, value) in [
-        (EMPTY.as_slice(), [0, 0], None),
-        (&ONE_ROW, [3, 4], Some(17)),
-        (&ONE_ROW, [4, 3], None),
-        (&TWO_ROWS, [0, 0], Some(1)),
-        (&TWO_ROWS, [1, 1], Some(2)),
-        (&THREE_ROWS, [0, 0], Some(1)),
-        (&THREE_ROWS, [0, 1], Some(3)),
-        (&THREE_ROWS, [1, 0], None),
-        (&THREE_ROWS, [1, 1], Some(2)),
-        (&moved, [1, 0], Some(2)),
-        (&moved, [1, 1], None),
-    ] {
-        assert!(rt; 8 <= first.len());
-        let second = second_version(alloc, first)?;
-        assert_eq!(rt; outcome(&rt, alloc, first, at), Ok(value));
-        assert_eq!(rt; outcome(&rt, alloc, &second, at), Ok(value));
-    }
-    Ok(())
+    check_row(&rt, rt.alloc(), &moved, [1, 0], Some(2));
+    check_row(&rt, rt.alloc(), &moved, [1, 1], None);
 }
 
 #[test]
 fn reversed_boxes(rt: HostRuntime) {
     let alloc = rt.alloc();
-    assert_eq!(rt;
-        outcome_in(&rt, alloc, &REVERSED, Kind::Boxes, 32, [7, 3]),
-        Err(LoadFault::Node(8))
-    );
+    let answered = outcome_in(&rt, alloc, &REVERSED, Kind::Boxes, 32, [7, 3]);
+    assert!(rt; answered == Err(LoadFault::Node(8)));
     // As points of two dimensions they are lawful.
     let mut points = REVERSED;
     points[4] = 0;
-    assert_eq!(rt; outcome(&rt, alloc, &points, [7, 3]), Ok(Some(1)));
+    assert!(rt; outcome(&rt, alloc, &points, [7, 3]) == Ok(Some(1)));
+}
+
+fn check_width(
+    rt: &impl Abort,
+    alloc: Global,
+    bytes: &[u8],
+    bits: u32,
+    answer: Result<Option<u64>, LoadFault>,
+) {
+    let answered = outcome_in(rt, alloc, bytes, Kind::Points, bits, [1, 1]);
+    assert!(rt; answered == answer, "{bits} bits");
 }
 
 #[test]
-fn trees_of_another_width(rt: HostRuntime) -> Result<(), Fail> {
+fn trees_of_another_width(rt: HostRuntime) {
     let alloc = rt.alloc();
-    let second = second_version(alloc, &TWO_ROWS)?;
-    let mut narrower = second_version(alloc, &TWO_ROWS)?;
-    assert!(rt; 6 < narrower.len());
-    narrower[6] = 31;
-    for (bytes, bits, answer) in [
-        (TWO_ROWS.as_slice(), 31, Err(LoadFault::Dims)),
-        (&TWO_ROWS, 32, Ok(Some(2))),
-        (&TWO_ROWS, 33, Err(LoadFault::Dims)),
-        (second.as_slice(), 31, Err(LoadFault::Dims)),
-        (second.as_slice(), 32, Ok(Some(2))),
-        (second.as_slice(), 62, Err(LoadFault::Dims)),
-        (narrower.as_slice(), 32, Err(LoadFault::Dims)),
-        // its root has the level of width 32
-        (narrower.as_slice(), 31, Err(LoadFault::Node(8))),
-    ] {
-        assert_eq!(rt;
-            outcome_in(&rt, alloc, bytes, Kind::Points, bits, [1, 1]),
-            answer
-        );
-    }
-    Ok(())
+    check_width(&rt, alloc, &TWO_ROWS, 31, Err(LoadFault::Dims));
+    check_width(&rt, alloc, &TWO_ROWS, 32, Ok(Some(2)));
+    check_width(&rt, alloc, &TWO_ROWS, 33, Err(LoadFault::Dims));
+    let second = second_version(&rt, alloc, &TWO_ROWS);
+    check_width(&rt, alloc, &second, 31, Err(LoadFault::Dims));
+    check_width(&rt, alloc, &second, 32, Ok(Some(2)));
+    check_width(&rt, alloc, &second, 62, Err(LoadFault::Dims));
+    let narrower = altered(&rt, alloc, &second, 6, 31);
+    check_width(&rt, alloc, &narrower, 32, Err(LoadFault::Dims));
+    // its root has the level of width 32
+    check_width(&rt, alloc, &narrower, 31, Err(LoadFault::Node(8)));
 }
+
+const ENDS: [(usize, LoadFault); 8] = [
+    (3, LoadFault::Magic),
+    (4, LoadFault::Header(4)),
+    (8, LoadFault::Short(8)),
+    (12, LoadFault::Short(8)),
+    (32, LoadFault::Short(32)),
+    (40, LoadFault::Short(32)),
+    (63, LoadFault::Short(32)),
+    (65, LoadFault::Extra(64)),
+];
 
 #[test]
 fn bytes_that_end_early_or_late(rt: HostRuntime) {
-    let alloc = rt.alloc();
-    for (len, fault) in [
-        (3, LoadFault::Magic),
-        (4, LoadFault::Header(4)),
-        (8, LoadFault::Short(8)),
-        (12, LoadFault::Short(8)),
-        (32, LoadFault::Short(32)),
-        (40, LoadFault::Short(32)),
-        (63, LoadFault::Short(32)),
-    ] {
-        assert!(rt; len < TWO_ROWS.len());
-        assert_eq!(rt; outcome(&rt, alloc, &TWO_ROWS[..len], [0, 0]), Err(fault));
-    }
     let mut longer = [0; 65];
     longer[..64].copy_from_slice(&TWO_ROWS);
-    assert_eq!(rt;
-        outcome(&rt, alloc, &longer, [0, 0]),
-        Err(LoadFault::Extra(64))
-    );
+    for (len, fault) in ENDS {
+        let bytes = longer.get(..len).expect(&rt, "so many bytes");
+        let answered = outcome(&rt, rt.alloc(), bytes, [0, 0]);
+        assert!(rt; answered == Err(fault), "{len} bytes");
+    }
 }
 
 // A fault, and places with bytes that bring it about there.
@@ -229,31 +234,30 @@ const ALTERED_IN_VERSION_TWO: [Altered; 7] = [
     (LoadFault::Extra(8), &[(7, 0x00)]),
 ];
 
-fn assert_altered(
-    rt: &impl Abort,
-    alloc: Global,
-    snapshot: &[u8],
-    cases: &[Altered],
-) -> Result<(), AllocError> {
+// The same bytes, but for one.
+fn altered(rt: &impl Abort, alloc: Global, bytes: &[u8], at: usize, byte: u8) -> Vec<u8> {
+    let mut bytes = Vec::from_slice(alloc, bytes).expect(rt, "memory");
+    assert!(rt; at < bytes.len());
+    bytes[at] = byte;
+    bytes
+}
+
+fn assert_altered(rt: &impl Abort, alloc: Global, snapshot: &[u8], cases: &[Altered]) {
     for (fault, places) in cases {
         for (at, byte) in *places {
-            let mut bytes = Vec::from_slice(alloc, snapshot)?;
-            assert!(rt; *at < bytes.len());
-            bytes[*at] = *byte;
+            let bytes = altered(rt, alloc, snapshot, *at, *byte);
             let answered = outcome(rt, alloc, &bytes, [0, 0]);
-            assert_eq!(rt; answered, Err(*fault), "{byte} at {at}");
+            assert!(rt; answered == Err(*fault), "{byte} at {at}");
         }
     }
-    Ok(())
 }
 
 #[test]
-fn altered_bytes(rt: HostRuntime) -> Result<(), Fail> {
+fn altered_bytes(rt: HostRuntime) {
     let alloc = rt.alloc();
-    let second = second_version(alloc, &TWO_ROWS)?;
-    assert_altered(&rt, alloc, &TWO_ROWS, &ALTERED)?;
-    assert_altered(&rt, alloc, &second, &ALTERED_IN_VERSION_TWO)?;
-    Ok(())
+    let second = second_version(&rt, alloc, &TWO_ROWS);
+    assert_altered(&rt, alloc, &TWO_ROWS, &ALTERED);
+    assert_altered(&rt, alloc, &second, &ALTERED_IN_VERSION_TWO);
 }
 
 // Loads bytes, and looks at them by the rules.
@@ -271,14 +275,29 @@ fn assert_same_fault<const D: usize, C: Ledger>(
         Ok(_) => None,
         Err(fault) => Some(fault),
     };
-    assert_eq!(rt;
-        fault,
-        plain_fault(alloc, bytes, kind, D as u8, w.bits() as u8),
-        "{bytes:?}"
-    );
+    let wanted = plain_fault(alloc, bytes, kind, D as u8, w.bits() as u8);
+    assert!(rt; fault == wanted, "{bytes:?}");
 }
 
-// Each front of a snapshot, the snapshot with a byte behind it, and with other bytes in place of each.
+// Each front of a snapshot, and the snapshot with a byte behind it.
+fn compare_fronts<const D: usize, C: Ledger>(
+    rt: &impl Abort,
+    alloc: Global,
+    snapshot: &[u8],
+    kind: Kind,
+    w: Width,
+    changes: &mut Steps<C>,
+)
+    requires { D ≤ 16 }
+{
+    let mut longer = Vec::from_slice(alloc, snapshot).expect(rt, "memory");
+    longer.push(0).expect(rt, "memory");
+    for len in 0..=longer.len() {
+        assert_same_fault::<D, C>(rt, alloc, &longer[..len], kind, w, changes);
+    }
+}
+
+// A snapshot with other bytes in place of each.
 fn compare_altered<const D: usize, C: Ledger>(
     rt: &impl Abort,
     alloc: Global,
@@ -286,23 +305,29 @@ fn compare_altered<const D: usize, C: Ledger>(
     kind: Kind,
     w: Width,
     changes: &mut Steps<C>,
-) -> Result<(), AllocError>
+)
     requires { D ≤ 16 }
 {
-    let mut longer = Vec::from_slice(alloc, snapshot)?;
-    longer.push(0)?;
-    for len in 0..=longer.len() {
-        assert_same_fault::<D, C>(rt, alloc, &longer[..len], kind, w, changes);
-    }
     for at in 0..snapshot.len() {
         for byte in [0, u8::MAX, snapshot[at].wrapping_add(1)] {
-            let mut altered = Vec::from_slice(alloc, snapshot)?;
-            assert!(rt; at < altered.len());
-            altered[at] = byte;
-            assert_same_fault::<D, C>(rt, alloc, &altered, kind, w, changes);
+            let bytes = altered(rt, alloc, snapshot, at, byte);
+            assert_same_fault::<D, C>(rt, alloc, &bytes, kind, w, changes);
         }
     }
-    Ok(())
+}
+
+fn compare<const D: usize, C: Ledger>(
+    rt: &impl Abort,
+    alloc: Global,
+    snapshot: &[u8],
+    kind: Kind,
+    w: Width,
+    changes: &mut Steps<C>,
+)
+    requires { D ≤ 16 }
+{
+    compare_fronts::<D, C>(rt, alloc, snapshot, kind, w, changes);
+    compare_altered::<D, C>(rt, alloc, snapshot, kind, w, changes);
 }
 
 // A snapshot of points of two dimensions, and the same as one of boxes.
@@ -311,21 +336,15 @@ fn compare_both_kinds<C: Ledger>(
     alloc: Global,
     points: &[u8],
     changes: &mut Steps<C>,
-) -> Result<(), AllocError> {
+) {
     let w = width(rt, 32);
-    compare_altered::<2, C>(rt, alloc, points, Kind::Points, w, changes)?;
-    let mut boxes = Vec::from_slice(alloc, points)?;
-    assert!(rt; boxes.len() > 4);
-    boxes[4] = 1;
-    compare_altered::<2, C>(rt, alloc, &boxes, Kind::Boxes, w, changes)
+    compare::<2, C>(rt, alloc, points, Kind::Points, w, changes);
+    let boxes = altered(rt, alloc, points, 4, 1);
+    compare::<2, C>(rt, alloc, &boxes, Kind::Boxes, w, changes);
 }
 
 // A load answers what the rules say of fronts of snapshots, and of snapshots with one byte altered.
-pub(crate) fn compare_all<C: Ledger>(
-    rt: &impl Abort,
-    alloc: Global,
-    changes: &mut Steps<C>,
-) -> Result<(), AllocError> {
+pub(crate) fn compare_all<C: Ledger>(rt: &impl Abort, alloc: Global, changes: &mut Steps<C>) {
     for first in [
         EMPTY.as_slice(),
         ONE_ROW.as_slice(),
@@ -334,15 +353,15 @@ pub(crate) fn compare_all<C: Ledger>(
         NODES.as_slice(),
     ] {
         assert!(rt; 8 <= first.len());
-        let second = second_version(alloc, first)?;
-        compare_both_kinds(rt, alloc, first, changes)?;
-        compare_both_kinds(rt, alloc, &second, changes)?;
+        let second = second_version(rt, alloc, first);
+        compare_both_kinds(rt, alloc, first, changes);
+        compare_both_kinds(rt, alloc, &second, changes);
     }
     let (one, seven, most) = (width(rt, 1), width(rt, 7), width(rt, 62));
-    compare_altered::<4, C>(rt, alloc, &ONE_BOX, Kind::Boxes, width(rt, 32), changes)?;
-    compare_altered::<1, C>(rt, alloc, &ONE_BIT, Kind::Points, one, changes)?;
-    compare_altered::<3, C>(rt, alloc, &SEVEN_BITS, Kind::Points, seven, changes)?;
-    compare_altered::<2, C>(rt, alloc, &SIXTY_TWO_BITS, Kind::Points, most, changes)?;
-    compare_altered::<9, C>(rt, alloc, &NINE_DIMS, Kind::Points, most, changes)?;
-    compare_altered::<16, C>(rt, alloc, &SIXTEEN_DIMS, Kind::Boxes, seven, changes)
+    compare::<4, C>(rt, alloc, &ONE_BOX, Kind::Boxes, width(rt, 32), changes);
+    compare::<1, C>(rt, alloc, &ONE_BIT, Kind::Points, one, changes);
+    compare::<3, C>(rt, alloc, &SEVEN_BITS, Kind::Points, seven, changes);
+    compare::<2, C>(rt, alloc, &SIXTY_TWO_BITS, Kind::Points, most, changes);
+    compare::<9, C>(rt, alloc, &NINE_DIMS, Kind::Points, most, changes);
+    compare::<16, C>(rt, alloc, &SIXTEEN_DIMS, Kind::Boxes, seven, changes);
 }

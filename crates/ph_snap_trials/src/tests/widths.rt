@@ -4,7 +4,6 @@ ghost use Rattle.std.specs.Prelude.{◌≤◌};
 
 use super::{EMPTY, ONE_ROW, THREE_ROWS, TWO_ROWS, is_saved_as, second_version, tree_of, width};
 use ph_coord::{Kind, Width};
-use ph_io::NoMemory;
 use ph_snap::load;
 use ph_steps::Counters;
 use std::alloc::Global;
@@ -81,17 +80,17 @@ fn assert_kept<const D: usize, V: Ledger, C: Ledger>(
     rows: &[([i64; D], u64)],
     snapshot: &[u8],
     counters: &mut Counters<V, C>,
-) -> Result<(), NoMemory>
+)
     requires some { 1 ≤ D }
     requires few { D ≤ 16 }
 {
     let tree = tree_of::<D, V, C>(rt, alloc, w, rows, counters);
-    is_saved_as(rt, alloc, &tree, kind, snapshot, &mut counters.visits)?;
-    let Ok(loaded) = load::<D, C>(alloc, snapshot, kind, w, &mut counters.changes) else {
-        panic!(rt; "no tree")
-    };
+    is_saved_as(rt, alloc, &tree, kind, snapshot, &mut counters.visits);
+    let loaded = load::<D, C>(alloc, snapshot, kind, w, &mut counters.changes).expect(
+        rt, "no tree",
+    );
     assert!(rt; loaded.same(&tree, &mut counters.visits));
-    is_saved_as(rt, alloc, &loaded, kind, snapshot, &mut counters.visits)
+    is_saved_as(rt, alloc, &loaded, kind, snapshot, &mut counters.visits);
 }
 
 // Small trees, and what becomes of their snapshots of version 1.
@@ -99,7 +98,7 @@ pub(crate) fn keep_small<V: Ledger, C: Ledger>(
     rt: &impl Abort,
     alloc: Global,
     counters: &mut Counters<V, C>,
-) -> Result<(), NoMemory> {
+) {
     let w = width(rt, 32);
     let rows = [([0, 0], 1), ([1, 1], 2), ([0, 1], 3)];
     for (rows, first, header) in [
@@ -109,29 +108,33 @@ pub(crate) fn keep_small<V: Ledger, C: Ledger>(
         (&rows, &THREE_ROWS, b"PHT2\0\x02\x20\x01"),
     ] {
         assert!(rt; 8 <= first.len());
-        let second = second_version(alloc, first)?;
+        let second = second_version(rt, alloc, first);
         assert!(rt; second.starts_with(header));
-        assert_kept::<2, V, C>(rt, alloc, Kind::Points, w, rows, &second, counters)?;
-        let Ok(tree) = load::<2, C>(alloc, first, Kind::Points, w, &mut counters.changes) else {
-            panic!(rt; "no tree")
-        };
-        is_saved_as(
-            rt,
-            alloc,
-            &tree,
-            Kind::Points,
-            &second,
-            &mut counters.visits,
-        )?;
+        assert_kept::<2, V, C>(rt, alloc, Kind::Points, w, rows, &second, counters);
+        assert_brought_on(rt, alloc, w, first, &second, counters);
     }
-    Ok(())
+}
+
+// What is loaded of a snapshot of version 1 is saved as one of version 2.
+fn assert_brought_on<V: Ledger, C: Ledger>(
+    rt: &impl Abort,
+    alloc: Global,
+    w: Width,
+    first: &[u8],
+    second: &[u8],
+    counters: &mut Counters<V, C>,
+) {
+    let tree = load::<2, C>(alloc, first, Kind::Points, w, &mut counters.changes).expect(
+        rt, "no tree",
+    );
+    is_saved_as(rt, alloc, &tree, Kind::Points, second, &mut counters.visits);
 }
 
 pub(crate) fn keep_all<V: Ledger, C: Ledger>(
     rt: &impl Abort,
     alloc: Global,
     counters: &mut Counters<V, C>,
-) -> Result<(), NoMemory> {
+) {
     let (one, seven, most) = (width(rt, 1), width(rt, 7), width(rt, 62));
     assert_kept::<1, V, C>(
         rt,
@@ -141,7 +144,7 @@ pub(crate) fn keep_all<V: Ledger, C: Ledger>(
         &[([0], 5), ([-1], 6)],
         &ONE_BIT,
         counters,
-    )?;
+    );
     assert_kept::<3, V, C>(
         rt,
         alloc,
@@ -157,7 +160,7 @@ pub(crate) fn keep_all<V: Ledger, C: Ledger>(
         ],
         &SEVEN_BITS,
         counters,
-    )?;
+    );
     let (least, greatest) = (-2305843009213693952, 2305843009213693951);
     assert_kept::<2, V, C>(
         rt,
@@ -167,7 +170,7 @@ pub(crate) fn keep_all<V: Ledger, C: Ledger>(
         &[([greatest, least], 1), ([-1, -1], 2)],
         &SIXTY_TWO_BITS,
         counters,
-    )?;
+    );
     assert_kept::<9, V, C>(
         rt,
         alloc,
@@ -176,7 +179,7 @@ pub(crate) fn keep_all<V: Ledger, C: Ledger>(
         &[([0; 9], 1), ([0, 0, 0, 0, 0, 0, 0, 0, 1], 2)],
         &NINE_DIMS,
         counters,
-    )?;
+    );
     let longer = [0, 0, 0, 0, 0, 0, 0, 0, 0, 0, 0, 0, 0, 0, 0, 3];
     assert_kept::<16, V, C>(
         rt,
@@ -186,5 +189,5 @@ pub(crate) fn keep_all<V: Ledger, C: Ledger>(
         &[([0; 16], 1), (longer, 2), ([-1; 16], 3)],
         &SIXTEEN_DIMS,
         counters,
-    )
+    );
 }

@@ -42,6 +42,11 @@ fn tree_of<V: Ledger, C: Ledger>(
     tree
 }
 
+// Whether the next hit of a ball is this one, or there is none.
+fn gives<V: Ledger>(ball: &mut Ball<'_, 2>, hit: Option<Hit<2>>, visits: &mut Steps<V>) -> bool {
+    ball.next(visits) == hit
+}
+
 // Whether a ball lists these rows with these distances, and then nothing more.
 fn lists<V: Ledger>(
     rt: &impl Abort,
@@ -63,10 +68,10 @@ fn lists<V: Ledger>(
             row,
             distance: *distance,
         };
-        assert_eq!(rt; ball.next(visits), Some(hit));
+        assert!(rt; gives(&mut ball, Some(hit), visits));
     }
-    assert!(rt; ball.next(visits).is_none());
-    assert!(rt; ball.next(visits).is_none());
+    assert!(rt; gives(&mut ball, None, visits));
+    assert!(rt; gives(&mut ball, None, visits));
 }
 
 fn balls<V: Ledger, C: Ledger>(rt: &impl Abort, alloc: Global, visits: Blank, changes: Blank)

@@ -10,7 +10,6 @@ use std::alloc::Global;
 use std::marker::Brand;
 use std::process::Abort;
 use std::sync::ledger::{Blank, Ledger};
-use std::test::Fail;
 
 // Whether the nearest rows are the first ones of a list.
 fn lists<V: Ledger>(
@@ -20,15 +19,14 @@ fn lists<V: Ledger>(
     q: [i64; 2],
     ranked: &[Hit<2>],
     visits: &mut Steps<V>,
-) -> Result<(), Fail>
+)
     requires { tree.now.width ≡ 32 }
 {
     for n in [0, 1, 2, 5, 9] {
-        let hits = nearest(alloc, tree, point(rt, q), n, visits)?;
+        let hits = nearest(alloc, tree, point(rt, q), n, visits).expect(rt, "memory");
         let most = ranked.len().min(n as usize);
-        assert_eq!(rt; hits.as_slice(), &ranked[..most]);
+        assert!(rt; hits.as_slice() == &ranked[..most]);
     }
-    Ok(())
 }
 
 // Twelve rows at one distance, one nearer and two farther.
@@ -37,7 +35,7 @@ fn circle<V: Ledger, C: Ledger>(
     alloc: Global,
     visits: &mut Steps<V>,
     changes: &mut Steps<C>,
-) -> Result<(), Fail> {
+) {
     let points = [
         [4, 3],
         [5, 0],
@@ -66,8 +64,8 @@ fn circle<V: Ledger, C: Ledger>(
         hit(rt, [3, -4], 6, 25),
         hit(rt, [4, -3], 5, 25),
     ];
-    let tree = tree_of(rt, alloc, &points, visits, changes)?;
-    lists(rt, alloc, &tree, [0, 0], &ranked, visits)
+    let tree = tree_of(rt, alloc, &points, visits, changes);
+    lists(rt, alloc, &tree, [0, 0], &ranked, visits);
 }
 
 // Two clusters of rows, of which one is near.
@@ -76,7 +74,7 @@ fn clusters<V: Ledger, C: Ledger>(
     alloc: Global,
     visits: &mut Steps<V>,
     changes: &mut Steps<C>,
-) -> Result<(), Fail> {
+) {
     let points = [
         [0, 0],
         [0, 1],
@@ -110,26 +108,21 @@ fn clusters<V: Ledger, C: Ledger>(
         hit(rt, [2, 0], 9, 2),
         hit(rt, [2, 2], 11, 2),
     ];
-    let tree = tree_of(rt, alloc, &points, visits, changes)?;
-    lists(rt, alloc, &tree, [1, 1], &ranked, visits)
+    let tree = tree_of(rt, alloc, &points, visits, changes);
+    lists(rt, alloc, &tree, [1, 1], &ranked, visits);
 }
 
-fn run<V: Ledger, C: Ledger>(
-    rt: &impl Abort,
-    alloc: Global,
-    visits: Blank,
-    changes: Blank,
-) -> Result<(), Fail>
+fn run<V: Ledger, C: Ledger>(rt: &impl Abort, alloc: Global, visits: Blank, changes: Blank)
     requires visits { (visits.name ≡ V.name) × (visits.parts ≡ V.parts) × (0 < visits.parts) }
     requires changes { (changes.name ≡ C.name) × (changes.parts ≡ C.parts) × (0 < changes.parts) }
 {
     let mut visits: Steps<V> = Steps::new(visits);
     let mut changes: Steps<C> = Steps::new(changes);
-    circle(rt, alloc, &mut visits, &mut changes)?;
-    clusters(rt, alloc, &mut visits, &mut changes)
+    circle(rt, alloc, &mut visits, &mut changes);
+    clusters(rt, alloc, &mut visits, &mut changes);
 }
 
 #[test]
-fn bounded_rows_in_order(rt: HostRuntime) -> Result<(), Fail> {
-    run::<Brand, Brand>(&rt, rt.alloc(), Blank::new(1), Blank::new(1))
+fn bounded_rows_in_order(rt: HostRuntime) {
+    run::<Brand, Brand>(&rt, rt.alloc(), Blank::new(1), Blank::new(1));
 }

@@ -1,6 +1,6 @@
 //! The nearest rows of small trees.
 
-ghost use Rattle.std.specs.Prelude.{◌≡◌, ◌<◌, IfOk};
+ghost use Rattle.std.specs.Prelude.{◌≡◌, ◌<◌};
 ghost use Rattle.ph_specs.specs.TableNames.{IsPoint};
 
 use ph_coord::{Point, Row, Width};
@@ -11,7 +11,6 @@ use std::alloc::Global;
 use std::marker::Brand;
 use std::process::Abort;
 use std::sync::ledger::{Blank, Ledger};
-use std::test::Fail;
 
 fn width() -> Width
     ensures { result ≡ 32 }
@@ -46,50 +45,65 @@ pub(super) fn tree_of<V: Ledger, C: Ledger>(
     points: &[[i64; 2]],
     visits: &mut Steps<V>,
     changes: &mut Steps<C>,
-) -> Result<PhTree<2>, Fail>
-    ensures { IfOk result (λ tree. tree.width ≡ 32) }
+) -> PhTree<2>
+    ensures { result.width ≡ 32 }
 {
     let mut tree = PhTree::new(alloc, width(), u64::MAX);
     for (i, coords) in points.iter().enumerate() {
-        let _put = tree.put(point(rt, *coords), i as u64 + 1, visits, changes)?;
+        let done = tree.put(point(rt, *coords), i as u64 + 1, visits, changes);
+        assert!(rt; done.is_ok());
     }
-    Ok(tree)
+    tree
 }
 
-fn list<V: Ledger, C: Ledger>(
+// Four rows at one distance.
+fn cross<V: Ledger, C: Ledger>(
     rt: &impl Abort,
     alloc: Global,
-    visits: Blank,
-    changes: Blank,
-) -> Result<(), Fail>
-    requires visits { (visits.name ≡ V.name) × (visits.parts ≡ V.parts) × (0 < visits.parts) }
-    requires changes { (changes.name ≡ C.name) × (changes.parts ≡ C.parts) × (0 < changes.parts) }
-{
-    let mut visits: Steps<V> = Steps::new(visits);
-    let mut changes: Steps<C> = Steps::new(changes);
-    let cross = [[1, 0], [0, 1], [-1, 0], [0, -1]];
+    visits: &mut Steps<V>,
+    changes: &mut Steps<C>,
+) {
+    let points = [[1, 0], [0, 1], [-1, 0], [0, -1]];
     let ranked = [
         hit(rt, [-1, 0], 3, 1),
         hit(rt, [0, -1], 4, 1),
         hit(rt, [0, 1], 2, 1),
         hit(rt, [1, 0], 1, 1),
     ];
-    let tree = tree_of(rt, alloc, &cross, &mut visits, &mut changes)?;
+    let tree = tree_of(rt, alloc, &points, visits, changes);
     for n in [0, 1, 3, 4, 9, u32::MAX] {
-        let hits = nearest(alloc, &tree, point(rt, [0, 0]), n, &mut visits)?;
+        let hits = nearest(alloc, &tree, point(rt, [0, 0]), n, visits).expect(rt, "memory");
         let most = ranked.len().min(n as usize);
-        assert_eq!(rt; hits.as_slice(), &ranked[..most]);
+        assert!(rt; hits.as_slice() == &ranked[..most]);
     }
+}
+
+// The greatest point, from the least.
+fn greatest_distance<V: Ledger, C: Ledger>(
+    rt: &impl Abort,
+    alloc: Global,
+    visits: &mut Steps<V>,
+    changes: &mut Steps<C>,
+) {
     let greatest = [2147483647, 2147483647];
-    let tree = tree_of(rt, alloc, &[greatest], &mut visits, &mut changes)?;
+    let tree = tree_of(rt, alloc, &[greatest], visits, changes);
     let least = point(rt, [-2147483648, -2147483648]);
-    let hits = nearest(alloc, &tree, least, 1, &mut visits)?;
-    assert_eq!(rt; hits.len(), 1);
-    assert_eq!(rt; hits[0], hit(rt, greatest, 1, 36893488130239234050));
-    Ok(())
+    let hits = nearest(alloc, &tree, least, 1, visits).expect(rt, "memory");
+    assert!(rt; hits.len() == 1);
+    assert!(rt; hits[0] == hit(rt, greatest, 1, 36893488130239234050));
+}
+
+fn list<V: Ledger, C: Ledger>(rt: &impl Abort, alloc: Global, visits: Blank, changes: Blank)
+    requires visits { (visits.name ≡ V.name) × (visits.parts ≡ V.parts) × (0 < visits.parts) }
+    requires changes { (changes.name ≡ C.name) × (changes.parts ≡ C.parts) × (0 < changes.parts) }
+{
+    let mut visits: Steps<V> = Steps::new(visits);
+    let mut changes: Steps<C> = Steps::new(changes);
+    cross(rt, alloc, &mut visits, &mut changes);
+    greatest_distance(rt, alloc, &mut visits, &mut changes);
 }
 
 #[test]
-fn nearest_rows_in_order(rt: HostRuntime) -> Result<(), Fail> {
-    list::<Brand, Brand>(&rt, rt.alloc(), Blank::new(1), Blank::new(1))
+fn nearest_rows_in_order(rt: HostRuntime) {
+    list::<Brand, Brand>(&rt, rt.alloc(), Blank::new(1), Blank::new(1));
 }

@@ -5,16 +5,24 @@ ghost use Rattle.ph_specs.specs.TableNames.{AreBoxes};
 
 use super::boxes::tree_of;
 use ph_join::Join;
-use ph_steps::{Counters, Counting, with_new_counters};
+use ph_steps::{Counters, Counting, Steps, with_new_counters};
 use ph_tree::PhTree;
 use std::alloc::Global;
 use std::process::Abort;
 use std::sync::ledger::Ledger;
-use std::test::Fail;
 
 // Joins of small trees, whose pairs are written out.
 #[derive(Drop)]
 struct KnownPairs<'r, A: Abort>(&'r A, Global);
+
+// The values of the next pair, if there is one.
+fn next_values<const K: usize, const D: usize, V: Ledger>(
+    join: &mut Join<'_, K, D>,
+    visits: &mut Steps<V>,
+) -> Option<(u64, u64)> {
+    let (first, second) = join.next(visits)?;
+    Some((first.value, second.value))
+}
 
 // Joins two trees of boxes, which is to list the pairs of these values.
 fn list<const K: usize, const D: usize, V: Ledger, C: Ledger>(
@@ -32,23 +40,15 @@ fn list<const K: usize, const D: usize, V: Ledger, C: Ledger>(
 {
     let mut join: Join<'_, K, D> = Join::new(first, second);
     for pair in pairs {
-        let values = match join.next(&mut counters.visits) {
-            Some((r, s)) => Some((r.value, s.value)),
-            None => None,
-        };
-        assert_eq!(rt; values, Some(*pair));
+        assert!(rt; next_values(&mut join, &mut counters.visits) == Some(*pair));
     }
-    assert!(rt; join.next(&mut counters.visits).is_none());
-    assert!(rt; join.next(&mut counters.visits).is_none());
+    assert!(rt; next_values(&mut join, &mut counters.visits).is_none());
+    assert!(rt; next_values(&mut join, &mut counters.visits).is_none());
 }
 
 // A cube, and boxes that touch it in a corner, an edge and a face, that lie in it or around it, or that are one off in
 // the first or in the last dimension.
-fn touching<V: Ledger, C: Ledger>(
-    rt: &impl Abort,
-    alloc: Global,
-    counters: &mut Counters<V, C>,
-) -> Result<(), Fail> {
+fn touching<V: Ledger, C: Ledger>(rt: &impl Abort, alloc: Global, counters: &mut Counters<V, C>) {
     let cube = [([0, 0, 0], [2, 2, 2])];
     let around = [
         ([2, 2, 2], [3, 3, 3]),
@@ -59,43 +59,37 @@ fn touching<V: Ledger, C: Ledger>(
         ([3, 0, 0], [4, 1, 1]),
         ([0, 0, 3], [1, 1, 4]),
     ];
-    let first: PhTree<6> = tree_of::<3, 6, V, C>(rt, alloc, &cube, counters)?;
-    let second: PhTree<6> = tree_of::<3, 6, V, C>(rt, alloc, &around, counters)?;
+    let first: PhTree<6> = tree_of::<3, 6, V, C>(rt, alloc, &cube, counters);
+    let second: PhTree<6> = tree_of::<3, 6, V, C>(rt, alloc, &around, counters);
     let touched = [(1, 5), (1, 4), (1, 3), (1, 2), (1, 1)];
     list::<3, 6, V, C>(rt, &first, &second, &touched, counters);
     let turned = [(5, 1), (4, 1), (3, 1), (2, 1), (1, 1)];
     list::<3, 6, V, C>(rt, &second, &first, &turned, counters);
-    Ok(())
 }
 
 // Intervals with themselves and with none.
-fn intervals<V: Ledger, C: Ledger>(
-    rt: &impl Abort,
-    alloc: Global,
-    counters: &mut Counters<V, C>,
-) -> Result<(), Fail> {
+fn intervals<V: Ledger, C: Ledger>(rt: &impl Abort, alloc: Global, counters: &mut Counters<V, C>) {
     let row = [([0], [1]), ([1], [2]), ([3], [3])];
-    let some: PhTree<2> = tree_of::<1, 2, V, C>(rt, alloc, &row, counters)?;
-    let none: PhTree<2> = tree_of::<1, 2, V, C>(rt, alloc, &[], counters)?;
+    let some: PhTree<2> = tree_of::<1, 2, V, C>(rt, alloc, &row, counters);
+    let none: PhTree<2> = tree_of::<1, 2, V, C>(rt, alloc, &[], counters);
     let same = [(1, 1), (1, 2), (2, 1), (2, 2), (3, 3)];
     list::<1, 2, V, C>(rt, &some, &some, &same, counters);
     for (first, second) in [(&some, &none), (&none, &some), (&none, &none)] {
         list::<1, 2, V, C>(rt, first, second, &[], counters);
     }
-    Ok(())
 }
 
 impl<A: Abort> Counting for KnownPairs<'_, A> {
-    type Outcome = Result<(), Fail>;
+    type Outcome = ();
 
-    fn run<V: Ledger, C: Ledger>(self, counters: &mut Counters<V, C>) -> Result<(), Fail> {
+    fn run<V: Ledger, C: Ledger>(self, counters: &mut Counters<V, C>) {
         let KnownPairs(rt, alloc) = self;
-        touching(rt, alloc, counters)?;
-        intervals(rt, alloc, counters)
+        touching(rt, alloc, counters);
+        intervals(rt, alloc, counters);
     }
 }
 
 #[test]
-fn known_pairs(rt: HostRuntime) -> Result<(), Fail> {
-    with_new_counters(KnownPairs(&rt, rt.alloc()))
+fn known_pairs(rt: HostRuntime) {
+    with_new_counters(KnownPairs(&rt, rt.alloc()));
 }

@@ -14,7 +14,6 @@ use rand_xoshiro::Xoshiro256PlusPlus;
 use std::alloc::Global;
 use std::process::Abort;
 use std::sync::ledger::Ledger;
-use std::test::Fail;
 
 const SEED: u64 = 1975;
 
@@ -41,26 +40,31 @@ fn draw_box<const K: usize, R: Rng>(rng: &mut R) -> Corners<K> {
     (low, high)
 }
 
-fn draw_boxes<const K: usize, R: Rng>(alloc: Global, rng: &mut R) -> Result<Vec<Corners<K>>, Fail> {
+fn draw_boxes<const K: usize, R: Rng>(
+    rt: &impl Abort,
+    alloc: Global,
+    rng: &mut R,
+) -> Vec<Corners<K>> {
     let mut boxes = Vec::new(alloc);
     for _ in 0..BOXES {
-        boxes.push(draw_box::<K, R>(rng))?;
+        boxes.push(draw_box::<K, R>(rng)).expect(rt, "memory");
     }
-    Ok(boxes)
+    boxes
 }
 
 // All rows of a tree.
 fn rows_of<const D: usize, V: Ledger>(
+    rt: &impl Abort,
     alloc: Global,
     tree: &PhTree<D>,
     visits: &mut Steps<V>,
-) -> Result<Vec<Row<D>>, Fail> {
+) -> Vec<Row<D>> {
     let mut rows = Vec::new(alloc);
     let mut window = Window::whole(tree);
     while let Some(row) = window.next(visits) {
-        rows.push(row)?;
+        rows.push(row).expect(rt, "memory");
     }
-    Ok(rows)
+    rows
 }
 
 // Whether each box begins no later than the other one ends, in each dimension.
@@ -75,6 +79,15 @@ fn overlap<const K: usize, const D: usize>(r: &Row<D>, s: &Row<D>) -> bool
     true
 }
 
+// Whether the next pair of a join is this one, or there is none.
+fn gives<const K: usize, const D: usize, V: Ledger>(
+    join: &mut Join<'_, K, D>,
+    pair: Option<(Row<D>, Row<D>)>,
+    visits: &mut Steps<V>,
+) -> bool {
+    join.next(visits) == pair
+}
+
 // Joins two trees of boxes, and compares each row of the one with each of the other.
 fn compare<const K: usize, const D: usize, V: Ledger, C: Ledger>(
     rt: &impl Abort,
@@ -82,26 +95,25 @@ fn compare<const K: usize, const D: usize, V: Ledger, C: Ledger>(
     first: &PhTree<D>,
     second: &PhTree<D>,
     counters: &mut Counters<V, C>,
-) -> Result<(), Fail>
+)
     requires dims { K * 2 ≡ D }
     requires few { D ≤ 16 }
     requires width { first.now.width ≡ second.now.width }
     requires firsts { AreBoxes first.now.table }
     requires seconds { AreBoxes second.now.table }
 {
-    let firsts = rows_of(alloc, first, &mut counters.visits)?;
-    let seconds = rows_of(alloc, second, &mut counters.visits)?;
+    let firsts = rows_of(rt, alloc, first, &mut counters.visits);
+    let seconds = rows_of(rt, alloc, second, &mut counters.visits);
     let mut join: Join<'_, K, D> = Join::new(first, second);
     for r in firsts.iter() {
         for s in seconds.iter() {
             if overlap::<K, D>(r, s) {
-                assert_eq!(rt; join.next(&mut counters.visits), Some((*r, *s)));
+                assert!(rt; gives(&mut join, Some((*r, *s)), &mut counters.visits));
             }
         }
     }
-    assert_eq!(rt; join.next(&mut counters.visits), None);
-    assert_eq!(rt; join.next(&mut counters.visits), None);
-    Ok(())
+    assert!(rt; gives(&mut join, None, &mut counters.visits));
+    assert!(rt; gives(&mut join, None, &mut counters.visits));
 }
 
 // Two trees of random boxes of K dimensions, of which some are in both.
@@ -109,34 +121,35 @@ fn random<const K: usize, const D: usize, V: Ledger, C: Ledger>(
     rt: &impl Abort,
     alloc: Global,
     counters: &mut Counters<V, C>,
-) -> Result<(), Fail>
+)
     requires dims { K * 2 ≡ D }
     requires some { 1 ≤ D }
     requires few { D ≤ 16 }
 {
     let mut rng = Xoshiro256PlusPlus::seed_from_u64(SEED);
-    let boxes = draw_boxes::<K, Xoshiro256PlusPlus>(alloc, &mut rng)?;
-    let mut others = draw_boxes::<K, Xoshiro256PlusPlus>(alloc, &mut rng)?;
-    others.extend_from_slice(&boxes[..SHARED.min(boxes.len())])?;
-    let first: PhTree<D> = tree_of::<K, D, V, C>(rt, alloc, boxes.as_slice(), counters)?;
-    let second: PhTree<D> = tree_of::<K, D, V, C>(rt, alloc, others.as_slice(), counters)?;
-    compare::<K, D, V, C>(rt, alloc, &first, &second, counters)?;
-    compare::<K, D, V, C>(rt, alloc, &second, &second, counters)
+    let boxes = draw_boxes::<K, Xoshiro256PlusPlus>(rt, alloc, &mut rng);
+    let mut others = draw_boxes::<K, Xoshiro256PlusPlus>(rt, alloc, &mut rng);
+    let shared = &boxes[..SHARED.min(boxes.len())];
+    others.extend_from_slice(shared).expect(rt, "memory");
+    let first: PhTree<D> = tree_of::<K, D, V, C>(rt, alloc, boxes.as_slice(), counters);
+    let second: PhTree<D> = tree_of::<K, D, V, C>(rt, alloc, others.as_slice(), counters);
+    compare::<K, D, V, C>(rt, alloc, &first, &second, counters);
+    compare::<K, D, V, C>(rt, alloc, &second, &second, counters);
 }
 
 impl<A: Abort> Counting for RandomPairs<'_, A> {
-    type Outcome = Result<(), Fail>;
+    type Outcome = ();
 
-    fn run<V: Ledger, C: Ledger>(self, counters: &mut Counters<V, C>) -> Result<(), Fail> {
+    fn run<V: Ledger, C: Ledger>(self, counters: &mut Counters<V, C>) {
         let RandomPairs(rt, alloc) = self;
-        random::<1, 2, V, C>(rt, alloc, counters)?;
-        random::<2, 4, V, C>(rt, alloc, counters)?;
-        random::<3, 6, V, C>(rt, alloc, counters)?;
-        random::<4, 8, V, C>(rt, alloc, counters)
+        random::<1, 2, V, C>(rt, alloc, counters);
+        random::<2, 4, V, C>(rt, alloc, counters);
+        random::<3, 6, V, C>(rt, alloc, counters);
+        random::<4, 8, V, C>(rt, alloc, counters);
     }
 }
 
 #[test]
-fn random_pairs(rt: HostRuntime) -> Result<(), Fail> {
-    with_new_counters(RandomPairs(&rt, rt.alloc()))
+fn random_pairs(rt: HostRuntime) {
+    with_new_counters(RandomPairs(&rt, rt.alloc()));
 }

@@ -9,7 +9,6 @@ use std::alloc::Global;
 use std::marker::Brand;
 use std::process::Abort;
 use std::sync::ledger::{Blank, Ledger};
-use std::test::Fail;
 
 // What is done to a tree.
 #[derive(Clone, Copy)]
@@ -31,28 +30,27 @@ fn follow<V: Ledger, C: Ledger>(
     kept: &mut Kept<2>,
     act: Act,
     counters: &mut Counters<V, C>,
-) -> Result<(), Fail> {
+) {
     let width = kept.tree().width();
     let visits = &mut counters.visits;
     let changes = &mut counters.changes;
-    match act {
-        Act::Keep(n) => kept.keep(alloc, u32::from(n))?,
-        Act::Put(at, value) => {
-            kept.put(point(rt, width, &at), value, visits, changes)?;
-        }
-        Act::Del(at) => {
-            kept.del(&point(rt, width, &at), visits, changes)?;
-        }
+    let is_done = match act {
+        Act::Keep(n) => kept.keep(alloc, u32::from(n)).is_ok(),
+        Act::Put(at, value) => kept
+            .put(point(rt, width, &at), value, visits, changes)
+            .is_ok(),
+        Act::Del(at) => kept.del(&point(rt, width, &at), visits, changes).is_ok(),
         Act::Move(from, to) => {
             let (from, to) = (point(rt, width, &from), point(rt, width, &to));
-            kept.relocate(&from, &to, visits, changes)?;
+            kept.relocate(&from, &to, visits, changes).is_ok()
         }
-        Act::Back => {
-            kept.back_one(visits, changes)?;
+        Act::Back => kept.back_one(visits, changes).is_ok(),
+        Act::Forget => {
+            kept.forget();
+            true
         }
-        Act::Forget => kept.forget(),
-    }
-    Ok(())
+    };
+    assert!(rt; is_done);
 }
 
 fn run<V: Ledger, C: Ledger>(
@@ -61,12 +59,11 @@ fn run<V: Ledger, C: Ledger>(
     kept: &mut Kept<2>,
     script: &[Line],
     counters: &mut Counters<V, C>,
-) -> Result<(), Fail> {
-    for line in script {
-        follow(rt, alloc, kept, line.0, counters)?;
-        assert_eq!(rt; (kept.steps(), kept.tree().len()), (line.1, line.2));
+) {
+    for (act, steps, rows) in script {
+        follow(rt, alloc, kept, *act, counters);
+        assert!(rt; (kept.steps(), kept.tree().len()) == (*steps, *rows));
     }
-    Ok(())
 }
 
 fn get<V: Ledger, C: Ledger>(
@@ -121,33 +118,40 @@ const FORGOTTEN: [Line; 10] = [
     (Act::Back, 0, 0),
 ];
 
-fn known<V: Ledger, C: Ledger>(
-    rt: &impl Abort,
-    alloc: Global,
-    visits: Blank,
-    changes: Blank,
-) -> Result<(), Fail>
+fn three_puts<V: Ledger, C: Ledger>(rt: &impl Abort, alloc: Global, counters: &mut Counters<V, C>) {
+    let mut kept: Kept<2> = empty(rt, alloc, 7);
+    run(rt, alloc, &mut kept, &THREE_PUTS, counters);
+    assert!(rt; get(rt, &kept, [0, 0], counters) == Some(1));
+    assert!(rt; get(rt, &kept, [1, 1], counters).is_none());
+}
+
+fn each_edit<V: Ledger, C: Ledger>(rt: &impl Abort, alloc: Global, counters: &mut Counters<V, C>) {
+    let mut kept: Kept<2> = empty(rt, alloc, 7);
+    run(rt, alloc, &mut kept, &TWO_PUTS, counters);
+    let before = kept.tree().stats(&mut counters.visits);
+    run(rt, alloc, &mut kept, &EACH_EDIT, counters);
+    assert!(rt; get(rt, &kept, [0, 0], counters) == Some(1));
+    assert!(rt; get(rt, &kept, [1, 1], counters) == Some(2));
+    assert!(rt; kept.tree().stats(&mut counters.visits) == before);
+}
+
+fn forgotten<V: Ledger, C: Ledger>(rt: &impl Abort, alloc: Global, counters: &mut Counters<V, C>) {
+    let mut kept: Kept<2> = empty(rt, alloc, 2);
+    run(rt, alloc, &mut kept, &TWO_PUTS, counters);
+    run(rt, alloc, &mut kept, &FORGOTTEN, counters);
+}
+
+fn known<V: Ledger, C: Ledger>(rt: &impl Abort, alloc: Global, visits: Blank, changes: Blank)
     requires visits { (visits.name ≡ V.name) × (visits.parts ≡ V.parts) × (0 < visits.parts) }
     requires changes { (changes.name ≡ C.name) × (changes.parts ≡ C.parts) × (0 < changes.parts) }
 {
     let mut counters: Counters<V, C> = Counters::new(visits, changes);
-    let mut kept: Kept<2> = empty(rt, alloc, 7);
-    run(rt, alloc, &mut kept, &THREE_PUTS, &mut counters)?;
-    assert_eq!(rt; get(rt, &kept, [0, 0], &mut counters), Some(1));
-    assert_eq!(rt; get(rt, &kept, [1, 1], &mut counters), None);
-    let mut kept: Kept<2> = empty(rt, alloc, 7);
-    run(rt, alloc, &mut kept, &TWO_PUTS, &mut counters)?;
-    let before = kept.tree().stats(&mut counters.visits);
-    run(rt, alloc, &mut kept, &EACH_EDIT, &mut counters)?;
-    assert_eq!(rt; get(rt, &kept, [0, 0], &mut counters), Some(1));
-    assert_eq!(rt; get(rt, &kept, [1, 1], &mut counters), Some(2));
-    assert_eq!(rt; kept.tree().stats(&mut counters.visits), before);
-    let mut kept: Kept<2> = empty(rt, alloc, 2);
-    run(rt, alloc, &mut kept, &TWO_PUTS, &mut counters)?;
-    run(rt, alloc, &mut kept, &FORGOTTEN, &mut counters)
+    three_puts(rt, alloc, &mut counters);
+    each_edit(rt, alloc, &mut counters);
+    forgotten(rt, alloc, &mut counters);
 }
 
 #[test]
-fn known_edits(rt: HostRuntime) -> Result<(), Fail> {
-    known::<Brand, Brand>(&rt, rt.alloc(), Blank::new(1), Blank::new(1))
+fn known_edits(rt: HostRuntime) {
+    known::<Brand, Brand>(&rt, rt.alloc(), Blank::new(1), Blank::new(1));
 }

@@ -13,7 +13,6 @@ use std::alloc::Global;
 use std::marker::Brand;
 use std::process::Abort;
 use std::sync::ledger::{Blank, Ledger};
-use std::test::Fail;
 
 const EDITS: u32 = 300;
 
@@ -54,26 +53,41 @@ fn value_at<const D: usize>(rows: &[Row<D>], p: &Point<D>) -> Option<u64> {
 
 // A table with a value at a point, or with none there.
 fn with_value<const D: usize>(
+    rt: &impl Abort,
     alloc: Global,
     rows: &[Row<D>],
     p: &Point<D>,
     value: Option<u64>,
-) -> Result<Vec<Row<D>>, Fail>
+) -> Vec<Row<D>>
     requires { D ≤ 16 }
 {
     let mut table = Vec::new(alloc);
     for row in rows {
         if row.point != *p {
-            table.push(*row)?;
+            table.push(*row).expect(rt, "memory");
         }
     }
     if let Some(value) = value {
-        table.push(Row { point: *p, value })?;
+        table.push(Row { point: *p, value }).expect(rt, "memory");
     }
-    Ok(table)
+    table
 }
 
 impl<const D: usize> Beside<D> {
+    // An empty tree that keeps so many edits.
+    fn new(rt: &impl Abort, alloc: Global, depth: u32) -> Beside<D>
+        requires some { 1 ≤ D }
+        requires few { D ≤ 16 }
+        requires depth { depth ≤ 65536 }
+    {
+        let mut kept: Kept<D> = empty(rt, alloc, POINTS);
+        kept.keep(alloc, depth).expect(rt, "memory");
+        Beside {
+            kept,
+            tables: vec![in alloc; Vec::new(alloc)].expect(rt, "memory"),
+        }
+    }
+
     // The table of the tree.
     fn rows(&self, rt: &impl Abort) -> &[Row<D>] {
         let Some(rows) = self.tables.last() else {
@@ -83,14 +97,13 @@ impl<const D: usize> Beside<D> {
     }
 
     // An edit led to this table.
-    fn note(&mut self, table: Vec<Row<D>>) -> Result<(), Fail>
+    fn note(&mut self, rt: &impl Abort, table: Vec<Row<D>>)
         requires { D ≤ 16 }
     {
-        self.tables.push(table)?;
+        self.tables.push(table).expect(rt, "memory");
         if self.tables.len() > self.kept.depth() as usize + 1 {
             self.tables.remove(0);
         }
-        Ok(())
     }
 
     fn put<R: Rng, V: Ledger, C: Ledger>(
@@ -99,15 +112,17 @@ impl<const D: usize> Beside<D> {
         alloc: Global,
         rng: &mut R,
         counters: &mut Counters<V, C>,
-    ) -> Result<(), Fail>
+    )
         requires { D ≤ 16 }
     {
         let value = rng.next_u64();
         let p: Point<D> = draw_point(rt, self.kept.tree().width(), rng);
-        self.kept
-            .put(p, value, &mut counters.visits, &mut counters.changes)?;
-        let table = with_value(alloc, self.rows(rt), &p, Some(value))?;
-        self.note(table)
+        let done = self
+            .kept
+            .put(p, value, &mut counters.visits, &mut counters.changes);
+        assert!(rt; done.is_ok());
+        let table = with_value(rt, alloc, self.rows(rt), &p, Some(value));
+        self.note(rt, table);
     }
 
     fn del<R: Rng, V: Ledger, C: Ledger>(
@@ -116,17 +131,18 @@ impl<const D: usize> Beside<D> {
         alloc: Global,
         rng: &mut R,
         counters: &mut Counters<V, C>,
-    ) -> Result<(), Fail>
+    )
         requires { D ≤ 16 }
     {
         let p: Point<D> = draw_point(rt, self.kept.tree().width(), rng);
-        self.kept
-            .del(&p, &mut counters.visits, &mut counters.changes)?;
+        let done = self
+            .kept
+            .del(&p, &mut counters.visits, &mut counters.changes);
+        assert!(rt; done.is_ok());
         if value_at(self.rows(rt), &p).is_some() {
-            let table = with_value(alloc, self.rows(rt), &p, None)?;
-            self.note(table)?;
+            let table = with_value(rt, alloc, self.rows(rt), &p, None);
+            self.note(rt, table);
         }
-        Ok(())
     }
 
     fn relocate<R: Rng, V: Ledger, C: Ledger>(
@@ -135,7 +151,7 @@ impl<const D: usize> Beside<D> {
         alloc: Global,
         rng: &mut R,
         counters: &mut Counters<V, C>,
-    ) -> Result<(), Fail>
+    )
         requires { D ≤ 16 }
     {
         let width = self.kept.tree().width();
@@ -143,21 +159,18 @@ impl<const D: usize> Beside<D> {
         let to: Point<D> = draw_point(rt, width, rng);
         let value = value_at(self.rows(rt), &from);
         let taken = value_at(self.rows(rt), &to).is_some();
-        self.kept
-            .relocate(&from, &to, &mut counters.visits, &mut counters.changes)?;
+        let done = self
+            .kept
+            .relocate(&from, &to, &mut counters.visits, &mut counters.changes);
+        assert!(rt; done.is_ok());
         if value.is_some() && !taken {
-            let rest = with_value(alloc, self.rows(rt), &from, None)?;
-            let table = with_value(alloc, rest.as_slice(), &to, value)?;
-            self.note(table)?;
+            let rest = with_value(rt, alloc, self.rows(rt), &from, None);
+            let table = with_value(rt, alloc, rest.as_slice(), &to, value);
+            self.note(rt, table);
         }
-        Ok(())
     }
 
-    fn back<V: Ledger, C: Ledger>(
-        &mut self,
-        rt: &impl Abort,
-        counters: &mut Counters<V, C>,
-    ) -> Result<(), Fail>
+    fn back<V: Ledger, C: Ledger>(&mut self, rt: &impl Abort, counters: &mut Counters<V, C>)
         requires { D ≤ 16 }
     {
         let there = self.tables.len() > 1;
@@ -166,9 +179,44 @@ impl<const D: usize> Beside<D> {
         }
         let answer = self
             .kept
-            .back_one(&mut counters.visits, &mut counters.changes)?;
-        assert_eq!(rt; answer, there);
-        Ok(())
+            .back_one(&mut counters.visits, &mut counters.changes);
+        assert!(rt; answer == Ok(there));
+    }
+
+    // One edit, or up to five that are taken back.
+    fn edit<R: Rng, V: Ledger, C: Ledger>(
+        &mut self,
+        rt: &impl Abort,
+        alloc: Global,
+        rng: &mut R,
+        counters: &mut Counters<V, C>,
+    )
+        requires { D ≤ 16 }
+    {
+        match rng.next_u32() % 8 {
+            0..=2 => self.put(rt, alloc, rng, counters),
+            3..=4 => self.del(rt, alloc, rng, counters),
+            5..=6 => self.relocate(rt, alloc, rng, counters),
+            _ => {
+                for _ in 0..rng.next_u32() % 6 {
+                    self.back(rt, counters);
+                }
+            }
+        }
+    }
+
+    // Takes back all edits that are kept, and one more.
+    fn take_all_back<V: Ledger, C: Ledger>(
+        &mut self,
+        rt: &impl Abort,
+        counters: &mut Counters<V, C>,
+    )
+        requires { D ≤ 16 }
+    {
+        for _ in 0..=self.kept.depth() {
+            self.back(rt, counters);
+            self.compare(rt, counters);
+        }
     }
 
     // The tree has the rows of its table, and so many edits can be taken back as there are tables from before.
@@ -177,11 +225,11 @@ impl<const D: usize> Beside<D> {
     {
         let rows = self.rows(rt);
         let tree = self.kept.tree();
-        assert_eq!(rt; tree.len(), rows.len() as u64);
-        assert_eq!(rt; self.kept.steps() as usize + 1, self.tables.len());
+        assert!(rt; tree.len() == rows.len() as u64);
+        assert!(rt; self.kept.steps() as usize + 1 == self.tables.len());
         for row in rows {
             let p: Point<D> = point(rt, tree.width(), row.point.as_slice());
-            assert_eq!(rt; tree.get(&p, &mut counters.visits), Some(row.value));
+            assert!(rt; tree.get(&p, &mut counters.visits) == Some(row.value));
         }
     }
 }
@@ -192,58 +240,34 @@ fn trial<const D: usize, V: Ledger, C: Ledger>(
     alloc: Global,
     depth: u32,
     counters: &mut Counters<V, C>,
-) -> Result<(), Fail>
+)
     requires some { 1 ≤ D }
     requires few { D ≤ 16 }
     requires depth { depth ≤ 65536 }
 {
     let mut rng = Xoshiro256PlusPlus::seed_from_u64(u64::from(depth));
-    let mut kept: Kept<D> = empty(rt, alloc, POINTS);
-    kept.keep(alloc, depth)?;
-    let mut beside = Beside {
-        kept,
-        tables: vec![in alloc; Vec::new(alloc)]?,
-    };
+    let mut beside: Beside<D> = Beside::new(rt, alloc, depth);
     for _ in 0..EDITS {
-        match rng.next_u32() % 8 {
-            0..=2 => beside.put(rt, alloc, &mut rng, counters)?,
-            3..=4 => beside.del(rt, alloc, &mut rng, counters)?,
-            5..=6 => beside.relocate(rt, alloc, &mut rng, counters)?,
-            _ => {
-                for _ in 0..rng.next_u32() % 6 {
-                    beside.back(rt, counters)?;
-                }
-            }
-        }
+        beside.edit(rt, alloc, &mut rng, counters);
         beside.compare(rt, counters);
     }
-    for _ in 0..depth + 1 {
-        beside.back(rt, counters)?;
-        beside.compare(rt, counters);
-    }
-    Ok(())
+    beside.take_all_back(rt, counters);
 }
 
-fn trials<V: Ledger, C: Ledger>(
-    rt: &impl Abort,
-    alloc: Global,
-    visits: Blank,
-    changes: Blank,
-) -> Result<(), Fail>
+fn trials<V: Ledger, C: Ledger>(rt: &impl Abort, alloc: Global, visits: Blank, changes: Blank)
     requires visits { (visits.name ≡ V.name) × (visits.parts ≡ V.parts) × (0 < visits.parts) }
     requires changes { (changes.name ≡ C.name) × (changes.parts ≡ C.parts) × (0 < changes.parts) }
 {
     let mut counters: Counters<V, C> = Counters::new(visits, changes);
     for depth in [1, 7, 100] {
-        trial::<1, V, C>(rt, alloc, depth, &mut counters)?;
-        trial::<2, V, C>(rt, alloc, depth, &mut counters)?;
-        trial::<3, V, C>(rt, alloc, depth, &mut counters)?;
-        trial::<8, V, C>(rt, alloc, depth, &mut counters)?;
+        trial::<1, V, C>(rt, alloc, depth, &mut counters);
+        trial::<2, V, C>(rt, alloc, depth, &mut counters);
+        trial::<3, V, C>(rt, alloc, depth, &mut counters);
+        trial::<8, V, C>(rt, alloc, depth, &mut counters);
     }
-    Ok(())
 }
 
 #[test]
-fn random_edits(rt: HostRuntime) -> Result<(), Fail> {
-    trials::<Brand, Brand>(&rt, rt.alloc(), Blank::new(1), Blank::new(1))
+fn random_edits(rt: HostRuntime) {
+    trials::<Brand, Brand>(&rt, rt.alloc(), Blank::new(1), Blank::new(1));
 }
