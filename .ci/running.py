@@ -31,14 +31,15 @@ class Ended:
 
 
 def program():
-    """The path of the program: the first argument, or the variable PHQ, or else that of ./phq, which builds it where it has to."""
+    """The path of the program: the first argument, or the variable PHQ, or else that which ./phq would run."""
     given = sys.argv[1] if len(sys.argv) > 1 else os.environ.get('PHQ')
     if given:
         return os.path.abspath(given)
-    built = subprocess.run([os.path.join(TOP, 'phq'), 'run'], stdin=subprocess.DEVNULL)
-    if built.returncode != 0:
-        sys.exit('the program was not built')
-    return os.path.join(TOP, 'crates', 'phq', 'out', 'phq')
+    told = subprocess.run([os.path.join(TOP, 'phq'), 'which'], stdout=subprocess.PIPE, check=True, text=True).stdout
+    path = told.splitlines()[0].removeprefix('program: ')
+    if not os.path.exists(path):
+        sys.exit('there is no program of these sources: ./phq build makes it')
+    return path
 
 
 def refusing(folder):
