@@ -3,10 +3,11 @@
  *   REFUSED_ALLOCATION=N   the N-th call that asks for memory, counted from 1, gets none
  *   SHORT_CALLS=           each read and write of a regular file moves at most 3 bytes
  *   FAILED_READ=N          the N-th read of a regular file fails, and moves nothing
+ *   INTERRUPTED_READS=N    the first N reads, of whatever file, end as if a signal had come, and move nothing
  *   FAILED_RENAME=N        the N-th rename fails, and renames nothing
  *   FAILED_CLOSE=N         the N-th close of a regular file fails, and closes it all the same, as Linux does
  *
- * The file that REFUSALS names gets a letter for each such call: m, r or w, and R, N or C. What was called before
+ * The file that REFUSALS names gets a letter for each such call: m, r or w, and R, I, N or C. What was called before
  * this library began, which is the loader's own, is neither counted nor refused.
  *
  * The file that LIVE_BLOCKS names has, as a decimal number, how many blocks were taken and not given back when standard
@@ -43,6 +44,7 @@ static const char *told_to;
 static const char *live_told_to;
 static struct nth allocations, reads, renames, closes;
 static int is_short;
+static unsigned long interruptions;
 static long live;
 
 static unsigned long number_in(const char *name) {
@@ -55,6 +57,7 @@ __attribute__((constructor)) static void begin(void) {
     live_told_to = getenv("LIVE_BLOCKS");
     is_short = getenv("SHORT_CALLS") != NULL;
     reads.refused = number_in("FAILED_READ");
+    interruptions = number_in("INTERRUPTED_READS");
     renames.refused = number_in("FAILED_RENAME");
     closes.refused = number_in("FAILED_CLOSE");
     allocations.refused = number_in("REFUSED_ALLOCATION");
@@ -138,7 +141,18 @@ static size_t shortened(int fd, size_t count, char letter) {
     return MOST_BYTES;
 }
 
+static int is_interrupted(void) {
+    if (interruptions == 0)
+        return 0;
+    interruptions--;
+    put_in(told_to, O_APPEND, "I", 1);
+    errno = EINTR;
+    return 1;
+}
+
 ssize_t read(int fd, void *into, size_t count) {
+    if (is_interrupted())
+        return -1;
     if (reads.refused != 0 && is_regular(fd) && is_refused(&reads, 'R', EIO))
         return -1;
     return __read(fd, into, shortened(fd, count, 'r'));

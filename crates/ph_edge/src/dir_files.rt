@@ -5,6 +5,7 @@ ghost use Rattle.ph_io.specs.Counts.{next_count};
 ghost use Rattle.ph_io.specs.Causes.{Rose};
 ghost use Rattle.ph_io.specs.Shelf.{Map, Draft, Stays, Begins, Grows, Gains, FetchCounts, Counts};
 
+use crate::interrupted::read_again;
 use arrayvec::ArrayString;
 use ph_io::{Failed, FetchFault, Files, NoMemory};
 use std::alloc::Global;
@@ -193,7 +194,7 @@ fn read_file<F: Read>(file: &mut F, most: u64, into: &mut Vec<u8>) -> Result<(),
     into.clear();
     let mut piece = [0u8; PIECE_BYTES];
     'pieces: loop {
-        let Ok(count) = file.read(&mut piece) else {
+        let Ok(count) = read_again(file, &mut piece) else {
             return Err(FetchFault::Failed);
         };
         if count == 0 {

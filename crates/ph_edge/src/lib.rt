@@ -6,6 +6,7 @@
 
 mod dir_files;
 mod gathered;
+mod interrupted;
 mod standard;
 
 pub use dir_files::DirFiles;

@@ -6,12 +6,14 @@ ghost use Rattle.ph_io.specs.Amounts.{WriteAdds};
 ghost use Rattle.ph_io.specs.Causes.{HasCause};
 ghost use Rattle.ph_io.specs.Counts.{next_count};
 
+use crate::interrupted::read_again;
 use ph_io::{Failed, Sink, Source};
 use std::io::{Read, Write};
 use std::marker::Model;
 
 /// A source over a reader. It knows what is left where the reader does, and each error of the
-/// reader is a fault, also one that a later read might not meet.
+/// reader is a fault, also one that a later read might not meet. A read that a signal interrupts is
+/// tried again, 64 times at most.
 ///
 /// What is left of the standard input is never known. That its bytes come in their order, each once, and that a read gives 0
 /// at its end alone, is trusted of std and of the operating system.
@@ -54,7 +56,7 @@ impl<R: Read> Source for StdSource<R> {
             (λ _. self.new.faults ≡ self.old.faults)
             (λ _. self.new.faults ≡ next_count self.old.faults) }
     {
-        match self.reader.read(into) {
+        match read_again(&mut self.reader, into) {
             Ok(count) => Ok(count),
             Err(_) => {
                 self.faults = self.faults.saturating_add(1);
