@@ -1,5 +1,5 @@
 -- The entries of a node by the entries of its record.
-use Rattle.std.proofs.Common.{◌≡◌, ℕ, zero, suc, ◌+◌, ◌<◌, ◌^◌, List, [], ◌∷◌, take, length, Bool, true, false}
+use Rattle.std.proofs.Common.{◌≡◌, ℕ, zero, suc, ◌+◌, ◌<◌, List, [], ◌∷◌, take, length, Bool, true, false}
 use Rattle.std.proofs.Common.{not, cond, refl, arith, ap, sym, ◌∙◌, get_or, subst, slice_index_or}
 use Rattle.std.specs.Prelude.{Some, slice_get, position}
 use Rattle.std.specs.List.{position_or_len}
@@ -7,7 +7,6 @@ use Rattle.std.proofs.lemmas.Option.{get_or_from_slice_get, slice_get-get_or}
 use Rattle.ph_specs.specs.Node.{Entry, value, node, PlainNode, listed, entries}
 use Rattle.ph_specs.specs.Record.{Read, read_point, read_child, read, filled, unpacked, entries_in, values_in, first_in, has_cube}
 use Rattle.ph_specs.specs.NodeSize.{children_in, points_in}
-use Rattle.ph_specs.specs.Lawful.{IsBody}
 use Rattle.ph_specs.specs.Layout.{read_address, IsRecord, entries_as}
 use Rattle.ph_linear.proofs.Entries.{no_read}
 use Rattle.ph_specs.proofs.lemmas.ReadColumns.{length-parts}

@@ -1,6 +1,5 @@
 -- Places of addresses among entries.
-use Rattle.std.proofs.Common.{◌≡◌, ℕ, suc, ◌+◌, ◌<◌, ◌≤◌, List, [], ◌∷◌, length, Bool, not, true, false, cond, refl, arith, lt-ltb, le-ltb}
-use Rattle.std.specs.Prelude.{None, Some, position}
+use Rattle.std.proofs.Common.{suc, ◌+◌, ◌≤◌, List, [], ◌∷◌, length, Bool, not, true, false, cond, arith}
 use Rattle.std.specs.List.{position_or_len}
 
 -- a place is among the entries or behind them

@@ -13,6 +13,7 @@ use Rattle.ph_bits.specs.declared.edits.Edit.{Edit}
 use Rattle.ph_node.specs.PointEdit.{IsNewPoint}
 use Rattle.ph_node.specs.RecordEdit.{IsRecordEdit, with_edit, words_with, record_with}
 use Rattle.ph_node.specs.Relaid.{differ, is_relaid}
+use Rattle.ph_node.specs.Rooms.{IsLayoutKept}
 use Rattle.ph_node.proofs.Lengths.{record-long}
 use Rattle.ph_node.proofs.Listings.{many}
 use Rattle.ph_node.proofs.RecordEdits.{count_with, few_with}
@@ -58,6 +59,12 @@ same-layout true true h = refl
 same-layout true false h = cc
 same-layout false true h = cc
 same-layout false false h = refl
+
+differ-same : (a b : Bool) → a ≡ b → differ a b ≡ false
+differ-same true true h = refl
+differ-same true false h = cc
+differ-same false true h = cc
+differ-same false false h = refl
 
 -- ---- a record with an edit
 
@@ -134,6 +141,16 @@ module _ (d : ℕ) (ws : List ℕ) (e : Edit) (h : IsRecordEdit d ws e) where
         ap (λ j. is_cube d (first_in ws).level j) many
         ∙ sym (ap (λ j. is_cube j (first_in ws).level (n + 1)) p) ∙ sym (ap (λ u. is_cube k (first_in u).level (n + 1)) q)
         ∙ same ∙ ap (λ j. has_cube j (first_in us)) p ∙ ap (λ u. has_cube d (first_in u)) q
+
+    pub changes_more : (k n : ℕ) (us : List ℕ) (b : Bool) → k ≡ d → us ≡ ws → n ≡ (first_in us).entries →
+        b ≡ differ (is_cube k (first_in us).level (n + 1)) (has_cube k (first_in us)) → b ≡ true → IsLayoutKept d ws e → ⊥
+    changes_more k n us b p q r x f kept =
+        let many : length (with_edit d ws e) ≡ n + 1 = omega (arith, count_more, r, ap (λ u. (first_in u).entries) q) in
+        let same : is_cube k (first_in us).level (n + 1) ≡ has_cube k (first_in us) =
+        ap (λ u. is_cube k (first_in u).level (n + 1)) q ∙ ap (λ j. is_cube j (first_in ws).level (n + 1)) p
+        ∙ sym (ap (λ j. is_cube d (first_in ws).level j) many)
+        ∙ kept ∙ sym (ap (λ u. has_cube d (first_in u)) q) ∙ sym (ap (λ j. has_cube j (first_in us)) p) in
+        let no : true ≡ false = sym f ∙ x ∙ differ-same _ _ same in cc
 
   -- an entry less
   module _ (less : e.less ≡ 1) (more : e.more ≡ 0) where

@@ -17,4 +17,5 @@ pub mod Pairs
 pub mod RecordEdit
 pub mod PointEdit
 pub mod Relaid
+pub mod Rooms
 pub mod Spots

@@ -1,8 +1,9 @@
 //! Words and children that go from one block to another.
 
-ghost use Rattle.std.specs.Prelude.{◌≡◌, ◌+◌, ◌^◌, ◌<◌, ◌≤◌, [], true, false, length, take, drop, if◌then◌else◌, OnOk};
+ghost use Rattle.std.specs.Prelude.{◌≡◌, ◌+◌, ◌*◌, ◌^◌, ◌<◌, ◌≤◌, [], true, false, length, take, drop, if◌then◌else◌, IsOk, OnOk};
 ghost use Rattle.std.specs.List.{remove};
 ghost use Rattle.ph_bits.specs.Kids.{IsWord};
+ghost use Rattle.ph_node.specs.Rooms.{places_of};
 
 use crate::{NoMemory, records};
 use ph_bits::{Block, Words};
@@ -29,6 +30,9 @@ pub(crate) fn make_room<T: Drop>(block: &mut Block<T>, long: usize) -> Result<()
     ensures room { OnOk result (long ≤ length block.new.words + block.new.spare) }
     ensures words { block.new.words ≡ block.old.words }
     ensures values { block.new.values ≡ block.old.values }
+    ensures lean { long ≤ length block.old.words + block.old.spare → IsOk result × (block.new ≡ block.old) }
+    ensures most { length block.old.words + block.old.spare < long
+        → OnOk result (4 * places_of block.new ≤ 5 * (long + length block.old.values)) }
 {
     if long <= block.len() + block.spare() {
         return Ok(());
@@ -45,6 +49,7 @@ fn widen<T: Drop>(block: &mut Block<T>, long: usize) -> Result<(), NoMemory>
     ensures room { OnOk result (long ≤ length block.new.words + block.new.spare) }
     ensures words { block.new.words ≡ block.old.words }
     ensures values { block.new.values ≡ block.old.values }
+    ensures most { OnOk result (4 * places_of block.new ≤ 5 * (long + length block.old.values)) }
 {
     let mut words = records::roomy(block.allocator(), long + block.count())?;
     words.extend(block.words());

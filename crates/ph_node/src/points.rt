@@ -1,11 +1,12 @@
 //! A point into the record of a block, or out of it.
 
-ghost use Rattle.std.specs.Prelude.{◌≡◌, ◌+◌, ◌^◌, ◌≤◌, true, false, Some, MatchOption, length, map, slice_get};
+ghost use Rattle.std.specs.Prelude.{◌≡◌, ◌+◌, ◌^◌, ◌≤◌, true, false, Some, MatchOption, length, map, slice_get, OnOk};
 ghost use Rattle.ph_specs.specs.RecordNames.{is_child, is_cube, first_in, has_cube, entries_in};
 ghost use Rattle.ph_bits.specs.Block.{room_of};
 ghost use Rattle.ph_node.specs.PointEdit.{IsNewPoint, IsPointPut, less_edit, more_edit};
 ghost use Rattle.ph_node.specs.RecordEdit.{IsRecordEdit, with_edit, words_with, record_with};
 ghost use Rattle.ph_node.specs.Relaid.{is_relaid};
+ghost use Rattle.ph_node.specs.Rooms.{IsFitting, IsRoomFor, places_of};
 
 use crate::moves::{make_room, move_into};
 use crate::node::SlotOf;
@@ -60,7 +61,8 @@ pub(crate) fn less_edit(spot: Spot) -> Edit
 #[inline(always)]
 pub(crate) fn add_point<P: Dims>(block: &mut Block<SlotOf<P>>, edit: &Edit) -> Result<(), NoMemory>
     requires { IsNewPoint P.D block.old.words (length block.old.values) edit.now }
-    ensures { IsPointPut P.D block.old edit.now result block.new }
+    ensures put { IsPointPut P.D block.old edit.now result block.new }
+    ensures room { IsRoomFor P.D block.old edit.now result block.new }
 {
     let dims = P::D;
     let words = block.words();
@@ -78,7 +80,8 @@ fn add_there<P: Dims>(block: &mut Block<SlotOf<P>>, edit: &Edit) -> Result<(), N
     requires new { IsNewPoint P.D block.old.words (length block.old.values) edit.now }
     requires layout { is_cube P.D (first_in block.old.words).level (length (with_edit P.D block.old.words edit.now))
         ≡ has_cube P.D (first_in block.old.words) }
-    ensures { IsPointPut P.D block.old edit.now result block.new }
+    ensures put { IsPointPut P.D block.old edit.now result block.new }
+    ensures room { IsRoomFor P.D block.old edit.now result block.new }
 {
     let dims = P::D;
     let long = length_with(block, edit);
@@ -91,7 +94,8 @@ fn add_there<P: Dims>(block: &mut Block<SlotOf<P>>, edit: &Edit) -> Result<(), N
 #[inline(never)]
 pub(crate) fn add_anew<P: Dims>(block: &mut Block<SlotOf<P>>, edit: &Edit) -> Result<(), NoMemory>
     requires { IsNewPoint P.D block.old.words (length block.old.values) edit.now }
-    ensures { IsPointPut P.D block.old edit.now result block.new }
+    ensures put { IsPointPut P.D block.old edit.now result block.new }
+    ensures most { OnOk result (IsFitting P.D block.old edit.now block.new) }
 {
     let room = length_with(block, edit) + block.count();
     let words = records::roomy(block.allocator(), room)?;
@@ -148,6 +152,7 @@ pub(crate) fn lay_out<P: Dims>(block: &mut Block<SlotOf<P>>, edit: &Edit, words:
     requires room { words_with P.D block.old.words edit.now + length block.old.values ≤ room_of words }
     ensures words { block.new.words ≡ record_with P.D block.old.words edit.now }
     ensures values { block.new.values ≡ block.old.values }
+    ensures places { places_of block.new ≡ room_of words }
 {
     let mut words = words;
     rewrites::lay_out::<P>(&mut words, block.words(), edit);

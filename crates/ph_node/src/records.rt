@@ -287,6 +287,7 @@ pub(crate) fn block<P: Dims>(
     requires children { children ≤ n }
     ensures none { IfOk result (λ w. w.words ≡ []) }
     ensures room { IfOk result (λ w. words_wanted P.D level n (n - children) + children ≤ room_of w) }
+    ensures most { IfOk result (λ w. 4 * room_of w ≤ 5 * (words_wanted P.D level n (n - children) + children)) }
 {
     roomy(alloc, size(P::D, level, n, n - children) + children)
 }
@@ -296,6 +297,7 @@ pub(crate) fn roomy(alloc: Global, room: usize) -> Result<Words, NoMemory>
     requires { room ≤ 2 ^ 20 + 2 ^ 16 }
     ensures none { IfOk result (λ w. w.words ≡ []) }
     ensures room { IfOk result (λ w. room ≤ room_of w) }
+    ensures most { IfOk result (λ w. 4 * room_of w ≤ 5 * room) }
 {
     Words::with_room(alloc, rounded(room))
 }
@@ -304,6 +306,7 @@ pub(crate) fn roomy(alloc: Global, room: usize) -> Result<Words, NoMemory>
 fn rounded(room: usize) -> usize
     requires { room ≤ 2 ^ 20 + 2 ^ 16 }
     ensures enough { room ≤ result }
+    ensures most { 4 * result ≤ 5 * room }
     ensures limit { result < 2 ^ 21 }
     ensures exact { room ≤ 32 → result ≡ room }
     ensures rounded { 32 < room → (k : ℕ) × (2 ^ (k + 2) ≤ room) × (room < 2 ^ (k + 3)) × (result % 2 ^ k ≡ 0) × (result < room + 2 ^ k) }

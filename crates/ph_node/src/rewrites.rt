@@ -43,6 +43,7 @@ pub(crate) fn insert_entry<T>(block: &mut Block<T>, dims: usize, long: usize, ed
     requires long { long ≡ words_with dims block.old.words edit.now }
     requires room { long ≤ length block.old.words + block.old.spare }
     ensures words { block.new.words ≡ record_with dims block.old.words edit.now }
+    ensures places { length block.new.words + block.new.spare ≡ length block.old.words + block.old.spare }
     ensures same { IsSameValues block.old block.new }
 {
     let len = block.len();
@@ -56,6 +57,7 @@ pub(crate) fn insert_entry<T>(block: &mut Block<T>, dims: usize, long: usize, ed
 fn push_zeros<T>(block: &mut Block<T>, more: usize)
     requires { more ≤ block.old.spare }
     ensures words { block.new.words ≡ block.old.words ++ replicate more 0 }
+    ensures spare { block.old.spare ≡ block.new.spare + more }
     ensures same { IsSameValues block.old block.new }
 {
     for _ in 0..more {

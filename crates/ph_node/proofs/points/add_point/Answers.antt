@@ -1,4 +1,4 @@
-use Rattle.ph_node.proofs.Resized.{few_more, stays_more}
+use Rattle.ph_node.proofs.Resized.{few_more, stays_more, changes_more}
 use Rattle.ph_node.proofs.points.add_point.Goals as goal
 
 pub changes_layout-requires-clause-entries : goal.changes_layout-requires-clause-entries
@@ -11,3 +11,15 @@ add_there-requires-clause-layout g c =
     stays_more _ _ _ c.requires.edit c.requires.less c.requires.more c.requires.point c.D-dims.result
     c.count-more.result c.words-words.result.now c.changes_layout.result c.D-dims.ensures c.words-words.ensures
     c.count-more.ensures c.changes_layout.ensures c.if-changes_layout.false
+
+pub returns-then-changes_layout-clause-room : goal.returns-then-changes_layout-clause-room
+returns-then-changes_layout-clause-room g c =
+    let changed = changes_more _ _ _ c.requires.edit c.requires.less c.requires.more c.requires.point c.D-dims.result
+    c.count-more.result c.words-words.result.now c.changes_layout.result c.D-dims.ensures c.words-words.ensures
+    c.count-more.ensures c.changes_layout.ensures c.if-changes_layout.true in
+    record {
+      lean = λ has. absurd (changed has.0);
+      same = λ has. absurd (changed has.0);
+      longer = λ _. c.add_anew.ensures.most;
+      changed = λ _. c.add_anew.ensures.most;
+    }

@@ -1,18 +1,39 @@
-use Rattle.std.proofs.Common.{ap, ◌∙◌}
+use Rattle.std.proofs.Common.{length, refl, arith, ap, ◌∙◌}
 use Rattle.std.proofs.lemmas.Result.{err_from_is_err_and}
 use Rattle.ph_node.specs.RecordEdit.{record_with}
+use Rattle.ph_node.specs.Rooms.{places_of}
 use Rattle.ph_node.proofs.points.add_there.Goals as goal
 
 pub returns-in_err-make_room : goal.returns-in_err-make_room
 returns-in_err-make_room g c =
     let is = err_from_is_err_and c.from_residual.result c.from_residual.ensures.1 in
-    rw is.1 (record { words = tt; kept = c.make_room.ensures.words; values = c.make_room.ensures.values })
+    rw is.1 (record {
+      put = record { words = tt; kept = c.make_room.ensures.words; values = c.make_room.ensures.values };
+      room = record {
+        lean = λ has. absurd (let no = (c.in_err-make_room.ensures.lean (omega (arith, has.1, c.length_with-long.ensures.value))).0 in cc);
+        same = λ has. absurd (let no = (c.in_err-make_room.ensures.lean (omega (arith, has.1, c.length_with-long.ensures.value))).0 in cc);
+        longer = λ _. tt;
+        changed = λ _. tt;
+      };
+    })
 
 pub returns : goal.returns
 returns g c = record {
-  words = c.insert_entry.ensures.words
-      ∙ ap (λ d. record_with d c.make_room.new.block.words c.args.edit.now) c.D-dims.ensures
-      ∙ ap (λ ws. record_with g.P.Dims.D ws c.args.edit.now) c.make_room.ensures.words;
-  kept = tt;
-  values = c.insert_entry.ensures.same.0 ∙ c.make_room.ensures.values;
+  put = record {
+    words = c.insert_entry.ensures.words
+        ∙ ap (λ d. record_with d c.make_room.new.block.words c.args.edit.now) c.D-dims.ensures
+        ∙ ap (λ ws. record_with g.P.Dims.D ws c.args.edit.now) c.make_room.ensures.words;
+    kept = tt;
+    values = c.insert_entry.ensures.same.0 ∙ c.make_room.ensures.values;
+  };
+  room = record {
+    lean = λ _. refl;
+    same = λ has.
+        let kept = (c.in_ok-make_room.ensures.lean (omega (arith, has.1, c.length_with-long.ensures.value))).1 in
+        omega (arith, c.insert_entry.ensures.places, ap length c.insert_entry.ensures.same.0, ap (λ b. places_of b) kept);
+    longer = λ more.
+        let fits = c.in_ok-make_room.ensures.most (omega (arith, more, c.length_with-long.ensures.value)) in
+        omega (arith, fits, c.insert_entry.ensures.places, ap length c.insert_entry.ensures.same.0, c.length_with-long.ensures.value);
+    changed = λ no. absurd (no c.requires.layout);
+  };
 }
