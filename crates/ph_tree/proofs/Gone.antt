@@ -25,7 +25,7 @@ use Rattle.ph_node.specs.declared.reads.NodeRefOf.{NodeRefOf}
 use Rattle.ph_node.specs.declared.spots.Spot.{Spot}
 use Rattle.ph_tree.specs.declared.step.StepOf.{StepOf}
 use Rattle.ph_tree.specs.declared.step.StepOf.TheVariants.{Absent, Same, Below, Other}
-use Rattle.ph_tree.specs.Step.{IsAt, IsApart, IsStep, IsOnly}
+use Rattle.ph_tree.specs.Step.{IsAt, IsApart, IsStep}
 use Rattle.ph_tree.proofs.Steps.{what_got, body_got, within, spot_at}
 use Rattle.ph_tree.proofs.Walks.{no_entry, not_same, least-address, IsStepAt, IsMissing, step_as, below_digits, way_below}
 
@@ -222,26 +222,20 @@ length-count end = refl
 length-count (point a body v rest) = ap suc (length-count rest)
 length-count (child a body c chain rest) = ap suc (length-count rest)
 
-module _ (w dims : ℕ) (p : List ℤ) (n s : PlainNode) (is : s ≡ n) (t : Option PlainNode) (root : Some n ≡ t) (ok : IsLawful w dims t) where
-  ok_root : IsLawful w dims (Some n)
-  ok_root = subst (IsLawful w dims) (sym root) ok
+module _ (w dims : ℕ) (p : List ℤ) (n : PlainNode) (t : Option PlainNode) (root : Some n ≡ t) (ok : IsLawful w dims t) where
+  pub root_lawful : IsLawful w dims (Some n)
+  root_lawful = subst (IsLawful w dims) (sym root) ok
 
-  pub root_some : 1 ≤ length (entries s)
-  root_some = subst (λ u. 1 ≤ length (entries u)) (sym is) (omega (arith, ok_root.1, length-count n.chain))
+  pub root_some : 1 ≤ length (entries n)
+  root_some = omega (arith, root_lawful.1, length-count n.chain)
 
-  module _ (h : IsOnly w p s None) where
-    pub root_left : 1 ≤ length (entries (del_node w n p))
-    root_left = subst (λ u. 1 ≤ length (entries (del_node w u p))) is h
+  pub root_found : find_node w n p ≡ find_tree w dims t p
+  root_found = ap (λ o. find_tree w dims o p) root
 
-    pub root_kept : (u : PlainNode) → u ≡ del_node w n p → Some u ≡ del_tree w dims t p
-    root_kept u e =
-        ap (λ (m : PlainNode). Some m) e ∙ sym (del_tree-some w dims n p root_left) ∙ ap (λ o. del_tree w dims o p) root
+  -- the root keeps an entry
+  pub root_kept : 1 ≤ length (entries (del_node w n p)) → Some (del_node w n p) ≡ del_tree w dims t p
+  root_kept left = sym (del_tree-some w dims n p left) ∙ ap (λ o. del_tree w dims o p) root
 
-  module _ (v : ℕ) (h : IsOnly w p s (Some v)) where
-    pub last_found : Some v ≡ find_tree w dims t p
-    last_found = sym (subst (λ u. find_node w u p ≡ Some v) is h.0) ∙ ap (λ o. find_tree w dims o p) root
-
-    pub last_gone : None ≡ del_tree w dims t p
-    last_gone =
-        let none : length (entries (del_node w n p)) ≡ 0 = subst (λ u. length (entries (del_node w u p)) ≡ 0) is h.1 in
-        sym (del_tree-none w dims n p (empty (entries (del_node w n p)) none)) ∙ ap (λ o. del_tree w dims o p) root
+  -- it loses the last one
+  pub root_gone : length (entries (del_node w n p)) ≡ 0 → None ≡ del_tree w dims t p
+  root_gone none = sym (del_tree-none w dims n p (empty (entries (del_node w n p)) none)) ∙ ap (λ o. del_tree w dims o p) root

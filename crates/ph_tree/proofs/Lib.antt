@@ -7,6 +7,7 @@ mod NodeRooms
 mod Offsets
 mod PutRooms
 mod PutCases
+mod PutWays
 mod RemovalCases
 mod RoomLimits
 mod Rooms

@@ -120,13 +120,13 @@ module _ (w dims : ℕ) (p : List ℤ) where
 
 module _ (w b a u : ℕ) (body : List ℕ) (rest : Entries) (p : List ℤ) where
   -- a point that is found behind an entry or below it
-  found-past : (v : ℕ) → find_entries w b (point a body v rest) p ≡ Some u → (a == address w p b) ≡ false → find_entries w b rest p ≡ Some u
+  pub found-past : (v : ℕ) → find_entries w b (point a body v rest) p ≡ Some u → (a == address w p b) ≡ false → find_entries w b rest p ≡ Some u
   found-past v h s = rw s at h
 
-  found-behind : (c : ℕ) (chain : Entries) → find_entries w b (child a body c chain rest) p ≡ Some u → (a == address w p b) ≡ false → find_entries w b rest p ≡ Some u
+  pub found-behind : (c : ℕ) (chain : Entries) → find_entries w b (child a body c chain rest) p ≡ Some u → (a == address w p b) ≡ false → find_entries w b rest p ≡ Some u
   found-behind c chain h s = rw s at h
 
-  found-below : (c : ℕ) (chain : Entries) → find_entries w b (child a body c chain rest) p ≡ Some u →
+  pub found-below : (c : ℕ) (chain : Entries) → find_entries w b (child a body c chain rest) p ≡ Some u →
       (a == address w p b) ≡ true → (same_digits body (digits_between w b c p) ≡ true) × (find_entries w c chain p ≡ Some u)
   found-below c chain h s =
       by_tests (a == address w p b) (same_digits body (digits_between w b c p)) s h

@@ -1,5 +1,5 @@
 -- A put in a tree and a removal from it, as they change the table of the tree.
-use Rattle.std.proofs.Common.{◌≡◌, ℕ, ◌+◌, ◌*◌, ◌^◌, ◌<◌, ◌≤◌, ltb, List, length, false, refl, ap, sym, ◌∙◌, subst}
+use Rattle.std.proofs.Common.{◌≡◌, ℕ, ◌+◌, ◌-◌, ◌*◌, ◌^◌, ◌<◌, ◌≤◌, ltb, List, length, false, refl, ap, sym, ◌∙◌, subst}
 use Rattle.std.specs.Prelude.{ℤ, Option, Result, Ok, Err, IfOk, IsErrOf, IsOk, IsSome, OnErr, OnOk}
 use Rattle.std.specs.declared.alloc.AllocError.{AllocError}
 use Rattle.ph_specs.specs.Table.{find}
@@ -56,8 +56,8 @@ module _ {dims w max len : ℕ} {t : Option PlainNode} {s : TreeTable} {p : List
   -- the same with what it visits
   pub put_told : {v before later : ℕ} {u : Option PlainNode} {r : Result Put PutError} → v < 2 ^ 64 →
       IsPut false (ltb len max) (find_tree key.width dims t key.point) t (put_tree key.width dims t key.point v) u before later r →
-      (first seen : ℕ) → seen ≤ first + 2 * opened_in key.width t key.point →
-      IsPutRow s.table s.max p s (with_row s p v) (tree_table dims w u max) before later r × ((seen ≤ first + 2 * length (path s.width dims s.table p))
+      (first seen : ℕ) → seen ≤ first + (2 * opened_in key.width t key.point - 1) →
+      IsPutRow s.table s.max p s (with_row s p v) (tree_table dims w u max) before later r × ((seen ≤ first + (2 * length (path s.width dims s.table p) - 1))
       × (seen ≤ first + 2 * s.width))
   put_told small put first seen few = (put_row small put, opened_twice k first seen few)
 

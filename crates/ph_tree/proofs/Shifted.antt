@@ -1,5 +1,5 @@
 -- A tree with a row moved: it is put at its new point before it goes from the old one.
-use Rattle.std.proofs.Common.{◌≡◌, ℕ, ◌≤◌, List, [], ◌∷◌, length, true, false, cond, refl, arith, ap, sym, ◌∙◌, subst, inl, inr}
+use Rattle.std.proofs.Common.{◌≡◌, ℕ, ◌+◌, ◌^◌, ◌≤◌, ltb-true, List, [], ◌∷◌, length, true, false, cond, refl, arith, ap, sym, ◌∙◌, subst, inl, inr}
 use Rattle.std.specs.Prelude.{ℤ, Option, Some, None, Ok, IsSome, is_some}
 use Rattle.std.proofs.lemmas.Bool.{and_parts}
 use Rattle.ph_specs.specs.Coordinate.{same_point}
@@ -7,7 +7,7 @@ use Rattle.ph_specs.specs.Table.{Row, find, put, del, move, is_rising, is_value,
 use Rattle.ph_specs.specs.ZOrder.{before}
 use Rattle.ph_specs.specs.Node.{PlainNode}
 use Rattle.ph_specs.specs.Lawful.{IsLawful, rows}
-use Rattle.ph_specs.specs.PutTree.{put_tree}
+use Rattle.ph_specs.specs.PutTree.{find_tree, put_tree}
 use Rattle.ph_specs.specs.DelTree.{del_tree}
 use Rattle.ph_specs.proofs.laws.Put.{either, same_from_test, test_from_same, find-put, list_all_before, put-front}
 use Rattle.ph_specs.proofs.laws.Edits.{length-put}
@@ -16,16 +16,15 @@ use Rattle.ph_specs.proofs.laws.PutTree.{lawful-put_tree, rows-put_tree}
 use Rattle.ph_specs.proofs.laws.Del.{found-value}
 use Rattle.ph_specs.proofs.laws.DelTree.{lawful-del_tree, rows-del_tree, move-none, move-steps, move-taken}
 use Rattle.ph_specs.proofs.laws.LawfulRows.{rows-table}
-use Rattle.ph_specs.proofs.laws.Paths.{path-few}
 use Rattle.ph_tree.specs.Opened.{opened_in}
 use Rattle.ph_tree.specs.Key.{Key}
 use Rattle.ph_tree.specs.Tree.{TreeTable, tree_table, IsTree}
 use Rattle.ph_tree.specs.Moves.{IsMoved, answer_for, move_answer, with_moved}
 use Rattle.ph_tree.specs.declared.moves.Moved.{Moved}
 use Rattle.ph_tree.specs.declared.moves.Moved.TheVariants.{Done, Absent, Taken}
-use Rattle.ph_tree.proofs.Trees.{tree_of, IsKeyed, at_width}
+use Rattle.ph_tree.proofs.Trees.{tree_of, IsKeyed, at_width, found_is}
 use Rattle.ph_tree.proofs.Fewer.{length-del}
-use Rattle.ph_tree.proofs.Ways.{path-opened}
+use Rattle.ph_tree.proofs.PutWays.{opened-put, opened-some}
 
 -- ---- rows
 
@@ -83,18 +82,23 @@ module _ {dims w max len : ℕ} {t : Option PlainNode} {s : TreeTable} {from to 
   lawful_between = lawful-put_tree w dims t to v k.tree.wide (at_width k) small k.tree.lawful
 
   -- the way to the old point, once the value is at the new one
-  pub opened_between : opened_in old.width (put_tree new.width dims t new.point v) old.point ≤ s.width
+  pub opened_between : opened_in old.width (put_tree new.width dims t new.point v) old.point ≤ 1 + opened_in old.width t old.point
   opened_between =
-      let e : opened_in old.width (put_tree new.width dims t new.point v) old.point ≡
+      let made : opened_in old.width (put_tree new.width dims t new.point v) old.point ≡
       opened_in w (put_tree w dims t to v) from =
       λ i. opened_in (f.width i) (put_tree (k.width i) dims t (k.point i) v) (f.point i) in
+      let was : opened_in old.width t old.point ≡ opened_in w t from = λ i. opened_in (f.width i) t (f.point i) in
+      let there : find_tree old.width dims t old.point ≡ find_tree w dims t from = λ i. find_tree (f.width i) dims t (f.point i) in
       omega (
         arith,
-        e,
-        path-opened w dims (put_tree w dims t to v) from f.tree.wide (at_width f) lawful_between,
-        path-few w dims (rows w dims (put_tree w dims t to v)) from f.tree.wide (rows-table w dims (put_tree w dims t to v) f.tree.wide lawful_between),
-        ap (λ u. u.width) f.seen,
+        made,
+        was,
+        opened-put w dims t from to v v (at_width k) (ltb-true v (2 ^ 64) small) k.tree.lawful (sym there ∙ found_is f ∙ found),
       )
+
+  -- a tree with a row has a root
+  pub opened_root : 1 ≤ opened_in new.width t new.point
+  opened_root = opened-some old.width dims v new.width t old.point new.point (found_is f ∙ found)
 
   module _ (other : same_point from to ≡ false) (free : find s.table to ≡ None) {u : Option PlainNode}
       (made : u ≡ del_tree old.width dims (put_tree new.width dims t new.point v) old.point) where

@@ -1,5 +1,5 @@
 -- Trees as tables.
-use Rattle.std.proofs.Common.{◌≡◌, ℕ, ◌+◌, ◌*◌, ◌^◌, ◌<◌, ◌≤◌, ltb, lt-ltb, le-ltb, ltb-false, List, [], length, true, false, refl, arith, ap, sym, ◌∙◌, subst, inl, inr}
+use Rattle.std.proofs.Common.{◌≡◌, ℕ, ◌+◌, ◌-◌, ◌*◌, ◌^◌, ◌<◌, ◌≤◌, ltb, lt-ltb, le-ltb, ltb-false, List, [], length, true, false, refl, arith, ap, sym, ◌∙◌, subst, inl, inr}
 use Rattle.std.specs.Prelude.{◌↔◌, ℤ, Option, Some, None}
 use Rattle.std.specs.Borrow.{Bor}
 use Rattle.std.specs.Option.{option_copied}
@@ -116,9 +116,9 @@ module _ {dims w max len : ℕ} {t : Option PlainNode} {s : TreeTable} {p : List
   opened_few =
       omega (arith, opened_is, path-few s.width dims s.table p (omega (arith, k.tree.wide, width_is k.seen k.tree)) (table_is k.seen k.tree))
 
-  -- what a call visits that opens these nodes twice at most
-  pub opened_twice : (before seen : ℕ) → seen ≤ before + 2 * opened_in key.width t key.point →
-      (seen ≤ before + 2 * length (path s.width dims s.table p)) × (seen ≤ before + 2 * s.width)
+  -- what a call visits that opens these nodes twice at most, and the root once
+  pub opened_twice : (before seen : ℕ) → seen ≤ before + (2 * opened_in key.width t key.point - 1) →
+      (seen ≤ before + (2 * length (path s.width dims s.table p) - 1)) × (seen ≤ before + 2 * s.width)
   opened_twice before seen h = (omega (arith, h, opened_is), omega (arith, h, opened_few))
 
   -- a put is refused exactly where the point is new and the tree is full

@@ -36,7 +36,7 @@ abbrev opened_by : ℕ → List ℤ → ℕ → List ℕ → What → ℕ
 opened_by w p b body (value v) = 0
 opened_by w p b body (node m) = 1 + cond (same_digits body (digits_between w b m.level p)) (opened_below w m.level m.chain p) 0
 
-opened-later : (w dims b least : ℕ) (e : Entries) (p : List ℤ) → IsLawfulFrom dims b least e → address w p b < least → opened_below w b e p ≡ 0
+pub opened-later : (w dims b least : ℕ) (e : Entries) (p : List ℤ) → IsLawfulFrom dims b least e → address w p b < least → opened_below w b e p ≡ 0
 opened-later w dims b least end p h l = refl
 opened-later w dims b least (point a body v rest) p h l = opened-later w dims b (a + 1) rest p h.3 (omega (arith, h.0, l))
 opened-later w dims b least (child a body c chain rest) p h l =

@@ -1,10 +1,10 @@
 -- The room that a removal wants, and that it may want behind a put, by the step that is taken at a node.
 use Rattle.std.proofs.Common.{length, ◌≡◌, ◌≢◌, ℕ, zero, suc, ◌+◌, ◌≤◌, List, cond, refl, arith, ap, sym, ◌∙◌, subst, ne_eqb, eq-eqb}
-use Rattle.std.specs.Prelude.{◌==◌, ℤ, Option, Some, None, slice_get, unwrap_or}
+use Rattle.std.specs.Prelude.{◌==◌, ℤ, Option, Some, slice_get, unwrap_or}
 use Rattle.ph_specs.specs.ZOrder.{address}
 use Rattle.ph_specs.specs.Node.{Entries, end, point, child, Entry, What, value, node, PlainNode, entries, listed}
 use Rattle.ph_specs.specs.Shape.{digits_below, digits_between}
-use Rattle.ph_specs.specs.Lawful.{IsLawful, IsLawfulFrom, count}
+use Rattle.ph_specs.specs.Lawful.{IsLawfulFrom, count}
 use Rattle.ph_specs.specs.PutTree.{same_digits}
 use Rattle.ph_specs.specs.DelTree.{del_entries, del_node}
 use Rattle.ph_specs.specs.EntryEdits.{point_entry}
@@ -15,9 +15,9 @@ use Rattle.ph_node.specs.declared.spots.Spot.{Spot}
 use Rattle.ph_tree.specs.declared.step.StepOf.{StepOf}
 use Rattle.ph_tree.specs.declared.step.StepOf.TheVariants.{Same, Below}
 use Rattle.ph_tree.specs.Rooms.{relaid_room, spare_room, wanted_below, spare_wanted, spare_wanted_in, left_below, spare_left}
-use Rattle.ph_tree.specs.Step.{IsOnly, IsStep}
+use Rattle.ph_tree.specs.Step.{IsStep}
 use Rattle.ph_tree.proofs.Walks.{no_entry, least-address, IsStepAt, step_as, below_digits}
-use Rattle.ph_tree.proofs.Gone.{length-count, root_left}
+use Rattle.ph_tree.proofs.Gone.{length-count}
 
 -- ---- a number by the entry at the point's address
 
@@ -127,10 +127,9 @@ not_zero : (n : ℕ) → 1 ≤ n → n ≢ 0
 not_zero n l e = omega (arith, l, e)
 
 -- one that keeps an entry wants what its node does
-pub root_wanted : (w dims : ℕ) (p : List ℤ) (n s : PlainNode) → s ≡ n → (t : Option PlainNode) → Some n ≡ t →
-    IsLawful w dims t → IsOnly w p s None → spare_wanted_in w dims t p ≡ spare_wanted w dims n p
-root_wanted w dims p n s is t root ok h =
-    let left : 1 ≤ length (entries (del_node w n p)) = root_left w dims p n s is t root ok h in
+pub root_wanted : (w dims : ℕ) (p : List ℤ) (n : PlainNode) (t : Option PlainNode) → Some n ≡ t →
+    1 ≤ length (entries (del_node w n p)) → spare_wanted_in w dims t p ≡ spare_wanted w dims n p
+root_wanted w dims p n t root left =
     let some : 1 ≤ count (del_entries w n.level n.chain p) = omega (arith, left, length-count (del_entries w n.level n.chain p)) in
     ap (λ u. spare_wanted_in w dims u p) (sym root)
     ∙ ap (λ z. cond z 0 (spare_wanted w dims n p)) (ne_eqb (count (del_entries w n.level n.chain p)) 0 (not_zero _ some))

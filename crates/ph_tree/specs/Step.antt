@@ -1,10 +1,8 @@
 -- What one node says of a point.
-use Rattle.std.specs.Prelude.{◌≡◌, ◌≤◌, ℕ, List, length, ℤ, position, slice_get, Option, None, Some}
+use Rattle.std.specs.Prelude.{◌≡◌, ℕ, List, ℤ, position, slice_get, None, Some}
 use Rattle.ph_specs.specs.ZOrder.{address}
 use Rattle.ph_specs.specs.Node.{Entry, What, value, node, PlainNode, entries}
 use Rattle.ph_specs.specs.Shape.{digits_below, digits_between}
-use Rattle.ph_specs.specs.PutTree.{find_node}
-use Rattle.ph_specs.specs.DelTree.{del_node}
 use Rattle.ph_specs.specs.EntryEdits.{has_address}
 use Rattle.ph_node.specs.OneEdit.{before}
 use Rattle.ph_node.specs.Places.{place_for}
@@ -52,8 +50,3 @@ pub record IsLeading (width : ℕ) (p : List ℤ) (n : PlainNode) (s : Spot) (ra
   pub child : entry.what ≡ node below
   pub body : entry.body ≡ digits_between width n.level below.level p
   pub place : rank ≡ before (entries n) s.place
-
--- the value of the point, where it is the only entry of a node. Else the node keeps an entry without the point
-abbrev pub IsOnly : ℕ → List ℤ → PlainNode → Option ℕ → Type 0
-IsOnly width p n None = 1 ≤ length (entries (del_node width n p))
-IsOnly width p n (Some v) = (find_node width n p ≡ Some v) × (length (entries (del_node width n p)) ≡ 0)

@@ -1,6 +1,6 @@
 //! Moving the value at one point to another.
 
-ghost use Rattle.std.specs.Prelude.{◌≡◌, ◌+◌, ◌*◌, ◌^◌, ◌<◌, ◌≤◌, Some};
+ghost use Rattle.std.specs.Prelude.{◌≡◌, ◌+◌, ◌-◌, ◌*◌, ◌^◌, ◌<◌, ◌≤◌, Some};
 ghost use Rattle.ph_specs.specs.TableNames.{IsPoint};
 ghost use Rattle.ph_specs.specs.TreeNames.{IsLawful, find_tree, put_tree, del_tree};
 ghost use Rattle.ph_tree.specs.Moves.{IsMoveOf};
@@ -56,10 +56,10 @@ pub(crate) fn move_in<P: Dims, V: Ledger, C: Ledger>(
         root.new changes.old changes.new result }
     ensures visits { visits.new
         ≤ visits.old
-        + 2 * opened_in to.now.width root.old to.now.point
-        + 2
+        + (2 * opened_in to.now.width root.old to.now.point - 1)
+        + (2
         * opened_in from.now.width (put_tree to.now.width P.D root.old to.now.point found.value)
-        from.now.point }
+        from.now.point - 1) }
     ensures later { visits.old ≤ visits.new }
 {
     let mut put = PutOf {

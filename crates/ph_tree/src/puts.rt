@@ -1,6 +1,6 @@
 //! Putting a value at a point, below a node and in a tree.
 
-ghost use Rattle.std.specs.Prelude.{◌≡◌, ◌+◌, ◌*◌, ◌^◌, ◌<◌, ◌≤◌, None, Some, position, IfOk};
+ghost use Rattle.std.specs.Prelude.{◌≡◌, ◌+◌, ◌-◌, ◌*◌, ◌^◌, ◌<◌, ◌≤◌, None, Some, position, IfOk};
 ghost use Rattle.ph_specs.specs.TableNames.{address};
 ghost use Rattle.ph_specs.specs.TreeNames.{entries, node_of, value, IsLawful, IsLawfulFrom, find_node, find_tree, put_node, put_tree, has_address, what_at, with_what};
 ghost use Rattle.ph_node.specs.Places.{place_for};
@@ -82,7 +82,7 @@ pub(crate) fn put_in<P: Dims, V: Ledger, C: Ledger>(
     ensures put { IsPut put.old.fresh put.old.room (find_tree put.old.key.now.width P.D root.old put.old.key.now.point)
         root.old (put_tree put.old.key.now.width P.D root.old put.old.key.now.point put.old.value) root.new
         changes.old changes.new result }
-    ensures visits { visits.new ≤ visits.old + 2 * opened_in put.old.key.now.width root.old put.old.key.now.point }
+    ensures visits { visits.new ≤ visits.old + (2 * opened_in put.old.key.now.width root.old put.old.key.now.point - 1) }
     ensures later { visits.old ≤ visits.new }
     ensures roomy { IfOk result (λ a. a ≡ Put.New → IsRoomy put.new.spare.block put.old.spare.room) }
 {

@@ -1,10 +1,9 @@
 //! Taking a point out, below a node and out of a tree.
 
-ghost use Rattle.std.specs.Prelude.{◌≡◌, ◌+◌, ◌*◌, ◌^◌, ◌<◌, ◌≤◌, None, Some, length, MatchOption, IfOk, OnOk, OnErr, IsOk, IsSome};
+ghost use Rattle.std.specs.Prelude.{◌≡◌, ◌+◌, ◌-◌, ◌*◌, ◌^◌, ◌<◌, ◌≤◌, None, Some, length, MatchOption, IfOk, OnOk, OnErr, IsOk, IsSome};
 ghost use Rattle.ph_specs.specs.TreeNames.{node_of, entries, what_at, without, IsLawful, IsLawfulFrom, find_node, find_tree, del_node, del_tree};
-ghost use Rattle.ph_bits.specs.Block.{room_of};
+ghost use Rattle.ph_bits.specs.Block.{empty, room_of};
 ghost use Rattle.ph_node.specs.Merge.{IsPair, entries_held, merge_node};
-ghost use Rattle.ph_node.specs.Shown.{shown};
 ghost use Rattle.ph_node.specs.Split.{IsValue, body_at};
 ghost use Rattle.ph_node.specs.Spots.{IsSpot};
 ghost use Rattle.ph_tree.specs.Opened.{opened_below, opened_in};
@@ -12,14 +11,14 @@ ghost use Rattle.ph_tree.specs.Placed.{value_gone};
 ghost use Rattle.ph_tree.specs.Removals.{IsRemoval};
 ghost use Rattle.ph_tree.specs.Rooms.{relaid_room, spare_wanted, spare_wanted_in};
 ghost use Rattle.ph_tree.specs.Spares.{HasRoom};
-ghost use Rattle.ph_tree.specs.Step.{IsLeading, IsOnly};
+ghost use Rattle.ph_tree.specs.Step.{IsLeading};
 
 use crate::key::KeyOf;
 use crate::records::relaid_room;
 use crate::step::{StepOf, step};
 use ph_bits::Words;
 use ph_coord::Dims;
-use ph_node::{NoMemory, NodeOf, NodeRefOf, Spot, WhatOf};
+use ph_node::{NoMemory, NodeOf, Spot};
 use ph_steps::Steps;
 use std::alloc::Global;
 use std::sync::ledger::Ledger;
@@ -40,6 +39,9 @@ impl Removal {
     fn block(&mut self, room: usize) -> Result<Option<Words>, NoMemory>
         requires limit { room < 2 ^ 21 }
         ensures room { IfOk result (λ b. MatchOption b (room ≡ 0) (λ words. room ≤ room_of words)) }
+        ensures none { room ≡ 0 → IfOk result (λ b. b ≡ None) × (self.new ≡ self.old) }
+        ensures taken { 0 < room → self.old.there ≡ None → IfOk result (λ b. b ≡ Some (empty self.old.alloc room)) }
+        ensures handed { 0 < room → IsSome self.old.there → IfOk result (λ b. b ≡ self.old.there) }
         ensures there { HasRoom self.old room → IsOk result }
     {
         if room == 0 {
@@ -83,8 +85,8 @@ impl Removed {
     }
 }
 
-// Takes a point out of a tree. The root goes with the last row. Memory is taken where the point is found and its node's record
-// changes its layout, before the first change.
+// Takes a point out of a tree. The root is visited once, and goes with the last row. Memory is taken where the point is found and its
+// node's record changes its layout, before the first change.
 pub(crate) fn del_in<P: Dims, V: Ledger, C: Ledger>(
     root: &mut Option<NodeOf<P>>,
     key: &KeyOf<P>,
@@ -97,7 +99,7 @@ pub(crate) fn del_in<P: Dims, V: Ledger, C: Ledger>(
         root.old (del_tree key.now.width P.D root.old key.now.point) root.new
         changes.old changes.new result }
     ensures roomy { HasRoom removal.old (spare_wanted_in key.now.width P.D root.old key.now.point) → IsOk result }
-    ensures visits { visits.new ≤ visits.old + 2 * opened_in key.now.width root.old key.now.point }
+    ensures visits { visits.new ≤ visits.old + (2 * opened_in key.now.width root.old key.now.point - 1) }
     ensures later { visits.old ≤ visits.new }
 {
     // A use that makes the range of the width known.
@@ -105,48 +107,27 @@ pub(crate) fn del_in<P: Dims, V: Ledger, C: Ledger>(
     let Some(mut node) = root.take() else {
         return Ok(None);
     };
-    match only_point(node.visit(visits), key) {
-        Some(value) => {
-            node.dissolve(changes);
-            Ok(Some(value))
+    let top = node.visit(visits);
+    match step(top, key, visits) {
+        StepOf::Absent(_) | StepOf::Other(_) => {
+            *root = Some(node);
+            Ok(None)
         }
-        None => {
-            let found = del_at(&mut node, key, removal, visits, changes);
+        StepOf::Same(spot, value) => {
+            if top.len() == 1 {
+                node.dissolve(changes);
+                return Ok(Some(value));
+            }
+            let room = relaid_room(top);
+            let found = drop_point(&mut node, spot, value, room, removal, changes);
             *root = Some(node);
             found.outcome(removal.value)
         }
-    }
-}
-
-// Takes a point out of a node or from below it, where the node keeps an entry.
-pub(crate) fn del_at<P: Dims, V: Ledger, C: Ledger>(
-    cur: &mut NodeOf<P>,
-    key: &KeyOf<P>,
-    removal: &mut Removal,
-    visits: &mut Steps<V>,
-    changes: &mut Steps<C>,
-) -> Removed
-    requires lawful { IsLawfulFrom P.D cur.old.level 0 cur.old.chain }
-    requires level { cur.old.level < key.now.width }
-    requires left { 1 ≤ length (entries (del_node key.now.width cur.old key.now.point)) }
-    ensures del { IsRemoval (find_node key.now.width cur.old key.now.point)
-        cur.old (del_node key.now.width cur.old key.now.point) cur.new
-        changes.old changes.new (value_gone result removal.new.value) }
-    ensures roomy { HasRoom removal.old (spare_wanted key.now.width P.D cur.old key.now.point) → IsOk (value_gone result removal.new.value) }
-    ensures visits { visits.new ≤ visits.old + 2 * opened_below key.now.width cur.old.level cur.old.chain key.now.point + 1 }
-    ensures later { visits.old ≤ visits.new }
-{
-    let node = cur.visit(visits);
-    match step(node, key, visits) {
-        StepOf::Absent(_) => Removed::Nothing,
-        StepOf::Same(spot, value) => {
-            let room = relaid_room(node);
-            drop_point(cur, spot, value, room, removal, changes)
-        }
         StepOf::Below(spot, rank, _) => {
-            del_below(cur, spot, rank, key, removal, visits, changes)
+            let found = del_below(&mut node, spot, rank, key, removal, visits, changes);
+            *root = Some(node);
+            found.outcome(removal.value)
         }
-        StepOf::Other(_) => Removed::Nothing,
     }
 }
 
@@ -240,30 +221,4 @@ fn drop_child<P: Dims, C: Ledger>(
 {
     cur.merge(spot, j, changes);
     removal.value = value;
-}
-
-// The value of the point, where it is the only entry of a visited node.
-#[inline(always)]
-fn only_point<P: Dims>(node: NodeRefOf<'_, NodeOf<P>>, key: &KeyOf<P>) -> Option<u64>
-    requires lawful { IsLawfulFrom P.D (shown node).level 0 (shown node).chain }
-    requires level { (shown node).level < key.now.width }
-    requires some { 1 ≤ length (entries (shown node)) }
-    ensures { IsOnly key.now.width key.now.point (shown node.entry) result }
-{
-    if node.len() != 1 {
-        return None;
-    }
-    let Ok(spot) = node.search(key.address(node.level())) else {
-        return None;
-    };
-    match node.what(spot) {
-        WhatOf::Value(value) => {
-            if node.is_below(spot, key.offsets()) {
-                Some(value)
-            } else {
-                None
-            }
-        }
-        WhatOf::Child(_) => None,
-    }
 }

@@ -1,8 +1,9 @@
 //! A block that an edit takes before its first change, for a change behind it.
 
-ghost use Rattle.std.specs.Prelude.{◌≡◌, ◌+◌, ◌^◌, ◌<◌, ◌≤◌, None, IsTrue};
+ghost use Rattle.std.specs.Prelude.{◌≡◌, ◌+◌, ◌^◌, ◌<◌, ◌≤◌, None, Some, IsTrue};
 ghost use Rattle.ph_specs.specs.TreeNames.{IsLawfulFrom, count};
 ghost use Rattle.ph_specs.specs.RecordNames.{is_cube};
+ghost use Rattle.ph_bits.specs.Block.{empty};
 ghost use Rattle.ph_node.specs.Shown.{shown};
 ghost use Rattle.ph_tree.specs.Rooms.{is_relaid_near, spare_room, more_words};
 ghost use Rattle.ph_tree.specs.Spare.{IsRoomy};
@@ -43,6 +44,7 @@ impl Spare {
     pub(crate) fn take(&mut self) -> bool
         requires limit { self.old.room < 2 ^ 21 }
         ensures room { IsTrue result → IsRoomy self.new.block self.old.room }
+        ensures taken { IsTrue result → 0 < self.old.room → self.new.block ≡ Some (empty self.old.alloc self.old.room) }
         ensures idle { self.old.room ≡ 0 → self.new ≡ self.old }
         ensures lean { self.old.room ≡ 0 → IsTrue result }
     {

@@ -198,7 +198,7 @@ impl<const D: usize> PhTree<D> {
     ) -> Result<Put, PutError>
         requires { IsPoint self.old.width D p }
         ensures done { IsPutRow self.old.table self.old.max p.entry self.old (with_row self.old p.entry v) self.new changes.old changes.new result }
-        ensures visits { visits.new ≤ visits.old + 2 * length (path self.old.width D self.old.table p.entry) }
+        ensures visits { visits.new ≤ visits.old + (2 * length (path self.old.width D self.old.table p.entry) - 1) }
         ensures limit { visits.new ≤ visits.old + 2 * self.old.width }
         ensures later { visits.old ≤ visits.new }
     {
@@ -237,7 +237,7 @@ impl<const D: usize> PhTree<D> {
     ) -> Result<Option<u64>, NoMemory>
         requires { IsPoint self.old.width D p.now }
         ensures done { IsRemovedRow self.old.width D self.old.table p.now self.old (without_row self.old p.now) self.new changes.old changes.new result }
-        ensures visits { visits.new ≤ visits.old + 2 * length (path self.old.width D self.old.table p.now) }
+        ensures visits { visits.new ≤ visits.old + (2 * length (path self.old.width D self.old.table p.now) - 1) }
         ensures limit { visits.new ≤ visits.old + 2 * self.old.width }
         ensures later { visits.old ≤ visits.new }
     {
@@ -271,7 +271,11 @@ impl<const D: usize> PhTree<D> {
         requires from { IsPoint self.old.width D from.now }
         requires to { IsPoint self.old.width D to.now }
         ensures done { IsMoved self.old.table from.now to.now self.old (with_moved self.old from.now to.now) self.new changes.old changes.new result }
-        ensures limit { visits.new ≤ visits.old + 6 * self.old.width }
+        ensures visits { visits.new
+            ≤ visits.old
+            + (3 * length (path self.old.width D self.old.table from.now)
+            + 2 * length (path self.old.width D self.old.table to.now)) }
+        ensures limit { visits.new ≤ visits.old + 5 * self.old.width }
         ensures later { visits.old ≤ visits.new }
     {
         let old = KeyOf::new(self.width, from.as_slice());

@@ -1,14 +1,15 @@
-use Rattle.std.proofs.Common.{◌≡◌, ◌≤◌, ◌+◌, ◌*◌, ◌∙◌, sym, ap, arith, subst, refl, inl, inr}
+use Rattle.std.proofs.Common.{◌≡◌, ◌≤◌, ◌+◌, ◌*◌, ◌∙◌, length, sym, ap, arith, subst, refl, inl, inr}
 use Rattle.std.specs.Prelude.{IfOk, OnOk, Some, None, IsSome}
 use Rattle.ph_specs.specs.PutTree.{find_tree}
 use Rattle.ph_specs.specs.Table.{find}
+use Rattle.ph_specs.specs.WorkSets.{path}
 use Rattle.ph_specs.proofs.laws.Put.{same_from_test}
 use Rattle.ph_tree.specs.Moves.{move_answer}
 use Rattle.ph_tree.specs.Tree.{IsTree, tree_table}
 use Rattle.ph_tree.specs.declared.moves.Moved.TheVariants.{Done}
 use Rattle.ph_tree.proofs.Walks.{answered_as, on_ok, on_err, always_ok, either_way, none_or_some, not_none, some_none}
-use Rattle.ph_tree.proofs.Trees.{IsKeyed, key_made, found_is, opened_few}
-use Rattle.ph_tree.proofs.Shifted.{IsMove, opened_between, moved, taken_moved, stays_there, none_there, answer_absent, answer_same, answer_taken, answer_done, unmoved}
+use Rattle.ph_tree.proofs.Trees.{IsKeyed, key_made, found_is, opened_is, opened_few}
+use Rattle.ph_tree.proofs.Shifted.{IsMove, opened_between, opened_root, moved, taken_moved, stays_there, none_there, answer_absent, answer_same, answer_taken, answer_done, unmoved}
 use Rattle.ph_tree.proofs.tree.PhTree.relocate.Given.{Over}
 use Rattle.ph_tree.proofs.tree.PhTree.relocate.Goals.{After-find_spare, After-move_in}
 use Rattle.ph_tree.proofs.tree.PhTree.relocate.Goals as goal
@@ -34,13 +35,17 @@ new_moved g c = key_made c.self.view_is c.self.invariant c.requires.to c.new-new
 there : (g : Over) (c : After-move_in g) → find c.args.self.now.table c.args.from.now ≡ Some c.in-Some.found.value
 there g c = sym (found_is (old_moved g c)) ∙ c.in-Some.ensures.found
 
--- a look-up, a put and a removal visit no more than five ways
-few_visits : (g : Over) (c : After-move_in g) → c.move_in.new.visits ≤ c.args.visits.now + 6 * c.args.self.now.width
+-- a look-up visits the one way, a put the other twice, and a removal the one twice, on which the put may have put a node; edits visit the root once
+few_visits : (g : Over) (c : After-move_in g) → c.move_in.new.visits
+    ≤ c.args.visits.now
+    + (3 * length (path c.args.self.now.width g.row.D c.args.self.now.table c.args.from.now)
+    + 2 * length (path c.args.self.now.width g.row.D c.args.self.now.table c.args.to.now))
 few_visits g c =
-    let few = opened_few (old_moved g c) in
-    let few_new = opened_few (new_moved g c) in
-    let few_more = opened_between (old_moved g c) (new_moved g c) (there g c) in
-    omega (arith, few, few_new, few_more, c.find_spare.ensures.cost, c.move_in.ensures.visits)
+    let f = old_moved g c in
+    let k = new_moved g c in
+    let more = opened_between f k (there g c) in
+    let some = opened_root f k (there g c) in
+    omega (arith, opened_is f, opened_is k, more, some, c.find_spare.ensures.cost, c.move_in.ensures.visits)
 
 -- what the tree finds at the new point is what the table has there
 none_found : (g : Over) (c : After-move_in g) → find c.args.self.now.table c.args.to.now ≡ None →
@@ -71,6 +76,10 @@ returns-in_default-clause-done g c =
     unmoved (none_there c.args.self.now c.args.from.now c.args.to.now none) (answer_absent c.args.self.now.table c.args.from.now c.args.to.now none)
     (λ some _. not_none (find c.args.self.now.table c.args.from.now) none some)
 
+pub returns-in_default-clause-visits : goal.returns-in_default-clause-visits
+returns-in_default-clause-visits g c =
+    omega (arith, opened_is (old_keyed g (goal.at.returns-in_default-clause-visits g c).After-find_spare), c.find_spare.ensures.cost)
+
 pub returns-in_default-clause-limit : goal.returns-in_default-clause-limit
 returns-in_default-clause-limit g c =
     omega (arith, opened_few (old_keyed g (goal.at.returns-in_default-clause-limit g c).After-find_spare), c.find_spare.ensures.cost)
@@ -86,6 +95,10 @@ returns-then-eq-clause-done g c =
     unmoved (stays_there c.args.self.now c.args.from.now c.args.to.now c.in-Some.found.value (sym there) test)
     (answer_same c.args.self.now.table c.args.from.now c.args.to.now c.in-Some.found.value there test)
     (λ some none. not_none (find c.args.self.now.table c.args.from.now) (ap (find c.args.self.now.table) same ∙ none) some)
+
+pub returns-then-eq-clause-visits : goal.returns-then-eq-clause-visits
+returns-then-eq-clause-visits g c =
+    omega (arith, opened_is (old_keyed g (goal.at.returns-then-eq-clause-visits g c).After-find_spare), c.find_spare.ensures.cost)
 
 pub returns-then-eq-clause-limit : goal.returns-then-eq-clause-limit
 returns-then-eq-clause-limit g c =
@@ -131,5 +144,12 @@ returns-clause-done g c =
       made = λ _ none. done.made (none_found g at none);
     }
 
+pub returns-clause-visits : goal.returns-clause-visits
+returns-clause-visits g c = few_visits g (goal.at.returns-clause-visits g c).After-move_in
+
 pub returns-clause-limit : goal.returns-clause-limit
-returns-clause-limit g c = omega (arith, few_visits g (goal.at.returns-clause-limit g c).After-move_in)
+returns-clause-limit g c =
+    let at = (goal.at.returns-clause-limit g c).After-move_in in
+    let f = old_moved g at in
+    let k = new_moved g at in
+    omega (arith, few_visits g at, opened_is f, opened_is k, opened_few f, opened_few k)
