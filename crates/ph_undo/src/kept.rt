@@ -1,6 +1,6 @@
 //! A tree with its last edits.
 
-ghost use Rattle.std.specs.Prelude.{◌≡◌, ◌+◌, ◌*◌, ◌≤◌, [], length, OnOk, OnErr, IsOk};
+ghost use Rattle.std.specs.Prelude.{◌≡◌, ◌+◌, ◌-◌, ◌*◌, ◌≤◌, [], length, OnOk, OnErr, IsOk};
 ghost use Rattle.ph_specs.specs.TableNames.{IsPoint, without_past, keep, put_kept, del_kept, move_kept};
 ghost use Rattle.ph_specs.specs.WorkNames.{path};
 ghost use Rattle.ph_tree.specs.Puts.{IsPutRow};
@@ -123,7 +123,7 @@ impl<const D: usize> Kept<D> {
     ) -> Result<Put, PutError>
         requires { IsPoint self.old.width D p }
         ensures done { IsPutRow self.old.table self.old.max p.entry self.old (put_kept self.old p.entry v) self.new changes.old changes.new result }
-        ensures visits { visits.new ≤ visits.old + 2 * length (path self.old.width D self.old.table p.entry) }
+        ensures visits { visits.new ≤ visits.old + (2 * length (path self.old.width D self.old.table p.entry) - 1) }
         ensures limit { visits.new ≤ visits.old + 2 * self.old.width }
         ensures later { visits.old ≤ visits.new }
     {
@@ -146,7 +146,7 @@ impl<const D: usize> Kept<D> {
     ) -> Result<Option<u64>, NoMemory>
         requires { IsPoint self.old.width D p.now }
         ensures done { IsRemovedRow self.old.width D self.old.table p.now self.old (del_kept self.old p.now) self.new changes.old changes.new result }
-        ensures visits { visits.new ≤ visits.old + 2 * length (path self.old.width D self.old.table p.now) }
+        ensures visits { visits.new ≤ visits.old + (2 * length (path self.old.width D self.old.table p.now) - 1) }
         ensures limit { visits.new ≤ visits.old + 2 * self.old.width }
         ensures later { visits.old ≤ visits.new }
     {
@@ -173,7 +173,11 @@ impl<const D: usize> Kept<D> {
         requires from { IsPoint self.old.width D from.now }
         requires to { IsPoint self.old.width D to.now }
         ensures done { IsMoved self.old.table from.now to.now self.old (move_kept self.old from.now to.now) self.new changes.old changes.new result }
-        ensures limit { visits.new ≤ visits.old + 6 * self.old.width }
+        ensures visits { visits.new
+            ≤ visits.old
+            + (3 * length (path self.old.width D self.old.table from.now)
+            + 2 * length (path self.old.width D self.old.table to.now)) }
+        ensures limit { visits.new ≤ visits.old + 5 * self.old.width }
         ensures later { visits.old ≤ visits.new }
     {
         // Uses that make known that the tree is a table, with at most so many rows.
