@@ -1,4 +1,4 @@
--- The steps of a descent of two trees: what is listed and which nodes may be opened.
+-- The steps of a descent of two trees: what is listed and which nodes are opened.
 use Rattle.std.proofs.Common.{◌≡◌, ℕ, zero, suc, ◌+◌, ◌-◌, ◌<◌, ◌≤◌, Bool, List, [], ◌∷◌, ◌++◌, length, take, drop, inl, inr, refl, sym, ◌∙◌, ap, subst, arith}
 use Rattle.std.specs.List.{AllByRecursion as Each}
 use Rattle.std.proofs.lemmas.List.{drop-take}
@@ -19,7 +19,8 @@ use Rattle.ph_set.specs.Parts.{IsPart, openings, part_rows, part_nodes, rows_in,
 use Rattle.ph_specs.proofs.laws.Combined.{AreParted}
 use Rattle.ph_set.proofs.Parting.{IsRowAt, entry_nodes, part-some, rows-first, rows-append, nodes-first, nodes-append}
 use Rattle.ph_set.proofs.Parting.{behind-rows, rows-below, rows-from, entry-holds, parted-by, behind-part}
-use Rattle.ph_set.proofs.Sights.{seen-append, seen-first, seen-front, seen-back}
+use Rattle.ph_set.proofs.Missed.{entry-missed, entries-missed}
+use Rattle.ph_set.proofs.Sights.{AreMissed, seen-append, seen-first, seen-front, seen-back, seen-none}
 use Rattle.ph_set.proofs.Walking.{entry_at, entry-there, whole-rows, whole-nodes, IsNext, rising-behind}
 use Rattle.ph_set.proofs.Walking.{rising-front, IsCut, cut-entry, cut-between, stretch-step, stretch-front, stretch-rest}
 
@@ -40,12 +41,10 @@ Each-drop P (suc k) (x ∷ xs) h = Each-drop P k xs h.1
 pub Each-stretch : (P : Entry → Type 0) (from to : ℕ) (es : List Entry) → Each P es → Each P (stretch from to es)
 Each-stretch P from to es h = Each-take P (to - from) (drop from es) (Each-drop P from es h)
 
--- more rows, around some
-pub seen-around : (w : ℕ) (all : Bool) (us rs vs : List Row) (xs : List Placed) → seen_nodes w all rs xs ≤ seen_nodes w all (us ++ (rs ++ vs)) xs
-seen-around w all us rs vs xs =
-    let a : seen_nodes w all rs xs ≤ seen_nodes w all (rs ++ vs) xs = seen-front w all rs vs xs in
-    let b : seen_nodes w all (rs ++ vs) xs ≤ seen_nodes w all (us ++ (rs ++ vs)) xs = seen-back w all us (rs ++ vs) xs in
-    omega (arith, a, b)
+-- rows that lie in none of some nodes, around others
+seen-within : (w : ℕ) (all : Bool) (us rs vs : List Row) (xs : List Placed) → AreMissed w xs us → AreMissed w xs vs →
+    seen_nodes w all (us ++ (rs ++ vs)) xs ≡ seen_nodes w all rs xs
+seen-within w all us rs vs xs h k = seen-back w all us (rs ++ vs) xs h ∙ seen-front w all rs vs xs k
 
 -- ---- one node, and rows at one address in it
 
@@ -88,7 +87,53 @@ module _ (w d : ℕ) (ds : List ℕ) (n : PlainNode) (h : IsPart w d ds (node n)
   from a p k m =
       Each-each (rows_in w n.level ds p) (λ r q. (q.under, q.address)) (rows-from w d n.level ds h.held.0 above h.small a p k m)
 
+  -- the addresses of these
+  pub below-at : (a : ℕ) (p : List Entry) → Each (IsLawfulEntry d n.level) p → Each (λ f. f.addr < a) p →
+      Each (λ r. row_address w n.level r < a) (rows_in w n.level ds p)
+  below-at a p k m = Each-each (rows_in w n.level ds p) (λ r q. q.1) (below a p k m)
+
+  pub from-at : (a : ℕ) (p : List Entry) → Each (IsLawfulEntry d n.level) p → Each (λ f. a ≤ f.addr) p →
+      Each (λ r. a ≤ row_address w n.level r) (rows_in w n.level ds p)
+  from-at a p k m = Each-each (rows_in w n.level ds p) (λ r q. q.1) (from a p k m)
+
+  -- rows from an address on, beside entries below it, and the other way round
+  pub low-missed : (a : ℕ) (p : List Entry) → Each (IsLawfulEntry d n.level) p → Each (λ f. f.addr < a) p → (rows : List Row) →
+      Each (λ r. a ≤ row_address w n.level r) rows → AreMissed w (nodes_in w n.level ds p) rows
+  low-missed a p k m rows at =
+      entries-missed w d n.level ds h.held.0 above h.small (λ b. b < a) (λ b. a ≤ b) (λ b f g. omega (arith, f, g)) p k m rows at
+
+  pub high-missed : (a : ℕ) (p : List Entry) → Each (IsLawfulEntry d n.level) p → Each (λ f. a ≤ f.addr) p → (rows : List Row) →
+      Each (λ r. row_address w n.level r < a) rows → AreMissed w (nodes_in w n.level ds p) rows
+  high-missed a p k m rows at =
+      entries-missed w d n.level ds h.held.0 above h.small (λ b. a ≤ b) (λ b. b < a) (λ b f g. omega (arith, f, g)) p k m rows at
+
+  pub one-missed : (e : Entry) → IsLawfulEntry d n.level e → (rows : List Row) → Each (λ r. row_address w n.level r ≡ e.addr → ⊥) rows →
+      AreMissed w (entry_nodes w n.level (behind n.level ds e) e.what) rows
+  one-missed e k rows at = entry-missed w d n.level ds h.held.0 above h.small e k rows at
+
   module _ (a : ℕ) (ys : List Row) (at : Each (IsRowAt w n.level a ds) ys) where
+    -- they lie in none of the nodes of entries in front of the address or behind it
+    front-missed : (p : List Entry) → Each (IsLawfulEntry d n.level) p → Each (λ f. f.addr < a) p → AreMissed w (nodes_in w n.level ds p) ys
+    front-missed p k m =
+        low-missed a p k m ys (Each-each ys (λ r q. let e : row_address w n.level r ≡ a = q.address in omega (arith, e)) at)
+
+    back-missed : (p : List Entry) → Each (IsLawfulEntry d n.level) p → Each (λ f. a + 1 ≤ f.addr) p → AreMissed w (nodes_in w n.level ds p) ys
+    back-missed p k m =
+        high-missed (a + 1) p k m ys (Each-each ys (λ r q. let e : row_address w n.level r ≡ a = q.address in omega (arith, e)) at)
+
+    -- the rows of such entries have another address
+    front-other : (p : List Entry) → Each (IsLawfulEntry d n.level) p → Each (λ f. f.addr < a) p →
+        Each (λ r. row_address w n.level r ≡ a → ⊥) (rows_in w n.level ds p)
+    front-other p k m =
+        Each-each (rows_in w n.level ds p) (λ r q. λ e. let v : row_address w n.level r < a = q in let u : row_address w n.level r ≡ a = e in omega (arith, u, v))
+        (below-at a p k m)
+
+    back-other : (p : List Entry) → Each (IsLawfulEntry d n.level) p → Each (λ f. a + 1 ≤ f.addr) p →
+        Each (λ r. row_address w n.level r ≡ a → ⊥) (rows_in w n.level ds p)
+    back-other p k m =
+        Each-each (rows_in w n.level ds p) (λ r q. λ e. let v : a + 1 ≤ row_address w n.level r = q in let u : row_address w n.level r ≡ a = e in omega (arith, u, v))
+        (from-at (a + 1) p k m)
+
     pub front-parted : (p : List Entry) → Each (IsLawfulEntry d n.level) p → Each (λ f. f.addr < a) p → AreParted w (rows_in w n.level ds p) ys
     front-parted p k m =
         parted-by w n.level a ds (rows_in w n.level ds p) ys h.held.0 (below a p k m)
@@ -131,16 +176,22 @@ module _ (w d : ℕ) (ds : List ℕ) (n : PlainNode) (h : IsPart w d ds (node n)
           sym (whole-nodes w ds n (length es) refl) ∙ ap (nodes_in w n.level ds) (stretch-rest 0 (length es) es (omega arith) ∙ cut-entry i es l)
           ∙ nodes-append w n.level ds front (here ∷ back) ∙ ap (λ t. nodes_in w n.level ds front ++ t) (nodes-first w n.level ds here back)
 
+      front-lawful : Each (IsLawfulEntry d n.level) front
+      front-lawful = Each-stretch (IsLawfulEntry d n.level) 0 i es lawful
+
+      back-lawful : Each (IsLawfulEntry d n.level) back
+      back-lawful = Each-stretch (IsLawfulEntry d n.level) (i + 1) (length es) es lawful
+
       pub over-front : AreParted w (rows_in w n.level ds front) ys
-      over-front = front-parted front (Each-stretch (IsLawfulEntry d n.level) 0 i es lawful) front-low
+      over-front = front-parted front front-lawful front-low
 
       pub over-back : AreParted w ys (rows_in w n.level ds back)
-      over-back = back-parted back (Each-stretch (IsLawfulEntry d n.level) (i + 1) (length es) es lawful) back-high
+      over-back = back-parted back back-lawful back-high
 
       at-here : Each (IsRowAt w n.level here.addr ds) ys
       at-here = subst (λ b. Each (IsRowAt w n.level b ds) ys) (sym e) at
 
-      -- the nodes that may be opened: those of the entries in front, at the address and behind
+      -- the nodes that are opened: those of the entries in front, at the address and behind
       pub over-seen : (all : Bool) →
           seen_nodes w all ys (part_nodes w ds (node n)) ≡ seen_nodes w all ys (nodes_in w n.level ds front) +
           (openings here.what + seen_nodes w all ys (part_nodes w (behind n.level ds here) here.what)) + seen_nodes w
@@ -160,21 +211,23 @@ module _ (w d : ℕ) (ds : List ℕ) (n : PlainNode) (h : IsPart w d ds (node n)
           entry-seen all here ys (lawful-at i l) some at-here in
           omega (arith, a1, a2, a3)
 
-      -- the work of a descent at the entry, with what lists the entries beside it
+      -- the work of a descent at the entry, with what lists the entries beside it. Other rows lie in some nodes only where they have the address
       pub over-work : (all other : Bool) (ms : List Placed)
+          → ((rows : List Row) → Each (λ r. row_address w n.level r ≡ a → ⊥) rows → AreMissed w ms rows)
           → seen_nodes w all [] (nodes_in w n.level ds front) +
           (openings here.what + (seen_nodes w all ys (part_nodes w (behind n.level ds here) here.what) +
           seen_nodes w other (part_rows w (behind n.level ds here) here.what) ms)) + seen_nodes w all []
           (nodes_in w n.level ds back)
-          ≤ seen_nodes w all ys (part_nodes w ds (node n)) + seen_nodes w other (part_rows w ds (node n)) ms
-      over-work all other ms =
-          let b1 : seen_nodes w other (part_rows w (behind n.level ds here) here.what) ms ≤ seen_nodes w other (part_rows w ds (node n)) ms =
-          subst (λ t. seen_nodes w other (part_rows w (behind n.level ds here) here.what) ms ≤ seen_nodes w other t ms) (sym over-rows)
-          (seen-around w other (rows_in w n.level ds front) (part_rows w (behind n.level ds here) here.what) (rows_in w n.level ds back) ms) in
-          let b2 : seen_nodes w all [] (nodes_in w n.level ds front) ≤ seen_nodes w all ys
-          (nodes_in w n.level ds front) = seen-front w all [] ys (nodes_in w n.level ds front) in
-          let b3 : seen_nodes w all [] (nodes_in w n.level ds back) ≤ seen_nodes w all ys
-          (nodes_in w n.level ds back) = seen-front w all [] ys (nodes_in w n.level ds back) in
+          ≡ seen_nodes w all ys (part_nodes w ds (node n)) + seen_nodes w other (part_rows w ds (node n)) ms
+      over-work all other ms away =
+          let b1 : seen_nodes w other (part_rows w ds (node n)) ms ≡ seen_nodes w other (part_rows w (behind n.level ds here) here.what) ms =
+          ap (λ t. seen_nodes w other t ms) over-rows ∙
+          seen-within w other (rows_in w n.level ds front) (part_rows w (behind n.level ds here) here.what) (rows_in w n.level ds back) ms
+          (away (rows_in w n.level ds front) (front-other front front-lawful front-low)) (away (rows_in w n.level ds back) (back-other back back-lawful back-high)) in
+          let b2 : seen_nodes w all ys (nodes_in w n.level ds front) ≡ seen_nodes w all []
+          (nodes_in w n.level ds front) = seen-none w all ys (nodes_in w n.level ds front) (front-missed front front-lawful front-low) in
+          let b3 : seen_nodes w all ys (nodes_in w n.level ds back) ≡ seen_nodes w all []
+          (nodes_in w n.level ds back) = seen-none w all ys (nodes_in w n.level ds back) (back-missed back back-lawful back-high) in
           omega (arith, over-seen all, b1, b2, b3)
 
     -- where no entry has the address
@@ -197,28 +250,45 @@ module _ (w d : ℕ) (ds : List ℕ) (n : PlainNode) (h : IsPart w d ds (node n)
           ap (nodes_in w n.level ds) (stretch-rest 0 (length (entries n)) (entries n) (omega arith) ∙
           cut-between i (entries n)) ∙ nodes-append w n.level ds before after
 
+      before-lawful : Each (IsLawfulEntry d n.level) before
+      before-lawful = Each-stretch (IsLawfulEntry d n.level) 0 i (entries n) lawful
+
+      after-lawful : Each (IsLawfulEntry d n.level) after
+      after-lawful = Each-stretch (IsLawfulEntry d n.level) i (length (entries n)) (entries n) lawful
+
+      before-low : Each (λ f. f.addr < a) before
+      before-low = subst (Each (λ f. f.addr < a)) (sym (stretch-front i (entries n))) cut.front
+
+      after-high : Each (λ f. a + 1 ≤ f.addr) after
+      after-high = subst (Each (λ f. a + 1 ≤ f.addr)) (sym (stretch-rest i (length (entries n)) (entries n) (omega arith))) cut.back
+
       pub none-front : AreParted w (rows_in w n.level ds before) ys
-      none-front =
-          front-parted before (Each-stretch (IsLawfulEntry d n.level) 0 i (entries n) lawful)
-          (subst (Each (λ f. f.addr < a)) (sym (stretch-front i (entries n))) cut.front)
+      none-front = front-parted before before-lawful before-low
 
       pub none-back : AreParted w ys (rows_in w n.level ds after)
-      none-back =
-          back-parted after (Each-stretch (IsLawfulEntry d n.level) i (length (entries n)) (entries n) lawful)
-          (subst (Each (λ f. a + 1 ≤ f.addr)) (sym (stretch-rest i (length (entries n)) (entries n) (omega arith))) cut.back)
+      none-back = back-parted after after-lawful after-high
 
       pub none-work : (all : Bool) →
-          seen_nodes w all [] (nodes_in w n.level ds before) + seen_nodes w all [] (nodes_in w n.level ds after) ≤
+          seen_nodes w all [] (nodes_in w n.level ds before) + seen_nodes w all [] (nodes_in w n.level ds after) ≡
           seen_nodes w all ys (part_nodes w ds (node n))
       none-work all =
           let a1 : seen_nodes w all ys (part_nodes w ds (node n)) ≡
           seen_nodes w all ys (nodes_in w n.level ds before) + seen_nodes w all ys (nodes_in w n.level ds after) =
           ap (seen_nodes w all ys) none-nodes ∙ seen-append w all ys (nodes_in w n.level ds before) (nodes_in w n.level ds after) in
-          let b2 : seen_nodes w all [] (nodes_in w n.level ds before) ≤ seen_nodes w all ys
-          (nodes_in w n.level ds before) = seen-front w all [] ys (nodes_in w n.level ds before) in
-          let b3 : seen_nodes w all [] (nodes_in w n.level ds after) ≤ seen_nodes w all ys
-          (nodes_in w n.level ds after) = seen-front w all [] ys (nodes_in w n.level ds after) in
+          let b2 : seen_nodes w all ys (nodes_in w n.level ds before) ≡ seen_nodes w all []
+          (nodes_in w n.level ds before) = seen-none w all ys (nodes_in w n.level ds before) (front-missed before before-lawful before-low) in
+          let b3 : seen_nodes w all ys (nodes_in w n.level ds after) ≡ seen_nodes w all []
+          (nodes_in w n.level ds after) = seen-none w all ys (nodes_in w n.level ds after) (back-missed after after-lawful after-high) in
           omega (arith, a1, b2, b3)
+
+      -- the rows of the node lie in none of the nodes at the address
+      pub none-other : (other : Bool) (ms : List Placed) → ((rows : List Row) → Each (λ r. row_address w n.level r ≡ a → ⊥) rows → AreMissed w ms rows) →
+          seen_nodes w other (part_rows w ds (node n)) ms ≡ seen_nodes w other [] ms
+      none-other other ms away =
+          ap (λ t. seen_nodes w other t ms) none-rows ∙
+          seen-back w other (rows_in w n.level ds before) (rows_in w n.level ds after) ms
+          (away (rows_in w n.level ds before) (front-other before before-lawful before-low)) ∙
+          seen-none w other (rows_in w n.level ds after) ms (away (rows_in w n.level ds after) (back-other after after-lawful after-high))
 
 -- ---- entries in stretches
 
@@ -324,6 +394,13 @@ module _ (w d : ℕ) (ds dt : List ℕ) (n m : PlainNode) (h : IsPart w d ds (no
       turn r = subst (λ c. IsUnder w (c + 1) dt r × (a ≤ row_address w c r) → IsUnder w (n.level + 1) ds r ×
           (a ≤ row_address w n.level r)) (sym same) (λ u. (u.0 ∙ agree, u.1))
 
+  -- an address at the level of the one is one at that of the other
+  here-at : (P : ℕ → Type 0) (rows : List Row) → Each (λ r. P (row_address w m.level r)) rows → Each (λ r. P (row_address w n.level r)) rows
+  here-at P rows = subst (λ c. Each (λ r. P (row_address w m.level r)) rows → Each (λ r. P (row_address w c r)) rows) same (λ u. u)
+
+  there-at : (P : ℕ → Type 0) (rows : List Row) → Each (λ r. P (row_address w n.level r)) rows → Each (λ r. P (row_address w m.level r)) rows
+  there-at P rows = subst (λ c. Each (λ r. P (row_address w c r)) rows → Each (λ r. P (row_address w m.level r)) rows) same (λ u. u)
+
   module _ (i j : ℕ) where
     abbrev lefts : List Row
     lefts = rows_on w n.level ds (entries n) i
@@ -336,12 +413,24 @@ module _ (w d : ℕ) (ds dt : List ℕ) (n m : PlainNode) (h : IsPart w d ds (no
       abbrev passed : List Row
       passed = rows_in w n.level ds (stretch i q (entries n))
 
+      abbrev address : ℕ
+      address = addr_at (entries m) j
+
+      passed-lawful : Each (IsLawfulEntry d n.level) (stretch i q (entries n))
+      passed-lawful = Each-stretch (IsLawfulEntry d n.level) i q (entries n) (lawful w d ds n h)
+
+      passed-low : Each (λ f. f.addr < address) (stretch i q (entries n))
+      passed-low = each-front (λ f. f.addr < address) i q (entries n) next.front l
+
+      rights-lawful : Each (IsLawfulEntry d m.level) (stretch j (length (entries m)) (entries m))
+      rights-lawful = Each-stretch (IsLawfulEntry d m.level) j (length (entries m)) (entries m) (lawful w d dt m k)
+
+      rights-high : Each (λ f. address ≤ f.addr) (stretch j (length (entries m)) (entries m))
+      rights-high = rest-from 0 (entries m) j (rising w d dt m k) lj
+
       pub passed-first : AreParted w passed rights
       passed-first =
-          parted (addr_at (entries m) j) (stretch i q (entries n)) (stretch j (length (entries m)) (entries m))
-          (Each-stretch (IsLawfulEntry d n.level) i q (entries n) (lawful w d ds n h))
-          (Each-stretch (IsLawfulEntry d m.level) j (length (entries m)) (entries m) (lawful w d dt m k))
-          (each-front (λ f. f.addr < addr_at (entries m) j) i q (entries n) next.front l) (rest-from 0 (entries m) j (rising w d dt m k) lj)
+          parted address (stretch i q (entries n)) (stretch j (length (entries m)) (entries m)) passed-lawful rights-lawful passed-low rights-high
 
       pub passed-rows : lefts ≡ passed ++ rows_on w n.level ds (entries n) q
       passed-rows = rows-on w n.level ds (entries n) i q l next.within
@@ -349,19 +438,24 @@ module _ (w d : ℕ) (ds dt : List ℕ) (n m : PlainNode) (h : IsPart w d ds (no
       -- the work of what is passed, and of the other node's entries beside what is left
       pub passed-work : (keep : Bool) →
           seen_nodes w keep [] (nodes_in w n.level ds (stretch i q (entries n))) + seen_nodes w keep rights
-          (nodes_on w n.level ds (entries n) q) ≤ seen_nodes w keep rights (nodes_on w n.level ds (entries n) i)
+          (nodes_on w n.level ds (entries n) q) ≡ seen_nodes w keep rights (nodes_on w n.level ds (entries n) i)
       passed-work keep =
           let mine = nodes_in w n.level ds (stretch i q (entries n)) in
           let rest = nodes_on w n.level ds (entries n) q in
           let a : seen_nodes w keep rights (nodes_on w n.level ds (entries n) i) ≡ seen_nodes w keep rights mine + seen_nodes w keep rights rest =
           ap (seen_nodes w keep rights) (nodes-on w n.level ds (entries n) i q l next.within) ∙ seen-append w keep rights mine rest in
-          let b : seen_nodes w keep [] mine ≤ seen_nodes w keep rights mine = seen-front w keep [] rights mine in
+          let b : seen_nodes w keep rights mine ≡ seen_nodes w keep [] mine =
+          seen-none w keep rights mine (low-missed w d ds n h address (stretch i q (entries n)) passed-lawful passed-low rights
+          (here-at (λ c. address ≤ c) rights (from-at w d dt m k address (stretch j (length (entries m)) (entries m)) rights-lawful rights-high))) in
           omega (arith, a, b)
 
-      pub passed-other : (keep : Bool) (ms : List Placed) → seen_nodes w keep (rows_on w n.level ds (entries n) q) ms ≤ seen_nodes w keep lefts ms
-      passed-other keep ms =
-          subst (λ t. seen_nodes w keep (rows_on w n.level ds (entries n) q) ms ≤ seen_nodes w keep t ms)
-          (sym passed-rows) (seen-back w keep passed (rows_on w n.level ds (entries n) q) ms)
+      pub passed-other : (keep : Bool) →
+          seen_nodes w keep (rows_on w n.level ds (entries n) q) (nodes_on w m.level dt (entries m) j) ≡ seen_nodes w keep lefts (nodes_on w m.level dt (entries m) j)
+      passed-other keep =
+          let ms = nodes_on w m.level dt (entries m) j in
+          sym (ap (λ t. seen_nodes w keep t ms) passed-rows ∙ seen-back w keep passed (rows_on w n.level ds (entries n) q) ms
+          (high-missed w d dt m k address (stretch j (length (entries m)) (entries m)) rights-lawful rights-high passed
+          (there-at (λ c. c < address) passed (below-at w d ds n h address (stretch i q (entries n)) passed-lawful passed-low))))
 
     -- two entries at one address
     module _ (li : i < length (entries n)) (lj : j < length (entries m)) (e : addr_at (entries m) j ≡ addr_at (entries n) i) where
@@ -396,13 +490,29 @@ module _ (w d : ℕ) (ds dt : List ℕ) (n m : PlainNode) (h : IsPart w d ds (no
           back-parted w d ds n h one.addr theirs one-at (stretch (i + 1) (length (entries n)) (entries n))
           (Each-stretch (IsLawfulEntry d n.level) (i + 1) (length (entries n)) (entries n) (lawful w d ds n h)) (rest-behind 0 (entries n) i (rising w d ds n h) li)
 
+      -- the other node's rows behind the address lie in no node of the one entry, and those at it in no node behind
+      others-missed : AreMissed w (entry_nodes w n.level (behind n.level ds one) one.what) (rows_on w m.level dt (entries m) (j + 1))
+      others-missed =
+          let others = rows_on w m.level dt (entries m) (j + 1) in
+          one-missed w d ds n h one (lawful-at w d ds n h i li) others
+          (Each-each others (λ r v. λ u. let x : other.addr + 1 ≤ row_address w n.level r = v in let y : row_address w n.level r ≡ one.addr = u in omega (arith, x, y, e))
+          (here-at (λ c. other.addr + 1 ≤ c) others
+          (from-at w d dt m k (other.addr + 1) (stretch (j + 1) (length (entries m)) (entries m))
+          (Each-stretch (IsLawfulEntry d m.level) (j + 1) (length (entries m)) (entries m) (lawful w d dt m k)) (rest-behind 0 (entries m) j (rising w d dt m k) lj))))
+
+      theirs-missed : AreMissed w (nodes_on w n.level ds (entries n) (i + 1)) theirs
+      theirs-missed =
+          high-missed w d ds n h (one.addr + 1) (stretch (i + 1) (length (entries n)) (entries n))
+          (Each-stretch (IsLawfulEntry d n.level) (i + 1) (length (entries n)) (entries n) (lawful w d ds n h)) (rest-behind 0 (entries n) i (rising w d ds n h) li)
+          theirs (Each-each theirs (λ r q. let x : row_address w n.level r ≡ one.addr = q.address in omega (arith, x)) one-at)
+
       pub both-rows : rights ≡ theirs ++ rows_on w m.level dt (entries m) (j + 1)
       both-rows = rows-next w m.level dt (entries m) j lj
 
       -- the work of the one entry beside the other, and of what is left beside the other's rest
       pub both-work : (keep : Bool) →
           openings one.what + seen_nodes w keep theirs (part_nodes w (behind n.level ds one) one.what) + seen_nodes w
-          keep (rows_on w m.level dt (entries m) (j + 1)) (nodes_on w n.level ds (entries n) (i + 1)) ≤ seen_nodes w
+          keep (rows_on w m.level dt (entries m) (j + 1)) (nodes_on w n.level ds (entries n) (i + 1)) ≡ seen_nodes w
           keep rights (nodes_on w n.level ds (entries n) i)
       both-work keep =
           let nodes = entry_nodes w n.level (behind n.level ds one) one.what in
@@ -414,10 +524,8 @@ module _ (w d : ℕ) (ds dt : List ℕ) (n m : PlainNode) (h : IsPart w d ds (no
           let b : seen_nodes w keep theirs nodes ≡ openings one.what + seen_nodes w keep theirs
           (part_nodes w (behind n.level ds one) one.what) = entry-seen w d ds n h keep one theirs
           (lawful-at w d ds n h i li) other-some one-at in
-          let c : seen_nodes w keep theirs nodes ≤ seen_nodes w keep rights nodes =
-          subst (λ t. seen_nodes w keep theirs nodes ≤ seen_nodes w keep t nodes) (sym both-rows)
-          (seen-front w keep theirs others nodes) in
-          let f : seen_nodes w keep others rest ≤ seen_nodes w keep rights rest =
-          subst (λ t. seen_nodes w keep others rest ≤ seen_nodes w keep t rest) (sym both-rows)
-          (seen-back w keep theirs others rest) in
+          let c : seen_nodes w keep rights nodes ≡ seen_nodes w keep theirs nodes =
+          ap (λ t. seen_nodes w keep t nodes) both-rows ∙ seen-front w keep theirs others nodes others-missed in
+          let f : seen_nodes w keep rights rest ≡ seen_nodes w keep others rest =
+          ap (λ t. seen_nodes w keep t rest) both-rows ∙ seen-back w keep theirs others rest theirs-missed in
           omega (arith, a, b, c, f)

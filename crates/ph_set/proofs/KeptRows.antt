@@ -10,7 +10,7 @@ use Rattle.ph_specs.proofs.laws.BallSearch.{table-points}
 use Rattle.ph_specs.proofs.laws.SetOperations.{union-combined, common-combined, minus-combined}
 use Rattle.ph_specs.proofs.laws.Sets.{is_table-union, is_table-common, is_table-minus}
 use Rattle.ph_set.specs.Meeting.{kept, work}
-use Rattle.ph_set.specs.Operations.{plan_of, rows_of, most_visits}
+use Rattle.ph_set.specs.Operations.{plan_of, rows_of, visits_of}
 use Rattle.ph_set.specs.declared.operations.Operation.{Operation}
 use Rattle.ph_set.specs.declared.operations.Operation.TheVariants.{Union, Common, Minus}
 use Rattle.ph_set.specs.declared.plan.Plan.{Plan}
@@ -20,7 +20,7 @@ use Rattle.ph_set.proofs.Sights.{seen-all}
 pub record AreKept (p : Plan) (o : Operation) (w d : ℕ) (a b : List Row) : Type 0 where
   pub rows : kept p a b ≡ rows_of o w a b
   pub table : IsTable w d (rows_of o w a b)
-  pub visits : work p a (all_nodes p.width d a) b (all_nodes p.width d b) ≤ most_visits o w d a b
+  pub visits : work p a (all_nodes p.width d a) b (all_nodes p.width d b) ≡ visits_of o w d a b
 
 by_operation : (o : Operation) (w d : ℕ) (a b : List Row) → IsTable w d a → IsTable w d b → 1 ≤ w → AreKept (plan_of o w) o w d a b
 by_operation Union w d a b left right wide =

@@ -1,6 +1,8 @@
 -- The laws of set operations.
 pub mod Sights
 pub mod Parting
+mod Missed
+mod Spent
 mod Turned
 mod Walking
 mod Joining

@@ -1,4 +1,4 @@
--- What a descent of two trees lists where two parts meet, and how many nodes it may open there.
+-- What a descent of two trees lists where two parts meet, and how many nodes it opens there.
 use Rattle.std.proofs.Common.{◌≡◌, ◌≢◌, ℕ, ◌+◌, ◌*◌, ◌/◌, ◌%◌, ◌^◌, ◌<◌, ◌≤◌, Bool, true, false, List, [], ◌∷◌, ◌++◌}
 use Rattle.std.proofs.Common.{length, cond, inl, inr, refl, sym, ◌∙◌, ap, subst, arith, append_assoc}
 use Rattle.std.specs.Prelude.{ℤ, Some, None, map, take, is_some, if◌then◌else◌}
@@ -24,14 +24,9 @@ use Rattle.ph_set.specs.declared.plan.Plan.{Plan}
 use Rattle.ph_set.specs.Parts.{IsPart, height, part_rows, part_nodes, rows_in, nodes_in, rows_on, nodes_on, stretch}
 use Rattle.ph_specs.proofs.laws.Combined.{AreParted, combined-left}
 use Rattle.ph_set.proofs.Parting.{IsRowAt, part-at, parted-by}
-use Rattle.ph_set.proofs.Sights.{seen-all, seen-front}
+use Rattle.ph_set.proofs.Missed.{part-missed}
+use Rattle.ph_set.proofs.Sights.{seen-none}
 use Rattle.ph_set.proofs.Walking.{whole-rows, whole-nodes, stretch-none}
-
--- ---- visits for what is listed whole, or not at all
-
-pub spent-all : (w : ℕ) (keep : Bool) (xs : List Placed) (new old : ℕ) → keep ≡ true → new ≤ old + length xs → new ≤ old + seen_nodes w keep [] xs
-spent-all w keep xs new old k h =
-    subst (λ t. new ≤ old + seen_nodes w t [] xs) (sym k) (let e : seen_nodes w true [] xs ≡ length xs = seen-all w [] xs in omega (arith, e, h))
 
 -- ---- rows that are listed one after another
 
@@ -92,6 +87,19 @@ module _ (p : Plan) (d : ℕ) (dx dy : List ℕ) (ox oy : What) (h : IsPart p.wi
         )) ys-at)
         (Each-each xs (λ r u. (u.under, (let e : row_address p.width t r ≡ number_at 0 t dx = u.address in omega (arith, e)))) xs-at)
 
+    pub apart-work : seen_nodes p.width p.left [] (part_nodes p.width dx ox) + seen_nodes p.width p.right [] (part_nodes p.width dy oy) ≡ work_of p dx ox dy oy
+    apart-work =
+        let n : body_address t dx ≢ body_address t dy = other_address t dx dy (h.long ∙ sym k.long) q.0.agree q.0.differ in
+        let ns = part_nodes p.width dx ox in
+        let ms = part_nodes p.width dy oy in
+        let a : seen_nodes p.width p.left ys ns ≡ seen_nodes p.width p.left [] ns = seen-none p.width p.left ys ns
+        (part-missed p.width d t dx ox h q.1 ys
+        (Each-each ys (λ r u. λ e. n (body-number 0 t dx ∙ sym e ∙ u.address ∙ sym (body-number 0 t dy))) ys-at)) in
+        let b : seen_nodes p.width p.right xs ms ≡ seen_nodes p.width p.right [] ms = seen-none p.width p.right xs ms
+        (part-missed p.width d t dy oy k q.2 xs
+        (Each-each xs (λ r u. λ e. n (body-number 0 t dx ∙ sym u.address ∙ e ∙ sym (body-number 0 t dy))) xs-at)) in
+        omega (arith, a, b)
+
 -- ---- all entries of two nodes at one level
 
 module _ (p : Plan) (dx dz : List ℕ) (a b : PlainNode) where
@@ -147,19 +155,30 @@ module _ (p : Plan) (dx dz : List ℕ) (a b : PlainNode) where
       none true = refl
       none false = refl
 
-  pub sides-end-work : (i j : ℕ)
-      → seen_nodes p.width p.left [] (left-nodes i) + seen_nodes p.width p.right [] (right-nodes j) ≤ work p (left-rows i) (left-nodes i) (right-rows j) (right-nodes j)
-  sides-end-work i j =
-      let u : seen_nodes p.width p.left [] (left-nodes i) ≤ seen_nodes p.width p.left (right-rows j) (left-nodes i) =
-      seen-front p.width p.left [] (right-rows j) (left-nodes i) in
-      let v : seen_nodes p.width p.right [] (right-nodes j) ≤ seen_nodes p.width p.right (left-rows i) (right-nodes j) =
-      seen-front p.width p.right [] (left-rows i) (right-nodes j) in
-      omega (arith, u, v)
+  pub sides-end-work : (i j : ℕ) → (i < length (entries a) → length (entries b) ≤ j)
+      → seen_nodes p.width p.left [] (left-nodes i) + seen_nodes p.width p.right [] (right-nodes j) ≡ work p (left-rows i) (left-nodes i) (right-rows j) (right-nodes j)
+  sides-end-work i j done =
+      elim (cases_lt i (length (entries a))) [
+        | inl l ↦
+            let e : stretch j (length (entries b)) (entries b) ≡ [] = stretch-none j (length (entries b)) (entries b) (done l) in
+            let u : seen_nodes p.width p.left (right-rows j) (left-nodes i) ≡ seen_nodes p.width p.left [] (left-nodes i) =
+            ap (λ t. seen_nodes p.width p.left (rows_in p.width b.level dz t) (left-nodes i)) e in
+            let v : (rows : List Row) → seen_nodes p.width p.right rows (right-nodes j) ≡ 0 =
+            λ rows. ap (λ t. seen_nodes p.width p.right rows (nodes_in p.width b.level dz t)) e in
+            omega (arith, u, v (left-rows i), v [])
+        | inr l ↦
+            let e : stretch i (length (entries a)) (entries a) ≡ [] = stretch-none i (length (entries a)) (entries a) l in
+            let u : seen_nodes p.width p.right (left-rows i) (right-nodes j) ≡ seen_nodes p.width p.right [] (right-nodes j) =
+            ap (λ t. seen_nodes p.width p.right (rows_in p.width a.level dx t) (right-nodes j)) e in
+            let v : (rows : List Row) → seen_nodes p.width p.left rows (left-nodes i) ≡ 0 =
+            λ rows. ap (λ t. seen_nodes p.width p.left rows (nodes_in p.width a.level dx t)) e in
+            omega (arith, u, v (right-rows j), v [])
+      ]
 
 -- the nodes below the entries from one place on, where the number of entries was read
-pub rest-cost : (w : ℕ) (keep : Bool) (level : ℕ) (ds : List ℕ) (es : List Entry) (i last new old : ℕ) → last ≡ length es →
-    new ≤ old + seen_nodes w keep [] (nodes_in w level ds (stretch i last es)) → new ≤ old + seen_nodes w keep [] (nodes_on w level ds es i)
-rest-cost w keep level ds es i last new old read h = subst (λ k. new ≤ old + seen_nodes w keep [] (nodes_in w level ds (stretch i k es))) read h
+pub rest-seen : (w : ℕ) (keep : Bool) (level : ℕ) (ds : List ℕ) (es : List Entry) (i last : ℕ) → last ≡ length es →
+    seen_nodes w keep [] (nodes_in w level ds (stretch i last es)) ≡ seen_nodes w keep [] (nodes_on w level ds es i)
+rest-seen w keep level ds es i last read = ap (λ k. seen_nodes w keep [] (nodes_in w level ds (stretch i k es))) read
 
 -- ---- two rows at one point
 

@@ -1,4 +1,4 @@
--- A node over a lower part: what is listed, and how many nodes it may open there.
+-- A node over a lower part: what is listed, and how many nodes it opens there.
 use Rattle.std.proofs.Common.{◌≡◌, ℕ, ◌+◌, ◌≤◌, Bool, List, [], ◌++◌, length, refl, sym, ◌∙◌, ap, subst, arith}
 use Rattle.std.specs.Prelude.{Some, None, not, position, take}
 use Rattle.std.specs.List.{AllByRecursion as Each}
@@ -6,6 +6,7 @@ use Rattle.ph_specs.specs.EntryEdits.{what_at, has_address}
 use Rattle.ph_specs.specs.Table.{Row}
 use Rattle.ph_specs.specs.Node.{Entry, What, node, PlainNode, entries}
 use Rattle.ph_specs.specs.PutTree.{body_address}
+use Rattle.ph_specs.specs.Shape.{row_address}
 use Rattle.ph_specs.specs.WorkSets.{Placed}
 use Rattle.ph_specs.proofs.lemmas.Joined.{from_place}
 use Rattle.ph_specs.proofs.laws.EntryEdits.{address-found}
@@ -18,9 +19,10 @@ use Rattle.ph_specs.specs.WorkSets.{seen_nodes}
 use Rattle.ph_set.specs.Meeting.{alone, kept_by, kept_of_by, work_of_by}
 use Rattle.ph_set.specs.declared.plan.Plan.{Plan}
 use Rattle.ph_set.specs.Parts.{IsPart, height, openings, part_rows, part_nodes, stretch_rows, stretch_nodes, behind}
-use Rattle.ph_set.proofs.Descending.{rising, over-rows, over-front, over-back, over-work, none-rows, none-front, none-back, none-work}
+use Rattle.ph_set.proofs.Descending.{rising, over-rows, over-front, over-back, over-work, none-rows, none-front, none-back, none-work, none-other}
 use Rattle.ph_set.proofs.Parting.{IsRowAt, part-at, part-some}
-use Rattle.ph_set.proofs.Sights.{seen-front}
+use Rattle.ph_set.proofs.Missed.{part-missed}
+use Rattle.ph_set.proofs.Sights.{AreMissed}
 use Rattle.ph_set.proofs.Turned.{beside-none, sandwich}
 use Rattle.ph_set.proofs.Walking.{entry_at, entry-there, new-digits, new-held, IsCut, cut-place}
 use Rattle.ph_set.proofs.Meetings.{body-number}
@@ -72,6 +74,12 @@ module _ (p : Plan) (left : Bool) {d : ℕ} {ds : List ℕ} {n : PlainNode} {dy 
       subst (λ b. Each (IsRowAt p.width n.level b ds) theirs) (sym (body-number 0 n.level dy) ∙ sym over.at)
       (part-at p.width d n.level ds dy oy over.part over.low over.agree)
 
+  -- rows at other addresses lie in none of their nodes
+  theirs-away : (rows : List Row) → Each (λ r. row_address p.width n.level r ≡ a → ⊥) rows → AreMissed p.width their-nodes rows
+  theirs-away rows other =
+      part-missed p.width d n.level dy oy over.part over.low rows
+      (subst (λ b. Each (λ r. row_address p.width n.level r ≡ b → ⊥) rows) (over.at ∙ body-number 0 n.level dy) other)
+
   theirs-some : 1 ≤ length theirs
   theirs-some = part-some p.width d dy oy over.part
 
@@ -115,11 +123,11 @@ module _ (p : Plan) (left : Bool) {d : ℕ} {ds : List ℕ} {n : PlainNode} {dy 
     -- the nodes that are opened on the way
     pub found-cost : seen (alone p left) [] (nodes-between 0 s.place) + (openings (what_at (entries n) s.place) + work_of_by p left new o dy oy)
         + seen (alone p left) [] (nodes-between (s.place + 1) end)
-        ≤ work_of_by p left ds (node n) dy oy
+        ≡ work_of_by p left ds (node n) dy oy
     found-cost =
         let mine = alone p left in
         let other = alone p (not left) in
-        let z = over-work p.width d ds n over.whole a theirs theirs-at s.place there.within address-is theirs-some (alone p left) (alone p (not left)) their-nodes in
+        let z = over-work p.width d ds n over.whole a theirs theirs-at s.place there.within address-is theirs-some (alone p left) (alone p (not left)) their-nodes theirs-away in
         let u : seen mine theirs (part_nodes p.width new o) ≡ seen mine theirs (part_nodes p.width (behind n.level ds it) it.what) =
         ap (seen mine theirs) nodes-are in
         let v : seen other (part_rows p.width new o) their-nodes ≡ seen other its-rows their-nodes =
@@ -146,13 +154,13 @@ module _ (p : Plan) (left : Bool) {d : ℕ} {ds : List ℕ} {n : PlainNode} {dy 
         ∙ ap (λ k. chosen (alone p left) (rows-between 0 i) ++ (chosen (alone p (not left)) theirs ++ chosen (alone p left) (rows-between i k))) (sym last)
 
     pub missed-cost : seen (alone p left) [] (nodes-between 0 i) + seen (alone p (not left)) [] their-nodes + seen (alone p left) [] (nodes-between i end)
-        ≤ work_of_by p left ds (node n) dy oy
+        ≡ work_of_by p left ds (node n) dy oy
     missed-cost =
         let mine = alone p left in
         let other = alone p (not left) in
         let z = none-work p.width d ds n over.whole a theirs theirs-at i cut (alone p left) in
-        let b : seen other [] their-nodes ≤ seen other (part_rows p.width ds (node n)) their-nodes =
-        seen-front p.width other [] (part_rows p.width ds (node n)) their-nodes in
+        let b : seen other (part_rows p.width ds (node n)) their-nodes ≡ seen other [] their-nodes =
+        none-other p.width d ds n over.whole a theirs theirs-at i cut other their-nodes theirs-away in
         let e : seen mine [] (nodes-between i end) ≡ seen mine [] (nodes-between i (length (entries n))) =
         ap (λ k. seen mine [] (nodes-between i k)) last in
         omega (arith, z, b, e)

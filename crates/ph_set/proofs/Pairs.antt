@@ -1,4 +1,4 @@
--- Two nodes at one level, of which some entries are left: what is listed at two of them, and how many nodes it may open there.
+-- Two nodes at one level, of which some entries are left: what is listed at two of them, and how many nodes it opens there.
 use Rattle.std.proofs.Common.{◌≡◌, ℕ, ◌+◌, ◌<◌, ◌≤◌, Bool, List, [], ◌++◌, length, sym, ◌∙◌, ap, subst, arith}
 use Rattle.std.specs.Prelude.{not}
 use Rattle.ph_specs.specs.EntryEdits.{what_at}
@@ -41,7 +41,7 @@ pub record IsPassed (p : Plan) (left : Bool) (d : ℕ) (a b : SideOf PlainNode) 
   pub ahead : i < q
   pub rows : kept_from_by p left d a i b j ≡
       chosen (alone p left) (stretch_rows p.width (side_node a) (side_digits d a) i q) ++ kept_from_by p left d a q b j
-  pub cost : seen_nodes p.width (alone p left) [] (stretch_nodes p.width (side_node a) (side_digits d a) i q) + work_from_by p left d a q b j ≤
+  pub cost : seen_nodes p.width (alone p left) [] (stretch_nodes p.width (side_node a) (side_digits d a) i q) + work_from_by p left d a q b j ≡
       work_from_by p left d a i b j
 
 module _ (p : Plan) (left : Bool) {d : ℕ} {a b : SideOf PlainNode} {i j q addr : ℕ} (sides : AreBeside p.width d a b) (li : i < length (side_entries a))
@@ -52,9 +52,6 @@ module _ (p : Plan) (left : Bool) {d : ℕ} {a b : SideOf PlainNode} {i j q addr
 
   abbrev theirs : List Row
   theirs = rows_on p.width (side_node b).level (side_digits d b) (side_entries b) j
-
-  abbrev their-nodes : List Placed
-  their-nodes = nodes_on p.width (side_node b).level (side_digits d b) (side_entries b) j
 
   next : IsNext (addr_at (side_entries b) j) q (side_entries a)
   next = subst (λ x. IsNext x q (side_entries a)) at (next-place addr q (side_entries a) place)
@@ -73,7 +70,7 @@ module _ (p : Plan) (left : Bool) {d : ℕ} {a b : SideOf PlainNode} {i j q addr
       let n = side_node a in
       let m = side_node b in
       let x = passed-work p.width d ds dt n m sides.left sides.right sides.level (sym sides.agree) i j q before lj next (alone p left) in
-      let y = passed-other p.width d ds dt n m sides.left sides.right sides.level (sym sides.agree) i j q before lj next (alone p (not left)) their-nodes in
+      let y = passed-other p.width d ds dt n m sides.left sides.right sides.level (sym sides.agree) i j q before lj next (alone p (not left)) in
       record {
         within = next.within;
         ahead = ahead;
@@ -184,7 +181,7 @@ module _ (p : Plan) {d : ℕ} {a b : SideOf PlainNode} {i j : ℕ} {s t : Spot} 
 
     pub both-cost : openings (what_at (entries n) s.place) + openings (what_at (entries m) t.place) + work_of p new1 o1 new2 o2
         + work p (lefts (i + 1)) (ns (i + 1)) (rights (j + 1)) (ms (j + 1))
-        ≤ work p (lefts i) (ns i) (rights j) (ms j)
+        ≡ work p (lefts i) (ns i) (rights j) (ms j)
     both-cost =
         let x = part_rows p.width (behind n.level ds one) one.what in
         let y = part_rows p.width (behind m.level dt other) other.what in

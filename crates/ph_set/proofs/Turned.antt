@@ -1,28 +1,17 @@
 -- Two tables, of which the first is that of the left tree or that of the right one.
-use Rattle.std.proofs.Common.{◌≡◌, ◌+◌, ◌≤◌, Bool, true, false, List, [], ◌++◌, refl, ◌∙◌, ap, arith}
+use Rattle.std.proofs.Common.{◌≡◌, Bool, true, false, List, [], ◌++◌, refl, ◌∙◌, ap}
 use Rattle.std.specs.Prelude.{not}
 use Rattle.ph_specs.specs.Combined.{chosen}
 use Rattle.ph_specs.specs.Table.{Row}
-use Rattle.ph_specs.specs.WorkSets.{Placed, seen_nodes}
 use Rattle.ph_specs.proofs.laws.Combined.{AreParted, combined-left, combined-left-first, combined-right-first, combined-split, sandwich-left, sandwich-right}
-use Rattle.ph_set.specs.Meeting.{kept, kept_by, work_by, alone}
+use Rattle.ph_set.specs.Meeting.{kept, kept_by, alone}
 use Rattle.ph_set.specs.declared.plan.Plan.{Plan}
-use Rattle.ph_set.proofs.Sights.{seen-front}
 
 -- the first comes before the other
 pub in-order : (p : Plan) (left : Bool) (xs ys : List Row) → AreParted p.width xs ys →
     kept_by p left xs ys ≡ chosen (alone p left) xs ++ chosen (alone p (not left)) ys
 in-order p true xs ys h = combined-left-first p.width p.left p.both p.right xs ys h
 in-order p false xs ys h = combined-right-first p.width p.left p.both p.right ys xs h
-
--- the nodes of each, beside nothing
-pub in-order-work : (p : Plan) (left : Bool) (xs ys : List Row) (ns ms : List Placed) →
-    seen_nodes p.width (alone p left) [] ns + seen_nodes p.width (alone p (not left)) [] ms ≤ work_by p left xs ns ys ms
-in-order-work p left xs ys ns ms =
-    let a : seen_nodes p.width (alone p left) [] ns ≤ seen_nodes p.width (alone p left) ys ns = seen-front p.width (alone p left) [] ys ns in
-    let b : seen_nodes p.width (alone p (not left)) [] ms ≤ seen_nodes p.width (alone p (not left)) xs ms =
-    seen-front p.width (alone p (not left)) [] xs ms in
-    omega (arith, a, b)
 
 -- nothing, beside the other
 pub beside-none : (p : Plan) (left : Bool) (ys : List Row) → kept_by p left [] ys ≡ chosen (alone p (not left)) ys

@@ -5,3 +5,4 @@ pub mod Parts
 pub mod Sides
 pub mod Operations
 pub mod Made
+pub mod Visited

@@ -1,5 +1,5 @@
--- Two parts of trees that meet: what is listed, and how many nodes may be opened for that.
-use Rattle.std.specs.Prelude.{◌≡◌, ℕ, ◌+◌, ◌≤◌, Bool, true, false, not, List, Option, Some, None}
+-- Two parts of trees that meet: what is listed, and how many nodes are opened for that.
+use Rattle.std.specs.Prelude.{◌≡◌, ℕ, ◌+◌, ◌≤◌, Bool, true, false, not, List, [], Option, Some, None}
 use Rattle.ph_specs.specs.Lawful.{rows}
 use Rattle.ph_specs.specs.Node.{PlainNode, What}
 use Rattle.ph_specs.specs.PutTree.{digits_from}
@@ -8,12 +8,12 @@ use Rattle.ph_specs.specs.WorkSets.{Placed, placed}
 use Rattle.ph_digits.specs.Differences.{IsTopDifference}
 use Rattle.ph_specs.specs.Combined.{combined}
 use Rattle.ph_specs.specs.WorkSets.{seen_nodes}
-use Rattle.ph_set.specs.Held.{part_digits, part_what}
+use Rattle.ph_set.specs.Held.{part_digits, part_what, nodes_held}
 use Rattle.ph_set.specs.Parts.{height, part_rows, part_nodes}
 use Rattle.ph_set.specs.declared.part.PartOf.{PartOf}
 use Rattle.ph_set.specs.declared.plan.Plan.{Plan}
 
--- what a plan keeps of two tables, and how many nodes it may open below two trees for that
+-- what a plan keeps of two tables, and how many nodes it opens below two trees for that
 abbrev pub kept : Plan → List Row → List Row → List Row
 kept p xs ys = combined p.width p.left p.both p.right xs ys
 
@@ -25,7 +25,7 @@ abbrev pub alone : Plan → Bool → Bool
 alone p true = p.left
 alone p false = p.right
 
--- what a plan keeps of a table of that tree and one of the other, and how many nodes it may open for that
+-- what a plan keeps of a table of that tree and one of the other, and how many nodes it opens for that
 abbrev pub kept_by : Plan → Bool → List Row → List Row → List Row
 kept_by p true xs ys = kept p xs ys
 kept_by p false xs ys = kept p ys xs
@@ -67,6 +67,11 @@ kept_parts_by p left d x y = kept_of_by p left (part_digits d x) (part_what x) (
 
 abbrev pub work_parts_by : Plan → Bool → ℕ → PartOf PlainNode → PartOf PlainNode → ℕ
 work_parts_by p left d x y = work_of_by p left (part_digits d x) (part_what x) (part_digits d y) (part_what y)
+
+-- and how many below two parts where no region below the one holds a point of the other
+abbrev pub apart_parts_by : Plan → Bool → ℕ → PartOf PlainNode → PartOf PlainNode → ℕ
+apart_parts_by p left d x y =
+    seen_nodes p.width (alone p left) [] (nodes_held p.width d x) + seen_nodes p.width (alone p (not left)) [] (nodes_held p.width d y)
 
 -- the greatest place at which digits differ, where it is known of both; else they are the same from where both are known on
 abbrev pub IsParting : ℕ → ℕ → List ℕ → List ℕ → Option ℕ → Type 0

@@ -1,5 +1,5 @@
 -- The set operations on two trees.
-use Rattle.std.specs.Prelude.{ℕ, ◌+◌, true, false, List, length}
+use Rattle.std.specs.Prelude.{ℕ, ◌+◌, ◌-◌, ◌^◌, min, true, false, List, length}
 use Rattle.ph_specs.specs.Sets.{union, common, minus}
 use Rattle.ph_specs.specs.Table.{Row}
 use Rattle.ph_specs.specs.WorkSets.{all_nodes, touch}
@@ -19,8 +19,14 @@ rows_of Union width xs ys = union width xs ys
 rows_of Common width xs ys = common xs ys
 rows_of Minus width xs ys = minus xs ys
 
--- how many nodes of their trees may be visited for it
-abbrev pub most_visits : Operation → ℕ → ℕ → List Row → List Row → ℕ
-most_visits Union width dims xs ys = length (all_nodes width dims xs) + length (all_nodes width dims ys)
-most_visits Common width dims xs ys = length (touch width dims xs ys) + length (touch width dims ys xs)
-most_visits Minus width dims xs ys = length (all_nodes width dims xs) + length (touch width dims ys xs)
+-- for how many of them room is taken, where the tables have so many rows: for as many as can be kept, as far as that can be counted
+abbrev pub room_of : Operation → ℕ → ℕ → ℕ
+room_of Union m n = min (m + n) (2 ^ 64 - 1)
+room_of Common m n = min m n
+room_of Minus m n = m
+
+-- how many nodes of their trees are visited for it
+abbrev pub visits_of : Operation → ℕ → ℕ → List Row → List Row → ℕ
+visits_of Union width dims xs ys = length (all_nodes width dims xs) + length (all_nodes width dims ys)
+visits_of Common width dims xs ys = length (touch width dims xs ys) + length (touch width dims ys xs)
+visits_of Minus width dims xs ys = length (all_nodes width dims xs) + length (touch width dims ys xs)

@@ -27,7 +27,7 @@ side_rows w d s i = rows_on w (side_node s).level (side_digits d s) (side_entrie
 abbrev pub side_nodes : ℕ → ℕ → SideOf PlainNode → ℕ → List Placed
 side_nodes w d s i = nodes_on w (side_node s).level (side_digits d s) (side_entries s) i
 
--- what a plan keeps of the entries of two nodes from two places on, and how many nodes it may open below them for that
+-- what a plan keeps of the entries of two nodes from two places on, and how many nodes it opens below them for that
 abbrev pub kept_from : Plan → ℕ → SideOf PlainNode → ℕ → SideOf PlainNode → ℕ → List Row
 kept_from p d a i b j = kept p (side_rows p.width d a i) (side_rows p.width d b j)
 

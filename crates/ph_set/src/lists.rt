@@ -9,6 +9,7 @@ ghost use Rattle.ph_set.specs.Meeting.{alone};
 ghost use Rattle.ph_node.specs.Spots.{IsSpot};
 ghost use Rattle.ph_set.specs.Parts.{AreListed, IsPart, digits_over, nodes_over, rows_over, spot_openings, spot_rows, stretch_nodes, stretch_rows};
 ghost use Rattle.ph_set.specs.Sides.{side_digits, side_entries, side_node};
+ghost use Rattle.ph_set.specs.Visited.{Visits};
 
 use crate::NoMemory;
 use crate::part::{HeldOf, PartOf, join_entry};
@@ -30,7 +31,7 @@ pub(crate) fn list_part<P: Space, V: Ledger>(
     requires dims { P.D ≤ 16 }
     requires part { IsLawfulPart w P.D part.now }
     ensures rows { OnOk result (AreListed P.row_of rows.old.items rows.new.items (rows_held w P.D part.now)) }
-    ensures visits { visits.new ≤ visits.old + length (nodes_held w P.D part.now) }
+    ensures visits { Visits result (length (nodes_held w P.D part.now)) visits.old visits.new }
     ensures later { visits.old ≤ visits.new }
 {
     match part.held {
@@ -58,7 +59,7 @@ fn list_stretch<P: Space, V: Ledger>(
     requires part { IsPart w P.D (take P.D digits.now) (held_node (shown node)) }
     requires within { to ≤ length (entries (shown node)) }
     ensures rows { OnOk result (AreListed P.row_of rows.old.items rows.new.items (stretch_rows w (shown node.entry) (take P.D digits.now) from to)) }
-    ensures visits { visits.new ≤ visits.old + length (stretch_nodes w (shown node.entry) (take P.D digits.now) from to) }
+    ensures visits { Visits result (length (stretch_nodes w (shown node.entry) (take P.D digits.now) from to)) visits.old visits.new }
     ensures later { visits.old ≤ visits.new }
 {
     let mut known = *digits;
@@ -82,7 +83,7 @@ fn list_entries<P: Space, V: Ledger>(
     requires part { IsPart w P.D (digits_over P.D (shown node) known.old) (held_node (shown node)) }
     requires within { to ≤ length (entries (shown node)) }
     ensures rows { OnOk result (AreListed P.row_of rows.old.items rows.new.items (rows_over w P.D (shown node.entry) known.old from to)) }
-    ensures visits { visits.new ≤ visits.old + length (nodes_over w P.D (shown node.entry) known.old from to) }
+    ensures visits { Visits result (length (nodes_over w P.D (shown node.entry) known.old from to)) visits.old visits.new }
     ensures later { visits.old ≤ visits.new }
     ensures known { OnOk result (IsBody P.D w (take P.D known.new)) }
     ensures above { OnOk result (digits_from ((shown node.entry).level + 1) (take P.D known.new) ≡ digits_from ((shown node.entry).level + 1) (take P.D known.old)) }
@@ -108,7 +109,7 @@ fn list_entry<P: Space, V: Ledger>(
     requires known { IsBody P.D w (take P.D known.old) }
     requires part { IsPart w P.D (digits_over P.D (shown node) known.old) (held_node (shown node)) }
     ensures rows { OnOk result (AreListed P.row_of rows.old.items rows.new.items (spot_rows w (shown node.entry) spot (take P.D known.old))) }
-    ensures visits { visits.new ≤ visits.old + spot_openings w (shown node.entry) spot (take P.D known.old) }
+    ensures visits { Visits result (spot_openings w (shown node.entry) spot (take P.D known.old)) visits.old visits.new }
     ensures later { visits.old ≤ visits.new }
     ensures known { OnOk result (IsBody P.D w (take P.D known.new)) }
     ensures above { OnOk result (digits_from ((shown node.entry).level + 1) (take P.D known.new) ≡ digits_from ((shown node.entry).level + 1) (take P.D known.old)) }
@@ -139,7 +140,7 @@ pub(crate) fn list_part_if<P: Space, V: Ledger>(
     requires dims { P.D ≤ 16 }
     requires part { IsLawfulPart plan.now.width P.D part.now }
     ensures rows { OnOk result (AreListed P.row_of rows.old.items rows.new.items (chosen (alone plan.now left) (rows_held plan.now.width P.D part.now))) }
-    ensures visits { visits.new ≤ visits.old + seen_nodes plan.now.width (alone plan.now left) [] (nodes_held plan.now.width P.D part.now) }
+    ensures visits { Visits result (seen_nodes plan.now.width (alone plan.now left) [] (nodes_held plan.now.width P.D part.now)) visits.old visits.new }
     ensures later { visits.old ≤ visits.new }
 {
     if plan.alone(left) {
@@ -164,9 +165,9 @@ pub(crate) fn list_stretch_if<P: Space, V: Ledger>(
     requires within { to ≤ length (side_entries side.now) }
     ensures rows { OnOk result (AreListed P.row_of rows.old.items rows.new.items
         (chosen (alone plan.now left) (stretch_rows plan.now.width (side_node side.now) (side_digits P.D side.now) from to))) }
-    ensures visits { visits.new
-        ≤ visits.old
-        + seen_nodes plan.now.width (alone plan.now left) [] (stretch_nodes plan.now.width (side_node side.now) (side_digits P.D side.now) from to) }
+    ensures visits { Visits result
+        (seen_nodes plan.now.width (alone plan.now left) [] (stretch_nodes plan.now.width (side_node side.now) (side_digits P.D side.now) from to))
+        visits.old visits.new }
     ensures later { visits.old ≤ visits.new }
 {
     if plan.alone(left) {

@@ -9,9 +9,10 @@ ghost use Rattle.ph_node.specs.Shown.{shown};
 ghost use Rattle.ph_specs.specs.TableNames.{chosen, AreParted};
 ghost use Rattle.ph_set.specs.Held.{IsLawfulPart, held_what, part_digits, part_what, rows_held, with_node, with_value};
 ghost use Rattle.ph_node.specs.Merge.{addr_at};
-ghost use Rattle.ph_set.specs.Meeting.{IsPartingOf, kept_parts, work_parts, kept_parts_by, work_parts_by};
+ghost use Rattle.ph_set.specs.Meeting.{IsPartingOf, kept_parts, work_parts, kept_parts_by, work_parts_by, apart_parts_by};
 ghost use Rattle.ph_set.specs.Sides.{AreBeside, side_entries, kept_from, work_from, kept_from_by, work_from_by};
 ghost use Rattle.ph_set.specs.Parts.{AreListed, height};
+ghost use Rattle.ph_set.specs.Visited.{Visits};
 
 use crate::NoMemory;
 use crate::lists::{list_part_if, list_stretch_if};
@@ -38,7 +39,7 @@ pub(crate) fn meet<P: Space, V: Ledger>(
     requires left { IsLawfulPart plan.now.width P.D x.now }
     requires right { IsLawfulPart plan.now.width P.D y.now }
     ensures rows { OnOk result (AreListed P.row_of rows.old.items rows.new.items (kept_parts plan.now P.D x.now y.now)) }
-    ensures visits { visits.new ≤ visits.old + work_parts plan.now P.D x.now y.now }
+    ensures visits { Visits result (work_parts plan.now P.D x.now y.now) visits.old visits.new }
     ensures later { visits.old ≤ visits.new }
 {
     if let Some(place) = parting(x, y) {
@@ -70,7 +71,7 @@ fn meet_nodes<P: Space, V: Ledger>(
     requires high { part_what y.now ≡ held_node (shown b) }
     requires agree { IsPartingOf P.D (with_node x.now a) (with_node y.now b) None }
     ensures rows { OnOk result (AreListed P.row_of rows.old.items rows.new.items (kept_parts plan.now P.D (with_node x.now a.entry) (with_node y.now b.entry))) }
-    ensures visits { visits.new ≤ visits.old + work_parts plan.now P.D (with_node x.now a.entry) (with_node y.now b.entry) }
+    ensures visits { Visits result (work_parts plan.now P.D (with_node x.now a.entry) (with_node y.now b.entry)) visits.old visits.new }
     ensures later { visits.old ≤ visits.new }
 {
     if a.level() > b.level() {
@@ -107,7 +108,7 @@ fn over<P: Space, V: Ledger>(
     requires lower { height (part_what y.now) ≤ (shown a).level }
     requires agree { digits_from ((shown a).level + 1) (part_digits P.D y.now) ≡ digits_from ((shown a).level + 1) (part_digits P.D x.now) }
     ensures rows { OnOk result (AreListed P.row_of rows.old.items rows.new.items (kept_parts_by plan.now left P.D (with_node x.now a.entry) y.now)) }
-    ensures visits { visits.new ≤ visits.old + work_parts_by plan.now left P.D (with_node x.now a.entry) y.now }
+    ensures visits { Visits result (work_parts_by plan.now left P.D (with_node x.now a.entry) y.now) visits.old visits.new }
     ensures later { visits.old ≤ visits.new }
 {
     // A use that makes the range of the width known.
@@ -148,7 +149,7 @@ fn meet_either<P: Space, V: Ledger>(
     requires first { IsLawfulPart plan.now.width P.D x.now }
     requires second { IsLawfulPart plan.now.width P.D y.now }
     ensures rows { OnOk result (AreListed P.row_of rows.old.items rows.new.items (kept_parts_by plan.now left P.D x.now y.now)) }
-    ensures visits { visits.new ≤ visits.old + work_parts_by plan.now left P.D x.now y.now }
+    ensures visits { Visits result (work_parts_by plan.now left P.D x.now y.now) visits.old visits.new }
     ensures later { visits.old ≤ visits.new }
 {
     if left {
@@ -173,7 +174,7 @@ fn side_by_side<P: Space, V: Ledger>(
     requires dims { P.D ≤ 16 }
     requires sides { AreBeside plan.now.width P.D a.now b.now }
     ensures rows { OnOk result (AreListed P.row_of rows.old.items rows.new.items (kept_from plan.now P.D a.now 0 b.now 0)) }
-    ensures visits { visits.new ≤ visits.old + work_from plan.now P.D a.now 0 b.now 0 }
+    ensures visits { Visits result (work_from plan.now P.D a.now 0 b.now 0) visits.old visits.new }
     ensures later { visits.old ≤ visits.new }
 {
     let lefts = a.node.len();
@@ -208,7 +209,7 @@ fn pair_at<P: Space, V: Ledger>(
     ensures rows { IfOk result (λ k.
         map P.row_of rows.new.items ++ kept_from plan.now P.D a.now k.0 b.now k.1
         ≡ map P.row_of rows.old.items ++ kept_from plan.now P.D a.now i b.now j) }
-    ensures left_over { IfOk result (λ k. visits.new + work_from plan.now P.D a.now k.0 b.now k.1 ≤ visits.old + work_from plan.now P.D a.now i b.now j) }
+    ensures left_over { IfOk result (λ k. visits.new + work_from plan.now P.D a.now k.0 b.now k.1 ≡ visits.old + work_from plan.now P.D a.now i b.now j) }
     ensures visits { visits.new ≤ visits.old + work_from plan.now P.D a.now i b.now j }
     ensures later { visits.old ≤ visits.new }
     ensures ahead { IfOk result (λ k. (i ≤ k.0) × (j ≤ k.1) × (i + j < k.0 + k.1)) }
@@ -254,7 +255,7 @@ fn pass<P: Space, V: Ledger>(
     ensures rows { IfOk result (λ k.
         map P.row_of rows.new.items ++ kept_from_by plan.now left P.D a.now k b.now j
         ≡ map P.row_of rows.old.items ++ kept_from_by plan.now left P.D a.now i b.now j) }
-    ensures left_over { IfOk result (λ k. visits.new + work_from_by plan.now left P.D a.now k b.now j ≤ visits.old + work_from_by plan.now left P.D a.now i b.now j) }
+    ensures left_over { IfOk result (λ k. visits.new + work_from_by plan.now left P.D a.now k b.now j ≡ visits.old + work_from_by plan.now left P.D a.now i b.now j) }
     ensures visits { visits.new ≤ visits.old + work_from_by plan.now left P.D a.now i b.now j }
     ensures later { visits.old ≤ visits.new }
     ensures ahead { IfOk result (λ k. (i < k) × (k ≤ length (side_entries a.now))) }
@@ -307,7 +308,7 @@ fn list_apart<P: Space, V: Ledger>(
     requires right { IsLawfulPart plan.now.width P.D y.now }
     requires apart { IsPartingOf P.D x.now y.now (Some place) }
     ensures rows { OnOk result (AreListed P.row_of rows.old.items rows.new.items (kept_parts plan.now P.D x.now y.now)) }
-    ensures visits { visits.new ≤ visits.old + work_parts plan.now P.D x.now y.now }
+    ensures visits { Visits result (work_parts plan.now P.D x.now y.now) visits.old visits.new }
     ensures later { visits.old ≤ visits.new }
 {
     let dims = P::D;
@@ -335,7 +336,7 @@ fn list_in_order<P: Space, V: Ledger>(
     requires second { IsLawfulPart plan.now.width P.D y.now }
     requires order { AreParted plan.now.width (rows_held plan.now.width P.D x.now) (rows_held plan.now.width P.D y.now) }
     ensures rows { OnOk result (AreListed P.row_of rows.old.items rows.new.items (kept_parts_by plan.now left P.D x.now y.now)) }
-    ensures visits { visits.new ≤ visits.old + work_parts_by plan.now left P.D x.now y.now }
+    ensures visits { Visits result (apart_parts_by plan.now left P.D x.now y.now) visits.old visits.new }
     ensures later { visits.old ≤ visits.new }
 {
     list_part_if::<P, V>(plan, left, x, rows, visits)?;

@@ -1,9 +1,10 @@
 //! The three set operations.
-ghost use Rattle.std.specs.Prelude.{◌≡◌, ◌+◌, ◌≤◌, IfOk};
+ghost use Rattle.std.specs.Prelude.{◌≡◌, ◌+◌, ◌≤◌, [], length, vec_capacity, IfOk};
 ghost use Rattle.ph_specs.specs.TableNames.{IsTable};
 ghost use Rattle.ph_specs.specs.WorkNames.{all_nodes};
 ghost use Rattle.ph_set.specs.Meeting.{kept, work};
-ghost use Rattle.ph_set.specs.Operations.{plan_of, rows_of, most_visits};
+ghost use Rattle.ph_set.specs.Operations.{plan_of, rows_of, room_of, visits_of};
+ghost use Rattle.ph_set.specs.Visited.{Visits};
 
 use crate::NoMemory;
 use crate::plan::Plan;
@@ -12,7 +13,6 @@ use ph_coord::{Dim, Row, Width};
 use ph_steps::Steps;
 use ph_tree::PhTree;
 use std::alloc::Global;
-use std::cmp::min;
 use std::sync::ledger::Ledger;
 
 /// A set operation on two trees.
@@ -54,12 +54,27 @@ impl Operation {
     }
 
     // For how many rows of two trees room is taken.
-    fn room<const D: usize>(self, a: &PhTree<D>, b: &PhTree<D>) -> u64 {
+    fn room<const D: usize>(self, a: &PhTree<D>, b: &PhTree<D>) -> u64
+        ensures { result ≡ room_of self (length a.now.table) (length b.now.table) }
+    {
         match self {
             Operation::Union => a.len().saturating_add(b.len()),
-            Operation::Common => min(a.len(), b.len()),
+            Operation::Common => a.len().min(b.len()),
             Operation::Minus => a.len(),
         }
+    }
+
+    // No rows yet, with exactly this room.
+    fn room_for<const D: usize>(
+        self,
+        alloc: Global,
+        a: &PhTree<D>,
+        b: &PhTree<D>,
+    ) -> Result<Vec<Row<D>>, NoMemory>
+        ensures none { IfOk result (λ rows. rows.items ≡ []) }
+        ensures room { IfOk result (λ rows. vec_capacity rows ≡ room_of self (length a.now.table) (length b.now.table)) }
+    {
+        Vec::with_capacity(alloc, self.room(a, b) as usize)
     }
 }
 
@@ -74,18 +89,18 @@ pub(crate) fn combined_rows<const D: usize, V: Ledger>(
     requires { a.now.width ≡ b.now.width }
     ensures rows { IfOk result (λ rows. rows.items ≡ rows_of operation a.now.width a.now.table b.now.table) }
     ensures table { IfOk result (λ rows. IsTable a.now.width D rows.items) }
-    ensures visits { visits.new ≤ visits.old + most_visits operation a.now.width D a.now.table b.now.table }
+    ensures visits { Visits result (visits_of operation a.now.width D a.now.table b.now.table) visits.old visits.new }
     ensures later { visits.old ≤ visits.new }
 {
     let plan = operation.plan(a.width());
-    list_kept(alloc, &plan, operation.room(a, b), a, b, visits)
+    list_kept(alloc, operation, &plan, a, b, visits)
 }
 
-// What a plan keeps of two trees of its width. Room is taken for so many rows at once.
+// What a plan keeps of two trees of its width. The room of the operation is taken at once.
 fn list_kept<const D: usize, V: Ledger>(
     alloc: Global,
+    operation: Operation,
     plan: &Plan,
-    room: u64,
     a: &PhTree<D>,
     b: &PhTree<D>,
     visits: &mut Steps<V>,
@@ -93,7 +108,7 @@ fn list_kept<const D: usize, V: Ledger>(
     requires left { a.now.width ≡ plan.now.width }
     requires right { b.now.width ≡ plan.now.width }
     ensures rows { IfOk result (λ rows. rows.items ≡ kept plan.now a.now.table b.now.table) }
-    ensures visits { visits.new ≤ visits.old + work plan.now a.now.table (all_nodes plan.now.width D a.now.table) b.now.table (all_nodes plan.now.width D b.now.table) }
+    ensures visits { Visits result (work plan.now a.now.table (all_nodes plan.now.width D a.now.table) b.now.table (all_nodes plan.now.width D b.now.table)) visits.old visits.new }
     ensures left { IsTable plan.now.width D a.now.table }
     ensures right { IsTable plan.now.width D b.now.table }
     ensures wide { 1 ≤ plan.now.width }
@@ -103,7 +118,7 @@ fn list_kept<const D: usize, V: Ledger>(
     let _bits = plan.width.bits();
     let left = a.root();
     let right = b.root();
-    let mut rows = Vec::with_capacity(alloc, room as usize)?;
+    let mut rows = operation.room_for(alloc, a, b)?;
     list_roots::<Dim<D>, V>(plan, left, right, &mut rows, visits)?;
     Ok(rows)
 }

@@ -7,6 +7,7 @@ ghost use Rattle.ph_specs.specs.TableNames.{chosen};
 ghost use Rattle.ph_set.specs.Held.{held_what};
 ghost use Rattle.ph_set.specs.Meeting.{kept_trees, work_trees};
 ghost use Rattle.ph_set.specs.Parts.{AreListed};
+ghost use Rattle.ph_set.specs.Visited.{Visits};
 
 use crate::NoMemory;
 use crate::lists::list_part;
@@ -31,7 +32,7 @@ pub(crate) fn list_roots<P: Space, V: Ledger>(
     requires left { IsLawful plan.now.width P.D (option_copied a) }
     requires right { IsLawful plan.now.width P.D (option_copied b) }
     ensures rows { OnOk result (AreListed P.row_of rows.old.items rows.new.items (kept_trees plan.now P.D (option_copied a.entry) (option_copied b.entry))) }
-    ensures visits { visits.new ≤ visits.old + work_trees plan.now P.D (option_copied a.entry) (option_copied b.entry) }
+    ensures visits { Visits result (work_trees plan.now P.D (option_copied a.entry) (option_copied b.entry)) visits.old visits.new }
     ensures later { visits.old ≤ visits.new }
 {
     match (a, b) {
@@ -54,7 +55,7 @@ fn meet_roots<P: Space, V: Ledger>(
     requires left { IsLawful plan.now.width P.D (Some x.now) }
     requires right { IsLawful plan.now.width P.D (Some y.now) }
     ensures rows { OnOk result (AreListed P.row_of rows.old.items rows.new.items (kept_trees plan.now P.D (Some x.now) (Some y.now))) }
-    ensures visits { visits.new ≤ visits.old + work_trees plan.now P.D (Some x.now) (Some y.now) }
+    ensures visits { Visits result (work_trees plan.now P.D (Some x.now) (Some y.now)) visits.old visits.new }
     ensures later { visits.old ≤ visits.new }
 {
     // A use that makes the range of the width known.
@@ -75,7 +76,7 @@ fn list_root<P: Space, V: Ledger>(
     requires dims { P.D ≤ 16 }
     requires tree { IsLawful w P.D (Some x.now) }
     ensures rows { OnOk result (AreListed P.row_of rows.old.items rows.new.items (chosen keep (rows_of w P.D (Some x.now)))) }
-    ensures visits { visits.new ≤ visits.old + seen_nodes w keep [] (placed w P.D (Some x.now)) }
+    ensures visits { Visits result (seen_nodes w keep [] (placed w P.D (Some x.now))) visits.old visits.new }
     ensures later { visits.old ≤ visits.new }
 {
     // A use that makes the range of the width known.

@@ -3,7 +3,8 @@ ghost use Rattle.std.specs.Prelude.{◌≡◌, ◌+◌, ◌≤◌, ◌<◌, leng
 ghost use Rattle.ph_specs.specs.TableNames.{union as union_of, common as common_of, minus as minus_of, IsTable};
 ghost use Rattle.ph_specs.specs.WorkNames.{all_nodes, touch};
 ghost use Rattle.ph_set.specs.Made.{IsMade};
-ghost use Rattle.ph_set.specs.Operations.{rows_of, most_visits};
+ghost use Rattle.ph_set.specs.Operations.{rows_of, visits_of};
+ghost use Rattle.ph_set.specs.Visited.{Visits};
 
 use crate::NoMemory;
 use crate::error::SetFault;
@@ -18,7 +19,7 @@ use std::sync::ledger::Ledger;
 /// The tree of the rows of both trees, for at most `max` rows. At a point of both the value is that of `a`.
 ///
 /// Both trees have coordinates of one width, and so has the union. Memory is taken for a vector of as many rows as both trees have,
-/// 8 (D + 1) bytes each, and for the nodes of the union. Each node of both trees is visited at most once, and each
+/// 8 (D + 1) bytes each, and for the nodes of the union. Each node of both trees is visited exactly once, but for want of memory, and each
 /// node of the union is made once. It is `Full` where the union has more than `max` rows, before a node is made. After an
 /// error nothing of the union stays; both trees are lent for reading and stay as they are.
 pub fn union<const D: usize, V: Ledger, C: Ledger>(
@@ -33,9 +34,10 @@ pub fn union<const D: usize, V: Ledger, C: Ledger>(
     ensures made { IsMade a.now.width D max (union_of a.now.width a.now.table b.now.table) changes.old changes.new result }
     ensures full { IsErrOf result SetFault.Full → max < length (union_of a.now.width a.now.table b.now.table) }
     ensures fits { IfOk result (λ t. length (union_of a.now.width a.now.table b.now.table) ≤ max) }
-    ensures visits { visits.new ≤ visits.old + length (all_nodes a.now.width D a.now.table) + length (all_nodes a.now.width D b.now.table) }
+    ensures visits { Visits result (length (all_nodes a.now.width D a.now.table) + length (all_nodes a.now.width D b.now.table)) visits.old visits.new }
     ensures later { visits.old ≤ visits.new }
     ensures refused { IsErrOf result SetFault.Full → changes.new ≡ changes.old }
+    ensures seen { IsErrOf result SetFault.Full → visits.new ≡ visits.old + (length (all_nodes a.now.width D a.now.table) + length (all_nodes a.now.width D b.now.table)) }
 {
     // A use that makes the number of dimensions known.
     let _root = a.root();
@@ -54,8 +56,8 @@ pub fn union<const D: usize, V: Ledger, C: Ledger>(
 /// The tree of the rows of `a` at points that `b` has, for as many rows as `a` may have.
 ///
 /// Both trees have coordinates of one width, and so has the result. Memory is taken for a vector of as many rows as the smaller tree
-/// has, 8 (D + 1) bytes each, and for the nodes of the result. A node is visited only where its region holds a point of the other
-/// tree, and each node of the result is made once. After an error nothing of the result stays; both trees are lent for
+/// has, 8 (D + 1) bytes each, and for the nodes of the result. Exactly those nodes are visited whose region holds a point of the other
+/// tree, each once, and else fewer for want of memory. Each node of the result is made once. After an error nothing of the result stays; both trees are lent for
 /// reading and stay as they are.
 pub fn common<const D: usize, V: Ledger, C: Ledger>(
     alloc: Global,
@@ -66,7 +68,7 @@ pub fn common<const D: usize, V: Ledger, C: Ledger>(
 ) -> Result<PhTree<D>, NoMemory>
     requires { a.now.width ≡ b.now.width }
     ensures made { IsMade a.now.width D a.now.max (common_of a.now.table b.now.table) changes.old changes.new result }
-    ensures visits { visits.new ≤ visits.old + length (touch a.now.width D a.now.table b.now.table) + length (touch a.now.width D b.now.table a.now.table) }
+    ensures visits { Visits result (length (touch a.now.width D a.now.table b.now.table) + length (touch a.now.width D b.now.table a.now.table)) visits.old visits.new }
     ensures later { visits.old ≤ visits.new }
 {
     fewer(alloc, Operation::Common, a, b, visits, changes)
@@ -75,8 +77,8 @@ pub fn common<const D: usize, V: Ledger, C: Ledger>(
 /// The tree of the rows of `a` at points that `b` has not, for as many rows as `a` may have.
 ///
 /// Both trees have coordinates of one width, and so has the result. Memory is taken for a vector of as many rows as `a` has,
-/// 8 (D + 1) bytes each, and for the nodes of the result. A node of `a` is visited at most once, one of `b` only where its region holds a
-/// point of `a`, and each node of the result is made once. After an error nothing of the result stays; both trees are lent
+/// 8 (D + 1) bytes each, and for the nodes of the result. Each node of `a` is visited exactly once, and so is each of `b` whose region holds a
+/// point of `a`, but for want of memory. Each node of the result is made once. After an error nothing of the result stays; both trees are lent
 /// for reading and stay as they are.
 pub fn minus<const D: usize, V: Ledger, C: Ledger>(
     alloc: Global,
@@ -87,7 +89,7 @@ pub fn minus<const D: usize, V: Ledger, C: Ledger>(
 ) -> Result<PhTree<D>, NoMemory>
     requires { a.now.width ≡ b.now.width }
     ensures made { IsMade a.now.width D a.now.max (minus_of a.now.table b.now.table) changes.old changes.new result }
-    ensures visits { visits.new ≤ visits.old + length (all_nodes a.now.width D a.now.table) + length (touch a.now.width D b.now.table a.now.table) }
+    ensures visits { Visits result (length (all_nodes a.now.width D a.now.table) + length (touch a.now.width D b.now.table a.now.table)) visits.old visits.new }
     ensures later { visits.old ≤ visits.new }
 {
     fewer(alloc, Operation::Minus, a, b, visits, changes)
@@ -105,7 +107,7 @@ fn fewer<const D: usize, V: Ledger, C: Ledger>(
     requires width { a.now.width ≡ b.now.width }
     requires fewer { length (rows_of operation a.now.width a.now.table b.now.table) ≤ length a.now.table }
     ensures made { IsMade a.now.width D a.now.max (rows_of operation a.now.width a.now.table b.now.table) changes.old changes.new result }
-    ensures visits { visits.new ≤ visits.old + most_visits operation a.now.width D a.now.table b.now.table }
+    ensures visits { Visits result (visits_of operation a.now.width D a.now.table b.now.table) visits.old visits.new }
     ensures later { visits.old ≤ visits.new }
 {
     // Uses that make known how many dimensions and rows there are.

@@ -9,6 +9,7 @@ use Rattle.ph_path.proofs.Knowns.{wider}
 use Rattle.ph_set.specs.Parts.{IsPart, openings, part_rows, stretch_rows}
 use Rattle.ph_set.proofs.Joining.{same-above, stepped, joined-known, joined-from, child-level, child-part, child-rows, child-nodes, child-from}
 use Rattle.ph_set.proofs.Meetings.{after-two}
+use Rattle.ph_set.proofs.Spent.{visits-on}
 use Rattle.std.proofs.lemmas.Result.{on_ok_weaker}
 use Rattle.ph_set.proofs.lists.+lists.Goals as goal
 
@@ -26,7 +27,7 @@ pub list_entries-returns-in_err-list_entry-clause-visits : goal.list_entries-ret
 list_entries-returns-in_err-list_entry-clause-visits g t c =
     let step = stepped c.args.w g.P.Dims.D (take g.P.Dims.D c.args.known.now) (take g.P.Dims.D c.loop-i.known) (shown c.args.node) c.requires.part
     c.loop-i.invariant.above c.spot.result c.spot.ensures.spot c.loop-i.i c.args.to c.spot.ensures.place (omega (arith, c.loop-i-test.true)) c.requires.within in
-    omega (arith, step.nodes, c.list_entry.ensures.visits, c.loop-i.invariant.visits)
+    record { all = search rules; most = omega (arith, step.nodes, c.list_entry.ensures.visits.most, c.loop-i.invariant.visits) }
 
 pub list_entries-loop-i-preserved : goal.list_entries-loop-i-preserved
 list_entries-loop-i-preserved g t c =
@@ -39,7 +40,7 @@ list_entries-loop-i-preserved g t c =
       rows =
           after-two (map g.P.Space.row_of c.loop-i.rows.items) (map g.P.Space.row_of c.list_entry.new.rows.items)
           (part_rows c.args.w new (what_at (entries n) c.spot.result.place)) rest _ c.in_ok-list_entry.ensures.rows step.rows ∙ c.loop-i.invariant.rows;
-      visits = omega (arith, step.nodes, c.list_entry.ensures.visits, c.loop-i.invariant.visits);
+      visits = omega (arith, step.nodes, c.in_ok-list_entry.ensures.visits.all, c.loop-i.invariant.visits);
       later = omega (arith, c.list_entry.ensures.later, c.loop-i.invariant.later);
       known = c.in_ok-list_entry.ensures.known;
       above = c.in_ok-list_entry.ensures.above ∙ c.loop-i.invariant.above;
@@ -97,7 +98,7 @@ list_entry-returns-in-Child-clause-visits g t c =
     (child-nodes c.args.w d (take d c.args.known.now) (shown c.args.node) c.requires.part c.args.spot
     c.requires.spot (take d c.join_entry.new.known) c.join_entry.ensures (shown c.visit-below.result) held
     c.len.result c.len.ensures) in
-    omega (arith, one, below, c.list_entries.ensures.visits, c.visit-below.ensures.cost)
+    visits-on c.list_entries.ensures.visits (omega (arith, one, below, c.visit-below.ensures.cost))
 
 pub list_entry-returns-in-Child-clause-above : goal.list_entry-returns-in-Child-clause-above
 list_entry-returns-in-Child-clause-above g t c =

@@ -15,7 +15,7 @@ abbrev pub invariant-list_entries-loop-i : goal.invariant-list_entries-loop-i
 invariant-list_entries-loop-i g l = record {
   rows : map g.P.Space.row_of l.rows.items ++ rows_over l.w g.P.Dims.D (shown l.node) l.fn.known l.i l.to ≡
       map g.P.Space.row_of l.fn.rows.items ++ rows_over l.w g.P.Dims.D (shown l.node) l.fn.known l.from l.to;
-  visits : l.visits + length (nodes_over l.w g.P.Dims.D (shown l.node) l.fn.known l.i l.to) ≤ l.fn.visits + length
+  visits : l.visits + length (nodes_over l.w g.P.Dims.D (shown l.node) l.fn.known l.i l.to) ≡ l.fn.visits + length
       (nodes_over l.w g.P.Dims.D (shown l.node) l.fn.known l.from l.to);
   later : l.fn.visits ≤ l.visits;
   known : IsBody g.P.Dims.D l.w (take g.P.Dims.D l.known);

@@ -5,7 +5,8 @@ use Rattle.ph_specs.specs.Combined.{chosen}
 use Rattle.ph_set.specs.Held.{IsLawfulPart, held_what, part_digits, part_what}
 use Rattle.ph_set.specs.Meeting.{kept_of, kept_parts, IsParting}
 use Rattle.ph_set.specs.Parts.{AreListed, height, rows_in, stretch}
-use Rattle.ph_set.proofs.Meetings.{after-two, after-three, both-values, sides-start, sides-work, sides-end, sides-end-work, rest-cost}
+use Rattle.ph_set.proofs.Meetings.{after-two, after-three, both-values, sides-start, sides-work, sides-end, sides-end-work, rest-seen}
+use Rattle.ph_set.proofs.Spent.{visits-on, visits-same}
 use Rattle.ph_set.proofs.Overs.{IsOver, over-by, over-found, found-cost, none-place, over-missed, missed-cost}
 use Rattle.ph_set.proofs.Pairs.{paired, both-passed, both-cost}
 use Rattle.ph_set.specs.Sides.{kept_from, side_digits, side_entries, side_node}
@@ -42,7 +43,7 @@ over-returns-in_err-list_stretch_if-in-Ok-clause-visits g t c =
     c.in-Ok.ensures.spot in
     let over = lies_over g t (goal.at.over-returns-in_err-list_stretch_if-in-Ok-clause-visits g t c).After-body_address in
     let bound = found-cost c.args.plan.now c.args.left over c.in-Ok.ensures.spot c.in-Ok.ensures.found there refl c.len-end.ensures in
-    omega (arith, bound, c.list_stretch_if.ensures.visits)
+    record { all = search rules; most = omega (arith, bound, c.list_stretch_if.ensures.visits.most) }
 
 pub over-part_at-part-requires-clause-digits : goal.over-part_at-part-requires-clause-digits
 over-part_at-part-requires-clause-digits g t c =
@@ -61,7 +62,7 @@ over-returns-in_err-meet_either-in-Ok-clause-visits g t c =
     let over = lies_over g t (goal.at.over-returns-in_err-meet_either-in-Ok-clause-visits g t c).After-body_address in
     let bound = found-cost c.args.plan.now c.args.left over c.in-Ok.ensures.spot c.in-Ok.ensures.found c.part_at-part.ensures.digits c.part_at-part.ensures.held
     c.len-end.ensures in
-    omega (arith, bound, c.list_stretch_if.ensures.visits, c.part_at-part.ensures.visits, c.meet_either.ensures.visits)
+    record { all = search rules; most = omega (arith, bound, c.list_stretch_if.ensures.visits.most, c.part_at-part.ensures.visits, c.meet_either.ensures.visits.most) }
 
 pub over-list_stretch_if-requires-in-Err-clause-within : goal.over-list_stretch_if-requires-in-Err-clause-within
 over-list_stretch_if-requires-in-Err-clause-within g t c =
@@ -72,13 +73,13 @@ pub over-returns-in_err-list_stretch_if-in-Err-clause-visits : goal.over-returns
 over-returns-in_err-list_stretch_if-in-Err-clause-visits g t c =
     let over = lies_over g t (goal.at.over-returns-in_err-list_stretch_if-in-Err-clause-visits g t c).After-body_address in
     let bound = missed-cost c.args.plan.now c.args.left over c.in-Err.ensures.absent c.in-Err.ensures.place c.len-end.ensures in
-    omega (arith, bound, c.list_stretch_if-in-Err.ensures.visits)
+    record { all = search rules; most = omega (arith, bound, c.list_stretch_if-in-Err.ensures.visits.most) }
 
 pub over-returns-in_err-list_part_if-in-Err-clause-visits : goal.over-returns-in_err-list_part_if-in-Err-clause-visits
 over-returns-in_err-list_part_if-in-Err-clause-visits g t c =
     let over = lies_over g t (goal.at.over-returns-in_err-list_part_if-in-Err-clause-visits g t c).After-body_address in
     let bound = missed-cost c.args.plan.now c.args.left over c.in-Err.ensures.absent c.in-Err.ensures.place c.len-end.ensures in
-    omega (arith, bound, c.list_stretch_if-in-Err.ensures.visits, c.list_part_if.ensures.visits)
+    record { all = search rules; most = omega (arith, bound, c.list_stretch_if-in-Err.ensures.visits.most, c.list_part_if.ensures.visits.most) }
 
 pub over-returns-in_ok-meet_either-in-Ok-clause-rows : goal.over-returns-in_ok-meet_either-in-Ok-clause-rows
 over-returns-in_ok-meet_either-in-Ok-clause-rows g t c =
@@ -94,7 +95,8 @@ over-returns-in_ok-meet_either-in-Ok-clause-visits g t c =
     let over = lies_over g t (goal.at.over-returns-in_ok-meet_either-in-Ok-clause-visits g t c).After-body_address in
     let bound = found-cost c.args.plan.now c.args.left over c.in-Ok.ensures.spot c.in-Ok.ensures.found c.part_at-part.ensures.digits c.part_at-part.ensures.held
     c.len-end.ensures in
-    omega (arith, bound, c.list_stretch_if.ensures.visits, c.part_at-part.ensures.visits, c.meet_either.ensures.visits, c.list_stretch_if-in-Ok.ensures.visits)
+    visits-on c.list_stretch_if-in-Ok.ensures.visits
+    (omega (arith, bound, c.in_ok-list_stretch_if-in-Ok.ensures.visits.all, c.part_at-part.ensures.visits, c.in_ok-meet_either-in-Ok.ensures.visits.all))
 
 pub over-returns-in_ok-list_part_if-in-Err-clause-rows : goal.over-returns-in_ok-list_part_if-in-Err-clause-rows
 over-returns-in_ok-list_part_if-in-Err-clause-rows g t c =
@@ -108,7 +110,8 @@ pub over-returns-in_ok-list_part_if-in-Err-clause-visits : goal.over-returns-in_
 over-returns-in_ok-list_part_if-in-Err-clause-visits g t c =
     let over = lies_over g t (goal.at.over-returns-in_ok-list_part_if-in-Err-clause-visits g t c).After-body_address in
     let bound = missed-cost c.args.plan.now c.args.left over c.in-Err.ensures.absent c.in-Err.ensures.place c.len-end.ensures in
-    omega (arith, bound, c.list_stretch_if-in-Err.ensures.visits, c.list_part_if.ensures.visits, c.list_stretch_if-in-Err-2.ensures.visits)
+    visits-on c.list_stretch_if-in-Err-2.ensures.visits
+    (omega (arith, bound, c.in_ok-list_stretch_if-in-Err.ensures.visits.all, c.in_ok-list_part_if-in-Err.ensures.visits.all))
 
 pub meet_nodes-returns-clause-rows : goal.meet_nodes-returns-clause-rows
 meet_nodes-returns-clause-rows g t c =
@@ -121,7 +124,7 @@ pub meet_nodes-returns-clause-visits : goal.meet_nodes-returns-clause-visits
 meet_nodes-returns-clause-visits g t c =
     let d = g.P.Dims.D in
     let bound = sides-work c.args.plan.now (part_digits d c.args.x.now) (part_digits d c.args.y.now) (shown c.args.a) (shown c.args.b) in
-    omega (arith, bound, c.side_by_side.ensures.visits)
+    visits-same c.side_by_side.ensures.visits bound
 
 pub pair_at-part_at-x-requires-clause-digits : goal.pair_at-part_at-x-requires-clause-digits
 pair_at-part_at-x-requires-clause-digits g t c =
@@ -153,19 +156,19 @@ pub pair_at-returns-in_err-meet-clause-visits : goal.pair_at-returns-in_err-meet
 pair_at-returns-in_err-meet-clause-visits g t c =
     let bound = both-cost c.args.plan.now (paired c.requires.sides c.spot-left.ensures.place c.spot-right.ensures.place c.spot-left.ensures.spot
     c.spot-right.ensures.spot) (omega arith) c.part_at-x.ensures.digits c.part_at-x.ensures.held c.part_at-y.ensures.digits c.part_at-y.ensures.held in
-    omega (arith, bound, c.part_at-x.ensures.visits, c.part_at-y.ensures.visits, c.meet.ensures.visits)
+    omega (arith, bound, c.part_at-x.ensures.visits, c.part_at-y.ensures.visits, c.meet.ensures.visits.most)
 
 pub pair_at-returns-clause-left_over : goal.pair_at-returns-clause-left_over
 pair_at-returns-clause-left_over g t c =
     let bound = both-cost c.args.plan.now (paired c.requires.sides c.spot-left.ensures.place c.spot-right.ensures.place c.spot-left.ensures.spot
     c.spot-right.ensures.spot) (omega arith) c.part_at-x.ensures.digits c.part_at-x.ensures.held c.part_at-y.ensures.digits c.part_at-y.ensures.held in
-    omega (arith, bound, c.part_at-x.ensures.visits, c.part_at-y.ensures.visits, c.meet.ensures.visits)
+    omega (arith, bound, c.part_at-x.ensures.visits, c.part_at-y.ensures.visits, c.in_ok-meet.ensures.visits.all)
 
 pub pair_at-returns-clause-visits : goal.pair_at-returns-clause-visits
 pair_at-returns-clause-visits g t c =
     let bound = both-cost c.args.plan.now (paired c.requires.sides c.spot-left.ensures.place c.spot-right.ensures.place c.spot-left.ensures.spot
     c.spot-right.ensures.spot) (omega arith) c.part_at-x.ensures.digits c.part_at-x.ensures.held c.part_at-y.ensures.digits c.part_at-y.ensures.held in
-    omega (arith, bound, c.part_at-x.ensures.visits, c.part_at-y.ensures.visits, c.meet.ensures.visits)
+    omega (arith, bound, c.part_at-x.ensures.visits, c.part_at-y.ensures.visits, c.meet.ensures.visits.most)
 
 pub pair_at-returns-clause-rows : goal.pair_at-returns-clause-rows
 pair_at-returns-clause-rows g t c =
@@ -210,21 +213,33 @@ side_by_side-returns-clause-rows g t c =
 
 pub side_by_side-returns-in_err-list_stretch_if-clause-visits : goal.side_by_side-returns-in_err-list_stretch_if-clause-visits
 side_by_side-returns-in_err-list_stretch_if-clause-visits g t c =
+    let p = c.args.plan.now in
     let a = c.args.a.now in
     let b = c.args.b.now in
-    let first = rest-cost c.args.plan.now.width c.args.plan.now.left (side_node a).level (side_digits g.P.Dims.D a) (side_entries a) c.loop-i.i
-    c.len-lefts.result _ _ c.len-lefts.ensures c.list_stretch_if.ensures.visits in
-    let bound = sides-end-work c.args.plan.now (side_digits g.P.Dims.D a) (side_digits g.P.Dims.D b) (side_node a) (side_node b) c.loop-i.i c.loop-i.j in
-    omega (arith, first, bound, c.loop-i.invariant.visits)
+    let n = side_node a in
+    let m = side_node b in
+    let done : c.loop-i.i < length (entries n) → length (entries m) ≤ c.loop-i.j =
+    λ l. elim c.loop-i-test.branch [
+      | side_by_side-then-loop-i-test+else-j-rights w ↦ omega (arith, w.if-j-rights.false, c.len-rights.ensures)
+      | side_by_side-else-loop-i-test w ↦ absurd (omega (arith, l, w.loop-i-test.false, c.len-lefts.ensures))
+    ] in
+    let first = rest-seen p.width p.left n.level (side_digits g.P.Dims.D a) (side_entries a) c.loop-i.i c.len-lefts.result c.len-lefts.ensures in
+    let bound = sides-end-work p (side_digits g.P.Dims.D a) (side_digits g.P.Dims.D b) n m c.loop-i.i c.loop-i.j done in
+    record { all = search rules; most = omega (arith, first, bound, c.loop-i.invariant.visits, c.list_stretch_if.ensures.visits.most) }
 
 pub side_by_side-returns-clause-visits : goal.side_by_side-returns-clause-visits
 side_by_side-returns-clause-visits g t c =
     let p = c.args.plan.now in
     let a = c.args.a.now in
     let b = c.args.b.now in
-    let first = rest-cost p.width p.left (side_node a).level (side_digits g.P.Dims.D a) (side_entries a) c.loop-i.i c.len-lefts.result _ _ c.len-lefts.ensures
-    c.list_stretch_if.ensures.visits in
-    let second = rest-cost p.width p.right (side_node b).level (side_digits g.P.Dims.D b) (side_entries b) c.loop-i.j c.len-rights.result _ _ c.len-rights.ensures
-    c.list_stretch_if-2.ensures.visits in
-    let bound = sides-end-work p (side_digits g.P.Dims.D a) (side_digits g.P.Dims.D b) (side_node a) (side_node b) c.loop-i.i c.loop-i.j in
-    omega (arith, first, second, bound, c.loop-i.invariant.visits)
+    let n = side_node a in
+    let m = side_node b in
+    let done : c.loop-i.i < length (entries n) → length (entries m) ≤ c.loop-i.j =
+    λ l. elim c.loop-i-test.branch [
+      | side_by_side-then-loop-i-test+else-j-rights w ↦ omega (arith, w.if-j-rights.false, c.len-rights.ensures)
+      | side_by_side-else-loop-i-test w ↦ absurd (omega (arith, l, w.loop-i-test.false, c.len-lefts.ensures))
+    ] in
+    let first = rest-seen p.width p.left n.level (side_digits g.P.Dims.D a) (side_entries a) c.loop-i.i c.len-lefts.result c.len-lefts.ensures in
+    let second = rest-seen p.width p.right m.level (side_digits g.P.Dims.D b) (side_entries b) c.loop-i.j c.len-rights.result c.len-rights.ensures in
+    let bound = sides-end-work p (side_digits g.P.Dims.D a) (side_digits g.P.Dims.D b) n m c.loop-i.i c.loop-i.j done in
+    visits-on c.list_stretch_if-2.ensures.visits (omega (arith, first, second, bound, c.loop-i.invariant.visits, c.in_ok-list_stretch_if.ensures.visits.all))

@@ -30,7 +30,7 @@ abbrev pub invariant-side_by_side-loop-i : goal.invariant-side_by_side-loop-i
 invariant-side_by_side-loop-i g l = record {
   rows : map g.P.Space.row_of l.rows.items ++ kept_from l.plan g.P.Dims.D l.a l.i l.b l.j ≡
       map g.P.Space.row_of l.fn.rows.items ++ kept_from l.plan g.P.Dims.D l.a 0 l.b 0;
-  visits : l.visits + work_from l.plan g.P.Dims.D l.a l.i l.b l.j ≤ l.fn.visits + work_from l.plan g.P.Dims.D l.a 0 l.b 0;
+  visits : l.visits + work_from l.plan g.P.Dims.D l.a l.i l.b l.j ≡ l.fn.visits + work_from l.plan g.P.Dims.D l.a 0 l.b 0;
   later : l.fn.visits ≤ l.visits;
   left : l.i ≤ l.lefts;
   right : l.j ≤ l.rights;

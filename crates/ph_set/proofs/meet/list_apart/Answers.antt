@@ -1,7 +1,10 @@
-use Rattle.std.proofs.Common.{◌≡◌, take, arith}
+use Rattle.std.proofs.Common.{◌≡◌, ◌+◌, [], take, arith}
 use Rattle.ph_specs.specs.PutTree.{body_address}
-use Rattle.ph_set.specs.Held.{held_what}
-use Rattle.ph_set.proofs.Meetings.{address-known, apart-first, apart-second}
+use Rattle.ph_specs.specs.WorkSets.{seen_nodes}
+use Rattle.ph_set.specs.Held.{held_what, nodes_held}
+use Rattle.ph_set.specs.Meeting.{work_parts}
+use Rattle.ph_set.proofs.Spent.{visits-same}
+use Rattle.ph_set.proofs.Meetings.{address-known, apart-first, apart-second, apart-work}
 use Rattle.ph_set.proofs.meet.list_apart.Given.{Over}
 use Rattle.ph_set.proofs.meet.list_apart.Goals.{After-body_address-second}
 use Rattle.ph_set.proofs.meet.list_apart.Goals as goal
@@ -28,3 +31,19 @@ list_in_order-requires-else-first-second-clause-order g c =
     apart-second c.args.plan.now g.P.Dims.D (take g.P.Dims.D c.args.x.now.digits) (take g.P.Dims.D c.args.y.now.digits) (held_what c.args.x.now.held)
     (held_what c.args.y.now.held) c.requires.left c.requires.right c.args.place c.requires.apart
     (omega (arith, at.0, at.1, c.if-first-second.false))
+
+-- no region below the one part holds a point of the other
+cost : (g : Over) (c : After-body_address-second g) → let p = c.args.plan.now in
+    seen_nodes p.width p.left [] (nodes_held p.width g.P.Dims.D c.args.x.now) + seen_nodes p.width p.right [] (nodes_held p.width g.P.Dims.D c.args.y.now)
+    ≡ work_parts p g.P.Dims.D c.args.x.now c.args.y.now
+cost g c =
+    apart-work c.args.plan.now g.P.Dims.D (take g.P.Dims.D c.args.x.now.digits) (take g.P.Dims.D c.args.y.now.digits) (held_what c.args.x.now.held)
+    (held_what c.args.y.now.held) c.requires.left c.requires.right c.args.place c.requires.apart
+
+pub returns-then-first-second-clause-visits : goal.returns-then-first-second-clause-visits
+returns-then-first-second-clause-visits g c =
+    visits-same c.list_in_order.ensures.visits (cost g (goal.at.returns-then-first-second-clause-visits g c).After-body_address-second)
+
+pub returns-else-first-second-clause-visits : goal.returns-else-first-second-clause-visits
+returns-else-first-second-clause-visits g c =
+    visits-same c.list_in_order-else-first-second.ensures.visits (omega (arith, cost g (goal.at.returns-else-first-second-clause-visits g c).After-body_address-second))

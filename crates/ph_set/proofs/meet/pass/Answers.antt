@@ -23,7 +23,7 @@ list_stretch_if-requires-clause-within g c =
 
 pub returns-in_err-list_stretch_if-clause-visits : goal.returns-in_err-list_stretch_if-clause-visits
 returns-in_err-list_stretch_if-clause-visits g c =
-    omega (arith, (goes g (goal.at.returns-in_err-list_stretch_if-clause-visits g c).After-place_from-next).cost, c.list_stretch_if.ensures.visits)
+    omega (arith, (goes g (goal.at.returns-in_err-list_stretch_if-clause-visits g c).After-place_from-next).cost, c.list_stretch_if.ensures.visits.most)
 
 pub returns-clause-rows : goal.returns-clause-rows
 returns-clause-rows g c =
@@ -38,11 +38,11 @@ returns-clause-rows g c =
 
 pub returns-clause-left_over : goal.returns-clause-left_over
 returns-clause-left_over g c =
-    omega (arith, (goes g (goal.at.returns-clause-left_over g c).After-place_from-next).cost, c.list_stretch_if.ensures.visits)
+    omega (arith, (goes g (goal.at.returns-clause-left_over g c).After-place_from-next).cost, c.in_ok-list_stretch_if.ensures.visits.all)
 
 pub returns-clause-visits : goal.returns-clause-visits
 returns-clause-visits g c =
-    omega (arith, (goes g (goal.at.returns-clause-visits g c).After-place_from-next).cost, c.list_stretch_if.ensures.visits)
+    omega (arith, (goes g (goal.at.returns-clause-visits g c).After-place_from-next).cost, c.list_stretch_if.ensures.visits.most)
 
 pub returns-clause-ahead : goal.returns-clause-ahead
 returns-clause-ahead g c =

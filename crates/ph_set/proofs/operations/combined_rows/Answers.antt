@@ -1,10 +1,11 @@
-use Rattle.std.proofs.Common.{◌≡◌, sym, ap, subst, ◌∙◌, arith}
+use Rattle.std.proofs.Common.{◌≡◌, sym, ap, subst, ◌∙◌}
 use Rattle.std.specs.Prelude.{IfOk}
 use Rattle.std.proofs.lemmas.Result.{IfOk-weaker}
 use Rattle.ph_specs.specs.Table.{IsTable}
 use Rattle.ph_set.specs.Meeting.{kept}
 use Rattle.ph_set.specs.Operations.{plan_of}
 use Rattle.ph_set.proofs.KeptRows.{AreKept, are-kept}
+use Rattle.ph_set.proofs.Spent.{visits-same}
 use Rattle.ph_set.proofs.operations.combined_rows.Given.{Over}
 use Rattle.ph_set.proofs.operations.combined_rows.Goals.{After-list_kept}
 use Rattle.ph_set.proofs.operations.combined_rows.Goals as goal
@@ -28,4 +29,4 @@ returns-clause-table g c =
 
 pub returns-clause-visits : goal.returns-clause-visits
 returns-clause-visits g c =
-    omega (arith, (kept_rows g (goal.at.returns-clause-visits g c).After-list_kept).visits, c.list_kept.ensures.visits)
+    visits-same c.list_kept.ensures.visits (kept_rows g (goal.at.returns-clause-visits g c).After-list_kept).visits

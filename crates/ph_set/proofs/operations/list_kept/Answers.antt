@@ -1,4 +1,4 @@
-use Rattle.std.proofs.Common.{◌≡◌, ◌+◌, ◌≤◌, ◌++◌, map, sym, ◌∙◌, ap, subst, arith, List}
+use Rattle.std.proofs.Common.{rules, ◌≡◌, ◌≤◌, ◌++◌, map, sym, ◌∙◌, ap, arith, List}
 use Rattle.std.specs.Option.{option_copied}
 use Rattle.ph_specs.specs.Lawful.{rows}
 use Rattle.ph_specs.specs.Table.{Row}
@@ -46,17 +46,18 @@ roots g c =
 
 pub returns-in_err-list_roots-clause-visits : goal.returns-in_err-list_roots-clause-visits
 returns-in_err-list_roots-clause-visits g c =
-    subst (λ t. c.list_roots.new.visits ≤ c.args.visits.now + t) (roots g (goal.at.returns-in_err-list_roots-clause-visits g c).After-list_roots).1
-    c.list_roots.ensures.visits
+    let same = (roots g (goal.at.returns-in_err-list_roots-clause-visits g c).After-list_roots).1 in
+    record { all = search rules; most = omega (arith, same, c.list_roots.ensures.visits.most) }
 
 pub returns-clause-rows : goal.returns-clause-rows
 returns-clause-rows g c =
     let p = c.args.plan.now in
     sym (map-same c.list_roots.new.rows.items)
     ∙ c.in_ok-list_roots.ensures.rows
-    ∙ ap (λ (t : List Row). map (λ r. r) t ++ kept_trees p g.row.D (option_copied c.root-left.result) (option_copied c.root-right.result)) c.in_ok-rows.ensures.items
+    ∙ ap (λ (t : List Row). map (λ r. r) t ++ kept_trees p g.row.D (option_copied c.root-left.result) (option_copied c.root-right.result)) c.in_ok-rows.ensures.none
     ∙ (roots g (goal.at.returns-clause-rows g c).After-list_roots).0
 
 pub returns-clause-visits : goal.returns-clause-visits
 returns-clause-visits g c =
-    subst (λ t. c.list_roots.new.visits ≤ c.args.visits.now + t) (roots g (goal.at.returns-clause-visits g c).After-list_roots).1 c.list_roots.ensures.visits
+    let same = (roots g (goal.at.returns-clause-visits g c).After-list_roots).1 in
+    record { all = omega (arith, same, c.in_ok-list_roots.ensures.visits.all); most = omega (arith, same, c.list_roots.ensures.visits.most) }
