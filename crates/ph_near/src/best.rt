@@ -1,6 +1,6 @@
 //! The rows that are nearest to a point, best first.
 
-ghost use Rattle.std.specs.Prelude.{◌≡◌, ◌+◌, ◌≤◌, length, map, IfOk, IsOk};
+ghost use Rattle.std.specs.Prelude.{◌≡◌, ◌+◌, ◌≤◌, [], None, length, map, IfOk, IsOk};
 ghost use Rattle.std.specs.Option.{option_copied};
 ghost use Rattle.ph_specs.specs.TableNames.{coordinate, IsPoint, near, IsNearest};
 ghost use Rattle.ph_specs.specs.TreeNames.{IsBody, IsLawful, rows};
@@ -41,6 +41,7 @@ pub fn nearest<const D: usize, V: Ledger>(
     ensures hits { IfOk result (λ hits. hits.items ≡ hits_of q.entry (near q.entry n tree.now.table)) }
     ensures nearest { IfOk result (λ hits. IsNearest tree.now.width q.entry n tree.now.table (rows_hit hits.items)) }
     ensures none { n ≡ 0 → IsOk result }
+    ensures empty { tree.now.table ≡ [] → IsOk result }
     ensures visits { visits.new ≤ visits.old + length (reach tree.now.width D tree.now.table q.entry n) }
     ensures grows { visits.old ≤ visits.new }
 {
@@ -67,6 +68,7 @@ fn search<const D: usize, V: Ledger>(
         ≡ hits_of (map (coordinate w) center.now)
         (near (map (coordinate w) center.now) n (rows w D (option_copied root.entry)))) }
     ensures none { n ≡ 0 → IsOk result }
+    ensures empty { option_copied root.entry ≡ None → IsOk result }
     ensures visits { visits.new ≤ visits.old + length (reach w D (rows w D (option_copied root.entry)) (map (coordinate w) center.now) n) }
     ensures grows { visits.old ≤ visits.new }
 {
