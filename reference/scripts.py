@@ -5,11 +5,13 @@ differ in one binary digit, or stand at the ends of the width.
 """
 import random
 import re
+from collections import defaultdict
 from dataclasses import dataclass
 
 import shape
 import snapshot
-from table import is_box, is_point, least
+from lines import FORMS, places
+from table import least
 
 ODD_WORDS = [b'', b'-', b'+', b'#', b'put', b'points', b'boxes', b'bits', b'max', b'header', b'a', b'b', b'c', b'A', b'1.5', b'0x1', b'--1',
              b'+-1', b'1e3', b'-0', b'+0', b'007', b'-1', b'4294967295', b'4294967296', b'65536', b'65537', b'18446744073709551615',
@@ -41,8 +43,8 @@ class Writer:
         self.name = 'a'
         self.lines = []
         self.files = {}
-        self.drawn = []
-        self.placed = []
+        # The points that were drawn for slots of a form, and those at which a row was put.
+        self.drawn, self.placed = defaultdict(list), defaultdict(list)
         self.marks = [rng.randrange(62) for _ in range(rng.choice((1, 2, 3)))]
         self.style = rng.choice(('small', 'small', 'marks', 'marks', 'ends', 'all', 'mixed'))
 
@@ -76,9 +78,9 @@ class Writer:
     def point(self):
         """A point of the slot: one that was drawn before, one that differs from it in a digit, or a new one."""
         kind, dims, width = self.slot
-        known = self.known(self.drawn)
+        known = self.drawn[self.slot]
         if known and self.chance(0.6):
-            point = self.rng.choice(known)
+            point = self.rng.choice(known[-30:])
             if self.chance(0.3):
                 point = list(point)
                 at = self.rng.randrange(dims)
@@ -86,18 +88,13 @@ class Writer:
                 point = as_box(point) if kind == 'boxes' else tuple(point)
         else:
             point = self.new_point()
-        self.drawn.append(point)
+        known.append(point)
         return point
-
-    def known(self, points):
-        """The last of some points that are right for the slot."""
-        kind, dims, width = self.slot
-        return [point for point in points[-30:] if len(point) == dims and is_point(point, width) and (kind == 'points' or is_box(point))]
 
     def placed_point(self):
         """A point at which a row was put, most often."""
-        known = self.known(self.placed)
-        return self.rng.choice(known) if known and self.chance(0.75) else self.point()
+        known = self.placed[self.slot]
+        return self.rng.choice(known[-30:]) if known and self.chance(0.75) else self.point()
 
     def corners(self):
         """The corners of a window, which is often a large one and now and then reversed."""
@@ -117,6 +114,8 @@ class Writer:
 
     def open(self, kind=None, dims=None, width=None, most=None):
         rng = self.rng
+        if most is None and self.chance(0.15):
+            most = rng.choice((0, 1, 2, 3, 5, 8))
         kind = kind or rng.choice(('points', 'points', 'boxes'))
         dims = dims or (rng.choice((1, 1, 2, 2, 2, 3, 3, 4, 5, 6, 8)) if kind == 'boxes' else rng.choice((1, 1, 2, 2, 2, 3, 3, 4, 5, 8, 12, 16)))
         width = width or rng.choice((1, 2, 3, 4, 5, 8, 16, 29, 31, 32, 32, 33, 48, 61, 62))
@@ -133,8 +132,8 @@ class Writer:
         self.add('use', self.name)
 
     def put(self):
-        self.placed.append(self.point())
-        self.add('put', *self.placed[-1], self.value())
+        self.placed[self.slot].append(self.point())
+        self.add('put', *self.placed[self.slot][-1], self.value())
 
     def edit(self):
         kind = self.rng.choice(('put', 'put', 'put', 'put', 'del', 'move', 'move'))
@@ -143,8 +142,9 @@ class Writer:
         elif kind == 'del':
             self.add('del', *self.placed_point())
         else:
-            self.placed.append(self.point())
-            self.add('move', *self.placed_point(), *self.placed[-1])
+            goal = self.point()
+            self.add('move', *self.placed_point(), *goal)
+            self.placed[self.slot].append(goal)
 
     def ask(self):
         kind = self.rng.choice(('get', 'get', 'count', 'window', 'stats', 'near', 'within'))
@@ -307,6 +307,39 @@ def numbers(writer):
     return writer.case()
 
 
+def word_at(writer, place):
+    """A word for a place of a form, which is right or wrong there."""
+    rng = writer.rng
+    low, high = least(writer.slot[2]), greatest(writer.slot[2])
+    right = {'C': [writer.coordinate(), writer.coordinate(), writer.coordinate(), writer.coordinate()], 'V': [0, 7], 'K': [1, 2], 'W': [8, 32],
+             'N': [0, 1, 2], 'E': [0, 2], 'R': [0, 9], 'KIND': ['points', 'boxes'], 'SLOT': ['a', 'b'], 'NAME': ['c', 'd'], 'FILE': FILES}
+    wrong = {'C': ['x', low - 1, high + 1], 'V': [-1, 2**64, 'x'], 'K': [0, 9, 17, 2**32, 'x'], 'W': [0, 63, 2**32, 'x'], 'N': [-1, 2**32, 'x'],
+             'E': [65537, 'x'], 'R': [-1, 2**128, 'x'], 'KIND': ['lines'], 'SLOT': ['c'], 'NAME': ['a.b', 'x' * 33], 'FILE': ['\x7f', 'y' * 256]}
+    share = 0.3 / writer.slot[1] if place == 'C' else 0.2
+    if place not in wrong:
+        return place if writer.chance(0.8) else rng.choice(('bits', 'max', 'header', 'x'))
+    return rng.choice(wrong[place] if writer.chance(share) else right[place])
+
+
+def causes(writer):
+    """Lines with several causes of a refusal, in slots of all kinds."""
+    rng = writer.rng
+    for _ in range(rng.randrange(5, 40)):
+        if writer.chance(0.15):
+            writer.open(dims=rng.choice((1, 1, 2, 3)), most=rng.choice((None, 0, 1, 2)))
+        elif writer.chance(0.1):
+            writer.use()
+        else:
+            form = rng.choice(FORMS)
+            if form[0] != 'use' and (form[0] != 'open' or writer.chance(0.4)):
+                words = [word_at(writer, place) for place in places(form, writer.slot[1] + rng.choice((0,) * 12 + (-1, 1)))]
+                writer.add(form[0], *words)
+                if form[0] == 'open':
+                    # Whether this was refused or not, the next line opens the slot.
+                    writer.open()
+    return writer.case()
+
+
 def pages(writer):
     if writer.chance(0.7):
         writer.open(writer.rng.choice(('points', 'points', 'points', 'boxes')), writer.rng.choice((1, 2, 2, 3)))
@@ -330,6 +363,7 @@ def pages(writer):
 
 def balls(writer):
     writer.open('points')
+    writer.style = writer.rng.choice(('small', writer.style))
     for _ in range(writer.rng.randrange(10, 45)):
         if writer.chance(0.55):
             writer.edit()
@@ -438,7 +472,7 @@ def in_other_layout(root, other):
 
 def altered(rng, data):
     """A snapshot with one thing changed."""
-    kind = rng.randrange(11)
+    kind = rng.randrange(13)
     at = rng.randrange(len(data))
     word = rng.randrange(len(data) // 8) * 8
     other = rng.randrange(len(data) // 8) * 8
@@ -460,6 +494,9 @@ def altered(rng, data):
     if kind == 9:
         at = rng.randrange(8)
         return data[:at] + bytes([rng.choice((0, 1, 2, 8, 16, 17, 31, 32, 62, 63, 255))]) + data[at + 1:]
+    if kind in (10, 11):
+        # The last digits of a word, which are those that fill up the tables.
+        return data[:word + 7] + bytes([data[word + 7] ^ 1 << rng.randrange(3)]) + data[word + 8:]
     return data[:word] + data[other:other + 8] + data[word:]
 
 
@@ -491,7 +528,7 @@ def drawn_snapshot(writer):
 
 def snapshots(writer):
     rng = writer.rng
-    writer.open()
+    writer.open(most=rng.choice((None, None, 4, 8)))
     for number in range(rng.randrange(1, 5)):
         writer.files[f'{number}.pht'] = drawn_snapshot(writer)
     names = sorted(writer.files)
@@ -504,7 +541,7 @@ def snapshots(writer):
         elif kind < 5:
             writer.add('save', rng.choice(names))
         else:
-            rng.choice((writer.edit, writer.look, writer.use, lambda: writer.add('same'), lambda: writer.add('back', 1)))()
+            rng.choice((writer.put, writer.put, writer.edit, writer.look, writer.use, lambda: writer.add('same'), lambda: writer.add('back', 1)))()
     calls = [(['check', name], b'') for name in names]
     return writer.case(*calls)
 
@@ -633,9 +670,9 @@ def calls(writer):
 
 
 MODES = {mode.__name__: mode for mode in (
-    plain, nearly, numbers, pages, balls, boxes, joins, sets, crowded, snapshots, tables, slots, undo, files, calls, crowds)}
+    plain, nearly, numbers, causes, pages, balls, boxes, joins, sets, crowded, snapshots, tables, slots, undo, files, calls, crowds)}
 # Modes whose scripts take long come less often.
-ROUND = [mode for mode in MODES if mode != 'crowds'] * 2 + ['nearly', 'snapshots', 'crowds']
+ROUND = [mode for mode in MODES if mode != 'crowds'] * 2 + ['nearly', 'causes', 'snapshots', 'crowds']
 
 
 def draw(seed, number, mode=None):
