@@ -311,7 +311,7 @@ def word_at(writer, place):
     """A word for a place of a form, which is right or wrong there."""
     rng = writer.rng
     low, high = least(writer.slot[2]), greatest(writer.slot[2])
-    right = {'C': [writer.coordinate(), writer.coordinate(), writer.coordinate(), writer.coordinate()], 'V': [0, 7], 'K': [1, 2], 'W': [8, 32],
+    right = {'C': [writer.coordinate(), writer.coordinate(), writer.coordinate(), writer.coordinate()], 'V': [0, 7, 2**32], 'K': [1, 2], 'W': [8, 32],
              'N': [0, 1, 2], 'E': [0, 2], 'R': [0, 9], 'KIND': ['points', 'boxes'], 'SLOT': ['a', 'b'], 'NAME': ['c', 'd'], 'FILE': FILES}
     wrong = {'C': ['x', low - 1, high + 1], 'V': [-1, 2**64, 'x'], 'K': [0, 9, 17, 2**32, 'x'], 'W': [0, 63, 2**32, 'x'], 'N': [-1, 2**32, 'x'],
              'E': [65537, 'x'], 'R': [-1, 2**128, 'x'], 'KIND': ['lines'], 'SLOT': ['c'], 'NAME': ['a.b', 'x' * 33], 'FILE': ['\x7f', 'y' * 256]}
@@ -428,16 +428,19 @@ def crowded(writer):
         point = [offset + least(width) for offset in offsets]
         return as_box(point) if kind == 'boxes' else tuple(point)
 
-    most = min(2**dims + 4, 40)
+    most, saved = min(2**dims + 4, 40), []
     for step in range(rng.randrange(most // 2, most + 8)):
         words = rng.choice((['put', *crowd(), writer.value()],) * 5 + (['del', *crowd()], ['move', *crowd(), *crowd()]))
         writer.add(*words)
         if step > most // 3 or writer.chance(0.3):
             writer.add('stats')
             if writer.chance(0.6):
-                writer.add('save', f'{step}.pht')
-    writer.add('load', f'{rng.randrange(most)}.pht')
-    return writer.case()
+                saved.append(f'{step}.pht')
+                writer.add('save', saved[-1])
+    for name in rng.sample(saved, min(len(saved), 2)):
+        writer.add('load', name)
+        writer.look()
+    return writer.case(*((['check', name], b'') for name in saved[-1:]))
 
 
 def crowds(writer):
@@ -461,8 +464,14 @@ def crowds(writer):
     return Case(writer.files, [(['run'], b''.join(line + b'\n' for line in writer.lines)), (['check', '0.pht'], b'')])
 
 
-def random_table(writer, most=14):
-    return {writer.point(): writer.value() for _ in range(writer.rng.randrange(most))}
+def random_table(writer):
+    """Some rows, or in few dimensions so many that some nodes are full."""
+    kind, dims, width = writer.slot
+    if dims > 4 or writer.chance(0.6):
+        return {writer.point(): writer.value() for _ in range(writer.rng.randrange(14))}
+    marks = [1 << writer.rng.randrange(width) for _ in range(2)]
+    points = [tuple(least(width) + writer.rng.choice((0, *marks, sum(set(marks)))) for _ in range(dims)) for _ in range(2**dims * 3)]
+    return {as_box(point) if kind == 'boxes' else point: writer.value() for point in points}
 
 
 def in_other_layout(root, other):
@@ -470,9 +479,45 @@ def in_other_layout(root, other):
     return b''.join(shape.record(node, node.is_cube() != (number == other)) for number, node in enumerate(shape.nodes(root)))
 
 
+def bend(rng, root):
+    """Breaks a rule of trees at one node."""
+    node = rng.choice(shape.nodes(root))
+    entry, other = rng.choice(node.entries), rng.choice(node.entries)
+    kind = rng.randrange(7)
+    if kind < 2 and entry.child:
+        # The level is that of the parent, or another one.
+        entry.child.level = node.level if kind == 0 else rng.randrange(node.level + 2)
+        for below in entry.child.entries:
+            below.body = tuple(digits % 2**entry.child.level for digits in below.body)
+    elif kind == 2 or (kind == 3 and not node.level):
+        node.entries.remove(entry)
+    elif kind == 3:
+        # A digit of what is known or of a point is another one.
+        at = rng.randrange(node.dims)
+        place = rng.choice((entry.child.level, rng.randrange(entry.child.level + 1))) if entry.child else rng.randrange(node.level)
+        entry.body = entry.body[:at] + (entry.body[at] ^ 1 << place,) + entry.body[at + 1:]
+    elif kind == 4:
+        entry.address, other.address = other.address, entry.address
+    elif kind == 5:
+        entry.address = rng.choice((other.address, rng.randrange(2**node.dims)))
+    else:
+        entry.child = shape.Node(max(node.level - 1, 0), node.dims, [shape.Entry(at, (0,) * node.dims, value=1) for at in range(2)])
+
+
+def record_altered(rng, root):
+    """The records of a tree, where a digit of one is another one in its first two words or in its last that is no value."""
+    found = [bytearray(shape.record(node, node.is_cube())) for node in shape.nodes(root)]
+    number = rng.randrange(len(found))
+    node = shape.nodes(root)[number]
+    values = len(node.entries) - len(node.children())
+    at = rng.choice((rng.randrange(16), rng.randrange(8, 16), len(found[number]) - 8 * values - rng.randrange(1, 9)))
+    found[number][at] ^= 1 << rng.randrange(8)
+    return b''.join(found)
+
+
 def altered(rng, data):
     """A snapshot with one thing changed."""
-    kind = rng.randrange(13)
+    kind = rng.randrange(14)
     at = rng.randrange(len(data))
     word = rng.randrange(len(data) // 8) * 8
     other = rng.randrange(len(data) // 8) * 8
@@ -497,6 +542,10 @@ def altered(rng, data):
     if kind in (10, 11):
         # The last digits of a word, which are those that fill up the tables.
         return data[:word + 7] + bytes([data[word + 7] ^ 1 << rng.randrange(3)]) + data[word + 8:]
+    if kind == 12:
+        # Nothing is there behind a first word, which may be wrong.
+        at = rng.randrange(8, 16)
+        return data[:16] if at >= len(data) else data[:at] + bytes([data[at] ^ 1 << rng.randrange(8)]) + data[at + 1:16]
     return data[:word] + data[other:other + 8] + data[word:]
 
 
@@ -505,10 +554,21 @@ def as_first_version(data):
     return b'PHT1' + data[4:6] + data[7:8] + b'\x00' + data[8:]
 
 
+def drawn_header(rng):
+    """A header of an empty table, each byte of which may be wrong, and which may be cut short or have something behind it."""
+    kind, flag = rng.choice((0, 0, 1, 1, 1, 2, 255)), rng.choice((0, 0, 0, 0, 1, 2))
+    dims, width = rng.choice((0, 0, 1, 2, 3, 7, 8, 9, 10, 15, 16, 17, 18, 255)), rng.choice((0, 1, 1, 8, 32, 32, 61, 62, 63))
+    first, second = bytes([kind, dims, flag, rng.choice((0, 0, 0, 0, 1))]), bytes([kind, dims, width, flag])
+    data = rng.choice((b'PHT1' + first, b'PHT1' + first, b'PHT2' + second, b'PHT2' + second, b'PHT3' + second, b'pht2' + second))
+    return data[:rng.choice((8, 8, 8, 8, 8, rng.randrange(8)))] + rng.choice((b'', b'', b'', b'\x00', bytes(8), bytes(32)))
+
+
 def drawn_snapshot(writer):
     """The bytes of a random table of the slot, most often with something changed."""
     rng = writer.rng
     kind, dims, width = writer.slot
+    if writer.chance(0.3):
+        return drawn_header(rng)
     table = random_table(writer)
     data = snapshot.write_snapshot(kind, dims, width, table)
     if kind == 'boxes' and writer.chance(0.1):
@@ -516,11 +576,17 @@ def drawn_snapshot(writer):
         points = {tuple(writer.coordinate() for _ in range(dims)): 1 for _ in range(rng.randrange(1, 5))}
         data = snapshot.write_snapshot(kind, dims, width, points)
     root = shape.shape(table, width)
-    if root and writer.chance(0.15) and dims < 8:
+    how = rng.randrange(8)
+    if root and how == 0 and dims < 8:
         data = data[:8] + in_other_layout(root, rng.randrange(len(shape.nodes(root))))
+    elif root and how < 3:
+        data = data[:8] + record_altered(rng, root)
+    elif root and how < 5:
+        bend(rng, root)
+        data = data[:8] + shape.records(root)
     if width == 32 and writer.chance(0.4):
         data = as_first_version(data)
-    for _ in range(rng.choice((0, 1, 1, 1, 2))):
+    for _ in range(rng.choice((0, 1, 1, 1, 2)) if how > 4 else 0):
         if len(data) >= 8:
             data = altered(rng, data)
     return data
@@ -529,7 +595,7 @@ def drawn_snapshot(writer):
 def snapshots(writer):
     rng = writer.rng
     writer.open(most=rng.choice((None, None, 4, 8)))
-    for number in range(rng.randrange(1, 5)):
+    for number in range(rng.randrange(2, 8)):
         writer.files[f'{number}.pht'] = drawn_snapshot(writer)
     names = sorted(writer.files)
     if writer.chance(0.3):
@@ -567,13 +633,15 @@ def drawn_csv(writer):
     for fields in rng.sample(found, min(len(found), rng.choice((0, 0, 1, 1, 2)))):
         ends = [least(writer.slot[2]) - 1, greatest(writer.slot[2]) + 1, -1, 2**64 - 1, 2**64]
         at = rng.randrange(len(fields))
-        kind = rng.randrange(4)
+        kind = rng.randrange(5)
+        half = len(fields) // 2
         if kind == 0:
             fields[at] = rng.choice(ODD_FIELDS)
         elif kind == 1:
             fields[at] = str(rng.choice(ends))
-        elif kind == 2:
-            rng.shuffle(fields)
+        elif kind < 4:
+            # The corners of a box the other way round.
+            fields[:2 * half] = fields[half:2 * half] + fields[:half]
         else:
             fields[:] = rng.choice((fields[1:], fields + ['1'], fields + ['']))
     if writer.chance(0.2):
