@@ -268,8 +268,9 @@ def plain(writer):
         writer.open('points', most=writer.rng.choice((None, None, 0, 1, 3, 5)))
     for _ in range(writer.rng.randrange(5, 50)):
         writer.rng.choice((writer.edit, writer.edit, writer.ask))()
-        if writer.chance(0.02):
-            writer.add('clear')
+        if writer.chance(0.05):
+            for line in writer.rng.choice((['clear'], ['save a.pht', 'load a.pht'], ['load a.pht'], ['export a.csv', 'clear', 'import a.csv'])):
+                writer.add(line)
     return writer.case()
 
 
@@ -407,9 +408,14 @@ def joins(writer):
 
 def sets(writer):
     two_slots(writer, writer.rng.choice(('points', 'points', 'boxes')))
-    for _ in range(writer.rng.randrange(4, 25)):
-        writer.rng.choice((writer.edit, writer.edit, writer.use, *[lambda: writer.add(writer.rng.choice(('union', 'common', 'minus', 'same')))] * 2,
-                           lambda: writer.add(writer.rng.choice(('save a.pht', 'stats', 'count', 'back 1', 'keep 3'))), writer.look))()
+
+    def combine():
+        writer.add(writer.rng.choice(('union', 'common', 'minus')))
+        writer.look()
+
+    for _ in range(writer.rng.randrange(4, 20)):
+        writer.rng.choice((writer.edit, writer.edit, writer.use, combine, combine, writer.look,
+                           lambda: writer.add(writer.rng.choice(('same', 'save a.pht', 'stats', 'count', 'back 1', 'keep 3')))))()
     return writer.case()
 
 
