@@ -5,7 +5,7 @@ Square brackets have the names of definitions in `ph_specs`: those of `State`, `
 from dataclasses import dataclass, field
 
 from lines import Refused, read_line, refuse_if
-from records import csv_rows, csv_text
+from csv_file import csv_rows, csv_text
 from shape import sizes
 from snapshot import read_snapshot, write_snapshot
 from table import QUESTIONS, SET_OPERATIONS, is_box, is_point, near, overlaps, rest, rows_of, window, within
