@@ -290,6 +290,10 @@ def undo(writer):
     return writer.case()
 
 
+WRONG_WORDS = [[], ['run', 'run'], ['run', ''], ['Run'], ['help'], ['-h'], [b'\xc3'], ['check'], ['check', 'none', 'none'], ['check', 'a b'],
+               ['check', ''], ['check', 'y' * 256], ['check', '\xe9'], ['check', b'\xff'], ['check', '.'], ['soak', '5'], ['soak', '5', '1', '1']]
+
+
 def calls(writer):
     """Calls with other words: checks, soaks, and those that get the usage line."""
     rng = writer.rng
@@ -304,9 +308,7 @@ def calls(writer):
             found.append(['check', 'x.pht'])
         else:
             number = ['0', '5', '+5', '-0', '-1', '007', '', ' 5', '5 ', 'x', str(2**32), str(2**64)]
-            found.append(rng.choice(([], ['run', 'run'], ['run', ''], ['Run'], ['check'], ['check', 'none', 'none'], ['soak', '5'], ['soak', '5', '1', '1'],
-                                     ['check', 'a b'], ['check', ''], ['check', 'y' * 256], ['check', '\xe9'], ['check', b'\xff'], [b'\xc3'], ['help'],
-                                     ['soak', rng.choice(number), rng.choice(number)], ['soak', rng.choice(number), '1'], ['-h'], ['check', '.'])))
+            found.append(rng.choice([*WRONG_WORDS, ['soak', rng.choice(number), rng.choice(number)], ['soak', rng.choice(number), '1']]))
     return Case(writer.files, [(words, b'count\n') for words in found])
 
 
