@@ -40,7 +40,7 @@ def refuse_if(is_refused, reply):
         raise Refused(reply)
 
 
-def lines(script, with_last=True):
+def lines(script, with_last):
     """The lines of a script. Bytes behind the last line feed are one more, which may be left out. [Lines: lines, whole_lines]"""
     *ended, last = script.split(b'\n')
     return ended + [last] if last and with_last else ended

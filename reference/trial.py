@@ -14,9 +14,10 @@ SECONDS = 60
 
 
 def chosen_program(given):
-    """The path of the program: the one given, or the variable PHQ, or release/phq, or ./phq."""
-    for path in (given, os.environ.get('PHQ'), os.path.join(TOP, 'release', 'phq'), os.path.join(TOP, 'phq')):
-        if path and os.access(path, os.X_OK):
+    """The path of the program: the one given, or that of the variable PHQ, or else release/phq or ./phq."""
+    named = given or os.environ.get('PHQ')
+    for path in [named] if named else [os.path.join(TOP, 'release', 'phq'), os.path.join(TOP, 'phq')]:
+        if os.access(path, os.X_OK):
             return os.path.abspath(path)
     sys.exit('there is no program to compare with')
 
