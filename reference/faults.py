@@ -168,12 +168,15 @@ def as_first_version(data):
 
 
 def drawn_header(rng):
-    """A header of an empty table, each byte of which may be wrong, and which may be cut short or have something behind it."""
-    kind, flag = rng.choice((0, 0, 1, 1, 1, 2, 255)), rng.choice((0, 0, 0, 0, 1, 2))
-    dims, width = rng.choice((0, 0, 1, 2, 3, 7, 8, 9, 10, 15, 16, 17, 18, 255)), rng.choice((0, 1, 1, 8, 32, 32, 61, 62, 63))
-    first, second = bytes([kind, dims, flag, rng.choice((0, 0, 0, 0, 1))]), bytes([kind, dims, width, flag])
-    data = rng.choice((b'PHT1' + first, b'PHT1' + first, b'PHT2' + second, b'PHT2' + second, b'PHT3' + second, b'pht2' + second))
-    return data[:rng.choice((8, 8, 8, 8, 8, rng.randrange(8)))] + rng.choice((b'', b'', b'', b'\x00', bytes(8), bytes(32)))
+    """A header of an empty table, most often with one byte that is just outside of what it may be."""
+    version, kind = rng.choice((1, 2)), rng.randrange(2)
+    most = 8 if version == 1 else 16
+    found = [kind, rng.randrange(1 + kind, most + 1, 1 + kind), 0 if version == 1 else rng.choice((1, 8, 32, 62)), 0]
+    at, other = rng.choice(((0, 2), (1, 0), (1, 3), (1, most + 1), (1, most + 2), (2, 0), (2, 1), (2, 2), (2, 63), (3, 1), (3, 2), (4, 0), (4, 0)))
+    data = f'PHT{version}'.encode() + bytes(found[:at] + [other] + found[at + 1:])[:4]
+    if rng.random() < 0.1:
+        data = data[:rng.randrange(8)] if rng.random() < 0.5 else rng.choice((b'PHT3', b'pht2', b'PHT\x00')) + data[4:]
+    return data + rng.choice((b'', b'', b'', b'', b'\x00', bytes(8), bytes(32)))
 
 
 def drawn_snapshot(writer):

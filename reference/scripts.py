@@ -55,6 +55,9 @@ def numbers(writer):
     return writer.case()
 
 
+OPENINGS = [form for form in FORMS if form[0] == 'open']
+
+
 def causes(writer):
     """Lines with several causes of a refusal, in slots of all kinds."""
     rng = writer.rng
@@ -64,8 +67,8 @@ def causes(writer):
         elif writer.chance(0.1):
             writer.use()
         else:
-            form = rng.choice(FORMS)
-            if form[0] != 'use' and (form[0] != 'open' or writer.chance(0.4)):
+            form = rng.choice(FORMS + OPENINGS)
+            if form[0] != 'use':
                 words = [word_at(writer, place) for place in places(form, writer.slot[1] + rng.choice((0,) * 12 + (-1, 1)))]
                 writer.add(form[0], *words)
                 if form[0] == 'open':
