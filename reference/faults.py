@@ -97,6 +97,10 @@ def bend(rng, root):
     node = rng.choice(shape.nodes(root))
     entry, other = rng.choice(node.entries), rng.choice(node.entries)
     kind = rng.randrange(7)
+    if kind == 0 and node.entries[0].child:
+        # What is known of the child goes with any level.
+        entry = node.entries[0]
+        entry.address, entry.body = 0, (0,) * node.dims
     if kind < 2 and entry.child:
         # The level is that of the parent, or another one.
         entry.child.level = node.level if kind == 0 else rng.randrange(node.level + 2)
@@ -123,7 +127,7 @@ def record_altered(rng, root):
     number = rng.randrange(len(found))
     node = shape.nodes(root)[number]
     values = len(node.entries) - len(node.children())
-    at = rng.choice((rng.randrange(16), rng.randrange(8, 16), len(found[number]) - 8 * values - rng.randrange(1, 9)))
+    at = rng.choice((rng.randrange(16), rng.choice((0, 1, 4, 7)), rng.randrange(8, 16), len(found[number]) - 8 * values - rng.randrange(1, 9)))
     found[number][at] ^= 1 << rng.randrange(8)
     return b''.join(found)
 
