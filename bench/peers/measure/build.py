@@ -1,6 +1,7 @@
 """Builds the peers whose libraries are there. It fetches nothing."""
 import concurrent.futures
 import os
+import re
 import subprocess
 import sys
 
@@ -24,23 +25,32 @@ def has_library(library):
     return there
 
 
-def is_fresh(target, sources):
-    return target.exists() and target.stat().st_mtime > max(source.stat().st_mtime for source in sources)
+def with_headers(source):
+    """A source, and the headers of this folder that it needs."""
+    needed = {source}
+    for name in re.findall(r'^#include "(.+)"', source.read_text(), re.MULTILINE):
+        needed |= with_headers(SOURCES / name)
+    return needed
 
 
-def compile_to(target, words, sources):
-    if is_fresh(target, sources):
+def is_fresh(target, source, objects):
+    needed = [*with_headers(source), *objects]
+    return target.exists() and target.stat().st_mtime > max(path.stat().st_mtime for path in needed)
+
+
+def compile_to(target, words, source, objects=()):
+    if is_fresh(target, source, objects):
         return
     print(f"run: compiling {target.name}", file=sys.stderr, flush=True)
     if subprocess.run([compiler(), *FLAGS, "-o", target, *words]).returncode != 0:
         sys.exit(f"run: {target.name} could not be compiled")
 
 
-def compile_program(name, objects, headers):
+def compile_program(name, common):
     library = library_of(name)
     source = SOURCES / f"{name}.cpp"
-    linked = [*(objects if name in INDEXES else []), *(LIBRARIES[library][2] if library else [])]
-    compile_to(OUT / name, [source, *linked], [source, *headers, *objects])
+    objects = common if name in INDEXES else []
+    compile_to(OUT / name, [source, *objects, *(LIBRARIES[library][2] if library else [])], source, objects)
 
 
 def build(programs, jobs):
@@ -50,16 +60,14 @@ def build(programs, jobs):
         subprocess.run([compiler(), "--version"], stdout=subprocess.DEVNULL, check=True)
     except OSError:
         sys.exit(f"run: the compiler {compiler()} is not there")
-    headers = list(SOURCES.glob("*.hpp"))
-    objects = []
-    for name in COMMON:
+    common = [OUT / f"{name}.o" for name in COMMON]
+    for name, target in zip(COMMON, common):
         source = SOURCES / f"{name}.cpp"
-        objects.append(OUT / f"{name}.o")
-        compile_to(objects[-1], ["-c", source], [source, *headers])
+        compile_to(target, ["-c", source], source)
     there = {library: has_library(library) for library in sorted({library_of(name) for name in programs} - {None})}
     chosen = [name for name in programs if library_of(name) is None or there[library_of(name)]]
     with concurrent.futures.ThreadPoolExecutor(jobs) as pool:
-        for done in [pool.submit(compile_program, name, objects, headers) for name in chosen]:
+        for done in [pool.submit(compile_program, name, common) for name in chosen]:
             done.result()
     return chosen
 

@@ -1,5 +1,5 @@
-// The nodes of the plain PH-tree, in two forms: by a bitmap of all addresses, for few dimensions, and by a sorted list of those that are there,
-// for many. The entries of a node stand in the order of their addresses (T. Zäschke, C. Zimmerli, M. C. Norrie, 2014).
+// The nodes of the plain PH-tree, in two forms: by a bitmap of all addresses where it fits in a word, and above that by a sorted list of those that
+// are there. The entries of a node stand in the order of their addresses (T. Zäschke, C. Zimmerli, M. C. Norrie, 2014).
 #pragma once
 #include <cstring>
 #include <type_traits>
@@ -27,37 +27,22 @@ struct OnesOfByte {
 };
 inline constexpr OnesOfByte ONES{};
 
-// A set of addresses of D bits, as a bitmap.
+// A set of addresses of at most six bits, as a bitmap.
 template <int D> class AddressSet {
     using Word = std::conditional_t<(D <= 3), u8, std::conditional_t<D == 4, u16, std::conditional_t<D == 5, u32, u64>>>;
-    static constexpr int WORDS = D <= 6 ? 1 : (1 << D) / 64;
-    Word words_[WORDS] = {};
+    Word word_ = 0;
 
   public:
-    bool has(u32 address) const {
-        if constexpr (WORDS == 1) return words_[0] >> address & 1;
-        else return words_[address >> 6] >> (address & 63) & 1;
-    }
-    void add(u32 address) {
-        if constexpr (WORDS == 1) words_[0] |= (Word)((Word)1 << address);
-        else words_[address >> 6] |= (u64)1 << (address & 63);
-    }
-    void drop(u32 address) {
-        if constexpr (WORDS == 1) words_[0] &= (Word)~((Word)1 << address);
-        else words_[address >> 6] &= ~((u64)1 << (address & 63));
-    }
+    bool has(u32 address) const { return word_ >> address & 1; }
+    void add(u32 address) { word_ |= (Word)((Word)1 << address); }
+    void drop(u32 address) { word_ &= (Word)~((Word)1 << address); }
     u32 below(u32 address) const { // how many of its addresses are
-        if constexpr (D <= 3) return ONES.of[words_[0] & ((1u << address) - 1)];
-        else if constexpr (WORDS == 1) return (u32)ones(words_[0] & (((u64)1 << address) - 1));
-        else {
-            int sum = ones(words_[address >> 6] & (((u64)1 << (address & 63)) - 1));
-            for (u32 i = 0; i < address >> 6; i++) sum += ones(words_[i]);
-            return (u32)sum;
-        }
+        u64 less = word_ & (((u64)1 << address) - 1);
+        if constexpr (D <= 3) return ONES.of[less];
+        else return (u32)ones(less);
     }
     template <class OnAddress> void each(OnAddress on_address) const {
-        for (int i = 0; i < WORDS; i++)
-            for (u64 left = words_[i]; left; left &= left - 1) on_address((u32)(i * 64 + __builtin_ctzll(left)));
+        for (u64 left = word_; left; left &= left - 1) on_address((u32)__builtin_ctzll(left));
     }
 };
 
@@ -65,8 +50,8 @@ template <int D> class BitmapNode {
     AddressSet<D> there_, nodes_;
     u16 count_ = 0;
     u8 size_ = 0;
-    static constexpr int ROOMS[] = {2, 3, 4, 6, 8, 12, 16, 24, 32, 48, 64, 96, 128, 192, 256};
-    static constexpr int SIZES = 15;
+    static constexpr int ROOMS[] = {2, 3, 4, 6, 8, 12, 16, 24, 32, 48, 64};
+    static constexpr int SIZES = 11;
     static size_t bytes(int size) { return start() + sizeof(Entry<D>) * ROOMS[size]; }
     static constexpr size_t start() { return (sizeof(BitmapNode) + 7) / 8 * 8; }
 
@@ -247,4 +232,4 @@ template <int D> class SortedNode {
     };
 };
 
-template <int D> using NodeOf = std::conditional_t<(D <= 8), BitmapNode<D>, SortedNode<D>>;
+template <int D> using NodeOf = std::conditional_t<(D <= 6), BitmapNode<D>, SortedNode<D>>;
