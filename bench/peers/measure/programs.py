@@ -25,8 +25,8 @@ INDEXES = {
 }
 # Those that take two tables as files.
 ABOUT_TWO = {
-    "join_r_tree": ("Boost's R-tree, packed", "boost"),
-    "join_sweep": ("plane sweep", None),
+    "join_r_tree": ("Boost's packed R-tree", "boost"),
+    "join_sweep": ("a plane sweep", None),
     "set_operations": ("sorted arrays", None),
 }
 # What shows that a library is there: its header, the package that has it, and what is linked.
