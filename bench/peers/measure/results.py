@@ -60,7 +60,7 @@ def facts(options):
         "processor": processor(),
         "processors": str(os.cpu_count()),
         "memory": memory(),
-        "system": f"{platform.system()} {platform.release()}",
+        "system": platform.system(),
         "compiler": f"{first_line([compiler(), '--version'])}, {' '.join(programs.FLAGS)}",
         "valgrind": first_line(["valgrind", "--version"]) if shutil.which("valgrind") else "none",
         "program": f"sha256 {programs.sha256(programs.phq())}",
