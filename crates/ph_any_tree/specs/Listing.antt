@@ -99,15 +99,16 @@ ListsBall t q r sink now_sink visits now_visits result =
 abbrev pub reached : AnyTable → List ℤ → ℕ → ℕ
 reached t q n = length (reach t.tree.width t.dims t.tree.table q n)
 
--- memory was missing before anything was written, for some rows that were asked for
-pub record Unlisted (asked most : ℕ) (sink now_sink : Taken) (visits now_visits : ℕ) : Type 0 where
+-- memory was missing before anything was written, for some rows that were asked for of a table that has some
+pub record Unlisted (asked held most : ℕ) (sink now_sink : Taken) (visits now_visits : ℕ) : Type 0 where
   pub some : 0 < asked
+  pub filled : 0 < held
   pub unwritten : now_sink ≡ sink
   pub few : now_visits ≤ visits + most
 
 -- the nearest rows, or what stands where memory was missing for them
 abbrev pub ListsNear : AnyTable → List ℤ → ℕ → Taken → Taken → ℕ → ℕ → Result Answer Stop → Type 0
-ListsNear t q n sink now_sink visits now_visits (Err NoMemory) = Unlisted n (reached t q n) sink now_sink visits now_visits
+ListsNear t q n sink now_sink visits now_visits (Err NoMemory) = Unlisted n (length t.tree.table) (reached t q n) sink now_sink visits now_visits
 ListsNear t q n sink now_sink visits now_visits result = Lists (hit_listing q (near q n t.tree.table)) 0 (reached t q n) sink now_sink visits now_visits result
 
 -- ---- pages

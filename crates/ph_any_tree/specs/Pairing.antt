@@ -1,5 +1,5 @@
 -- Two tables side by side: the pairs of their boxes that overlap, and the table that is made of both.
-use Rattle.std.specs.Prelude.{◌≡◌, ◌≤◌, ℕ, ◌+◌, true, false, length, Result, Ok, Err}
+use Rattle.std.specs.Prelude.{◌≡◌, ◌≤◌, ℕ, ◌+◌, true, false, length, Result, Ok, Err, OnOk}
 use Rattle.ph_io.specs.Giving.{Taken}
 use Rattle.ph_set.specs.declared.error.SetFault.{SetFault}
 use Rattle.ph_set.specs.declared.error.SetFault.TheVariants.{Full, NoMemory}
@@ -61,7 +61,12 @@ MadeOr operation t u now changes now_changes (Ok count) = MadeOf operation t u n
 MadeOr operation t u now changes now_changes (Err Full) = TooMany operation t u now changes now_changes
 MadeOr operation t u now changes now_changes (Err NoMemory) = Unmade operation t u now changes now_changes
 
--- so many visits at most, and none taken back
-pub record VisitsBoth (operation : SetOperation) (t u : AnyTable) (visits now_visits : ℕ) : Type 0 where
+-- the visits that it takes
+abbrev pub combined_visits : SetOperation → AnyTable → AnyTable → ℕ
+combined_visits operation t u = combine_visits operation t.tree.width t.dims t.tree.table u.tree.table
+
+-- exactly so many visits where the table was made, and at most so many else; none is taken back
+pub record VisitsBoth (operation : SetOperation) (t u : AnyTable) (visits now_visits : ℕ) (result : Result ℕ SetFault) : Type 0 where
   pub later : visits ≤ now_visits
-  pub few : now_visits ≤ visits + combine_visits operation t.tree.width t.dims t.tree.table u.tree.table
+  pub few : now_visits ≤ visits + combined_visits operation t u
+  pub all : OnOk result (now_visits ≡ visits + combined_visits operation t u)

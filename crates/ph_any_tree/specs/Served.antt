@@ -1,5 +1,5 @@
 -- What a command does to a table, by the definition of commands.
-use Rattle.std.specs.Prelude.{◌≡◌, ℕ, Bool, true, false, not, ◌&&◌, nat_lt, List, [], ◌∷◌, length, Result, Ok, Err}
+use Rattle.std.specs.Prelude.{◌≡◌, ℕ, Bool, true, false, not, ◌&&◌, nat_lt, nat_le, List, [], ◌∷◌, length, Result, Ok, Err}
 use Rattle.ph_specs.specs.Command.{Command}
 use Rattle.ph_specs.specs.Reply.{Reply}
 use Rattle.ph_specs.specs.declared.Kind.TheVariants.{Points}
@@ -40,12 +40,12 @@ abbrev pub takes_memory : Slot → Command → Bool
 takes_memory s (Command.Put p v) = not (has s.table p) && nat_lt (length s.table) s.max
 takes_memory s (Command.Del p) = nat_lt 0 (spare_wanted_in s.width s.dims (shape s.width s.table) p)
 takes_memory s (Command.Relocate p q) = has s.table p && not (has s.table q)
-takes_memory s (Command.Near q n) = nat_lt 0 n
+takes_memory s (Command.Near q n) = nat_lt 0 n && nat_lt 0 (length s.table)
 takes_memory s (Command.Load name) = true
 takes_memory s (Command.Import name header) = true
 takes_memory s (Command.Combine operation) = true
 takes_memory s (Command.Keep n) = nat_lt 0 n
-takes_memory s (Command.Back n) = nat_lt 0 n
+takes_memory s (Command.Back n) = nat_lt 0 n && nat_le n (length s.past)
 takes_memory s _ = false
 
 -- A command on a table of points, whatever cursors stand beside it, has this reply and leads to this table. What it does to boxes is the same,

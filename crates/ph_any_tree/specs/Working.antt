@@ -1,5 +1,5 @@
 -- The work of a command: bounds of the nodes that it visits and of the changes that it makes.
-use Rattle.std.specs.Prelude.{ℕ, ◌+◌, Bool, true, false, List, [], ◌∷◌, Option, None, ◌≤◌, ◌*◌, ◌/◌, not, ◌&&◌, if◌then◌else◌, length, ℤ, Some}
+use Rattle.std.specs.Prelude.{ℕ, ◌+◌, ◌-◌, min, Bool, true, false, List, [], ◌∷◌, Option, None, ◌≤◌, ◌*◌, ◌/◌, not, ◌&&◌, if◌then◌else◌, length, ℤ, Some}
 use Rattle.std.specs.Prelude.{Result, Ok, Err}
 use Rattle.ph_specs.specs.Command.{Command}
 use Rattle.ph_specs.specs.Reply.{Reply}
@@ -62,12 +62,13 @@ import_bounds width dims table (Err fault) = no_work
 abbrev pub nodes_of : Slot → ℕ
 nodes_of s = length (all_nodes s.width s.dims s.table)
 
--- the bounds of a command on a slot that does not refuse it
+-- the bounds of a command on a slot that does not refuse it: a look-up visits its path, and never more nodes than a coordinate has bits
 abbrev pub bounds : Slot → Files → Command → Work
-bounds s files (Command.Get p) = let n = length (path s.width s.dims s.table p) in work n n 0 0
-bounds s files (Command.Put p v) = work (2 * s.width) 0 2 (one_if (not (has s.table p)))
-bounds s files (Command.Del p) = work (2 * s.width) 0 2 (one_if (has s.table p))
-bounds s files (Command.Relocate p q) = work (6 * s.width) 0 4 (one_if (has s.table p && not (has s.table q)))
+bounds s files (Command.Get p) = let n = length (path s.width s.dims s.table p) in work (min n s.width) n 0 0
+bounds s files (Command.Put p v) = work (2 * length (path s.width s.dims s.table p) - 1) 0 2 (one_if (not (has s.table p)))
+bounds s files (Command.Del p) = work (2 * length (path s.width s.dims s.table p) - 1) 0 2 (one_if (has s.table p))
+bounds s files (Command.Relocate p q) =
+    work (3 * length (path s.width s.dims s.table p) + 2 * length (path s.width s.dims s.table q)) 0 4 (one_if (has s.table p && not (has s.table q)))
 bounds s files (Command.Window lo hi) = window_bounds s lo hi
 bounds s files (Command.Near q n) = work (length (reach s.width s.dims s.table q n)) 0 0 0
 bounds s files (Command.Within q r) = let n = length (ball s.width s.dims s.table q r) in work n n 0 0
@@ -87,11 +88,12 @@ bounds s files _ = no_work
 abbrev pub join_bounds : Slot → Slot → Work
 join_bounds a b = let n = join_visits a.width a.dims a.table b.table in work n n 0 0
 
--- those of a set operation, whose result's nodes are made one by one
+-- those of a set operation: exactly as many visits as it takes where it is done, and a change for each node of its result
 abbrev pub combine_bounds : SetOperation → Slot → Slot → Work
 combine_bounds operation s t =
-    let n = length (all_nodes s.width s.dims (combine operation s.width s.table t.table)) in
-    work (combine_visits operation s.width s.dims s.table t.table) 0 n n
+    let seen = combine_visits operation s.width s.dims s.table t.table in
+    let made = length (all_nodes s.width s.dims (combine operation s.width s.table t.table)) in
+    work seen seen made made
 
 -- the bounds of a command of an engine: a comparison visits no more than all nodes of both trees, and these where the slots are the same
 abbrev pub engine_bounds : Engine → Files → Command → Work

@@ -23,7 +23,7 @@ pub(crate) fn combine_trees<const D: usize, V: Ledger, C: Ledger>(
     requires limit { D ≤ 16 }
     requires width { kept.old.width ≡ other.now.width }
     ensures made { MadeOr operation (table_at D kept.old) (table_at D other.now) (table_at D kept.new) changes.old changes.new result }
-    ensures visits { VisitsBoth operation (table_at D kept.old) (table_at D other.now) visits.old visits.new }
+    ensures visits { VisitsBoth operation (table_at D kept.old) (table_at D other.now) visits.old visits.new result }
 {
     let tree = kept.tree();
     let made = match operation {

@@ -15,7 +15,7 @@ ghost use Rattle.ph_any_tree.specs.Tables.{any_table, empty_table, cursor_of, cu
 ghost use Rattle.ph_any_tree.specs.Recording.{ExportedOr, ImportDone, rows_for};
 ghost use Rattle.ph_any_tree.specs.Listing.{node_count, sizes_at};
 ghost use Rattle.ph_any_tree.specs.Loading.{IsLoadedTree, IsWithinBytes};
-ghost use Rattle.ph_any_tree.specs.Undoing.{KeepsOr, GoesBackOr, BackWork};
+ghost use Rattle.ph_any_tree.specs.Undoing.{KeepsOr, GoesBackOr};
 ghost use Rattle.ph_any_tree.specs.Told.{shelf_by, taken_by};
 
 use crate::any_cursor::AnyCursor;
@@ -236,8 +236,7 @@ impl AnyTree {
         changes: &mut Steps<C>,
     ) -> Result<Reply, NoMemory>
         requires { n ≤ length (any_table self.old).tree.past }
-        ensures back { GoesBackOr (any_table self.old) n (any_table self.new) result }
-        ensures work { BackWork (any_table self.old) n visits.old visits.new changes.old changes.new result }
+        ensures { GoesBackOr (any_table self.old) n (any_table self.new) visits.old visits.new changes.old changes.new result }
     {
         with_kept!(self, kept => back_edits(kept, n, visits, changes))
     }

@@ -2,7 +2,7 @@
 ghost use Rattle.std.specs.Prelude.{◌≡◌, ◌≤◌, length};
 ghost use Rattle.ph_specs.specs.TableNames.{without_past};
 ghost use Rattle.ph_any_tree.specs.Tables.{table_at};
-ghost use Rattle.ph_any_tree.specs.Undoing.{KeepsOr, GoesBackOr, BackWork};
+ghost use Rattle.ph_any_tree.specs.Undoing.{KeepsOr, GoesBackOr};
 
 use ph_script::Reply;
 use ph_steps::Steps;
@@ -32,8 +32,7 @@ pub(crate) fn back_edits<const D: usize, V: Ledger, C: Ledger>(
     changes: &mut Steps<C>,
 ) -> Result<Reply, NoMemory>
     requires { n ≤ length kept.old.past }
-    ensures back { GoesBackOr (table_at D kept.old) n (table_at D kept.new) result }
-    ensures work { BackWork (table_at D kept.old) n visits.old visits.new changes.old changes.new result }
+    ensures { GoesBackOr (table_at D kept.old) n (table_at D kept.new) visits.old visits.new changes.old changes.new result }
 {
     for _step in 0..n {
         kept.back_one(visits, changes)?;

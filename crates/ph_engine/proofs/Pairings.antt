@@ -19,7 +19,7 @@ use Rattle.ph_specs.specs.Sets.{pairs, combine}
 use Rattle.ph_specs.specs.State.{Slot, Engine, Files, current, other, slot_at, other_at, put_slot, with_slot, outcome}
 use Rattle.ph_specs.specs.Table.{Row, has}
 use Rattle.ph_specs.specs.Window.{Cursor}
-use Rattle.ph_specs.specs.WorkSets.{join_visits}
+use Rattle.ph_specs.specs.WorkSets.{join_visits, combine_visits}
 use Rattle.ph_specs.proofs.laws.WindowRest.{Each-filter}
 use Rattle.ph_set.specs.declared.error.SetFault.{SetFault}
 use Rattle.ph_set.specs.declared.error.SetFault.TheVariants.{Full, NoMemory}
@@ -32,7 +32,7 @@ use Rattle.ph_engine.specs.Filing.{QuietOr}
 use Rattle.ph_any_tree.specs.Tables.{SameFrame, AnyTable, slot_of, IsOfKind}
 use Rattle.ph_any_tree.specs.Telling.{is_refusal, Tells}
 use Rattle.ph_any_tree.specs.Pairing.{pair_said, MadeOr, combined_table}
-use Rattle.ph_engine.specs.Pairing.{JoinsSlots, combined_slot, combined_reply, combined_changes, CombinesSlots, VisitsSlots}
+use Rattle.ph_engine.specs.Pairing.{JoinsSlots, combined_slot, combined_reply, combined_changes, CombinesSlots, SeesAll, VisitsSlots}
 use Rattle.ph_engine.specs.Refusing.{early_refusal, frame_refusal}
 use Rattle.ph_any_tree.specs.Working.{work_of, IsAtMost, IsAtLeast}
 use Rattle.ph_any_tree.specs.declared.answer.Answer.{Answer}
@@ -109,6 +109,9 @@ module _ (operation : SetOperation) where
     abbrev asked : Command
     asked = Command.Combine operation
 
+    abbrev seen : ℕ
+    seen = let s = current e in combine_visits operation s.width s.dims s.table (other e).table
+
     abbrev reason : Option Reply
     reason = combine_refusal operation (current e) (other e)
 
@@ -132,23 +135,24 @@ module _ (operation : SetOperation) where
     few-by (Some r) c most files fault = record { few_visits = k.few; few_changes = omega (arith, c) }
     few-by None c most files fault = record { few_visits = k.few; few_changes = omega (arith, c) }
 
-    enough-by : (r : Option Reply) → reason ≡ r →
+    enough-by : (r : Option Reply) → reason ≡ r → (reason ≡ None → now_visits ≡ visits + seen) →
         now_changes ≡ changes + combined_changes r operation (current e) (other e) →
         (most : ℕ) (files : Files) (fault : Bool) →
         IsAtLeast (work_of most e files fault asked) visits now_visits changes now_changes
-    enough-by (Some r) h c most files fault = rw (refused-by (Some r) most files fault h)
+    enough-by (Some r) h a c most files fault = rw (refused-by (Some r) most files fault h)
         (record { enough_visits = omega (arith, k.later); enough_changes = omega (arith, c) })
-    enough-by None h c most files fault = rw (refused-by None most files fault h) (record { enough_visits = omega (arith, k.later); enough_changes = omega (arith, c) })
+    enough-by None h a c most files fault = rw (refused-by None most files fault h) (record { enough_visits = omega (arith, a h); enough_changes = omega (arith, c) })
 
     pub combine-quiet : {E : Type 0} (result : Result Told E) →
+        SeesAll operation (current e) (other e) visits now_visits result →
         CombinesSlots operation (current e) (other e) s changes now_changes result →
         QuietOr e asked visits now_visits changes now_changes (with_slot e s) result
-    combine-quiet (Ok reply) h = record {
+    combine-quiet (Ok reply) a h = record {
       filed = λ most files filings. filed-quietly most e (with_slot e s) asked (reply_of reply) files filings visits now_visits changes now_changes
-          (does-by reason (reply_of reply) refl h.slot h.said) (few-by reason h.nodes) (enough-by reason refl h.nodes)
+          (does-by reason (reply_of reply) refl h.slot h.said) (few-by reason h.nodes) (enough-by reason refl a h.nodes)
           (λ files rows is. absurd (let no : None ≡ Some rows = is in cc));
     }
-    combine-quiet (Err error) h = record {
+    combine-quiet (Err error) a h = record {
       filed = λ most told filings. record {
         fault = false;
         found = None;
@@ -165,14 +169,16 @@ module _ (operation : SetOperation) where
 pub combine-at : {E : Type 0} (operation : SetOperation) (e fields : Engine) (s : Slot) (now : Which)
     (visits now_visits changes now_changes : ℕ) (result : Result Told E) → fields ≡ e → fields.current ≡ now →
     VisitsSlots operation (slot_at now fields) (other_at now fields) visits now_visits →
+    SeesAll operation (slot_at now fields) (other_at now fields) visits now_visits result →
     CombinesSlots operation (slot_at now fields) (other_at now fields) s changes now_changes result →
     QuietOr e (Command.Combine operation) visits now_visits changes now_changes (put_slot now fields s) result
-combine-at operation e fields s now visits now_visits changes now_changes result v w k h =
+combine-at operation e fields s now visits now_visits changes now_changes result v w k a h =
     subst (λ x. QuietOr x (Command.Combine operation) visits now_visits changes now_changes (put_slot now fields s) result) v
     (subst (λ y. VisitsSlots operation (slot_at y fields) (other_at y fields) visits now_visits →
+    SeesAll operation (slot_at y fields) (other_at y fields) visits now_visits result →
     CombinesSlots operation (slot_at y fields) (other_at y fields) s changes now_changes result →
     QuietOr fields (Command.Combine operation) visits now_visits changes now_changes (put_slot y fields s) result) w
-    (λ k h. combine-quiet operation fields s visits now_visits changes now_changes k result h) k h)
+    (λ k a h. combine-quiet operation fields s visits now_visits changes now_changes k result a h) k a h)
 
 boxes-combine : (operation : SetOperation) (w : ℕ) (a b : List Row) → AreBoxes a → AreBoxes b → AreBoxes (combine operation w a b)
 boxes-combine Union w a b h k = boxes-put-all w a b k h

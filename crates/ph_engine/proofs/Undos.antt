@@ -1,7 +1,7 @@
 -- Edits of a slot that are taken back.
-use Rattle.std.proofs.Common.{◌≡◌, ◌<◌, ◌≤◌, ℕ, Bool, false, [], ◌∷◌, length, refl, ap, sym, ◌∙◌, arith}
+use Rattle.std.proofs.Common.{◌≡◌, ◌<◌, ◌≤◌, ◌+◌, ◌-◌, ◌*◌, ℕ, Bool, false, [], ◌∷◌, length, refl, ap, sym, ◌∙◌, arith}
 use Rattle.std.specs.Prelude.{Some, None, Ok, Err, Result}
-use Rattle.std.proofs.lemmas.Bool.{lt-ltb, le-ltb}
+use Rattle.std.proofs.lemmas.Bool.{lt-ltb, le-ltb, le-leb}
 use Rattle.ph_specs.specs.declared.Kind.{Kind}
 use Rattle.ph_specs.specs.declared.Kind.TheVariants.{Points, Boxes}
 use Rattle.ph_specs.specs.Command.{Command}
@@ -14,9 +14,16 @@ use Rattle.ph_script.specs.declared.reply.Reply.{Reply as Told}
 use Rattle.ph_script.specs.Meaning.{reply_of}
 use Rattle.ph_engine.specs.Filing.{QuietOr}
 use Rattle.ph_any_tree.specs.Tables.{AnyTable, slot_of, engine_of}
-use Rattle.ph_any_tree.specs.Undoing.{GoesBackOr, BackWork}
+use Rattle.ph_any_tree.specs.Undoing.{GoesBackOr}
 use Rattle.ph_engine.proofs.Filed.{filed-quietly, leaves-filings}
 use Rattle.ph_engine.proofs.Commanded.{told-told}
+
+-- fewer edits than were asked for were begun
+most-begun : (v now_v w part n : ℕ) → part < n → now_v ≤ v + 6 * w * (part + 1) → now_v ≤ v + 6 * w * n
+most-begun v now_v w part n fewer few =
+    let left : n ≡ part + 1 + (n - (part + 1)) = omega (arith, fewer) in
+    let all : 6 * w * n ≡ 6 * w * (part + 1) + 6 * w * (n - (part + 1)) = ap (λ x. 6 * w * x) left ∙ omega arith in
+    omega (arith, few, all)
 
 kind-of-back : (kind : Kind) (n : ℕ) → (has_wrong_kind kind (Command.Back n) ≡ false) × (boxes_of kind (Command.Back n) ≡ [])
 kind-of-back Points n = (refl, refl)
@@ -30,26 +37,30 @@ module _ (kind : Kind) (t : AnyTable) (cursors : Named Cursor) (n : ℕ) where
   near most files fault h = let k = kind-of-back kind n in rw (k.0, k.1, le-ltb (length t.tree.past) n h) refl
 
   pub back-quiet : {E : Type 0} (now : AnyTable) (v now_v c now_c : ℕ) (result : Result Told E) →
-      n ≤ length t.tree.past → GoesBackOr t n now result → BackWork t n v now_v c now_c result →
+      n ≤ length t.tree.past → GoesBackOr t n now v now_v c now_c result →
       QuietOr (engine_of slot) (Command.Back n) v now_v c now_c (engine_of (slot_of kind now cursors)) result
-  back-quiet now v now_v c now_c (Ok reply) h g w = record {
+  back-quiet now v now_v c now_c (Ok reply) h g = record {
     filed = λ most files filings. filed-quietly most (engine_of slot) (engine_of (slot_of kind now cursors))
         (Command.Back n) (reply_of reply) files filings v now_v c now_c
         (λ most files fault. ap (λ r. unless_refused r (engine_of slot) files (Command.Back n))
-        (near most files fault h) ∙ (λ i. outcome (engine_of (slot_of kind (sym g.0 i) cursors)) files (sym g.1 i ∷ [])))
-        (λ most files fault. record { few_visits = w.few_visits; few_changes = w.few_changes })
-        (λ most files fault. rw (near most files fault h) (record { enough_visits = omega (arith, w.later); enough_changes = w.made reply refl }))
+        (near most files fault h) ∙ (λ i. outcome (engine_of (slot_of kind (sym g.0.state i) cursors)) files (sym g.1 i ∷ [])))
+        (λ most files fault. record { few_visits = g.0.few_visits; few_changes = g.0.few_changes })
+        (λ most files fault. rw (near most files fault h) (record { enough_visits = omega (arith, g.0.later); enough_changes = g.0.made }))
         (λ files rows is. absurd (let no : None ≡ Some rows = is in cc));
   }
-  back-quiet now v now_v c now_c (Err error) h g w = record {
+  back-quiet now v now_v c now_c (Err error) h g = record {
     filed = λ most told filings. record {
       fault = false;
       found = None;
       counted = leaves-filings (Command.Back n) filings;
-      part = g.0;
-      state = λ files x. rw (lt-ltb g.0 n g.1) (ap (λ y. engine_of (slot_of kind y cursors)) g.2);
+      part = g.part;
+      state = λ files x. rw (lt-ltb g.part n g.fewer) (ap (λ y. engine_of (slot_of kind y cursors)) g.went.state);
       kept = λ files x. told-told told told files refl x;
-      wanted = let k = kind-of-back kind n in let some : 0 < n = omega (arith, g.1) in rw (k.0, k.1, lt-ltb 0 n some) refl;
-      most_work = λ files x. record { few_visits = w.few_visits; few_changes = w.few_changes };
+      wanted = let k = kind-of-back kind n in let some : 0 < n = omega (arith, g.fewer) in
+          rw (k.0, k.1, lt-ltb 0 n some, le-leb n (length t.tree.past) h) refl;
+      most_work = λ files x. record {
+        few_visits = most-begun v now_v t.tree.width g.part n g.fewer g.went.few_visits;
+        few_changes = omega (arith, g.fewer, g.went.few_changes);
+      };
     };
   }

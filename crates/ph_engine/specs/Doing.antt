@@ -35,6 +35,17 @@ uses_files (Command.Import name header) = true
 uses_files (Command.Export name) = true
 uses_files _ = false
 
+-- whether it writes one
+abbrev pub writes_file : Command → Bool
+writes_file (Command.Save name) = true
+writes_file (Command.Export name) = true
+writes_file _ = false
+
+-- Whether a file is begun, before a command and behind it: where none was, none is left so, and only a command that writes one changes that.
+pub record LeavesBegun (command : Command) (was now : Bool) : Type 0 where
+  pub none : was ≡ false → now ≡ false
+  pub other : writes_file command ≡ false → now ≡ was
+
 -- whether a command knows the current slot alone
 abbrev pub is_on_slot : Command → Bool
 is_on_slot (Command.Select which) = false

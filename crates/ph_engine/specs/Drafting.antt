@@ -1,5 +1,5 @@
 -- What a sink over the file that is begun is seen by, and what its writes leave.
-use Rattle.std.specs.Prelude.{◌≡◌, ◌≤◌, ℕ, Bool, true, false, List, Option, Some, None, Result, Ok, Err}
+use Rattle.std.specs.Prelude.{◌≡◌, ◌≤◌, ◌+◌, ℕ, Bool, true, false, List, Option, Some, None, Result, Ok, Err}
 use Rattle.ph_io.specs.Causes.{Rose}
 use Rattle.ph_io.specs.Shelf.{Map, Draft, Stays}
 use Rattle.ph_io.specs.declared.streams.Failed.{Failed}
@@ -13,6 +13,11 @@ draft_bytes (Some d) = Some d.1
 abbrev pub draft_name : Option Draft → Option (List ℕ)
 draft_name None = None
 draft_name (Some d) = Some d.0
+
+-- how many writes have failed: the first one, after which none works, and those that came late
+abbrev pub failed_writes : Bool → ℕ → ℕ
+failed_writes true late = late
+failed_writes false late = late + 1
 
 -- the name of the sink's loan, the files, the name of the draft, how often calls of the files have failed, how many writes came after one that failed,
 -- and whether none has failed

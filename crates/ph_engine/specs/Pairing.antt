@@ -52,6 +52,12 @@ abbrev pub CombinesSlots : {E : Type 0} → SetOperation → Slot → Slot → S
 CombinesSlots operation s t now changes now_changes (Ok reply) = SlotsCombined operation s t now (reply_of reply) changes now_changes
 CombinesSlots operation s t now changes now_changes (Err error) = SlotsKept operation s t now changes now_changes
 
+-- exactly as many visits as it takes where the slots are combined
+abbrev pub SeesAll : {E : Type 0} → SetOperation → Slot → Slot → ℕ → ℕ → Result Told E → Type 0
+SeesAll operation s t visits now_visits (Ok reply) =
+    combine_refusal operation s t ≡ None → now_visits ≡ visits + combine_visits operation s.width s.dims s.table t.table
+SeesAll operation s t visits now_visits (Err error) = Unit {0}
+
 -- so many visits at most
 pub record VisitsSlots (operation : SetOperation) (s t : Slot) (visits now_visits : ℕ) : Type 0 where
   pub later : visits ≤ now_visits

@@ -40,6 +40,7 @@ pub(crate) fn check<O: Sink, F: Files, V: Ledger, C: Ledger>(
         result }
     ensures cause { result ≡ Status.WriteFault → Rose (O.faults out.old) (O.faults out.new) }
     ensures later { O.faults out.old ≤ O.faults out.new }
+    ensures begun { F.is_begun files.new ≡ F.is_begun files.old }
 {
     let mut bytes = Vec::new(alloc);
     match files.fetch(file.as_str(), limits.file_bytes, &mut bytes) {

@@ -4,7 +4,7 @@ ghost use Rattle.ph_specs.specs.ProgramNames.{Command as Asked, opened, Reply as
 ghost use Rattle.ph_script.specs.Meaning.{command_of, reply_of};
 ghost use Rattle.ph_script.specs.Fit.{HasDims};
 ghost use Rattle.ph_engine.specs.Comparing.{Compares};
-ghost use Rattle.ph_engine.specs.Doing.{DoneOr, DoneBeside};
+ghost use Rattle.ph_engine.specs.Doing.{DoneOr, DoneBeside, LeavesBegun};
 ghost use Rattle.ph_engine.specs.Filing.{QuietOr};
 ghost use Rattle.ph_any_tree.specs.Telling.{StopHasCause};
 ghost use Rattle.ph_engine.specs.Told.{beside_by};
@@ -105,6 +105,7 @@ impl Engine {
             (beside_by O.Sink F.Files out.new files.new visits.new changes.new)
             self.new result }
         ensures cause { StopHasCause (O.faults out.old) (O.faults out.new) result }
+        ensures begun { LeavesBegun (command_of cmd.now) (F.is_begun files.old) (F.is_begun files.new) }
     {
         self.exec_by(
             alloc,
@@ -138,6 +139,7 @@ impl Engine {
             (beside_by O.Sink F.Files out.new files.new visits.new changes.new)
             self.new result }
         ensures cause { StopHasCause (O.faults out.old) (O.faults out.new) result }
+        ensures begun { LeavesBegun (command_of cmd.now) (F.is_begun files.old) (F.is_begun files.new) }
     {
         match cmd {
             Command::Select { slot } => say(out, text, &self.select(*slot)),

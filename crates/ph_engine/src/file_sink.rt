@@ -1,10 +1,10 @@
 //! A sink that appends to the file that is begun.
-ghost use Rattle.std.specs.Prelude.{◌≡◌, ◌<◌, ◌+◌, true, None, length, IfOk};
+ghost use Rattle.std.specs.Prelude.{◌≡◌, ◌<◌, true, None, length, IfOk};
 ghost use Rattle.std.specs.Io.{WritesAtMost};
 ghost use Rattle.std.specs.Io.KnownBytes.{WriteAppends};
 ghost use Rattle.ph_io.specs.Amounts.{WriteAdds};
 ghost use Rattle.ph_io.specs.Causes.{HasCause};
-ghost use Rattle.ph_engine.specs.Drafting.{draft_bytes, Follows};
+ghost use Rattle.ph_engine.specs.Drafting.{draft_bytes, failed_writes, Follows};
 ghost use Rattle.ph_engine.specs.DraftLaws.{follows_itself, follows_on};
 ghost use Rattle.ph_engine.specs.Told.{drafted_by};
 
@@ -16,7 +16,7 @@ pub(crate) struct FileSink<'f, F: Files> {
     pub(crate) files: &'f mut F,
     pub(crate) late: u64,
     pub(crate) works: bool,
-    ghost begun: { works ≡ true → F.is_begun files.now ≡ true },
+    ghost begun: { F.is_begun files.now ≡ works },
 }
 
 impl<'f, F: Files> FileSink<'f, F> {
@@ -40,7 +40,7 @@ impl<'f, F: Files> Sink for FileSink<'f, F> {
 
     ghost amount = { λ _. None };
 
-    ghost faults = { λ s. F.faults s.files.now + s.late };
+    ghost faults = { λ s. failed_writes s.works s.late };
 
     ghost follows = { λ a b. Follows
         (drafted_by F.Files a.files.ghost_name a.files.now a.late a.works)
@@ -55,7 +55,7 @@ impl<'f, F: Files> Sink for FileSink<'f, F> {
         ensures some { IfOk result (λ n. 0 < length piece.now → 0 < n) }
         ensures bytes { WriteAppends (draft_bytes (F.draft self.old.files.now)) (draft_bytes (F.draft self.new.files.now)) result piece.now }
         ensures amount { WriteAdds None None result }
-        ensures cause { HasCause (F.faults self.old.files.now + self.old.late) (F.faults self.new.files.now + self.new.late) result }
+        ensures cause { HasCause (failed_writes self.old.works self.old.late) (failed_writes self.new.works self.new.late) result }
         ensures follows { Follows
             (drafted_by F.Files self.old.files.ghost_name self.old.files.now self.old.late self.old.works)
             (drafted_by F.Files self.new.files.ghost_name self.new.files.now self.new.late self.new.works) }

@@ -1,5 +1,5 @@
 //! Commands on files: a table as a snapshot, and back.
-ghost use Rattle.std.specs.Prelude.{◌≡◌, true, length, IfOk};
+ghost use Rattle.std.specs.Prelude.{◌≡◌, true, false, length, IfOk};
 ghost use Rattle.ph_snap.specs.Saving.{VisitsAll};
 ghost use Rattle.ph_script.specs.Meaning.{reply_of};
 ghost use Rattle.ph_engine.specs.Drafting.{FilledOr};
@@ -32,10 +32,11 @@ pub(crate) fn save_table<F: Files, V: Ledger>(
     files: &mut F,
     visits: &mut Steps<V>,
 ) -> Reply
-    ensures { TableSaved kind (any_table tree.now) file.now
+    ensures saved { TableSaved kind (any_table tree.now) file.now
         (aside_by F.Files files.old visits.old 0)
         (aside_by F.Files files.new visits.new 0)
         (reply_of result) }
+    ensures begun { F.is_begun files.new ≡ false }
 {
     match save_tree(tree, kind, file, files, visits) {
         Ok(count) => Reply::Saved(count),
@@ -95,6 +96,7 @@ pub(crate) fn load_table<F: Files, C: Ledger>(
         (aside_by F.Files files.old 0 changes.old)
         (aside_by F.Files files.new 0 changes.new)
         (any_table tree.new) result }
+    ensures begun { F.is_begun files.new ≡ F.is_begun files.old }
 {
     let mut bytes = Vec::new(alloc);
     match files.fetch(file.as_str(), limits.file_bytes, &mut bytes) {

@@ -1,5 +1,5 @@
 //! The program as one call.
-ghost use Rattle.std.specs.Prelude.{◌≡◌, ◌≢◌, ◌<◌, ◌^◌, map, string_bytes};
+ghost use Rattle.std.specs.Prelude.{◌≡◌, ◌≢◌, ◌<◌, ◌^◌, false, map, string_bytes};
 ghost use Rattle.ph_specs.specs.ProgramNames.{Task as Asked, task};
 ghost use Rattle.ph_engine.specs.Ending.{TopEnds, TellsUsage};
 ghost use Rattle.ph_engine.specs.Statuses.{HasWriteCause};
@@ -49,6 +49,7 @@ pub fn top<S: Source, O: Sink, F: Files, V: Ledger, C: Ledger>(
         (seen_by S.Source O.Sink F.Files src.new out.new files.new visits.new changes.new eng.new)
         result }
     ensures source { task (map string_bytes words.now) ≢ Asked.Run → src.new ≡ src.old }
+    ensures begun { F.is_begun files.old ≡ false → F.is_begun files.new ≡ false }
 {
     match task_of(words) {
         Task::Run => run(alloc, src, out, files, eng, limits, visits, changes),

@@ -1,4 +1,5 @@
 //! Commands on files of records: rows as comma-separated fields, a line each.
+ghost use Rattle.std.specs.Prelude.{◌≡◌, false};
 ghost use Rattle.ph_script.specs.Meaning.{reply_of};
 ghost use Rattle.ph_any_tree.specs.Tables.{SameFrame, any_table};
 ghost use Rattle.ph_engine.specs.Recording.{TableExported, TableImported};
@@ -32,6 +33,7 @@ pub(crate) fn import_table<F: Files, V: Ledger, C: Ledger>(
         (aside_by F.Files files.old visits.old changes.old)
         (aside_by F.Files files.new visits.new changes.new)
         (any_table tree.new) result }
+    ensures begun { F.is_begun files.new ≡ F.is_begun files.old }
 {
     let mut bytes = Vec::new(alloc);
     match files.fetch(file.as_str(), limits.file_bytes, &mut bytes) {
@@ -47,10 +49,11 @@ pub(crate) fn export_table<F: Files, V: Ledger>(
     files: &mut F,
     visits: &mut Steps<V>,
 ) -> Reply
-    ensures { TableExported (any_table tree.now) file.now
+    ensures exported { TableExported (any_table tree.now) file.now
         (aside_by F.Files files.old visits.old 0)
         (aside_by F.Files files.new visits.new 0)
         (reply_of result) }
+    ensures begun { F.is_begun files.new ≡ false }
 {
     match tree.export(file, files, visits) {
         Ok(()) => Reply::Exported(tree.len()),

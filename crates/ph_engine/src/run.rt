@@ -1,5 +1,5 @@
 //! A run over a source: its bytes are cut into lines, and each line is answered.
-ghost use Rattle.std.specs.Prelude.{◌≡◌, ◌≤◌, ◌<◌, ◌+◌, ◌^◌, [], ◌||◌, IfOk, IfErr, length};
+ghost use Rattle.std.specs.Prelude.{◌≡◌, ◌≤◌, ◌<◌, ◌+◌, ◌^◌, [], ◌||◌, false, IfOk, IfErr, length};
 ghost use Rattle.std.specs.Io.KnownBytes.{ReadConsumes, IsAtEnd};
 ghost use Rattle.ph_io.specs.Causes.{HasCause, Rose};
 ghost use Rattle.ph_io.specs.Giving.{Given};
@@ -42,6 +42,7 @@ pub(crate) fn run<S: Source, O: Sink, F: Files, V: Ledger, C: Ledger>(
         (S.left src.new) (standing_by O.Sink F.Files out.new files.new visits.new changes.new eng.new)
         result }
     ensures filings { F.faults files.old ≤ F.faults files.new }
+    ensures begun { F.is_begun files.old ≡ false → F.is_begun files.new ≡ false }
     ensures causes { HasCauses (S.faults src.old) (S.faults src.new) (O.faults out.old) (O.faults out.new) result }
 {
     let Ok(mut lines) = Lines::new(alloc) else {
@@ -87,6 +88,7 @@ fn run_pieces<S: Source, O: Sink, F: Files, V: Ledger, C: Ledger>(
         (S.left src.new) (standing_by O.Sink F.Files out.new files.new visits.new changes.new eng.new)
         result }
     ensures filings { F.faults files.old ≤ F.faults files.new }
+    ensures begun { F.is_begun files.old ≡ false → F.is_begun files.new ≡ false }
     ensures causes { HasCauses (S.faults src.old) (S.faults src.new) (O.faults out.old) (O.faults out.new) result }
 {
     let mut taken = 0u64;
@@ -158,6 +160,7 @@ fn feed<O: Sink, F: Files, V: Ledger, C: Ledger>(
         (standing_by O.Sink F.Files out.old files.old visits.old changes.old eng.old) lines.old piece.now
         (standing_by O.Sink F.Files out.new files.new visits.new changes.new eng.new) lines.new result }
     ensures filings { F.faults files.old ≤ F.faults files.new }
+    ensures begun { F.is_begun files.old ≡ false → F.is_begun files.new ≡ false }
     ensures cause { StopHasCause (O.faults out.old) (O.faults out.new) result }
 {
     let mut refused = false;
@@ -201,6 +204,7 @@ fn finish<O: Sink, F: Files, V: Ledger, C: Ledger>(
         (standing_by O.Sink F.Files out.old files.old visits.old changes.old eng.old) lines.old refused
         (standing_by O.Sink F.Files out.new files.new visits.new changes.new eng.new) result }
     ensures filings { F.faults files.old ≤ F.faults files.new }
+    ensures begun { F.is_begun files.old ≡ false → F.is_begun files.new ≡ false }
     ensures writes { O.faults out.old ≤ O.faults out.new }
     ensures cause { result ≡ Status.WriteFault → Rose (O.faults out.old) (O.faults out.new) }
     ensures read { (result ≡ Status.ReadFault → ⊥) × (result ≡ Status.Usage → ⊥) }
@@ -244,6 +248,7 @@ fn answer<O: Sink, F: Files, V: Ledger, C: Ledger>(
         (standing_by O.Sink F.Files out.old files.old visits.old changes.old eng.old) line.entry
         (standing_by O.Sink F.Files out.new files.new visits.new changes.new eng.new) result }
     ensures filings { F.faults files.old ≤ F.faults files.new }
+    ensures begun { F.is_begun files.old ≡ false → F.is_begun files.new ≡ false }
     ensures cause { StopHasCause (O.faults out.old) (O.faults out.new) result }
 {
     let Line::Text(bytes) = line else {
@@ -282,6 +287,7 @@ fn answer_other<O: Sink, F: Files, V: Ledger, C: Ledger>(
         (standing_by O.Sink F.Files out.old files.old visits.old changes.old eng.old) bytes.now
         (standing_by O.Sink F.Files out.new files.new visits.new changes.new eng.new) result }
     ensures filings { F.faults files.old ≤ F.faults files.new }
+    ensures begun { F.is_begun files.old ≡ false → F.is_begun files.new ≡ false }
     ensures cause { StopHasCause (O.faults out.old) (O.faults out.new) result }
 {
     match read_command(bytes, eng.dims(), coords) {

@@ -7,7 +7,7 @@ ghost use Rattle.ph_script.specs.Meaning.{command_of, numbers_of, reply_of};
 ghost use Rattle.ph_script.specs.Fit.{HasDims};
 ghost use Rattle.ph_tree.specs.Stats.{stats_of};
 ghost use Rattle.ph_engine.specs.Causes.{refusal_reply};
-ghost use Rattle.ph_engine.specs.Doing.{Begun, DoneWith, DoneOr, is_on_row, is_on_slot, is_sure, is_tried, is_listed};
+ghost use Rattle.ph_engine.specs.Doing.{Begun, DoneWith, DoneOr, LeavesBegun, is_on_row, is_on_slot, is_sure, is_tried, is_listed};
 ghost use Rattle.ph_engine.specs.Filing.{FiledOr, QuietOr, Replies};
 ghost use Rattle.ph_engine.specs.Refusing.{early_refusal, cursor_refusal};
 ghost use Rattle.ph_any_tree.specs.Tables.{engine_of};
@@ -107,6 +107,7 @@ impl Slot {
             (beside_by O.Sink F.Files out.new files.new visits.new changes.new)
             (engine_of self.new) result }
         ensures cause { StopHasCause (O.faults out.old) (O.faults out.new) result }
+        ensures begun { LeavesBegun (command_of cmd.now) (F.is_begun files.old) (F.is_begun files.new) }
     {
         match cmd {
             Command::Put { at, value } => {
@@ -151,6 +152,7 @@ impl Slot {
             (beside_by O.Sink F.Files out.new files.new visits.new changes.new)
             (engine_of self.new) result }
         ensures cause { StopHasCause (O.faults out.old) (O.faults out.new) result }
+        ensures begun { LeavesBegun (command_of cmd.now) (F.is_begun files.old) (F.is_begun files.new) }
     {
         if let Some(refusal) = self.refusal(cmd) {
             return say(out, text, &refusal.reply());
@@ -205,10 +207,11 @@ impl Slot {
         requires file { limits.now.file_bytes < 2 ^ 63 }
         requires unrefused { early_refusal self.old (command_of cmd.now) ≡ None }
         requires tried { is_tried (command_of cmd.now) ≡ true }
-        ensures { FiledOr limits.now.file_bytes (engine_of self.old) (command_of cmd.now)
+        ensures filed { FiledOr limits.now.file_bytes (engine_of self.old) (command_of cmd.now)
             (aside_by F.Files files.old visits.old changes.old)
             (aside_by F.Files files.new visits.new changes.new)
             (engine_of self.new) result }
+        ensures begun { F.is_begun files.new ≡ F.is_begun files.old }
     {
         match cmd {
             Command::Load { file } => load_table(
@@ -248,10 +251,11 @@ impl Slot {
         requires dims { HasDims self.old.dims cmd.now }
         requires unrefused { early_refusal self.old (command_of cmd.now) ≡ None }
         requires sure { is_sure (command_of cmd.now) ≡ true }
-        ensures { Replies self.old (command_of cmd.now)
+        ensures replies { Replies self.old (command_of cmd.now)
             (aside_by F.Files files.old visits.old 0)
             (aside_by F.Files files.new visits.new 0)
             self.new (reply_of result) }
+        ensures begun { LeavesBegun (command_of cmd.now) (F.is_begun files.old) (F.is_begun files.new) }
     {
         match cmd {
             Command::Begin {

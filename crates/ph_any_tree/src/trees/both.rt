@@ -142,7 +142,7 @@ impl AnyTree {
         requires dims { (any_table self.old).dims ≡ (any_table other.now).dims }
         requires width { (any_table self.old).tree.width ≡ (any_table other.now).tree.width }
         ensures made { MadeOr operation (any_table self.old) (any_table other.now) (any_table self.new) changes.old changes.new result }
-        ensures visits { VisitsBoth operation (any_table self.old) (any_table other.now) visits.old visits.new }
+        ensures visits { VisitsBoth operation (any_table self.old) (any_table other.now) visits.old visits.new result }
     {
         with_both!(self, other, kept, with => combine_trees(kept, with, alloc, operation, visits, changes), unreachable!())
     }

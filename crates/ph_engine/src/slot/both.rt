@@ -3,7 +3,7 @@ ghost use Rattle.std.specs.Prelude.{◌≡◌, None, option_map};
 ghost use Rattle.ph_specs.specs.ProgramNames.{join_refusal, points_differ};
 ghost use Rattle.ph_engine.specs.Causes.{refusal_reply};
 ghost use Rattle.ph_any_tree.specs.Comparing.{IsCompared};
-ghost use Rattle.ph_engine.specs.Pairing.{JoinsSlots, CombinesSlots, VisitsSlots};
+ghost use Rattle.ph_engine.specs.Pairing.{JoinsSlots, CombinesSlots, SeesAll, VisitsSlots};
 ghost use Rattle.ph_engine.specs.Refusing.{frame_refusal};
 ghost use Rattle.ph_any_tree.specs.Telling.{StopHasCause};
 ghost use Rattle.ph_any_tree.specs.Told.{taken_by};
@@ -67,6 +67,7 @@ impl Slot {
     ) -> Result<Reply, NoMemory>
         ensures combines { CombinesSlots operation self.old other.now self.new changes.old changes.new result }
         ensures visits { VisitsSlots operation self.old other.now visits.old visits.new }
+        ensures all { SeesAll operation self.old other.now visits.old visits.new result }
     {
         if let Some(refusal) = self.frame_refusal(other) {
             return Ok(refusal.reply());

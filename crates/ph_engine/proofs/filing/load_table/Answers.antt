@@ -25,6 +25,7 @@ returns g c =
     let t = any_table c.args.tree.now in
     record {
       frame = same-frame-still c.args.kind t;
+      begun = e.is_begun;
       loaded = record {
         filed = λ visits cursors.
             unfetched-filed-or (Command.Load c.args.file.now) c.args.file.now (fetch-load c.args.file.now)

@@ -27,6 +27,7 @@ returns g c =
     let name = c.args.file.now in
     record {
       frame = same-frame-still c.args.kind t;
+      begun = e.is_begun;
       imported = record {
         filed = λ cursors.
             unfetched-filed-or (Command.Import name c.args.header) name (fetch-import name c.args.header)

@@ -36,6 +36,7 @@ lines-preserved g c =
       within = feed-within c.args.piece.now c.lines.at c.next_line.new.at c.lines.invariant.within given.0 place;
       later = omega (arith, c.lines.invariant.later, c.in-Ok.ensures.cause.later);
       filings = omega (arith, c.lines.invariant.filings, c.in-Ok.ensures.filings);
+      begun = λ none. c.in-Ok.ensures.begun (c.lines.invariant.begun none);
       fed = λ known fits.
           let fed = c.lines.invariant.fed known fits in
           let line = known-on (Says c.args.limits.now.file_bytes c.in-Some.line
@@ -100,6 +101,7 @@ lines-init g c = record {
   within = omega arith;
   later = omega arith;
   filings = omega arith;
+  begun = λ none. none;
   fed = λ known fits. (
     known-left known _ _ fits refl,
     λ unended k u.

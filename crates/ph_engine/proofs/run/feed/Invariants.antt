@@ -1,4 +1,4 @@
-use Rattle.std.proofs.Common.{◌-◌, ◌≤◌, length, take}
+use Rattle.std.proofs.Common.{◌≡◌, ◌-◌, ◌≤◌, false, length, take}
 use Rattle.std.specs.Prelude.{Ok}
 use Rattle.ph_engine.specs.Serving.{ServesPiece}
 use Rattle.ph_engine.specs.Standing.{standing}
@@ -9,6 +9,7 @@ invariant-lines g l = record {
   within : l.at ≤ length l.piece;
   later : g.O.Sink.faults l.initial.out ≤ g.O.Sink.faults l.out;
   filings : g.F.Files.faults l.initial.files ≤ g.F.Files.faults l.files;
+  begun : g.F.Files.is_begun l.initial.files ≡ false → g.F.Files.is_begun l.files ≡ false;
   fed : ServesPiece l.limits.file_bytes
       (standing (g.O.Sink.written l.initial.out) (g.O.Sink.amount l.initial.out) (g.F.Files.files l.initial.files)
       (g.F.Files.faults l.initial.files) l.initial.visits l.initial.changes l.initial.eng) l.initial.lines

@@ -87,6 +87,7 @@ pieces-preserved g c = let all : c.min-fresh.result ≡ c.in-Ok.count = omega (a
   reads = omega (arith, c.pieces.invariant.reads, c.in-Ok.ensures.cause.later);
   writes = omega (arith, c.pieces.invariant.writes, c.in-Ok-feed.ensures.cause.later);
   filings = omega (arith, c.pieces.invariant.filings, c.in-Ok-feed.ensures.filings);
+  begun = λ none. c.in-Ok-feed.ensures.begun (c.pieces.invariant.begun none);
   reached = λ known fits.
       let m = script_machine c.args.limits.now.file_bytes in
       let before = c.pieces.invariant.reached known fits in
@@ -104,6 +105,7 @@ pieces-init g c = record {
   reads = omega arith;
   writes = omega arith;
   filings = omega arith;
+  begun = λ none. none;
   reached = λ known fits. (
     known-left known _ _ fits refl,
     reached-known (script_machine c.args.limits.now.file_bytes)

@@ -1,4 +1,4 @@
-use Rattle.std.proofs.Common.{◌+◌, ◌-◌, ◌≤◌}
+use Rattle.std.proofs.Common.{◌≡◌, ◌+◌, ◌-◌, ◌≤◌, false}
 use Rattle.ph_engine.specs.ScriptMachine.{script_machine}
 use Rattle.ph_engine.specs.Serving.{FromKnown}
 use Rattle.ph_engine.specs.Standing.{standing}
@@ -15,6 +15,7 @@ invariant-pieces g l =
       reads : g.S.Source.faults l.initial.src ≤ g.S.Source.faults l.src;
       writes : g.O.Sink.faults l.initial.out ≤ g.O.Sink.faults l.out;
       filings : g.F.Files.faults l.initial.files ≤ g.F.Files.faults l.files;
+      begun : g.F.Files.is_begun l.initial.files ≡ false → g.F.Files.is_begun l.files ≡ false;
       reached : FromKnown st now (λ s after. Reached (script_machine l.limits.file_bytes)
           (g.S.Source.left l.initial.src) (g.S.Source.left l.src) st.beside now.beside s after l.lines l.refused l.taken);
     }

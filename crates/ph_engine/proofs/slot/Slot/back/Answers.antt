@@ -8,4 +8,4 @@ pub returns : goal.returns
 returns g c =
     rw (← c.self.view_is) (back-quiet c.self.inside.kind (any_table c.self.inside.tree)
     (named c.self.inside.cursors.items) c.args.n (any_table c.back.new.self) _ _ _ _ c.back.result (search rules)
-    c.back.ensures.back c.back.ensures.work)
+    c.back.ensures)

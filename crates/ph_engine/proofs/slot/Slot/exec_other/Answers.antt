@@ -22,7 +22,7 @@ returns-in-Load-clause-done g c =
     let no_page : is_page (command_of c.args.cmd.now) ≡ false = search rules in
     done-filed c.args.limits.now.file_bytes (engine_of c.args.self.now) (engine_of c.try_reply-outcome.new.self)
     (command_of c.args.cmd.now) _ _ _ _ _ _ _ _ _ _ c.try_reply-outcome.result c.tell.result no_page
-    c.try_reply-outcome.ensures c.tell.ensures.told
+    c.try_reply-outcome.ensures.filed c.tell.ensures.told
 
 pub returns-in-Begin-clause-done : goal.returns-in-Begin-clause-done
 returns-in-Begin-clause-done g c =
@@ -31,7 +31,7 @@ returns-in-Begin-clause-done g c =
     c.say-in-Begin.ensures.told c.say-in-Begin.ensures.err c.say-in-Begin.ensures.front in
     done-filed c.args.limits.now.file_bytes (engine_of c.args.self.now) (engine_of c.reply-reply.new.self)
     (command_of c.args.cmd.now) _ _ _ _ _ _ _ _ _ _ {E = ⊥} (Ok c.reply-reply.result) c.say-in-Begin.result
-    no_page (c.reply-reply.ensures.filed c.args.limits.now.file_bytes c.args.changes.now) told
+    no_page (c.reply-reply.ensures.replies.filed c.args.limits.now.file_bytes c.args.changes.now) told
 
 pub returns-in-Window-clause-done : goal.returns-in-Window-clause-done
 returns-in-Window-clause-done g c = c.list.ensures.done.done c.args.limits.now.file_bytes

@@ -22,25 +22,25 @@ invariant_of-self g c =
     (same-frame {E = ⊥} kind t (any_table c.clear.new.self) _ (Ok c.clear.result) 0 0 0 0
     (clear-frame kind t cursors) (c.clear.ensures.served 0 0)) c.self-in-Clear.invariant
 
-pub returns-in-Begin : goal.returns-in-Begin
-returns-in-Begin g c = rw c.in-Begin.is (record { filed = λ most changes. filed-begun most _ _ _ _ _ _ _ changes c.begin.ensures })
+pub returns-in-Begin-clause-replies : goal.returns-in-Begin-clause-replies
+returns-in-Begin-clause-replies g c = rw c.in-Begin.is (record { filed = λ most changes. filed-begun most _ _ _ _ _ _ _ changes c.begin.ensures })
 
-pub returns-in-Cursor : goal.returns-in-Cursor
-returns-in-Cursor g c = rw c.in-Cursor.is (record { filed = λ most changes. filed-begun most _ _ _ _ _ _ _ changes c.set_cursor.ensures })
+pub returns-in-Cursor-clause-replies : goal.returns-in-Cursor-clause-replies
+returns-in-Cursor-clause-replies g c = rw c.in-Cursor.is (record { filed = λ most changes. filed-begun most _ _ _ _ _ _ _ changes c.set_cursor.ensures })
 
-pub returns-in-Save : goal.returns-in-Save
-returns-in-Save g c = rw (c.in-Save.is, ← c.self-in-Save.view_is)
-    (record { filed = λ most changes. c.save_table.ensures.filed most changes (named c.self-in-Save.inside.cursors.items) })
+pub returns-in-Save-clause-replies : goal.returns-in-Save-clause-replies
+returns-in-Save-clause-replies g c = rw (c.in-Save.is, ← c.self-in-Save.view_is)
+    (record { filed = λ most changes. c.save_table.ensures.saved.filed most changes (named c.self-in-Save.inside.cursors.items) })
 
-pub returns-in-Export : goal.returns-in-Export
-returns-in-Export g c = rw (c.in-Export.is, ← c.self-in-Export.view_is)
+pub returns-in-Export-clause-replies : goal.returns-in-Export-clause-replies
+returns-in-Export-clause-replies g c = rw (c.in-Export.is, ← c.self-in-Export.view_is)
     (record {
-      filed = λ most changes. c.export_table.ensures.filed most changes c.self-in-Export.inside.kind
+      filed = λ most changes. c.export_table.ensures.exported.filed most changes c.self-in-Export.inside.kind
           (named c.self-in-Export.inside.cursors.items);
     })
 
-pub returns-in-Count : goal.returns-in-Count
-returns-in-Count g c =
+pub returns-in-Count-clause-replies : goal.returns-in-Count-clause-replies
+returns-in-Count-clause-replies g c =
     let kind = c.self.inside.kind in
     let t = any_table c.self.inside.tree in
     let cursors = named c.self.inside.cursors.items in
@@ -51,8 +51,8 @@ returns-in-Count g c =
           changes changes plain-count unrefused (c.count.ensures.served c.args.visits.now changes);
     })
 
-pub returns-in-Clear : goal.returns-in-Clear
-returns-in-Clear g c =
+pub returns-in-Clear-clause-replies : goal.returns-in-Clear-clause-replies
+returns-in-Clear-clause-replies g c =
     let kind = c.self-in-Clear.inside.kind in
     let t = any_table c.self-in-Clear.inside.tree in
     let cursors = named c.self-in-Clear.inside.cursors.items in

@@ -20,11 +20,11 @@ invariant_of-self-in-Import g c =
     let t = any_table c.self-in-Import.inside.tree in
     slot-keeps kind t (any_table c.import_table.new.tree) c.self-in-Import.inside.cursors.items c.import_table.ensures.frame c.self-in-Import.invariant
 
-pub returns-in-Load : goal.returns-in-Load
-returns-in-Load g c = rw (c.in-Load.is, ← c.self.view_is) (c.load_table.ensures.loaded.filed c.args.visits.now (named c.self.inside.cursors.items))
+pub returns-in-Load-clause-filed : goal.returns-in-Load-clause-filed
+returns-in-Load-clause-filed g c = rw (c.in-Load.is, ← c.self.view_is) (c.load_table.ensures.loaded.filed c.args.visits.now (named c.self.inside.cursors.items))
 
-pub returns-in-Import : goal.returns-in-Import
-returns-in-Import g c = rw (c.in-Import.is, ← c.self-in-Import.view_is) (c.import_table.ensures.imported.filed (named c.self-in-Import.inside.cursors.items))
+pub returns-in-Import-clause-filed : goal.returns-in-Import-clause-filed
+returns-in-Import-clause-filed g c = rw (c.in-Import.is, ← c.self-in-Import.view_is) (c.import_table.ensures.imported.filed (named c.self-in-Import.inside.cursors.items))
 
-pub returns-in-Back : goal.returns-in-Back
-returns-in-Back g c = rw c.in-Back.is (c.back.ensures.filed c.args.limits.now.file_bytes (g.F.Files.files c.args.files.now) (g.F.Files.faults c.args.files.now))
+pub returns-in-Back-clause-filed : goal.returns-in-Back-clause-filed
+returns-in-Back-clause-filed g c = rw c.in-Back.is (c.back.ensures.filed c.args.limits.now.file_bytes (g.F.Files.files c.args.files.now) (g.F.Files.faults c.args.files.now))
