@@ -1,4 +1,4 @@
-use Rattle.std.proofs.Common.{◌≡◌, ◌∙◌, ◌+◌, Bool, true, false, arith, refl, rules, sym}
+use Rattle.std.proofs.Common.{◌≡◌, ◌∙◌, Bool, true, false, arith, refl, rules}
 use Rattle.ph_io.specs.Causes.{Rose}
 use Rattle.ph_engine.specs.Drafting.{Drafted, Follows, failed_writes}
 use Rattle.ph_engine.proofs.filing.append_tree.Goals as goal
