@@ -24,7 +24,7 @@ pub use beside::is_row;
 pub use between::is_row_between;
 pub use block::Block;
 pub use edits::Edit;
-pub use entries::{Entries, Packed};
+pub use entries::{Entries, Mark, Packed};
 pub use fields::{field, ones_before, part_of, set_field};
 pub use joins::{join_address, join_row};
 pub use moves::{move_down, move_up};

@@ -128,8 +128,50 @@ fn shift_words_down(words: &mut [u64], from: u64, place: u64, count: u64)
     }
 }
 
-// The same from the last word to the first: what was written lies behind the word that was read last.
+// The same from the last word to the first, four words a turn and then those that are left: what was written lies behind the words
+// that are read next.
 fn shift_words_up(words: &mut [u64], from: u64, place: u64, count: u64)
+    requires across { 0 < from % 64 }
+    requires order { from ≤ 64 * place }
+    requires inside { 64 * place + 64 * count ≤ 64 * length words.old }
+    requires near { 64 * place + 64 * count ≤ 2 ^ 62 }
+    ensures { IsMoved words.old from (64 * place) (64 * count) words.new }
+{
+    let mut left = count;
+    while left >= 4 {
+        left -= 4;
+        shift_four(words, from + 64 * left, place + left);
+    }
+    shift_few_up(words, from, place, left);
+}
+
+// Moves digits that begin within a word to four words, all of which are read before the first is written.
+#[inline(always)]
+fn shift_four(words: &mut [u64], from: u64, place: u64)
+    requires across { 0 < from % 64 }
+    requires order { from ≤ 64 * place }
+    requires inside { 64 * place + 256 ≤ 64 * length words.old }
+    requires near { 64 * place + 256 ≤ 2 ^ 62 }
+    ensures { IsMoved words.old from (64 * place) 256 words.new }
+{
+    let start = (from / 64) as usize;
+    let front = from % 64;
+    let (a, b, c, d, e) = (
+        words[start],
+        words[start + 1],
+        words[start + 2],
+        words[start + 3],
+        words[start + 4],
+    );
+    let to = place as usize;
+    words[to + 3] = word_across(d, e, front);
+    words[to + 2] = word_across(c, d, front);
+    words[to + 1] = word_across(b, c, front);
+    words[to] = word_across(a, b, front);
+}
+
+// The same, one word a turn.
+fn shift_few_up(words: &mut [u64], from: u64, place: u64, count: u64)
     requires across { 0 < from % 64 }
     requires order { from ≤ 64 * place }
     requires inside { 64 * place + 64 * count ≤ 64 * length words.old }

@@ -6,7 +6,7 @@ ghost use Rattle.ph_bits.specs.Packed.{read_of, IsPadded};
 ghost use Rattle.ph_bulk.specs.Parts.{flat_in, is_ready};
 
 use crate::parts::Part;
-use ph_bits::{Entries, Packed};
+use ph_bits::{Entries, Mark, Packed};
 use ph_coord::Width;
 use ph_shape::Space;
 use std::marker::PhantomData;
@@ -31,12 +31,14 @@ impl<'t, P: Space> Entries<P> for PartsOf<'t, P> {
     }
 
     #[inline(always)]
-    fn at(&self, i: usize) -> Packed {
+    fn at(&self, i: usize, mark: &mut Option<Mark>) -> Packed {
+        let _ = mark;
         entry_of::<P>(self.w, self.place, &self.parts[i])
     }
 
     #[inline(always)]
-    fn value(&self, i: usize) -> u64 {
+    fn value(&self, i: usize, mark: &mut Option<Mark>) -> u64 {
+        let _ = mark;
         let part = &self.parts[i];
         P::value(&part.rows[0])
     }

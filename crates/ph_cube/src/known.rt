@@ -1,10 +1,10 @@
 //! Parts of an entry whose place and address are known.
 
-ghost use Rattle.std.specs.Prelude.{◌≡◌, ◌<◌, Some, true, map, slice_get};
+ghost use Rattle.std.specs.Prelude.{◌≡◌, ◌+◌, ◌<◌, Some, true, map, slice_get};
 ghost use Rattle.ph_specs.specs.RecordNames.{first_in, IsRecord, entries_as, read_address, is_child as read_child_test};
 ghost use Rattle.ph_bits.specs.Packed.{rank_at as rank_in, IsBodyAt};
 
-use crate::parts::{body_of, child_at, rank_of};
+use crate::parts::{body_of, child_at, next_present, rank_of};
 
 /// Whether entry `i`, at an address, is a child.
 #[inline(always)]
@@ -27,6 +27,17 @@ pub fn rank_at(words: &[u64], dims: usize, i: usize, addr: u32, child: bool) -> 
     ensures { result ≡ rank_in child (entries_as true dims words.now) i }
 {
     rank_of(words, dims, i, addr as u64, child)
+}
+
+/// The address of the entry behind entry `i`, which stands at an address.
+#[inline(always)]
+pub fn next_address(words: &[u64], dims: usize, i: usize, addr: u32) -> u32
+    requires record { IsRecord true dims words.now }
+    requires within { i + 1 < (first_in words.now).entries }
+    requires address { slice_get (map read_address (entries_as true dims words.now)) i ≡ Some addr }
+    ensures { slice_get (map read_address (entries_as true dims words.now)) (i + 1) ≡ Some result }
+{
+    next_present(words, dims, i, addr as u64) as u32
 }
 
 /// The digit at which the body of entry `i`, at an address, begins.

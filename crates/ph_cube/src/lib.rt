@@ -15,7 +15,7 @@ mod writes;
 /// knows it.
 pub mod by_dims {
     pub use crate::edits::{insert_point, put_child, put_point, remove_point};
-    pub use crate::known::{body_at, is_child_at, rank_at};
+    pub use crate::known::{body_at, is_child_at, next_address, rank_at};
     pub use crate::reads::{address, bits_of, entry, find_entry, is_child, rank};
     pub use crate::searches::{find, next_at_or_after, search};
     pub use crate::writes::write;

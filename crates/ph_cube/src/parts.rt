@@ -31,6 +31,22 @@ pub(crate) fn address_of(words: &[u64], dims: usize, i: usize) -> u64
     addr
 }
 
+// The address of the entry behind entry `i`, which stands at an address.
+#[inline(always)]
+pub(crate) fn next_present(words: &[u64], dims: usize, i: usize, addr: u64) -> u64
+    requires record { IsRecord true dims words.now }
+    requires within { i + 1 < (first_in words.now).entries }
+    requires stands { StandsAt dims words.now addr i }
+    ensures { StandsAt dims words.now result (i + 1) }
+{
+    let _ = (dims, i);
+    let mut next = addr + 1;
+    while field(words, 64 + next * 2, 2) == 0 {
+        next += 1;
+    }
+    next
+}
+
 // Whether a child stands at an address.
 #[inline(always)]
 pub(crate) fn child_at(words: &[u64], addr: u64) -> bool

@@ -1,6 +1,6 @@
 //! Writing a cube record: the kinds of all addresses, their bodies, and then the values.
 
-ghost use Rattle.std.specs.Prelude.{◌≡◌, ◌+◌, ◌*◌, ◌^◌, ◌<◌, ◌≤◌, true, length, drop, map};
+ghost use Rattle.std.specs.Prelude.{◌≡◌, ◌+◌, ◌*◌, ◌^◌, ◌<◌, ◌≤◌, true, length, drop, map, IfSome};
 ghost use Rattle.ph_specs.specs.RecordNames.{number_after, words_for, children, values, bodies, body_fields, cube_digits, record_in, places, at_address, place_kind};
 ghost use Rattle.ph_specs.specs.RecordNames.{place_body, unvalued, AreRising};
 ghost use Rattle.std.specs.Option.{option_map};
@@ -9,7 +9,7 @@ ghost use Rattle.ph_bits.specs.Packed.{read_of};
 ghost use Rattle.ph_bits.specs.Written.{IsPen, digits_by, number_by};
 ghost use Rattle.ph_cube.specs.Written.{kind_number, is_there};
 
-use ph_bits::{Entries, Packed, Pen, Words};
+use ph_bits::{Entries, Mark, Packed, Pen, Words};
 use ph_coord::Dims;
 use ph_linear::{begin, close};
 
@@ -46,8 +46,9 @@ fn put_kinds<P: Dims, E: Entries<P>>(pen: &mut Pen, words: &mut Words, from: &E)
 {
     let mut i = 0;
     let mut children = 0;
+    let mut mark = None;
     for addr in 0..1u64 << P::D {
-        let kind = kind_at::<P, E>(from, i, addr);
+        let kind = kind_at::<P, E>(from, i, addr, &mut mark);
         pen.put(words, 2, kind);
         i += ((kind + 1) / 2) as usize;
         children += kind / 2;
@@ -57,12 +58,14 @@ fn put_kinds<P: Dims, E: Entries<P>>(pen: &mut Pen, words: &mut Words, from: &E)
 
 // The kind of an address, where entry `i` is the first that may be there.
 #[inline(always)]
-fn kind_at<P: Dims, E: Entries<P>>(from: &E, i: usize, addr: u64) -> u64
+fn kind_at<P: Dims, E: Entries<P>>(from: &E, i: usize, addr: u64, mark: &mut Option<Mark>) -> u64
+    requires stands { IfSome mark.old (E.stands from.now) }
     requires rise { (level : _) × AreRising P.D level addr (drop i (E.list from.now)) }
+    ensures stands { IfSome mark.new (E.stands from.now) }
     ensures value { result ≡ kind_number (at_address addr (drop i (E.list from.now))) }
     ensures limit { result ≤ 2 }
 {
-    match standing::<P, E>(from, i, addr) {
+    match standing::<P, E>(from, i, addr, mark) {
         Some(entry) => 1 + entry.child as u64,
         None => 0,
     }
@@ -70,14 +73,21 @@ fn kind_at<P: Dims, E: Entries<P>>(from: &E, i: usize, addr: u64) -> u64
 
 // The entry at an address, where entry `i` is the first that may be there.
 #[inline(always)]
-fn standing<P: Dims, E: Entries<P>>(from: &E, i: usize, addr: u64) -> Option<Packed>
+fn standing<P: Dims, E: Entries<P>>(
+    from: &E,
+    i: usize,
+    addr: u64,
+    mark: &mut Option<Mark>,
+) -> Option<Packed>
+    requires stands { IfSome mark.old (E.stands from.now) }
     requires rise { (level : _) × AreRising P.D level addr (drop i (E.list from.now)) }
-    ensures { option_map unvalued (at_address addr (drop i (E.list from.now))) ≡ option_map (read_of P.D) result }
+    ensures stands { IfSome mark.new (E.stands from.now) }
+    ensures entry { option_map unvalued (at_address addr (drop i (E.list from.now))) ≡ option_map (read_of P.D) result }
 {
     if i >= from.count() {
         return None;
     }
-    let entry = from.at(i);
+    let entry = from.at(i, mark);
     if entry.addr as u64 == addr {
         Some(entry)
     } else {
@@ -100,8 +110,9 @@ fn put_bodies<P: Dims, E: Entries<P>>(pen: &mut Pen, words: &mut Words, from: &E
     ensures places { IsSamePlaces words.old words.new }
 {
     let mut i = 0;
+    let mut mark = None;
     for addr in 0..1u64 << P::D {
-        i += put_body::<P, E>(pen, words, from, i, addr, level);
+        i += put_body::<P, E>(pen, words, from, i, addr, level, &mut mark);
     }
 }
 
@@ -114,12 +125,15 @@ fn put_body<P: Dims, E: Entries<P>>(
     i: usize,
     addr: u64,
     level: u32,
+    mark: &mut Option<Mark>,
 ) -> usize
     requires pen { IsPen pen.old }
+    requires stands { IfSome mark.old (E.stands from.now) }
     requires few { P.D ≤ 16 }
     requires low { level ≤ 61 }
     requires rise { AreRising P.D level addr (drop i (E.list from.now)) }
     requires inside { digits_by words.old.words pen.old + P.D * level ≤ 64 * room_of words.old }
+    ensures stands { IfSome mark.new (E.stands from.now) }
     ensures pen { IsPen pen.new }
     ensures digits { digits_by words.new.words pen.new ≡ digits_by words.old.words pen.old + P.D * level }
     ensures number { number_by words.new.words pen.new
@@ -128,7 +142,7 @@ fn put_body<P: Dims, E: Entries<P>>(
     ensures places { IsSamePlaces words.old words.new }
     ensures there { result ≡ is_there (at_address addr (drop i (E.list from.now))) }
 {
-    match standing::<P, E>(from, i, addr) {
+    match standing::<P, E>(from, i, addr, mark) {
         Some(entry) => {
             pen.put_row(words, level, P::D, &entry.body);
             1

@@ -81,8 +81,9 @@ fn put_kinds<P: Dims, E: Entries<P>>(pen: &mut Pen, words: &mut Words, from: &E)
     ensures children { result ≡ children_of (E.list from.now) }
 {
     let mut children = 0;
+    let mut mark = None;
     for i in 0..from.count() {
-        let kind = from.at(i).child as u64;
+        let kind = from.at(i, &mut mark).child as u64;
         pen.put(words, 1, kind);
         children += kind;
     }
@@ -100,8 +101,9 @@ fn put_addresses<P: Dims, E: Entries<P>>(pen: &mut Pen, words: &mut Words, from:
     ensures number { number_by words.new.words pen.new ≡ number_after (number_by words.old.words pen.old) (address_fields P.D (E.list from.now)) }
     ensures places { IsSamePlaces words.old words.new }
 {
+    let mut mark = None;
     for i in 0..from.count() {
-        pen.put(words, P::D as u32, from.at(i).addr as u64);
+        pen.put(words, P::D as u32, from.at(i, &mut mark).addr as u64);
     }
 }
 
@@ -117,8 +119,9 @@ fn put_bodies<P: Dims, E: Entries<P>>(pen: &mut Pen, words: &mut Words, from: &E
     ensures number { number_by words.new.words pen.new ≡ number_after (number_by words.old.words pen.old) (bodies level (body_list (E.list from.now))) }
     ensures places { IsSamePlaces words.old words.new }
 {
+    let mut mark = None;
     for i in 0..from.count() {
-        let entry = from.at(i);
+        let entry = from.at(i, &mut mark);
         pen.put_row(words, level, P::D, &entry.body);
     }
 }
@@ -129,9 +132,10 @@ pub fn put_values<P: Dims, E: Entries<P>>(words: &mut Words, from: &E)
     ensures words { words.new.words ≡ words.old.words ++ values (E.list from.now) }
     ensures places { IsSamePlaces words.old words.new }
 {
+    let mut mark = None;
     for i in 0..from.count() {
-        if !from.at(i).child {
-            words.push(from.value(i));
+        if !from.at(i, &mut mark).child {
+            words.push(from.value(i, &mut mark));
         }
     }
 }

@@ -1,6 +1,7 @@
 -- Lemmas on nodes.
 pub mod Filled
 pub mod Lengths
+pub mod Marked
 pub mod Merges
 pub mod Standing
 pub mod Turned

@@ -4,6 +4,7 @@ pub use Rattle.ph_bits.specs.Between
 pub mod Bodies
 pub mod Kept
 pub mod Kinds
+pub mod Marks
 pub mod Recorded
 pub mod Edits
 pub mod Falls

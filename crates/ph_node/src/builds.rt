@@ -44,8 +44,9 @@ fn count_children<P: Dims, E: Entries<P>>(entries: &E) -> usize
     ensures few { result ≤ length (E.list entries.now) }
 {
     let mut children = 0;
+    let mut mark = None;
     for i in 0..entries.count() {
-        children += entries.at(i).child as usize;
+        children += entries.at(i, &mut mark).child as usize;
     }
     children
 }

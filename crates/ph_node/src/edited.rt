@@ -5,8 +5,9 @@ ghost use Rattle.ph_specs.specs.RecordNames.{first_in};
 ghost use Rattle.ph_bits.specs.Packed.{IsPadded};
 ghost use Rattle.ph_node.specs.Recorded.{IsSource};
 
+use crate::marks::{entry_at, marked};
 use crate::records;
-use ph_bits::{Edit, Entries, Packed};
+use ph_bits::{Edit, Entries, Mark, Packed};
 use ph_coord::Dims;
 use std::marker::PhantomData;
 
@@ -24,8 +25,11 @@ pub(crate) struct EditedOf<'t, P: Dims> {
 
 impl<'t, P: Dims> Entries<P> for EditedOf<'t, P> {
     ghost use Rattle.ph_bits.specs.Edits.{edit_of};
+    ghost use Rattle.ph_node.specs.Marks.{IsMarkIn};
 
     ghost list = { λ s. edit_of P.D s.old.now s.edit.place s.edit.less s.edit.more s.edit.entry s.edit.value };
+
+    ghost stands = { λ s. IsMarkIn P.D s.old.now };
 
     #[inline(always)]
     fn count(&self) -> usize {
@@ -33,22 +37,23 @@ impl<'t, P: Dims> Entries<P> for EditedOf<'t, P> {
     }
 
     #[inline(always)]
-    fn at(&self, i: usize) -> Packed {
+    fn at(&self, i: usize, mark: &mut Option<Mark>) -> Packed {
         if is_new(self.edit.place, self.edit.more, i) {
             return self.edit.entry;
         }
         let k = old_place(self.edit.place, self.edit.less, self.edit.more, i);
-        records::entry(self.old, P::D, k)
+        let found = marked(self.old, P::D, k, mark);
+        entry_at(self.old, P::D, found)
     }
 
     #[inline(always)]
-    fn value(&self, i: usize) -> u64 {
+    fn value(&self, i: usize, mark: &mut Option<Mark>) -> u64 {
         if is_new(self.edit.place, self.edit.more, i) {
             return self.edit.value;
         }
         let k = old_place(self.edit.place, self.edit.less, self.edit.more, i);
-        let read = records::entry(self.old, P::D, k);
-        records::value(self.old, P::D, read.rank)
+        let found = marked(self.old, P::D, k, mark);
+        records::value(self.old, P::D, found.points)
     }
 }
 

@@ -13,6 +13,7 @@ mod builds;
 mod dissolves;
 mod edited;
 mod edits;
+mod marks;
 mod moves;
 mod node;
 mod olds;

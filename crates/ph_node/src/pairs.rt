@@ -10,7 +10,7 @@ ghost use Rattle.ph_node.specs.Pairs.{below_flat, in_order, pair_flats, flats_in
 
 use crate::olds::OldEntry;
 use crate::{NoMemory, records};
-use ph_bits::{Entries, Packed, Words};
+use ph_bits::{Entries, Mark, Packed, Words};
 use ph_coord::Dims;
 use ph_digits::{body_address, body_below};
 use std::alloc::Global;
@@ -43,7 +43,8 @@ impl<'t, P: Dims> Entries<P> for PairOf<'t, P> {
     }
 
     #[inline(always)]
-    fn at(&self, i: usize) -> Packed {
+    fn at(&self, i: usize, mark: &mut Option<Mark>) -> Packed {
+        let _ = mark;
         if i == 0 {
             self.first.entry
         } else {
@@ -52,7 +53,8 @@ impl<'t, P: Dims> Entries<P> for PairOf<'t, P> {
     }
 
     #[inline(always)]
-    fn value(&self, i: usize) -> u64 {
+    fn value(&self, i: usize, mark: &mut Option<Mark>) -> u64 {
+        let _ = mark;
         if i == 0 {
             self.first.value
         } else {

@@ -7,7 +7,7 @@ ghost use Rattle.ph_node.specs.Bodies.{IsBodyArray};
 
 use crate::NoMemory;
 use crate::node::NodeOf;
-use ph_bits::{Entries, Packed};
+use ph_bits::{Entries, Mark, Packed};
 use ph_coord::Dims;
 use ph_steps::Steps;
 use std::alloc::Global;
@@ -35,7 +35,8 @@ impl<P: Dims> Entries<P> for OneOf<P> {
     }
 
     #[inline(always)]
-    fn at(&self, i: usize) -> Packed {
+    fn at(&self, i: usize, mark: &mut Option<Mark>) -> Packed {
+        let _ = mark;
         let _ = i;
         let body = self.body;
         Packed {
@@ -47,7 +48,8 @@ impl<P: Dims> Entries<P> for OneOf<P> {
     }
 
     #[inline(always)]
-    fn value(&self, i: usize) -> u64 {
+    fn value(&self, i: usize, mark: &mut Option<Mark>) -> u64 {
+        let _ = mark;
         let _ = i;
         self.value
     }

@@ -4,7 +4,7 @@ ghost use Rattle.std.specs.Prelude.{◌≡◌, ◌∷◌, ◌≤◌, true, lengt
 ghost use Rattle.ph_bits.specs.Packed.{IsPadded};
 ghost use Rattle.ph_record_trials.specs.Listed.{IsItem, IsWritable, body_of};
 
-use ph_bits::{Entries, Packed};
+use ph_bits::{Entries, Mark, Packed};
 use ph_coord::Dims;
 
 /// One entry: an address, the fields of its body, and a value where it is a point.
@@ -30,7 +30,8 @@ impl<'t, P: Dims> Entries<P> for Items<'t> {
         self.items.len()
     }
 
-    fn at(&self, i: usize) -> Packed {
+    fn at(&self, i: usize, mark: &mut Option<Mark>) -> Packed {
+        let _ = mark;
         let item = &self.items[i];
         let body = body_of(P::D, item.fields);
         Packed {
@@ -41,7 +42,8 @@ impl<'t, P: Dims> Entries<P> for Items<'t> {
         }
     }
 
-    fn value(&self, i: usize) -> u64 {
+    fn value(&self, i: usize, mark: &mut Option<Mark>) -> u64 {
+        let _ = mark;
         match self.items[i].value {
             Some(v) => v,
             None => 0,

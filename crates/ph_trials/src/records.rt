@@ -6,7 +6,7 @@ ghost use Rattle.ph_specs.specs.RecordNames.{words_for};
 ghost use Rattle.ph_node.specs.Kept.{IsNodeOf};
 ghost use Rattle.ph_node.specs.Shown.{shown};
 
-use ph_bits::{Entries, Packed, Words};
+use ph_bits::{Entries, Mark, Packed, Words};
 use ph_cube::by_dims as cube;
 use ph_linear::by_dims as linear;
 use ph_node::{Dims, NoMemory, NodeOf, NodeRefOf, WhatOf};
@@ -30,7 +30,8 @@ impl<'t, P: Dims> Entries<P> for Gathered<'t, P> {
         self.node.len()
     }
 
-    fn at(&self, i: usize) -> Packed {
+    fn at(&self, i: usize, mark: &mut Option<Mark>) -> Packed {
+        let _ = mark;
         let entry = self.node.entry(i);
         Packed {
             addr: entry.addr,
@@ -40,7 +41,8 @@ impl<'t, P: Dims> Entries<P> for Gathered<'t, P> {
         }
     }
 
-    fn value(&self, i: usize) -> u64 {
+    fn value(&self, i: usize, mark: &mut Option<Mark>) -> u64 {
+        let _ = mark;
         match self.node.entry(i).what {
             WhatOf::Value(v) => v,
             WhatOf::Child(_) => 0,

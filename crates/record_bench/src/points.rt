@@ -2,7 +2,7 @@
 
 ghost use Rattle.std.specs.Prelude.{◌≡◌, ◌*◌, ◌^◌, ◌<◌, ◌≤◌, ◌++◌, drop, replicate};
 
-use ph_bits::{Entries, Packed};
+use ph_bits::{Entries, Mark, Packed};
 use ph_coord::Dims;
 use std::marker::PhantomData;
 
@@ -63,7 +63,8 @@ impl<P: Dims> Entries<P> for Points<P> {
         self.count as usize
     }
 
-    fn at(&self, i: usize) -> Packed {
+    fn at(&self, i: usize, mark: &mut Option<Mark>) -> Packed {
+        let _ = mark;
         let body = body_of(P::D, self.field);
         Packed {
             addr: i as u32 * self.step,
@@ -73,7 +74,8 @@ impl<P: Dims> Entries<P> for Points<P> {
         }
     }
 
-    fn value(&self, i: usize) -> u64 {
+    fn value(&self, i: usize, mark: &mut Option<Mark>) -> u64 {
+        let _ = mark;
         i as u64 * self.step as u64
     }
 }

@@ -16,10 +16,10 @@ pub returns-in-Some-clause-value : goal.returns-in-Some-clause-value
 returns-in-Some-clause-value g c =
     let p = c.in-Some.entry in
     let q = found (at_address c.args.addr (drop c.args.i (g.E.Entries.list c.args.from.now))) p.child p.addr
-    (take g.P.Dims.D p.body) (c.standing.ensures ∙ ap (option_map (read_of g.P.Dims.D)) c.in-Some.is) in
+    (take g.P.Dims.D p.body) (c.standing.ensures.entry ∙ ap (option_map (read_of g.P.Dims.D)) c.in-Some.is) in
     ap (λ t. 1 + t) (byte p.child ∙ sym q.2.same_kind) ∙ sym (ap kind_number q.1)
 
 pub returns-in-None-clause-value : goal.returns-in-None-clause-value
 returns-in-None-clause-value g c =
     sym (ap kind_number (missing (at_address c.args.addr (drop c.args.i (g.E.Entries.list c.args.from.now)))
-    (c.standing.ensures ∙ ap (option_map (read_of g.P.Dims.D)) c.in-None.is)))
+    (c.standing.ensures.entry ∙ ap (option_map (read_of g.P.Dims.D)) c.in-None.is)))

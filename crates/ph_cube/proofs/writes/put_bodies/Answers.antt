@@ -24,6 +24,7 @@ loop-addr-preserved g c =
     let n = next d w a i c.put_body-i.result es v.rise v.same c.put_body-i.ensures.there in
     record {
       end = v.end;
+      mark = c.put_body-i.ensures.stands;
       few = omega (arith, v.few, c.put_body-i.ensures.there, there-few (at_address a (drop i es)));
       rise = n.rise;
       same = n.same;

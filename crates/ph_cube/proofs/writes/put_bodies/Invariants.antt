@@ -1,4 +1,5 @@
 use Rattle.std.proofs.Common.{◌≡◌, ◌+◌, ◌*◌, ◌^◌, ◌≤◌, ℕ, map, drop}
+use Rattle.std.specs.Prelude.{IfSome}
 use Rattle.ph_specs.specs.Digits.{number_after}
 use Rattle.ph_specs.specs.Pack.{bodies, places, place_body, at_address}
 use Rattle.ph_specs.specs.Layout.{AreRising}
@@ -18,4 +19,5 @@ invariant-loop-addr g l =
       number : number_by l.words.words l.pen ≡ number_after (number_by l.fn.words.words l.fn.pen)
           (bodies l.fn.level (map (place_body g.P.Dims.D) (places l.addr 0 (g.E.Entries.list l.fn.from))));
       places : IsSamePlaces l.fn.words l.words;
+      mark : IfSome l.mark (g.E.Entries.stands l.fn.from);
     }

@@ -18,7 +18,7 @@ put_row-requires-clause-values g c =
     let a : ℕ = c.args.addr in
     let p = c.in-Some.entry in
     let rest : List Flat = drop c.args.i (g.E.Entries.list c.args.from.now) in
-    let q = found (at_address a rest) p.child p.addr (take d p.body) (c.standing.ensures ∙ ap (option_map (read_of d)) c.in-Some.is) in
+    let q = found (at_address a rest) p.child p.addr (take d p.body) (c.standing.ensures.entry ∙ ap (option_map (read_of d)) c.in-Some.is) in
     let body : IsBody d c.args.level (place_body d (at_address a rest)) = (places-bodies d c.args.level a 1 a rest c.requires.rise).0 in
     subst (λ t. Each (λ v. v < 2 ^ c.args.level) (take t p.body)) (sym c.D.ensures)
     (subst (Each (λ v. v < 2 ^ c.args.level)) (ap (place_body d) q.1 ∙ q.2.same_body) body.1)
@@ -30,7 +30,7 @@ returns-in-Some-clause-number g c =
     let r : ℕ = number_by c.args.words.now.words c.args.pen.now in
     let p = c.in-Some.entry in
     let q = found (at_address c.args.addr (drop c.args.i (g.E.Entries.list c.args.from.now))) p.child p.addr
-    (take d p.body) (c.standing.ensures ∙ ap (option_map (read_of d)) c.in-Some.is) in
+    (take d p.body) (c.standing.ensures.entry ∙ ap (option_map (read_of d)) c.in-Some.is) in
     c.put_row.ensures.number
     ∙ ap (λ t. number_after r (map (field w) (take t p.body))) c.D.ensures
     ∙ ap (λ t. number_after r (map (field w) t)) (sym (ap (place_body d) q.1 ∙ q.2.same_body))
@@ -39,7 +39,7 @@ pub returns-in-Some-clause-there : goal.returns-in-Some-clause-there
 returns-in-Some-clause-there g c =
     let p = c.in-Some.entry in
     sym (ap is_there (found (at_address c.args.addr (drop c.args.i (g.E.Entries.list c.args.from.now))) p.child p.addr
-    (take g.P.Dims.D p.body) (c.standing.ensures ∙ ap (option_map (read_of g.P.Dims.D)) c.in-Some.is)).1)
+    (take g.P.Dims.D p.body) (c.standing.ensures.entry ∙ ap (option_map (read_of g.P.Dims.D)) c.in-Some.is)).1)
 
 -- the body of an absent address
 zeros : (d e : ℕ) → e ≡ d → d ≤ 16 → take {A = ℕ} e (replicate {A = ℕ} 16 0) ≡ replicate d 0
@@ -54,7 +54,7 @@ returns-in-None-clause-number g c =
     let d : ℕ = g.P.Dims.D in
     let w : ℕ = c.args.level in
     let r : ℕ = number_by c.args.words.now.words c.args.pen.now in
-    let n = missing (at_address c.args.addr (drop c.args.i (g.E.Entries.list c.args.from.now))) (c.standing.ensures ∙ ap (option_map (read_of d)) c.in-None.is) in
+    let n = missing (at_address c.args.addr (drop c.args.i (g.E.Entries.list c.args.from.now))) (c.standing.ensures.entry ∙ ap (option_map (read_of d)) c.in-None.is) in
     c.put_row-in-None.ensures.number
     ∙ ap (λ t. number_after r (map (field w) t)) (zeros d c.D-in-None.result c.D-in-None.ensures c.requires.few)
     ∙ sym (ap (λ o. number_after r (body_fields w (place_body d o))) n)
@@ -62,4 +62,4 @@ returns-in-None-clause-number g c =
 pub returns-in-None-clause-there : goal.returns-in-None-clause-there
 returns-in-None-clause-there g c =
     sym (ap is_there (missing (at_address c.args.addr (drop c.args.i (g.E.Entries.list c.args.from.now)))
-    (c.standing.ensures ∙ ap (option_map (read_of g.P.Dims.D)) c.in-None.is)))
+    (c.standing.ensures.entry ∙ ap (option_map (read_of g.P.Dims.D)) c.in-None.is)))

@@ -21,6 +21,7 @@ loop-addr-preserved g c =
     let f : k ≡ kind_number (at_address a es) = e ∙ ap kind_number (sym (v.same a (omega arith))) in
     record {
       end = v.end;
+      mark = c.kind_at-kind.ensures.stands;
       few = omega (arith, v.few, c.kind_at-kind.ensures.limit);
       rise = (v.rise.0, n.rise);
       same = n.same;

@@ -1,4 +1,5 @@
 use Rattle.std.proofs.Common.{◌≡◌, ◌+◌, ◌*◌, ◌^◌, ◌≤◌, ℕ, map, take, drop}
+use Rattle.std.specs.Prelude.{IfSome}
 use Rattle.ph_specs.specs.Digits.{number_after}
 use Rattle.ph_specs.specs.Pack.{children, places, place_kind, at_address}
 use Rattle.ph_specs.specs.Layout.{AreRising}
@@ -19,4 +20,5 @@ invariant-loop-addr g l =
       digits : digits_by l.words.words l.pen ≡ digits_by l.fn.words.words l.fn.pen + l.addr * 2;
       number : number_by l.words.words l.pen ≡ number_after (number_by l.fn.words.words l.fn.pen) (map place_kind (places l.addr 0 (g.E.Entries.list l.fn.from)));
       places : IsSamePlaces l.fn.words l.words;
+      mark : IfSome l.mark (g.E.Entries.stands l.fn.from);
     }

@@ -22,17 +22,17 @@ read g c =
     given (g.E.Entries.list c.args.from.now) c.args.i c.at-entry.result.child c.at-entry.result.addr
     (take g.P.Dims.D c.at-entry.result.body) (inside g c) c.at-entry.ensures.entry
 
-pub returns-then-entry-addr : goal.returns-then-entry-addr
-returns-then-entry-addr g c =
-    let at = (goal.at.returns-then-entry-addr g c).After-at-entry in
+pub returns-then-entry-addr-clause-entry : goal.returns-then-entry-addr-clause-entry
+returns-then-entry-addr-clause-entry g c =
+    let at = (goal.at.returns-then-entry-addr-clause-entry g c).After-at-entry in
     let es : List Flat = g.E.Entries.list c.args.from.now in
     ap (option_map unvalued) (ap (at_address c.args.addr) (drop-first es c.args.i (inside g at)) ∙
     here c.args.addr (get_or es c.args.i no_flat) (drop (suc c.args.i) es) ((read g at).same_addr ∙ c.if-entry-addr.true))
     ∙ ap Some (read-at es c.args.i (read_of g.P.Dims.D c.at-entry.result) (inside g at) c.at-entry.ensures.entry)
 
-pub returns-else-entry-addr : goal.returns-else-entry-addr
-returns-else-entry-addr g c =
-    let at = (goal.at.returns-else-entry-addr g c).After-at-entry in
+pub returns-else-entry-addr-clause-entry : goal.returns-else-entry-addr-clause-entry
+returns-else-entry-addr-clause-entry g c =
+    let at = (goal.at.returns-else-entry-addr-clause-entry g c).After-at-entry in
     let es : List Flat = g.E.Entries.list c.args.from.now in
     let d = drop-first es c.args.i (inside g at) in
     ap (option_map unvalued) (ap (at_address c.args.addr) d ∙ later g.P.Dims.D c.requires.rise.0 c.args.addr

@@ -28,6 +28,7 @@ loop-i-preserved g c =
     let r : ℕ = number_by c.args.words.now.words c.args.pen.now in
     record {
       end = v.end;
+      mark = c.at.ensures.stands;
       pen = c.put.ensures.pen;
       digits = omega (arith, c.put.ensures.digits, v.digits, c.D.ensures);
       number =

@@ -40,6 +40,7 @@ loop-i-preserved g c =
     let e : c.D.result * w ≡ d * w = ap (λ t. t * w) c.D.ensures in
     record {
       end = v.end;
+      mark = c.at-entry.ensures.stands;
       pen = c.put_row.ensures.pen;
       digits = omega (arith, c.put_row.ensures.digits, v.digits, e);
       number =

@@ -1,4 +1,5 @@
 use Rattle.std.proofs.Common.{◌≡◌, ◌+◌, ◌*◌, length, take}
+use Rattle.std.specs.Prelude.{IfSome}
 use Rattle.ph_specs.specs.Digits.{number_after}
 use Rattle.ph_specs.specs.Pack.{bodies}
 use Rattle.ph_bits.specs.Block.{IsSamePlaces}
@@ -14,4 +15,5 @@ invariant-loop-i g l =
       digits : digits_by l.words.words l.pen ≡ digits_by l.fn.words.words l.fn.pen + l.i * (g.P.Dims.D * l.fn.level);
       number : number_by l.words.words l.pen ≡ number_after (number_by l.fn.words.words l.fn.pen) (bodies l.fn.level (body_list (take l.i (g.E.Entries.list l.fn.from))));
       places : IsSamePlaces l.fn.words l.words;
+      mark : IfSome l.mark (g.E.Entries.stands l.fn.from);
     }

@@ -13,6 +13,7 @@ loop-i-preserved g c =
     let l : c.loop-i.i < length es = omega (arith, c.loop-i-test.true, v.end) in
     record {
       end = v.end;
+      mark = c.at-kind.ensures.stands;
       pen = c.put.ensures.pen;
       digits = omega (arith, c.put.ensures.digits, v.digits);
       number = c.put.ensures.number ∙

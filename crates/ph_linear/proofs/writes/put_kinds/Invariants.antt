@@ -1,4 +1,5 @@
 use Rattle.std.proofs.Common.{◌≡◌, ◌+◌, ◌≤◌, length, take}
+use Rattle.std.specs.Prelude.{IfSome}
 use Rattle.ph_specs.specs.Digits.{number_after}
 use Rattle.ph_specs.specs.Pack.{children}
 use Rattle.ph_bits.specs.Block.{IsSamePlaces}
@@ -16,4 +17,5 @@ invariant-loop-i g l =
       few : l.children ≤ l.i;
       children : l.children ≡ children (take l.i (g.E.Entries.list l.fn.from));
       places : IsSamePlaces l.fn.words l.words;
+      mark : IfSome l.mark (g.E.Entries.stands l.fn.from);
     }

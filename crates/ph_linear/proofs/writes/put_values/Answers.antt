@@ -1,5 +1,5 @@
-use Rattle.std.proofs.Common.{◌≡◌, ◌+◌, ◌<◌, ◌++◌, ◌∷◌, [], ℕ, length, take, arith, ◌∙◌, sym, ap, List, get_or, Bool, true, false, not, length-append, map}
-use Rattle.std.specs.Prelude.{Some, None, if◌then◌else◌, slice_get}
+use Rattle.std.proofs.Common.{◌≡◌, ◌+◌, ◌<◌, ◌++◌, ◌∷◌, [], ℕ, length, take, arith, ◌∙◌, sym, ap, subst, List, get_or, Bool, true, false, not, length-append, map}
+use Rattle.std.specs.Prelude.{Some, None, IfSome, if◌then◌else◌, slice_get}
 use Rattle.std.proofs.lemmas.List.{append_assoc, append-nil, length-map, get_or-map}
 use Rattle.std.proofs.lemmas.Option.{slice_get-get_or}
 use Rattle.ph_specs.specs.Node.{Flat}
@@ -67,9 +67,10 @@ loop-i-preserved g c =
     elim c.if-not-at.branch [
       | then-not-at w ↦
           let q = point es i p.addr (take g.P.Dims.D p.body) p.child l c.at.ensures.entry w.if-not-at.true in
-          let x : w.value.result ≡ q.0 = w.value.ensures q.0 (told es i q.0 l q.1) in
+          let x : w.value.result ≡ q.0 = w.value.ensures.value q.0 (told es i q.0 l q.1) in
           record {
             end = v.end;
+            mark = subst (λ m. IfSome m (g.E.Entries.stands c.args.from.now)) (sym w.mark-is) w.value.ensures.stands;
             words =
                 ap (λ t. t.words) w.words-is
                 ∙ w.push.ensures.words
@@ -84,6 +85,7 @@ loop-i-preserved g c =
           let h : values (take (i + 1) es) ≡ values (take i es) = values-more es i l ∙ ap (λ t. values (take i es) ++ t) n ∙ append-nil (values (take i es)) in
           record {
             end = v.end;
+            mark = subst (λ m. IfSome m (g.E.Entries.stands c.args.from.now)) (sym w.mark-is) c.at.ensures.stands;
             words = ap (λ t. t.words) w.words-is ∙ v.words ∙ ap (λ t. old ++ t) (sym h);
             places = (ap room_of w.words-is ∙ v.places.0, ap (λ t. t.heap) w.words-is ∙ v.places.1);
           }

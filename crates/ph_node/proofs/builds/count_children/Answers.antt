@@ -8,6 +8,7 @@ loop-i-preserved g c =
     let p = c.at.result in
     record {
       end = v.end;
+      mark = c.at.ensures.stands;
       few = omega (arith, v.few, byte-few p.child);
       children = child-counted (g.E.Entries.list c.args.entries.now) c.loop-i.i p.child p.addr (take g.P.Dims.D p.body)
           (omega (arith, c.loop-i-test.true, v.end)) c.at.ensures.entry _ v.children;

@@ -3,7 +3,7 @@ use Rattle.ph_bits.proofs.Walks.{behind, agg, and_then, no_more, sets_last, ◌�
 use Rattle.ph_bits.proofs.Walks.{arith, length, proved, full_share, id⊢, ftrue, fat, flft, fsep, named, w64, Val, fact, tables, ‵, raw, ◌⊛◌}
 use Rattle.ph_bits.proofs.Walks.{at_ret, ◌$◌, ◌∵◌, !, qed, done, move, keep, use1, split, join, group, fsplit, fsplit3, fjoin, flt_l, flt_i}
 use Rattle.ph_bits.proofs.Walks.{rewrite, suffices, frame, whole, sub, enter, of_opd, bin, lit, stop, fld, first, blocks, exec, returns, take_at}
-use Rattle.ph_bits.proofs.Walks.{give_at, layout, word, word-Good, alloc_all, pass_all, free_all, look_at, get, get_in, sets, env, usize, yes, no}
+use Rattle.ph_bits.proofs.Walks.{give_at, layout, word, word-Good, alloc_all, pass_all, free_all, look_at, get, get_in, sets, env, usize, no}
 use Rattle.ph_bits.proofs.Walks.{uint_vals, uint_Tells, Ptr, block_ptr, in_a_block, owns, MutRef, mut_vals, mut_Tells, plain, nothing, opens}
 use Rattle.ph_bits.proofs.Walks.{heard, Stays, walk_of, says, stay_dropped, ends_at, after}
 use base.Fml.{Fml, GName}

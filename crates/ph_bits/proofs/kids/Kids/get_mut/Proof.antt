@@ -3,7 +3,7 @@ use Rattle.ph_bits.proofs.Walks.{◌≡◌, ℕ, ◌+◌, ◌*◌, ◌^◌, ◌<
 use Rattle.ph_bits.proofs.Walks.{full_share, id⊢, ftrue, fat, flft, fsep, named, w64, Val, vptr, fact, tables, ‵, raw, ◌⊛◌, at_ret, ◌$◌, ◌∵◌, !, qed}
 use Rattle.ph_bits.proofs.Walks.{done, move, keep, use1, use2, split, join, group, fsplit, fsplit3, fjoin, fjoin3, flt_l, flt_i, rewrite, suffices}
 use Rattle.ph_bits.proofs.Walks.{frame, whole, sub, enter, of_opd, addr, bin, lit, stop, fld, first, blocks, exec, returns, take_at, give_at, layout}
-use Rattle.ph_bits.proofs.Walks.{word, word-Good, alloc_all, pass_all, free_all, look_at, get, get_in, through, sets, sets_last, env, usize, yes, no}
+use Rattle.ph_bits.proofs.Walks.{word, word-Good, alloc_all, pass_all, free_all, look_at, get, get_in, through, sets, sets_last, env, usize, no}
 use Rattle.ph_bits.proofs.Walks.{uint_vals, uint_Tells, Ptr, block_ptr, in_a_block, owns, MutRef, mut_vals, mut_Tells, plain, nothing, opens, heard}
 use Rattle.ph_bits.proofs.Walks.{Stays, walk_of, says, stay_dropped, ends_at, after}
 use base.Fml.{Fml, GName}

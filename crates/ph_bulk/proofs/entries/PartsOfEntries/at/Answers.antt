@@ -11,8 +11,9 @@ pub returns : goal.returns
 returns g c =
     let s = c.args.self.now in
     record {
+      stands = c.requires.stands;
       entry = get-map-map unvalued (flat_in g.P.Space.row_of s.w s.place) s.parts.now c.args.i c.index-self-i.result
-          (omega (arith, c.requires, length-map s.parts.now (flat_in g.P.Space.row_of s.w s.place))) c.index-self-i.is
+          (omega (arith, c.requires.within, length-map s.parts.now (flat_in g.P.Space.row_of s.w s.place))) c.index-self-i.is
           ∙ ap {B = Option Read} (λ t. Some (unvalued (flat_in g.P.Space.row_of s.w s.place t))) c.index-self-i.is
           ∙ ap {B = Option Read} (λ t. Some t) (sym c.entry_of.ensures.entry);
       zeros = c.entry_of.ensures.zeros;

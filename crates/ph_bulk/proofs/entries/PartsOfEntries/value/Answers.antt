@@ -6,8 +6,8 @@ use Rattle.ph_bulk.specs.Parts.{flat_in}
 use Rattle.ph_bulk.proofs.Flats.{get-map-map, value-of, some-first}
 use Rattle.ph_bulk.proofs.entries.PartsOfEntries.value.Goals as goal
 
-pub returns : goal.returns
-returns g c v h =
+pub returns-clause-value : goal.returns-clause-value
+returns-clause-value g c v h =
     let s = c.args.self.now in
     let p = c.index-self-i.result in
     let got = get-map-map (λ e. e.value) (flat_in g.P.Space.row_of s.w s.place) s.parts.now c.args.i

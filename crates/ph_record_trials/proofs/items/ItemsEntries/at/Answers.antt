@@ -15,7 +15,8 @@ returns g c =
     let es = c.args.self.now.items.now in
     let e = slice_index_or es c.args.i no_item in
     record {
-      entry = read-at d es c.args.i (omega (arith, c.requires, length-flats d es))
+      stands = c.requires.stands;
+      entry = read-at d es c.args.i (omega (arith, c.requires.within, length-flats d es))
           ∙ ap Some (kept e.value c.is_none.result e.addr (take d (body_of e.fields)) c.is_none.ensures ∙
           ap (λ t. read c.is_none.result e.addr t)
           (sym (at-dims c.D.result d c.body_of-body.result (body_of e.fields) c.D.ensures c.body_of-body.ensures.fields)));

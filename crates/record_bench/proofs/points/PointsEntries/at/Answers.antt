@@ -9,12 +9,12 @@ use Rattle.record_bench.proofs.points.PointsEntries.at.Goals as goal
 pub overflow_cast-result : goal.overflow_cast-result
 overflow_cast-result g c =
     let s = c.args.self.now in
-    omega (arith, inside g.P.Dims.D s.count s.step s.field c.args.i c.requires)
+    omega (arith, inside g.P.Dims.D s.count s.step s.field c.args.i c.requires.within)
 
 pub overflow_mul-result : goal.overflow_mul-result
 overflow_mul-result g c =
     let s = c.args.self.now in
-    omega (arith, address-small g.P.Dims.D s.count s.step c.args.i s.few s.within (inside g.P.Dims.D s.count s.step s.field c.args.i c.requires))
+    omega (arith, address-small g.P.Dims.D s.count s.step c.args.i s.few s.within (inside g.P.Dims.D s.count s.step s.field c.args.i c.requires.within))
 
 -- an array whose first numbers are filled
 filled : (d n field : ℕ) (body : List ℕ) → n ≡ d → d ≤ 16 → body ≡ replicate n field ++ drop n (replicate 16 0) → (take d body ≡ replicate d field) × IsPadded d body
@@ -30,7 +30,8 @@ returns g c =
     let d = g.P.Dims.D in
     let is = filled d c.D.result s.field c.body_of-body.result c.D.ensures s.few c.body_of-body.ensures in
     record {
-      entry = read-at d s.count s.step s.field c.args.i s.few (inside d s.count s.step s.field c.args.i c.requires) ∙
+      stands = c.requires.stands;
+      entry = read-at d s.count s.step s.field c.args.i s.few (inside d s.count s.step s.field c.args.i c.requires.within) ∙
           ap (λ b. Some (read_point (c.args.i * s.step) b)) (take-replicate d 16 s.field s.few ∙ sym is.0);
       zeros = is.1;
     }

@@ -7,7 +7,7 @@ overflow_mul-result g c =
     let s = c.args.self.now in
     omega (arith, address-small g.P.Dims.D s.count s.step c.args.i s.few s.within (inside g.P.Dims.D s.count s.step s.field c.args.i c.requires.within))
 
-pub returns : goal.returns
-returns g c v e =
+pub returns-clause-value : goal.returns-clause-value
+returns-clause-value g c v e =
     let s = c.args.self.now in
     value-at g.P.Dims.D s.count s.step s.field c.args.i v (inside g.P.Dims.D s.count s.step s.field c.args.i c.requires.within) e
