@@ -7,6 +7,7 @@ pub mod Nearing
 pub mod Reached
 pub mod Listing
 pub mod HalfGaps
+pub mod AddressSums
 pub mod Entries
 pub mod Ranks
 pub mod Searches

@@ -1,5 +1,5 @@
 -- The rows that are ranked at the end are the nearest ones of the table.
-use Rattle.std.proofs.Common.{◌≡◌, ◌⊎◌, inl, inr, ℕ, suc, ◌+◌, ◌<◌, ◌≤◌, refl, sym, ◌∙◌, ap, subst, arith, true, false, List, [], ◌∷◌, ◌++◌, length, map, append_assoc}
+use Rattle.std.proofs.Common.{◌≡◌, ◌⊎◌, inl, inr, ℕ, suc, ◌<◌, ◌≤◌, refl, sym, ◌∙◌, ap, subst, arith, true, false, List, [], ◌∷◌, ◌++◌, length, map, append_assoc}
 use Rattle.std.specs.Prelude.{ℤ}
 use Rattle.std.specs.List.{AllByRecursion as Each}
 use Rattle.std.specs.List.Sorted.{IsPermutation}
@@ -10,7 +10,7 @@ use Rattle.std.proofs.lemmas.List.Sorted.{IsPermutation-trans, IsPermutation-app
 use Rattle.std.proofs.lemmas.List.Sorted.{IsPermutation-append_right, IsPermutation-map, length_permutation}
 use Rattle.ph_specs.specs.Coordinate.{is_point}
 use Rattle.ph_specs.specs.Table.{Row, is_rising}
-use Rattle.ph_specs.specs.Distance.{distance, near}
+use Rattle.ph_specs.specs.Distance.{near}
 use Rattle.ph_specs.specs.Nearness.{is_nearer, IsNearerThan, IsRanked}
 use Rattle.ph_specs.specs.BestFirst.{Item, item_distance}
 use Rattle.ph_specs.proofs.lemmas.RowsBehind.{Each-append, Each-each}

@@ -1,5 +1,5 @@
 -- Heaps of rows that were found, and of what waits.
-use Rattle.std.proofs.Common.{◌≡◌, inl, inr, ℕ, zero, suc, ◌+◌, ◌<◌, ◌≤◌, refl, sym, ◌∙◌, ap, subst, arith, Bool}
+use Rattle.std.proofs.Common.{◌≡◌, inl, inr, ℕ, zero, suc, ◌<◌, ◌≤◌, refl, sym, ◌∙◌, ap, subst, arith, Bool}
 use Rattle.std.proofs.Common.{true, false, List, [], ◌∷◌, ◌++◌, length, get_or, append-nil, ltb-false}
 use Rattle.std.specs.Prelude.{nat_lt, Result, Ok, Err, OnOk}
 use Rattle.std.specs.Ordering.{is_lt}
@@ -56,6 +56,9 @@ known-at d w fs i f l e h = subst (λ (g : Found d). IsBody d w g.known) (sym e)
 pub on-both : {T E : Type 0} {A B C : Type 0} (r : Result T E) → (A → B → C) → OnOk r A → OnOk r B → OnOk r C
 on-both (Ok x) f a b = f a b
 on-both (Err e) f a b = a
+
+pub moved-as : {X : Type 0} (xs ys new : List X) → xs ≡ ys → IsPermutation xs new → IsPermutation ys new
+moved-as xs ys new e p = subst (λ zs. IsPermutation zs new) e p
 
 -- ---- rows that are ranked
 
@@ -133,3 +136,7 @@ module _ {d : ℕ} where
           still_last = λ y k v. Each-permutation (λ (z : Found d). lt_by_cmp found_cmp y z ≡ false) old new same v;
           still_beyond = λ t b. record { full = omega (arith, l, longer, longest); nearer = Each-permutation (λ (f : Found d). f.distance < t) old new same b.nearer };
         }
+
+-- the rows of another heap that are the same
+pub added-at : {d n : ℕ} {x : Found d} {old now new : List (Found d)} → IsAdded n x old now → new ≡ now → IsAdded n x old new
+added-at {d} {n} {x} {old} a e = subst (IsAdded n x old) (sym e) a

@@ -1,5 +1,5 @@
 -- The squares of the gaps to both halves of a region in each dimension.
-use Rattle.std.specs.Prelude.{◌≡◌, ℕ, zero, suc, ◌+◌, ◌*◌, ◌/◌, ◌%◌, ◌^◌, ◌<◌, ◌≤◌, List, ◌∷◌, length, slice_index}
+use Rattle.std.specs.Prelude.{◌≡◌, ℕ, zero, suc, ◌+◌, ◌-◌, ◌*◌, ◌/◌, ◌%◌, ◌^◌, ◌<◌, ◌≤◌, List, ◌∷◌, length, slice_index}
 use Rattle.ph_node.specs.Apart.{greatest_square}
 use Rattle.ph_near.specs.Far.{gap_above}
 use Rattle.ph_near.specs.declared.halves.Halves.{Halves}
@@ -28,3 +28,24 @@ half_of (suc digit) low high = high
 abbrev pub halves_sum : ℕ → List ℕ → List ℕ → ℕ
 halves_sum addr (a ∷ low) (b ∷ high) = half_of (addr / 2 ^ length low % 2) a b + halves_sum addr low high
 halves_sum addr _ _ = 0
+
+-- the same in the dimensions before one of n
+abbrev pub halves_before : ℕ → ℕ → List ℕ → List ℕ → ℕ → ℕ
+halves_before n addr low high zero = 0
+halves_before n addr low high (suc i) =
+    halves_before n addr low high i + half_of (addr / 2 ^ (n - 1 - i) % 2) (slice_index low i) (slice_index high i)
+
+-- the sums that are kept are those of the last address
+pub record AreSummed {d : ℕ} (h : Halves d) : Type 0 where
+  pub small : AreSmall h
+  pub long : length h.before ≡ d
+  pub before : (i : ℕ) → i < d → slice_index h.before i ≡ halves_before d h.last h.low h.high i
+
+-- the sum of the numbers before one
+abbrev pub sum_before : List ℕ → ℕ → ℕ
+sum_before xs zero = 0
+sum_before xs (suc i) = sum_before xs i + slice_index xs i
+
+pub record HasSums (d : ℕ) (xs before : List ℕ) : Type 0 where
+  pub long : length before ≡ d
+  pub sums : (i : ℕ) → i < d → slice_index before i ≡ sum_before xs i

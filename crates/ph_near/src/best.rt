@@ -8,7 +8,7 @@ ghost use Rattle.ph_near.specs.Nearest.{rows_hit};
 ghost use Rattle.ph_specs.specs.WorkNames.{reach};
 ghost use Rattle.ph_table.specs.Hits.{hits_of};
 
-use crate::opening::{Opened, enter, open};
+use crate::opening::{Opened, enter, none_opened, open};
 use crate::ranking::Ranking;
 use crate::waiting::{empty_queue, next_within};
 use ph_coord::{Point, Width};
@@ -19,17 +19,14 @@ use ph_tree::PhTree;
 use std::alloc::Global;
 use std::sync::ledger::Ledger;
 
-// Room for so many opened nodes is taken at once.
-const FEW_NODES: usize = 32;
-
 /// The first `n` rows by their distance from a point, and of equal distances in Z-order, each with the square of its distance.
 ///
 /// It is the best-first search of G. R. Hjaltason and H. Samet ("Distance Browsing in Spatial Databases", ACM TODS 24, 1999).
 /// The nodes that were found wait in a queue by the least distances of their regions, and the best `n` rows that were found stand apart. What is
 /// farther than the last of these is left out, and the search ends where the nearest node that waits is farther.
 ///
-/// It takes memory for the children that wait and for the nodes that it visits, from room for 64 and 32 of them on, and twice for the rows, from room for
-/// the first 16 on. It takes none where `n` is 0 or the tree is empty. Without memory it gives no rows; the nodes visited by then are counted.
+/// It takes memory for the children that wait and for the nodes that it visits, from room for 64 and 32 of them on, and twice for `n` rows, or for all
+/// of the tree where these are fewer. It takes none where `n` is 0 or the tree is empty. Without memory it gives no rows; the nodes visited by then are counted.
 pub fn nearest<const D: usize, V: Ledger>(
     alloc: Global,
     tree: &PhTree<D>,
@@ -47,18 +44,20 @@ pub fn nearest<const D: usize, V: Ledger>(
 {
     let w = tree.width();
     let _bits = w.bits();
-    search(alloc, w, tree.root(), &q.offsets(w), n, visits)
+    search(alloc, tree, w, tree.root(), &q.offsets(w), n, visits)
 }
 
-// The search below a root, from the point of these offsets.
+// The search below the root of a tree, from the point of these offsets.
 fn search<const D: usize, V: Ledger>(
     alloc: Global,
+    tree: &PhTree<D>,
     w: Width,
     root: Option<&Node<D>>,
     center: &[u64; D],
     n: u32,
     visits: &mut Steps<V>,
 ) -> Result<Vec<Hit<D>>, NoMemory>
+    requires some { 1 ≤ D }
     requires few { D ≤ 16 }
     requires point { IsBody D w center.now }
     requires tree { IsLawful w D (option_copied root) }
@@ -79,9 +78,9 @@ fn search<const D: usize, V: Ledger>(
     let Some(root) = root else {
         return Ok(Vec::new(alloc));
     };
-    let mut ranking = Ranking::new(alloc, n as usize)?;
+    let mut ranking = Ranking::new(alloc, tree, n as usize)?;
     let mut queue = empty_queue(alloc)?;
-    let mut opened = Vec::with_capacity(alloc, FEW_NODES)?;
+    let mut opened = none_opened(alloc)?;
     let node = root.visit(visits);
     let known = [0; D];
     let top = Opened { node, known };

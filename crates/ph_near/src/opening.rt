@@ -1,13 +1,13 @@
 //! Opening nodes: their rows are found, and their children wait from then on.
 
-ghost use Rattle.std.specs.Prelude.{◌≡◌, ◌+◌, ◌<◌, ◌≤◌, [], ◌∷◌, ◌++◌, length, map, true, false, OnOk};
+ghost use Rattle.std.specs.Prelude.{◌≡◌, ◌+◌, ◌<◌, ◌≤◌, [], ◌∷◌, ◌++◌, length, map, true, false, vec_capacity, IfOk, OnOk};
 ghost use Rattle.std.specs.BinaryHeap.{heap_items, IsHeap};
 ghost use Rattle.ph_specs.specs.TableNames.{coordinate};
 ghost use Rattle.ph_specs.specs.TreeNames.{what_at, IsBody, entries};
 ghost use Rattle.ph_node.specs.Kinds.{is_node};
 ghost use Rattle.ph_node.specs.Shown.{shown};
 ghost use Rattle.ph_node.specs.Spots.{IsSpot};
-ghost use Rattle.ph_near.specs.Halves.{AreHalves, AreSmall};
+ghost use Rattle.ph_near.specs.Halves.{AreHalves, AreSummed};
 ghost use Rattle.ph_near.specs.Nearing.{IsKept};
 ghost use Rattle.ph_near.specs.Opening.{IsOpened, IsEntered, opened_items, place_item, line_of, AreWaiting, IsTried, IsTreated};
 ghost use Rattle.ph_near.specs.Ranking.{IsRanking};
@@ -22,11 +22,15 @@ use ph_coord::Width;
 use ph_node::{NoMemory, Node, NodeRef, NodeRefOf, Spot, WhatOf};
 use ph_steps::Steps;
 use ph_zorder::offset_distance;
+use std::alloc::Global;
 use std::collections::BinaryHeap;
 use std::sync::ledger::Ledger;
 
 // In up to so many dimensions a row is told as fast as it is tried.
 const FEW_DIMS: usize = 3;
+
+// Room for so many opened nodes is taken at once.
+const FEW_NODES: usize = 32;
 
 // A visited node, and the digits that are known above its level.
 #[derive_where(Clone, Copy)]
@@ -36,6 +40,14 @@ pub(crate) struct OpenedOf<'t, N, const D: usize> {
 }
 
 pub(crate) type Opened<'t, const D: usize> = OpenedOf<'t, Node<D>, D>;
+
+// No node is opened yet.
+pub(crate) fn none_opened<'t, const D: usize>(alloc: Global) -> Result<Vec<Opened<'t, D>>, NoMemory>
+    ensures items { IfOk result (λ opened. opened.items ≡ []) }
+    ensures room { IfOk result (λ opened. vec_capacity opened ≡ FEW_NODES) }
+{
+    Vec::with_capacity(alloc, FEW_NODES)
+}
 
 // Visits the child at a place of an opened node, and joins its digits.
 #[inline(always)]
@@ -75,6 +87,7 @@ pub(crate) fn open<'t, const D: usize>(
     ranking: &mut Ranking<D>,
     queue: &mut BinaryHeap<Waiting>,
 ) -> Result<(), NoMemory>
+    requires some { 1 ≤ D }
     requires few { D ≤ 16 }
     requires opened { IsOpened w D from.now }
     requires point { IsBody D w center.now }
@@ -94,9 +107,9 @@ pub(crate) fn open<'t, const D: usize>(
     let _bits = w.bits();
     let at = opened.len();
     keep(from.node, from.known, opened)?;
-    let halves = Halves::new(from.node.level(), &from.known, center);
+    let mut halves = Halves::new(from.node.level(), &from.known, center);
     for place in 0..from.node.len() {
-        treat(at, from, place, &halves, w, center, ranking, queue)?;
+        treat(at, from, place, &mut halves, w, center, ranking, queue)?;
     }
     Ok(())
 }
@@ -122,17 +135,18 @@ fn treat<'t, const D: usize>(
     at: usize,
     from: &Opened<'t, D>,
     place: usize,
-    halves: &Halves<D>,
+    halves: &mut Halves<D>,
     w: Width,
     center: &[u64; D],
     ranking: &mut Ranking<D>,
     queue: &mut BinaryHeap<Waiting>,
 ) -> Result<(), NoMemory>
+    requires some { 1 ≤ D }
     requires few { D ≤ 16 }
     requires opened { IsOpened w D from.now }
     requires place { place < length (entries (shown from.now.node)) }
-    requires halves { AreHalves (shown from.now.node).level from.now.known center.now halves.now }
-    requires small { AreSmall halves.now }
+    requires halves { AreHalves (shown from.now.node).level from.now.known center.now halves.old }
+    requires summed { AreSummed halves.old }
     requires point { IsBody D w center.now }
     requires ranking { IsRanking ranking.old }
     requires order { IsHeap waiting_cmp (heap_items queue.old) }
@@ -142,6 +156,8 @@ fn treat<'t, const D: usize>(
     ensures treated { OnOk result
         (IsTreated ranking.old.n w (map (coordinate w) center.now) at from.now place
         (heap_items ranking.old.rows) (heap_items ranking.new.rows) (heap_items queue.old) (heap_items queue.new)) }
+    ensures halves { AreHalves (shown from.now.node).level from.now.known center.now halves.new }
+    ensures summed { AreSummed halves.new }
 {
     let _bits = w.bits();
     let spot = from.node.spot(place);

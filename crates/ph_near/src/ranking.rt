@@ -1,7 +1,7 @@
 //! The best rows that were found.
 
-ghost use Rattle.std.specs.Prelude.{◌≡◌, ℕ, ◌^◌, ◌<◌, ◌≤◌, [], ◌∷◌, IfOk, OnOk};
-ghost use Rattle.std.specs.BinaryHeap.{heap_items, IsHeap};
+ghost use Rattle.std.specs.Prelude.{◌≡◌, ℕ, ◌^◌, ◌<◌, ◌≤◌, [], ◌∷◌, length, min, IfOk, OnOk};
+ghost use Rattle.std.specs.BinaryHeap.{heap_items, heap_capacity, IsHeap};
 ghost use Rattle.std.specs.List.{AllByRecursion as Each};
 ghost use Rattle.std.specs.List.Sorted.{IsPermutation};
 ghost use Rattle.ph_specs.specs.TreeNames.{IsBody};
@@ -12,12 +12,10 @@ use crate::found::Found;
 use ph_coord::{Point, Row, Width};
 use ph_node::NoMemory;
 use ph_table::Hit;
+use ph_tree::PhTree;
 use std::alloc::Global;
 use std::cmp::min;
 use std::collections::BinaryHeap;
-
-// Room for so many rows is taken at once.
-const FEW_ROWS: usize = 16;
 
 // The first n rows of those that were found, or all where these are fewer. The last of them is on top.
 #[derive(Drop)]
@@ -27,15 +25,16 @@ pub(crate) struct Ranking<const D: usize> {
 }
 
 impl<const D: usize> Ranking<D> {
-    // No row is found yet.
-    pub(crate) fn new(alloc: Global, n: usize) -> Result<Ranking<D>, NoMemory>
+    // No row of a tree is found yet. The room for all that will be ranked is taken at once.
+    pub(crate) fn new(alloc: Global, tree: &PhTree<D>, n: usize) -> Result<Ranking<D>, NoMemory>
         requires some { 1 ≤ n }
         requires few { D ≤ 16 }
         ensures n { IfOk result (λ r. r.n ≡ n) }
+        ensures room { IfOk result (λ r. heap_capacity r.rows ≡ min n (length tree.now.table)) }
         ensures rows { IfOk result (λ r. heap_items r.rows ≡ []) }
         ensures ranking { IfOk result (λ r. IsRanking r) }
     {
-        let rows = BinaryHeap::with_capacity(alloc, min(n, FEW_ROWS))?;
+        let rows = BinaryHeap::with_capacity(alloc, min(n, tree.len() as usize))?;
         Ok(Ranking { n, rows })
     }
 
@@ -66,13 +65,13 @@ impl<const D: usize> Ranking<D> {
         if self.rows.len() < self.n {
             return self.push(found);
         }
-        let Some(last) = self.rows.pop() else {
+        let Some(mut last) = self.rows.peek_mut() else {
             return Ok(());
         };
         if found.cmp(&last).is_lt() {
-            return self.push(found);
+            *last = found;
         }
-        self.push(last)
+        Ok(())
     }
 
     #[inline(always)]

@@ -1,7 +1,7 @@
 //! What waits in a search: children of nodes that were opened.
 
 ghost use Rattle.std.specs.Prelude.{◌≡◌, ◌<◌, ◌≤◌, [], refl, Some, IfOk, IfSome, IfNone};
-ghost use Rattle.std.specs.BinaryHeap.{heap_items, IsHeap};
+ghost use Rattle.std.specs.BinaryHeap.{heap_items, heap_capacity, IsHeap};
 ghost use Rattle.std.specs.Cmp.{partial_order_from_agreeing_total, partial_equiv_from_equiv, eq_by_cmp_equiv};
 ghost use Rattle.std.specs.List.{AllByRecursion as Each};
 ghost use Rattle.std.specs.Ordering.{eq_by_cmp};
@@ -27,6 +27,7 @@ pub(crate) struct Waiting {
 pub(crate) fn empty_queue(alloc: Global) -> Result<BinaryHeap<Waiting>, NoMemory>
     ensures items { IfOk result (λ queue. heap_items queue ≡ []) }
     ensures order { IfOk result (λ queue. IsHeap waiting_cmp (heap_items queue)) }
+    ensures room { IfOk result (λ queue. heap_capacity queue ≡ ROOM) }
 {
     BinaryHeap::with_capacity(alloc, ROOM)
 }

@@ -13,16 +13,22 @@ search-requires g c = (
     (
       search rules,
       (
-        c.root.ensures.few,
+        search rules,
         (
-          center-body c.width-w.result c.args.tree.now.width g.row.D c.args.n (option_copied c.root.result)
-              c.args.tree.now.table c.args.q c.offsets.result
-              (omega (arith, c.bits-bits.ensures.value, c.bits-bits.ensures.some)) c.width-w.ensures
-              c.root.ensures.shape c.root.ensures.table c.requires.point c.offsets.ensures,
-          root-lawful c.width-w.result c.args.tree.now.width g.row.D c.args.n (option_copied c.root.result)
-              c.args.tree.now.table c.args.q c.offsets.result
-              (omega (arith, c.bits-bits.ensures.value, c.bits-bits.ensures.some)) c.width-w.ensures
-              c.root.ensures.shape c.root.ensures.table c.requires.point c.offsets.ensures,
+          c.root.ensures.some,
+          (
+            c.root.ensures.few,
+            (
+              center-body c.width-w.result c.args.tree.now.width g.row.D c.args.n (option_copied c.root.result)
+                  c.args.tree.now.table c.args.q c.offsets.result
+                  (omega (arith, c.bits-bits.ensures.value, c.bits-bits.ensures.some)) c.width-w.ensures
+                  c.root.ensures.shape c.root.ensures.table c.requires.point c.offsets.ensures,
+              root-lawful c.width-w.result c.args.tree.now.width g.row.D c.args.n (option_copied c.root.result)
+                  c.args.tree.now.table c.args.q c.offsets.result
+                  (omega (arith, c.bits-bits.ensures.value, c.bits-bits.ensures.some)) c.width-w.ensures
+                  c.root.ensures.shape c.root.ensures.table c.requires.point c.offsets.ensures,
+            ),
+          ),
         ),
       ),
     ),

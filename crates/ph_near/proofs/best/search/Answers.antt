@@ -58,16 +58,19 @@ open-requires g c = (
       (
         search rules,
         (
-          c.requires.few,
+          c.requires.some,
           (
-            (root_at g (goal.at.open-requires g c).After-visit-node).0,
+            c.requires.few,
             (
-              c.requires.point,
+              (root_at g (goal.at.open-requires g c).After-visit-node).0,
               (
-                c.in_ok-ranking.ensures.ranking,
+                c.requires.point,
                 (
-                  c.in_ok-queue.ensures.order,
-                  subst (AreWaiting c.args.w (map (coordinate c.args.w) c.args.center.now) c.in_ok-opened.opened.items) (sym c.in_ok-queue.ensures.items) tt,
+                  c.in_ok-ranking.ensures.ranking,
+                  (
+                    c.in_ok-queue.ensures.order,
+                    subst (AreWaiting c.args.w (map (coordinate c.args.w) c.args.center.now) c.in_ok-opened.opened.items) (sym c.in_ok-queue.ensures.items) tt,
+                  ),
                 ),
               ),
             ),
@@ -165,17 +168,20 @@ open-requires-in-Some-next_within g c = (
       (
         search rules,
         (
-          c.requires.few,
+          c.requires.some,
           (
-            c.enter-next.ensures.opened,
+            c.requires.few,
             (
-              c.requires.point,
+              c.enter-next.ensures.opened,
               (
-                c.loop-item.invariant.ranking,
+                c.requires.point,
                 (
-                  c.in-Some-next_within.ensures.next.order,
-                  (next-waits c.args.w (map (coordinate c.args.w) c.args.center.now) c.loop-item.opened.items
-                      c.in-Some-next_within.ensures.next c.loop-item.invariant.waits).1,
+                  c.loop-item.invariant.ranking,
+                  (
+                    c.in-Some-next_within.ensures.next.order,
+                    (next-waits c.args.w (map (coordinate c.args.w) c.args.center.now) c.loop-item.opened.items
+                        c.in-Some-next_within.ensures.next c.loop-item.invariant.waits).1,
+                  ),
                 ),
               ),
             ),

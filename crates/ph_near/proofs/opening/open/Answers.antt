@@ -1,7 +1,8 @@
-use Rattle.std.proofs.Common.{◌≡◌, ◌<◌, ◌≤◌, ◌++◌, ◌+◌, [], ◌∙◌, refl, ap, sym, subst, arith, rules, map, drop, length}
+use Rattle.std.proofs.Common.{◌≡◌, ◌<◌, ◌≤◌, ◌++◌, ◌+◌, ◌∙◌, refl, ap, sym, subst, arith, rules, map, drop, length}
 use Rattle.std.specs.BinaryHeap.{heap_items}
 use Rattle.ph_specs.specs.Coordinate.{coordinate}
 use Rattle.ph_node.specs.Shown.{shown}
+use Rattle.ph_near.specs.Halves.{AreHalves}
 use Rattle.ph_near.specs.Nearing.{IsKept}
 use Rattle.ph_near.specs.Opening.{opened_items, opened_at, line_of, AreWaiting, IsTreated}
 use Rattle.ph_near.proofs.Entries.{small-wide, items-more, items-none, later-waits, later-line, last-at, treated-kept, treated-waits}
@@ -17,6 +18,8 @@ loop-place-init g c =
     let all = opened_items c.args.w c.args.from.now in
     record {
       n = refl;
+      halves = subst (λ k. AreHalves k c.args.from.now.known c.args.center.now c.new-halves.result) c.level.ensures.value c.new-halves.ensures.halves;
+      summed = c.new-halves.ensures.summed;
       ranking = c.requires.ranking;
       order = c.requires.order;
       waits = subst (λ os. AreWaiting c.args.w (map (coordinate c.args.w) c.args.center.now) os
@@ -36,10 +39,13 @@ new-halves-requires g c =
       (
         search rules,
         (
-          c.level.ensures.limit,
+          c.requires.few,
           (
-            (c.requires.opened.known.0, small-wide c.args.w c.args.from.now.known narrow c.requires.opened.known.1),
-            (c.requires.point.0, small-wide c.args.w c.args.center.now narrow c.requires.point.1),
+            c.level.ensures.limit,
+            (
+              (c.requires.opened.known.0, small-wide c.args.w c.args.from.now.known narrow c.requires.opened.known.1),
+              (c.requires.point.0, small-wide c.args.w c.args.center.now narrow c.requires.point.1),
+            ),
           ),
         ),
       ),
@@ -67,6 +73,8 @@ loop-place-preserved g c =
     let more = items-more w (shown from.node).level place from.known (shown from.node).chain (omega (arith, c.loop-place-test.true, c.len-place-end.ensures)) in
     record {
       n = c.treat.ensures.n ∙ c.loop-place.invariant.n;
+      halves = c.treat.ensures.halves;
+      summed = c.treat.ensures.summed;
       ranking = c.in_ok-treat.ensures.ranking;
       order = c.in_ok-treat.ensures.order;
       waits = treated-waits os at from place inside treated c.loop-place.invariant.waits;

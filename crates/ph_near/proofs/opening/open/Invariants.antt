@@ -1,6 +1,8 @@
-use Rattle.std.proofs.Common.{◌≡◌, ◌++◌, [], map, drop}
+use Rattle.std.proofs.Common.{◌≡◌, ◌++◌, map, drop}
 use Rattle.std.specs.BinaryHeap.{heap_items, IsHeap}
 use Rattle.ph_specs.specs.Coordinate.{coordinate}
+use Rattle.ph_node.specs.Shown.{shown}
+use Rattle.ph_near.specs.Halves.{AreHalves, AreSummed}
 use Rattle.ph_near.specs.Nearing.{IsKept}
 use Rattle.ph_near.specs.Opening.{opened_items, line_of, AreWaiting}
 use Rattle.ph_near.specs.Ranking.{IsRanking}
@@ -10,6 +12,8 @@ use Rattle.ph_near.proofs.opening.open.Given as goal
 abbrev pub invariant-loop-place : goal.invariant-loop-place
 invariant-loop-place g l = record {
   n : l.ranking.n ≡ l.fn.ranking.n;
+  halves : AreHalves (shown l.from.node).level l.from.known l.center l.halves;
+  summed : AreSummed l.halves;
   ranking : IsRanking l.ranking;
   order : IsHeap waiting_cmp (heap_items l.queue);
   waits : AreWaiting l.w (map (coordinate l.w) l.center) l.opened.items (heap_items l.queue);

@@ -20,8 +20,8 @@ told_at : (g : Over) (c : After-limit g) → c.least-distance.result ≡ gaps_ab
     (corner_of (shown c.args.from.now.node).level (addr_at (entries (shown c.args.from.now.node)) c.args.place) c.args.from.now.known) c.args.center.now
 told_at g c =
     let o = c.args.from.now in
-    c.least-distance.ensures ∙ least-told (shown o.node).level c.spot-spot.result.addr o.known
-    c.args.center.now c.args.halves.now c.requires.opened.known.0 c.requires.point.0 c.requires.halves c.requires.small
+    c.least-distance.ensures.value ∙ least-told (shown o.node).level c.spot-spot.result.addr o.known
+    c.args.center.now c.args.halves.now c.requires.opened.known.0 c.requires.point.0 c.requires.halves c.requires.summed.small
     ∙ ap (λ a. gaps_above (shown o.node).level (corner_of (shown o.node).level a o.known) c.args.center.now)
     (c.spot-spot.ensures.spot.address ∙ ap (addr_at (entries (shown o.node))) c.spot-spot.ensures.place)
 

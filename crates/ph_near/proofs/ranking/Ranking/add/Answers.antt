@@ -1,8 +1,12 @@
-use Rattle.std.proofs.Common.{◌∙◌, ap, sym, arith, ◌∷◌, true, false}
+use Rattle.std.proofs.Common.{◌∙◌, ap, sym, arith, rules, ◌≤◌, ◌∷◌, length, subst}
 use Rattle.std.specs.BinaryHeap.{heap_items}
 use Rattle.std.specs.Ordering.{is_lt}
 use Rattle.std.proofs.lemmas.List.Sorted.{length_permutation}
-use Rattle.ph_near.proofs.Ranks.{on-both, added-few, added-in, added-out}
+use Rattle.ph_near.specs.Ranking.{IsAdded}
+use Rattle.ph_near.proofs.Ranks.{on-both, added-few, added-in, added-out, added-at, moved-as}
+use Rattle.std.specs.BinaryHeap.PeekMut.{peek_mut_top, peek_mut_rest, HasRoomForTop}
+use Rattle.ph_near.specs.Found.{found_cmp}
+use Rattle.ph_near.proofs.ranking.Ranking.add.Goals.{then-is_lt, else-is_lt}
 use Rattle.ph_near.proofs.ranking.Ranking.add.Goals as goal
 
 -- ---- there is room
@@ -32,60 +36,25 @@ returns-then-len-self-clause-added g c =
     (heap_items c.push.new.self.rows) (omega (arith, c.if-len-self.true, c.len.ensures, c.args.self.now.rows.data.ok.0)) p)
     c.push.ensures.moved c.push.ensures.order
 
--- ---- it comes before the last one
-
-pub returns-then-is_lt-clause-ranking : goal.returns-then-is_lt-clause-ranking
-returns-then-is_lt-clause-ranking g c =
-    let popped = length_permutation (heap_items c.args.self.now.rows) (c.in-Some.last ∷ heap_items c.pop.new.self) c.in-Some.ensures.permutation in
-    on-both c.push-then-is_lt.result
-    (λ p k. record {
-      some = omega (arith, c.push-then-is_lt.ensures.n, c.requires.some);
-      order = k (c.in-Some.ensures.heap_order c.requires.order).0;
-      few = omega (
-        arith,
-        c.push-then-is_lt.ensures.n,
-        popped,
-        length_permutation (c.args.found ∷ heap_items c.pop.new.self) (heap_items c.push-then-is_lt.new.self.rows)
-            p,
-        c.requires.few,
-      );
-    })
-    c.push-then-is_lt.ensures.moved c.push-then-is_lt.ensures.order
-
-pub returns-then-is_lt-clause-added : goal.returns-then-is_lt-clause-added
-returns-then-is_lt-clause-added g c =
-    on-both c.push-then-is_lt.result
-    (λ p k. added-in c.args.self.now.n c.args.found c.in-Some.last
-    (omega (arith, c.if-len-self.false, c.len.ensures, c.args.self.now.rows.data.ok.0)) c.requires.few
-    c.in-Some.ensures.permutation (c.in-Some.ensures.heap_order c.requires.order).1
-    (ap is_lt (sym c.cmp.ensures) ∙ sym c.is_lt.ensures ∙ c.if-is_lt.true) p)
-    c.push-then-is_lt.ensures.moved c.push-then-is_lt.ensures.order
-
--- ---- or it does not
-
-pub returns-clause-ranking : goal.returns-clause-ranking
-returns-clause-ranking g c =
-    let popped = length_permutation (heap_items c.args.self.now.rows) (c.in-Some.last ∷ heap_items c.pop.new.self) c.in-Some.ensures.permutation in
-    on-both c.push-2.result
-    (λ p k. record {
-      some = omega (arith, c.push-2.ensures.n, c.requires.some);
-      order = k (c.in-Some.ensures.heap_order c.requires.order).0;
-      few = omega (
-        arith,
-        c.push-2.ensures.n,
-        popped,
-        length_permutation (c.in-Some.last ∷ heap_items c.pop.new.self)
-            (heap_items c.push-2.new.self.rows) p,
-        c.requires.few,
-      );
-    })
-    c.push-2.ensures.moved c.push-2.ensures.order
+-- ---- it is held against the last one
 
 pub returns-clause-added : goal.returns-clause-added
 returns-clause-added g c =
-    on-both c.push-2.result
-    (λ p k. added-out c.args.self.now.n c.args.found c.in-Some.last
-    (omega (arith, c.if-len-self.false, c.len.ensures, c.args.self.now.rows.data.ok.0)) c.requires.few
-    c.in-Some.ensures.permutation (c.in-Some.ensures.heap_order c.requires.order).1
-    (ap is_lt (sym c.cmp.ensures) ∙ sym c.is_lt.ensures ∙ c.if-is_lt.false) p)
-    c.push-2.ensures.moved c.push-2.ensures.order
+    let full : c.args.self.now.n ≤ length (heap_items c.args.self.now.rows) =
+    omega (arith, c.if-len-self.false, c.len.ensures, c.args.self.now.rows.data.ok.0) in
+    let told = c.cmp.ensures ∙ ap (found_cmp c.args.found) c.deref.ensures in
+    let room : HasRoomForTop c.in-Some.last = omega (arith, c.in-Some.ensures.len, c.in-Some.ensures.capacity, c.args.self.now.rows.data.ok.1) in
+    let held : IsAdded {d = g.row.D} c.args.self.now.n c.args.found (heap_items c.args.self.now.rows) (heap_items c.drop-last.new.self.0) =
+    elim c.if-is_lt.branch [
+      | then-is_lt w ↦ added-in c.args.self.now.n c.args.found (peek_mut_top c.in-Some.last) full c.requires.few
+          c.in-Some.ensures.permutation (c.in-Some.ensures.greatest c.requires.order)
+          (ap is_lt (sym told) ∙ sym c.is_lt.ensures ∙ w.if-is_lt.true)
+          (moved-as _ _ _ (ap (λ p. peek_mut_top p ∷ peek_mut_rest p) w.last-is)
+          (c.drop-last.ensures.permutation (subst HasRoomForTop (sym w.last-is) room)))
+      | else-is_lt w ↦ added-out c.args.self.now.n c.args.found (peek_mut_top c.in-Some.last) full c.requires.few
+          c.in-Some.ensures.permutation (c.in-Some.ensures.greatest c.requires.order)
+          (ap is_lt (sym told) ∙ sym c.is_lt.ensures ∙ w.if-is_lt.false)
+          (moved-as _ _ _ (ap (λ p. peek_mut_top p ∷ peek_mut_rest p) w.last-is)
+          (c.drop-last.ensures.permutation (subst HasRoomForTop (sym w.last-is) room)))
+    ] in
+    added-at held (search rules)

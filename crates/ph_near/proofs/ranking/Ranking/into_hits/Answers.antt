@@ -1,4 +1,4 @@
-use Rattle.std.proofs.Common.{◌∙◌, ap, sym, subst, rules, map, take}
+use Rattle.std.proofs.Common.{◌∙◌, ap, sym, subst, rules, map}
 use Rattle.std.specs.BinaryHeap.{heap_items}
 use Rattle.ph_specs.specs.Lawful.{IsBody}
 use Rattle.ph_specs.proofs.lemmas.Gathered.{Each-permutation}
