@@ -1,16 +1,18 @@
 -- How many rows a table has after rows were put into it, and at which points.
 use Rattle.std.proofs.Common.{◌≡◌, ℕ, zero, suc, ◌+◌, ◌-◌, ◌*◌, ◌<◌, ◌≤◌, Bool, true, false, cond, List, []}
-use Rattle.std.proofs.Common.{◌∷◌, length, take, get_or, refl, sym, ◌∙◌, ap, arith, inl, inr}
+use Rattle.std.proofs.Common.{◌∷◌, ◌++◌, length, take, drop, get_or, refl, sym, ◌∙◌, ap, arith, inl, inr}
 use Rattle.std.specs.Prelude.{ℤ, Option, Some, None, is_some}
 use Rattle.std.specs.List.{list_all, AllByRecursion as Each}
 use Rattle.std.proofs.lemmas.Bool.{and_parts}
-use Rattle.std.proofs.lemmas.List.Sums.{fold_more}
+use Rattle.std.proofs.lemmas.List.{take_more, take-append-drop}
+use Rattle.std.proofs.lemmas.List.Sums.{fold_more, fold_push, sum_by_more, sum_by-take-le}
 use Rattle.ph_specs.specs.Coordinate.{same_point, is_point, IsPoint}
 use Rattle.ph_specs.specs.ZOrder.{before}
 use Rattle.ph_specs.specs.Table.{Row, find, has, put, is_rising, IsTable}
 use Rattle.ph_specs.specs.Sets.{put_all}
-use Rattle.ph_specs.specs.Past.{Past}
-use Rattle.ph_import.specs.Imported.{with_some, IsPart}
+use Rattle.ph_specs.specs.Past.{Past, put_kept, without_past}
+use Rattle.ph_specs.specs.WorkSets.{path}
+use Rattle.ph_import.specs.Imported.{with_some, puts_visits, looks_visits, IsPart}
 use Rattle.ph_specs.proofs.laws.Order.{before_trans}
 use Rattle.ph_specs.proofs.laws.Put.{either, find-put, is_rising-put, list_all-put}
 use Rattle.ph_specs.proofs.laws.FindTree.{not_same}
@@ -141,10 +143,86 @@ pub some-max : (k : Past) (rows : List Row) → (with_some k rows).max ≡ k.max
 some-max k [] = refl
 some-max k (r ∷ rows) = refl
 
+-- a row more, and no past
+some-put : (k : Past) (rows : List Row) (r : Row) →
+    without_past (put_kept (with_some k rows) r.point r.value) (put_kept (with_some k rows) r.point r.value).table ≡ with_some k (rows ++ r ∷ [])
+some-put k [] r = refl
+some-put k (s ∷ rows) r = ap (without_past k) (sym (fold_push (λ t q. put k.width t q.point q.value) k.table (s ∷ rows) r))
+
+pub some-next : (k now put_now next : Past) (rows : List Row) (i : ℕ) (e r : Row) → i < length rows → now ≡ with_some k (take i rows) →
+    put_now ≡ put_kept now r.point r.value → next ≡ without_past put_now put_now.table → r ≡ get_or rows i e → next ≡ with_some k (take (i + 1) rows)
+some-next k now put_now next rows i e r l state done left at =
+    left
+    ∙ ap (λ u. without_past u u.table) (done ∙ (λ j. put_kept (state j) (at j).point (at j).value))
+    ∙ some-put k (take i rows) (get_or rows i e)
+    ∙ ap (with_some k) (sym (take_more rows i e l))
+
 -- ---- visits
+
+pub visits-next : (before now next w u i : ℕ) → now ≤ before + 2 * w * i → next ≤ now + 2 * u → u ≡ w → next ≤ before + 2 * w * (i + 1)
+visits-next before now next w u i h k e =
+    let more : 2 * w * (i + 1) ≡ 2 * w * i + 2 * w = omega arith in
+    omega (arith, h, k, e, more)
 
 pub visits-part : (before now next w u i n : ℕ) → now ≤ before + 2 * w * i → next ≤ now + 2 * u → u ≡ w → i < n → next ≤ before + 2 * w * n
 visits-part before now next w u i n h k e l =
     let left : n ≡ i + 1 + (n - (i + 1)) = omega (arith, l) in
     let all : 2 * w * n ≡ 2 * w * i + 2 * w + 2 * w * (n - (i + 1)) = ap (λ x. 2 * w * x) left ∙ omega arith in
     omega (arith, h, k, e, all)
+
+-- the visits of the puts of rows, and of more rows behind them
+puts-append : (w d : ℕ) (table xs ys : List Row) → puts_visits w d table (xs ++ ys) ≡ puts_visits w d table xs + puts_visits w d (put_all w table xs) ys
+puts-append w d table [] ys = omega arith
+puts-append w d table (r ∷ xs) ys =
+    let more : puts_visits w d (put w table r.point r.value) (xs ++ ys) ≡ puts_visits w d (put w table r.point r.value) xs +
+    puts_visits w d (put_all w (put w table r.point r.value) xs) ys = puts-append w d (put w table r.point r.value) xs ys in
+    omega (arith, more)
+
+puts-next : (w d : ℕ) (table rows : List Row) (i : ℕ) (e : Row) → i < length rows →
+    puts_visits w d table (take (i + 1) rows) ≡ puts_visits w d table (take i rows) +
+    (2 * length (path w d (put_all w table (take i rows)) (get_or rows i e).point) - 1)
+puts-next w d table rows i e l =
+    let more : puts_visits w d table (take i rows ++ get_or rows i e ∷ []) ≡ puts_visits w d table (take i rows) +
+    puts_visits w d (put_all w table (take i rows)) (get_or rows i e ∷ []) = puts-append w d table (take i rows) (get_or rows i e ∷ []) in
+    ap (puts_visits w d table) (take_more rows i e l) ∙ more ∙ omega arith
+
+-- the visits after a put more
+pub puts-grown : (w d : ℕ) (table rows : List Row) (i : ℕ) (e : Row) (before now next : ℕ) (u : ℕ) (so_far : List Row) (p : List ℤ) →
+    i < length rows → now ≤ before + puts_visits w d table (take i rows) → next ≤ now + (2 * length (path u d so_far p) - 1) →
+    u ≡ w → so_far ≡ put_all w table (take i rows) → p ≡ (get_or rows i e).point → next ≤ before + puts_visits w d table (take (i + 1) rows)
+puts-grown w d table rows i e before now next u so_far p l h k wide state at =
+    let one : length (path u d so_far p) ≡ length (path w d (put_all w table (take i rows)) (get_or rows i e).point) =
+    λ j. length (path (wide j) d (state j) (at j)) in
+    omega (arith, h, k, one, puts-next w d table rows i e l)
+
+-- the puts of the first so many rows have no more visits than those of all
+pub puts-few : (w d : ℕ) (table rows : List Row) (i : ℕ) → puts_visits w d table (take i rows) ≤ puts_visits w d table rows
+puts-few w d table rows i =
+    let all : puts_visits w d table (take i rows ++ drop i rows) ≡ puts_visits w d table rows = ap (puts_visits w d table) (take-append-drop i rows) in
+    omega (arith, all, puts-append w d table (take i rows) (drop i rows))
+
+-- before a put that is the last
+pub puts-part : (w d : ℕ) (table rows : List Row) (i : ℕ) (e : Row) (before now next : ℕ) (u : ℕ) (so_far : List Row) (p : List ℤ) →
+    i < length rows → now ≤ before + puts_visits w d table (take i rows) → next ≤ now + (2 * length (path u d so_far p) - 1) →
+    u ≡ w → so_far ≡ put_all w table (take i rows) → p ≡ (get_or rows i e).point → next ≤ before + puts_visits w d table rows
+puts-part w d table rows i e before now next u so_far p l h k wide state at =
+    omega (arith, puts-grown w d table rows i e before now next u so_far p l h k wide state at, puts-few w d table rows (i + 1))
+
+-- the same of look-ups
+pub looks-few : (w d : ℕ) (table rows : List Row) (i : ℕ) → looks_visits w d table (take i rows) ≤ looks_visits w d table rows
+looks-few w d table rows i = sum_by-take-le (λ r. length (path w d table r.point)) rows i
+
+pub looks-grown : (w d : ℕ) (table rows : List Row) (i : ℕ) (e : Row) (before now next : ℕ) (p : List ℤ) → i < length rows →
+    now ≤ before + looks_visits w d table (take i rows) → next ≡ now + length (path w d table p) → p ≡ (get_or rows i e).point →
+    next ≤ before + looks_visits w d table (take (i + 1) rows)
+looks-grown w d table rows i e before now next p l h k at =
+    let one : length (path w d table p) ≡ length (path w d table (get_or rows i e).point) = ap (λ q. length (path w d table q)) at in
+    let more : looks_visits w d table (take (i + 1) rows) ≡ looks_visits w d table (take i rows) +
+    length (path w d table (get_or rows i e).point) = sum_by_more (λ r. length (path w d table r.point)) rows i e l in
+    omega (arith, h, k, one, more)
+
+pub looks-part : (w d : ℕ) (table rows : List Row) (i : ℕ) (e : Row) (before now next : ℕ) (p : List ℤ) → i < length rows →
+    now ≤ before + looks_visits w d table (take i rows) → next ≡ now + length (path w d table p) → p ≡ (get_or rows i e).point →
+    next ≤ before + looks_visits w d table rows
+looks-part w d table rows i e before now next p l h k at =
+    omega (arith, looks-grown w d table rows i e before now next p l h k at, looks-few w d table rows (i + 1))

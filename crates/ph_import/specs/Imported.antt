@@ -1,9 +1,9 @@
 -- What a tree that keeps its last edits is after rows were put into it.
-use Rattle.std.specs.Prelude.{◌≡◌, ℕ, ◌+◌, ◌*◌, ◌<◌, ◌≤◌, List, [], ◌∷◌, length, take, Result, OnOk, IsErr, IsErrOf}
+use Rattle.std.specs.Prelude.{◌≡◌, ℕ, ◌+◌, ◌-◌, ◌*◌, ◌<◌, ◌≤◌, nat_le, if◌then◌else◌, List, [], ◌∷◌, length, sum_by, take, Result, OnOk, IsErr, IsErrOf}
 use Rattle.ph_specs.specs.Past.{Past, without_past}
-use Rattle.ph_specs.specs.Table.{Row}
+use Rattle.ph_specs.specs.Table.{Row, put}
 use Rattle.ph_specs.specs.Sets.{put_all, table_of}
-use Rattle.ph_specs.specs.WorkSets.{all_nodes}
+use Rattle.ph_specs.specs.WorkSets.{all_nodes, path}
 use Rattle.ph_import.specs.declared.fault.ImportFault.{ImportFault}
 use Rattle.ph_import.specs.declared.fault.ImportFault.TheVariants.{Full}
 
@@ -16,7 +16,35 @@ abbrev pub with_some : Past → List Row → Past
 with_some k [] = k
 with_some k (r ∷ rows) = with_rows k (r ∷ rows)
 
--- the most nodes that are visited to put so many rows into a table: none where it is empty
+-- the most visits of rows that are put one after the other: twice the path of each in the table as it then stands, and its root once
+abbrev pub puts_visits : ℕ → ℕ → List Row → List Row → ℕ
+puts_visits width dims table [] = 0
+puts_visits width dims table (r ∷ rows) =
+    (2 * length (path width dims table r.point) - 1) + puts_visits width dims (put width table r.point r.value) rows
+
+-- the visits of a look-up of each row's point
+abbrev pub looks_visits : ℕ → ℕ → List Row → List Row → ℕ
+looks_visits width dims table rows = sum_by (λ r. length (path width dims table r.point)) rows
+
+-- the most visits to tell whether a table may have all rows: none where it may even if each is at a new point, and else a look-up of each
+abbrev pub room_visits : ℕ → ℕ → ℕ → List Row → List Row → ℕ
+room_visits max width dims table rows = if nat_le (length table + length rows) max then 0 else looks_visits width dims table rows
+
+-- the same, and those of the puts where it may
+abbrev pub rows_visits : ℕ → Past → List Row → ℕ
+rows_visits dims k rows =
+    room_visits k.max k.width dims k.table rows
+    + (if nat_le (length (put_all k.width k.table rows)) k.max then puts_visits k.width dims k.table rows else 0)
+
+-- the most visits of an import: none where the table is empty
+abbrev visits_into : List Row → ℕ → ℕ
+visits_into [] n = 0
+visits_into (r ∷ table) n = n
+
+abbrev pub import_visits : ℕ → Past → List Row → ℕ
+import_visits dims k rows = visits_into k.table (rows_visits dims k rows)
+
+-- the same by the width and the number of rows alone
 abbrev pub most_visits : ℕ → List Row → ℕ → ℕ
 most_visits width [] n = 0
 most_visits width (r ∷ table) n = 4 * width * n

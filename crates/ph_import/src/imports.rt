@@ -2,7 +2,7 @@
 ghost use Rattle.std.specs.Prelude.{◌≡◌, ◌≢◌, ◌+◌, ◌≤◌, [], length, OnErr, IsErrOf};
 ghost use Rattle.std.specs.List.{AllByRecursion as Each};
 ghost use Rattle.ph_specs.specs.TableNames.{IsPoint};
-ghost use Rattle.ph_import.specs.Imported.{most_visits, most_changes, IsImported, IsPart};
+ghost use Rattle.ph_import.specs.Imported.{import_visits, most_visits, most_changes, IsImported, IsPart};
 
 use crate::fault::ImportFault;
 use crate::fills::fill;
@@ -22,7 +22,8 @@ use std::sync::ledger::Ledger;
 ///
 /// A tree with rows gets one after another, in their order. `NoMemory` leaves the rows in it that were put before, and the last edits
 /// of the tree where there are none. Where it would have room for as many new points as there are rows, none is looked up before;
-/// otherwise that takes memory for a set of the new points.
+/// otherwise that takes memory for a set of the new points. Only nodes on the paths of the rows are visited, and before `Full` only by
+/// those look-ups.
 pub fn import_rows<const D: usize, V: Ledger, C: Ledger>(
     alloc: Global,
     kept: &mut Kept<D>,
@@ -36,7 +37,8 @@ pub fn import_rows<const D: usize, V: Ledger, C: Ledger>(
         changes.old changes.new result }
     ensures whole { kept.old.table ≡ [] → OnErr result (kept.new ≡ kept.old) }
     ensures fault { IsErrOf result ImportFault.NoMemory → kept.old.table ≢ [] → IsPart kept.old kept.new rows.entry.items }
-    ensures visits { visits.new ≤ visits.old + most_visits kept.old.width kept.old.table (length rows.entry.items) }
+    ensures visits { visits.new ≤ visits.old + import_visits D kept.old rows.entry.items }
+    ensures limit { visits.new ≤ visits.old + most_visits kept.old.width kept.old.table (length rows.entry.items) }
     ensures later { visits.old ≤ visits.new }
 {
     if kept.tree().len() == 0 {

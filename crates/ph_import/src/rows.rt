@@ -2,7 +2,7 @@
 ghost use Rattle.std.specs.Prelude.{◌≡◌, ◌+◌, ◌*◌, ◌≤◌, length, OnOk, OnErr, IsErrOf};
 ghost use Rattle.std.specs.List.{AllByRecursion as Each};
 ghost use Rattle.ph_specs.specs.TableNames.{IsPoint, put_all};
-ghost use Rattle.ph_import.specs.Imported.{with_some, IsImported, IsPart};
+ghost use Rattle.ph_import.specs.Imported.{with_some, puts_visits, rows_visits, IsImported, IsPart};
 
 use crate::fault::ImportFault;
 use crate::room::has_room;
@@ -28,7 +28,8 @@ pub(crate) fn put_rows<const D: usize, V: Ledger, C: Ledger>(
     requires points { Each (λ r. IsPoint kept.old.width D r.point) rows.now }
     ensures done { IsImported kept.old kept.new rows.now (2 * length rows.now) changes.old changes.new result }
     ensures fault { IsErrOf result ImportFault.NoMemory → IsPart kept.old kept.new rows.now }
-    ensures visits { visits.new ≤ visits.old + 4 * kept.old.width * length rows.now }
+    ensures visits { visits.new ≤ visits.old + rows_visits D kept.old rows.now }
+    ensures limit { visits.new ≤ visits.old + 4 * kept.old.width * length rows.now }
     ensures later { visits.old ≤ visits.new }
 {
     if !has_room(alloc, kept.tree(), rows, visits)? {
@@ -50,7 +51,8 @@ fn put_each<const D: usize, V: Ledger, C: Ledger>(
     requires room { length (put_all kept.old.width kept.old.table rows.now) ≤ kept.old.max }
     ensures ok { OnOk result (kept.new ≡ with_some kept.old rows.now) }
     ensures err { OnErr result (IsPart kept.old kept.new rows.now) }
-    ensures visits { visits.new ≤ visits.old + 2 * kept.old.width * length rows.now }
+    ensures visits { visits.new ≤ visits.old + puts_visits kept.old.width D kept.old.table rows.now }
+    ensures limit { visits.new ≤ visits.old + 2 * kept.old.width * length rows.now }
     ensures later { visits.old ≤ visits.new }
     ensures changes { changes.new ≤ changes.old + 2 * length rows.now }
     ensures grown { changes.old ≤ changes.new }

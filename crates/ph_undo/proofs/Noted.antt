@@ -1,5 +1,5 @@
 -- What an inverse adds to what is kept.
-use Rattle.std.proofs.Common.{◌≡◌, ℕ, suc, zero, ◌≤◌, List, [], ◌∷◌, length, take, drop, refl, sym, ◌∙◌, ap, subst, arith}
+use Rattle.std.proofs.Common.{◌≡◌, ℕ, suc, zero, ◌+◌, ◌≤◌, List, [], ◌∷◌, length, take, drop, refl, sym, ◌∙◌, ap, subst, arith}
 use Rattle.std.specs.Prelude.{Option, Some, None, slice_get, unwrap_or}
 use Rattle.std.specs.List.{AllByRecursion as Each}
 use Rattle.std.proofs.lemmas.List.{length-take}
@@ -7,9 +7,9 @@ use Rattle.circular_buffer.specs.Buffer.{Buffer}
 use Rattle.ph_specs.specs.Past.{Past, after_edit, back}
 use Rattle.ph_specs.specs.Table.{Row}
 use Rattle.ph_tree.specs.Tree.{TreeTable}
-use Rattle.ph_undo.specs.Steps.{undone, past_of, IsStep, IsChange, AreChanges}
+use Rattle.ph_undo.specs.Steps.{undone, undo_visits, past_of, IsStep, IsChange, AreChanges}
 use Rattle.ph_undo.specs.Rings.{steps_in, room_in}
-use Rattle.ph_undo.specs.Kept.{kept_of, IsKept}
+use Rattle.ph_undo.specs.Kept.{kept_of, IsKept, IsLedBack, BackVisits}
 use Rattle.ph_undo.specs.declared.step.Step.{Step}
 
 -- ---- lists
@@ -157,6 +157,12 @@ module _ {D : ℕ} (t : TreeTable) (depth : ℕ) (s : Step D) (rest : List (Step
 module _ {D : ℕ} (t : TreeTable) (s : Step D) (rest : List (Step D)) (ring : Option (Buffer (Step D))) (is : steps_in ring ≡ s ∷ rest) where
   past-is : past_of t.width t.table (steps_in ring) ≡ undone t.width t.table s ∷ past_of t.width (undone t.width t.table s) rest
   past-is = ap (past_of t.width t.table) is
+
+  pub back-visits : (v now_v : ℕ) → IsStep t.width s → IsChange t.table s → now_v ≤ v + undo_visits t.width D t.table s →
+      BackVisits D t.width t.table (past_of t.width t.table (steps_in ring)) v now_v
+  back-visits v now_v point change few =
+      let led : IsLedBack D t.width t.table (undone t.width t.table s) v now_v = record { step = s; point = point; change = change; leads = refl; few = few } in
+      subst (λ past. BackVisits D t.width t.table past v now_v) (sym past-is) led
 
   pub past-some : past_of t.width t.table (steps_in ring) ≡ [] → ⊥
   past-some e = no (sym past-is ∙ e)

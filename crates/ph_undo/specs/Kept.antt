@@ -1,11 +1,12 @@
 -- What a tree that keeps its last edits is seen as.
-use Rattle.std.specs.Prelude.{◌≡◌, ◌≤◌, ◌+◌, ◌↔◌, ℕ, Bool, true, false, [], length, Option, Result, Ok, OnOk, OnErr}
+use Rattle.std.specs.Prelude.{◌≡◌, ◌≤◌, ◌+◌, ◌↔◌, ℕ, Bool, true, false, List, [], ◌∷◌, length, Option, Result, Ok, OnOk, OnErr}
 use Rattle.std.specs.List.{AllByRecursion as Each}
 use Rattle.std.specs.declared.alloc.AllocError.{AllocError}
 use Rattle.circular_buffer.specs.Buffer.{Buffer}
 use Rattle.ph_specs.specs.Past.{Past, back}
+use Rattle.ph_specs.specs.Table.{Row}
 use Rattle.ph_tree.specs.Tree.{TreeTable}
-use Rattle.ph_undo.specs.Steps.{past_of, IsStep, AreChanges}
+use Rattle.ph_undo.specs.Steps.{past_of, undone, undo_visits, IsStep, IsChange, AreChanges}
 use Rattle.ph_undo.specs.Rings.{steps_in, room_in}
 use Rattle.ph_undo.specs.declared.step.Step.{Step}
 
@@ -39,3 +40,16 @@ pub record IsTakenBack (was now : Past) (before later : ℕ) (result : Result Bo
   pub spared : OnErr result (later ≡ before)
   pub kept : before ≤ later
   pub made : result ≡ Ok true → before + 1 ≤ later
+
+-- a table was led back to the one from before its last edit by an inverse that changes it, with at most the visits of that inverse
+pub record IsLedBack (dims width : ℕ) (table before : List Row) (visits now_visits : ℕ) : Type 0 where
+  pub step : Step dims
+  pub point : IsStep width step
+  pub change : IsChange table step
+  pub leads : undone width table step ≡ before
+  pub few : now_visits ≤ visits + undo_visits width dims table step
+
+-- the visits where the last edit is taken back: those of its inverse at most, and none where nothing is kept
+abbrev pub BackVisits : ℕ → ℕ → List Row → List (List Row) → ℕ → ℕ → Type 0
+BackVisits dims width table [] visits now_visits = now_visits ≡ visits
+BackVisits dims width table (before ∷ past) visits now_visits = IsLedBack dims width table before visits now_visits

@@ -1,7 +1,8 @@
 -- The inverses of edits, and the tables that they lead back to.
-use Rattle.std.specs.Prelude.{◌≡◌, ℕ, Bool, false, not, if◌then◌else◌, List, [], ◌∷◌, take, ℤ, None, IsSome, ⊤}
+use Rattle.std.specs.Prelude.{◌≡◌, ℕ, ◌+◌, ◌-◌, ◌*◌, Bool, false, not, if◌then◌else◌, List, [], ◌∷◌, take, length, ℤ, None, IsSome, ⊤}
 use Rattle.ph_specs.specs.Coordinate.{same_point, IsPoint}
 use Rattle.ph_specs.specs.Table.{Row, find, put, del, move}
+use Rattle.ph_specs.specs.WorkSets.{path}
 use Rattle.ph_table.specs.declared.table.Put.{Put}
 use Rattle.ph_table.specs.declared.table.Put.TheVariants.{New, Old}
 use Rattle.ph_tree.specs.declared.moves.Moved.{Moved}
@@ -43,6 +44,12 @@ module _ {D : ℕ} where
   abbrev pub AreChanges : ℕ → List Row → List (Step D) → Type 0
   AreChanges width table [] = ⊤
   AreChanges width table (s ∷ steps) = IsChange table s × AreChanges width (undone width table s) steps
+
+  -- the most nodes that are visited to do an inverse: on the paths of its points, what the edit of the tree promises
+  abbrev pub undo_visits : ℕ → ℕ → List Row → Step D → ℕ
+  undo_visits width dims table (Remove p) = 2 * length (path width dims table p) - 1
+  undo_visits width dims table (Restore p v) = 2 * length (path width dims table p) - 1
+  undo_visits width dims table (Return p q) = 3 * length (path width dims table p) + 2 * length (path width dims table q)
 
   -- what takes a put back that was answered so
   abbrev pub put_inverse : List ℤ → Put → Step D

@@ -6,7 +6,7 @@ ghost use Rattle.ph_specs.specs.WorkNames.{path};
 ghost use Rattle.ph_tree.specs.Puts.{IsPutRow};
 ghost use Rattle.ph_tree.specs.Removals.{IsRemovedRow};
 ghost use Rattle.ph_tree.specs.Moves.{IsMoved};
-ghost use Rattle.ph_undo.specs.Kept.{tree_of, IsTakenBack};
+ghost use Rattle.ph_undo.specs.Kept.{tree_of, IsTakenBack, BackVisits};
 
 use crate::ring::{
     Ring, count, drop_all, drop_newest, newest, note_move, note_put, note_removal, ring_of,
@@ -191,14 +191,16 @@ impl<const D: usize> Kept<D> {
     /// Takes the last edit back, and tells whether there was one that could be.
     ///
     /// The inverse is an edit of the tree and may want memory as one. An error leaves the tree and what is kept as they were,
-    /// and the edit can be taken back later. There is always room for the row that comes back.
+    /// and the edit can be taken back later. There is always room for the row that comes back. Only nodes on the paths of the edit's own
+    /// points are visited, as by that inverse alone.
     pub fn back_one<V: Ledger, C: Ledger>(
         &mut self,
         visits: &mut Steps<V>,
         changes: &mut Steps<C>,
     ) -> Result<bool, NoMemory>
         ensures done { IsTakenBack self.old self.new changes.old changes.new result }
-        ensures visits { visits.new ≤ visits.old + 6 * self.old.width }
+        ensures visits { BackVisits D self.old.width self.old.table self.old.past visits.old visits.new }
+        ensures limit { visits.new ≤ visits.old + 5 * self.old.width }
         ensures later { visits.old ≤ visits.new }
         ensures idle { self.old.past ≡ [] → (visits.new ≡ visits.old) × (changes.new ≡ changes.old) }
     {

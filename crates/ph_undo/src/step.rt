@@ -1,7 +1,7 @@
 //! Inverses of edits.
 
 ghost use Rattle.std.specs.Prelude.{◌≡◌, ◌+◌, ◌*◌, ◌≤◌, length, OnOk, OnErr};
-ghost use Rattle.ph_undo.specs.Steps.{undone, IsStep, IsChange, is_move, put_inverse as inverse_of};
+ghost use Rattle.ph_undo.specs.Steps.{undone, undo_visits, IsStep, IsChange, is_move, put_inverse as inverse_of};
 
 use ph_coord::Point;
 use ph_steps::Steps;
@@ -52,11 +52,11 @@ pub(crate) fn take_back<const D: usize, V: Ledger, C: Ledger>(
     requires change { IsChange tree.old.table step.now }
     ensures undone { OnOk result (tree.new ≡ record tree.old { table = undone tree.old.width tree.old.table step.now }) }
     ensures err { OnErr result (tree.new ≡ tree.old) }
-    ensures visits { visits.new ≤ visits.old + 6 * tree.old.width }
+    ensures visits { visits.new ≤ visits.old + undo_visits tree.old.width D tree.old.table step.now }
+    ensures limit { visits.new ≤ visits.old + 5 * tree.old.width }
     ensures later { visits.old ≤ visits.new }
     ensures changes { changes.new ≤ changes.old + 4 }
     ensures spared { OnErr result (changes.new ≡ changes.old) }
-    ensures kept { changes.old ≤ changes.new }
     ensures made { OnOk result (changes.old + 1 ≤ changes.new) }
 {
     // A use that makes known that the tree is a table.

@@ -1,5 +1,5 @@
 -- A walk that goes on behind a point, from the root.
-use Rattle.std.proofs.Common.{◌≡◌, ℕ, ◌+◌, ◌≤◌, List, [], length, replicate, refl, sym, ◌∙◌, ap, subst, arith, append-nil}
+use Rattle.std.proofs.Common.{◌≡◌, ℕ, ◌+◌, ◌≤◌, List, [], length, replicate, true, refl, sym, ◌∙◌, ap, subst, arith, append-nil}
 use Rattle.std.specs.Prelude.{ℤ, Option, Some}
 use Rattle.ph_specs.specs.Coordinate.{IsPoint}
 use Rattle.ph_specs.specs.Lawful.{IsLawful, rows, rows_behind}
@@ -7,9 +7,12 @@ use Rattle.ph_specs.specs.Node.{PlainNode}
 use Rattle.ph_specs.specs.PutTree.{body_above}
 use Rattle.ph_specs.specs.Table.{Row}
 use Rattle.ph_specs.specs.Window.{rest}
-use Rattle.ph_specs.specs.WorkSets.{placed, meets}
-use Rattle.ph_specs.proofs.lemmas.Joined.{offsets}
-use Rattle.ph_specs.proofs.lemmas.PointDigits.{point-whole}
+use Rattle.ph_specs.specs.WorkSets.{placed, placed_below, meets, path}
+use Rattle.ph_specs.proofs.lemmas.Assembled.{cleared}
+use Rattle.ph_specs.proofs.lemmas.Joined.{offsets, from_place}
+use Rattle.ph_specs.proofs.lemmas.PointDigits.{point-whole, none-known}
+use Rattle.ph_specs.proofs.lemmas.Splits.{from-cleared}
+use Rattle.ph_specs.proofs.laws.Paths.{holds, many, many-held, placed_child, holding}
 use Rattle.ph_zorder.proofs.Decided.{is_body-point}
 use Rattle.ph_path.specs.Known.{Known, AreKnown, known_at, point_at}
 use Rattle.ph_path.proofs.Knowns.{above-top, start-known}
@@ -19,7 +22,7 @@ use Rattle.ph_walk.specs.Walk.{Frame, path_rows, path_nodes}
 use Rattle.ph_walk.proofs.Below.{fewer-in-tree}
 use Rattle.ph_window.specs.Corners.{Corners, corners_at, points_of}
 use Rattle.ph_window.specs.Mark.{Mark}
-use Rattle.ph_window.specs.Resumed.{IsReady, IsResumed}
+use Rattle.ph_window.specs.Resumed.{IsReady, IsResumed, held_below, way_below}
 use Rattle.ph_window.specs.Window.{behind}
 use Rattle.ph_window.proofs.Starts.{HasWindow, start-corners, low-point, high-point, lawful-root, table-rest, table-nodes}
 
@@ -71,6 +74,22 @@ module _ {d w u : ℕ} {o : Option PlainNode} {table : List Row} {lo hi last p q
         over = tt;
         way = tt;
       })))))
+
+  -- the root, and the nodes on the way below it, are the path of the point
+  pub after-way : {v : PlainNode} (a b e : ℕ) → v ≡ n → b ≡ a + 1 → e ≤ b + way_below m c k v → e ≤ a + length (path u d table last)
+  after-way {v} a b e shows one few =
+      let wide : c.width ≡ w = ap (λ (c : Corners). c.width) h.window.made in
+      let known_none : replicate d 0 ≡ cleared w (offsets w r) = none-known w d r h.window.wide last-point in
+      let below : way_below m c k v ≡ held_below w n.level (replicate d 0) n.chain r =
+      (λ i. held_below (wide i) (shows i).level (body_above (shows i).level (h.none i).digits) (shows i).chain (point_at (wide i) (h.marked i).digits))
+      ∙ (λ i. held_below w n.level (zeros i) n.chain ((point-whole w d r last-point).back i)) in
+      let root : holds w r (placed_child w w n.level (replicate d 0) n.chain) ≡ true =
+      holding w w n.level (replicate d 0) n.chain r h.window.wide (sym (ap (from_place w) known_none ∙ from-cleared w (offsets w r))) in
+      let all : many w r (placed w d (Some n)) ≡ 1 + held_below w n.level (replicate d 0) n.chain r =
+      many-held w r (placed_child w w n.level (replicate d 0) n.chain) (placed_below w n.level (replicate d 0) n.chain) root in
+      let same : many w r (placed w d (Some n)) ≡ length (path u d table last) =
+      λ i. many (h.window.same i) (h.given i) (placed (h.window.same i) d ((sym h.top_node ∙ h.window.root) i)) in
+      omega (arith, one, few, below, all, same)
 
   module _ {v : PlainNode} {j : Known} {new : List Frame} (shows : v ≡ n) (i : IsResumed d m c v k fs j new) where
     went : IsResumed d (known_at w (offsets w r)) (corners_at w (offsets w p) (offsets w q)) n (known_at w (replicate d 0)) [] j new

@@ -15,9 +15,15 @@ use Rattle.ph_specs.specs.PutTree.{body_above}
 use Rattle.ph_specs.specs.Region.{is_in}
 use Rattle.ph_specs.specs.Window.{window}
 use Rattle.ph_specs.specs.WindowWalk.{node_region, is_open}
-use Rattle.ph_specs.proofs.lemmas.Joined.{from_place, offsets, offsets-coordinate}
+use Rattle.ph_specs.specs.WorkSets.{placed_below}
+use Rattle.ph_specs.proofs.lemmas.Grouped.{same_place}
+use Rattle.ph_specs.proofs.lemmas.Joined.{from_place, number_at, offsets, offsets-coordinate, from_place-put_together}
 use Rattle.ph_specs.proofs.lemmas.Bounds.{same-in, in-same, small-point}
+use Rattle.ph_specs.proofs.lemmas.PointDigits.{address-is}
+use Rattle.ph_specs.proofs.lemmas.RowsBehind.{address-put_together}
 use Rattle.ph_specs.proofs.laws.EntryLists.{chained-listed, entry-lawful}
+use Rattle.ph_specs.proofs.laws.Paths.{holds, many, many-append, many-held, placed_child, holding}
+use Rattle.ph_specs.proofs.laws.WindowSteps.{node-digits}
 use Rattle.ph_specs.proofs.laws.WindowWalk.{At, child-meets}
 use Rattle.ph_node.specs.Shown.{shown}
 use Rattle.ph_node.specs.Split.{body_at}
@@ -36,7 +42,7 @@ use Rattle.ph_walk.proofs.Notes.{none_of, some_of, noted-at}
 use Rattle.ph_walk.proofs.Steps.{HasEntered, entered, frame-kept, way-kept}
 use Rattle.ph_window.specs.Corners.{Corners, points_of, HasMasks}
 use Rattle.ph_window.specs.Mark.{Mark}
-use Rattle.ph_window.specs.Resumed.{IsReady, IsResumed}
+use Rattle.ph_window.specs.Resumed.{IsReady, IsResumed, held_below, way_below}
 use Rattle.ph_window.proofs.Areas.{window-exact, open-fits}
 use Rattle.ph_window.proofs.Between.{at}
 use Rattle.ph_window.proofs.Seeks.{before-position, none-position, at-position, no_entry}
@@ -243,6 +249,43 @@ module _ {d : ℕ} {m : Mark} {c : Corners} {k : Known} {fs : List Frame} {n : P
 
         all-known : body_above y.level K ≡ K
         all-known = joined-child d w n.level x.addr k.digits x.body h.level digits own.body y.level held.0 held.1
+
+        -- the child is on the way to the point, and so is what is on the way below it
+        child-held : holds w l (placed_child w n.level y.level K y.chain) ≡ true
+        child-held =
+            let over : from_place (n.level + 1) (offsets w l) ≡ from_place (n.level + 1) K =
+            sym (node-digits w n.level above l inside)
+            ∙ sym (from_place-put_together n.level x.addr above x.body (here.known.long ∙ sym own.body.0) here.known.zeros own.body.1) in
+            let at_level : number_at 0 n.level (offsets w l) ≡ number_at 0 n.level K =
+            sym (address-is w n.level l) ∙ sym same ∙ sym (address-put_together d n.level x.addr above x.body here.known own.body own.address) in
+            holding w n.level y.level K y.chain l (omega (arith, held.0)) (same_place 0 n.level (offsets w l) K over at_level)
+
+        child-way : 1 + held_below w y.level K y.chain l ≤ held_below w n.level above n.chain l
+        child-way =
+            let fewer : held_below w n.level above (chained (drop j (entries n))) l ≤ held_below w n.level above (chained (entries n)) l =
+            fewer-nodes (record { width = w; belongs = λ p. true; touches = λ r. is_in w r l }) n.level above (entries n) j in
+            let all : held_below w n.level above (chained (entries n)) l ≡ held_below w n.level above n.chain l =
+            ap (λ e. held_below w n.level above e l) (chained-listed n.chain) in
+            let first : held_below w n.level above (chained (drop j (entries n))) l ≡ held_below w n.level above (in_front x.addr x.body (node y) others) l =
+            ap (λ e. held_below w n.level above e l) (entry-first (entries n) j x q.entry)
+            ∙ ap (λ o. held_below w n.level above (in_front x.addr x.body o others) l) is in
+            let one : held_below w n.level above (in_front x.addr x.body (node y) others) l ≡
+            1 + many w l (placed_below w y.level K y.chain ++ placed_below w n.level above others) =
+            many-held w l (placed_child w n.level y.level K y.chain)
+            (placed_below w y.level K y.chain ++ placed_below w n.level above others) child-held in
+            let both : many w l (placed_below w y.level K y.chain ++ placed_below w n.level above others) ≡
+            held_below w y.level K y.chain l + held_below w n.level above others l =
+            many-append w l (placed_below w y.level K y.chain) (placed_below w n.level above others) in
+            omega (arith, fewer, all, first, one, both)
+
+        pub way-one : (v u : ℕ) → u ≡ v + 1 → u ≤ v + way_below m c k n
+        way-one v u f = omega (arith, f, child-way)
+
+        pub way-more : {e : Known} {p : PlainNode} (v u z : ℕ) → e ≡ joined → p ≡ y → u ≡ v + 1 → z ≤ u + way_below m c e p → z ≤ v + way_below m c k n
+        way-more {e} {p} v u z to s f few =
+            let deep : way_below m c e p ≡ held_below w y.level K y.chain l =
+            (λ i. way_below m c (to i) (s i)) ∙ ap (λ t. held_below w y.level t y.chain l) all-known in
+            omega (arith, f, few, deep, child-way)
 
         abbrev top : List Frame
         top = framed_at (j + 1)

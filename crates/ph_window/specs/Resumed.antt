@@ -1,8 +1,10 @@
 -- A walk that goes on behind a point.
-use Rattle.std.specs.Prelude.{◌≡◌, ℕ, ◌+◌, ◌<◌, ◌≤◌, true, false, List, ◌++◌, length}
+use Rattle.std.specs.Prelude.{◌≡◌, ℕ, ◌+◌, ◌<◌, ◌≤◌, true, false, List, ℤ, ◌++◌, length, filter}
 use Rattle.ph_specs.specs.ZOrder.{before}
-use Rattle.ph_specs.specs.Node.{PlainNode}
+use Rattle.ph_specs.specs.Node.{Entries, PlainNode}
 use Rattle.ph_specs.specs.Lawful.{IsLawfulFrom, rows_behind}
+use Rattle.ph_specs.specs.Region.{is_in}
+use Rattle.ph_specs.specs.WorkSets.{placed_below}
 use Rattle.ph_specs.specs.Window.{rest}
 use Rattle.ph_specs.specs.PutTree.{body_above}
 use Rattle.ph_path.specs.Known.{Known, AreKnown, point_at}
@@ -48,3 +50,11 @@ pub record IsResumed (d : ℕ) (m : Mark) (c : Corners) (n : PlainNode) (k : Kno
   pub nodes :
       path_nodes (points_of c) j.digits new
       ≤ length (touched_below (points_of c) n.level (body_above n.level k.digits) n.chain) + path_nodes (points_of c) k.digits path
+
+-- how many nodes below entries at a level, behind digits that are known above it, have a region that holds a point
+abbrev pub held_below : ℕ → ℕ → List ℕ → Entries → List ℤ → ℕ
+held_below width level above es p = length (filter (λ x. is_in width x.region p) (placed_below width level above es))
+
+-- the same of a node whose region holds the point that a walk goes on behind: the nodes below it that are on the way to that point
+abbrev pub way_below : Mark → Corners → Known → PlainNode → ℕ
+way_below m c k n = held_below c.width n.level (body_above n.level k.digits) n.chain (point_at c.width m.digits)

@@ -1,7 +1,7 @@
 //! Cursors, from which pages of a window begin.
-ghost use Rattle.std.specs.Prelude.{◌≡◌, ◌≢◌, ◌+◌, ◌<◌, ◌≤◌, None, [], length, IsSome};
+ghost use Rattle.std.specs.Prelude.{◌≡◌, ◌≢◌, ◌+◌, ◌<◌, ◌≤◌, None, [], length, IsSome, IfSome};
 ghost use Rattle.ph_specs.specs.TableNames.{IsPoint, rest};
-ghost use Rattle.ph_specs.specs.WorkNames.{meets};
+ghost use Rattle.ph_specs.specs.WorkNames.{meets, path};
 ghost use Rattle.ph_window.specs.Page.{IsLast};
 
 use crate::page::{Page, PageOf};
@@ -45,6 +45,7 @@ impl<const D: usize> Cursor<D> {
         ensures left { result.left ≡ n }
         ensures cursor { result.cursor ≡ self.now }
         ensures visits { result.visits ≤ length (meets tree.now.width D tree.now.table self.now.lo self.now.hi) }
+        ensures way { IfSome self.now.last (λ p. visits.new ≤ visits.old + length (path tree.now.width D tree.now.table p)) }
         ensures cost { visits.new ≤ visits.old + tree.now.width }
         ensures first { self.now.last ≡ None → visits.new ≡ visits.old }
         ensures resumed { IsSome self.now.last → tree.now.table ≢ [] → visits.old < visits.new }
@@ -60,6 +61,7 @@ impl<const D: usize> Cursor<D> {
         requires last { IsLast tree.now.width D self.now.last }
         ensures rows { result.rows ≡ rest tree.now.width self.now tree.now.table }
         ensures visits { result.visits ≤ length (meets tree.now.width D tree.now.table self.now.lo self.now.hi) }
+        ensures way { IfSome self.now.last (λ p. visits.new ≤ visits.old + length (path tree.now.width D tree.now.table p)) }
         ensures cost { visits.new ≤ visits.old + tree.now.width }
         ensures first { self.now.last ≡ None → visits.new ≡ visits.old }
         ensures resumed { IsSome self.now.last → tree.now.table ≢ [] → visits.old < visits.new }

@@ -1,7 +1,7 @@
 //! The path of a walk that goes on behind a point.
 ghost use Rattle.std.specs.Prelude.{◌≡◌, ◌+◌, ◌≤◌};
 ghost use Rattle.ph_node.specs.Shown.{shown};
-ghost use Rattle.ph_window.specs.Resumed.{IsReady, IsResumed};
+ghost use Rattle.ph_window.specs.Resumed.{IsReady, IsResumed, way_below};
 
 use crate::corners::CornersOf;
 use crate::mark::{MarkOf, Stand};
@@ -24,6 +24,7 @@ pub(crate) fn resume<'t, P: Dims, V: Ledger>(
 )
     requires { IsReady P.D mark.now corners.now known.old path.old (shown node) }
     ensures done { IsResumed P.D mark.now corners.now (shown node.entry) known.old path.old known.new path.new }
+    ensures way { visits.new ≤ visits.old + way_below mark.now corners.now known.old (shown node.entry) }
     ensures cost { visits.new ≤ visits.old + (shown node.entry).level }
     ensures grows { visits.old ≤ visits.new }
 {

@@ -2,7 +2,7 @@
 ghost use Rattle.std.specs.Prelude.{◌≡◌, ◌≢◌, ◌+◌, ◌<◌, ◌≤◌, [], length, drop, slice_get, None};
 ghost use Rattle.ph_specs.specs.TableNames.{IsPoint, window, rest};
 ghost use Rattle.ph_window.specs.Window.{behind};
-ghost use Rattle.ph_specs.specs.WorkNames.{meets};
+ghost use Rattle.ph_specs.specs.WorkNames.{meets, path};
 
 use crate::corners::CornersOf;
 use crate::mark::MarkOf;
@@ -50,8 +50,8 @@ impl<'t, const D: usize> WindowOf<'t, Dim<D>> {
         }
     }
 
-    /// The same behind a point in Z-order, whether or not it is stored or inside. Visits at most as many nodes as a
-    /// coordinate has bits.
+    /// The same behind a point in Z-order, whether or not it is stored or inside. Visits only nodes on the path to that point, so at
+    /// most as many as a coordinate has bits.
     pub fn after<V: Ledger>(
         tree: &'t PhTree<D>,
         lo: Point<D>,
@@ -64,6 +64,7 @@ impl<'t, const D: usize> WindowOf<'t, Dim<D>> {
         requires last { IsPoint tree.now.width D last }
         ensures rows { result.rows ≡ rest tree.now.width (behind lo.entry hi.entry last.entry) tree.now.table }
         ensures visits { result.visits ≤ length (meets tree.now.width D tree.now.table lo.entry hi.entry) }
+        ensures way { visits.new ≤ visits.old + length (path tree.now.width D tree.now.table last.entry) }
         ensures cost { visits.new ≤ visits.old + tree.now.width }
         ensures counted { tree.now.table ≢ [] → visits.old < visits.new }
         ensures grows { visits.old ≤ visits.new }

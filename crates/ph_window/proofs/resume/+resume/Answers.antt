@@ -5,7 +5,7 @@ use Rattle.ph_path.specs.Known.{Known}
 use Rattle.ph_window.specs.Resumed.{IsStand, IsReady}
 use Rattle.ph_window.proofs.Resumes.{IsHere, entry_of, unmet, unmet-at, exhausted, same-here, found-first, address-at, first-at, entry-behind}
 use Rattle.ph_window.proofs.Resumes.{behind-is, apart-is, resumed-at, room-at, jumped, point-ahead, point-passed, held, child-none}
-use Rattle.ph_window.proofs.Resumes.{shut-child, child-opens, child-past, child-ready, child-resumed, child-entered}
+use Rattle.ph_window.proofs.Resumes.{shut-child, child-opens, child-past, child-ready, child-resumed, child-entered, way-one, way-more}
 use Rattle.ph_window.proofs.resume.+resume.Given.{Over}
 use Rattle.ph_window.proofs.resume.+resume.Goals.{After-what}
 use Rattle.ph_window.proofs.resume.+resume.Goals as goal
@@ -160,3 +160,21 @@ pub returns-in-Earlier-clause-cost : goal.returns-in-Earlier-clause-cost
 returns-in-Earlier-clause-cost g t c =
     let at = found g t (goal.at.returns-in-Earlier-clause-cost g t c).After-what in
     omega (arith, c.visit-below.ensures.cost, (held c.requires at.first at.same (ap what_of c.in-Child.is)).0)
+
+-- ---- the way to the point
+
+pub returns-in-Holds-clause-way : goal.returns-in-Holds-clause-way
+returns-in-Holds-clause-way g t c =
+    let at = found g t (goal.at.returns-in-Holds-clause-way g t c).After-what in
+    way-more c.requires at.first at.same (ap what_of c.in-Child.is) c.args.visits.now c.visit-below.new.visits c.resume.new.visits c.join.ensures c.visit-below.ensures.shows c.visit-below.ensures.cost
+    c.resume.ensures.way
+
+pub returns-in-Later-clause-way : goal.returns-in-Later-clause-way
+returns-in-Later-clause-way g t c =
+    let at = found g t (goal.at.returns-in-Later-clause-way g t c).After-what in
+    way-one c.requires at.first at.same (ap what_of c.in-Child.is) c.args.visits.now c.visit-below.new.visits c.visit-below.ensures.cost
+
+pub returns-in-Earlier-clause-way : goal.returns-in-Earlier-clause-way
+returns-in-Earlier-clause-way g t c =
+    let at = found g t (goal.at.returns-in-Earlier-clause-way g t c).After-what in
+    way-one c.requires at.first at.same (ap what_of c.in-Child.is) c.args.visits.now c.visit-below.new.visits c.visit-below.ensures.cost

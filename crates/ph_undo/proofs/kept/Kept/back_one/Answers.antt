@@ -1,8 +1,8 @@
-use Rattle.std.proofs.Common.{◌≡◌, [], ◌∙◌, drop, sym, ap, refl, arith, rules}
+use Rattle.std.proofs.Common.{◌≡◌, [], ◌∙◌, drop, sym, ap, subst, refl, arith, rules}
 use Rattle.ph_specs.specs.Past.{back}
 use Rattle.ph_undo.specs.Rings.{steps_in}
-use Rattle.ph_undo.specs.Kept.{kept_of}
-use Rattle.ph_undo.proofs.Noted.{first-none, first-some, first_point, first_fits, first_changes, is_kept-back, kept-back, past-some, past-none, back-none, is_kept-as}
+use Rattle.ph_undo.specs.Kept.{kept_of, BackVisits}
+use Rattle.ph_undo.proofs.Noted.{first-none, first-some, first_point, first_fits, first_changes, is_kept-back, kept-back, past-some, past-none, back-none, back-visits, is_kept-as}
 use Rattle.ph_undo.proofs.kept.Kept.back_one.Given.{Over}
 use Rattle.ph_undo.proofs.kept.Kept.back_one.Goals.{In_default, After-take_back}
 use Rattle.ph_undo.proofs.kept.Kept.back_one.Goals as goal
@@ -73,7 +73,7 @@ returns-in-Ok-clause-done g c =
       err = tt;
       changes = c.in-Ok.ensures.changes;
       spared = tt;
-      kept = c.in-Ok.ensures.kept;
+      kept = let made = c.in-Ok.ensures.made in omega (arith, made);
       made = λ _. c.in-Ok.ensures.made;
     }
 
@@ -92,9 +92,33 @@ returns-in-Err-clause-done g c =
       err = ap (λ t. kept_of t c.self.inside.depth c.self.inside.ring) c.in-Err.ensures.err ∙ c.self.view_is;
       changes = c.in-Err.ensures.changes;
       spared = c.in-Err.ensures.spared;
-      kept = c.in-Err.ensures.kept;
+      kept = let spared = c.in-Err.ensures.spared in omega (arith, spared);
       made = λ e. absurd (let no = e in cc);
     }
 
 pub returns-in-Err-clause-idle : goal.returns-in-Err-clause-idle
 returns-in-Err-clause-idle g c e = absurd (some_past g (goal.at.returns-in-Err-clause-idle g c).After-take_back e)
+
+-- ---- visits
+
+few : (g : Over) (c : After-take_back g) →
+    BackVisits g.row.D c.args.self.now.width c.args.self.now.table c.args.self.now.past c.args.visits.now c.take_back.new.visits
+few g c =
+    let is = first-some (steps_in c.self.inside.ring) c.in-Some.step (sym c.newest.ensures ∙ c.in-Some.is) in
+    let t = c.self.inside.tree in
+    let rest = drop 1 (steps_in c.self.inside.ring) in
+    subst (λ k. BackVisits g.row.D k.width k.table k.past c.args.visits.now c.take_back.new.visits) c.self.view_is
+    (back-visits t c.in-Some.step rest c.self.inside.ring is c.args.visits.now c.take_back.new.visits
+    (first_point t c.self.inside.depth c.in-Some.step rest c.self.inside.ring c.self.invariant is)
+    (first_changes t c.self.inside.depth c.in-Some.step rest c.self.inside.ring c.self.invariant is)
+    c.take_back.ensures.visits)
+
+pub returns-in_default-clause-visits : goal.returns-in_default-clause-visits
+returns-in_default-clause-visits g c =
+    subst (λ past. BackVisits g.row.D c.args.self.now.width c.args.self.now.table past c.args.visits.now c.args.visits.now) (sym (no_past g c)) refl
+
+pub returns-in-Ok-clause-visits : goal.returns-in-Ok-clause-visits
+returns-in-Ok-clause-visits g c = few g (goal.at.returns-in-Ok-clause-visits g c).After-take_back
+
+pub returns-in-Err-clause-visits : goal.returns-in-Err-clause-visits
+returns-in-Err-clause-visits g c = few g (goal.at.returns-in-Err-clause-visits g c).After-take_back
