@@ -1,13 +1,14 @@
 -- A walk that goes on behind a point, from the root.
 use Rattle.std.proofs.Common.{◌≡◌, ℕ, ◌+◌, ◌≤◌, List, [], length, replicate, true, refl, sym, ◌∙◌, ap, subst, arith, append-nil}
-use Rattle.std.specs.Prelude.{ℤ, Option, Some}
+use Rattle.std.specs.Prelude.{ℤ, ◌&&◌, filter, Option, Some}
 use Rattle.ph_specs.specs.Coordinate.{IsPoint}
 use Rattle.ph_specs.specs.Lawful.{IsLawful, rows, rows_behind}
 use Rattle.ph_specs.specs.Node.{PlainNode}
 use Rattle.ph_specs.specs.PutTree.{body_above}
+use Rattle.ph_specs.specs.Region.{meets_window}
 use Rattle.ph_specs.specs.Table.{Row}
 use Rattle.ph_specs.specs.Window.{rest}
-use Rattle.ph_specs.specs.WorkSets.{placed, placed_below, meets, path}
+use Rattle.ph_specs.specs.WorkSets.{placed, placed_below, all_nodes, meets, path}
 use Rattle.ph_specs.proofs.lemmas.Assembled.{cleared}
 use Rattle.ph_specs.proofs.lemmas.Joined.{offsets, from_place}
 use Rattle.ph_specs.proofs.lemmas.PointDigits.{point-whole, none-known}
@@ -22,9 +23,10 @@ use Rattle.ph_walk.specs.Walk.{Frame, path_rows, path_nodes}
 use Rattle.ph_walk.proofs.Below.{fewer-in-tree}
 use Rattle.ph_window.specs.Corners.{Corners, corners_at, points_of}
 use Rattle.ph_window.specs.Mark.{Mark}
-use Rattle.ph_window.specs.Resumed.{IsReady, IsResumed, held_below, way_below}
-use Rattle.ph_window.specs.Window.{behind}
-use Rattle.ph_window.proofs.Starts.{HasWindow, start-corners, low-point, high-point, lawful-root, table-rest, table-nodes}
+use Rattle.ph_window.specs.Resumed.{IsReady, IsResumed, ahead_of, held_below, way_below}
+use Rattle.ph_window.specs.Window.{behind, lies_behind, meets_behind}
+use Rattle.ph_window.proofs.Ahead.{both-fewer}
+use Rattle.ph_window.proofs.Starts.{HasWindow, start-corners, low-point, high-point, lawful-root, table-rest}
 
 -- a walk that is to go on behind a point, at the root: the point as a list and as offsets, the digits at hand, and the path
 pub record IsBehind (d w u : ℕ) (o : Option PlainNode) (table : List Row) (lo hi last p q r : List ℤ) (n : PlainNode) (c : Corners) (k : Known)
@@ -113,13 +115,21 @@ module _ {d w u : ℕ} {o : Option PlainNode} {table : List Row} {lo hi last p q
         ∙ sym (ap (λ o. rest w (behind p q r) (rows w d o)) h.top_node)
         ∙ table-rest h.window last r h.given
 
-    pub after-nodes : path_nodes (points_of c) j.digits new ≤ length (meets u d table lo hi)
-    after-nodes =
-        let a = points_of (corners_at w (offsets w p) (offsets w q)) in
+    pub after-ahead : path_nodes (points_of c) j.digits new ≤ length (meets_behind u d table lo hi last)
+    after-ahead =
+        let a = ahead_of (corners_at w (offsets w p) (offsets w q)) (known_at w (offsets w r)) in
+        let first : path_nodes (points_of c) j.digits new ≡ path_nodes (points_of (corners_at w (offsets w p) (offsets w q))) j.digits new =
+        ap (λ c. path_nodes (points_of c) j.digits new) h.window.made in
         let e : length (touched_below a n.level (body_above n.level (replicate d 0)) n.chain) ≡
         length (touched_below a n.level (replicate d 0) n.chain) =
         ap (λ t. length (touched_below a n.level t n.chain)) zeros in
-        let few : path_nodes (points_of c) j.digits new ≤ length (touched (points_of c) (placed w d (Some n))) =
-        subst (λ c. path_nodes (points_of c) j.digits new ≤ length (touched (points_of c) (placed w d (Some n)))) (sym h.window.made)
-        (omega (arith, went.nodes, e, fewer-in-tree d a n)) in
-        omega (arith, few, ap (λ o. length (touched (points_of c) (placed w d o))) h.top_node, table-nodes h.window)
+        let same : length (touched a (placed w d (Some n))) ≡ length (meets_behind u d table lo hi last) =
+        (λ i. length (filter (λ x. meets_window w x.region ((point-whole w d p (low-point h.window)).back i) ((point-whole w d q (high-point h.window)).back i)
+        && lies_behind w x.region ((point-whole w d r last-point).back i)) (placed w d (Some n))))
+        ∙ (λ i. length (filter (λ x. meets_window (h.window.same i) x.region (h.window.low i) (h.window.high i)
+        && lies_behind (h.window.same i) x.region (h.given i)) (placed (h.window.same i) d ((sym h.top_node ∙ h.window.root) i)))) in
+        omega (arith, first, went.nodes, e, fewer-in-tree d a n, same)
+
+    pub after-nodes : path_nodes (points_of c) j.digits new ≤ length (meets u d table lo hi)
+    after-nodes =
+        omega (arith, after-ahead, both-fewer (λ x. meets_window u x.region lo hi) (λ x. lies_behind u x.region last) (all_nodes u d table))

@@ -1,5 +1,6 @@
 -- Lemmas of windows.
 pub mod Seeks
+mod Ahead
 pub mod MaskDigits
 pub mod Between
 pub mod Areas

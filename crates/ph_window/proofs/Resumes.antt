@@ -1,8 +1,10 @@
 -- A walk that goes on behind a point: what is left at a node.
 use Rattle.std.proofs.Common.{◌≡◌, ℕ, suc, ◌+◌, ◌-◌, ◌<◌, ◌≤◌, List, [], ◌∷◌, ◌++◌, length, drop, refl, sym}
-use Rattle.std.proofs.Common.{◌∙◌, ap, subst, arith, Bool, true, false, append_assoc, get_or}
+use Rattle.std.proofs.Common.{◌∙◌, ap, subst, arith, Bool, true, false, append_assoc, length-append, get_or}
 use Rattle.std.specs.Prelude.{ℤ, Option, Some, None, filter, slice_get, position, nat_le}
+use Rattle.std.specs.List.{AllByRecursion as Each}
 use Rattle.std.proofs.Math.Seq.{drop-length}
+use Rattle.std.proofs.lemmas.List.Elements.{filter-append}
 use Rattle.std.proofs.lemmas.Option.{get_or_from_slice_get}
 use Rattle.ph_specs.specs.Coordinate.{IsPoint}
 use Rattle.ph_specs.specs.EntryEdits.{what_at}
@@ -12,18 +14,19 @@ use Rattle.ph_specs.specs.Node.{Entries, What, value, node, Entry, PlainNode, en
 use Rattle.ph_specs.specs.Lawful.{put_together, rows_behind, IsBody, IsLawfulFrom, IsLawfulEntry, IsLawfulWhat}
 use Rattle.ph_specs.specs.Masks.{fits_masks}
 use Rattle.ph_specs.specs.PutTree.{body_above}
-use Rattle.ph_specs.specs.Region.{is_in}
+use Rattle.ph_specs.specs.Region.{is_in, meets_window}
 use Rattle.ph_specs.specs.Window.{window}
 use Rattle.ph_specs.specs.WindowWalk.{node_region, is_open}
 use Rattle.ph_specs.specs.WorkSets.{placed_below}
 use Rattle.ph_specs.proofs.lemmas.Grouped.{same_place}
-use Rattle.ph_specs.proofs.lemmas.Joined.{from_place, number_at, offsets, offsets-coordinate, from_place-put_together}
+use Rattle.ph_specs.proofs.lemmas.Joined.{from_place, number_at, offsets, offsets-coordinate, from_place-put_together, above-child}
 use Rattle.ph_specs.proofs.lemmas.Bounds.{same-in, in-same, small-point}
 use Rattle.ph_specs.proofs.lemmas.PointDigits.{address-is}
 use Rattle.ph_specs.proofs.lemmas.RowsBehind.{address-put_together}
 use Rattle.ph_specs.proofs.laws.EntryLists.{chained-listed, entry-lawful}
 use Rattle.ph_specs.proofs.laws.Paths.{holds, many, many-append, many-held, placed_child, holding}
 use Rattle.ph_specs.proofs.laws.WindowSteps.{node-digits}
+use Rattle.ph_specs.proofs.laws.OneSide.{one-side}
 use Rattle.ph_specs.proofs.laws.WindowWalk.{At, child-meets}
 use Rattle.ph_node.specs.Shown.{shown}
 use Rattle.ph_node.specs.Split.{body_at}
@@ -34,15 +37,17 @@ use Rattle.ph_path.specs.Known.{Known, AreKnown, known_at, point_at}
 use Rattle.ph_path.specs.Path.{AreOver, IsPath}
 use Rattle.ph_path.proofs.Knowns.{above-from, above-same, joined-body, joined-above, joined-child}
 use Rattle.ph_path.proofs.Paths.{read-entry, entry-first, found-kept, counted-kept, few-frames, over-less}
-use Rattle.ph_walk.specs.Area.{IsArea, IsNote, kept_below, touched_below}
+use Rattle.ph_walk.specs.Area.{IsArea, IsNote, kept_below, touched, touched_below}
 use Rattle.ph_walk.specs.Walk.{Frame, IsFrame, IsEntered, path_rows, path_nodes}
 use Rattle.ph_walk.specs.declared.area.Masks.{Masks}
-use Rattle.ph_walk.proofs.Below.{none-kept, child-nodes, fewer-nodes}
+use Rattle.ph_walk.proofs.Below.{none-kept, fewer-nodes}
 use Rattle.ph_walk.proofs.Notes.{none_of, some_of, noted-at}
 use Rattle.ph_walk.proofs.Steps.{HasEntered, entered, frame-kept, way-kept}
 use Rattle.ph_window.specs.Corners.{Corners, points_of, HasMasks}
 use Rattle.ph_window.specs.Mark.{Mark}
-use Rattle.ph_window.specs.Resumed.{IsReady, IsResumed, held_below, way_below}
+use Rattle.ph_window.specs.Resumed.{IsReady, IsResumed, ahead_of, held_below, way_below}
+use Rattle.ph_window.specs.Window.{lies_behind}
+use Rattle.ph_window.proofs.Ahead.{IsAhead, below-ahead, entries-ahead, both-pass, one-more}
 use Rattle.ph_window.proofs.Areas.{window-exact, open-fits}
 use Rattle.ph_window.proofs.Between.{at}
 use Rattle.ph_window.proofs.Seeks.{before-position, none-position, at-position, no_entry}
@@ -123,6 +128,14 @@ module _ {d : ℕ} {m : Mark} {c : Corners} {k : Known} {fs : List Frame} {n : P
       (λ i e p q g. (entries-at i e g, none-position a (entries n) f i e g))
       ∙ ap (λ z. left (chained z)) (drop-length (entries n))
 
+  -- of the nodes in the window those that lie behind the point
+  abbrev later_nodes : Entries → ℕ
+  later_nodes e = length (touched_below (ahead_of c m) n.level (body_above n.level k.digits) e)
+
+  later-entries : (least : ℕ) (e : Entries) → IsLawfulFrom d n.level least e → a < least → Each (IsAhead w d l) (placed_below w n.level above e)
+  later-entries least e q lt =
+      entries-ahead w d l n.level least above e h.level here.known (node-digits w n.level above l inside) q lt
+
   pub same-here : left n.chain ≡ [] → IsResumed d m c n k fs k fs
   same-here e =
       record {
@@ -142,8 +155,11 @@ module _ {d : ℕ} {m : Mark} {c : Corners} {k : Known} {fs : List Frame} {n : P
     lawful-j : IsLawfulFrom d n.level x.addr (chained (drop j (entries n))) × IsLawfulFrom d n.level (x.addr + 1) (chained (drop (suc j) (entries n)))
     lawful-j = lawful-from d n.level 0 j n.chain x h.lawful q.entry
 
-    chain-whole : nodes (chained (entries n)) ≡ nodes n.chain
-    chain-whole = ap nodes (chained-listed n.chain)
+    chain-whole : later_nodes (chained (entries n)) ≡ later_nodes n.chain
+    chain-whole = ap later_nodes (chained-listed n.chain)
+
+    all-later : (e : Entries) → Each (IsAhead w d l) (placed_below w n.level above e) → later_nodes e ≡ nodes e
+    all-later e ahead = both-pass (λ x. meets_window w x.region lo hi) (λ x. lies_behind w x.region l) (placed_below w n.level above e) ahead
 
     abbrev framed_at : ℕ → List Frame
     framed_at i = record { node = r; place = i; note = note } ∷ fs
@@ -176,20 +192,22 @@ module _ {d : ℕ} {m : Mark} {c : Corners} {k : Known} {fs : List Frame} {n : P
           ∙ ap (λ t. length (touched_below (points_of c) n.level t (chained (drop i (entries n)))) + path_nodes (points_of c) K fs) (kept n.level (omega arith))
           ∙ ap (λ t. nodes (chained (drop i (entries n))) + t) (counted-kept (touched_below (points_of c)) n.level k.digits K kept fs h.over)
 
-      pub framed : left n.chain ≡ rows (chained (drop i (entries n))) → IsResumed d m c n k fs (known_at k.width K) (framed_at i)
-      framed e =
-          let z : nodes (chained (drop i (entries n))) ≤ nodes (chained (entries n)) = fewer-nodes (points_of c) n.level above (entries n) i in
+      pub framed : Each (IsAhead w d l) (placed_below w n.level above (chained (drop i (entries n)))) →
+          left n.chain ≡ rows (chained (drop i (entries n))) → IsResumed d m c n k fs (known_at k.width K) (framed_at i)
+      framed ahead e =
+          let all : later_nodes (chained (drop i (entries n))) ≡ nodes (chained (drop i (entries n))) = all-later (chained (drop i (entries n))) ahead in
+          let z : later_nodes (chained (drop i (entries n))) ≤ later_nodes (chained (entries n)) = fewer-nodes (ahead_of c m) n.level above (entries n) i in
           record {
             width = refl;
             way = framed-way;
             rows = framed-rows ∙ ap (λ t. t ++ path_rows (points_of c) k.digits fs) (sym e);
-            nodes = omega (arith, framed-nodes, z, chain-whole);
+            nodes = omega (arith, framed-nodes, all, z, chain-whole);
           }
 
     -- an entry behind the point
     pub jumped : a < x.addr → IsResumed d m c n k fs k (framed_at j)
     jumped lt =
-        framed k.digits (λ i p. refl) j (from-first ∙ later-rest d w n.level above lo hi l here inside x.addr (chained (drop j (entries n))) lawful-j.0 lt)
+        framed k.digits (λ i p. refl) j (later-entries x.addr (chained (drop j (entries n))) lawful-j.0 lt) (from-first ∙ later-rest d w n.level above lo hi l here inside x.addr (chained (drop j (entries n))) lawful-j.0 lt)
 
     -- an entry at the point's address is joined
     module _ (same : x.addr ≡ a) where
@@ -222,6 +240,9 @@ module _ {d : ℕ} {m : Mark} {c : Corners} {k : Known} {fs : List Frame} {n : P
       lawful-others : IsLawfulFrom d n.level (x.addr + 1) others
       lawful-others = subst (λ i. IsLawfulFrom d n.level (x.addr + 1) (chained (drop i (entries n)))) next lawful-j.1
 
+      others-later : Each (IsAhead w d l) (placed_below w n.level above others)
+      others-later = later-entries (x.addr + 1) others lawful-others (omega (arith, same))
+
       split : left n.chain ≡ left (in_front x.addr x.body x.what others)
       split = from-first ∙ ap left (entry-first (entries n) j x q.entry)
 
@@ -229,12 +250,15 @@ module _ {d : ℕ} {m : Mark} {c : Corners} {k : Known} {fs : List Frame} {n : P
       module _ {v : ℕ} (is : x.what ≡ value v) where
         pub point-ahead : before w l (point_at w K) ≡ true → IsResumed d m c n k fs joined (framed_at j)
         point-ahead f =
-            framed K kept j (split ∙ ahead-rest d w n.level above lo hi l here inside x others own.address own.body
+            framed K kept j
+            (subst (λ e. Each (IsAhead w d l) (placed_below w n.level above e))
+            (sym (entry-first (entries n) j x q.entry ∙ ap (λ o. in_front x.addr x.body o others) is)) others-later)
+            (split ∙ ahead-rest d w n.level above lo hi l here inside x others own.address own.body
             lawful-others same v is f ∙ sym (ap rows (entry-first (entries n) j x q.entry)))
 
         pub point-passed : before w l (point_at w K) ≡ false → IsResumed d m c n k fs joined (framed_at (j + 1))
         point-passed f =
-            framed K kept (j + 1) (split ∙ passed-rest d w n.level above lo hi l here inside x others own.address own.body lawful-others same v is f)
+            framed K kept (j + 1) others-later (split ∙ passed-rest d w n.level above lo hi l here inside x others own.address own.body lawful-others same v is f)
 
       -- a child
       module _ {y : PlainNode} (is : x.what ≡ node y) where
@@ -298,7 +322,7 @@ module _ {d : ℕ} {m : Mark} {c : Corners} {k : Known} {fs : List Frame} {n : P
 
         -- where nothing of the child is left
         pub child-none : low-rest ≡ [] → IsResumed d m c n k fs joined top
-        child-none e = framed K kept (j + 1) (child-left ∙ ap (λ t. t ++ rows others) e)
+        child-none e = framed K kept (j + 1) others-later (child-left ∙ ap (λ t. t ++ rows others) e)
 
         pub shut-child : is_open w lo hi n.level above x.addr ≡ false → low-rest ≡ []
         shut-child f = shut-rest d w n.level above lo hi l here inside x others own.address own.body lawful-others same y is held f
@@ -315,21 +339,26 @@ module _ {d : ℕ} {m : Mark} {c : Corners} {k : Known} {fs : List Frame} {n : P
         child-more : (e : Known) (new : List Frame) → is_open w lo hi n.level above x.addr ≡ true →
             e.width ≡ k.width → IsPath (IsFrame d (points_of c) (HasMasks c) e.digits) new
             → path_rows (points_of c) e.digits new ≡ low-rest ++ path_rows (points_of c) K top
-            → path_nodes (points_of c) e.digits new ≤ length (touched_below (points_of c) y.level K y.chain) + path_nodes (points_of c) K top
+            → path_nodes (points_of c) e.digits new ≤ length (touched_below (ahead_of c m) y.level K y.chain) + path_nodes (points_of c) K top
             → IsResumed d m c n k fs e new
         child-more e new o p z rs ns =
-            let s : nodes (chained (drop j (entries n))) ≤ nodes (chained (entries n)) = fewer-nodes (points_of c) n.level above (entries n) j in
-            let u : nodes (chained (drop j (entries n))) ≡
-            suc (length (touched_below (points_of c) y.level K y.chain) + nodes others) =
-            ap nodes (entry-first (entries n) j x q.entry) ∙ child-nodes d (points_of c) exact n.level above
-            h.level here.known here.room x own others y is (child-met o) in
+            let s : later_nodes (chained (drop j (entries n))) ≤ later_nodes (chained (entries n)) = fewer-nodes (ahead_of c m) n.level above (entries n) j in
+            let first : later_nodes (chained (drop j (entries n))) ≡ later_nodes (in_front x.addr x.body (node y) others) =
+            ap later_nodes (entry-first (entries n) j x q.entry) ∙ ap (λ o. later_nodes (in_front x.addr x.body o others)) is in
+            let more : length (touched (ahead_of c m) (placed_below w y.level K y.chain ++ placed_below w n.level above others)) ≤
+            later_nodes (in_front x.addr x.body (node y) others) = one-more (λ x. (ahead_of c m).touches x.region)
+            (placed_child w n.level y.level K y.chain) (placed_below w y.level K y.chain ++ placed_below w n.level above others) in
+            let both : length (touched (ahead_of c m) (placed_below w y.level K y.chain ++ placed_below w n.level above others)) ≡
+            length (touched_below (ahead_of c m) y.level K y.chain) + later_nodes others =
+            ap (λ xs. length xs) (filter-append (λ x. (ahead_of c m).touches x.region) (placed_below w y.level K y.chain) (placed_below w n.level above others))
+            ∙ length-append (touched_below (ahead_of c m) y.level K y.chain) (touched_below (ahead_of c m) n.level above others) in
             record {
               width = p;
               way = z;
               rows = rs ∙ ap (λ t. low-rest ++ t) (framed-rows K kept (j + 1)) ∙
                   sym (append_assoc low-rest (rows others) (path_rows (points_of c) k.digits fs)) ∙
                   ap (λ t. t ++ path_rows (points_of c) k.digits fs) (sym child-left);
-              nodes = omega (arith, ns, framed-nodes K kept (j + 1), s, u, chain-whole);
+              nodes = omega (arith, ns, framed-nodes K kept (j + 1), s, first, more, both, all-later others others-later, chain-whole);
             }
 
         -- the child's region holds the point
@@ -357,9 +386,9 @@ module _ {d : ℕ} {m : Mark} {c : Corners} {k : Known} {fs : List Frame} {n : P
             (subst (λ new. IsResumed d m c p joined new z deep) into (subst (λ e. IsResumed d m c p e new z deep) to i)) in
             child-more z deep o f.width f.way
             (f.rows ∙ ap (λ t. rest_of w lo hi l y.level t y.chain ++ path_rows (points_of c) K top) all-known)
-            (let u : length (touched_below (points_of c) y.level (body_above y.level K) y.chain) ≡
-            length (touched_below (points_of c) y.level K y.chain) =
-            ap (λ t. length (touched_below (points_of c) y.level t y.chain)) all-known in omega (arith, f.nodes, u))
+            (let u : length (touched_below (ahead_of c m) y.level (body_above y.level K) y.chain) ≡
+            length (touched_below (ahead_of c m) y.level K y.chain) =
+            ap (λ t. length (touched_below (ahead_of c m) y.level t y.chain)) all-known in omega (arith, f.nodes, u))
 
         -- the region of the child does not hold the point
         module _ (apart : body_above y.level K ≡ body_above y.level m.digits → ⊥) where
@@ -389,6 +418,13 @@ module _ {d : ℕ} {m : Mark} {c : Corners} {k : Known} {fs : List Frame} {n : P
               child-ahead d w n.level above lo hi l here inside x others own.address own.body lawful-others same y is held mark-point out own-point own-in f
               ∙ ap (λ t. window lo hi (rows_behind w y.level t y.chain)) (sym all-known)
 
+          below-later : before w l (point_at w K) ≡ true → Each (IsAhead w d l) (placed_below w y.level K y.chain)
+          below-later f =
+              below-ahead w d l (y.level + 1) y.level 0 K y.chain (omega arith)
+              (above-child d n.level y.level x.addr above x.body held.0 here.known own.body held.1) held.3
+              (λ p e. sym (one-side w d (node_region w y.level K) l (point_at w K) p (omega (arith, held.0, h.level)) mark-point own-point own-in
+              (same-in w y.level (point_at w K) p (ap (from_place (y.level + 1)) (offsets-coordinate w K) ∙ sym e)) out) ∙ f)
+
           -- all of it comes later, and it is entered
           pub child-entered : {e : Known} {new : List Frame} {b : ℕ} (deep : List Frame) (p : NodeRefOf PlainNode)
               (o : Option Masks) → is_open w lo hi n.level above x.addr ≡ true → e ≡ joined → new ≡ top →
@@ -411,8 +447,10 @@ module _ {d : ℕ} {m : Mark} {c : Corners} {k : Known} {fs : List Frame} {n : P
               let u : length (touched_below (points_of c) y.level (body_above y.level K) y.chain) ≡
               length (touched_below (points_of c) y.level K y.chain) =
               ap (λ t. length (touched_below (points_of c) y.level t y.chain)) all-known in
+              let all : length (touched_below (ahead_of c m) y.level K y.chain) ≡ length (touched_below (points_of c) y.level K y.chain) =
+              both-pass (λ x. meets_window w x.region lo hi) (λ x. lies_behind w x.region l) (placed_below w y.level K y.chain) (below-later f) in
               subst (λ e. IsResumed d m c n k fs e deep) (sym to)
-              (child-more joined deep opens refl z.walk.way (z.rows ∙ ap (λ t. t ++ path_rows (points_of c) K top) (sym (child-later f))) (omega (arith, z.nodes, u)))
+              (child-more joined deep opens refl z.walk.way (z.rows ∙ ap (λ t. t ++ path_rows (points_of c) K top) (sym (child-later f))) (omega (arith, z.nodes, u, all)))
 
 -- ---- as the code has it
 

@@ -3,6 +3,7 @@ ghost use Rattle.std.specs.Prelude.{◌≡◌, ◌≢◌, ◌+◌, ◌<◌, ◌�
 ghost use Rattle.ph_specs.specs.TableNames.{IsPoint, rest};
 ghost use Rattle.ph_specs.specs.WorkNames.{meets, path};
 ghost use Rattle.ph_window.specs.Page.{IsLast};
+ghost use Rattle.ph_window.specs.Window.{meets_behind};
 
 use crate::page::{Page, PageOf};
 use crate::window::Window;
@@ -45,7 +46,9 @@ impl<const D: usize> Cursor<D> {
         ensures left { result.left ≡ n }
         ensures cursor { result.cursor ≡ self.now }
         ensures visits { result.visits ≤ length (meets tree.now.width D tree.now.table self.now.lo self.now.hi) }
-        ensures way { IfSome self.now.last (λ p. visits.new ≤ visits.old + length (path tree.now.width D tree.now.table p)) }
+        ensures way { IfSome self.now.last (λ p.
+            (visits.new ≤ visits.old + length (path tree.now.width D tree.now.table p))
+            × (result.visits ≤ length (meets_behind tree.now.width D tree.now.table self.now.lo self.now.hi p))) }
         ensures cost { visits.new ≤ visits.old + tree.now.width }
         ensures first { self.now.last ≡ None → visits.new ≡ visits.old }
         ensures resumed { IsSome self.now.last → tree.now.table ≢ [] → visits.old < visits.new }
@@ -61,7 +64,9 @@ impl<const D: usize> Cursor<D> {
         requires last { IsLast tree.now.width D self.now.last }
         ensures rows { result.rows ≡ rest tree.now.width self.now tree.now.table }
         ensures visits { result.visits ≤ length (meets tree.now.width D tree.now.table self.now.lo self.now.hi) }
-        ensures way { IfSome self.now.last (λ p. visits.new ≤ visits.old + length (path tree.now.width D tree.now.table p)) }
+        ensures way { IfSome self.now.last (λ p.
+            (visits.new ≤ visits.old + length (path tree.now.width D tree.now.table p))
+            × (result.visits ≤ length (meets_behind tree.now.width D tree.now.table self.now.lo self.now.hi p))) }
         ensures cost { visits.new ≤ visits.old + tree.now.width }
         ensures first { self.now.last ≡ None → visits.new ≡ visits.old }
         ensures resumed { IsSome self.now.last → tree.now.table ≢ [] → visits.old < visits.new }

@@ -1,7 +1,7 @@
 //! The rows of a window, one after the other.
 ghost use Rattle.std.specs.Prelude.{◌≡◌, ◌≢◌, ◌+◌, ◌<◌, ◌≤◌, [], length, drop, slice_get, None};
 ghost use Rattle.ph_specs.specs.TableNames.{IsPoint, window, rest};
-ghost use Rattle.ph_window.specs.Window.{behind};
+ghost use Rattle.ph_window.specs.Window.{behind, meets_behind};
 ghost use Rattle.ph_specs.specs.WorkNames.{meets, path};
 
 use crate::corners::CornersOf;
@@ -64,6 +64,7 @@ impl<'t, const D: usize> WindowOf<'t, Dim<D>> {
         requires last { IsPoint tree.now.width D last }
         ensures rows { result.rows ≡ rest tree.now.width (behind lo.entry hi.entry last.entry) tree.now.table }
         ensures visits { result.visits ≤ length (meets tree.now.width D tree.now.table lo.entry hi.entry) }
+        ensures ahead { result.visits ≤ length (meets_behind tree.now.width D tree.now.table lo.entry hi.entry last.entry) }
         ensures way { visits.new ≤ visits.old + length (path tree.now.width D tree.now.table last.entry) }
         ensures cost { visits.new ≤ visits.old + tree.now.width }
         ensures counted { tree.now.table ≢ [] → visits.old < visits.new }

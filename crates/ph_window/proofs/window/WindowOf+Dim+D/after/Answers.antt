@@ -5,7 +5,7 @@ use Rattle.ph_path.specs.Path.{IsPath}
 use Rattle.ph_walk.specs.Walk.{IsFrame}
 use Rattle.ph_window.specs.Corners.{Corners, points_of, HasMasks}
 use Rattle.ph_window.proofs.Starts.{has-window, area-exact, exact}
-use Rattle.ph_window.proofs.Behinds.{IsBehind, root-ready, after-width, after-rows, after-nodes, after-way}
+use Rattle.ph_window.proofs.Behinds.{IsBehind, root-ready, after-width, after-rows, after-nodes, after-ahead, after-way}
 use Rattle.ph_window.proofs.window.WindowOf+Dim+D.after.Given.{Over}
 use Rattle.ph_window.proofs.window.WindowOf+Dim+D.after.Goals.{After-visit-node}
 use Rattle.ph_window.proofs.window.WindowOf+Dim+D.after.Goals as goal
@@ -57,3 +57,8 @@ pub returns-clause-way : goal.returns-clause-way
 returns-clause-way g c =
     let k = from_root g (goal.at.returns-clause-way g c).After-visit-node in
     after-way k c.args.visits.now c.visit-node.new.visits c.resume.new.visits c.visit-node.ensures.shows c.visit-node.ensures.cost c.resume.ensures.way
+
+pub returns-clause-ahead : goal.returns-clause-ahead
+returns-clause-ahead g c =
+    let k = from_root g (goal.at.returns-clause-ahead g c).After-visit-node in
+    omega (arith, c.on_path-2.ensures.visits, after-ahead k c.visit-node.ensures.shows c.resume.ensures.done)
