@@ -37,7 +37,7 @@ rows_visits dims k rows =
     + (if nat_le (length (put_all k.width k.table rows)) k.max then puts_visits k.width dims k.table rows else 0)
 
 -- the most visits of an import: none where the table is empty
-abbrev visits_into : List Row → ℕ → ℕ
+abbrev pub visits_into : List Row → ℕ → ℕ
 visits_into [] n = 0
 visits_into (r ∷ table) n = n
 

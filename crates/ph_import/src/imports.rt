@@ -22,8 +22,7 @@ use std::sync::ledger::Ledger;
 ///
 /// A tree with rows gets one after another, in their order. `NoMemory` leaves the rows in it that were put before, and the last edits
 /// of the tree where there are none. Where it would have room for as many new points as there are rows, none is looked up before;
-/// otherwise that takes memory for a set of the new points. Only nodes on the paths of the rows are visited, and before `Full` only by
-/// those look-ups.
+/// otherwise that takes memory for a set of the new points, and where `Full` comes of it these look-ups are all that is visited.
 pub fn import_rows<const D: usize, V: Ledger, C: Ledger>(
     alloc: Global,
     kept: &mut Kept<D>,

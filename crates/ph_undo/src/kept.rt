@@ -191,8 +191,8 @@ impl<const D: usize> Kept<D> {
     /// Takes the last edit back, and tells whether there was one that could be.
     ///
     /// The inverse is an edit of the tree and may want memory as one. An error leaves the tree and what is kept as they were,
-    /// and the edit can be taken back later. There is always room for the row that comes back. Only nodes on the paths of the edit's own
-    /// points are visited, as by that inverse alone.
+    /// and the edit can be taken back later. There is always room for the row that comes back. No more nodes are visited than by
+    /// that inverse as an edit of the tree.
     pub fn back_one<V: Ledger, C: Ledger>(
         &mut self,
         visits: &mut Steps<V>,

@@ -50,8 +50,8 @@ impl<'t, const D: usize> WindowOf<'t, Dim<D>> {
         }
     }
 
-    /// The same behind a point in Z-order, whether or not it is stored or inside. Visits only nodes on the path to that point, so at
-    /// most as many as a coordinate has bits.
+    /// The same behind a point in Z-order, whether or not it is stored or inside. Visits at most as many nodes as the path to
+    /// that point has, so at most as many as a coordinate has bits.
     pub fn after<V: Ledger>(
         tree: &'t PhTree<D>,
         lo: Point<D>,
