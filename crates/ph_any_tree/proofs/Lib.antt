@@ -10,3 +10,4 @@ pub mod Shelves
 pub mod Frames
 pub mod Imports
 pub mod Cursors
+mod Within

@@ -11,6 +11,7 @@ use Rattle.ph_specs.specs.Sets.{pairs, combine}
 use Rattle.ph_specs.specs.Past.{without_past}
 use Rattle.ph_specs.specs.Table.{Row}
 use Rattle.ph_specs.specs.WorkSets.{all_nodes, join_visits, combine_visits}
+use Rattle.ph_join.specs.Joining.{one_of}
 use Rattle.ph_any_tree.specs.Listing.{Lists}
 use Rattle.ph_any_tree.specs.Tables.{AnyTable, table_at}
 use Rattle.ph_any_tree.specs.declared.answer.Answer.{Answer}
@@ -22,11 +23,11 @@ use Rattle.ph_any_tree.specs.declared.answer.Stop.{Stop}
 abbrev pub pair_said : Row × Row → Reply
 pair_said p = Reply.PairIs p.0 p.1
 
--- the pairs of two tables, with exactly the visits of their join
+-- the pairs of two tables, for at most the visits of their join, and at least the root of the first
 abbrev pub ListsPairs : AnyTable → AnyTable → Taken → Taken → ℕ → ℕ → Result Answer Stop → Type 0
 ListsPairs t u sink now_sink visits now_visits result =
     let n = join_visits t.tree.width t.dims t.tree.table u.tree.table in
-    Lists (pair_listing (pairs t.tree.table u.tree.table)) n n sink now_sink visits now_visits result
+    Lists (pair_listing (pairs t.tree.table u.tree.table)) (one_of (length (all_nodes t.tree.width t.dims t.tree.table))) n sink now_sink visits now_visits result
 
 -- ---- set operations
 

@@ -13,6 +13,7 @@ use Rattle.ph_specs.specs.Engine.{same_slots}
 use Rattle.ph_specs.specs.Named.{lookup}
 use Rattle.ph_specs.specs.Window.{Cursor}
 use Rattle.ph_specs.specs.Refusals.{refusal, bytes_of, import_rows}
+use Rattle.ph_join.specs.Joining.{one_of}
 use Rattle.ph_import.specs.Imported.{most_visits, most_changes}
 use Rattle.ph_specs.specs.State.{Slot, Engine, Files, current, other}
 
@@ -84,9 +85,9 @@ bounds s files (Command.Back n) = work (6 * s.width * n) 0 (4 * n) n
 bounds s files Command.Statistics = let n = nodes_of s in work n n 0 0
 bounds s files _ = no_work
 
--- those of a join: as many visits as it takes, whatever it finds
+-- those of a join: at most what a window for each row takes, and the root of the first tree at least
 abbrev pub join_bounds : Slot → Slot → Work
-join_bounds a b = let n = join_visits a.width a.dims a.table b.table in work n n 0 0
+join_bounds a b = work (join_visits a.width a.dims a.table b.table) (one_of (nodes_of a)) 0 0
 
 -- those of a set operation: exactly as many visits as it takes where it is done, and a change for each node of its result
 abbrev pub combine_bounds : SetOperation → Slot → Slot → Work

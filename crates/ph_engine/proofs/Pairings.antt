@@ -19,7 +19,8 @@ use Rattle.ph_specs.specs.Sets.{pairs, combine}
 use Rattle.ph_specs.specs.State.{Slot, Engine, Files, current, other, slot_at, other_at, put_slot, with_slot, outcome}
 use Rattle.ph_specs.specs.Table.{Row, has}
 use Rattle.ph_specs.specs.Window.{Cursor}
-use Rattle.ph_specs.specs.WorkSets.{join_visits, combine_visits}
+use Rattle.ph_specs.specs.WorkSets.{all_nodes, join_visits, combine_visits}
+use Rattle.ph_join.specs.Joining.{one_of}
 use Rattle.ph_specs.proofs.laws.WindowRest.{Each-filter}
 use Rattle.ph_set.specs.declared.error.SetFault.{SetFault}
 use Rattle.ph_set.specs.declared.error.SetFault.TheVariants.{Full, NoMemory}
@@ -73,9 +74,10 @@ module _ (e : Engine) (sink now_sink : Taken) (result : Result Answer Stop) wher
       JoinsSlots e.a e.b sink now_sink visits now_visits result → DoneBeside e Command.Join sink now_sink visits now_visits result
   join-done visits now_visits h l =
       let n = join_visits e.a.width e.a.dims e.a.table e.b.table in
+      let least = one_of (length (all_nodes e.a.width e.a.dims e.a.table)) in
       let ps = pairs e.a.table e.b.table in
       record {
-        done = λ most files filings changes. listing-beside e Command.Join (pair_listing ps) n n sink now_sink files filings visits now_visits changes
+        done = λ most files filings changes. listing-beside e Command.Join (pair_listing ps) least n sink now_sink files filings visits now_visits changes
             (λ most files fault. ap (by_slots most files fault) h ∙ join-on-slot most (current e) files fault)
             (λ files. refl) (λ files. refl) most result refl (pairs-good ps) l;
       }

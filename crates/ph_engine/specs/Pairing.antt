@@ -8,6 +8,7 @@ use Rattle.ph_specs.specs.Reply.{Reply}
 use Rattle.ph_specs.specs.Sets.{pairs, combine}
 use Rattle.ph_specs.specs.State.{Slot, with_new_table}
 use Rattle.ph_specs.specs.WorkSets.{all_nodes, join_visits, combine_visits}
+use Rattle.ph_join.specs.Joining.{one_of}
 use Rattle.ph_script.specs.declared.reply.Reply.{Reply as Told}
 use Rattle.ph_script.specs.Meaning.{reply_of}
 use Rattle.ph_any_tree.specs.Listing.{Lists}
@@ -19,7 +20,7 @@ use Rattle.ph_any_tree.specs.declared.answer.Stop.{Stop}
 abbrev pub JoinsSlots : Slot → Slot → Taken → Taken → ℕ → ℕ → Result Answer Stop → Type 0
 JoinsSlots a b sink now_sink visits now_visits result =
     let n = join_visits a.width a.dims a.table b.table in
-    Lists (pair_listing (pairs a.table b.table)) n n sink now_sink visits now_visits result
+    Lists (pair_listing (pairs a.table b.table)) (one_of (length (all_nodes a.width a.dims a.table))) n sink now_sink visits now_visits result
 
 -- ---- the same of two slots
 

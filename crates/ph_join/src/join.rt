@@ -1,7 +1,8 @@
 //! The pairs of overlapping boxes of two trees, one after another.
-ghost use Rattle.std.specs.Prelude.{◌≡◌, ◌*◌, ◌+◌, ◌≤◌, drop, slice_get, None};
+ghost use Rattle.std.specs.Prelude.{◌≡◌, ◌*◌, ◌+◌, ◌≤◌, length, drop, slice_get, None};
 ghost use Rattle.ph_specs.specs.TableNames.{AreBoxes, pairs};
-ghost use Rattle.ph_specs.specs.WorkNames.{join_visits};
+ghost use Rattle.ph_specs.specs.WorkNames.{all_nodes, join_visits};
+ghost use Rattle.ph_join.specs.Joining.{one_of};
 
 use crate::partners::{Partners, PartnersOf, next_of};
 use crate::seen::{AsRow, AsTree};
@@ -46,6 +47,7 @@ impl<'t, const K: usize, const D: usize> JoinOf<'t, Dim<D>, Row<D>, &'t PhTree<D
         requires seconds { AreBoxes second.now.table }
         ensures pairs { result.pairs ≡ pairs first.now.table second.now.table }
         ensures visits { result.visits ≡ join_visits first.now.width D first.now.table second.now.table }
+        ensures owed { result.owed ≡ one_of (length (all_nodes first.now.width D first.now.table)) }
     {
         // A use that makes known that the rows are those of a table.
         let _root = first.root();
@@ -61,9 +63,9 @@ impl<'t, const K: usize, const D: usize> JoinOf<'t, Dim<D>, Row<D>, &'t PhTree<D
     pub fn next<V: Ledger>(&mut self, visits: &mut Steps<V>) -> Option<(Row<D>, Row<D>)>
         ensures pair { result ≡ slice_get self.old.pairs 0 }
         ensures rest { self.new.pairs ≡ drop 1 self.old.pairs }
-        ensures cost { visits.new + self.new.visits ≡ visits.old + self.old.visits }
-        ensures grows { visits.old ≤ visits.new }
-        ensures end { result ≡ None → self.new.visits ≡ 0 }
+        ensures cost { visits.new + self.new.visits ≤ visits.old + self.old.visits }
+        ensures grows { visits.old + self.old.owed ≤ visits.new + self.new.owed }
+        ensures end { result ≡ None → self.new.owed ≡ 0 }
     {
         'pairs: loop {
             if let Some(pair) = next_of(&mut self.at, visits) {

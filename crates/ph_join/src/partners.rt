@@ -28,7 +28,7 @@ impl<'t, P: Dims, R: AsRow + Drop> Model for PartnersOf<'t, P, R> {
 
     ghost Value = { Joining };
 
-    ghost view = { λ a. record { pairs = paired (R.seen a.first) a.seconds.rows; visits = a.seconds.visits } };
+    ghost view = { λ a. record { pairs = paired (R.seen a.first) a.seconds.rows; visits = a.seconds.visits; owed = 0 } };
 }
 
 impl<'t, const D: usize> PartnersOf<'t, Dim<D>, Row<D>> {
