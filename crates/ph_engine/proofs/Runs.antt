@@ -1,9 +1,10 @@
 -- A run over the pieces of a source, from what one piece leads to.
-use Rattle.std.proofs.Common.{◌≡◌, ℕ, ◌+◌, ◌≤◌, inl, inr, Bool, true, false, ◌||◌, List, [], ◌∷◌, ◌++◌, length, take, drop, refl, ap, sym, ◌∙◌}
+use Rattle.std.proofs.Common.{◌≡◌, ℕ, ◌+◌, ◌<◌, ◌≤◌, inl, inr, Bool, true, false, ◌||◌, List, [], ◌∷◌, ◌++◌, length, take, refl, ap, sym, ◌∙◌}
 use Rattle.std.proofs.Common.{append_assoc, append-nil, arith}
-use Rattle.std.specs.Prelude.{Ok, Err}
+use Rattle.std.specs.Prelude.{◌⊎◌, Ok, Err}
 use Rattle.std.specs.declared.option.Option.{Option}
-use Rattle.std.proofs.lemmas.List.{take-take, take-append-drop}
+use Rattle.std.proofs.lemmas.Bool.{cases_lt}
+use Rattle.std.proofs.lemmas.List.{take_all}
 use Rattle.std.specs.Io.KnownBytes.{Consumes, IsAtEnd, Keeps}
 use Rattle.ph_io.specs.Giving.{Given}
 use Rattle.ph_engine.specs.Beside.{Beside}
@@ -112,7 +113,7 @@ end-halted m most left now_left b now_b last_b s now kept refused taken h w a me
   done = h.fed.done;
   last = turn h.fed.rest met;
   more = [];
-  taken = inr (a, fed-lines m s now h.bytes kept b now_b refused h.fed ∙ ap (λ t. lines_of h.fed.done ++ t) some);
+  taken = inr (omega (arith, h.count), a, fed-lines m s now h.bytes kept b now_b refused h.fed ∙ ap (λ t. lines_of h.fed.done ++ t) some);
   spent = spent_both m s now h.fed.done (turn h.fed.rest met ∷ []) b now_b last_b h.fed.state h.fed.worked.spent spent;
 }
 
@@ -195,8 +196,8 @@ stop-lines bytes done line more e u v =
     ap whole_lines e ∙ whole-ended (done ++ line ∷ []) more (all-append _ done (line ∷ []) u (rw v refl)) ∙ append_assoc done (line ∷ []) (whole_lines more)
 
 module _ {S : Type 0} (m : Machine S) (most : ℕ) (left now_left : Option (List ℕ)) (b now_b : Beside) (s : S)
-    (bytes : List ℕ) (c : Consumes left now_left bytes) (w : length bytes ≤ most + 1) where
-  abbrev stop-halted : Halted m s [] bytes b now_b → HaltedAt m most left now_left b now_b s
+    (bytes early : List ℕ) (c : Consumes left now_left bytes) (w : length bytes ≤ most + 1) (e : take most bytes ≡ early) where
+  abbrev stop-halted : Halted m s [] early b now_b → HaltedAt m most left now_left b now_b s
   stop-halted h = record {
     bytes = bytes;
     consumed = c;
@@ -204,32 +205,42 @@ module _ {S : Type 0} (m : Machine S) (most : ℕ) (left now_left : Option (List
     done = h.done;
     last = h.last;
     more = whole_lines h.more;
-    taken = inl (stop-lines bytes (lines_of h.done) h.last.line h.more h.split h.unbroken_done h.unbroken_line);
+    taken = inl (ap whole_lines e ∙ stop-lines early (lines_of h.done) h.last.line h.more h.split h.unbroken_done h.unbroken_line);
     spent = h.spent;
   }
 
-  stop-or : (kept : List ℕ) (now : S) (stop : Stop) → FedOr m s [] bytes b now_b now kept (Err stop) →
+  stop-or : (kept : List ℕ) (now : S) (stop : Stop) → FedOr m s [] early b now_b now kept (Err stop) →
       Outcome m most left now_left b now_b s now (stop_status stop)
   stop-or kept now WriteFault h = record { at = stop-halted h.at; count = h.count; short = h.short; told = h.told; state = h.state }
   stop-or kept now NoMemory h = inr (record { at = stop-halted h.at; part = h.part; told = h.told; state = h.state; wanted = h.wanted })
 
-front-rest : (piece : List ℕ) (front count : ℕ) → front ≤ count → take front piece ++ drop front (take count piece) ≡ take count piece
-front-rest piece front count h = ap (λ t. t ++ drop front (take count piece)) (sym (take-take front count piece h)) ∙ take-append-drop front (take count piece)
+-- the bytes within the limit are those of the piece's front
+early-bytes : (bytes piece : List ℕ) (most front count : ℕ) → front ≤ count → count ≤ length piece →
+    (most < length bytes + count → length bytes + front ≡ most) → (length bytes + count ≤ most → front ≡ count) →
+    take most (bytes ++ take count piece) ≡ bytes ++ take front piece
+early-bytes bytes piece most front count f w long short = by-case (cases_lt most (length bytes + count))
+  where
+    by-case : (most < length bytes + count) ⊎ (length bytes + count ≤ most) → take most (bytes ++ take count piece) ≡ bytes ++ take front piece
+    by-case (inl h) = take_within bytes piece most front count f w (long h)
+    by-case (inr h) = take_all most (bytes ++ take count piece) (omega (arith, h, length_more bytes piece count (length bytes) refl w)) ∙
+        ap (λ n. bytes ++ take n piece) (sym (short h))
 
 -- a line of the piece ends the run
 pub stopped : {S : Type 0} (m : Machine S) (most : ℕ) (left middle now_left : Option (List ℕ))
     (b now_b last_b : Beside) (s now last : S) (kept next piece fresh : List ℕ) (refused : Bool)
     (taken count front : ℕ) (stop : Stop) → Reached m left middle b now_b s now kept refused taken →
     Consumes middle now_left (take count piece) → count ≤ length piece → front ≤ count → fresh ≡ take front piece →
-    taken + count ≤ most + 1 → Feeds m now kept fresh now_b last_b last next (Err stop) →
+    taken + count ≤ most + 1 → (most < taken + count → taken + front ≡ most) → (taken + count ≤ most → front ≡ count) →
+    Feeds m now kept fresh now_b last_b last next (Err stop) →
     Outcome m most left now_left b last_b s last (stop_status stop)
-stopped m most left middle now_left b now_b last_b s now last kept next piece fresh refused taken count front stop h c w f e o k =
-    stop-or m most left now_left b last_b s (h.bytes ++ take count piece)
+stopped m most left middle now_left b now_b last_b s now last kept next piece fresh refused taken count front stop h c w f e o long short k =
+    stop-or m most left now_left b last_b s (h.bytes ++ take count piece) (h.bytes ++ take front piece)
     (consumes_both left middle now_left h.bytes (take count piece) h.consumed c)
-    (omega (arith, length_more h.bytes piece count taken h.count w)) next last stop
-    (then-stopped m s [] h.bytes fresh (drop front (take count piece)) (h.bytes ++ take count piece) kept next b now_b last_b now last refused stop h.fed k
-    (append_assoc h.bytes fresh (drop front (take count piece)) ∙
-    ap (λ t. h.bytes ++ t) (ap (λ t. t ++ drop front (take count piece)) e ∙ front-rest piece front count f)))
+    (omega (arith, length_more h.bytes piece count taken h.count w))
+    (early-bytes h.bytes piece most front count f w
+    (λ x. omega (arith, long (omega (arith, x, h.count)), h.count)) (λ x. short (omega (arith, x, h.count)))) next last stop
+    (then-stopped m s [] h.bytes fresh [] (h.bytes ++ take front piece) kept next b now_b last_b now last refused stop h.fed k
+    (append-nil (h.bytes ++ fresh) ∙ ap (λ t. h.bytes ++ t) e))
 
 -- ---- memory is missing before the first read
 

@@ -34,11 +34,11 @@ pub record Exceeded {S : Type 0} (m : Machine S) (most : ℕ) (left now_left : O
   pub over : length bytes ≡ most + 1
   pub answered : Answers m (whole_lines (take most bytes)) b now_b s now
 
--- The bytes that a run took have these lines: those that a line feed ends, or at the end of the source all of them.
-abbrev pub HasLines : Option (List ℕ) → List ℕ → List (List ℕ) → Type 0
-HasLines now_left bytes ls = (whole_lines bytes ≡ ls) ⊎ (IsAtEnd now_left × (lines bytes ≡ ls))
+-- The bytes that a run took have these lines within the limit: those that a line feed ends, or at the end of a source that has no more bytes all of them.
+abbrev pub HasLines : ℕ → Option (List ℕ) → List ℕ → List (List ℕ) → Type 0
+HasLines most now_left bytes ls = (whole_lines (take most bytes) ≡ ls) ⊎ ((length bytes ≤ most) × IsAtEnd now_left × (lines bytes ≡ ls))
 
--- A line was not answered whole. The lines before it were answered.
+-- A line was not answered whole. The lines before it were answered. It is within the limit. One byte more was taken only where it came with a line feed that ends this line.
 pub record HaltedAt {S : Type 0} (m : Machine S) (most : ℕ) (left now_left : Option (List ℕ)) (b now_b : Beside) (s : S) : Type 0 where
   pub bytes : List ℕ
   pub consumed : Consumes left now_left bytes
@@ -46,7 +46,7 @@ pub record HaltedAt {S : Type 0} (m : Machine S) (most : ℕ) (left now_left : O
   pub done : List Turn
   pub last : Turn
   pub more : List (List ℕ)
-  pub taken : HasLines now_left bytes (lines_of done ++ last.line ∷ more)
+  pub taken : HasLines most now_left bytes (lines_of done ++ last.line ∷ more)
   pub spent : Spent m s (done ++ last ∷ []) b now_b
 
 -- A write failed in the answer to it, of which `count` bytes were written.

@@ -65,7 +65,8 @@ returns-in-Err-clause-outcome g c known fits =
           (stopped m c.args.limits.now.script_bytes _ _ _ _ _ _ _ _ _ c.pieces.lines c.feed.new.lines c.fill.new.piece
           _ c.pieces.refused c.pieces.taken c.in-Ok.count c.min-fresh.result c.in-Err.stop
           before.1 c.in-Ok.ensures.bytes.0 (omega (arith, c.in-Ok.ensures.room)) (omega (arith, c.min-fresh.ensures))
-          refl (omega (arith, c.in-Ok.ensures.most, c.pieces.invariant.within)) fed.1),
+          refl (omega (arith, c.in-Ok.ensures.most, c.pieces.invariant.within))
+          (λ h. omega (arith, h, c.min-fresh.ensures, c.pieces.invariant.within)) (λ h. omega (arith, h, c.min-fresh.ensures)) fed.1),
     )
 
 pub returns-then-fresh-count-clause-outcome : goal.returns-then-fresh-count-clause-outcome
