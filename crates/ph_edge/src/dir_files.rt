@@ -186,6 +186,14 @@ fn gather<W: Write>(file: &mut W, gathered: &mut Vec<u8>, piece: &[u8]) -> io::R
     }
 }
 
+/// Whether a file is known to be longer than it may be. A size that is not told, or that grows later, is found out as it is read.
+fn is_over<F: OpenFile>(file: &F, most: u64) -> bool {
+    match file.metadata() {
+        Ok(found) => found.len() > most,
+        Err(_) => false,
+    }
+}
+
 /// Makes `into` the bytes of an open file, which may be `most`.
 fn read_file<F: Read>(file: &mut F, most: u64, into: &mut Vec<u8>) -> Result<(), FetchFault>
     ensures within { OnOk result (length into.new.items ≤ most) }
@@ -228,6 +236,7 @@ impl<'r, R: rt::Files, W: Write + Drop> Files for DirFiles<'r, R, W> {
         ensures is_begun { self.new.is_begun ≡ self.old.is_begun }
     {
         let fetched = match open_regular(self.rt, name) {
+            Ok(file) if is_over(&file, most) => Err(FetchFault::Over),
             Ok(mut file) => read_file(&mut file, most, into),
             Err(_) => Err(FetchFault::Failed),
         };

@@ -26,7 +26,7 @@ use Rattle.ph_engine.specs.Answering.{Said, SaysOr}
 use Rattle.ph_engine.specs.ScriptMachine.{Whole, whole, told_now, told_then, files_found, files_met, file_by, files_in, reading_in}
 use Rattle.ph_engine.specs.ScriptMachine.{script_step, cut_by, starved_by, wants_by, uses_by, work_by, script_machine}
 use Rattle.ph_engine.specs.Beside.{Beside, AreTold, IsTold, StillTells, Filings}
-use Rattle.ph_engine.specs.Doing.{Done, DoneOr, HoldsFound, Knows, Leads, file_read, uses_files, cut_engine, starved_engine}
+use Rattle.ph_engine.specs.Doing.{Done, DoneOr, HoldsFound, Knows, Leads, file_read, uses_files, cut_engine, starved_engine, wants_memory}
 use Rattle.ph_io.specs.Writing.{WritesFront}
 use Rattle.ph_engine.specs.Serving.{StaysKnown}
 use Rattle.ph_any_tree.specs.declared.answer.Answer.{Answer}
@@ -235,7 +235,9 @@ module _ (most : ℕ) (e now : Engine) (known : Option Files) (line : List ℕ) 
           state = ap (λ x. whole x (told_now known now_b.files)) (u.state (met_with u.found) (knows u.found)) ∙
               ap (whole (starved_engine e (met_with u.found) command u.part))
               (known-kept known b.files now_b.files fits u.kept) ∙ sym c;
-          wanted = ap (wants_by s) (h (met u.fault u.found)) ∙ u.wanted;
+          wanted = ap (wants_by most s (files_in s t) u.fault) (h (met u.fault u.found)) ∙
+              ap (λ f. wants_memory most e f u.fault command) (files-are s t command (h (met u.fault u.found))) ∙
+              u.wanted (met_with u.found) (knows u.found);
           spent = one-spent (script_machine most) s t b now_b (work_of most e (met_with u.found) u.fault command)
               (work-is u.fault u.found (h (met u.fault u.found)))
               (filed most s t command b now_b u.fault (h (met u.fault u.found)) u.counted)

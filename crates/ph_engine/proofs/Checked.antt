@@ -31,7 +31,6 @@ use Rattle.ph_engine.specs.Filing.{TellsFault, TellsUnfetched}
 use Rattle.ph_any_tree.specs.Loading.{IsWithinBytes}
 use Rattle.ph_any_tree.specs.Telling.{is_refusal, StopHasCause, ToldOr}
 use Rattle.ph_any_tree.specs.Working.{one_if}
-use Rattle.ph_engine.specs.ScriptMachine.{told_files}
 use Rattle.ph_any_tree.specs.Tables.{AnyTable}
 use Rattle.ph_engine.specs.Statuses.{IsRead}
 use Rattle.ph_any_tree.specs.declared.answer.Answer.{Answer}
@@ -41,7 +40,7 @@ use Rattle.ph_any_tree.specs.declared.answer.Stop.{Stop}
 use Rattle.ph_any_tree.specs.declared.answer.Stop.TheVariants as stop
 use Rattle.ph_engine.proofs.OwnDims.{own-dims}
 use Rattle.ph_engine.proofs.OwnHeaders.{own-none}
-use Rattle.ph_engine.proofs.Filed.{fetched, fetch-load, has-fetched, absent, over, long_bytes, failed-once, failed-never}
+use Rattle.ph_engine.proofs.Filed.{fetched, fetch-load, has-fetched, found_short, met-short, short-there, absent, over, long_bytes, failed-once, failed-never}
 
 -- ---- bytes
 
@@ -187,6 +186,12 @@ module _ (sink now_sink : Taken) (line : List ℕ) where
   unwritten-of (Err stop.WriteFault) g e = absurd (let clash : WriteFault ≡ Memory = e in cc)
   unwritten-of (Err stop.NoMemory) g e = g
 
+  starved-of : (result : Result Answer Stop) → status_of result ≡ Memory → result ≡ Err stop.NoMemory
+  starved-of (Ok answer.Good) e = absurd (let clash : Clean ≡ Memory = e in cc)
+  starved-of (Ok answer.Refused) e = absurd (let clash : Refused ≡ Memory = e in cc)
+  starved-of (Err stop.WriteFault) e = absurd (let clash : WriteFault ≡ Memory = e in cc)
+  starved-of (Err stop.NoMemory) e = refl
+
 -- a status of a failed write is that of an answer with its cause
 pub write-rose : (before now : ℕ) (result : Result Answer Stop) → StopHasCause before now result → status_of result ≡ WriteFault → Rose before now
 write-rose before now (Ok answer.Good) h e = absurd (let clash : Clean ≡ WriteFault = e in cc)
@@ -245,21 +250,16 @@ none-line most files file h = ap (λ o. line_of (words_of_file o)) (none-of (fet
     none-of None h = refl
     none-of (Some b) h = absurd (let clash : false ≡ true = h in cc)
 
--- files that may have been met where it is found what those that are told have
-told-met : (told : Option Files) (file : List ℕ) (files : Files) → Meets told file (lookup file (told_files told)) files →
-    lookup file files ≡ lookup file (told_files told)
-told-met told file files (inl e) = ap (λ o. lookup file (told_files o)) (sym e)
-told-met told file files (inr h) = h
-
 module _ (most : ℕ) (file : List ℕ) (told now_told : Option Files) (f now_f : ℕ) (sink now_sink : Taken) where
   -- by the line, which is that of the definition for the files that may have been met
   done-by : (v now_v c now_c : ℕ) (fault : Bool) (found : Option (List ℕ)) (line : List ℕ) (result : Result Answer Stop) →
       Filings true (one_if fault) f now_f → Stays told now_told →
+      ((files : Files) → Meets told file found files → result ≡ Err stop.NoMemory → (fault ≡ false) × (is_none (fetch most files file) ≡ false)) →
       ((files : Files) → Meets told file found files → check_line most files fault file ≡ line) → LineGiven sink now_sink line result →
       ((files : Files) → Meets told file found files → result ≡ Ok answer.Good → FileHasSizes files file line) →
       IsBounded (result ≡ Ok answer.Good) most file told found v now_v c now_c →
       CheckDone most file (beside_sink sink told f v c) (beside_sink now_sink now_told now_f now_v now_c) (status_of result)
-  done-by v now_v c now_c fault found line result n k is g sizes b = record {
+  done-by v now_v c now_c fault found line result n k there is g sizes b = record {
     fault = fault;
     found = found;
     counted = n;
@@ -270,6 +270,7 @@ module _ (most : ℕ) (file : List ℕ) (told now_told : Option Files) (f now_f 
     cleans = λ files m e. ap is_refusal (is files m) ∙ clean-of sink now_sink line result g e;
     cut = λ files m e. subst (WritesFront sink now_sink) (sym (is files m)) (cut-of sink now_sink line result g e);
     unwritten = unwritten-of sink now_sink line result g;
+    wanted = λ files m e. there files m (starved-of sink now_sink line result e);
     saved = λ files m e. subst (FileHasSizes files file) (sym (is files m)) (sizes files m (good-of sink now_sink line result e));
     own_dims = λ files m. own-dims most files fault file;
     kept_visits = b.kept_visits;
@@ -290,21 +291,24 @@ module _ (most : ℕ) (file : List ℕ) (told now_told : Option Files) (f now_f 
   unread-by : {E : Type 0} (v c : ℕ) (fault : Bool) (found : Option (List ℕ)) (reply : Result Told E) (result : Result Answer Stop) →
       Filings true (one_if fault) f now_f → Stays told now_told →
       ((files : Files) → Meets told file found files → check_line most files fault file ≡ reply_text Reply.ErrorFile) →
-      IsReplyTo (reply_text Reply.ErrorFile) reply → ToldOr sink now_sink reply result →
+      IsReplyTo (reply_text Reply.ErrorFile) reply → (result ≡ Err stop.NoMemory → ⊥) → ToldOr sink now_sink reply result →
       CheckDone most file (beside_sink sink told f v c) (beside_sink now_sink now_told now_f v c) (status_of result)
-  unread-by v c fault found reply result n k is r t =
+  unread-by v c fault found reply result n k is r never t =
       let given : LineGiven sink now_sink (reply_text Reply.ErrorFile) result = reply-given sink now_sink (reply_text Reply.ErrorFile) reply result r t in
-      done-by v v c c fault found (reply_text Reply.ErrorFile) result n k is given
+      done-by v v c c fault found (reply_text Reply.ErrorFile) result n k (λ files m e. absurd (never e)) is given
       (λ files m. never-good sink now_sink (reply_text Reply.ErrorFile) result refl given)
       (no-work (result ≡ Ok answer.Good) most file told found v c)
 
   -- memory was missing
-  starved-by : (v c : ℕ) → now_f ≡ f → Stays told now_told → now_sink ≡ sink →
+  starved-by : (v c : ℕ) (bytes : List ℕ) → Fetches told file most bytes (Err unread.NoMemory) → now_f ≡ f →
+      Stays told now_told → now_sink ≡ sink →
       CheckDone most file (beside_sink sink told f v c) (beside_sink now_sink now_told now_f v c) Memory
-  starved-by v c n k s =
-      done-by v v c c false (lookup file (told_files told)) (check_line most (told_files told) false file) (Err stop.NoMemory)
+  starved-by v c bytes g n k s =
+      let met = met-short (Command.Load file) file (fetch-load file) told in
+      done-by v v c c false (found_short told file) (line_of (words_of_file (short_enough most (found_short told file)))) (Err stop.NoMemory)
       (failed-never f now_f (omega (arith, n))) k
-      (λ files m. ap (λ o. line_of (words_of_file (short_enough most o))) (told-met told file files m)) s
+      (λ files m e. (refl, short-there most file bytes told files g (met files m)))
+      (λ files m. ap (λ o. line_of (words_of_file (short_enough most o))) (met files m)) s
       (λ files m e. cc) (no-work _ most file told _ v c)
 
 module _ {E : Type 0} (most : ℕ) (file bytes : List ℕ) (told now_told : Option Files) (f now_f : ℕ)
@@ -313,13 +317,23 @@ module _ {E : Type 0} (most : ℕ) (file bytes : List ℕ) (told now_told : Opti
   error-line (Ok r) fault h = ap reply_text (sym h.1)
   error-line (Err error) fault h = tt
 
+  -- a file that was not there, or could not be read, wants no memory
+  unread-told : (reply : Result Told E) (result : Result Answer Stop) (fault : FetchFault) → TellsUnfetched fault reply →
+      (fault ≡ unread.NoMemory → ⊥) → ToldOr sink now_sink reply result → result ≡ Err stop.NoMemory → ⊥
+  unread-told (Ok r) (Ok answer) fault h never t e = cc
+  unread-told (Ok r) (Err why) fault h never t e =
+      let written : why ≡ stop.WriteFault = t.0 in
+      let answered : Result Answer Stop = Err stop.WriteFault in
+      let clash : answered ≡ Err stop.NoMemory = sym (ap Err written) ∙ e in cc
+  unread-told (Err error) result fault h never t e = never h
+
   starved-told : (reply : Result Told E) (result : Result Answer Stop) → TellsUnfetched unread.NoMemory reply →
-      ToldOr sink now_sink reply result → now_f ≡ f → Stays told now_told →
+      Fetches told file most bytes (Err unread.NoMemory) → ToldOr sink now_sink reply result → now_f ≡ f → Stays told now_told →
       CheckDone most file (beside_sink sink told f v c) (beside_sink now_sink now_told now_f v c) (status_of result)
-  starved-told (Ok r) result h t n k = absurd (h.0 refl)
-  starved-told (Err error) (Ok answer) h t n k = absurd t
-  starved-told (Err error) (Err stop.WriteFault) h t n k = absurd (let clash : stop.WriteFault ≡ stop.NoMemory = t.0 in cc)
-  starved-told (Err error) (Err stop.NoMemory) h t n k = starved-by most file told now_told f now_f sink now_sink v c n k t.1
+  starved-told (Ok r) result h g t n k = absurd (h.0 refl)
+  starved-told (Err error) (Ok answer) h g t n k = absurd t
+  starved-told (Err error) (Err stop.WriteFault) h g t n k = absurd (let clash : stop.WriteFault ≡ stop.NoMemory = t.0 in cc)
+  starved-told (Err error) (Err stop.NoMemory) h g t n k = starved-by most file told now_told f now_f sink now_sink v c bytes g n k t.1
 
   -- No file was read. In place of one that was too long some bytes that are too many stand as what was found.
   pub unfetched-done : (fault : FetchFault) → TellsUnfetched fault reply → Fetches told file most bytes (Err fault) →
@@ -327,19 +341,19 @@ module _ {E : Type 0} (most : ℕ) (file bytes : List ℕ) (told now_told : Opti
       CheckDone most file (beside_sink sink told f v c) (beside_sink now_sink now_told now_f v c) (status_of result)
   unfetched-done unread.Failed h g n k t =
       unread-by most file told now_told f now_f sink now_sink v c true None reply result (failed-once f now_f n.0 n.1) k
-      (λ files m. refl) (error-line reply unread.Failed h) t
+      (λ files m. refl) (error-line reply unread.Failed h) (unread-told reply result unread.Failed h (λ no. cc) t) t
   unfetched-done unread.Absent h g n k t =
       unread-by most file told now_told f now_f sink now_sink v c false None reply result
       (failed-never f now_f (omega (arith, n))) k
       (λ files m. none-line most files file (absent (Command.Load file) file (fetch-load file) most bytes told files g m))
-      (error-line reply unread.Absent h) t
+      (error-line reply unread.Absent h) (unread-told reply result unread.Absent h (λ no. cc) t) t
   unfetched-done unread.Over h g n k t =
       let long : Option (List ℕ) = Some (long_bytes (Command.Load file) file (fetch-load file) most) in
       unread-by most file told now_told f now_f sink now_sink v c false long reply result
       (failed-never f now_f (omega (arith, n))) k
       (λ files m. none-line most files file (over (Command.Load file) file (fetch-load file) most bytes told files g m))
-      (error-line reply unread.Over h) t
-  unfetched-done unread.NoMemory h g n k t = starved-told reply result h t n k
+      (error-line reply unread.Over h) (unread-told reply result unread.Over h (λ no. cc) t) t
+  unfetched-done unread.NoMemory h g n k t = starved-told reply result h g t n k
 
 -- a file was read, and its bytes were checked
 pub fetched-done : (most : ℕ) (file bytes : List ℕ) (told now_told : Option Files) (f now_f : ℕ)
@@ -356,7 +370,8 @@ fetched-done most file bytes told now_told f now_f sink now_sink v now_v c now_c
     let is : (files : Files) → Meets told file (Some bytes) files → fetch most files file ≡ Some bytes =
     λ files m. fetched most files file bytes (has files m) short in
     done-by most file told now_told f now_f sink now_sink v now_v c now_c false (Some bytes) (line_of (words_of_snapshot bytes)) result
-    (failed-never f now_f (omega (arith, n))) k (λ files m. ap (λ o. line_of (words_of_file o)) (is files m)) line
+    (failed-never f now_f (omega (arith, n))) k (λ files m e. (refl, ap is_none (is files m)))
+    (λ files m. ap (λ o. line_of (words_of_file o)) (is files m)) line
     (λ files m e. record { bytes = bytes; found = has files m; sizes = sizes e })
     (record {
       kept_visits = visits.kept;

@@ -205,6 +205,16 @@ pub record IsFetch (command : Command) (name : List ℕ) : Type 0 where
 pub fetched : (most : ℕ) (files : Files) (name bytes : List ℕ) → lookup name files ≡ Some bytes → length bytes ≤ most → fetch most files name ≡ Some bytes
 fetched most files name bytes l h = ap (short_enough most) l ∙ ap (λ b. if b then Some bytes else None) (le-leb (length bytes) most h)
 
+-- files of which this one was to be read where memory was missing: nothing is known of them, or it is there and not too long
+abbrev pub found_short : Option Files → List ℕ → Option (List ℕ)
+found_short None name = Some []
+found_short (Some files) name = lookup name files
+
+pub short-there : (most : ℕ) (name bytes : List ℕ) (told : Option Files) (files : Files) →
+    Fetches told name most bytes (Err by.NoMemory) → lookup name files ≡ found_short told name → is_none (fetch most files name) ≡ false
+short-there most name bytes None files g l = ap is_none (fetched most files name [] l (omega arith))
+short-there most name bytes (Some known) files g l = ap is_none (fetched most files name g.0 (l ∙ g.1) g.2)
+
 pub unfetched : (most : ℕ) (files : Files) (name bytes : List ℕ) (fault : FetchFault) → (fault ≡ by.NoMemory → ⊥) →
     (fault ≡ by.Failed → ⊥) → Fetches (Some files) name most bytes (Err fault) → is_none (fetch most files name) ≡ true
 unfetched most files name bytes by.Failed n m h = absurd (m refl)
@@ -276,6 +286,11 @@ module _ (command : Command) (name : List ℕ) (k : IsFetch command name) where
       (false || is_none (fetch most files name)) ≡ true
   over most bytes told files g (inl e) = unfetched most files name bytes by.Over (λ no. cc) (λ no. cc) (rw e at g)
   over most bytes told files g (inr h) = long-there most files (holds (Some (long_bytes most)) files h)
+
+  -- files that it may have met have what those that are told have, or the file that was to be read
+  pub met-short : (told : Option Files) (files : Files) → Knows command told (found_short told name) files → lookup name files ≡ found_short told name
+  met-short told files (inl e) = sym (ap (λ o. found_short o name) e)
+  met-short told files (inr h) = holds (found_short told name) files h
 
   -- files that it may have met have the bytes that were read
   pub has-fetched : (most : ℕ) (bytes : List ℕ) (told : Option Files) (files : Files) →
@@ -350,18 +365,19 @@ module _ (command : Command) (name : List ℕ) (k : IsFetch command name) where
 
     starved : (told now_told : Option Files) (found : Option (List ℕ)) (now : Engine) (part : ℕ) →
         Stays told now_told → now_f ≡ f →
+        ((files : Files) → Knows command told found files → is_none (fetch most files name) ≡ false) →
         ((files : Files) → Knows command told found files → now ≡ starved_engine (engine_of s) files command part) →
         ((files : Files) → Knows command told found files →
         IsAtMost (work_of most (engine_of s) files false command) v now_v c now_c) →
         Unfiled most (engine_of s) command (aside told f v c) (aside now_told now_f now_v now_c) now
-    starved told now_told found now part st e is few = record {
+    starved told now_told found now part st e there is few = record {
       fault = false;
       found = found;
       counted = rw k.uses (failed-never f now_f (omega (arith, e)));
       part = part;
       state = is;
       kept = λ files x. still-told told now_told files st x;
-      wanted = rw ((alone (engine_of s) command k.on_slot).1, k.early s) (k.takes s);
+      wanted = λ files x. rw ((alone (engine_of s) command k.on_slot).1, k.early s, k.faulty most files false ∙ there files x) (k.takes s);
       most_work = few;
     }
 
@@ -371,17 +387,21 @@ module _ (command : Command) (name : List ℕ) (k : IsFetch command name) where
         FiledOr most (engine_of s) command (aside told f v c) (aside now_told now_f now_v now_c) (engine_of s) result
     unfetched-filed-or told now_told fault (Ok reply) t g counts st h i = rw t.1 (unfetched-filed told now_told fault t.0 g counts st h i)
     unfetched-filed-or told now_told fault (Err error) t g counts st h i =
-        starved told now_told None (engine_of s) 0 st (rw t at counts) (λ files x. sym (k.none_in s files)) (λ files x. fetch-idle files false h i)
+        starved told now_told (found_short told name) (engine_of s) 0 st (rw t at counts)
+        (λ files x. short-there most name bytes told files (rw t at g) (met-short told files x))
+        (λ files x. sym (k.none_in s files)) (λ files x. fetch-idle files false h i)
 
     -- memory was missing behind a file that was read
     pub fetched-starved : (told now_told : Option Files) (now : Engine) (part : ℕ) →
-        Fetches told name most bytes (Ok tt) → Stays told now_told → now_f ≡ f →
+        Fetches told name most bytes (Ok tt) → length bytes ≤ most → Stays told now_told → now_f ≡ f →
         ((files : Files) → lookup name files ≡ Some bytes → now ≡ starved_engine (engine_of s) files command part) →
         ((files : Files) → lookup name files ≡ Some bytes →
         IsAtMost (work_of most (engine_of s) files false command) v now_v c now_c) →
         Unfiled most (engine_of s) command (aside told f v c) (aside now_told now_f now_v now_c) now
-    fetched-starved told now_told now part g st e is few =
-        starved told now_told (Some bytes) now part st e (λ files x. is files (has-fetched most bytes told files g x)) (λ files x. few files (has-fetched most bytes told files g x))
+    fetched-starved told now_told now part g short st e is few =
+        starved told now_told (Some bytes) now part st e
+        (λ files x. ap is_none (fetched most files name bytes (has-fetched most bytes told files g x) short))
+        (λ files x. is files (has-fetched most bytes told files g x)) (λ files x. few files (has-fetched most bytes told files g x))
 
 -- ---- load
 
@@ -456,6 +476,6 @@ module _ (most : ℕ) (kind : Kind) (t : AnyTable) (cursors : Named Cursor) (nam
       (load-most few) (omega arith) later (λ files l rows is. made rows (read-rows files l rows is))
   read-filed-or told now_told now (Err error) g short st e h later few made =
       fetched-starved (Command.Load name) name (fetch-load name) most (slot_of kind t cursors) bytes f now_f v v c
-      now_c told now_told (engine_of (slot_of kind now cursors)) 0 g st e
+      now_c told now_told (engine_of (slot_of kind now cursors)) 0 g short st e
       (λ files l. ap (λ x. engine_of (slot_of kind x cursors)) h)
       (load-most few)

@@ -167,7 +167,8 @@ unfiled-lifted most e s cmd b now_b h d = record {
   part = d.part;
   state = λ files k. ap (λ x. with_slot e (current x)) (d.state files k) ∙ starved-lifted e files cmd d.part;
   kept = d.kept;
-  wanted = ap (λ t. t && slot_wants (current e) cmd) ((alone e cmd h).1 ∙ sym (alone (engine_of (current e)) cmd h).1) ∙ d.wanted;
+  wanted = λ files k. ap (λ t. t && slot_wants most (current e) files d.fault cmd)
+      ((alone e cmd h).1 ∙ sym (alone (engine_of (current e)) cmd h).1) ∙ d.wanted files k;
   most_work = λ files k. subst (λ w. IsAtMost w b.visits now_b.visits b.changes now_b.changes) (sym (work-lifted most e files d.fault cmd h)) (d.most_work files k);
 }
 

@@ -291,7 +291,7 @@ near-done most kind t cursors q n sink now_sink files filings v now_v changes (E
     part = 0;
     state = λ files k. refl;
     kept = λ known k. told-told files files known refl k;
-    wanted = rw (h, lt-ltb 0 n listed.some) (lt-ltb 0 (length t.tree.table) listed.filled);
+    wanted = λ files x. rw (h, lt-ltb 0 n listed.some) (lt-ltb 0 (length t.tree.table) listed.filled);
     most_work = λ files k. record { few_visits = listed.few; few_changes = omega arith };
   };
   told = rw listed.unwritten (given_none sink);

@@ -162,7 +162,7 @@ module _ (operation : SetOperation) where
         part = 0;
         state = λ files x. ap (with_slot e) h.stays ∙ same e;
         kept = λ files x. told-told told told files refl x;
-        wanted = rw (h.together, combine-early (current e)) refl;
+        wanted = λ files x. rw (h.together, combine-early (current e)) refl;
         most_work = λ files x. record { few_visits = k.few; few_changes = h.few };
       };
     }

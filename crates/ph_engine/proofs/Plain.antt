@@ -1,5 +1,5 @@
 -- What a command does to a slot of points it does to one of boxes, where it is not refused.
-use Rattle.std.proofs.Common.{◌≡◌, ℕ, Bool, true, List, [], ◌∷◌, refl, rules, ap, sym, subst, ◌∙◌}
+use Rattle.std.proofs.Common.{◌≡◌, ℕ, Bool, true, false, List, [], ◌∷◌, refl, rules, ap, sym, subst, ◌∙◌}
 use Rattle.std.specs.Prelude.{ℤ, Option, Some, None}
 use Rattle.ph_specs.specs.declared.Kind.{Kind}
 use Rattle.ph_specs.specs.declared.Kind.TheVariants.{Points, Boxes}
@@ -7,7 +7,7 @@ use Rattle.ph_specs.specs.Command.{Command}
 use Rattle.ph_specs.specs.Named.{Named}
 use Rattle.ph_specs.specs.Reply.{Reply}
 use Rattle.ph_specs.specs.State.{Slot, Engine, Files, Outcome, current}
-use Rattle.ph_specs.specs.Refusals.{refusal, or_else}
+use Rattle.ph_specs.specs.Refusals.{refusal, or_else, has_file_fault}
 use Rattle.ph_specs.specs.Engine.{act, effect, unless_refused}
 use Rattle.ph_specs.specs.Window.{Cursor}
 use Rattle.ph_any_tree.specs.Served.{DoesAt, takes_memory}
@@ -36,6 +36,7 @@ pub record IsPlain (command : Command) : Type 0 where
       engine_bounds (engine_of (slot_of Boxes t cursors)) files command ≡
       engine_bounds (engine_of (slot_of Points t cursors)) files command
   pub takes : (t : AnyTable) (cursors : Named Cursor) → takes_memory (slot_of Boxes t cursors) command ≡ takes_memory (slot_of Points t cursors) command
+  pub no_file : (most : ℕ) (files : Files) (fault : Bool) → has_file_fault most files fault command ≡ false
   pub no_part : (e : Engine) (files : Files) → starved_engine e files command 0 ≡ e
   pub no_load : (s : Slot) (files : Files) → rows_loaded s files command ≡ None
 
@@ -124,5 +125,6 @@ takes-at Boxes t cursors command p = p.takes t cursors
 
 pub wants-at : (kind : Kind) (t : AnyTable) (cursors : Named Cursor) (command : Command) → IsPlain command →
     early_refusal (slot_of kind t cursors) command ≡ None → takes_memory (slot_of Points t cursors) command ≡ true →
-    wants_memory (engine_of (slot_of kind t cursors)) command ≡ true
-wants-at kind t cursors command p h w = rw ((alone (engine_of (slot_of kind t cursors)) command p.on_slot).1, h) (takes-at kind t cursors command p ∙ w)
+    (most : ℕ) (files : Files) (fault : Bool) → wants_memory most (engine_of (slot_of kind t cursors)) files fault command ≡ true
+wants-at kind t cursors command p h w most files fault =
+    rw ((alone (engine_of (slot_of kind t cursors)) command p.on_slot).1, h, p.no_file most files fault) (takes-at kind t cursors command p ∙ w)

@@ -134,7 +134,7 @@ module _ (most : ℕ) (kind : Kind) (t : AnyTable) (cursors : Named Cursor) (nam
       (import-most few less) later kept (λ files l rows is. absurd (let no : None ≡ Some rows = is in cc))
   imported-filed-or told now_told now (Err error) g short st e h later few kept less =
       fetched-starved (Command.Import name header) name (fetch-import name header) most (slot_of kind t cursors) bytes
-      f now_f v now_v c now_c told now_told (engine_of (slot_of kind now cursors)) h.0 g st e
+      f now_f v now_v c now_c told now_told (engine_of (slot_of kind now cursors)) h.0 g short st e
       (λ files l.
       ap (λ x. engine_of (slot_of kind x cursors)) h.1
       ∙ ap (λ read. engine_of (slot_of kind (table_with_first t h.0 read) cursors)) (sym (read-is kind t cursors files name bytes header l))

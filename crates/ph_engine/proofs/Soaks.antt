@@ -1,7 +1,6 @@
 -- A run of generated commands, one more at a time, from what each of them answers.
-use Rattle.std.proofs.Common.{◌≡◌, ◌≤◌, ◌<◌, ◌+◌, ◌-◌, ◌%◌, ◌^◌, ℕ, zero, suc, inl, inr, arith, Bool, true, false, List, [], ◌∷◌, ◌++◌, length, take}
+use Rattle.std.proofs.Common.{◌≡◌, ◌≤◌, ◌<◌, ◌+◌, ◌-◌, ◌%◌, ◌^◌, ℕ, zero, suc, inl, inr, arith, Bool, true, false, List, [], ◌∷◌, ◌++◌, length}
 use Rattle.std.proofs.Common.{refl, ap, sym, ◌∙◌, append_assoc, append-nil}
-use Rattle.std.proofs.lemmas.Grind.{common_steps}
 use Rattle.std.specs.Prelude.{Option, Some, None, nat_le, ◌&&◌, slice_index_or, codes, decimal, pos, ◌+ℤ◌}
 use Rattle.std.specs.List.{list_all}
 use Rattle.std.proofs.lemmas.Bool.Decides.{nat_tests}
@@ -20,7 +19,7 @@ use Rattle.ph_specs.specs.State.{Slot, Engine, Files, outcome, current, with_slo
 use Rattle.ph_specs.specs.Stats.{Stats, stats}
 use Rattle.ph_specs.specs.Engine.{act, after, effect, unless_refused}
 use Rattle.ph_engine.specs.Beside.{Beside, alone, beside, Tells}
-use Rattle.ph_engine.specs.Doing.{Done, Undone, Leads, Knows, HoldsFound, file_read, starved_engine}
+use Rattle.ph_engine.specs.Doing.{Done, Undone, Unfiled, Leads, Knows, HoldsFound, file_read, starved_engine, wants_memory}
 use Rattle.ph_any_tree.specs.Working.{Work, one_if, work_of, nodes_of, IsAtMost, IsAtLeast}
 use Rattle.ph_engine.specs.Soaking.{is_drawn, AreDrawn, sum_work, visits_most, Soaked, SoakedInPart, SoakDone}
 use Rattle.ph_any_tree.specs.declared.answer.Answer.{Answer}
@@ -240,17 +239,31 @@ soak_next most e now next all command rest start b now_b answer untold none stan
       soaked = soaked;
     }
 
+-- the command for which memory was missing wants it
+starved-wants : (most : ℕ) (now : Engine) (command : Command) (b now_b : Beside) (next : Engine) (files : Files) →
+    b.files ≡ None → b.filings ≡ 0 → now_b.filings ≡ 0 → is_drawn command ≡ true → Unfiled most now command b now_b next →
+    wants_memory most now files false command ≡ true
+starved-wants most now command b now_b next files untold none stand drawn d =
+    let f : d.fault ≡ false = no-fault d.fault (let t : Tells b.filings now_b.filings (one_if d.fault) = d.counted.told in rw (none, stand) at t) in
+    ap (λ x. wants_memory most now files x command) (sym f) ∙ d.wanted files (drawn-knows command b.files d.found files drawn)
+
 pub soak_starved : (most : ℕ) (e now next : Engine) (all : List Command) (command : Command) (rest : List Command)
-    (start b now_b : Beside) → b.files ≡ None → SoakedSoFar most e all start b now (command ∷ rest) →
+    (start b now_b : Beside) → b.files ≡ None → b.filings ≡ 0 → now_b.filings ≡ 0 →
+    SoakedSoFar most e all start b now (command ∷ rest) →
     Undone most now command b now_b next → SoakedInPart most e all start now_b next
-soak_starved most e now next all command rest start b now_b untold h d =
+soak_starved most e now next all command rest start b now_b untold none stand h d =
     let drawn = both-first (is_drawn command) (list_all is_drawn rest) h.drawn in
     let knows = λ (files : Files). drawn-knows command b.files d.unfiled.found files drawn in
     let stays : next ≡ now = d.unfiled.state [] (knows []) ∙ drawn-starved now [] command d.unfiled.part drawn in
-    let front : take (length h.finished) all ≡ h.finished = ap (take (length h.finished)) (sym h.cut) ∙ take-front h.finished (command ∷ rest) in
     record {
-      count = length h.finished;
-      led = λ files. stays ∙ (h.soaked files).led ∙ ap (λ x. (act_all most e files x).engine) (sym front);
+      stopped = record {
+        finished = h.finished;
+        next = command;
+        rest = rest;
+        all = sym h.cut;
+        led = λ files. stays ∙ (h.soaked files).led;
+        wanted = λ files. rw stays (starved-wants most now command b now_b next files untold none stand drawn d.unfiled);
+      };
       most_visits = λ files.
           let s = h.soaked files in
           let w = d.unfiled.most_work files (knows files) in
@@ -262,9 +275,6 @@ soak_starved most e now next all command rest start b now_b untold h d =
           let behind = sum-behind (λ w. w.most_changes) most e now files h.finished command rest s.led s.kept in
           omega (arith, s.most_changes, w.few_changes, behind, ap (sum_work (λ w. w.most_changes) most e files) h.cut);
     }
-  where
-    take-front : (xs ys : List Command) → take (length xs) (xs ++ ys) ≡ xs
-    take-front xs ys = grind (arith, common_steps)
 
 -- ---- the line
 
@@ -322,7 +332,7 @@ module _ {most n start : ℕ} {e now : Engine} {line : List ℕ} {visits now_vis
     cut = λ files s. absurd cc;
     none = λ s. absurd cc;
     engine = λ files s. (h.soaked files).led;
-    part = λ s. absurd cc;
+    stopped = λ s. absurd cc;
     most_visits = few-visits;
     most_changes = λ files. (h.soaked files).most_changes;
     least_visits = λ files s. omega (arith, (h.soaked files).least_visits, h.sized);
@@ -337,7 +347,7 @@ module _ {most n start : ℕ} {e now : Engine} {line : List ℕ} {visits now_vis
     cut = λ files s. rw (sym (line-is files)) front;
     none = λ s. absurd cc;
     engine = λ files s. (h.soaked files).led;
-    part = λ s. absurd cc;
+    stopped = λ s. absurd cc;
     most_visits = few-visits;
     most_changes = λ files. (h.soaked files).most_changes;
     least_visits = λ files s. absurd cc;

@@ -56,7 +56,7 @@ module _ (kind : Kind) (t : AnyTable) (cursors : Named Cursor) (n : ℕ) where
       part = g.part;
       state = λ files x. rw (lt-ltb g.part n g.fewer) (ap (λ y. engine_of (slot_of kind y cursors)) g.went.state);
       kept = λ files x. told-told told told files refl x;
-      wanted = let k = kind-of-back kind n in let some : 0 < n = omega (arith, g.fewer) in
+      wanted = λ files x. let k = kind-of-back kind n in let some : 0 < n = omega (arith, g.fewer) in
           rw (k.0, k.1, lt-ltb 0 n some, le-leb n (length t.tree.past) h) refl;
       most_work = λ files x. record {
         few_visits = most-begun v now_v t.tree.width g.part n g.fewer g.went.few_visits;

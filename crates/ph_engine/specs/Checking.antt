@@ -1,5 +1,5 @@
 -- What a check of a file does.
-use Rattle.std.specs.Prelude.{◌≡◌, ◌≤◌, ◌⊎◌, ℕ, ◌+◌, ◌/◌, Bool, true, false, List, [], ◌∷◌, ◌++◌, length, slice_index, codes, decimal, Option, Some}
+use Rattle.std.specs.Prelude.{◌≡◌, ◌≤◌, ◌⊎◌, ℕ, ◌+◌, ◌/◌, Bool, true, false, List, [], ◌∷◌, ◌++◌, length, slice_index, codes, decimal, Option, Some, is_none}
 use Rattle.std.specs.Prelude.{None, Result, Ok, Err}
 use Rattle.ph_io.specs.Causes.{Rose}
 use Rattle.ph_io.specs.Giving.{Taken, Given}
@@ -98,6 +98,7 @@ pub record CheckDone (most : ℕ) (file : List ℕ) (b now_b : Beside) (status :
   pub cleans : (files : Files) → Meets b.files file found files → status ≡ Clean → is_refusal (check_line most files fault file) ≡ false
   pub cut : (files : Files) → Meets b.files file found files → status ≡ WriteFault → WritesFront b.sink now_b.sink (check_line most files fault file)
   pub unwritten : status ≡ Memory → now_b.sink ≡ b.sink
+  pub wanted : (files : Files) → Meets b.files file found files → status ≡ Memory → (fault ≡ false) × (is_none (fetch most files file) ≡ false)
   pub saved : (files : Files) → Meets b.files file found files → status ≡ Clean → FileHasSizes files file (check_line most files fault file)
   pub own_dims : (files : Files) → Meets b.files file found files → check_line most files fault file ≡ reply_text Reply.BadDims → ⊥
   pub kept_visits : b.visits ≤ now_b.visits

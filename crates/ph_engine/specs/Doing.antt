@@ -1,5 +1,5 @@
 -- What a command of the code does, by the definition of commands.
-use Rattle.std.specs.Prelude.{◌≡◌, ◌⊎◌, ◌<◌, ◌≤◌, ℕ, ◌+◌, Bool, true, false, ◌&&◌, ◌||◌, nat_lt, if◌then◌else◌, List, [], ◌∷◌, length, take}
+use Rattle.std.specs.Prelude.{◌≡◌, ◌⊎◌, ◌<◌, ◌≤◌, ℕ, ◌+◌, Bool, true, false, not, ◌&&◌, ◌||◌, nat_lt, if◌then◌else◌, List, [], ◌∷◌, length, take}
 use Rattle.std.specs.Prelude.{Option, Some, None, is_none, Result, Ok, Err}
 use Rattle.ph_io.specs.Giving.{Taken, Given}
 use Rattle.ph_specs.specs.Command.{Command}
@@ -7,7 +7,7 @@ use Rattle.ph_specs.specs.Reply.{Reply, replies_text}
 use Rattle.ph_specs.specs.Table.{Row}
 use Rattle.ph_specs.specs.Sets.{put_all}
 use Rattle.ph_specs.specs.Past.{back}
-use Rattle.ph_specs.specs.Refusals.{import_rows, table_read}
+use Rattle.ph_specs.specs.Refusals.{has_file_fault, import_rows, table_read}
 use Rattle.ph_import.specs.Imported.{with_some}
 use Rattle.ph_specs.specs.State.{Slot, Engine, Files, Outcome, outcome, past_in, with_past, current, other, with_slot}
 use Rattle.ph_specs.specs.Engine.{act}
@@ -127,18 +127,18 @@ abbrev pub MakesNodes : Slot → Files → Command → ℕ → ℕ → Type 0
 MakesNodes s files command changes now_changes =
     (rows : List Row) → rows_loaded s files command ≡ Some rows → now_changes ≤ changes + length (all_nodes s.width s.dims rows)
 
--- whether it may want memory on a slot: it takes some, and is not refused before
-abbrev pub slot_wants : Slot → Command → Bool
-slot_wants s command = is_none (early_refusal s command) && takes_memory s command
+-- whether it may want memory on a slot: it takes some, and is refused for no cause before, nor for its file, which is there, not too long and read without a fault
+abbrev pub slot_wants : ℕ → Slot → Files → Bool → Command → Bool
+slot_wants most s files fault command = is_none (early_refusal s command) && not (has_file_fault most files fault command) && takes_memory s command
 
 -- whether both slots go together, where a command knows both and takes memory
 abbrev pub goes_together : Engine → Command → Bool
 goes_together e (Command.Combine operation) = is_none (frame_refusal (current e) (other e))
 goes_together e _ = true
 
--- whether it may want memory in an engine
-abbrev pub wants_memory : Engine → Command → Bool
-wants_memory e command = goes_together e command && slot_wants (current e) command
+-- whether it may want memory in an engine, with files of at most so many bytes, where the files fail in it or do not
+abbrev pub wants_memory : ℕ → Engine → Files → Bool → Command → Bool
+wants_memory most e files fault command = goes_together e command && slot_wants most (current e) files fault command
 
 -- a command that makes a slot another one, without any work
 pub record Begun (s : Slot) (command : Command) (now : Slot) (reply : Reply) : Type 0 where
@@ -211,7 +211,7 @@ pub record Unfiled (most : ℕ) (e : Engine) (command : Command) (b now_b : Besi
   pub part : ℕ
   pub state : (files : Files) → Knows command b.files found files → now ≡ starved_engine e files command part
   pub kept : (files : Files) → IsTold b.files files → StillTells b.files now_b.files files
-  pub wanted : wants_memory e command ≡ true
+  pub wanted : (files : Files) → Knows command b.files found files → wants_memory most e files fault command ≡ true
   pub most_work : (files : Files) → Knows command b.files found files → IsAtMost (work_of most e files fault command) b.visits now_b.visits b.changes now_b.changes
 
 -- The same, and nothing was written.

@@ -67,9 +67,9 @@ abbrev pub starved_by : Whole → Files → ℕ → Reading → Whole
 starved_by s files part (Do command) = whole (starved_engine s.engine files command part) s.files
 starved_by s files part _ = s
 
-abbrev pub wants_by : Whole → Reading → Bool
-wants_by s (Do command) = wants_memory s.engine command
-wants_by s _ = false
+abbrev pub wants_by : ℕ → Whole → Files → Bool → Reading → Bool
+wants_by most s files fault (Do command) = wants_memory most s.engine files fault command
+wants_by most s files fault _ = false
 
 abbrev pub uses_by : Reading → Bool
 uses_by (Do command) = uses_files command
@@ -86,7 +86,7 @@ script_machine most = record {
   next = λ s t. let o = script_step most s t in whole o.engine (told_then s.files o.files);
   cut = λ s t. cut_by most s (files_in s t) t.met.fault (reading_in s t);
   starved = λ s t part. starved_by s (files_in s t) part (reading_in s t);
-  wants = λ s t. wants_by s (reading_in s t);
+  wants = λ s t. wants_by most s (files_in s t) t.met.fault (reading_in s t);
   uses = λ s t. uses_by (reading_in s t);
   work = λ s t. work_by most s (files_in s t) t.met.fault (reading_in s t);
 }

@@ -1,5 +1,5 @@
 -- What a run of generated commands leaves, over a sink that only counts.
-use Rattle.std.specs.Prelude.{◌≡◌, ◌≤◌, ◌⊎◌, ℕ, ◌+◌, Bool, true, false, List, [], ◌∷◌, take, Result, Ok, Err}
+use Rattle.std.specs.Prelude.{◌≡◌, ◌≤◌, ◌⊎◌, ℕ, ◌+◌, Bool, true, false, List, [], ◌∷◌, ◌++◌, Result, Ok, Err}
 use Rattle.std.specs.List.{list_all}
 use Rattle.ph_io.specs.Causes.{Rose}
 use Rattle.ph_io.specs.Giving.{Given}
@@ -12,6 +12,7 @@ use Rattle.ph_specs.specs.Engine.{act}
 use Rattle.ph_specs.specs.State.{Engine, Files}
 use Rattle.ph_engine.specs.Beside.{Beside, without_files}
 use Rattle.ph_any_tree.specs.Working.{Work, work_of, nodes_of}
+use Rattle.ph_engine.specs.Doing.{wants_memory}
 use Rattle.ph_engine.specs.Seen.{Seen}
 use Rattle.ph_engine.specs.declared.status.Status.{Status}
 use Rattle.ph_engine.specs.declared.status.Status.TheVariants.{Clean, WriteFault, Memory}
@@ -57,10 +58,18 @@ pub record Soaked (most : ℕ) (e : Engine) (files : Files) (commands : List Com
   pub least_visits : b.visits + visits_least most e files commands ≤ now_b.visits
   pub least_changes : b.changes + changes_least most e files commands ≤ now_b.changes
 
--- Memory was missing behind some first commands. No more work was done than all of them may do.
+-- Memory was missing behind some first commands, for the next one, which may want it.
+pub record StoppedBehind (most : ℕ) (e : Engine) (commands : List Command) (now : Engine) : Type 0 where
+  pub finished : List Command
+  pub next : Command
+  pub rest : List Command
+  pub all : commands ≡ finished ++ next ∷ rest
+  pub led : (files : Files) → now ≡ (act_all most e files finished).engine
+  pub wanted : (files : Files) → wants_memory most now files false next ≡ true
+
+-- The same, and no more work was done than all of them may do.
 pub record SoakedInPart (most : ℕ) (e : Engine) (commands : List Command) (b now_b : Beside) (now : Engine) : Type 0 where
-  pub count : ℕ
-  pub led : (files : Files) → now ≡ (act_all most e files (take count commands)).engine
+  pub stopped : StoppedBehind most e commands now
   pub most_visits : (files : Files) → now_b.visits ≤ b.visits + visits_most most e files commands
   pub most_changes : (files : Files) → now_b.changes ≤ b.changes + changes_most most e files commands
 
@@ -76,7 +85,7 @@ pub record SoakDone (most n start : ℕ) (e now_e : Engine) (b now_b : Beside) (
   pub cut : (files : Files) → status ≡ WriteFault → WritesFront b.sink now_b.sink (soak_line most e files n start)
   pub none : status ≡ Memory → Given b.sink now_b.sink []
   pub engine : (files : Files) → (status ≡ Clean) ⊎ (status ≡ WriteFault) → now_e ≡ (soaked most e files n start).engine
-  pub part : status ≡ Memory → (k : ℕ) × ((files : Files) → now_e ≡ (act_all most (opened e files) files (take k (generate n start))).engine)
+  pub stopped : status ≡ Memory → StoppedBehind most (opened e []) (generate n start) now_e
   pub most_visits : (files : Files)
       → now_b.visits ≤ b.visits + visits_most most (opened e files) files (generate n start) + nodes_of (soaked most e files n start).engine.a
   pub most_changes : (files : Files) → now_b.changes ≤ b.changes + changes_most most (opened e files) files (generate n start)

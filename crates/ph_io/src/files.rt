@@ -18,7 +18,7 @@ pub enum FetchFault {
     /// The file has more bytes than it may have.
     #[error("Over")]
     Over,
-    /// There was no memory for the file's bytes.
+    /// There was no memory for the file's bytes, of which there are no more than there may be.
     #[error("NoMemory")]
     NoMemory,
 }
@@ -41,8 +41,9 @@ pub trait Files {
     /// How often a call has failed. A count that stands at 2^64 - 1 may stay there.
     ghost faults: { Self → ℕ };
 
-    /// Makes `into` the bytes of a file, which may be `most`. It grows as the file is read. After
-    /// an error it holds any bytes, and the files are as they were.
+    /// Makes `into` the bytes of a file, which may be `most`. It grows as the file is read. A file
+    /// that is absent or too long wants no memory. After an error it holds any bytes, and the files
+    /// are as they were.
     fn fetch(&mut self, name: &str, most: u64, into: &mut Vec<u8>) -> Result<(), FetchFault>
         requires { length name.now ≤ 255 }
         ensures fetches { Fetches (files self.old) name.now most into.new.items result }

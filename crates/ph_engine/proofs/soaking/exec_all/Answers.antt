@@ -14,5 +14,5 @@ commands-preserved g c =
 
 pub returns-in-Err-NoMemory : goal.returns-in-Err-NoMemory
 returns-in-Err-NoMemory g c =
-    soak_starved c.args.limits.now.file_bytes c.args.eng.now c.commands.eng c.exec_by.new.self c.args.commands (command_of c.in-Some.command) c.next.new.self _ _ _ refl
+    soak_starved c.args.limits.now.file_bytes c.args.eng.now c.commands.eng c.exec_by.new.self c.args.commands (command_of c.in-Some.command) c.next.new.self _ _ _ refl refl refl
     (rw c.in-Some.ensures.next at c.commands.invariant) (rw c.in-Err-NoMemory.field-0-is at c.in-Err-NoMemory.ensures.done)
