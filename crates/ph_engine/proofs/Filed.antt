@@ -147,7 +147,7 @@ filed-served most kind t now cursors command (Err error) told f v now_v c now_c 
   part = 0;
   state = λ files k. ap (λ x. engine_of (slot_of kind x cursors)) h.stays ∙ sym (p.no_part (engine_of (slot_of kind t cursors)) files);
   kept = λ files k. told-told told told files refl k;
-  wanted = wants-at kind t cursors command p u (h.wanted cursors);
+  wanted = λ files x. wants-at kind t cursors command p u (h.wanted cursors) most files false;
   most_work = λ files k. work-at (λ w. IsAtMost w v now_v c now_c) kind t cursors command p u (h.most cursors) most files false;
 }
 
