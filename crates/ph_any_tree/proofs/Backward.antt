@@ -1,6 +1,6 @@
 -- Edits that are taken back one by one.
 use Rattle.std.proofs.Common.{◌≡◌, Bool, true, false, ℕ, zero, suc, ◌+◌, ◌-◌, ◌*◌, ◌<◌, ◌≤◌, List, [], ◌∷◌, length, drop, refl, ◌∙◌, ap, arith}
-use Rattle.std.specs.Prelude.{slice_get, unwrap_or, Result, Ok}
+use Rattle.std.specs.Prelude.{min, slice_get, unwrap_or, Result, Ok}
 use Rattle.std.proofs.lemmas.List.{drop-drop}
 use Rattle.ph_specs.specs.Table.{Row}
 use Rattle.ph_specs.specs.Past.{Past, back}
@@ -29,17 +29,15 @@ some-past k i l h = some k.past i l h
     some (x ∷ xs) zero l h = absurd cc
     some (x ∷ xs) (suc i) l h = some xs i (omega (arith, l)) h
 
--- its visits
-pub visits-next : (before now next w u i : ℕ) → now ≤ before + 6 * w * i → next ≤ now + 6 * u → u ≡ w → next ≤ before + 6 * w * (i + 1)
-visits-next before now next w u i h k e =
-    let more : 6 * w * (i + 1) ≡ 6 * w * i + 6 * w = omega arith in
-    omega (arith, h, k, e, more)
+-- within two bounds
+pub within-both : (v now_v a b : ℕ) → now_v ≤ v + a → now_v ≤ v + b → now_v ≤ v + min a b
+within-both v now_v a b h k = omega (arith, h, k)
 
-pub visits-part : (before now next w u i n : ℕ) → now ≤ before + 6 * w * i → next ≤ now + 6 * u → u ≡ w → i < n → next ≤ before + 6 * w * n
-visits-part before now next w u i n h k e l =
-    let left : n ≡ i + 1 + (n - (i + 1)) = omega (arith, l) in
-    let all : 6 * w * n ≡ 6 * w * i + 6 * w + 6 * w * (n - (i + 1)) = ap (λ x. 6 * w * x) left ∙ omega arith in
-    omega (arith, h, k, e, all)
+-- its visits
+pub visits-next : (before now next w u i : ℕ) → now ≤ before + 5 * w * i → next ≤ now + 5 * u → u ≡ w → next ≤ before + 5 * w * (i + 1)
+visits-next before now next w u i h k e =
+    let more : 5 * w * (i + 1) ≡ 5 * w * i + 5 * w = omega arith in
+    omega (arith, h, k, e, more)
 
 -- an answer that is not false is true
 pub told-true : {E : Type 0} (r : Result Bool E) (b : Bool) → r ≡ Ok b → (r ≡ Ok false → ⊥) → r ≡ Ok true

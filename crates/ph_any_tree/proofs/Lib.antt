@@ -6,6 +6,7 @@ pub mod Asked
 pub mod Compared
 pub mod Far
 pub mod Backward
+pub mod Differing
 pub mod Shelves
 pub mod Frames
 pub mod Imports

@@ -1,7 +1,7 @@
 -- Listings, row by row.
 use Rattle.std.proofs.Common.{◌≡◌, ◌≤◌, ◌+◌, ℕ, zero, suc, Bool, true, false, List, [], ◌∷◌, ◌++◌, length, map, take, drop, refl, ap, sym, ◌∙◌, subst}
 use Rattle.std.proofs.Common.{arith}
-use Rattle.std.specs.Prelude.{◌↔◌, ◌<◌, ◌≢◌, IsSome, ℤ, Option, Some, None, Ok, Err, Result, IfOk, IfErr, OnOk, OnErr, slice_get, filter}
+use Rattle.std.specs.Prelude.{◌↔◌, ◌<◌, ◌≢◌, IsSome, IfSome, ℤ, Option, Some, None, Ok, Err, Result, IfOk, IfErr, OnOk, OnErr, slice_get, filter}
 use Rattle.std.specs.Prelude.{if◌then◌else◌}
 use Rattle.std.specs.List.{list_all}
 use Rattle.std.proofs.lemmas.Bool.{and_parts}
@@ -9,6 +9,8 @@ use Rattle.ph_io.specs.Giving.{Taken, Given}
 use Rattle.ph_io.specs.declared.streams.Sink.{Ghosts as SinkTells}
 use Rattle.ph_specs.specs.Coordinate.{is_point}
 use Rattle.ph_specs.specs.Table.{Row, IsTable}
+use Rattle.ph_specs.specs.WorkSets.{path}
+use Rattle.ph_window.specs.Window.{meets_behind}
 use Rattle.ph_specs.specs.Reply.{Reply, reply_text, replies_text}
 use Rattle.ph_specs.specs.Engine.{row_replies, page_end}
 use Rattle.ph_specs.specs.Window.{Cursor, is_between, is_after, window, rest, page, has_more, last_listed, next_cursor}
@@ -26,6 +28,7 @@ use Rattle.ph_any_tree.specs.declared.answer.Answer.{Answer}
 use Rattle.ph_any_tree.specs.declared.answer.Answer.TheVariants.{Good, Refused}
 use Rattle.ph_any_tree.specs.declared.answer.Stop.{Stop}
 use Rattle.ph_any_tree.specs.declared.answer.Stop.TheVariants.{WriteFault}
+use Rattle.ph_any_tree.proofs.Backward.{within-both}
 use Rattle.ph_any_tree.proofs.Replies.{IsGiven, none_given, one_given, all_given, front_given, next-is}
 
 -- replies of one kind, one for each item, and further ones behind them
@@ -208,7 +211,7 @@ module _ {t : AnyTable} {c : Cursor} {n : ℕ} {all rows : List Row} {left count
   pub page-said : {z : Taken} (v0 v : ℕ) (behind : Cursor) → behind.lo ≡ c.lo → behind.hi ≡ c.hi →
       last_listed behind.last (take left rows) ≡ last_listed c.last (take n all) → IsLast t.tree.width t.dims c.last →
       IsTable t.tree.width t.dims t.tree.table → v0 + least_to_resume t.tree.table c.last ≤ v →
-      v ≤ v0 + (most_to_resume t.tree.width c.last + met t c.lo c.hi) → Given y z (reply_text (page_end more count)) →
+      v ≤ v0 + (most_to_resume t.tree.width t.dims t.tree.table c.last + met t c.lo c.hi) → Given y z (reply_text (page_end more count)) →
       PageListed t c n x z v0 v behind
   page-said {z} v0 v behind lo hi last start whole grows cost told =
       let w = t.tree.width in
@@ -238,9 +241,11 @@ module _ {t : AnyTable} {c : Cursor} {n : ℕ} {all rows : List Row} {left count
       (last-front Reply.RowIs _ (take left rows) (page_end more count) x y z (p.given (page_end more count ∷ [])) p.none front)
 
 -- how many nodes are visited before its rows
-pub few-to-resume : (w v now_v : ℕ) (last : Option (List ℤ)) → (last ≡ None → now_v ≡ v) → now_v ≤ v + w → now_v ≤ v + most_to_resume w last
-few-to-resume w v now_v None h k = let e = h refl in omega (arith, e)
-few-to-resume w v now_v (Some last) h k = k
+pub few-to-resume : (w d : ℕ) (table : List Row) (lo hi : List ℤ) (left v now_v : ℕ) (last : Option (List ℤ)) → (last ≡ None → now_v ≡ v) →
+    IfSome last (λ p. (now_v ≤ v + length (path w d table p)) × (left ≤ length (meets_behind w d table lo hi p))) →
+    now_v ≤ v + w → now_v ≤ v + most_to_resume w d table last
+few-to-resume w d table lo hi left v now_v None h way k = let e = h refl in omega (arith, e)
+few-to-resume w d table lo hi left v now_v (Some last) h way k = within-both v now_v (length (path w d table last)) w way.0 k
 
 pub some-to-resume : (rows : List Row) (v now_v : ℕ) (last : Option (List ℤ)) → v ≤ now_v → (IsSome last → rows ≢ [] → v < now_v) → v + least_to_resume rows last ≤ now_v
 some-to-resume rows v now_v None k h = omega (arith, k)

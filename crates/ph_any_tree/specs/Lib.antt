@@ -1,4 +1,5 @@
 pub mod Working
+pub mod Differing
 pub mod Tables
 pub mod Telling
 pub mod Served

@@ -126,12 +126,12 @@ pub record PageListed (t : AnyTable) (c : Cursor) (n : ℕ) (sink now_sink : Tak
   pub rest_behind : rest t.tree.width behind t.tree.table ≡ drop n (rest t.tree.width c t.tree.table)
   pub last : IsLast t.tree.width t.dims behind.last
   pub grows : visits + least_to_resume t.tree.table c.last ≤ now_visits
-  pub visited : now_visits ≤ visits + (most_to_resume t.tree.width c.last + met t c.lo c.hi)
+  pub visited : now_visits ≤ visits + (most_to_resume t.tree.width t.dims t.tree.table c.last + met t c.lo c.hi)
 
 abbrev pub ListsPage : AnyTable → Cursor → ℕ → Taken → Taken → ℕ → ℕ → Result Cursor Stop → Type 0
 ListsPage t c n sink now_sink visits now_visits (Ok behind) = PageListed t c n sink now_sink visits now_visits behind
 ListsPage t c n sink now_sink visits now_visits (Err stop) =
-    FrontListed (page_replies t c n) (most_to_resume t.tree.width c.last + met t c.lo c.hi) sink now_sink visits now_visits stop
+    FrontListed (page_replies t c n) (most_to_resume t.tree.width t.dims t.tree.table c.last + met t c.lo c.hi) sink now_sink visits now_visits stop
 
 -- the same by cursors of any number of dimensions
 abbrev pub ListsAnyPage : AnyTable → AnyCursor → ℕ → Taken → Taken → ℕ → ℕ → Result AnyCursor Stop → Type 0

@@ -58,10 +58,10 @@ table_with_first t part (Err fault) = t
 
 -- the bounds of an import
 abbrev pub import_visits : AnyTable → Result (List Row) Reply → ℕ
-import_visits t read = (import_bounds t.tree.width t.dims t.tree.table read).most_visits
+import_visits t read = (import_bounds t.dims t.tree read).most_visits
 
 abbrev pub import_changes : AnyTable → Result (List Row) Reply → ℕ
-import_changes t read = (import_bounds t.tree.width t.dims t.tree.table read).most_changes
+import_changes t read = (import_bounds t.dims t.tree read).most_changes
 
 -- the rows were put, or memory was missing for some of them
 abbrev pub ImportsOr : {E : Type 0} → AnyTable → Result (List Row) Reply → AnyTable → Result Told E → Type 0

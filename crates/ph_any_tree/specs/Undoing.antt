@@ -1,9 +1,10 @@
 -- Edits that are kept and taken back.
-use Rattle.std.specs.Prelude.{◌≡◌, ◌<◌, ◌≤◌, ℕ, ◌+◌, ◌*◌, Result, Ok, Err}
+use Rattle.std.specs.Prelude.{◌≡◌, ◌<◌, ◌≤◌, min, ℕ, ◌+◌, ◌*◌, Result, Ok, Err}
 use Rattle.ph_specs.specs.Past.{keep, back}
 use Rattle.ph_specs.specs.Reply.{Reply}
 use Rattle.ph_script.specs.declared.reply.Reply.{Reply as Told}
 use Rattle.ph_script.specs.Meaning.{reply_of}
+use Rattle.ph_any_tree.specs.Differing.{back_visits}
 use Rattle.ph_any_tree.specs.Tables.{AnyTable, table_at}
 
 -- from now on so many edits are kept, or memory is missing for some
@@ -14,7 +15,7 @@ KeepsOr t n now (Err error) = (now ≡ t) × (0 < n)
 -- so many edits were taken back, each by at least one change, and so many were begun
 pub record WentBack (t : AnyTable) (n begun : ℕ) (now : AnyTable) (visits now_visits changes now_changes : ℕ) : Type 0 where
   pub state : now ≡ table_at t.dims (back t.tree n)
-  pub few_visits : now_visits ≤ visits + 6 * t.tree.width * begun
+  pub few_visits : now_visits ≤ visits + min (back_visits t.tree.width t.dims t.tree.table t.tree.past begun) (5 * t.tree.width * begun)
   pub later : visits ≤ now_visits
   pub few_changes : now_changes ≤ changes + 4 * n
   pub made : changes + n ≤ now_changes

@@ -14,8 +14,10 @@ use Rattle.ph_specs.specs.Named.{lookup}
 use Rattle.ph_specs.specs.Window.{Cursor}
 use Rattle.ph_specs.specs.Refusals.{refusal, bytes_of, import_rows}
 use Rattle.ph_join.specs.Joining.{one_of}
-use Rattle.ph_import.specs.Imported.{most_visits, most_changes}
-use Rattle.ph_specs.specs.State.{Slot, Engine, Files, current, other}
+use Rattle.ph_any_tree.specs.Differing.{back_visits}
+use Rattle.ph_import.specs.Imported.{import_visits, most_visits, most_changes}
+use Rattle.ph_specs.specs.Past.{Past}
+use Rattle.ph_specs.specs.State.{Slot, Engine, Files, current, other, past_in}
 
 abbrev pub one_if : Bool → ℕ
 one_if true = 1
@@ -35,10 +37,10 @@ work most_visits least_visits most_changes least_changes =
 abbrev pub no_work : Work
 no_work = work 0 0 0 0
 
--- the nodes that are visited to find the place of a cursor again: none where nothing was listed, or else those on the way of a point, and the root at least
-abbrev pub most_to_resume : ℕ → Option (List ℤ) → ℕ
-most_to_resume width None = 0
-most_to_resume width (Some last) = width
+-- the nodes that are visited to find the place of a cursor again: none where nothing was listed, or else those on the path of its last row, and the root at least
+abbrev pub most_to_resume : ℕ → ℕ → List Row → Option (List ℤ) → ℕ
+most_to_resume width dims table None = 0
+most_to_resume width dims table (Some last) = min (length (path width dims table last)) width
 
 abbrev pub least_to_resume : List Row → Option (List ℤ) → ℕ
 least_to_resume rows None = 0
@@ -47,17 +49,19 @@ least_to_resume (r ∷ rows) (Some last) = 1
 
 -- those of a page under a cursor
 abbrev pub page_bounds : Slot → Option Cursor → Work
-page_bounds s (Some c) = work (most_to_resume s.width c.last + length (meets s.width s.dims s.table c.lo c.hi)) (least_to_resume s.table c.last) 0 0
+page_bounds s (Some c) =
+    work (most_to_resume s.width s.dims s.table c.last + length (meets s.width s.dims s.table c.lo c.hi)) (least_to_resume s.table c.last) 0 0
 page_bounds s None = no_work
 
 -- those of a listing of a window
 abbrev pub window_bounds : Slot → List ℤ → List ℤ → Work
 window_bounds s lo hi = let n = length (meets s.width s.dims s.table lo hi) in work n n 0 0
 
--- those of an import of rows that were read, or of their fault
-abbrev pub import_bounds : ℕ → ℕ → List Row → Result (List Row) Reply → Work
-import_bounds width dims table (Ok rows) = work (most_visits width table (length rows)) 0 (most_changes width dims table rows) 0
-import_bounds width dims table (Err fault) = no_work
+-- those of an import of rows that were read into a table with its past, or of their fault
+abbrev pub import_bounds : ℕ → Past → Result (List Row) Reply → Work
+import_bounds dims k (Ok rows) =
+    work (min (import_visits dims k rows) (most_visits k.width k.table (length rows))) 0 (most_changes k.width dims k.table rows) 0
+import_bounds dims k (Err fault) = no_work
 
 -- the nodes of a slot's tree
 abbrev pub nodes_of : Slot → ℕ
@@ -79,9 +83,9 @@ bounds s files (Command.Covers q) = window_bounds s (covers_low s.width (low_cor
 bounds s files (Command.Page name n) = page_bounds s (lookup name s.cursors)
 bounds s files (Command.Save name) = let n = nodes_of s in work n n 0 0
 bounds s files (Command.Load name) = work 0 0 (length (bytes_of (lookup name files)) / 16) 0
-bounds s files (Command.Import name header) = import_bounds s.width s.dims s.table (import_rows s files name header)
+bounds s files (Command.Import name header) = import_bounds s.dims (past_in s) (import_rows s files name header)
 bounds s files (Command.Export name) = let n = nodes_of s in work n n 0 0
-bounds s files (Command.Back n) = work (6 * s.width * n) 0 (4 * n) n
+bounds s files (Command.Back n) = work (min (back_visits s.width s.dims s.table s.past n) (5 * s.width * n)) 0 (4 * n) n
 bounds s files Command.Statistics = let n = nodes_of s in work n n 0 0
 bounds s files _ = no_work
 

@@ -35,6 +35,10 @@ pub(crate) fn back_edits<const D: usize, V: Ledger, C: Ledger>(
     ensures { GoesBackOr (table_at D kept.old) n (table_at D kept.new) visits.old visits.new changes.old changes.new result }
 {
     for _step in 0..n {
+        // Uses that make known that the rows are those of a table, and that the width is at least 1.
+        let tree = kept.tree();
+        let _root = tree.root();
+        let _bits = tree.width().bits();
         kept.back_one(visits, changes)?;
     }
     Ok(Reply::WentBack(n))

@@ -148,7 +148,7 @@ page-done kind t cursors after name n c behind sink now_sink v now_v h there e l
 pub page-stopped : (kind : Kind) (t : AnyTable) (cursors : Named Cursor) (name : List ℕ) (n : ℕ) (c : Cursor)
     (sink now_sink : Taken) (v now_v : ℕ) (stop : Stop) →
     early_refusal (slot_of kind t cursors) (Command.Page name n) ≡ None → lookup name cursors ≡ Some c →
-    FrontListed (page_replies t c n) (most_to_resume t.tree.width c.last + met t c.lo c.hi) sink now_sink v now_v
+    FrontListed (page_replies t c n) (most_to_resume t.tree.width t.dims t.tree.table c.last + met t c.lo c.hi) sink now_sink v now_v
     stop → DoneWith (slot_of kind t cursors) (Command.Page name n) sink now_sink v now_v (slot_of kind t cursors) (Err stop)
 page-stopped kind t cursors name n c sink now_sink v now_v stop h there listed =
     let s = slot_of kind t cursors in

@@ -58,11 +58,11 @@ none-put s None = refl
 none-first : (s : Slot) (read : Result (List Row) Reply) → with_first (engine_of s) 0 (rows_put s read) ≡ engine_of s
 none-first s read = none-put s (rows_put s read)
 
-no-least-visits : (s : Slot) (read : Result (List Row) Reply) → (import_bounds s.width s.dims s.table read).least_visits ≡ 0
+no-least-visits : (s : Slot) (read : Result (List Row) Reply) → (import_bounds s.dims (past_in s) read).least_visits ≡ 0
 no-least-visits s (Ok rows) = refl
 no-least-visits s (Err fault) = refl
 
-no-least-changes : (s : Slot) (read : Result (List Row) Reply) → (import_bounds s.width s.dims s.table read).least_changes ≡ 0
+no-least-changes : (s : Slot) (read : Result (List Row) Reply) → (import_bounds s.dims (past_in s) read).least_changes ≡ 0
 no-least-changes s (Ok rows) = refl
 no-least-changes s (Err fault) = refl
 

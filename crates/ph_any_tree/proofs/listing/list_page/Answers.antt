@@ -52,11 +52,12 @@ rows-preserved g c =
 -- how many nodes are visited to begin the page and to list it
 resumed : (g : Over) (c : After-page-page g) → let cursor = c.args.cursor.now in
     c.page-page.new.visits + c.page-page.result.visits ≤
-    c.args.visits.now + (most_to_resume c.args.tree.now.width cursor.last + met (tree_at g.row.D c.args.tree.now) cursor.lo cursor.hi)
+    c.args.visits.now + (most_to_resume c.args.tree.now.width g.row.D c.args.tree.now.table cursor.last + met (tree_at g.row.D c.args.tree.now) cursor.lo cursor.hi)
 resumed g c =
     let cursor = c.args.cursor.now in
     let few : c.page-page.result.visits ≤ met (tree_at g.row.D c.args.tree.now) cursor.lo cursor.hi = c.page-page.ensures.visits in
-    let start = few-to-resume c.args.tree.now.width _ _ cursor.last c.page-page.ensures.first c.page-page.ensures.cost in
+    let start = few-to-resume c.args.tree.now.width g.row.D c.args.tree.now.table cursor.lo cursor.hi c.page-page.result.visits
+    _ _ cursor.last c.page-page.ensures.first c.page-page.ensures.way c.page-page.ensures.cost in
     omega (arith, few, start)
 
 pub returns-in_err-say_row-clause-lists : goal.returns-in_err-say_row-clause-lists
