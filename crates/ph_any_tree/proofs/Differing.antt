@@ -1,6 +1,6 @@
 -- The visits of an inverse, by the tables between which it leads.
 use Rattle.std.proofs.Common.{◌≡◌, ◌≤◌, ◌<◌, ◌+◌, ◌-◌, ◌*◌, ℕ, zero, suc, Bool, true, false, List, [], ◌∷◌, length, drop, get_or, refl, ap, sym, ◌∙◌, subst, arith, cond, inl, inr, eq-eqb}
-use Rattle.std.specs.Prelude.{◌⊎◌, ℤ, not, is_some, if◌then◌else◌, filter, slice_get, unwrap_or, Option, Some, None, IsSome}
+use Rattle.std.specs.Prelude.{◌⊎◌, ℤ, min, not, is_some, if◌then◌else◌, filter, slice_get, unwrap_or, Option, Some, None, IsSome}
 use Rattle.std.proofs.lemmas.Bool.{and_parts}
 use Rattle.ph_specs.specs.Coordinate.{same_point}
 use Rattle.ph_specs.specs.Table.{Row, IsTable, find, put, del, move, move_value}
@@ -13,6 +13,7 @@ use Rattle.ph_undo.specs.Kept.{BackVisits}
 use Rattle.ph_undo.specs.Steps.{undone, undo_visits, IsChange}
 use Rattle.ph_undo.specs.declared.step.Step.{Step}
 use Rattle.ph_undo.specs.declared.step.Step.TheVariants.{Remove, Restore, Return}
+use Rattle.ph_any_tree.proofs.Backward.{within-both}
 use Rattle.ph_any_tree.specs.Differing.{same_answer, rows_changed, visits_at, step_visits, back_visits}
 
 -- ---- the first row that a filter leaves
@@ -252,3 +253,12 @@ way-part w d t past zero n l = omega arith
 way-part w d t [] (suc m) n l = omega arith
 way-part w d t (u ∷ past) (suc m) zero l = absurd (omega (arith, l))
 way-part w d t (u ∷ past) (suc m) (suc n) l = let more = way-part w d u past m n (omega (arith, l)) in omega (arith, more)
+
+-- nor do they where some of those that were asked for were begun, and not all
+pub part-begun : (w d : ℕ) (t : List Row) (past : List (List Row)) (part n v now_v : ℕ) → part < n →
+    now_v ≤ v + min (back_visits w d t past (part + 1)) (5 * w * (part + 1)) → now_v ≤ v + min (back_visits w d t past n) (5 * w * n)
+part-begun w d t past part n v now_v fewer few =
+    let less = way-part w d t past (part + 1) n (omega (arith, fewer)) in
+    let left : n ≡ part + 1 + (n - (part + 1)) = omega (arith, fewer) in
+    let all : 5 * w * n ≡ 5 * w * (part + 1) + 5 * w * (n - (part + 1)) = ap (λ x. 5 * w * x) left ∙ omega arith in
+    within-both v now_v (back_visits w d t past n) (5 * w * n) (omega (arith, less, few)) (omega (arith, few, all))

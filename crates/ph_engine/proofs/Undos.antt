@@ -1,5 +1,5 @@
 -- Edits of a slot that are taken back.
-use Rattle.std.proofs.Common.{◌≡◌, ◌<◌, ◌≤◌, ◌+◌, ◌-◌, ◌*◌, ℕ, Bool, false, [], ◌∷◌, length, refl, ap, sym, ◌∙◌, arith}
+use Rattle.std.proofs.Common.{◌≡◌, ◌<◌, ◌≤◌, ℕ, Bool, false, [], ◌∷◌, length, refl, ap, sym, ◌∙◌, arith}
 use Rattle.std.specs.Prelude.{Some, None, Ok, Err, Result}
 use Rattle.std.proofs.lemmas.Bool.{lt-ltb, le-ltb, le-leb}
 use Rattle.ph_specs.specs.declared.Kind.{Kind}
@@ -15,18 +15,9 @@ use Rattle.ph_script.specs.Meaning.{reply_of}
 use Rattle.ph_engine.specs.Filing.{QuietOr}
 use Rattle.ph_any_tree.specs.Tables.{AnyTable, slot_of, engine_of}
 use Rattle.ph_any_tree.specs.Undoing.{GoesBackOr}
-use Rattle.ph_any_tree.specs.Differing.{back_visits}
-use Rattle.ph_any_tree.proofs.Backward.{within-both}
-use Rattle.ph_any_tree.proofs.Differing.{way-part}
+use Rattle.ph_any_tree.proofs.Differing.{part-begun}
 use Rattle.ph_engine.proofs.Filed.{filed-quietly, leaves-filings}
 use Rattle.ph_engine.proofs.Commanded.{told-told}
-
--- fewer edits than were asked for were begun
-most-begun : (v now_v w part n : ℕ) → part < n → now_v ≤ v + 5 * w * (part + 1) → now_v ≤ v + 5 * w * n
-most-begun v now_v w part n fewer few =
-    let left : n ≡ part + 1 + (n - (part + 1)) = omega (arith, fewer) in
-    let all : 5 * w * n ≡ 5 * w * (part + 1) + 5 * w * (n - (part + 1)) = ap (λ x. 5 * w * x) left ∙ omega arith in
-    omega (arith, few, all)
 
 kind-of-back : (kind : Kind) (n : ℕ) → (has_wrong_kind kind (Command.Back n) ≡ false) × (boxes_of kind (Command.Back n) ≡ [])
 kind-of-back Points n = (refl, refl)
@@ -62,10 +53,7 @@ module _ (kind : Kind) (t : AnyTable) (cursors : Named Cursor) (n : ℕ) where
       wanted = λ files x. let k = kind-of-back kind n in let some : 0 < n = omega (arith, g.fewer) in
           rw (k.0, k.1, lt-ltb 0 n some, le-leb n (length t.tree.past) h) refl;
       most_work = λ files x. record {
-        few_visits = within-both v now_v (back_visits t.tree.width t.dims t.tree.table t.tree.past n) (5 * t.tree.width * n)
-            (let less = way-part t.tree.width t.dims t.tree.table t.tree.past (g.part + 1) n (omega (arith, g.fewer)) in
-            omega (arith, less, g.went.few_visits))
-            (most-begun v now_v t.tree.width g.part n g.fewer (omega (arith, g.went.few_visits)));
+        few_visits = part-begun t.tree.width t.dims t.tree.table t.tree.past g.part n v now_v g.fewer g.went.few_visits;
         few_changes = omega (arith, g.fewer, g.went.few_changes);
       };
     };
