@@ -112,15 +112,23 @@ def read_sources():
     return texts
 
 
-def read_crates():
-    """The crates that each crate names in crates.txt."""
-    crates = {}
+def read_lines():
+    """The lines of crates.txt: a crate with the words behind its name, and the crates that it names."""
     with open('crates.txt', encoding='utf-8') as file:
         for line in file:
             if not line.startswith('#'):
                 crate, named = line.split(':')
-                crates[crate] = named.split()
-    return crates
+                yield crate.split(), named.split()
+
+
+def read_crates():
+    """The crates that each crate names in crates.txt."""
+    return {crate[0]: named for crate, named in read_lines()}
+
+
+def read_static():
+    """The crates that are static libraries, for programs in other languages."""
+    return {crate[0] for crate, _ in read_lines() if 'staticlib' in crate[1:]}
 
 
 def below(crates, crate):

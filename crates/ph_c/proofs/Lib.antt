@@ -1,0 +1,4 @@
+-- Lemmas of the handle and of pages.
+mod Parts
+mod Handles
+mod Filling

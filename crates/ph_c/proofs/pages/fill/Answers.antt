@@ -1,0 +1,32 @@
+-- A row is written behind those that are there, and where none is left all of them are.
+use Rattle.std.proofs.Common.{◌≡◌, ◌<◌, ◌≤◌, [], length, take, drop, sym, ap, ◌∙◌, arith, refl}
+use Rattle.std.specs.Prelude.{List, ℤ, Some}
+use Rattle.ph_specs.specs.Table.{Row, row}
+use Rattle.ph_c.proofs.Filling.{none-left, take-end, drop-end, filling-more}
+use Rattle.ph_c.proofs.pages.fill.Goals as goal
+
+pub returns-in_default-clause-rest : goal.returns-in_default-clause-rest
+returns-in_default-clause-rest g c =
+    let empty : c.loop-i.window.rows ≡ [] = none-left c.loop-i.window.rows (sym c.in_default.ensures.row) in
+    let left : drop c.loop-i.i c.args.window.now.rows ≡ [] = sym c.loop-i.invariant.rest ∙ empty in
+    rw (c.next.ensures.rest, empty) (sym (drop-end c.args.window.now.rows c.loop-i.i c.args.room left (omega (arith, c.loop-i-test.true))))
+
+pub returns-in_default-clause-values : goal.returns-in_default-clause-values
+returns-in_default-clause-values g c =
+    let empty : c.loop-i.window.rows ≡ [] = none-left c.loop-i.window.rows (sym c.in_default.ensures.row) in
+    let left : drop c.loop-i.i c.args.window.now.rows ≡ [] = sym c.loop-i.invariant.rest ∙ empty in
+    rw (take-end c.args.window.now.rows c.loop-i.i c.args.room left (omega (arith, c.loop-i-test.true))) c.loop-i.invariant.values_are
+
+pub returns-in_default-clause-points : goal.returns-in_default-clause-points
+returns-in_default-clause-points g c =
+    let empty : c.loop-i.window.rows ≡ [] = none-left c.loop-i.window.rows (sym c.in_default.ensures.row) in
+    let left : drop c.loop-i.i c.args.window.now.rows ≡ [] = sym c.loop-i.invariant.rest ∙ empty in
+    rw (take-end c.args.window.now.rows c.loop-i.i c.args.room left (omega (arith, c.loop-i-test.true))) c.loop-i.invariant.points_are
+
+pub loop-i-preserved : goal.loop-i-preserved
+loop-i-preserved g c =
+    let first = sym (ap (λ (r : Row). Some r) c.row.view_is ∙ c.in-Some.ensures.row) in
+    let size : length c.row.inside.point ≡ g.row.D = ap (λ (l : List ℤ). length l) (sym c.as_slice.ensures.value) ∙ c.as_slice.ensures.dims in
+    rw (c.next.ensures.rest, c.overlay_word.ensures, c.overlay.ensures, c.as_slice.ensures.value)
+    (filling-more g.row.D c.args.window.now.rows c.args.values.now c.args.points.now c.loop-i.i c.loop-i.window.rows c.loop-i.values c.loop-i.points
+    (row c.row.inside.point c.row.inside.value) c.loop-i.invariant first size)

@@ -1,0 +1,27 @@
+-- The room is that of the shorter array, and a row more is looked for behind those that were written.
+use Rattle.std.proofs.Common.{◌≡◌, sym, ◌∙◌, ap}
+use Rattle.std.specs.Prelude.{List}
+use Rattle.ph_specs.specs.Table.{Row}
+use Rattle.ph_c.specs.Windows.{some_left}
+use Rattle.ph_c.proofs.Filling.{one-left, none-left-over}
+use Rattle.ph_c.proofs.pages.list_rows.Goals as goal
+
+pub returns-in-Some : goal.returns-in-Some
+returns-in-Some g c = record {
+  room = c.room_for-room.result;
+  fits = c.room_for-room.ensures;
+  points = c.fill.ensures.points;
+  values = c.fill.ensures.values;
+  count = c.fill.ensures.count;
+  more = sym (ap some_left (sym c.fill.ensures.rest) ∙ one-left c.fill.new.window.rows c.in-Some.field-0 (sym c.in-Some.ensures.row));
+}
+
+pub returns-in-None : goal.returns-in-None
+returns-in-None g c = record {
+  room = c.room_for-room.result;
+  fits = c.room_for-room.ensures;
+  points = c.fill.ensures.points;
+  values = c.fill.ensures.values;
+  count = c.fill.ensures.count;
+  more = sym (ap some_left (sym c.fill.ensures.rest) ∙ none-left-over c.fill.new.window.rows (sym c.in-None.ensures.row));
+}

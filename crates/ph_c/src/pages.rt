@@ -1,0 +1,157 @@
+//! Rows written into lent arrays.
+ghost use Rattle.std.specs.Prelude.{◌≡◌, ◌+◌, ◌*◌, ◌<◌, ◌≤◌, ◌++◌, ◌∷◌, [], length, take, drop};
+ghost use Rattle.std.specs.Option.{SomeIff};
+ghost use Rattle.ph_c.specs.Trees.{table_at};
+ghost use Rattle.ph_c.specs.Pages.{points_of, values_of, overlaid, IsRoom};
+ghost use Rattle.ph_c.specs.Windows.{AreCorners, cursor_at, IsWindow, IsListed, lent};
+ghost use Rattle.ph_specs.specs.TableNames.{IsPoint, rest};
+ghost use Rattle.ph_window.specs.Page.{IsLast};
+
+use crate::answers::{DONE, NO_POINT};
+use crate::rows::point_in;
+use ph_steps::Steps;
+use ph_tree::PhTree;
+use ph_window::{Cursor, Window};
+use std::sync::ledger::Ledger;
+
+/// How many rows of D dimensions fit into arrays of so many coordinates and so many values.
+pub(crate) fn room_for<const D: usize>(points: usize, values: usize) -> usize
+    requires some { 1 ≤ D }
+    requires few { D ≤ 16 }
+    ensures { IsRoom D points values result }
+{
+    let rows = points / D;
+    if rows < values { rows } else { values }
+}
+
+// Writes numbers over those of an array from a place on.
+fn overlay(array: &mut [i64], place: usize, numbers: &[i64])
+    requires { place + length numbers.now ≤ length array.old }
+    ensures { array.new ≡ take place array.old ++ numbers.now ++ drop (place + length numbers.now) array.old }
+{
+    array[place..place + numbers.len()].copy_from_slice(numbers);
+}
+
+// Writes a number over that of an array at a place.
+fn overlay_word(array: &mut [u64], place: usize, word: u64)
+    requires { place < length array.old }
+    ensures { array.new ≡ take place array.old ++ (word ∷ []) ++ drop (place + 1) array.old }
+{
+    array[place] = word;
+}
+
+/// Writes the first rows of a window, as many as there is room for, and tells how many.
+pub(crate) fn fill<const D: usize, V: Ledger>(
+    window: &mut Window<'_, D>,
+    room: usize,
+    points: &mut [i64],
+    values: &mut [u64],
+    visits: &mut Steps<V>,
+) -> usize
+    requires few { D ≤ 16 }
+    requires values_room { room ≤ length values.old }
+    requires points_room { room * D ≤ length points.old }
+    ensures count { result ≡ length (take room window.old.rows) }
+    ensures rest { window.new.rows ≡ drop room window.old.rows }
+    ensures values { values.new ≡ overlaid (values_of (take room window.old.rows)) values.old }
+    ensures points { points.new ≡ overlaid (points_of (take room window.old.rows)) points.old }
+{
+    for i in 0..room {
+        let Some(row) = window.next(visits) else {
+            return i;
+        };
+        overlay_word(values, i, row.value);
+        overlay(points, i * D, row.point.as_slice());
+    }
+    room
+}
+
+// Writes the first rows of a window, how many, and whether more are left.
+fn list_rows<const D: usize, V: Ledger>(
+    window: &mut Window<'_, D>,
+    points: &mut [i64],
+    values: &mut [u64],
+    count: &mut usize,
+    more: &mut u32,
+    visits: &mut Steps<V>,
+)
+    requires some { 1 ≤ D }
+    requires few { D ≤ 16 }
+    ensures { IsListed D window.old.rows (lent points.old values.old count.old more.old) (lent points.new values.new count.new more.new) }
+{
+    let room = room_for::<D>(points.len(), values.len());
+    *count = fill(window, room, points, values, visits);
+    *more = match window.next(visits) {
+        Some(_) => 1,
+        None => 0,
+    };
+}
+
+/// Writes a page of a window: the rows between two corners behind the last point, or from the beginning where no numbers are given for it.
+pub(crate) fn list_window<const D: usize, V: Ledger>(
+    tree: &PhTree<D>,
+    low: &[i64],
+    high: &[i64],
+    last: &[i64],
+    points: &mut [i64],
+    values: &mut [u64],
+    count: &mut usize,
+    more: &mut u32,
+    visits: &mut Steps<V>,
+) -> u32
+    requires { D ≤ 16 }
+    ensures { IsWindow (table_at D tree.now) low.now high.now last.now
+        (lent points.old values.old count.old more.old) (lent points.new values.new count.new more.new) result }
+{
+    let Some(cursor) = cursor_in(tree, low, high, last) else {
+        return NO_POINT;
+    };
+    // A use that makes known that there is a dimension.
+    let _root = tree.root();
+    let mut window = window_at(tree, &cursor, visits);
+    list_rows(&mut window, points, values, count, more, visits);
+    DONE
+}
+
+// The window behind the last point that was listed.
+fn window_at<'t, const D: usize, V: Ledger>(
+    tree: &'t PhTree<D>,
+    cursor: &Cursor<D>,
+    visits: &mut Steps<V>,
+) -> Window<'t, D>
+    requires lo { IsPoint tree.now.width D cursor.now.lo }
+    requires hi { IsPoint tree.now.width D cursor.now.hi }
+    requires last { IsLast tree.now.width D cursor.now.last }
+    ensures { result.rows ≡ rest tree.now.width cursor.now tree.now.table }
+{
+    match cursor.last {
+        Some(last) => Window::after(tree, cursor.lo, cursor.hi, last, visits),
+        None => Window::new(tree, cursor.lo, cursor.hi),
+    }
+}
+
+// The cursor of these numbers, if its points are of the tree.
+fn cursor_in<const D: usize>(
+    tree: &PhTree<D>,
+    low: &[i64],
+    high: &[i64],
+    last: &[i64],
+) -> Option<Cursor<D>>
+    requires { D ≤ 16 }
+    ensures { SomeIff result (AreCorners (table_at D tree.now) low.now high.now last.now) (cursor_at low.now high.now last.now) }
+{
+    let (Some(lo), Some(hi)) = (point_in(tree, low), point_in(tree, high)) else {
+        return None;
+    };
+    if last.len() == 0 {
+        return Some(Cursor { lo, hi, last: None });
+    }
+    match point_in(tree, last) {
+        Some(point) => Some(Cursor {
+            lo,
+            hi,
+            last: Some(point),
+        }),
+        None => None,
+    }
+}

@@ -1,0 +1,198 @@
+//! A tree of 1 to 16 dimensions as one type.
+ghost use Rattle.std.specs.Prelude.{◌≡◌, ◌<◌, ◌≤◌, length};
+ghost use Rattle.ph_c.specs.Trees.{any_table, empty_table};
+ghost use Rattle.ph_c.specs.Edits.{IsPut, IsGet, IsRemove, IsMove};
+ghost use Rattle.ph_c.specs.Windows.{IsWindow, lent};
+
+use crate::pages::list_window;
+use crate::rows::{get_row, move_row, put_row, remove_row};
+use ph_coord::Width;
+use ph_steps::{Counters, Steps};
+use ph_tree::PhTree;
+use std::alloc::Global;
+use std::sync::ledger::Ledger;
+
+/// A tree by its number of dimensions: 1 to 16.
+#[derive(Drop)]
+pub enum Tree {
+    D1(PhTree<1>),
+    D2(PhTree<2>),
+    D3(PhTree<3>),
+    D4(PhTree<4>),
+    D5(PhTree<5>),
+    D6(PhTree<6>),
+    D7(PhTree<7>),
+    D8(PhTree<8>),
+    D9(PhTree<9>),
+    D10(PhTree<10>),
+    D11(PhTree<11>),
+    D12(PhTree<12>),
+    D13(PhTree<13>),
+    D14(PhTree<14>),
+    D15(PhTree<15>),
+    D16(PhTree<16>),
+}
+
+// Runs a body with the tree of whatever dimensions.
+macro_rules! with_tree {
+    ($any:expr, $tree:ident => $body:expr) => {
+        match $any {
+            Tree::D1($tree) => $body,
+            Tree::D2($tree) => $body,
+            Tree::D3($tree) => $body,
+            Tree::D4($tree) => $body,
+            Tree::D5($tree) => $body,
+            Tree::D6($tree) => $body,
+            Tree::D7($tree) => $body,
+            Tree::D8($tree) => $body,
+            Tree::D9($tree) => $body,
+            Tree::D10($tree) => $body,
+            Tree::D11($tree) => $body,
+            Tree::D12($tree) => $body,
+            Tree::D13($tree) => $body,
+            Tree::D14($tree) => $body,
+            Tree::D15($tree) => $body,
+            Tree::D16($tree) => $body,
+        }
+    };
+}
+
+impl Tree {
+    /// An empty tree of so many dimensions, for at most so many rows. It takes no memory.
+    pub(crate) fn new(alloc: Global, w: Width, dims: u32, most: u64) -> Tree
+        requires some { 1 ≤ dims }
+        requires limit { dims ≤ 16 }
+        ensures { any_table result ≡ empty_table dims w most }
+    {
+        match dims {
+            1 => Tree::D1(PhTree::new(alloc, w, most)),
+            2 => Tree::D2(PhTree::new(alloc, w, most)),
+            3 => Tree::D3(PhTree::new(alloc, w, most)),
+            4 => Tree::D4(PhTree::new(alloc, w, most)),
+            5 => Tree::D5(PhTree::new(alloc, w, most)),
+            6 => Tree::D6(PhTree::new(alloc, w, most)),
+            7 => Tree::D7(PhTree::new(alloc, w, most)),
+            8 => Tree::D8(PhTree::new(alloc, w, most)),
+            9 => Tree::D9(PhTree::new(alloc, w, most)),
+            10 => Tree::D10(PhTree::new(alloc, w, most)),
+            11 => Tree::D11(PhTree::new(alloc, w, most)),
+            12 => Tree::D12(PhTree::new(alloc, w, most)),
+            13 => Tree::D13(PhTree::new(alloc, w, most)),
+            14 => Tree::D14(PhTree::new(alloc, w, most)),
+            15 => Tree::D15(PhTree::new(alloc, w, most)),
+            _ => Tree::D16(PhTree::new(alloc, w, most)),
+        }
+    }
+
+    /// Its number of dimensions: 1 to 16.
+    pub(crate) fn dims(&self) -> u32
+        ensures { result ≡ (any_table self.now).dims }
+    {
+        match self {
+            Tree::D1(_) => 1,
+            Tree::D2(_) => 2,
+            Tree::D3(_) => 3,
+            Tree::D4(_) => 4,
+            Tree::D5(_) => 5,
+            Tree::D6(_) => 6,
+            Tree::D7(_) => 7,
+            Tree::D8(_) => 8,
+            Tree::D9(_) => 9,
+            Tree::D10(_) => 10,
+            Tree::D11(_) => 11,
+            Tree::D12(_) => 12,
+            Tree::D13(_) => 13,
+            Tree::D14(_) => 14,
+            Tree::D15(_) => 15,
+            Tree::D16(_) => 16,
+        }
+    }
+
+    /// The width of its coordinates.
+    pub(crate) fn width(&self) -> Width
+        ensures { result ≡ (any_table self.now).tree.width }
+    {
+        with_tree!(self, tree => tree.width())
+    }
+
+    /// The number of its rows.
+    pub(crate) fn len(&self) -> u64
+        ensures { result ≡ length (any_table self.now).tree.table }
+    {
+        with_tree!(self, tree => tree.len())
+    }
+
+    /// The number of rows that it may have.
+    pub(crate) fn most(&self) -> u64
+        ensures { result ≡ (any_table self.now).tree.max }
+    {
+        with_tree!(self, tree => tree.max())
+    }
+
+    /// Puts a value at a point, and writes the one that stood there to `former`.
+    pub(crate) fn put<V: Ledger, C: Ledger>(
+        &mut self,
+        point: &[i64],
+        value: u64,
+        former: &mut u64,
+        counters: &mut Counters<V, C>,
+    ) -> u32
+        ensures { IsPut (any_table self.old) point.now value (any_table self.new) former.old former.new result }
+    {
+        with_tree!(self, tree => put_row(tree, point, value, former, counters))
+    }
+
+    /// Writes the value at a point.
+    pub(crate) fn get<V: Ledger>(
+        &self,
+        point: &[i64],
+        value: &mut u64,
+        visits: &mut Steps<V>,
+    ) -> u32
+        ensures { IsGet (any_table self.now) point.now value.old value.new result }
+    {
+        with_tree!(self, tree => get_row(tree, point, value, visits))
+    }
+
+    /// Takes the row at a point out, and writes its value to `former`.
+    pub(crate) fn remove<V: Ledger, C: Ledger>(
+        &mut self,
+        point: &[i64],
+        former: &mut u64,
+        counters: &mut Counters<V, C>,
+    ) -> u32
+        ensures { IsRemove (any_table self.old) point.now (any_table self.new) former.old former.new result }
+    {
+        with_tree!(self, tree => remove_row(tree, point, former, counters))
+    }
+
+    /// Moves the row at one point to another.
+    pub(crate) fn relocate<V: Ledger, C: Ledger>(
+        &mut self,
+        from: &[i64],
+        to: &[i64],
+        counters: &mut Counters<V, C>,
+    ) -> u32
+        ensures { IsMove (any_table self.old) from.now to.now (any_table self.new) result }
+    {
+        with_tree!(self, tree => move_row(tree, from, to, counters))
+    }
+
+    /// Writes a page of a window.
+    pub(crate) fn window<V: Ledger>(
+        &self,
+        low: &[i64],
+        high: &[i64],
+        last: &[i64],
+        points: &mut [i64],
+        values: &mut [u64],
+        count: &mut usize,
+        more: &mut u32,
+        visits: &mut Steps<V>,
+    ) -> u32
+        ensures { IsWindow (any_table self.now) low.now high.now last.now
+            (lent points.old values.old count.old more.old) (lent points.new values.new count.new more.new) result }
+    {
+        with_tree!(self, tree => list_window(tree, low, high, last, points, values, count, more, visits))
+    }
+}
