@@ -52,7 +52,7 @@ enum ph_answer {
 /* ---- trees ---- */
 
 /* Opens an empty tree of points of `dims` coordinates of `width` bits, for at most `most` rows, and closes the one that `tree` has.
- * Answers PH_DONE, PH_NO_DIMENSIONS, PH_NO_WIDTH or PH_NO_MEMORY. Takes memory for the tree itself, less than 200 bytes. */
+ * Answers PH_DONE, PH_NO_DIMENSIONS, PH_NO_WIDTH or PH_NO_MEMORY, and leaves the former tree where it is not PH_DONE. Takes memory for one small block. */
 uint32_t ph_open(ph_tree *tree, uint32_t dims, uint32_t width, uint64_t most);
 
 /* Closes the tree, if there is one, and gives its memory back. Visits each node. `tree` is all zeros then, and may be opened anew. */
@@ -100,8 +100,8 @@ uint32_t ph_move(ph_tree *tree, const int64_t *from, size_t from_length, const i
  * from the beginning where `last_length` is 0. Writes 1 to `more` where rows are left behind them, and 0 where none are. The point of the last row
  * written is the `last` of the next page; it need not be in the tree any more, and the tree may change between two pages. Where a number of `low` is
  * above that of `high` there are no rows.
- * Answers PH_DONE; else PH_NO_TREE or PH_NO_POINT (for either corner, or for a `last` of another length than 0). Takes no memory. Visits only nodes whose region has a point
- * in the window, and at most as many more as a coordinate has bits to find `last`. */
+ * Answers PH_DONE; else PH_NO_TREE or PH_NO_POINT (for either corner, or for a `last` of another length than 0). Takes no memory.
+ * Visits only nodes whose region has a point in the window, and at most as many more as a coordinate has bits to find `last`. */
 uint32_t ph_window(ph_tree *tree, const int64_t *low, size_t low_length, const int64_t *high, size_t high_length, const int64_t *last,
                    size_t last_length, int64_t *points, size_t points_length, uint64_t *values, size_t values_length, size_t *count,
                    uint32_t *more);
