@@ -1,8 +1,5 @@
 -- A box that was taken apart owns what the box owned, at the same machine value. Assumes `Logic`.
-use Rattle.std.proofs.Common.{ℕ, List, [], ◌∷◌}
-use Prim.Native.Nat.{zero}
-use mir.Syntax.{Dict, impl, tnil, dnil}
-use mir.Val.{Val}
+use mir.Syntax.{Dict}
 use denote.RattleType.{RattleType}
 use denote.Param.Laws.{Laws}
 use Rattle.core.specs.declared.alloc.Allocator.{Ghosts}

@@ -1,5 +1,5 @@
 -- A row is written behind those that are there, and where none is left all of them are.
-use Rattle.std.proofs.Common.{◌≡◌, ◌<◌, ◌≤◌, [], length, take, drop, sym, ap, ◌∙◌, arith, refl}
+use Rattle.std.proofs.Common.{◌≡◌, [], length, drop, sym, ap, ◌∙◌, arith}
 use Rattle.std.specs.Prelude.{List, ℤ, Some}
 use Rattle.ph_specs.specs.Table.{Row, row}
 use Rattle.ph_c.proofs.Filling.{none-left, take-end, drop-end, filling-more}

@@ -1,5 +1,4 @@
 -- What has been written so far, and what is left of the window.
-use Rattle.std.specs.Prelude.{drop}
 use Rattle.ph_c.proofs.Filling.{Filling}
 use Rattle.ph_c.proofs.pages.fill.Given as goal
 

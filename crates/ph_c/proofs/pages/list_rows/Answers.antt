@@ -1,7 +1,5 @@
 -- The room is that of the shorter array, and a row more is looked for behind those that were written.
-use Rattle.std.proofs.Common.{◌≡◌, sym, ◌∙◌, ap}
-use Rattle.std.specs.Prelude.{List}
-use Rattle.ph_specs.specs.Table.{Row}
+use Rattle.std.proofs.Common.{sym, ◌∙◌, ap}
 use Rattle.ph_c.specs.Windows.{some_left}
 use Rattle.ph_c.proofs.Filling.{one-left, none-left-over}
 use Rattle.ph_c.proofs.pages.list_rows.Goals as goal

@@ -1,6 +1,6 @@
 -- `into_parts` looks whether the pointer is null, and has the parts of the tree's box where it is not.
 use Rattle.std.proofs.Common.{◌≡◌, List, [], ◌∷◌, ◌++◌, refl, sym, ap, ◌∙◌, subst, lit<}
-use mir.Val.{Val, vptr, vcons, vnil}
+use mir.Val.{Val, vcons, vnil}
 use base.Logic.{SProp, ent, id⊢}
 use base.Fml.{ftrue}
 use prog.Wp.{WpFn}
@@ -25,7 +25,7 @@ use Rattle.std.specs.contracts.alloc.Global as heap
 use Rattle.std.proofs.alloc.Global.TheLaws as heap_laws
 use Rattle.std.proofs.raw_atomic.Walks.{proved_at}
 use Rattle.std_alloc.proofs.ResultValues.{and_tt}
-use Rattle.std_alloc.proofs.BoxSteps.Form.{B, word as parts_word, box_typed}
+use Rattle.std_alloc.proofs.BoxSteps.Form.{word as parts_word, box_typed}
 use Rattle.std_alloc.proofs.BoxSteps.Steps.{box_in}
 use Rattle.ph_c.proofs.Parts.{whole}
 use Rattle.ph_c.proofs.Handles.{word, Row, TreeBox, TreeParts, handle_out, either_owned}
