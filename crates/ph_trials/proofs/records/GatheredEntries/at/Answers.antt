@@ -16,6 +16,7 @@ returns g c =
       | in_default w ↦ ap (λ u. holds_child (what_of u)) w.in_default.is ∙ sym w.matches-is
     ] in
     record {
+      stands = c.requires.stands;
       entry = read-at (shown c.args.self.now.node) c.args.i (entry_of g.P.Dims.D e) c.entry-entry.ensures.shows
           ∙ ap (λ b. Some (read b e.addr (take g.P.Dims.D e.body))) is;
       zeros = padded-filled g.P.Dims.D e.body c.entry-entry.ensures.body.fields.0 c.entry-entry.ensures.body.filled;
