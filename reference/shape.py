@@ -11,7 +11,7 @@ from table import offsets, rows_of
 
 @dataclass
 class Entry:
-    """An entry holds a value or a child. Its body has the digits that are known below the level of its node. [Node: Entry]"""
+    """An entry holds a value or a child. Its body has the digits that are known below the level of its node. [Node: Entries]"""
     address: int
     body: tuple
     value: Any = None

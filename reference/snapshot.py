@@ -48,7 +48,7 @@ def read_snapshot(data, wanted=None):
 
 
 class Digits:
-    """The binary digits of some bytes, which are taken field by field. [Digits: digits_at, read_fields]"""
+    """The binary digits of some bytes, which are taken field by field. [Digits: read_fields]"""
 
     def __init__(self, data):
         self.digits, self.at = field(int.from_bytes(data, 'big'), 8 * len(data)), 0
@@ -121,6 +121,6 @@ class Reader:
         return self.header.kind == 'points' or all(map(is_box, points))
 
     def put_together(self, known, level, place, body):
-        """What is known of a point behind an entry: the digits above, the address and the body. [Lawful: put_together]"""
+        """What is known of a point behind an entry: the digits above, the address and the body. [TreeRows: put_together]"""
         marks = [place >> at & 1 for at in reversed(range(self.header.dims))]
         return tuple(offset + mark * 2**level + digits for offset, mark, digits in zip(known, marks, body))

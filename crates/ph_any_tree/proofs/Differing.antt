@@ -8,7 +8,7 @@ use Rattle.ph_specs.specs.WorkSets.{path}
 use Rattle.ph_specs.specs.Past.{Past, back}
 use Rattle.ph_specs.proofs.laws.Put.{either, find-put, same_from_test, test_from_same}
 use Rattle.ph_specs.proofs.laws.Del.{find-del}
-use Rattle.ph_specs.proofs.laws.Paths.{path-few}
+use Rattle.ph_model.proofs.laws.Paths.{path-few}
 use Rattle.ph_undo.specs.Kept.{BackVisits}
 use Rattle.ph_undo.specs.Steps.{undone, undo_visits, IsChange}
 use Rattle.ph_undo.specs.declared.step.Step.{Step}

@@ -2,9 +2,9 @@
 use Rattle.std.proofs.Common.{◌≡◌, refl, ◌≤◌, ◌<◌, ◌+◌, ◌*◌, ◌/◌, ◌%◌, ◌^◌, length, ℕ, suc, ◌-◌, sym, ◌∙◌, ap, subst, arith, List, slice_index_or, slice_set, Fits, w64}
 use Rattle.std.proofs.lemmas.Nat.{shr_below, field_of, shl-shr}
 use Rattle.std.proofs.Math.Nat.{mod-one, mod-eq_of_lt}
-use Rattle.ph_specs.specs.Digits.{digits_at}
+use Rattle.ph_model.specs.Digits.{digits_at}
 use Rattle.ph_bits.specs.Fields.{number_in, with_digits}
-use Rattle.ph_specs.proofs.laws.WordDigits.{each-fits}
+use Rattle.ph_model.proofs.laws.WordDigits.{each-fits}
 use Rattle.ph_bits.proofs.Stores.{same_number, with_digits-one, with_digits-two}
 
 -- the last digits of v, as the code takes them

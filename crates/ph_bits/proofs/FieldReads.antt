@@ -5,8 +5,8 @@ use Rattle.std.proofs.lemmas.Nat.{div-mul-add, pow-add, mod-pow-add, pow_pos, sh
 use Rattle.std.proofs.Math.Nat.{add-mul-div_right}
 use Rattle.std.proofs.lemmas.Bool.{cases_lt}
 use Rattle.std.specs.List.{AllByRecursion as Each}
-use Rattle.ph_specs.specs.Digits.{digits_at}
-use Rattle.ph_specs.proofs.laws.WordDigits.{digits-one, digits-two}
+use Rattle.ph_model.specs.Digits.{digits_at}
+use Rattle.ph_model.proofs.laws.WordDigits.{digits-one, digits-two}
 
 -- a shift to the left keeps the last digits
 shifted : (x w k : ℕ) → x * 2 ^ k % 2 ^ (w + k) ≡ x % 2 ^ w * 2 ^ k

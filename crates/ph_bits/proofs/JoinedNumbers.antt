@@ -3,11 +3,12 @@ use Rattle.std.proofs.Common.{◌≡◌, ℕ, ◌+◌, ◌-◌, ◌*◌, ◌/◌
 use Rattle.std.proofs.Math.Nat.{div-mul-le_self, mul-mod_left}
 use Rattle.std.proofs.Math.Pow.{pow_mono}
 use Rattle.std.proofs.lemmas.List.{get_or-map}
-use Rattle.ph_specs.specs.Digits.{digits_at}
-use Rattle.ph_specs.specs.Lawful.{IsBody, put_together}
-use Rattle.ph_specs.specs.PutTree.{body_above}
-use Rattle.ph_specs.proofs.laws.LawfulRows.{put_together-small}
-use Rattle.ph_specs.proofs.lemmas.Joined.{length-put_together, get-put_together}
+use Rattle.ph_model.specs.Digits.{digits_at}
+use Rattle.ph_specs.specs.TreeRows.{put_together}
+use Rattle.ph_model.specs.Lawful.{IsBody}
+use Rattle.ph_model.specs.PutTree.{body_above}
+use Rattle.ph_model.proofs.laws.LawfulRows.{put_together-small}
+use Rattle.ph_model.proofs.lemmas.Joined.{length-put_together, get-put_together}
 use Rattle.ph_digits.proofs.Joins.{above-long, kept-at, small-at}
 use Rattle.ph_bits.specs.Fields.{digits_row}
 use Rattle.ph_bits.proofs.RowPlaces.{length-row, row-at}

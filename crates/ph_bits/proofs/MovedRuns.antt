@@ -3,8 +3,8 @@ use Rattle.std.proofs.Common.{◌≡◌, ℕ, zero, suc, ◌+◌, ◌-◌, ◌*�
 use Rattle.std.proofs.Common.{subst, arith, List, length, slice_index_or, slice_set, Fits, w64}
 use Rattle.std.proofs.Math.Nat.{mod-one, mod-eq_of_lt}
 use Rattle.std.specs.List.{AllByRecursion as Each}
-use Rattle.ph_specs.specs.Digits.{digits_at}
-use Rattle.ph_specs.proofs.laws.WordDigits.{each-fits, digits-one, digits-two, digits-parts, digits-below, digits-within}
+use Rattle.ph_model.specs.Digits.{digits_at}
+use Rattle.ph_model.proofs.laws.WordDigits.{each-fits, digits-one, digits-two, digits-parts, digits-below, digits-within}
 use Rattle.ph_bits.specs.Fields.{number_in, with_digits, IsPut}
 use Rattle.ph_bits.specs.Moved.{IsMoved}
 use Rattle.ph_bits.proofs.Codes.{one}

@@ -6,9 +6,9 @@ use Rattle.std.specs.List.{AllByRecursion as Each}
 use Rattle.std.proofs.lemmas.Nat.{div-mul-add, mod-mul-add, pow-add, pow_pos}
 use Rattle.std.proofs.Math.Nat.{mod-eq_of_lt, mod-lt, div-mul-le_self, mul-le-mul_left, pow-le-pow_right}
 use Rattle.ph_specs.specs.Digits.{Field, field, number_after, number_of, digits_of, pieces}
-use Rattle.ph_specs.specs.PutTree.{same_digits}
+use Rattle.ph_specs.specs.DelTree.{same_digits}
 use Rattle.ph_specs.proofs.lemmas.Numbers.{number_after-start, number_of-small, number_of-pieces}
-use Rattle.ph_specs.proofs.lemmas.PointDigits.{same_digits-true, same_digits-refl}
+use Rattle.ph_model.proofs.lemmas.PointDigits.{same_digits-true, same_digits-refl}
 use Rattle.ph_specs.proofs.laws.Put.{either}
 use Rattle.ph_bits.specs.Fields.{cut}
 

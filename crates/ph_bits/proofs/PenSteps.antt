@@ -3,7 +3,7 @@ use Rattle.std.proofs.Common.{◌≡◌, ℕ, suc, ◌+◌, ◌-◌, ◌*◌, �
 use Rattle.std.proofs.lemmas.Nat.{pow-add, shl_whole, shr_split, shr_below, and_mask}
 use Rattle.std.proofs.Math.Nat.{mul-le-mul_left, mod-eq_of_lt, pow-le-pow_right}
 use Rattle.ph_bits.specs.Fields.{number_in}
-use Rattle.ph_specs.proofs.laws.WordDigits.{number-append}
+use Rattle.ph_model.proofs.laws.WordDigits.{number-append}
 
 -- a word more
 pub number-push : (ws : List ℕ) (x : ℕ) → number_in (ws ++ x ∷ []) ≡ number_in ws * 2 ^ 64 + x

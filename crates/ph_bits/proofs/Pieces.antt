@@ -1,6 +1,7 @@
 -- One field of a row by the digits of all.
 use Rattle.std.proofs.Common.{◌≡◌, ℕ, ◌+◌, ◌-◌, ◌*◌, ◌/◌, ◌%◌, ◌^◌, ◌<◌, ◌≤◌, sym, ◌∙◌, ap, List, length, slice_index_or}
-use Rattle.ph_specs.specs.Digits.{digits_at, pieces}
+use Rattle.ph_specs.specs.Digits.{pieces}
+use Rattle.ph_model.specs.Digits.{digits_at}
 use Rattle.ph_bits.specs.Fields.{digits_row}
 use Rattle.ph_bits.proofs.RowPlaces.{pieces-at, pieces-row}
 

@@ -3,10 +3,10 @@ use Rattle.std.proofs.Common.{◌≡◌, refl, Fits, w64, slice_index_or, ℕ, �
 use Rattle.std.specs.List.{AllByRecursion as Each}
 use Rattle.std.proofs.lemmas.Nat.{div-mul-add, mod-mul-add, pow_pos, shr-shr, shr_split, mod_below}
 use Rattle.std.proofs.Math.Nat.{mod-eq_of_lt}
-use Rattle.ph_specs.specs.Digits.{digits_at}
+use Rattle.ph_model.specs.Digits.{digits_at}
 use Rattle.ph_specs.proofs.lemmas.Numbers.{number_of-pieces, length-pieces}
 use Rattle.ph_bits.specs.Fields.{number_in, with_digits, IsPut}
-use Rattle.ph_specs.proofs.laws.WordDigits.{each-fits, high_gone, number-small}
+use Rattle.ph_model.proofs.laws.WordDigits.{each-fits, high_gone, number-small}
 use Rattle.ph_bits.proofs.Stores.{replaced-fits}
 
 -- a number with v in its w digits in front of the last k

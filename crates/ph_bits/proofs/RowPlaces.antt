@@ -2,10 +2,11 @@
 use Rattle.std.proofs.Common.{◌≡◌, ℕ, zero, suc, ◌+◌, ◌-◌, ◌*◌, ◌/◌, ◌%◌, ◌^◌, ◌<◌, ◌≤◌, refl, sym, ◌∙◌, ap, subst, arith}
 use Rattle.std.proofs.Common.{List, [], ◌∷◌, ◌++◌, length, take, drop, replicate, slice_index_or, slice_set}
 use Rattle.std.proofs.lemmas.List.{take_more_set}
-use Rattle.ph_specs.specs.Digits.{pieces, digits_at}
+use Rattle.ph_specs.specs.Digits.{pieces}
+use Rattle.ph_model.specs.Digits.{digits_at}
 use Rattle.ph_specs.proofs.lemmas.Numbers.{length-pieces}
 use Rattle.ph_bits.specs.Fields.{digits_row}
-use Rattle.ph_specs.proofs.laws.WordDigits.{digits-within}
+use Rattle.ph_model.proofs.laws.WordDigits.{digits-within}
 
 pub length-row : (ws : List ℕ) (at w n : ℕ) → length (digits_row ws at w n) ≡ n
 length-row ws at w zero = refl

@@ -5,10 +5,11 @@ use Rattle.std.specs.List.{AllByRecursion as Each}
 use Rattle.std.proofs.lemmas.List.{length-set}
 use Rattle.std.proofs.lemmas.Nat.{field_of, shl-shr, shr-shr, pow-add, mod-pow-add, pow_pos, shr_split, mod_below, shr_below}
 use Rattle.std.proofs.Math.Nat.{mul-le-mul_left}
-use Rattle.ph_specs.specs.Digits.{pieces, digits_at}
+use Rattle.ph_specs.specs.Digits.{pieces}
+use Rattle.ph_model.specs.Digits.{digits_at}
 use Rattle.ph_specs.proofs.laws.ReadBack.{pieces-number}
 use Rattle.ph_bits.specs.Fields.{number_in, with_digits}
-use Rattle.ph_specs.proofs.laws.WordDigits.{number-front, digits-one, digits-two}
+use Rattle.ph_model.proofs.laws.WordDigits.{number-front, digits-one, digits-two}
 
 -- ---- numbers
 

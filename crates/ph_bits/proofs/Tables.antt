@@ -4,11 +4,11 @@ use Rattle.std.specs.List.{AllByRecursion as Each}
 use Rattle.std.proofs.lemmas.Nat.{pow-add}
 use Rattle.ph_specs.specs.Digits.{Field, number_after, number_of, digits_of, words_for, words_of, pieces}
 use Rattle.ph_specs.proofs.lemmas.Numbers.{Fit, number_after-start, length-words_of, number_of-words_of}
-use Rattle.ph_specs.proofs.lemmas.RowsBehind.{Each-append}
-use Rattle.ph_specs.proofs.laws.OneToOne.{pieces-small}
+use Rattle.ph_model.proofs.lemmas.RowsBehind.{Each-append}
+use Rattle.ph_model.proofs.laws.OneToOne.{pieces-small}
 use Rattle.ph_specs.proofs.laws.ReadBack.{pieces-number}
 use Rattle.ph_bits.specs.Fields.{number_in}
-use Rattle.ph_specs.proofs.laws.WordDigits.{number-append}
+use Rattle.ph_model.proofs.laws.WordDigits.{number-append}
 
 -- words are known by their number
 same-number : (xs ys : List ℕ) → Each (λ x. x < 2 ^ 64) xs → Each (λ x. x < 2 ^ 64) ys → length xs ≡ length ys → number_in xs ≡ number_in ys → xs ≡ ys

@@ -4,7 +4,7 @@ use Rattle.ph_specs.specs.Digits.{words_for}
 use Rattle.ph_specs.specs.Node.{Flat}
 use Rattle.ph_specs.specs.Pack.{is_cube, cube_digits, linear_digits}
 use Rattle.ph_specs.specs.Record.{Read, read_point, read_child, entries_in, values_in}
-use Rattle.ph_specs.specs.Layout.{entries_as, values_as}
+use Rattle.ph_model.specs.Layout.{entries_as, values_as}
 use Rattle.ph_bits.specs.declared.edits.Edit.{Edit}
 use Rattle.ph_bits.specs.declared.entries.Packed.{Packed}
 

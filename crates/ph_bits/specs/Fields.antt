@@ -1,7 +1,8 @@
 -- Fields of words: the number of so many digits, rows of them, and how many of them are ones.
 use Rattle.std.specs.Prelude.{◌≡◌, ◌≤◌, ℕ, zero, suc, ◌+◌, ◌-◌, ◌*◌, ◌/◌, ◌%◌, ◌^◌, List, [], ◌∷◌, length, map, take, drop, replicate}
 use Rattle.std.specs.Int.RustNames.{count_ones}
-use Rattle.ph_specs.specs.Digits.{field, number_of, pieces, digits_at}
+use Rattle.ph_specs.specs.Digits.{field, number_of, pieces}
+use Rattle.ph_model.specs.Digits.{digits_at}
 
 -- the number that words make
 abbrev pub number_in : List ℕ → ℕ

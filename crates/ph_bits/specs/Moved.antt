@@ -1,6 +1,6 @@
 -- Runs of digits that were moved within words.
 use Rattle.std.specs.Prelude.{◌≡◌, ◌≤◌, ℕ, ◌+◌, ◌*◌, List, length}
-use Rattle.ph_specs.specs.Digits.{digits_at}
+use Rattle.ph_model.specs.Digits.{digits_at}
 
 -- new words have in `len` digits from digit `to` on what the old ones had from digit `from` on, and in front of them and
 -- behind them the digits of the old ones

@@ -1,6 +1,6 @@
 -- What an entry that was read stands for.
 use Rattle.std.specs.Prelude.{◌≡◌, ℕ, ◌+◌, ◌-◌, ◌*◌, ◌^◌, ◌≤◌, List, length, map, take, drop, replicate, slice_get, Some, Bool, if◌then◌else◌}
-use Rattle.ph_specs.specs.NodeSize.{children_in, points_in}
+use Rattle.ph_model.specs.NodeSize.{children_in, points_in}
 use Rattle.ph_specs.specs.Record.{Read, read_point, read_child, read}
 use Rattle.ph_bits.specs.Fields.{digits_row}
 use Rattle.ph_bits.specs.declared.entries.Packed.{Packed}

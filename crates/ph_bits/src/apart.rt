@@ -2,7 +2,8 @@
 
 ghost use Rattle.std.specs.Prelude.{◌≡◌, ◌+◌, ◌*◌, ◌^◌, ◌<◌, ◌≤◌, length};
 ghost use Rattle.std.specs.Int.{abs_diff};
-ghost use Rattle.ph_specs.specs.TreeNames.{IsBody, put_together, body_above};
+ghost use Rattle.ph_specs.specs.TreeNames.{put_together};
+ghost use Rattle.ph_model.specs.ModelNames.{IsBody, body_above};
 ghost use Rattle.ph_bits.specs.Apart.{IsDistanceWithin, greatest_square};
 ghost use Rattle.ph_bits.specs.Fields.{digits_row};
 

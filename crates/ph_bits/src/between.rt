@@ -1,7 +1,8 @@
 //! Fields behind digits that are known, compared with bounds in place.
 
 ghost use Rattle.std.specs.Prelude.{◌≡◌, ◌+◌, ◌*◌, ◌^◌, ◌≤◌, ◌&&◌, nat_le, length};
-ghost use Rattle.ph_specs.specs.TreeNames.{IsBody, put_together, body_above};
+ghost use Rattle.ph_specs.specs.TreeNames.{put_together};
+ghost use Rattle.ph_model.specs.ModelNames.{IsBody, body_above};
 ghost use Rattle.ph_bits.specs.Between.{each_between};
 ghost use Rattle.ph_bits.specs.Fields.{digits_row};
 

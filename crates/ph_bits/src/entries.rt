@@ -2,7 +2,7 @@
 
 ghost use Rattle.std.specs.Prelude.{◌≡◌, ℕ, ◌<◌, Some, List, length, map, slice_get, IfSome, ⊤};
 ghost use Rattle.ph_specs.specs.TreeNames.{Flat};
-ghost use Rattle.ph_specs.specs.RecordNames.{unvalued};
+ghost use Rattle.ph_model.specs.ModelNames.{unvalued};
 
 use ph_coord::Dims;
 

@@ -1,7 +1,7 @@
 //! Fields of binary digits in words.
 
 ghost use Rattle.std.specs.Prelude.{◌≡◌, ◌≤◌, ◌<◌, ◌+◌, ◌-◌, ◌*◌, ◌/◌, ◌%◌, ◌^◌, length};
-ghost use Rattle.ph_specs.specs.RecordNames.{digits_at};
+ghost use Rattle.ph_model.specs.ModelNames.{digits_at};
 ghost use Rattle.ph_bits.specs.Fields.{IsPut, ones_in};
 
 use std::cmp::min;

@@ -1,8 +1,8 @@
 //! Fields that are put behind digits that are known.
 
 ghost use Rattle.std.specs.Prelude.{◌≡◌, ◌+◌, ◌*◌, ◌^◌, ◌<◌, ◌≤◌, length, replicate, slice_index_or};
-ghost use Rattle.ph_specs.specs.RecordNames.{digits_at};
-ghost use Rattle.ph_specs.specs.TreeNames.{IsBody, put_together, body_above};
+ghost use Rattle.ph_model.specs.ModelNames.{digits_at, IsBody, body_above};
+ghost use Rattle.ph_specs.specs.TreeNames.{put_together};
 ghost use Rattle.ph_bits.specs.Fields.{digits_row};
 
 use crate::fields::field;

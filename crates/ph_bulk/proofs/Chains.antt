@@ -3,13 +3,14 @@ use Rattle.std.proofs.Common.{◌≡◌, ℕ, zero, suc, ◌+◌, ◌<◌, ◌�
 use Rattle.std.specs.Prelude.{Option, Some, None, slice_get}
 use Rattle.std.proofs.lemmas.List.{take_more, map-append, length-append}
 use Rattle.std.proofs.lemmas.Option.{slice_get-map, slice_get-get_or}
-use Rattle.ph_specs.specs.Node.{Entries, end, point, child, Entry, Flat, What, value, node, PlainNode, chained, in_front, flat}
-use Rattle.ph_specs.specs.NodeSize.{node_size, nodes_in}
+use Rattle.ph_specs.specs.Node.{Entries, end, point, child, Flat, PlainNode, flat}
+use Rattle.ph_model.specs.EntryList.{Entry, What, value, node, chained, in_front}
+use Rattle.ph_model.specs.NodeSize.{node_size, nodes_in}
 use Rattle.ph_specs.specs.Pack.{children}
-use Rattle.ph_specs.specs.Lawful.{IsLawfulFrom, count}
-use Rattle.ph_specs.proofs.laws.Unpacked.{child_nodes}
-use Rattle.ph_specs.proofs.laws.EntryLists.{listed-chained, entry-lawful}
-use Rattle.ph_specs.specs.Lawful.{IsLawfulEntry}
+use Rattle.ph_specs.specs.TreeRows.{count}
+use Rattle.ph_model.specs.Lawful.{IsLawfulFrom, IsLawfulEntry}
+use Rattle.ph_model.proofs.laws.Unpacked.{child_nodes}
+use Rattle.ph_model.proofs.laws.EntryLists.{listed-chained, entry-lawful}
 use Rattle.ph_bulk.specs.Parts.{flat_entry, what_value}
 
 -- ---- what a record keeps

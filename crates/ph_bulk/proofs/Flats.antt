@@ -3,9 +3,11 @@ use Rattle.std.proofs.Common.{◌≡◌, ℕ, zero, suc, ◌+◌, ◌<◌, ◌�
 use Rattle.std.specs.Prelude.{Option, Some, None, slice_get, IsTrue}
 use Rattle.std.specs.List.{list_all, AllByRecursion as Each}
 use Rattle.std.proofs.lemmas.Bool.{and_parts}
-use Rattle.ph_specs.specs.Lawful.{IsLawfulFrom, IsLawfulWhat, IsLawfulEntry, count}
-use Rattle.ph_specs.specs.Node.{Entries, Entry, node, PlainNode, flat}
-use Rattle.ph_specs.specs.NodeSize.{node_size}
+use Rattle.ph_specs.specs.TreeRows.{count}
+use Rattle.ph_model.specs.Lawful.{IsLawfulFrom, IsLawfulWhat, IsLawfulEntry}
+use Rattle.ph_specs.specs.Node.{Entries, PlainNode, flat}
+use Rattle.ph_model.specs.EntryList.{Entry, node}
+use Rattle.ph_model.specs.NodeSize.{node_size}
 use Rattle.ph_specs.specs.Shape.{node_below}
 use Rattle.ph_specs.specs.Table.{Row}
 use Rattle.ph_specs.proofs.laws.Put.{and}

@@ -1,12 +1,13 @@
 -- The record of lawful entries and their children make the node of these entries.
 use Rattle.std.proofs.Common.{◌≡◌, ℕ, ◌^◌, ◌<◌, ◌≤◌, length, arith}
 use Rattle.ph_specs.specs.Node.{Entries, PlainNode, flat}
-use Rattle.ph_specs.specs.Lawful.{IsLawfulFrom, count}
-use Rattle.ph_specs.specs.Layout.{AreRising}
+use Rattle.ph_specs.specs.TreeRows.{count}
+use Rattle.ph_model.specs.Lawful.{IsLawfulFrom}
+use Rattle.ph_model.specs.Layout.{AreRising}
 use Rattle.ph_specs.specs.Pack.{children, pack}
 use Rattle.ph_specs.specs.Record.{unpacked}
-use Rattle.ph_specs.proofs.laws.Layouts.{rising, fits-first}
-use Rattle.ph_specs.proofs.laws.Unpacked.{child_nodes, unpacked-pack}
+use Rattle.ph_model.proofs.laws.Layouts.{rising, fits-first}
+use Rattle.ph_model.proofs.laws.Unpacked.{child_nodes, unpacked-pack}
 use Rattle.ph_bulk.proofs.Chains.{flat-count, none-below}
 
 module _ (dims level : ℕ) (c : Entries) (limit : dims ≤ 16) (low : level ≤ 61) (many : 1 ≤ count c) (lawful : IsLawfulFrom dims level 0 c) where

@@ -2,14 +2,15 @@
 use Rattle.std.proofs.Common.{◌≡◌, ℕ, ◌+◌, ◌<◌, ◌≤◌, List, [], ◌∷◌, ◌++◌, length, map, take, get_or, sym, ◌∙◌, ap, subst, arith}
 use Rattle.std.specs.Prelude.{Some, IsTrue}
 use Rattle.std.specs.List.{list_all, AllByRecursion as Each}
-use Rattle.ph_specs.specs.Layout.{AreRising}
-use Rattle.ph_specs.specs.Lawful.{IsLawfulFrom, count}
+use Rattle.ph_model.specs.Layout.{AreRising}
+use Rattle.ph_specs.specs.TreeRows.{count}
+use Rattle.ph_model.specs.Lawful.{IsLawfulFrom}
 use Rattle.ph_specs.specs.Node.{Entries, Flat, PlainNode, flat}
-use Rattle.ph_specs.specs.NodeSize.{node_size, nodes_in}
+use Rattle.ph_model.specs.NodeSize.{node_size, nodes_in}
 use Rattle.ph_specs.specs.Pack.{children, record_of}
 use Rattle.ph_specs.specs.Record.{unpacked}
 use Rattle.ph_specs.specs.Table.{Row}
-use Rattle.ph_specs.proofs.laws.Unpacked.{child_nodes}
+use Rattle.ph_model.proofs.laws.Unpacked.{child_nodes}
 use Rattle.ph_shape.specs.Groups.{IsGroup}
 use Rattle.ph_shape.proofs.Fronts.{each-at}
 use Rattle.ph_bulk.specs.declared.parts.Part.{Part}

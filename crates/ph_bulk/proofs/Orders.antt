@@ -6,8 +6,8 @@ use Rattle.std.proofs.lemmas.Bool.{cases_lt, cases_eq}
 use Rattle.std.specs.Cmp.{IsStrictWeakOrder}
 use Rattle.std.specs.declared.cmp.Ordering.TheVariants.{Less, Equal, Greater}
 use Rattle.std.specs.Ordering.{is_lt, nat_cmp}
-use Rattle.ph_specs.specs.PutTree.{body_address, body_address_from}
-use Rattle.ph_specs.proofs.lemmas.Joined.{number_at, same_number}
+use Rattle.ph_model.specs.PutTree.{body_address, body_address_from}
+use Rattle.ph_model.proofs.lemmas.Joined.{number_at, same_number}
 use Rattle.ph_digits.specs.Differences.{IsTopDifference}
 use Rattle.ph_digits.proofs.Cuts.{other_address}
 use Rattle.ph_specs.proofs.laws.Order.{decided, decided-lt, decided-eq, decided_cases}

@@ -3,10 +3,11 @@ use Rattle.std.proofs.Common.{◌≡◌, ℕ, ◌-◌, ◌<◌, ◌≤◌, List,
 use Rattle.std.specs.Prelude.{Option, Some, None, MatchOption}
 use Rattle.std.specs.List.{AllByRecursion as Each}
 use Rattle.std.proofs.lemmas.List.{map-append}
-use Rattle.ph_specs.specs.Node.{Entry, Entries, in_front}
+use Rattle.ph_specs.specs.Node.{Entries}
+use Rattle.ph_model.specs.EntryList.{Entry, in_front}
 use Rattle.ph_specs.specs.Shape.{entries_of, groups, node_below}
 use Rattle.ph_specs.specs.Table.{Row}
-use Rattle.ph_specs.proofs.lemmas.RowsBehind.{Each-append}
+use Rattle.ph_model.proofs.lemmas.RowsBehind.{Each-append}
 use Rattle.ph_zorder.specs.Compared.{IsTopDifference}
 use Rattle.ph_shape.specs.Groups.{IsGroup, group_entry}
 use Rattle.ph_shape.proofs.Chains.{with_front, with_front-end, with_front-more}

@@ -2,13 +2,14 @@
 use Rattle.std.proofs.Common.{◌≡◌, ℕ, ◌+◌, ◌-◌, ◌≤◌, List, [], ◌∷◌, length, map, refl, sym, ◌∙◌, ap, subst, arith}
 use Rattle.std.specs.Prelude.{Option, Some}
 use Rattle.std.proofs.lemmas.List.{length-append}
-use Rattle.ph_specs.specs.Lawful.{IsLawful, IsLawfulFrom, count, rows}
+use Rattle.ph_specs.specs.TreeRows.{count, rows}
+use Rattle.ph_model.specs.Lawful.{IsLawful, IsLawfulFrom}
 use Rattle.ph_specs.specs.Node.{Entries, end, point, child, PlainNode, nodes, nodes_below}
-use Rattle.ph_specs.specs.NodeSize.{node_size, nodes_in}
+use Rattle.ph_model.specs.NodeSize.{node_size, nodes_in}
 use Rattle.ph_specs.specs.Shape.{shape}
 use Rattle.ph_specs.specs.Table.{Row, IsTable}
 use Rattle.ph_specs.specs.WorkSets.{all_nodes}
-use Rattle.ph_specs.proofs.laws.TableShape.{table-shape}
+use Rattle.ph_model.proofs.laws.TableShape.{table-shape}
 use Rattle.ph_tree.proofs.Compared.{length-nodes}
 use Rattle.ph_shape.specs.Groups.{IsGroup}
 use Rattle.ph_shape.proofs.Made.{map-same}

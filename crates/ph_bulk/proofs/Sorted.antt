@@ -10,16 +10,16 @@ use Rattle.std.proofs.lemmas.List.{take_more}
 use Rattle.std.proofs.lemmas.List.Sorted.{All-permutation, sorted_far}
 use Rattle.std.proofs.lemmas.List.Elements.{All-from_recursion, recursion_from_All}
 use Rattle.ph_specs.specs.Coordinate.{fits, offset, same_point, is_point, IsPoint}
-use Rattle.ph_specs.specs.Lawful.{IsBody}
+use Rattle.ph_model.specs.Lawful.{IsBody}
 use Rattle.ph_specs.specs.ZOrder.{address, before, before_below}
 use Rattle.ph_specs.specs.Table.{Row, row, find, put, is_rising, is_value, IsTable}
 use Rattle.ph_specs.specs.Sets.{put_all, table_of}
-use Rattle.ph_specs.proofs.laws.Combined.{not-back, not-same}
+use Rattle.ph_model.proofs.laws.Combined.{not-back, not-same}
 use Rattle.ph_specs.proofs.laws.Order.{decided, decided-eq}
 use Rattle.ph_specs.proofs.laws.Put.{and, is_rising-put, list_all-put, same_from_test}
 use Rattle.ph_specs.proofs.laws.SameTables.{pick, find-put_all, pick-filter, same-tables}
 use Rattle.ph_specs.proofs.laws.Sets.{is_table-table_of}
-use Rattle.ph_specs.proofs.lemmas.Joined.{offsets, address_from-is, same_number}
+use Rattle.ph_model.proofs.lemmas.Joined.{offsets, address_from-is, same_number}
 use Rattle.ph_digits.proofs.Cuts.{none_from}
 use Rattle.ph_zorder.proofs.Decided.{address-is, is_body-point}
 use Rattle.ph_shape.proofs.Fronts.{each-at}

@@ -1,7 +1,7 @@
 -- The order in which rows are sorted: by the digits of the offsets of their coordinates.
 use Rattle.std.specs.Prelude.{ℕ, zero, suc, Bool, false, ◌&&◌, ◌||◌, ◌==◌, nat_lt, if◌then◌else◌, List, [], ◌∷◌, map, ℤ}
 use Rattle.ph_specs.specs.Coordinate.{fits, offset, same_point}
-use Rattle.ph_specs.specs.PutTree.{body_address}
+use Rattle.ph_model.specs.PutTree.{body_address}
 use Rattle.ph_specs.specs.Table.{Row}
 
 -- whether numbers come before others by their digits below a place: the greatest place at which the digits differ decides

@@ -1,7 +1,7 @@
 //! The entries that parts of rows make, as a record keeps them.
 ghost use Rattle.std.specs.Prelude.{◌≡◌, ◌<◌, ◌≤◌, map, IsTrue};
 ghost use Rattle.std.specs.List.{list_all};
-ghost use Rattle.ph_specs.specs.RecordNames.{unvalued};
+ghost use Rattle.ph_model.specs.ModelNames.{unvalued};
 ghost use Rattle.ph_bits.specs.Packed.{read_of, IsPadded};
 ghost use Rattle.ph_bulk.specs.Parts.{flat_in, is_ready};
 

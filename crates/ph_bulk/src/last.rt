@@ -2,7 +2,8 @@
 ghost use Rattle.std.specs.Prelude.{◌≡◌, ◌≤◌, ◌<◌, ◌^◌, not, IfOk, OnOk, IsTrue};
 ghost use Rattle.std.specs.List.{list_all, AllByRecursion as Each};
 ghost use Rattle.std.specs.List.Sorted.{IsSortedBy};
-ghost use Rattle.ph_specs.specs.TableNames.{is_point, IsPoint, table_of, put, is_value, IsRising, IsTable, before};
+ghost use Rattle.ph_specs.specs.TableNames.{is_point, IsPoint, table_of, put, is_value, IsTable, before};
+ghost use Rattle.ph_model.specs.ModelNames.{IsRising};
 ghost use Rattle.ph_bulk.specs.Order.{row_before, is_last, without_last};
 
 use crate::NoMemory;

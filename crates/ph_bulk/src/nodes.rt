@@ -1,7 +1,8 @@
 //! The nodes of rows.
 ghost use Rattle.std.specs.Prelude.{◌≡◌, ◌<◌, ◌≤◌, ◌+◌, [], length, map, IfOk, OnOk};
 ghost use Rattle.std.specs.List.{AllByRecursion as Each};
-ghost use Rattle.ph_specs.specs.TreeNames.{IsLawfulFrom, count, node_size, nodes_in, child_nodes};
+ghost use Rattle.ph_specs.specs.TreeNames.{count};
+ghost use Rattle.ph_model.specs.ModelNames.{IsLawfulFrom, node_size, nodes_in, child_nodes};
 ghost use Rattle.ph_node.specs.Slots.{nodes_of};
 ghost use Rattle.ph_shape.specs.Groups.{IsGroup};
 ghost use Rattle.ph_bulk.specs.Parts.{IsPart, chain_of, node_made};

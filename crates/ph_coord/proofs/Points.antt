@@ -3,7 +3,7 @@ use Rattle.std.proofs.Common.{◌≡◌, ℕ, ◌≤◌, ◌<◌, ◌^◌, List,
 use Rattle.std.specs.List.{list_all, AllByRecursion as Each}
 use Rattle.std.proofs.lemmas.List.{length-map}
 use Rattle.ph_specs.specs.Coordinate.{coordinate, fits, is_point}
-use Rattle.ph_specs.proofs.laws.LawfulRows.{coordinate-fits}
+use Rattle.ph_specs.proofs.laws.Coordinates.{coordinate-fits}
 
 all-fit : (w : ℕ) (xs : List ℕ) → 1 ≤ w → Each (λ x. x < 2 ^ w) xs → list_all (fits w) (map (coordinate w) xs) ≡ true
 all-fit w [] l h = refl

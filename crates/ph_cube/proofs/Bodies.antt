@@ -5,10 +5,11 @@ use Rattle.std.specs.Option.{option_map}
 use Rattle.std.specs.List.{AllByRecursion as Each}
 use Rattle.std.proofs.lemmas.Option.{slice_get-map}
 use Rattle.std.proofs.Math.Nat.{mul-le-mul_left, pow-le-pow_right}
-use Rattle.ph_specs.specs.Digits.{digits_at, words_for}
+use Rattle.ph_specs.specs.Digits.{words_for}
+use Rattle.ph_model.specs.Digits.{digits_at}
 use Rattle.ph_specs.specs.Record.{first_in}
-use Rattle.ph_specs.specs.Layout.{IsRecord, entries_as, fields_as}
-use Rattle.ph_specs.proofs.laws.TableFields.{parts-at}
+use Rattle.ph_model.specs.Layout.{IsRecord, entries_as, fields_as}
+use Rattle.ph_model.proofs.laws.TableFields.{parts-at}
 use Rattle.ph_bits.specs.Fields.{digits_row}
 use Rattle.ph_bits.specs.Packed.{read_body, IsBodyAt}
 use Rattle.ph_linear.proofs.Bodies.{body-read}

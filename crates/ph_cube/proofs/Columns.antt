@@ -4,11 +4,11 @@ use Rattle.std.proofs.Common.{length-append, length-take, length-drop, min, take
 use Rattle.std.specs.List.{AllByRecursion as Each}
 use Rattle.std.proofs.lemmas.List.{get_or-take, get_or-drop, length-replicate, get_or-replicate}
 use Rattle.std.proofs.Math.Nat.{mul-le-mul_left}
-use Rattle.ph_specs.specs.Digits.{digits_at}
+use Rattle.ph_model.specs.Digits.{digits_at}
 use Rattle.ph_specs.specs.Record.{first_in}
-use Rattle.ph_specs.specs.Layout.{fields_as, IsRecord}
+use Rattle.ph_model.specs.Layout.{fields_as, IsRecord}
 use Rattle.ph_bits.specs.Fields.{digits_row}
-use Rattle.ph_specs.proofs.laws.TableFields.{field-digits, length-fields, total-replicate, total-behind, total-all, at-replicate, at-behind, long, long-behind}
+use Rattle.ph_model.proofs.laws.TableFields.{field-digits, length-fields, total-replicate, total-behind, total-all, at-replicate, at-behind, long, long-behind}
 use Rattle.ph_linear.proofs.Columns.{drop_one}
 use Rattle.ph_cube.specs.Cube.{kinds}
 

@@ -6,13 +6,13 @@ use Rattle.std.specs.List.{AllByRecursion as Each, position_or_len}
 use Rattle.std.proofs.lemmas.Bool.{leb-false, leb-true}
 use Rattle.std.proofs.lemmas.List.{length-replicate}
 use Rattle.ph_specs.specs.Digits.{digits_of}
-use Rattle.ph_specs.specs.Layout.{read_address}
+use Rattle.ph_model.specs.Layout.{read_address}
 use Rattle.ph_specs.specs.Node.{Flat}
 use Rattle.ph_specs.specs.Pack.{at_address, places, place_kind, place_body, bodies, body_fields}
 use Rattle.ph_specs.specs.Record.{Read, read_point, read_child, read, read_cube}
-use Rattle.ph_specs.proofs.lemmas.Columns.{digits_of-append}
-use Rattle.ph_specs.proofs.lemmas.Counted.{spots}
-use Rattle.ph_specs.proofs.lemmas.RowsBehind.{Each-each}
+use Rattle.ph_model.proofs.lemmas.Columns.{digits_of-append}
+use Rattle.ph_model.proofs.lemmas.Counted.{spots}
+use Rattle.ph_specs.proofs.lemmas.Members.{Each-each}
 use Rattle.ph_bits.specs.Edits.{flats}
 
 -- ---- entries that rise

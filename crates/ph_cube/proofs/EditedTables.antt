@@ -5,15 +5,15 @@ use Rattle.std.specs.Prelude.{Option, Some, None, nat_le, if◌then◌else◌}
 use Rattle.std.specs.List.{AllByRecursion as Each}
 use Rattle.std.proofs.lemmas.List.{append-nil, map-append}
 use Rattle.ph_specs.specs.Digits.{Field, field, number_after, digits_of}
-use Rattle.ph_specs.specs.Layout.{IsRecord, entries_as, values_as, fields_as, digits_as, number_as, AreRising}
-use Rattle.ph_specs.specs.Lawful.{IsBody}
+use Rattle.ph_model.specs.Layout.{IsRecord, entries_as, values_as, fields_as, digits_as, number_as, AreRising}
+use Rattle.ph_model.specs.Lawful.{IsBody}
 use Rattle.ph_specs.specs.Node.{Flat}
 use Rattle.ph_specs.specs.Pack.{bodies, cube_table, at_address, places, place_kind, place_body, child_mark}
 use Rattle.ph_specs.specs.Record.{First, first_in, widths, padding}
-use Rattle.ph_specs.proofs.laws.TableFields.{length-fields}
-use Rattle.ph_specs.proofs.lemmas.ReadColumns.{fit-read}
-use Rattle.ph_specs.proofs.lemmas.RowsBehind.{Each-each}
-use Rattle.ph_specs.proofs.lemmas.TablesAgain.{length-widths, cube-bodies}
+use Rattle.ph_model.proofs.laws.TableFields.{length-fields}
+use Rattle.ph_model.proofs.lemmas.ReadColumns.{fit-read}
+use Rattle.ph_specs.proofs.lemmas.Members.{Each-each}
+use Rattle.ph_model.proofs.lemmas.TablesAgain.{length-widths, cube-bodies}
 use Rattle.ph_bits.specs.Edits.{edited_as, flats, new_flat}
 use Rattle.ph_bits.specs.declared.edits.Edit.{Edit}
 use Rattle.ph_linear.specs.Edited.{column_edited}

@@ -4,11 +4,11 @@ use Rattle.std.specs.Prelude.{Some, ◌==◌, if◌then◌else◌, slice_get}
 use Rattle.std.specs.Option.{option_map}
 use Rattle.std.specs.List.{AllByRecursion as Each}
 use Rattle.std.proofs.lemmas.Option.{slice_get-get_or, slice_get-map}
-use Rattle.ph_specs.specs.Digits.{digits_at}
+use Rattle.ph_model.specs.Digits.{digits_at}
 use Rattle.ph_specs.specs.Record.{first_in, read}
-use Rattle.ph_specs.specs.Layout.{IsRecord, entries_as, read_address, is_child}
-use Rattle.ph_specs.specs.NodeSize.{children_in}
-use Rattle.ph_specs.proofs.lemmas.ReadColumns.{length-parts}
+use Rattle.ph_model.specs.Layout.{IsRecord, entries_as, read_address, is_child}
+use Rattle.ph_model.specs.NodeSize.{children_in}
+use Rattle.ph_model.proofs.lemmas.ReadColumns.{length-parts}
 use Rattle.ph_bits.specs.Fields.{ones_in}
 use Rattle.ph_linear.proofs.Entries.{no_read, address-read, kind-read}
 use Rattle.ph_cube.specs.Cube.{kinds, bodies, twos_in}

@@ -4,10 +4,10 @@ use Rattle.std.specs.Int.RustNames.{count_ones}
 use Rattle.std.proofs.lemmas.Nat.{ones_cat, and_block, and_le_l}
 use Rattle.std.proofs.lemmas.Nat.Bits.{and_pow}
 use Rattle.std.specs.Int.{bit_at}
-use Rattle.ph_specs.specs.Digits.{digits_at}
+use Rattle.ph_model.specs.Digits.{digits_at}
 use Rattle.std.proofs.Math.Nat.{mod-eq_of_lt}
 use Rattle.std.proofs.lemmas.Nat.{shr_below}
-use Rattle.ph_specs.proofs.laws.WordDigits.{digits-parts, digits-below, digits-one, each-fits}
+use Rattle.ph_model.proofs.laws.WordDigits.{digits-parts, digits-below, digits-one, each-fits}
 use Rattle.ph_cube.specs.Cube.{twos_in, HIGH}
 
 abbrev mask : ℕ → ℕ

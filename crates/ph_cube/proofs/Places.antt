@@ -5,8 +5,8 @@ use Rattle.std.specs.Prelude.{◌==◌, nat_le, if◌then◌else◌}
 use Rattle.std.specs.List.{position_or_len}
 use Rattle.std.proofs.lemmas.Bool.{lt-leb, le-leb}
 use Rattle.ph_specs.specs.Record.{Read, read, read_cube}
-use Rattle.ph_specs.specs.Layout.{read_address}
-use Rattle.ph_specs.specs.NodeSize.{children_in}
+use Rattle.ph_model.specs.Layout.{read_address}
+use Rattle.ph_model.specs.NodeSize.{children_in}
 use Rattle.ph_linear.proofs.Entries.{no_read, address-read}
 
 abbrev mark : Bool → ℕ

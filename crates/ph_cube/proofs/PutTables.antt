@@ -3,12 +3,12 @@ use Rattle.std.proofs.Common.{◌≡◌, ℕ, ◌+◌, ◌*◌, ◌^◌, ◌≤�
 use Rattle.std.proofs.Common.{◌∷◌, ◌++◌, length, length-append, map, replicate, slice_index_or, true}
 use Rattle.std.specs.List.{AllByRecursion as Each}
 use Rattle.ph_specs.specs.Digits.{Field, field, number_of, digits_of, words_of}
-use Rattle.ph_specs.specs.Layout.{IsRecord, entries_as, values_as, AreRising}
+use Rattle.ph_model.specs.Layout.{IsRecord, entries_as, values_as, AreRising}
 use Rattle.ph_specs.specs.Node.{Flat}
 use Rattle.ph_specs.specs.Pack.{bodies, cube_table, at_address, places, place_kind, place_body}
 use Rattle.ph_specs.specs.Record.{first_in}
-use Rattle.ph_specs.proofs.lemmas.Columns.{digits_of-append}
-use Rattle.ph_specs.proofs.lemmas.LayoutTables.{table-digits, table-fit}
+use Rattle.ph_model.proofs.lemmas.Columns.{digits_of-append}
+use Rattle.ph_model.proofs.lemmas.LayoutTables.{table-digits, table-fit}
 use Rattle.ph_specs.proofs.lemmas.Numbers.{number_after-start, length-words_of}
 use Rattle.ph_bits.specs.Edits.{edited_as, flats}
 use Rattle.ph_bits.specs.declared.edits.Edit.{Edit}

@@ -7,13 +7,14 @@ use Rattle.std.specs.Int.RustNames.{count_ones}
 use Rattle.std.proofs.lemmas.Bool.{leb-true, and_parts}
 use Rattle.std.proofs.Common.{eqb-true}
 use Rattle.std.proofs.lemmas.Nat.{ones_cat}
-use Rattle.ph_specs.specs.Digits.{digits_at, words_for}
+use Rattle.ph_specs.specs.Digits.{words_for}
+use Rattle.ph_model.specs.Digits.{digits_at}
 use Rattle.ph_specs.specs.Record.{first_in, absent_are_zero}
-use Rattle.ph_specs.proofs.lemmas.Counted.{ones, ones-count, kids-cube}
+use Rattle.ph_model.proofs.lemmas.Counted.{ones, ones-count, kids-cube}
 use Rattle.ph_bits.specs.Fields.{ones_in}
-use Rattle.ph_specs.specs.Layout.{IsRecord, entries_as}
-use Rattle.ph_specs.proofs.laws.WordDigits.{digits-parts, digits-below}
-use Rattle.ph_specs.proofs.lemmas.ReadColumns.{length-parts}
+use Rattle.ph_model.specs.Layout.{IsRecord, entries_as}
+use Rattle.ph_model.proofs.laws.WordDigits.{digits-parts, digits-below}
+use Rattle.ph_model.proofs.lemmas.ReadColumns.{length-parts}
 use Rattle.ph_cube.specs.Cube.{kinds, bodies, twos_in}
 use Rattle.ph_cube.proofs.Columns.{length-kinds, kind-digits}
 use Rattle.ph_cube.proofs.Places.{present, twos, present-more, twos-more}

@@ -11,8 +11,8 @@ use Rattle.ph_specs.specs.Node.{Flat}
 use Rattle.ph_specs.specs.Record.{Read, read}
 use Rattle.ph_specs.specs.Digits.{number_after}
 use Rattle.ph_specs.specs.Pack.{child_mark, children, bodies, body_fields, places, at_address, place_kind, place_body, cube_table}
-use Rattle.ph_specs.specs.Layout.{unvalued, AreRising}
-use Rattle.ph_specs.proofs.lemmas.Columns.{number_after-append, mark-small}
+use Rattle.ph_model.specs.Layout.{unvalued, AreRising}
+use Rattle.ph_model.proofs.lemmas.Columns.{number_after-append, mark-small}
 use Rattle.ph_linear.proofs.Entries.{no_read}
 use Rattle.ph_linear.proofs.Writing.{no_flat, Given, given-of}
 use Rattle.ph_cube.specs.Written.{kind_number, is_there}

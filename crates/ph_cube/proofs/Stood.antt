@@ -6,8 +6,8 @@ use Rattle.std.specs.Option.{option_map, unwrap_or}
 use Rattle.std.proofs.lemmas.Option.{slice_get-map, slice_get-get_or}
 use Rattle.std.specs.List.{AllByRecursion as Each, position_or_len}
 use Rattle.ph_bits.specs.Fields.{ones_in}
-use Rattle.ph_specs.specs.Layout.{IsRecord, entries_as, read_address}
-use Rattle.ph_specs.proofs.lemmas.ReadColumns.{length-parts}
+use Rattle.ph_model.specs.Layout.{IsRecord, entries_as, read_address}
+use Rattle.ph_model.proofs.lemmas.ReadColumns.{length-parts}
 use Rattle.ph_cube.specs.Cube.{kinds, bodies}
 use Rattle.ph_cube.specs.Stands.{StandsAt}
 use Rattle.ph_cube.proofs.Columns.{length-kinds}

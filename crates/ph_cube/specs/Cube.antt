@@ -2,9 +2,9 @@
 use Rattle.std.specs.Prelude.{ℕ, zero, suc, ◌+◌, ◌*◌, ◌/◌, ◌^◌, List, take, drop, true}
 use Rattle.std.specs.Int.RustNames.{count_ones}
 use Rattle.std.specs.Int.Bits.{bit_and}
-use Rattle.ph_specs.specs.Digits.{digits_at}
+use Rattle.ph_model.specs.Digits.{digits_at}
 use Rattle.ph_specs.specs.Record.{parts}
-use Rattle.ph_specs.specs.Layout.{fields_as}
+use Rattle.ph_model.specs.Layout.{fields_as}
 
 abbrev pub kinds : ℕ → List ℕ → List ℕ
 kinds dims words = take (2 ^ dims) (fields_as true dims words)

@@ -1,7 +1,7 @@
 -- One edit at an address.
 use Rattle.std.specs.Prelude.{◌≡◌, ℕ, ◌+◌, ◌^◌, ◌<◌, ◌≤◌, List, nat_le, true}
 use Rattle.std.specs.List.{position_or_len}
-use Rattle.ph_specs.specs.Layout.{entries_as, read_address}
+use Rattle.ph_model.specs.Layout.{entries_as, read_address}
 use Rattle.ph_bits.specs.declared.edits.Edit.{Edit}
 
 -- how many entries of a record stand in front of an address

@@ -1,8 +1,8 @@
 //! Changing what stands at one address of a cube record where the record lies.
 
 ghost use Rattle.std.specs.Prelude.{◌≡◌, ◌+◌, ◌-◌, ◌*◌, ◌^◌, ◌<◌, ◌≤◌, true, false, Some, length, map, take, replicate, slice_get, if◌then◌else◌};
-ghost use Rattle.ph_specs.specs.RecordNames.{words_for, IsRecord, AreRising, entries_as, is_child, cube_digits, record_in, first_in};
-ghost use Rattle.ph_specs.specs.TreeNames.{points_in};
+ghost use Rattle.ph_specs.specs.RecordNames.{words_for, cube_digits, record_in, first_in};
+ghost use Rattle.ph_model.specs.ModelNames.{IsRecord, AreRising, entries_as, is_child, points_in};
 ghost use Rattle.ph_bits.specs.Edits.{edited_as};
 ghost use Rattle.ph_linear.specs.Edited.{IsChanged, IsColumn, IsOutline, with_table};
 ghost use Rattle.ph_cube.specs.Edited.{IsEditAt, entries_below};

@@ -1,7 +1,8 @@
 //! Parts of an entry whose place and address are known.
 
 ghost use Rattle.std.specs.Prelude.{◌≡◌, ◌+◌, ◌<◌, Some, true, map, slice_get};
-ghost use Rattle.ph_specs.specs.RecordNames.{first_in, IsRecord, entries_as, read_address, is_child as read_child_test};
+ghost use Rattle.ph_specs.specs.RecordNames.{first_in};
+ghost use Rattle.ph_model.specs.ModelNames.{IsRecord, entries_as, read_address, is_child as read_child_test};
 ghost use Rattle.ph_bits.specs.Packed.{rank_at as rank_in, IsBodyAt};
 
 use crate::parts::{body_of, child_at, next_present, rank_of};

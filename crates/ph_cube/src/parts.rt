@@ -1,7 +1,8 @@
 //! Single parts of a cube record.
 
 ghost use Rattle.std.specs.Prelude.{◌≡◌, ◌+◌, ◌*◌, ◌^◌, ◌<◌, ◌≤◌, ◌==◌, true, length};
-ghost use Rattle.ph_specs.specs.RecordNames.{digits_at, first_in, IsRecord, entries_as};
+ghost use Rattle.ph_specs.specs.RecordNames.{first_in};
+ghost use Rattle.ph_model.specs.ModelNames.{digits_at, IsRecord, entries_as};
 ghost use Rattle.ph_bits.specs.Fields.{ones_in};
 ghost use Rattle.ph_bits.specs.Packed.{rank_at, IsBodyAt};
 ghost use Rattle.ph_cube.specs.Cube.{twos_in, HIGH};

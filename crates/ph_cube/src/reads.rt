@@ -1,7 +1,8 @@
 //! The entries of a cube record.
 
 ghost use Rattle.std.specs.Prelude.{◌≡◌, ◌==◌, ◌+◌, ◌*◌, ◌^◌, ◌<◌, ◌≤◌, ℕ, Bool, Some, None, true, map, position, slice_get, IfSome, IsNone};
-ghost use Rattle.ph_specs.specs.RecordNames.{cube_digits, first_in, IsRecord, entries_as, read_address, is_child as read_child_test};
+ghost use Rattle.ph_specs.specs.RecordNames.{cube_digits, first_in};
+ghost use Rattle.ph_model.specs.ModelNames.{IsRecord, entries_as, read_address, is_child as read_child_test};
 ghost use Rattle.ph_bits.specs.Packed.{read_of, rank_at, IsPadded};
 ghost use Rattle.ph_cube.specs.Stands.{StandsAt};
 

@@ -2,7 +2,7 @@
 
 ghost use Rattle.std.specs.Prelude.{◌≡◌, ◌*◌, ◌+◌, ◌^◌, ◌<◌, ◌==◌, nat_le, None, Some, true, position, IfOk, IfErr};
 ghost use Rattle.std.specs.List.{position_or_len};
-ghost use Rattle.ph_specs.specs.RecordNames.{IsRecord, entries_as, read_address};
+ghost use Rattle.ph_model.specs.ModelNames.{IsRecord, entries_as, read_address};
 
 use ph_bits::{field, ones_before};
 use ph_linear::count_in;

@@ -2,7 +2,8 @@
 
 ghost use Rattle.std.specs.Prelude.{◌≡◌, ◌+◌, ◌*◌, ◌^◌, ◌<◌, ◌≤◌, true, length, drop, map, IfSome};
 ghost use Rattle.ph_specs.specs.RecordNames.{number_after, words_for, children, values, bodies, body_fields, cube_digits, record_in, places, at_address, place_kind};
-ghost use Rattle.ph_specs.specs.RecordNames.{place_body, unvalued, AreRising};
+ghost use Rattle.ph_specs.specs.RecordNames.{place_body};
+ghost use Rattle.ph_model.specs.ModelNames.{unvalued, AreRising};
 ghost use Rattle.std.specs.Option.{option_map};
 ghost use Rattle.ph_bits.specs.Block.{room_of, IsSamePlaces};
 ghost use Rattle.ph_bits.specs.Packed.{read_of};

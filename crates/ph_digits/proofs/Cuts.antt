@@ -3,9 +3,9 @@ use Rattle.std.proofs.Common.{◌≡◌, ◌≢◌, ℕ, zero, suc, ◌+◌, ◌
 use Rattle.std.specs.List.{take-map}
 use Rattle.std.proofs.lemmas.Nat.{pow_pos, shr_split, shr-shr}
 use Rattle.std.proofs.Math.Nat.{mod-lt, div-eq_of_lt, pow-succ'}
-use Rattle.ph_specs.specs.Lawful.{IsBody, HasZerosFrom}
+use Rattle.ph_model.specs.Lawful.{IsBody, HasZerosFrom}
 use Rattle.ph_specs.proofs.lemmas.Places.{quotient}
-use Rattle.ph_specs.specs.PutTree.{digits_from, body_address_from, body_address, body_below, body_above}
+use Rattle.ph_model.specs.PutTree.{digits_from, body_address_from, body_address, body_below, body_above}
 
 pub take-below : (place n : ℕ) (body : List ℕ) → take n (body_below place body) ≡ body_below place (take n body)
 take-below place n body = take-map (λ x. x % 2 ^ place) n body

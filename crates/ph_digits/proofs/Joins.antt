@@ -7,9 +7,10 @@ use Rattle.std.proofs.Math.Pow.{pow_mono}
 use Rattle.std.proofs.Math.Seq.{take-suc-set}
 use Rattle.std.proofs.lemmas.Nat.{pow_pos}
 use Rattle.std.proofs.lemmas.List.{take_more, drop-set-lt}
-use Rattle.ph_specs.specs.Lawful.{IsBody, put_together}
-use Rattle.ph_specs.specs.PutTree.{body_above}
-use Rattle.ph_specs.proofs.lemmas.Joined.{length-put_together, get-put_together}
+use Rattle.ph_specs.specs.TreeRows.{put_together}
+use Rattle.ph_model.specs.Lawful.{IsBody}
+use Rattle.ph_model.specs.PutTree.{body_above}
+use Rattle.ph_model.proofs.lemmas.Joined.{length-put_together, get-put_together}
 
 digit-small : (d level : ℕ) → d < 2 → level ≤ 61 → d * 2 ^ level ≤ 2 ^ 61
 digit-small zero level h l = omega arith

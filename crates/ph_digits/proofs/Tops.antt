@@ -10,8 +10,8 @@ use Rattle.std.proofs.lemmas.Nat.Bits.{bit_at-zero, bit_at_above, same_from_bits
 use Rattle.std.proofs.Math.Nat.{div-eq_of_lt-le}
 use Rattle.std.proofs.Math.Pow.{pow_mono}
 use Rattle.std.proofs.lemmas.Bool.{cases_lt}
-use Rattle.ph_specs.specs.Lawful.{IsBody}
-use Rattle.ph_specs.specs.PutTree.{digits_from}
+use Rattle.ph_model.specs.Lawful.{IsBody}
+use Rattle.ph_model.specs.PutTree.{digits_from}
 use Rattle.ph_specs.proofs.lemmas.JoinedBits.{joined-none, joined-same}
 use Rattle.ph_digits.proofs.Cuts.{none_from}
 use Rattle.ph_digits.specs.Differences.{differences, IsTopDifference}

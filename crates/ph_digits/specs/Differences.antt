@@ -1,7 +1,7 @@
 -- The word whose digits tell at which places numbers differ, and the greatest of these places.
 use Rattle.std.specs.Prelude.{◌≡◌, ℕ, ◌+◌, ◌<◌, List, [], ◌∷◌}
 use Rattle.std.specs.Int.Bits.{bit_or, bit_xor}
-use Rattle.ph_specs.specs.PutTree.{digits_from}
+use Rattle.ph_model.specs.PutTree.{digits_from}
 
 -- a word, joined with the exclusive or of each two numbers
 abbrev pub differences : ℕ → List ℕ → List ℕ → ℕ

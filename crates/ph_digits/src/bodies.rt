@@ -1,7 +1,8 @@
 //! The digits of the fields of a body, a field for each dimension.
 
 ghost use Rattle.std.specs.Prelude.{◌≡◌, ◌<◌, ◌≤◌, ◌^◌, length};
-ghost use Rattle.ph_specs.specs.TreeNames.{IsBody, put_together, body_above, body_address, body_below};
+ghost use Rattle.ph_specs.specs.TreeNames.{put_together};
+ghost use Rattle.ph_model.specs.ModelNames.{IsBody, body_above, body_address, body_below};
 
 use crate::words::{address_digit, digit, digits_above, digits_below};
 

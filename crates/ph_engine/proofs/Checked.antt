@@ -20,7 +20,7 @@ use Rattle.ph_specs.specs.SavedTable.{fault_reply, read_unless, rows_saved}
 use Rattle.ph_specs.specs.State.{Files}
 use Rattle.ph_specs.specs.Stats.{Stats, stats}
 use Rattle.ph_specs.specs.WorkSets.{all_nodes}
-use Rattle.ph_specs.proofs.laws.Snapshots.{none-from_snapshot, read-from_snapshot}
+use Rattle.ph_model.proofs.laws.Snapshots.{none-from_snapshot, read-from_snapshot}
 use Rattle.ph_script.specs.declared.reply.Reply.{Reply as Told}
 use Rattle.ph_script.specs.Meaning.{reply_of}
 use Rattle.ph_snap.specs.Faults.{IsLoadFault}

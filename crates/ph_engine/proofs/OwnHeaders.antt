@@ -8,7 +8,7 @@ use Rattle.ph_specs.specs.Program.{named_kind, own_fault}
 use Rattle.ph_specs.specs.Snapshot.{kind_byte}
 use Rattle.ph_specs.specs.SnapshotOf.{IsSnapshotOf}
 use Rattle.ph_specs.specs.Table.{Row}
-use Rattle.ph_specs.proofs.laws.Snapshots.{none-from_snapshot}
+use Rattle.ph_model.proofs.laws.Snapshots.{none-from_snapshot}
 
 -- the byte of a kind names it
 kind-named : (kind : Kind) → (if kind_byte kind == 1 then Boxes else Points) ≡ kind

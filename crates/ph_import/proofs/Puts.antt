@@ -14,9 +14,7 @@ use Rattle.ph_specs.specs.Past.{Past, put_kept, without_past}
 use Rattle.ph_specs.specs.WorkSets.{path}
 use Rattle.ph_import.specs.Imported.{with_some, puts_visits, looks_visits, IsPart}
 use Rattle.ph_specs.proofs.laws.Order.{before_trans}
-use Rattle.ph_specs.proofs.laws.Put.{either, find-put, is_rising-put, list_all-put}
-use Rattle.ph_specs.proofs.laws.FindTree.{not_same}
-use Rattle.ph_specs.proofs.lemmas.PutRows.{before-differs}
+use Rattle.ph_specs.proofs.laws.Put.{either, find-put, is_rising-put, list_all-put, not_same, before-differs}
 
 -- ---- one row
 

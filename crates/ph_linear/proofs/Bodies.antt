@@ -8,8 +8,8 @@ use Rattle.std.proofs.Math.Nat.{mul-le-mul_left}
 use Rattle.ph_specs.specs.Digits.{words_for}
 use Rattle.ph_specs.specs.Pack.{linear_digits}
 use Rattle.ph_specs.specs.Record.{first_in, read}
-use Rattle.ph_specs.specs.Layout.{IsRecord, entries_as, fields_as}
-use Rattle.ph_specs.proofs.laws.TableFields.{parts-at}
+use Rattle.ph_model.specs.Layout.{IsRecord, entries_as, fields_as}
+use Rattle.ph_model.proofs.laws.TableFields.{parts-at}
 use Rattle.ph_bits.specs.Fields.{digits_row}
 use Rattle.ph_bits.specs.Packed.{read_body, IsBodyAt}
 use Rattle.ph_linear.specs.Linear.{kinds, addresses, bodies}

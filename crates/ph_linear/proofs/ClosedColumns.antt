@@ -1,7 +1,8 @@
 -- Columns whose runs were moved together, so that an entry is left out.
 use Rattle.std.proofs.Common.{◌≡◌, ℕ, ◌+◌, ◌-◌, ◌*◌, ◌/◌, ◌^◌, ◌≤◌, ◌<◌, refl, sym, ◌∙◌, ap, subst, arith, List, length}
 use Rattle.std.specs.List.{AllByRecursion as Each}
-use Rattle.ph_specs.specs.Digits.{number_of, digits_of, digits_at, words_for}
+use Rattle.ph_specs.specs.Digits.{number_of, digits_of, words_for}
+use Rattle.ph_model.specs.Digits.{digits_at}
 use Rattle.ph_bits.specs.Moved.{IsMoved}
 use Rattle.ph_linear.specs.Edited.{IsOver}
 use Rattle.ph_linear.specs.Runs.{start, AreColumns, runs_without, with_fields}

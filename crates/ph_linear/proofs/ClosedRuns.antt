@@ -1,7 +1,7 @@
 -- Runs of digits that are moved together, and runs that are moved apart with fields between them.
 use Rattle.std.proofs.Common.{◌≡◌, ℕ, ◌+◌, ◌*◌, ◌^◌, ◌≤◌, refl, sym, ◌∙◌, ap, subst, arith, List, length}
-use Rattle.ph_specs.specs.Digits.{digits_at}
-use Rattle.ph_specs.proofs.laws.WordDigits.{digits-parts}
+use Rattle.ph_model.specs.Digits.{digits_at}
+use Rattle.ph_model.proofs.laws.WordDigits.{digits-parts}
 use Rattle.ph_bits.specs.Moved.{IsMoved}
 use Rattle.ph_linear.specs.Edited.{IsOver}
 use Rattle.ph_linear.proofs.Overs.{over-same, over-next}

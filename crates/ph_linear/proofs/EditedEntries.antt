@@ -4,9 +4,9 @@ use Rattle.std.proofs.Common.{[], ◌∷◌, ◌++◌, length, take, drop, repli
 use Rattle.std.specs.Prelude.{Some, None, if◌then◌else◌}
 use Rattle.std.specs.List.{AllByRecursion as Each}
 use Rattle.std.proofs.lemmas.List.{length-append, length-drop, length-replicate, length-take-le}
-use Rattle.ph_specs.specs.Layout.{IsRecord, entries_as, values_as}
+use Rattle.ph_model.specs.Layout.{IsRecord, entries_as, values_as}
 use Rattle.ph_specs.specs.Node.{Flat}
-use Rattle.ph_specs.specs.NodeSize.{points_in}
+use Rattle.ph_model.specs.NodeSize.{points_in}
 use Rattle.ph_specs.specs.Pack.{values}
 use Rattle.ph_specs.specs.Record.{first_in}
 use Rattle.ph_bits.specs.Edits.{edited_as, flats, new_flat, count_edited}

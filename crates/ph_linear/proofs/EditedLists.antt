@@ -5,11 +5,11 @@ use Rattle.std.specs.List.{AllByRecursion as Each}
 use Rattle.std.proofs.lemmas.List.{append_assoc, drop-drop, take-append-drop}
 use Rattle.ph_specs.specs.Digits.{digits_of}
 use Rattle.ph_specs.specs.Node.{Flat}
-use Rattle.ph_specs.specs.NodeSize.{points_in}
+use Rattle.ph_model.specs.NodeSize.{points_in}
 use Rattle.ph_specs.specs.Pack.{bodies, body_fields, values, value_in_front}
 use Rattle.ph_specs.specs.Record.{Read, read_point, read_child}
-use Rattle.ph_specs.proofs.lemmas.Columns.{digits_of-append}
-use Rattle.ph_specs.proofs.lemmas.Counted.{spots}
+use Rattle.ph_model.proofs.lemmas.Columns.{digits_of-append}
+use Rattle.ph_model.proofs.lemmas.Counted.{spots}
 use Rattle.ph_bits.specs.Edits.{edited, flats}
 use Rattle.ph_linear.specs.Written.{kind_fields, address_fields, body_list}
 

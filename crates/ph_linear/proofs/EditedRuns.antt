@@ -3,11 +3,11 @@ use Rattle.std.proofs.Common.{◌≡◌, ℕ, ◌+◌, ◌*◌, ◌^◌, ◌≤�
 use Rattle.std.specs.Prelude.{if◌then◌else◌}
 use Rattle.std.specs.List.{AllByRecursion as Each}
 use Rattle.ph_specs.specs.Digits.{Field, field, number_of, number_after}
-use Rattle.ph_specs.specs.Layout.{IsRecord}
+use Rattle.ph_model.specs.Layout.{IsRecord}
 use Rattle.ph_specs.specs.Node.{Flat}
 use Rattle.ph_specs.specs.Pack.{bodies, linear_table}
 use Rattle.ph_specs.specs.Record.{first_in}
-use Rattle.ph_specs.proofs.lemmas.Columns.{number_after-append}
+use Rattle.ph_model.proofs.lemmas.Columns.{number_after-append}
 use Rattle.ph_bits.specs.Edits.{edited_as}
 use Rattle.ph_bits.specs.declared.edits.Edit.{Edit}
 use Rattle.ph_linear.specs.Edited.{column_edited}

@@ -5,12 +5,12 @@ use Rattle.std.specs.Prelude.{Some, None, if◌then◌else◌}
 use Rattle.std.specs.List.{AllByRecursion as Each}
 use Rattle.std.proofs.lemmas.List.{append_assoc, append-nil, map-append}
 use Rattle.ph_specs.specs.Digits.{Field, field, number_after, digits_of}
-use Rattle.ph_specs.specs.Lawful.{IsBody}
-use Rattle.ph_specs.specs.Layout.{IsRecord, values_as, AreRising}
+use Rattle.ph_model.specs.Lawful.{IsBody}
+use Rattle.ph_model.specs.Layout.{IsRecord, values_as, AreRising}
 use Rattle.ph_specs.specs.Node.{Flat}
 use Rattle.ph_specs.specs.Pack.{bodies, child_mark, linear_table}
 use Rattle.ph_specs.specs.Record.{first_in}
-use Rattle.ph_specs.proofs.lemmas.Columns.{digits_of-append}
+use Rattle.ph_model.proofs.lemmas.Columns.{digits_of-append}
 use Rattle.ph_bits.specs.Edits.{edited, edited_as, new_flat}
 use Rattle.ph_bits.specs.declared.edits.Edit.{Edit}
 use Rattle.ph_bits.specs.declared.entries.Packed.{Packed}

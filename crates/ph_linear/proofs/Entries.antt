@@ -6,8 +6,8 @@ use Rattle.std.specs.List.{position_or_len}
 use Rattle.std.proofs.lemmas.List.Sums.{position_or_len_is}
 use Rattle.std.proofs.lemmas.Bool.{leb-true, lt-leb, le-leb, and_parts}
 use Rattle.ph_specs.specs.Record.{Read, read, read_linear, rises_from}
-use Rattle.ph_specs.specs.Layout.{read_address, is_child}
-use Rattle.ph_specs.specs.NodeSize.{children_in}
+use Rattle.ph_model.specs.Layout.{read_address, is_child}
+use Rattle.ph_model.specs.NodeSize.{children_in}
 
 -- ---- one entry
 

@@ -4,9 +4,10 @@ use Rattle.std.specs.List.{AllByRecursion as Each}
 use Rattle.std.proofs.lemmas.List.{take-append-drop, length-take-le, length-drop}
 use Rattle.std.proofs.lemmas.Nat.{mod-mul-add}
 use Rattle.std.proofs.Math.Nat.{mod-eq_of_lt}
-use Rattle.ph_specs.specs.Digits.{Field, number_of, digits_of, digits_at, pieces, words_for, words_of}
+use Rattle.ph_specs.specs.Digits.{Field, number_of, digits_of, pieces, words_for, words_of}
+use Rattle.ph_model.specs.Digits.{digits_at}
 use Rattle.ph_specs.proofs.laws.ReadBack.{pieces-number}
-use Rattle.ph_specs.proofs.laws.WordDigits.{digits-behind, digits-first, digits-front, number-append, number-small}
+use Rattle.ph_model.proofs.laws.WordDigits.{digits-behind, digits-first, digits-front, number-append, number-small}
 use Rattle.ph_bits.specs.Fields.{number_in}
 use Rattle.ph_linear.specs.Edited.{IsOver}
 use Rattle.ph_linear.specs.Runs.{with_fields}

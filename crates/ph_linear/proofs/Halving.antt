@@ -8,15 +8,16 @@ use Rattle.std.proofs.lemmas.Bool.{leb-true, leb-false, and_parts}
 use Rattle.std.proofs.lemmas.Nat.{and_mask, div-add-mod'}
 use Rattle.std.proofs.lemmas.List.Quantifiers.{position-Some}
 use Rattle.std.proofs.Math.Nat.{mul-le-mul_left, pow-le-pow_right}
-use Rattle.ph_specs.specs.Digits.{digits_at, words_for}
+use Rattle.ph_specs.specs.Digits.{words_for}
+use Rattle.ph_model.specs.Digits.{digits_at}
 use Rattle.ph_specs.specs.Pack.{linear_digits}
 use Rattle.ph_specs.specs.Record.{first_in, rises_from}
-use Rattle.ph_specs.specs.Layout.{IsRecord, entries_as, read_address}
-use Rattle.ph_specs.proofs.laws.WordDigits.{digits-within}
+use Rattle.ph_model.specs.Layout.{IsRecord, entries_as, read_address}
+use Rattle.ph_model.proofs.laws.WordDigits.{digits-within}
 use Rattle.ph_linear.specs.Linear.{kinds, addresses, bodies}
 use Rattle.ph_linear.proofs.Columns.{length-kinds, length-addresses, address-digits}
 use Rattle.ph_linear.proofs.Entries.{split, rises-less, rises-most, place-read, position-read}
-use Rattle.ph_specs.proofs.lemmas.ReadColumns.{length-parts}
+use Rattle.ph_model.proofs.lemmas.ReadColumns.{length-parts}
 
 pub rise : (dims : ℕ) (words : List ℕ) → IsRecord false dims words → rises_from 0 (addresses dims words) ≡ true
 rise dims words r = (and_parts (count_by (λ k. k == 1) (kinds dims words) == (first_in words).children) (rises_from 0 (addresses dims words)) r.tables).1

@@ -7,12 +7,12 @@ use Rattle.std.proofs.Math.Nat.{mul-le-mul_left, pow-le-pow_right}
 use Rattle.std.proofs.lemmas.List.{take_at, drop-drop, length-drop, length-take-le}
 use Rattle.std.proofs.lemmas.Slice.{drop-append-drop}
 use Rattle.ph_specs.specs.Digits.{Field, field, number_of, digits_of, words_for, words_of}
-use Rattle.ph_specs.specs.Layout.{IsRecord, entries_as, values_as, AreRising}
+use Rattle.ph_model.specs.Layout.{IsRecord, entries_as, values_as, AreRising}
 use Rattle.ph_specs.specs.Node.{Flat}
-use Rattle.ph_specs.specs.NodeSize.{points_in}
+use Rattle.ph_model.specs.NodeSize.{points_in}
 use Rattle.ph_specs.specs.Pack.{bodies, children, values, first_word, linear_digits, linear_table, record_in}
 use Rattle.ph_specs.specs.Record.{first_in}
-use Rattle.ph_specs.proofs.lemmas.LayoutTables.{children-few, table-digits}
+use Rattle.ph_model.proofs.lemmas.LayoutTables.{children-few, table-digits}
 use Rattle.ph_specs.proofs.lemmas.Numbers.{length-words_of}
 use Rattle.ph_bits.specs.Edits.{edited_as}
 use Rattle.ph_bits.specs.declared.edits.Edit.{Edit}

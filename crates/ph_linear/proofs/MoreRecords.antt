@@ -5,14 +5,15 @@ use Rattle.std.specs.Prelude.{if◌then◌else◌}
 use Rattle.std.specs.List.{AllByRecursion as Each}
 use Rattle.std.proofs.Math.Nat.{mul-le-mul_left}
 use Rattle.std.proofs.lemmas.List.{append-nil, take-append-drop, length-drop, length-take-le}
-use Rattle.ph_specs.specs.Digits.{Field, field, number_of, digits_of, digits_at, words_for, words_of}
-use Rattle.ph_specs.specs.Layout.{IsRecord, entries_as, values_as, AreRising}
+use Rattle.ph_specs.specs.Digits.{Field, field, number_of, digits_of, words_for, words_of}
+use Rattle.ph_model.specs.Digits.{digits_at}
+use Rattle.ph_model.specs.Layout.{IsRecord, entries_as, values_as, AreRising}
 use Rattle.ph_specs.specs.Node.{Flat}
-use Rattle.ph_specs.specs.NodeSize.{points_in}
+use Rattle.ph_model.specs.NodeSize.{points_in}
 use Rattle.ph_specs.specs.Pack.{bodies, body_fields, children, values, first_word, linear_digits, linear_table, record_in}
 use Rattle.ph_specs.specs.Record.{first_in}
-use Rattle.ph_specs.proofs.laws.WordDigits.{digits-front}
-use Rattle.ph_specs.proofs.lemmas.LayoutTables.{children-few, table-digits}
+use Rattle.ph_model.proofs.laws.WordDigits.{digits-front}
+use Rattle.ph_model.proofs.lemmas.LayoutTables.{children-few, table-digits}
 use Rattle.ph_specs.proofs.lemmas.Numbers.{length-words_of}
 use Rattle.ph_bits.specs.Edits.{edited_as}
 use Rattle.ph_bits.specs.declared.edits.Edit.{Edit}

@@ -5,19 +5,19 @@ use Rattle.std.specs.Prelude.{Some, None, ◌==◌}
 use Rattle.std.specs.List.{AllByRecursion as Each}
 use Rattle.std.proofs.lemmas.List.{length-drop, length-take-le, length-replicate, take-append-drop}
 use Rattle.ph_specs.specs.Digits.{field, number_of, words_for, words_of, read_fields}
-use Rattle.ph_specs.specs.Layout.{IsRecord, digits_as, number_as, fields_as, entries_as, values_as}
+use Rattle.ph_model.specs.Layout.{IsRecord, digits_as, number_as, fields_as, entries_as, values_as}
 use Rattle.ph_specs.specs.Node.{end, PlainNode, Flat, flat}
 use Rattle.ph_specs.specs.Pack.{table, values}
 use Rattle.ph_specs.specs.Record.{First, first_in, widths, padding, filled, Read, read_point, read_child, read, read_linear, parts}
 use Rattle.ph_specs.proofs.laws.ReadBack.{fields_of}
-use Rattle.ph_specs.proofs.laws.TableFields.{length-fields, each-drop}
-use Rattle.ph_specs.proofs.lemmas.Columns.{reads}
-use Rattle.ph_specs.proofs.lemmas.Counted.{kids, spots, spots-kids, length-reads}
-use Rattle.ph_specs.proofs.lemmas.Grouped.{Each-front}
+use Rattle.ph_model.proofs.laws.TableFields.{length-fields, each-drop}
+use Rattle.ph_model.proofs.lemmas.Columns.{reads}
+use Rattle.ph_model.proofs.lemmas.Counted.{kids, spots, spots-kids, length-reads}
+use Rattle.ph_model.proofs.lemmas.Grouped.{Each-front}
 use Rattle.ph_specs.proofs.lemmas.Numbers.{Fit}
-use Rattle.ph_specs.proofs.lemmas.ReadColumns.{fit-read, filled-again}
-use Rattle.ph_specs.proofs.lemmas.TablesAgain.{words-again, total-widths, length-widths, tables-count, tables-again, linear-bodies}
-use Rattle.ph_specs.proofs.lemmas.RowsBehind.{Each-each}
+use Rattle.ph_model.proofs.lemmas.ReadColumns.{fit-read, filled-again}
+use Rattle.ph_model.proofs.lemmas.TablesAgain.{words-again, total-widths, length-widths, tables-count, tables-again, linear-bodies}
+use Rattle.ph_specs.proofs.lemmas.Members.{Each-each}
 use Rattle.ph_bits.specs.Edits.{flats}
 
 -- ---- entries with values, as those of a node

@@ -2,9 +2,10 @@
 use Rattle.std.proofs.Common.{◌≡◌, ℕ, ◌+◌, ◌-◌, ◌*◌, ◌/◌, ◌^◌, ◌≤◌, ◌<◌, refl, sym, ◌∙◌, ap, subst, arith, List, [], ◌∷◌, ◌++◌, length, take}
 use Rattle.std.specs.List.{AllByRecursion as Each}
 use Rattle.std.proofs.lemmas.Nat.{pow-add}
-use Rattle.ph_specs.specs.Digits.{Field, field, number_of, digits_of, digits_at, words_for}
+use Rattle.ph_specs.specs.Digits.{Field, field, number_of, digits_of, words_for}
+use Rattle.ph_model.specs.Digits.{digits_at}
 use Rattle.ph_specs.specs.Pack.{body_fields}
-use Rattle.ph_specs.proofs.lemmas.Columns.{digits_of-append, number_after-append}
+use Rattle.ph_model.proofs.lemmas.Columns.{digits_of-append, number_after-append}
 use Rattle.ph_specs.proofs.lemmas.Numbers.{number_after-start}
 use Rattle.ph_bits.specs.Moved.{IsMoved}
 use Rattle.ph_bits.specs.declared.edits.Edit.{Edit}

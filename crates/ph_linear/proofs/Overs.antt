@@ -5,13 +5,14 @@ use Rattle.std.specs.List.{AllByRecursion as Each}
 use Rattle.std.proofs.lemmas.List.{append-nil}
 use Rattle.std.proofs.lemmas.Nat.{mod-mul-add, pow-add}
 use Rattle.std.proofs.Math.Nat.{mod-eq_of_lt, pow-le-pow_right}
-use Rattle.ph_specs.specs.Digits.{Field, field, number_after, number_of, digits_of, digits_at, pieces, words_for, words_of}
-use Rattle.ph_specs.proofs.laws.OneToOne.{pieces-small}
+use Rattle.ph_specs.specs.Digits.{Field, field, number_after, number_of, digits_of, pieces, words_for, words_of}
+use Rattle.ph_model.specs.Digits.{digits_at}
+use Rattle.ph_model.proofs.laws.OneToOne.{pieces-small}
 use Rattle.ph_specs.proofs.laws.ReadBack.{pieces-number}
-use Rattle.ph_specs.proofs.laws.WordDigits.{digits-behind, digits-first, digits-parts, number-append, number-small}
-use Rattle.ph_specs.proofs.lemmas.Columns.{number_after-append}
+use Rattle.ph_model.proofs.laws.WordDigits.{digits-behind, digits-first, digits-parts, number-append, number-small}
+use Rattle.ph_model.proofs.lemmas.Columns.{number_after-append}
 use Rattle.ph_specs.proofs.lemmas.Numbers.{Fit, number_after-start, length-words_of, number_of-words_of}
-use Rattle.ph_specs.proofs.lemmas.RowsBehind.{Each-append}
+use Rattle.ph_model.proofs.lemmas.RowsBehind.{Each-append}
 use Rattle.ph_bits.specs.Fields.{number_in, IsPut}
 use Rattle.ph_bits.specs.declared.edits.Edit.{Edit}
 use Rattle.ph_linear.specs.declared.copies.Column.{Column}

@@ -5,12 +5,12 @@ use Rattle.std.proofs.Common.{length-append, map, take, drop, replicate, slice_s
 use Rattle.std.specs.Prelude.{Some, slice_get, if◌then◌else◌}
 use Rattle.std.proofs.lemmas.List.{length-drop, length-take-le, take_at}
 use Rattle.ph_specs.specs.Digits.{words_for, words_of}
-use Rattle.ph_specs.specs.Layout.{digits_as, entries_as, values_as, is_child}
+use Rattle.ph_model.specs.Layout.{digits_as, entries_as, values_as, is_child}
 use Rattle.ph_specs.specs.Node.{Flat}
-use Rattle.ph_specs.specs.NodeSize.{points_in}
+use Rattle.ph_model.specs.NodeSize.{points_in}
 use Rattle.ph_specs.specs.Pack.{children, values, table, layout, first_word, cube_digits, linear_digits, record_in}
 use Rattle.ph_specs.specs.Record.{Read, read_point, read_child, first_in}
-use Rattle.ph_specs.proofs.lemmas.LayoutTables.{children-few, table-digits}
+use Rattle.ph_model.proofs.lemmas.LayoutTables.{children-few, table-digits}
 use Rattle.ph_specs.proofs.lemmas.Numbers.{length-words_of}
 use Rattle.ph_bits.specs.Edits.{edited_as, count_edited}
 use Rattle.ph_bits.specs.declared.edits.Edit.{Edit}

@@ -4,14 +4,15 @@ use Rattle.std.proofs.Common.{◌∷◌, ◌++◌, length, length-append, map, t
 use Rattle.std.specs.Prelude.{Some, slice_get, if◌then◌else◌}
 use Rattle.std.specs.List.{AllByRecursion as Each}
 use Rattle.std.proofs.lemmas.List.{append_assoc}
-use Rattle.ph_specs.specs.Digits.{Field, field, number_of, number_after, digits_of, digits_at, words_of}
-use Rattle.ph_specs.specs.Layout.{IsRecord, entries_as, values_as, read_address, AreRising}
+use Rattle.ph_specs.specs.Digits.{Field, field, number_of, number_after, digits_of, words_of}
+use Rattle.ph_model.specs.Digits.{digits_at}
+use Rattle.ph_model.specs.Layout.{IsRecord, entries_as, values_as, read_address, AreRising}
 use Rattle.ph_specs.specs.Node.{Flat}
 use Rattle.ph_specs.specs.Pack.{bodies, linear_table, linear_digits}
 use Rattle.ph_specs.specs.Record.{Read, read_point, read_child, first_in}
-use Rattle.ph_specs.proofs.lemmas.Columns.{digits_of-append}
-use Rattle.ph_specs.proofs.lemmas.Counted.{spots}
-use Rattle.ph_specs.proofs.lemmas.LayoutTables.{table-digits, table-fit}
+use Rattle.ph_model.proofs.lemmas.Columns.{digits_of-append}
+use Rattle.ph_model.proofs.lemmas.Counted.{spots}
+use Rattle.ph_model.proofs.lemmas.LayoutTables.{table-digits, table-fit}
 use Rattle.ph_specs.proofs.lemmas.Numbers.{number_after-start, length-words_of}
 use Rattle.ph_bits.specs.Edits.{edited, edited_as, flats, new_flat}
 use Rattle.ph_bits.specs.declared.edits.Edit.{Edit}

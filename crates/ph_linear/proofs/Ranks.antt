@@ -7,19 +7,20 @@ use Rattle.std.proofs.lemmas.Option.{slice_get-get_or, slice_get-map}
 use Rattle.std.specs.List.{AllByRecursion as Each}
 use Rattle.std.specs.Int.RustNames.{count_ones}
 use Rattle.std.proofs.lemmas.Nat.{ones_cat}
-use Rattle.ph_specs.specs.Digits.{digits_at, words_for}
+use Rattle.ph_specs.specs.Digits.{words_for}
+use Rattle.ph_model.specs.Digits.{digits_at}
 use Rattle.ph_specs.specs.Pack.{linear_digits}
 use Rattle.ph_specs.specs.Record.{first_in, Read, read}
 use Rattle.ph_bits.specs.Fields.{ones_in}
 use Rattle.ph_bits.specs.Packed.{rank_at}
-use Rattle.ph_specs.proofs.laws.TableFields.{both-counts}
-use Rattle.ph_specs.specs.Layout.{IsRecord, entries_as, read_address, is_child}
-use Rattle.ph_specs.specs.NodeSize.{children_in, points_in}
-use Rattle.ph_specs.proofs.laws.WordDigits.{digits-parts, digits-below}
+use Rattle.ph_model.proofs.laws.TableFields.{both-counts}
+use Rattle.ph_model.specs.Layout.{IsRecord, entries_as, read_address, is_child}
+use Rattle.ph_model.specs.NodeSize.{children_in, points_in}
+use Rattle.ph_model.proofs.laws.WordDigits.{digits-parts, digits-below}
 use Rattle.ph_linear.specs.Linear.{kinds, addresses, bodies}
 use Rattle.ph_linear.proofs.Columns.{length-kinds, length-addresses, kind-digits}
 use Rattle.ph_linear.proofs.Entries.{no_read, read-at, length-read, address-read, kind-read, count-more}
-use Rattle.ph_specs.proofs.lemmas.ReadColumns.{length-parts}
+use Rattle.ph_model.proofs.lemmas.ReadColumns.{length-parts}
 
 one-digit : (k : ℕ) → k < 2 ^ 1 → count_ones k ≡ (if k == 1 then 1 else 0)
 unfolding count_ones

@@ -2,8 +2,9 @@
 use Rattle.std.proofs.Common.{◌≡◌, ℕ, ◌+◌, ◌-◌, ◌*◌, ◌^◌, ◌≤◌, refl, sym, ◌∙◌, ap, arith, List, [], ◌∷◌, ◌++◌, length}
 use Rattle.std.proofs.Math.Nat.{mul-le-mul_left}
 use Rattle.std.proofs.lemmas.Nat.{pow-add}
-use Rattle.ph_specs.specs.Digits.{Field, field, number_after, digits_at}
-use Rattle.ph_specs.proofs.laws.WordDigits.{digits-parts}
+use Rattle.ph_specs.specs.Digits.{Field, field, number_after}
+use Rattle.ph_model.specs.Digits.{digits_at}
+use Rattle.ph_model.proofs.laws.WordDigits.{digits-parts}
 use Rattle.ph_bits.specs.declared.edits.Edit.{Edit}
 use Rattle.ph_linear.specs.Edited.{stretch, column_edited}
 use Rattle.ph_specs.specs.Record.{first_in}

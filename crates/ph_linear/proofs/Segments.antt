@@ -4,10 +4,11 @@ use Rattle.std.specs.List.{AllByRecursion as Each}
 use Rattle.std.proofs.lemmas.List.{append_assoc}
 use Rattle.std.proofs.lemmas.Nat.{div-mul-add, mod-mul-add, pow_pos, shr-shr}
 use Rattle.std.proofs.Math.Nat.{mul-div_cancel}
-use Rattle.ph_specs.specs.Digits.{Field, field, number_after, number_of, digits_of, digits_at, words_for, words_of}
-use Rattle.ph_specs.proofs.laws.WordDigits.{digits-behind, digits-front}
-use Rattle.ph_specs.proofs.lemmas.Columns.{digits_of-append, number_after-append}
-use Rattle.ph_specs.proofs.lemmas.Grouped.{Each-front, Each-back}
+use Rattle.ph_specs.specs.Digits.{Field, field, number_after, number_of, digits_of, words_for, words_of}
+use Rattle.ph_model.specs.Digits.{digits_at}
+use Rattle.ph_model.proofs.laws.WordDigits.{digits-behind, digits-front}
+use Rattle.ph_model.proofs.lemmas.Columns.{digits_of-append, number_after-append}
+use Rattle.ph_model.proofs.lemmas.Grouped.{Each-front, Each-back}
 use Rattle.ph_specs.proofs.lemmas.Numbers.{Fit, number_after-start, number_of-small, length-words_of, number_of-words_of}
 use Rattle.ph_bits.specs.Fields.{number_in}
 use Rattle.ph_bits.specs.declared.edits.Edit.{Edit}

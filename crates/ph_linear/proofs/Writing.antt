@@ -6,13 +6,13 @@ use Rattle.std.proofs.lemmas.List.{map-append, get_or-map}
 use Rattle.std.proofs.lemmas.Option.{get_or_from_slice_get}
 use mir.Val.{bool_byte}
 use Rattle.ph_specs.specs.Node.{Flat}
-use Rattle.ph_specs.specs.Lawful.{IsBody}
+use Rattle.ph_model.specs.Lawful.{IsBody}
 use Rattle.ph_specs.specs.Digits.{field, number_after, words_of}
 use Rattle.ph_specs.specs.Pack.{child_mark, body_fields, bodies, children, values, value_in_front, linear_table, table, layout, first_word, record_in}
 use Rattle.ph_specs.specs.Record.{Read, read_point, read_child, read}
-use Rattle.ph_specs.specs.Layout.{unvalued, read_kept, AreRising}
-use Rattle.ph_specs.proofs.lemmas.Columns.{number_after-append}
-use Rattle.ph_specs.proofs.lemmas.LayoutTables.{entries-few}
+use Rattle.ph_model.specs.Layout.{unvalued, read_kept, AreRising}
+use Rattle.ph_model.proofs.lemmas.Columns.{number_after-append}
+use Rattle.ph_model.proofs.lemmas.LayoutTables.{entries-few}
 use Rattle.std.proofs.Math.Nat.{pow-le-pow_right}
 use Rattle.ph_linear.specs.Written.{kind_fields, address_fields, body_list}
 

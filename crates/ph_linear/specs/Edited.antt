@@ -2,9 +2,10 @@
 use Rattle.std.specs.Prelude.{◌≡◌, ℕ, ◌+◌, ◌-◌, ◌*◌, ◌^◌, ◌<◌, ◌≤◌, Bool, false, Some, if◌then◌else◌}
 use Rattle.std.specs.Prelude.{List, [], ◌∷◌, ◌++◌, length, map, take, drop, replicate, slice_get, slice_index_or, slice_set}
 use Rattle.std.specs.List.{AllByRecursion as Each}
-use Rattle.ph_specs.specs.Digits.{Field, field, number_of, digits_at, words_for, words_of}
-use Rattle.ph_specs.specs.Layout.{IsRecord, AreRising, digits_as, entries_as, read_address, values_as}
-use Rattle.ph_specs.specs.NodeSize.{points_in}
+use Rattle.ph_specs.specs.Digits.{Field, field, number_of, words_for, words_of}
+use Rattle.ph_model.specs.Digits.{digits_at}
+use Rattle.ph_model.specs.Layout.{IsRecord, AreRising, digits_as, entries_as, read_address, values_as}
+use Rattle.ph_model.specs.NodeSize.{points_in}
 use Rattle.ph_specs.specs.Pack.{first_word, table}
 use Rattle.ph_specs.specs.Record.{first_in}
 use Rattle.ph_bits.specs.Edits.{edited_as}

@@ -1,7 +1,7 @@
 -- The columns of a linear record.
 use Rattle.std.specs.Prelude.{ℕ, ◌+◌, List, take, drop, false}
 use Rattle.ph_specs.specs.Record.{first_in, parts}
-use Rattle.ph_specs.specs.Layout.{fields_as}
+use Rattle.ph_model.specs.Layout.{fields_as}
 
 abbrev pub kinds : ℕ → List ℕ → List ℕ
 kinds dims words = take (first_in words).entries (fields_as false dims words)

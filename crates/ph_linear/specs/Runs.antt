@@ -1,6 +1,7 @@
 -- The columns of a record where they lie, with an entry less or more: which runs of digits stand there, one behind the other.
 use Rattle.std.specs.Prelude.{◌≡◌, ℕ, ◌+◌, ◌-◌, ◌*◌, ◌^◌, ◌≤◌, List, [], ◌∷◌, ◌++◌, length, take, drop, slice_index_or}
-use Rattle.ph_specs.specs.Digits.{Field, field, digits_of, digits_at, words_for, words_of}
+use Rattle.ph_specs.specs.Digits.{Field, field, digits_of, words_for, words_of}
+use Rattle.ph_model.specs.Digits.{digits_at}
 use Rattle.ph_specs.specs.Pack.{body_fields}
 use Rattle.ph_specs.specs.Record.{first_in}
 use Rattle.ph_bits.specs.declared.edits.Edit.{Edit}

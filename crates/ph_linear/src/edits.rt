@@ -1,8 +1,8 @@
 //! Changing one entry of a linear record where the record lies.
 
 ghost use Rattle.std.specs.Prelude.{◌≡◌, ◌+◌, ◌-◌, ◌*◌, ◌<◌, ◌≤◌, true, false, Some, length, map, take, slice_get};
-ghost use Rattle.ph_specs.specs.RecordNames.{words_for, IsRecord, AreRising, entries_as, read_address, is_child, linear_digits, record_in, first_in};
-ghost use Rattle.ph_specs.specs.TreeNames.{points_in};
+ghost use Rattle.ph_specs.specs.RecordNames.{words_for, linear_digits, record_in, first_in};
+ghost use Rattle.ph_model.specs.ModelNames.{IsRecord, AreRising, entries_as, read_address, is_child, points_in};
 ghost use Rattle.ph_bits.specs.Edits.{edited_as};
 ghost use Rattle.ph_linear.specs.Edited.{IsChanged, IsColumn, IsOutline, IsPut, with_table};
 

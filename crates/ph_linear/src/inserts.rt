@@ -1,7 +1,8 @@
 //! Putting a new point into a linear record where the record lies.
 
 ghost use Rattle.std.specs.Prelude.{◌≡◌, ◌+◌, ◌-◌, ◌^◌, ◌<◌, ◌≤◌, ◌∷◌, ◌++◌, false, length, take, drop};
-ghost use Rattle.ph_specs.specs.RecordNames.{IsRecord, AreRising, record_in, first_in};
+ghost use Rattle.ph_specs.specs.RecordNames.{record_in, first_in};
+ghost use Rattle.ph_model.specs.ModelNames.{IsRecord, AreRising};
 ghost use Rattle.ph_bits.specs.Edits.{edited_as};
 ghost use Rattle.ph_linear.specs.Resized.{IsOpenable, values_open};
 

@@ -1,7 +1,8 @@
 //! Single parts of a linear record.
 
 ghost use Rattle.std.specs.Prelude.{◌≡◌, ◌+◌, ◌*◌, ◌^◌, ◌<◌, ◌≤◌, ◌==◌, true, false, length, slice_index_or};
-ghost use Rattle.ph_specs.specs.RecordNames.{digits_at, first_in, IsRecord, entries_as};
+ghost use Rattle.ph_specs.specs.RecordNames.{first_in};
+ghost use Rattle.ph_model.specs.ModelNames.{digits_at, IsRecord, entries_as};
 ghost use Rattle.ph_bits.specs.Packed.{rank_at};
 ghost use Rattle.ph_linear.specs.Linear.{kinds, addresses};
 

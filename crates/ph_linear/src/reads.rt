@@ -1,7 +1,8 @@
 //! The entries of a linear record.
 
 ghost use Rattle.std.specs.Prelude.{◌≡◌, ◌==◌, ◌+◌, ◌*◌, ◌^◌, ◌<◌, ◌≤◌, ℕ, Bool, Some, None, false, length, map, position, slice_index_or, slice_get, IfSome, IsNone};
-ghost use Rattle.ph_specs.specs.RecordNames.{linear_digits, first_in, IsRecord, entries_as, read_address, is_child as read_child_test};
+ghost use Rattle.ph_specs.specs.RecordNames.{linear_digits, first_in};
+ghost use Rattle.ph_model.specs.ModelNames.{IsRecord, entries_as, read_address, is_child as read_child_test};
 ghost use Rattle.ph_bits.specs.Packed.{read_of, rank_at, IsBodyAt, IsPadded};
 ghost use Rattle.ph_linear.specs.Linear.{addresses};
 

@@ -1,7 +1,8 @@
 //! Leaving a point out of a linear record where the record lies.
 
 ghost use Rattle.std.specs.Prelude.{◌≡◌, ◌+◌, ◌-◌, ◌^◌, ◌<◌, ◌≤◌, ◌++◌, false, Some, length, map, take, drop, slice_get, slice_set};
-ghost use Rattle.ph_specs.specs.RecordNames.{IsRecord, AreRising, entries_as, is_child, first_word, record_in, first_in};
+ghost use Rattle.ph_specs.specs.RecordNames.{first_word, record_in, first_in};
+ghost use Rattle.ph_model.specs.ModelNames.{IsRecord, AreRising, entries_as, is_child};
 ghost use Rattle.ph_bits.specs.Edits.{edited_as};
 ghost use Rattle.ph_linear.specs.Resized.{IsClosable, values_closed, with_less};
 

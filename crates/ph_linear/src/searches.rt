@@ -3,7 +3,8 @@
 ghost use Rattle.std.specs.Prelude.{◌≡◌, ◌+◌, ◌-◌, ◌*◌, ◌/◌, ◌%◌, ◌^◌, ◌<◌, ◌≤◌, ◌==◌, nat_le};
 ghost use Rattle.std.specs.Prelude.{None, Some, false, length, map, position, slice_get, slice_index_or, IfOk, IfErr, IfSome};
 ghost use Rattle.std.specs.List.{position_or_len};
-ghost use Rattle.ph_specs.specs.RecordNames.{first_in, IsRecord, entries_as, read_address};
+ghost use Rattle.ph_specs.specs.RecordNames.{first_in};
+ghost use Rattle.ph_model.specs.ModelNames.{IsRecord, entries_as, read_address};
 ghost use Rattle.ph_linear.specs.Linear.{addresses};
 
 use crate::heads::count_in;

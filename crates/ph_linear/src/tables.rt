@@ -2,7 +2,8 @@
 
 ghost use Rattle.std.specs.Prelude.{◌≡◌, ◌+◌, ◌-◌, ◌*◌, ◌/◌, ◌%◌, ◌^◌, ◌<◌, ◌≤◌, false, length, take};
 ghost use Rattle.std.specs.List.{AllByRecursion as Each};
-ghost use Rattle.ph_specs.specs.RecordNames.{digits_of, words_for, IsRecord, first_in};
+ghost use Rattle.ph_specs.specs.RecordNames.{digits_of, words_for, first_in};
+ghost use Rattle.ph_model.specs.ModelNames.{IsRecord};
 ghost use Rattle.ph_bits.specs.Moved.{IsMoved};
 ghost use Rattle.ph_linear.specs.Edited.{IsColumn, IsOver};
 ghost use Rattle.ph_linear.specs.Runs.{AreColumns, AreColumnsOf, digits_more, runs_without, runs_with, with_fields};

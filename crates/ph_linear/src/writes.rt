@@ -1,7 +1,8 @@
 //! Writing a linear record: a column of kinds, one of addresses, one of bodies, and then the values.
 
 ghost use Rattle.std.specs.Prelude.{◌≡◌, ◌+◌, ◌*◌, ◌<◌, ◌≤◌, [], ◌∷◌, ◌++◌, false, length};
-ghost use Rattle.ph_specs.specs.RecordNames.{digits_of, number_after, words_for, children as children_of, values, bodies, linear_digits, record_in, table, AreRising};
+ghost use Rattle.ph_specs.specs.RecordNames.{digits_of, number_after, words_for, children as children_of, values, bodies, linear_digits, record_in, table};
+ghost use Rattle.ph_model.specs.ModelNames.{AreRising};
 ghost use Rattle.ph_bits.specs.Block.{room_of, IsSamePlaces};
 ghost use Rattle.ph_bits.specs.Fields.{number_in};
 ghost use Rattle.ph_bits.specs.Written.{IsPen, digits_by, number_by};

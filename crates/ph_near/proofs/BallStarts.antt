@@ -4,19 +4,19 @@ use Rattle.std.specs.Prelude.{ℤ, Option, nat_abs, ◌-ℤ◌}
 use Rattle.std.proofs.lemmas.Int.{ints}
 use Rattle.ph_specs.specs.Coordinate.{offset, coordinate, IsPoint}
 use Rattle.ph_specs.specs.Distance.{distance, within}
-use Rattle.ph_specs.specs.Lawful.{rows}
+use Rattle.ph_specs.specs.TreeRows.{rows}
 use Rattle.ph_specs.specs.Node.{PlainNode}
-use Rattle.ph_specs.specs.PutTree.{body_above}
+use Rattle.ph_model.specs.PutTree.{body_above}
 use Rattle.ph_specs.specs.Region.{Region, is_in, least_distance}
 use Rattle.ph_specs.specs.Shape.{shape}
 use Rattle.ph_specs.specs.Table.{Row, IsTable}
 use Rattle.ph_specs.specs.WorkSets.{placed, ball}
-use Rattle.ph_specs.proofs.laws.TableShape.{table-shape}
-use Rattle.ph_specs.proofs.lemmas.Bounds.{same-in}
-use Rattle.ph_specs.proofs.lemmas.Joined.{offsets, from_place, offsets-coordinate}
-use Rattle.ph_specs.proofs.lemmas.PointDigits.{point-whole}
-use Rattle.ph_specs.proofs.laws.Bound.{least_distance-point}
-use Rattle.ph_specs.proofs.laws.RegionDistance.{least_distance-means}
+use Rattle.ph_model.proofs.laws.TableShape.{table-shape}
+use Rattle.ph_model.proofs.lemmas.Bounds.{same-in}
+use Rattle.ph_model.proofs.lemmas.Joined.{offsets, from_place, offsets-coordinate}
+use Rattle.ph_model.proofs.lemmas.PointDigits.{point-whole}
+use Rattle.ph_model.proofs.laws.Bound.{least_distance-point}
+use Rattle.ph_model.proofs.laws.RegionDistance.{least_distance-means}
 use Rattle.ph_zorder.proofs.Decided.{is_body-point}
 use Rattle.ph_path.proofs.Knowns.{above-from, above-top, offsets-point}
 use Rattle.ph_walk.specs.Area.{IsArea, kept, touched, TouchesRoot}

@@ -3,12 +3,14 @@ use Rattle.std.proofs.Common.{◌≡◌, ℕ, ◌+◌, ◌-◌, ◌≤◌, List,
 use Rattle.std.specs.Prelude.{Option, Some, None, MatchOption, slice_get}
 use Rattle.std.proofs.lemmas.Bool.{lt-leb}
 use Rattle.ph_specs.specs.Distance.{distance}
-use Rattle.ph_specs.specs.EntryEdits.{what_at}
-use Rattle.ph_specs.specs.Lawful.{IsBody, IsLawfulEntry, IsLawfulFrom, IsLawfulWhat, put_together}
-use Rattle.ph_specs.specs.Node.{What, value, node, Entry, PlainNode, entries}
-use Rattle.ph_specs.specs.PutTree.{body_above}
+use Rattle.ph_model.specs.EntryEdits.{what_at}
+use Rattle.ph_specs.specs.TreeRows.{put_together}
+use Rattle.ph_model.specs.Lawful.{IsBody, IsLawfulEntry, IsLawfulFrom, IsLawfulWhat}
+use Rattle.ph_specs.specs.Node.{PlainNode}
+use Rattle.ph_model.specs.EntryList.{What, value, node, Entry, entries}
+use Rattle.ph_model.specs.PutTree.{body_above}
 use Rattle.ph_specs.specs.Region.{least_distance}
-use Rattle.ph_specs.proofs.laws.EntryLists.{entry-lawful}
+use Rattle.ph_model.proofs.laws.EntryLists.{entry-lawful}
 use Rattle.ph_node.specs.Kinds.{is_node}
 use Rattle.ph_node.specs.Split.{body_at}
 use Rattle.ph_node.specs.Spots.{IsSpot, joined_digits}

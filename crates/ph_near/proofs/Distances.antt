@@ -5,7 +5,7 @@ use Rattle.std.specs.List.{AllByRecursion as Each}
 use Rattle.std.proofs.Math.Nat.{mul-le-mul}
 use Rattle.ph_specs.specs.Coordinate.{coordinate}
 use Rattle.ph_specs.specs.Distance.{squared_gap, distance}
-use Rattle.ph_specs.proofs.laws.Offsets.{coordinate-apart}
+use Rattle.ph_model.proofs.laws.Offsets.{coordinate-apart}
 use Rattle.ph_node.specs.Apart.{squares_apart, greatest_square}
 
 pub apart-distance : (w : ℕ) (xs ys : List ℕ) → squares_apart xs ys ≡ distance (map (coordinate w) xs) (map (coordinate w) ys)

@@ -10,17 +10,19 @@ use Rattle.std.proofs.lemmas.List.{get_or_append_left}
 use Rattle.std.proofs.lemmas.List.Sorted.{IsPermutation-sym, IsPermutation-trans, IsPermutation-middle, IsPermutation-append_right, IsPermutation-map}
 use Rattle.ph_specs.specs.Coordinate.{coordinate}
 use Rattle.ph_specs.specs.Table.{row}
-use Rattle.ph_specs.specs.Node.{Entry, Entries, end, point, child, PlainNode, What, value, node, listed, entries}
-use Rattle.ph_specs.specs.EntryEdits.{what_at}
-use Rattle.ph_specs.specs.Lawful.{IsAbove, IsBody, HasZerosFrom, IsLawfulFrom, IsLawfulEntry, IsLawfulWhat, put_together}
-use Rattle.ph_specs.specs.PutTree.{body_above}
-use Rattle.ph_specs.specs.BallSearch.{placed_at}
-use Rattle.ph_specs.specs.BestFirst as best
-use Rattle.ph_specs.specs.BestFirst.{Item, found, items_below, items_of, item_distance}
-use Rattle.ph_specs.proofs.lemmas.Joined.{offsets-coordinate, length-put_together, above-child}
+use Rattle.ph_specs.specs.Node.{Entries, end, point, child, PlainNode}
+use Rattle.ph_model.specs.EntryList.{Entry, What, value, node, listed, entries}
+use Rattle.ph_model.specs.EntryEdits.{what_at}
+use Rattle.ph_specs.specs.TreeRows.{put_together}
+use Rattle.ph_model.specs.Lawful.{IsAbove, IsBody, HasZerosFrom, IsLawfulFrom, IsLawfulEntry, IsLawfulWhat}
+use Rattle.ph_model.specs.PutTree.{body_above}
+use Rattle.ph_model.specs.BallSearch.{placed_at}
+use Rattle.ph_model.specs.BestFirst as best
+use Rattle.ph_model.specs.BestFirst.{Item, found, items_below, items_of, item_distance}
+use Rattle.ph_model.proofs.lemmas.Joined.{offsets-coordinate, length-put_together, above-child}
 use Rattle.ph_specs.proofs.lemmas.Gathered.{Each-permutation}
-use Rattle.ph_specs.proofs.laws.EntryLists.{entry-lawful}
-use Rattle.ph_specs.proofs.laws.LawfulRows.{put_together-small}
+use Rattle.ph_model.proofs.laws.EntryLists.{entry-lawful}
+use Rattle.ph_model.proofs.laws.LawfulRows.{put_together-small}
 use Rattle.ph_digits.proofs.Cuts.{above-zeros}
 use Rattle.ph_node.specs.Apart.{squares_apart}
 use Rattle.ph_node.specs.Kinds.{is_node}

@@ -4,14 +4,15 @@ use Rattle.std.specs.List.{AllByRecursion as Each}
 use Rattle.std.proofs.Math.Nat.{mul-le-mul, mul-le-mul_right, div-mul-le_self, mul-mod_left}
 use Rattle.std.proofs.lemmas.List.{drop_more, get_or-map}
 use Rattle.std.proofs.lemmas.Nat.{div-mul-add, pow-add, pow_pos}
-use Rattle.ph_specs.specs.BestFirst.{item_distance}
+use Rattle.ph_model.specs.BestFirst.{item_distance}
 use Rattle.ph_specs.specs.Coordinate.{coordinate}
-use Rattle.ph_specs.specs.Lawful.{put_together}
-use Rattle.ph_specs.specs.Node.{What, value, node}
-use Rattle.ph_specs.specs.PutTree.{body_above}
-use Rattle.ph_specs.specs.Region.{gap, least_distance}
-use Rattle.ph_specs.proofs.laws.LawfulRows.{put_together-small}
-use Rattle.ph_specs.proofs.lemmas.Joined.{length-put_together, get-put_together}
+use Rattle.ph_specs.specs.TreeRows.{put_together}
+use Rattle.ph_model.specs.EntryList.{What, value, node}
+use Rattle.ph_model.specs.PutTree.{body_above}
+use Rattle.ph_specs.specs.Region.{least_distance}
+use Rattle.ph_model.specs.Regions.{gap}
+use Rattle.ph_model.proofs.laws.LawfulRows.{put_together-small}
+use Rattle.ph_model.proofs.lemmas.Joined.{length-put_together, get-put_together}
 use Rattle.ph_digits.proofs.Joins.{above-long}
 use Rattle.ph_zorder.proofs.Gaps.{offset-bound-on}
 use Rattle.ph_node.specs.Apart.{greatest_square}

@@ -13,15 +13,14 @@ use Rattle.std.proofs.lemmas.List.Sorted.{sorted_far}
 use Rattle.std.proofs.lemmas.List.MinMax.{ranks_by}
 use Rattle.ph_specs.specs.Coordinate.{coordinate, is_point}
 use Rattle.ph_specs.specs.Distance.{distance}
-use Rattle.ph_specs.specs.Nearness.{is_nearer, IsNearerThan, IsRanked}
+use Rattle.ph_model.specs.Nearness.{is_nearer, IsNearerThan, IsRanked}
 use Rattle.ph_specs.specs.Table.{Row}
 use Rattle.ph_specs.specs.ZOrder.{before}
-use Rattle.ph_specs.proofs.lemmas.RowsBehind.{Each-each}
-use Rattle.ph_specs.proofs.lemmas.Members.{Each-parts, Each-in, Each-from_in}
+use Rattle.ph_specs.proofs.lemmas.Members.{Each-each, Each-parts, Each-in, Each-from_in}
 use Rattle.ph_specs.proofs.lemmas.Gathered.{Each-permutation}
-use Rattle.ph_specs.proofs.lemmas.Searching.{IsApart, nearer-total, rows-apart}
-use Rattle.ph_specs.proofs.laws.BallSearch.{ArePoints}
-use Rattle.ph_specs.proofs.laws.Ranked.{Rising, nearer-cases}
+use Rattle.ph_model.proofs.lemmas.Searching.{IsApart, nearer-total, rows-apart}
+use Rattle.ph_specs.proofs.laws.Points.{ArePoints}
+use Rattle.ph_model.proofs.laws.Nearest.{Rising, nearer-cases}
 use Rattle.ph_near.specs.declared.found.Found.{Found}
 use Rattle.ph_near.specs.Found.{z_numbers, found_cmp, found_total, row_of, rows_of, IsFound}
 use Rattle.ph_near.proofs.ZNumbers.{before-z}

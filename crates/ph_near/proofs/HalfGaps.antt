@@ -5,9 +5,9 @@ use Rattle.std.specs.Int.{abs_diff}
 use Rattle.std.specs.List.{AllByRecursion as Each}
 use Rattle.std.proofs.Math.Nat.{mul-le-mul, mod-lt}
 use Rattle.std.proofs.lemmas.List.{drop_more}
-use Rattle.ph_specs.specs.Lawful.{put_together}
-use Rattle.ph_specs.specs.PutTree.{body_above}
-use Rattle.ph_specs.specs.Region.{gap}
+use Rattle.ph_specs.specs.TreeRows.{put_together}
+use Rattle.ph_model.specs.PutTree.{body_above}
+use Rattle.ph_model.specs.Regions.{gap}
 use Rattle.ph_digits.proofs.Joins.{above-long}
 use Rattle.ph_node.specs.Apart.{squares_apart}
 use Rattle.ph_near.specs.Far.{corner_of, gap_above, gaps_above, gaps_squared}

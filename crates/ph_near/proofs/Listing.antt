@@ -11,14 +11,14 @@ use Rattle.std.proofs.lemmas.List.Sorted.{IsPermutation-append_right, IsPermutat
 use Rattle.ph_specs.specs.Coordinate.{is_point}
 use Rattle.ph_specs.specs.Table.{Row, is_rising}
 use Rattle.ph_specs.specs.Distance.{near}
-use Rattle.ph_specs.specs.Nearness.{is_nearer, IsNearerThan, IsRanked}
-use Rattle.ph_specs.specs.BestFirst.{Item, item_distance}
-use Rattle.ph_specs.proofs.lemmas.RowsBehind.{Each-append, Each-each}
-use Rattle.ph_specs.proofs.lemmas.Members.{Each-parts, In, Each-in, Each-from_in}
+use Rattle.ph_model.specs.Nearness.{is_nearer, IsNearerThan, IsRanked}
+use Rattle.ph_model.specs.BestFirst.{Item, item_distance}
+use Rattle.ph_specs.proofs.lemmas.Members.{Each-each, Each-parts, In, Each-in, Each-from_in}
+use Rattle.ph_model.proofs.lemmas.RowsBehind.{Each-append}
 use Rattle.ph_specs.proofs.lemmas.Gathered.{gathered-append, gathered-permutation, members-permutation, Each-permutation}
-use Rattle.ph_specs.proofs.lemmas.Searching.{rows_of as rows_held, rows_in, IsItem}
-use Rattle.ph_specs.proofs.laws.BallSearch.{ArePoints, table-points}
-use Rattle.ph_specs.proofs.laws.Ranked.{rising-of, nearer-less, nearest-near}
+use Rattle.ph_model.proofs.lemmas.Searching.{rows_of as rows_held, rows_in, IsItem}
+use Rattle.ph_specs.proofs.laws.Points.{ArePoints, table-points}
+use Rattle.ph_model.proofs.laws.Nearest.{rising-of, nearer-less, nearest-near}
 use Rattle.ph_table.specs.Hits.{TableHit, hits_of}
 use Rattle.ph_near.specs.declared.found.Found.{Found}
 use Rattle.ph_near.specs.Found.{found_cmp, row_of, rows_of, found_item, IsFound}

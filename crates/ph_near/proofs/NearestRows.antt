@@ -3,9 +3,9 @@ use Rattle.std.proofs.Common.{◌≡◌, ℕ, List, [], ◌∷◌, ap, sym, ◌�
 use Rattle.std.specs.Prelude.{ℤ, Result, Ok, Err, IfOk}
 use Rattle.std.proofs.lemmas.Bool.{and_parts}
 use Rattle.ph_specs.specs.Distance.{near}
-use Rattle.ph_specs.specs.Nearness.{IsNearest}
+use Rattle.ph_model.specs.Nearness.{IsNearest}
 use Rattle.ph_specs.specs.Table.{Row, IsTable}
-use Rattle.ph_specs.proofs.laws.Ranked.{near-nearest}
+use Rattle.ph_model.proofs.laws.Nearest.{near-nearest}
 use Rattle.ph_table.specs.Hits.{TableHit, hits_of}
 use Rattle.ph_near.specs.Nearest.{rows_hit}
 

@@ -6,12 +6,13 @@ use Rattle.std.specs.List.Sorted.{IsPermutation}
 use Rattle.std.specs.BinaryHeap.{IsUpperBound}
 use Rattle.std.proofs.lemmas.List.Sorted.{IsPermutation-refl, IsPermutation-sym, IsPermutation-trans, IsPermutation-middle}
 use Rattle.std.proofs.lemmas.List.Sorted.{IsPermutation-append_left, IsPermutation-append_right, IsPermutation-map, length_permutation}
-use Rattle.ph_specs.specs.BestFirst.{Item, item_distance}
+use Rattle.ph_model.specs.BestFirst.{Item, item_distance}
 use Rattle.ph_specs.specs.Table.{Row}
-use Rattle.ph_specs.proofs.lemmas.RowsBehind.{Each-append, Each-each}
+use Rattle.ph_specs.proofs.lemmas.Members.{Each-each}
+use Rattle.ph_model.proofs.lemmas.RowsBehind.{Each-append}
 use Rattle.ph_specs.proofs.lemmas.Gathered.{Each-permutation, gathered-permutation}
-use Rattle.ph_specs.proofs.lemmas.Searching.{nodes_in, nodes_of}
-use Rattle.ph_specs.proofs.laws.BestFirst.{searching-order}
+use Rattle.ph_model.proofs.lemmas.Searching.{nodes_in, nodes_of}
+use Rattle.ph_model.proofs.laws.BestFirst.{searching-order}
 use Rattle.ph_near.specs.declared.found.Found.{Found}
 use Rattle.ph_near.specs.Found.{found_cmp, found_item, IsFound}
 use Rattle.ph_near.specs.Ranking.{IsAdded, IsBeyond}

@@ -10,9 +10,8 @@ use Rattle.std.specs.BinaryHeap.{IsUpperBound, lt_by_cmp}
 use Rattle.std.specs.declared.cmp.Ordering.TheVariants.{Less}
 use Rattle.std.proofs.lemmas.Bool.{ltb-true}
 use Rattle.std.proofs.lemmas.List.Sorted.{IsPermutation-sym, IsPermutation-trans, IsPermutation-cons, IsPermutation-middle, IsPermutation-to_front, length_permutation}
-use Rattle.ph_specs.specs.Lawful.{IsBody}
-use Rattle.ph_specs.proofs.lemmas.RowsBehind.{Each-each}
-use Rattle.ph_specs.proofs.lemmas.Members.{In}
+use Rattle.ph_model.specs.Lawful.{IsBody}
+use Rattle.ph_specs.proofs.lemmas.Members.{Each-each, In}
 use Rattle.ph_specs.proofs.lemmas.Gathered.{Each-permutation}
 use Rattle.ph_near.specs.declared.found.Found.{Found}
 use Rattle.ph_near.specs.declared.waiting.Waiting.{Waiting}

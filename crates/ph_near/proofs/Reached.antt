@@ -12,17 +12,18 @@ use Rattle.ph_specs.specs.Coordinate.{is_point}
 use Rattle.ph_specs.specs.Table.{Row, IsTable}
 use Rattle.ph_specs.specs.Distance.{distance, ranked}
 use Rattle.ph_specs.specs.Region.{least_distance}
-use Rattle.ph_specs.specs.Nearness.{is_nearer, IsRanked}
+use Rattle.ph_model.specs.Nearness.{is_nearer, IsRanked}
 use Rattle.ph_specs.specs.WorkSets.{Placed, all_nodes, reach, no_farther}
-use Rattle.ph_specs.specs.BestFirst.{Item, node, item_distance, items_of}
-use Rattle.ph_specs.proofs.lemmas.Joined.{offsets}
-use Rattle.ph_specs.proofs.lemmas.RowsBehind.{Each-append, Each-each}
-use Rattle.ph_specs.proofs.lemmas.Members.{Each-parts, In, In-right, Each-in}
+use Rattle.ph_model.specs.BestFirst.{Item, node, item_distance, items_of}
+use Rattle.ph_model.proofs.lemmas.Joined.{offsets}
+use Rattle.ph_specs.proofs.lemmas.Members.{Each-each, Each-parts, In, In-right, Each-in}
+use Rattle.ph_model.proofs.lemmas.RowsBehind.{Each-append}
 use Rattle.ph_specs.proofs.lemmas.Gathered.{gathered-append, members-permutation, Each-permutation, In-filter}
-use Rattle.ph_specs.proofs.lemmas.Searching.{rows_of as rows_held, nodes_of, rows_in, nodes_in, rows-items, nodes-items, IsItem, items_of-lawful, item-bound}
-use Rattle.ph_specs.proofs.laws.BestFirst.{IsSearching, searching-few}
-use Rattle.ph_specs.proofs.laws.BallSearch.{ArePoints, table-points}
-use Rattle.ph_specs.proofs.laws.Ranked.{nearer-le, ranked-permutation, ranked-ranked}
+use Rattle.ph_model.proofs.lemmas.Searching.{rows_of as rows_held, nodes_of, rows_in, nodes_in, rows-items, nodes-items, IsItem, items_of-lawful, item-bound}
+use Rattle.ph_model.proofs.laws.BestFirst.{IsSearching, searching-few}
+use Rattle.ph_specs.proofs.laws.Points.{ArePoints, table-points}
+use Rattle.ph_specs.proofs.laws.Ranked.{ranked-permutation}
+use Rattle.ph_model.proofs.laws.Nearest.{nearer-le, ranked-ranked}
 use Rattle.std.proofs.lemmas.Bool.{and_parts}
 use Rattle.ph_specs.specs.Table.{is_rising}
 use Rattle.ph_near.specs.declared.found.Found.{Found}

@@ -6,16 +6,17 @@ use Rattle.std.specs.List.Sorted.{IsPermutation}
 use Rattle.std.proofs.lemmas.List.Sorted.{IsPermutation-map, length_permutation}
 use Rattle.ph_specs.specs.Node.{PlainNode}
 use Rattle.ph_specs.specs.Table.{Row, IsTable}
-use Rattle.ph_specs.specs.Lawful.{IsAbove, IsBody, IsLawfulFrom, IsLawful, rows}
+use Rattle.ph_specs.specs.TreeRows.{rows}
+use Rattle.ph_model.specs.Lawful.{IsAbove, IsBody, IsLawfulFrom, IsLawful}
 use Rattle.ph_specs.specs.Region.{least_distance}
-use Rattle.ph_specs.specs.BallSearch.{placed_at}
-use Rattle.ph_specs.specs.BestFirst.{node, item_distance, items_of, root_queue}
+use Rattle.ph_model.specs.BallSearch.{placed_at}
+use Rattle.ph_model.specs.BestFirst.{node, item_distance, items_of, root_queue}
 use Rattle.ph_specs.proofs.lemmas.Gathered.{Each-permutation, gathered-permutation}
-use Rattle.ph_specs.proofs.lemmas.Searching.{nodes_in, nodes_of}
-use Rattle.ph_specs.proofs.laws.BallSearch.{root-above}
-use Rattle.ph_specs.proofs.laws.BestFirst.{IsSearching, searching-start}
-use Rattle.ph_specs.proofs.laws.LawfulRows.{rows-table}
-use Rattle.ph_specs.proofs.laws.Unique.{shape-rows}
+use Rattle.ph_model.proofs.lemmas.Searching.{nodes_in, nodes_of}
+use Rattle.ph_model.proofs.laws.BallSearch.{root-above}
+use Rattle.ph_model.proofs.laws.BestFirst.{IsSearching, searching-start}
+use Rattle.ph_model.proofs.laws.LawfulRows.{rows-table}
+use Rattle.ph_model.proofs.laws.Unique.{shape-rows}
 use Rattle.ph_node.specs.Shown.{shown}
 use Rattle.ph_near.specs.declared.found.Found.{Found}
 use Rattle.ph_near.specs.declared.opening.OpenedOf.{OpenedOf}

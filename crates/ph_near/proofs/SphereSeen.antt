@@ -1,8 +1,9 @@
 -- How far an entry is from the center of a sphere, as the code tells it.
 use Rattle.std.proofs.Common.{le-leb, ◌≡◌, ◌-◌, ◌<◌, ◌≤◌, List, ℕ, length, subst, sym, ◌∙◌, true}
-use Rattle.ph_specs.specs.EntryEdits.{what_at}
-use Rattle.ph_specs.specs.Lawful.{IsBody}
-use Rattle.ph_specs.specs.Node.{PlainNode, entries}
+use Rattle.ph_model.specs.EntryEdits.{what_at}
+use Rattle.ph_model.specs.Lawful.{IsBody}
+use Rattle.ph_specs.specs.Node.{PlainNode}
+use Rattle.ph_model.specs.EntryList.{entries}
 use Rattle.ph_specs.specs.Region.{least_distance}
 use Rattle.ph_node.specs.Kinds.{is_node}
 use Rattle.ph_node.specs.Split.{body_at}

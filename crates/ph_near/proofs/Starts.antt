@@ -5,11 +5,12 @@ use Rattle.ph_specs.specs.Coordinate.{coordinate, offset, IsPoint}
 use Rattle.ph_specs.specs.Table.{Row, IsTable}
 use Rattle.ph_specs.specs.Node.{PlainNode}
 use Rattle.ph_specs.specs.Shape.{shape}
-use Rattle.ph_specs.specs.Lawful.{IsBody, IsLawful, rows}
+use Rattle.ph_specs.specs.TreeRows.{rows}
+use Rattle.ph_model.specs.Lawful.{IsBody, IsLawful}
 use Rattle.ph_specs.specs.Distance.{near}
 use Rattle.ph_specs.specs.WorkSets.{Placed, reach}
-use Rattle.ph_specs.proofs.lemmas.PointDigits.{point-whole}
-use Rattle.ph_specs.proofs.laws.TableShape.{table-shape}
+use Rattle.ph_model.proofs.lemmas.PointDigits.{point-whole}
+use Rattle.ph_model.proofs.laws.TableShape.{table-shape}
 use Rattle.ph_zorder.proofs.Decided.{is_body-point}
 use Rattle.ph_table.specs.Hits.{TableHit, hits_of}
 

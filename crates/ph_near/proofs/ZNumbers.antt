@@ -13,10 +13,10 @@ use Rattle.std.proofs.Math.Nat.{div-eq_of_lt}
 use Rattle.std.proofs.lemmas.Nat.Bits.{bit_at-lt}
 use Rattle.std.proofs.lemmas.Bool.{cases_lt}
 use Rattle.ph_specs.specs.Coordinate.{coordinate}
-use Rattle.ph_specs.specs.Lawful.{IsBody}
-use Rattle.ph_specs.specs.PutTree.{body_address, body_address_from}
+use Rattle.ph_model.specs.Lawful.{IsBody}
+use Rattle.ph_model.specs.PutTree.{body_address, body_address_from}
 use Rattle.ph_specs.specs.ZOrder.{address, before, before_below}
-use Rattle.ph_specs.proofs.lemmas.Joined.{offsets, offsets-coordinate, number_at, same_number}
+use Rattle.ph_model.proofs.lemmas.Joined.{offsets, offsets-coordinate, number_at, same_number}
 use Rattle.ph_specs.proofs.laws.Order.{decided_cases}
 use Rattle.ph_digits.specs.Differences.{IsTopDifference}
 use Rattle.ph_digits.proofs.Cuts.{other_address}

@@ -1,9 +1,9 @@
 -- The points within a radius of a center.
 use Rattle.std.specs.Prelude.{ℕ, ◌-◌, ◌<◌, List, ℤ, Bool, nat_le}
-use Rattle.ph_specs.specs.BestFirst.{item_distance}
+use Rattle.ph_model.specs.BestFirst.{item_distance}
 use Rattle.ph_specs.specs.Distance.{distance}
-use Rattle.ph_specs.specs.Lawful.{IsBody}
-use Rattle.ph_specs.specs.Node.{What}
+use Rattle.ph_model.specs.Lawful.{IsBody}
+use Rattle.ph_model.specs.EntryList.{What}
 use Rattle.ph_specs.specs.Region.{least_distance}
 use Rattle.ph_near.specs.Queue.{what_item}
 use Rattle.ph_path.specs.Known.{AreSized, point_at}

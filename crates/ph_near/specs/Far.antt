@@ -1,9 +1,9 @@
 -- How far an entry is from a point, by offsets.
 use Rattle.std.specs.Prelude.{ℕ, ◌+◌, ◌-◌, ◌*◌, ◌^◌, List, ◌∷◌, map}
-use Rattle.ph_specs.specs.Lawful.{put_together}
-use Rattle.ph_specs.specs.Node.{What, value, node}
-use Rattle.ph_specs.specs.PutTree.{body_above}
-use Rattle.ph_specs.specs.Region.{gap}
+use Rattle.ph_specs.specs.TreeRows.{put_together}
+use Rattle.ph_model.specs.EntryList.{What, value, node}
+use Rattle.ph_model.specs.PutTree.{body_above}
+use Rattle.ph_model.specs.Regions.{gap}
 use Rattle.ph_node.specs.Apart.{squares_apart}
 
 -- how far a number lies from those that begin at another one and differ from it below a level alone

@@ -6,11 +6,11 @@ use Rattle.std.specs.Ordering.{nat_cmp, on, then_cmp}
 use Rattle.std.specs.Cmp.{IsTotalOrder, then_total, on_total, nat_cmp_total}
 use Rattle.ph_specs.specs.Coordinate.{coordinate}
 use Rattle.ph_specs.specs.Distance.{distance}
-use Rattle.ph_specs.specs.Lawful.{IsBody}
-use Rattle.ph_specs.specs.PutTree.{body_address}
+use Rattle.ph_model.specs.Lawful.{IsBody}
+use Rattle.ph_model.specs.PutTree.{body_address}
 use Rattle.ph_specs.specs.Table.{Row, row}
-use Rattle.ph_specs.specs.BestFirst as best
-use Rattle.ph_specs.specs.BestFirst.{Item}
+use Rattle.ph_model.specs.BestFirst as best
+use Rattle.ph_model.specs.BestFirst.{Item}
 use Rattle.ph_near.specs.declared.found.Found.{Found}
 
 -- the addresses of numbers at each place below one, from the greatest place on

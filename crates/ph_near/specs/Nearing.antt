@@ -2,11 +2,11 @@
 use Rattle.std.specs.Prelude.{◌≡◌, ℕ, ◌+◌, ◌≤◌, ◌⊎◌, List, [], ◌++◌, length, map, ℤ}
 use Rattle.std.specs.BinaryHeap.{IsUpperBound}
 use Rattle.std.specs.List.{AllByRecursion as Each}
-use Rattle.ph_specs.specs.BestFirst.{Item, item_distance}
+use Rattle.ph_model.specs.BestFirst.{Item, item_distance}
 use Rattle.ph_specs.specs.Table.{Row, IsTable}
 use Rattle.ph_specs.specs.WorkSets.{Placed}
-use Rattle.ph_specs.proofs.lemmas.Searching.{nodes_in}
-use Rattle.ph_specs.proofs.laws.BestFirst.{IsSearching}
+use Rattle.ph_model.proofs.lemmas.Searching.{nodes_in}
+use Rattle.ph_model.proofs.laws.BestFirst.{IsSearching}
 use Rattle.ph_near.specs.declared.found.Found.{Found}
 use Rattle.ph_near.specs.Found.{found_cmp, found_item, IsFound}
 use Rattle.ph_near.specs.Ranking.{IsBeyond}

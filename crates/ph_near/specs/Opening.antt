@@ -2,11 +2,12 @@
 use Rattle.std.specs.Prelude.{◌≡◌, ℕ, ◌-◌, ◌^◌, ◌<◌, ◌⊎◌, List, [], ◌∷◌, length, map, ℤ, true, slice_index_or}
 use Rattle.std.specs.List.{AllByRecursion as Each}
 use Rattle.std.specs.List.Sorted.{IsPermutation}
-use Rattle.ph_specs.specs.Lawful.{IsAbove, IsBody, IsLawfulFrom}
-use Rattle.ph_specs.specs.Node.{PlainNode, end, entries}
-use Rattle.ph_specs.specs.EntryEdits.{what_at}
-use Rattle.ph_specs.specs.BestFirst.{Item, node, items_below, item_distance}
-use Rattle.ph_specs.specs.BallSearch.{placed_at}
+use Rattle.ph_model.specs.Lawful.{IsAbove, IsBody, IsLawfulFrom}
+use Rattle.ph_specs.specs.Node.{PlainNode, end}
+use Rattle.ph_model.specs.EntryList.{entries}
+use Rattle.ph_model.specs.EntryEdits.{what_at}
+use Rattle.ph_model.specs.BestFirst.{Item, node, items_below, item_distance}
+use Rattle.ph_model.specs.BallSearch.{placed_at}
 use Rattle.ph_node.specs.Kinds.{is_node}
 use Rattle.ph_node.specs.Shown.{shown}
 use Rattle.ph_near.specs.declared.found.Found.{Found}

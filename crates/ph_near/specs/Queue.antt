@@ -2,12 +2,12 @@
 use Rattle.std.specs.Prelude.{ℕ, ◌-◌, List, map}
 use Rattle.ph_specs.specs.Coordinate.{coordinate}
 use Rattle.ph_specs.specs.Table.{row}
-use Rattle.ph_specs.specs.Node.{Entry, What, value, node}
-use Rattle.ph_specs.specs.EntryEdits.{what_at}
-use Rattle.ph_specs.specs.Lawful.{put_together}
-use Rattle.ph_specs.specs.BallSearch.{placed_at}
-use Rattle.ph_specs.specs.BestFirst as best
-use Rattle.ph_specs.specs.BestFirst.{Item, found}
+use Rattle.ph_model.specs.EntryList.{Entry, What, value, node}
+use Rattle.ph_model.specs.EntryEdits.{what_at}
+use Rattle.ph_specs.specs.TreeRows.{put_together}
+use Rattle.ph_model.specs.BallSearch.{placed_at}
+use Rattle.ph_model.specs.BestFirst as best
+use Rattle.ph_model.specs.BestFirst.{Item, found}
 use Rattle.ph_node.specs.Merge.{addr_at}
 use Rattle.ph_node.specs.Split.{body_at}
 

@@ -2,8 +2,9 @@
 
 ghost use Rattle.std.specs.Prelude.{◌≡◌, ◌+◌, ◌≤◌, [], None, length, map, IfOk, IsOk};
 ghost use Rattle.std.specs.Option.{option_copied};
-ghost use Rattle.ph_specs.specs.TableNames.{coordinate, IsPoint, near, IsNearest};
-ghost use Rattle.ph_specs.specs.TreeNames.{IsBody, IsLawful, rows};
+ghost use Rattle.ph_specs.specs.TableNames.{coordinate, IsPoint, near};
+ghost use Rattle.ph_model.specs.ModelNames.{IsNearest, IsBody, IsLawful};
+ghost use Rattle.ph_specs.specs.TreeNames.{rows};
 ghost use Rattle.ph_near.specs.Nearest.{rows_hit};
 ghost use Rattle.ph_specs.specs.WorkNames.{reach};
 ghost use Rattle.ph_table.specs.Hits.{hits_of};

@@ -1,6 +1,6 @@
 //! Entries that are too far, told before their digits are joined.
 ghost use Rattle.std.specs.Prelude.{◌≡◌, ◌<◌, ◌≤◌, ◌*◌, ◌^◌, ◌-◌, ◌+◌, true, false, length};
-ghost use Rattle.ph_specs.specs.TreeNames.{what_at, IsBody, entries};
+ghost use Rattle.ph_model.specs.ModelNames.{what_at, IsBody, entries};
 ghost use Rattle.ph_node.specs.Apart.{greatest_square};
 ghost use Rattle.ph_node.specs.Shown.{shown};
 ghost use Rattle.ph_node.specs.Spots.{IsSpot, joined_digits};

@@ -3,7 +3,7 @@
 ghost use Rattle.std.specs.Prelude.{◌≡◌, ◌<◌, refl, Some, length};
 ghost use Rattle.std.specs.Cmp.{partial_order_from_agreeing_total, partial_equiv_from_equiv, eq_by_cmp_equiv};
 ghost use Rattle.std.specs.Ordering.{eq_by_cmp, nat_cmp};
-ghost use Rattle.ph_specs.specs.TreeNames.{body_address};
+ghost use Rattle.ph_model.specs.ModelNames.{body_address};
 ghost use Rattle.ph_near.specs.Found.{z_numbers, found_cmp, found_total};
 
 use ph_digits::{digit, top_difference};

@@ -1,7 +1,7 @@
 //! How far the parts of a node's region are from a point, told by their addresses.
 
 ghost use Rattle.std.specs.Prelude.{◌≡◌, ℕ, ◌<◌, ◌≤◌, ◌-◌, ◌/◌, ◌%◌, ◌^◌, length, slice_index};
-ghost use Rattle.ph_specs.specs.TreeNames.{IsBody};
+ghost use Rattle.ph_model.specs.ModelNames.{IsBody};
 ghost use Rattle.ph_node.specs.Apart.{greatest_square};
 ghost use Rattle.ph_near.specs.Halves.{AreHalves, AreSmall, AreSummed, HasSums, halves_sum};
 

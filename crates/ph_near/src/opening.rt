@@ -3,7 +3,7 @@
 ghost use Rattle.std.specs.Prelude.{◌≡◌, ◌+◌, ◌<◌, ◌≤◌, [], ◌∷◌, ◌++◌, length, map, true, false, vec_capacity, IfOk, OnOk};
 ghost use Rattle.std.specs.BinaryHeap.{heap_items, IsHeap};
 ghost use Rattle.ph_specs.specs.TableNames.{coordinate};
-ghost use Rattle.ph_specs.specs.TreeNames.{what_at, IsBody, entries};
+ghost use Rattle.ph_model.specs.ModelNames.{what_at, IsBody, entries};
 ghost use Rattle.ph_node.specs.Kinds.{is_node};
 ghost use Rattle.ph_node.specs.Shown.{shown};
 ghost use Rattle.ph_node.specs.Spots.{IsSpot};

@@ -4,7 +4,7 @@ ghost use Rattle.std.specs.Prelude.{◌≡◌, ℕ, ◌^◌, ◌<◌, ◌≤◌,
 ghost use Rattle.std.specs.BinaryHeap.{heap_items, heap_capacity, IsHeap};
 ghost use Rattle.std.specs.List.{AllByRecursion as Each};
 ghost use Rattle.std.specs.List.Sorted.{IsPermutation};
-ghost use Rattle.ph_specs.specs.TreeNames.{IsBody};
+ghost use Rattle.ph_model.specs.ModelNames.{IsBody};
 ghost use Rattle.ph_near.specs.Found.{found_cmp};
 ghost use Rattle.ph_near.specs.Ranking.{IsRanking, IsAdded, IsBeyond, IsWanted, IsListed};
 

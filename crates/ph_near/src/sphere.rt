@@ -1,7 +1,7 @@
 //! The points within a radius of a center.
 ghost use Rattle.std.specs.Prelude.{◌≡◌, ◌≤◌, ◌-◌, true, false, map};
 ghost use Rattle.ph_specs.specs.TableNames.{offset, IsPoint, distance};
-ghost use Rattle.ph_specs.specs.TreeNames.{what_at, IsBody, IsLawfulFrom, entries};
+ghost use Rattle.ph_model.specs.ModelNames.{what_at, IsBody, IsLawfulFrom, entries};
 ghost use Rattle.ph_node.specs.Kinds.{is_node};
 ghost use Rattle.ph_node.specs.Shown.{shown};
 ghost use Rattle.ph_node.specs.Split.{body_at};

@@ -3,10 +3,11 @@ use Rattle.std.proofs.Common.{◌≡◌, ◌≢◌, ℕ, suc, ◌+◌, ◌^◌, 
 use Rattle.std.proofs.Common.{sym, ◌∙◌, arith, true, false, not, cond, lt-ltb, le-ltb, inl, inr}
 use Rattle.std.specs.Prelude.{None, nat_le, nat_lt, position}
 use Rattle.std.proofs.lemmas.Bool.{lt-leb, le-leb, eqb-false}
-use Rattle.ph_specs.specs.EntryEdits.{has_address, point_entry, inserted}
-use Rattle.ph_specs.specs.Lawful.{IsBody}
-use Rattle.ph_specs.specs.Node.{Entry, PlainNode, entries, Flat}
-use Rattle.ph_specs.proofs.laws.EntryEdits.{IsAbsent, absent-by}
+use Rattle.ph_model.specs.EntryEdits.{has_address, point_entry, inserted}
+use Rattle.ph_model.specs.Lawful.{IsBody}
+use Rattle.ph_specs.specs.Node.{PlainNode, Flat}
+use Rattle.ph_model.specs.EntryList.{Entry, entries}
+use Rattle.ph_model.proofs.laws.EntryEdits.{IsAbsent, absent-by}
 use Rattle.ph_linear.proofs.Entries.{split}
 use Rattle.ph_bits.specs.Edits.{edited}
 use Rattle.ph_node.specs.OneEdit.{flat_of, flats_of, held_nodes, nodes_held}

@@ -1,8 +1,9 @@
 -- The places of an address, and of the one behind it, among entries.
 use Rattle.std.proofs.Common.{◌≡◌, ◌≢◌, ℕ, zero, suc, ◌+◌, ◌^◌, ◌<◌, ◌≤◌, List, [], ◌∷◌, length, not, cond, refl, ap, sym, ◌∙◌, subst, arith, inl, inr}
 use Rattle.std.proofs.lemmas.Bool.{lt-leb, le-leb, eqb-false}
-use Rattle.ph_specs.specs.Node.{Entry, PlainNode, entries}
-use Rattle.ph_specs.proofs.laws.EntryEdits.{IsAbsent}
+use Rattle.ph_specs.specs.Node.{PlainNode}
+use Rattle.ph_model.specs.EntryList.{Entry, entries}
+use Rattle.ph_model.proofs.laws.EntryEdits.{IsAbsent}
 use Rattle.ph_linear.proofs.Entries.{split}
 use Rattle.ph_node.specs.Kept.{AreKept}
 use Rattle.ph_node.specs.Merge.{addr_at}

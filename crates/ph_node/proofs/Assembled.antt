@@ -4,12 +4,13 @@ use Rattle.std.specs.Prelude.{◌&&◌}
 use Rattle.std.specs.List.{AllByRecursion as Each}
 use Rattle.ph_specs.specs.declared.Kind.TheVariants.{Points}
 use Rattle.ph_specs.specs.Load.{root, has_zeros_from}
-use Rattle.ph_specs.specs.Node.{PlainNode, listed}
-use Rattle.ph_specs.specs.NodeSize.{children_in, points_in}
+use Rattle.ph_specs.specs.Node.{PlainNode}
+use Rattle.ph_model.specs.EntryList.{listed}
+use Rattle.ph_model.specs.NodeSize.{children_in, points_in}
 use Rattle.ph_specs.specs.Record.{Read, read_point, read_child, filled, first_of, first_in, entries_in, values_in}
-use Rattle.ph_specs.proofs.lemmas.Counted.{kids, spots}
-use Rattle.ph_specs.proofs.lemmas.LawfulRead.{AreReads, tables-reads}
-use Rattle.ph_specs.proofs.laws.RecordAgain.{IsFirst, IsRest, xs, numbers-many, numbers-fit, entries-count, values-many, pack-unpacked}
+use Rattle.ph_model.proofs.lemmas.Counted.{kids, spots}
+use Rattle.ph_model.proofs.lemmas.LawfulRead.{AreReads, tables-reads}
+use Rattle.ph_model.proofs.laws.RecordAgain.{IsFirst, IsRest, xs, numbers-many, numbers-fit, entries-count, values-many, pack-unpacked}
 use Rattle.ph_node.specs.Kept.{AreKept}
 use Rattle.ph_node.specs.Recorded.{IsLaidOut, IsRecorded}
 

@@ -2,9 +2,10 @@
 use Rattle.std.proofs.Common.{◌≡◌, ℕ, ◌<◌, List, map, length, Bool, true, false, refl, ap, get_or, ◌∙◌}
 use Rattle.std.specs.Prelude.{Some, slice_get}
 use Rattle.std.proofs.lemmas.List.{get_or_default}
-use Rattle.ph_specs.specs.EntryEdits.{what_at}
-use Rattle.ph_specs.specs.Layout.{is_child}
-use Rattle.ph_specs.specs.Node.{PlainNode, entries}
+use Rattle.ph_model.specs.EntryEdits.{what_at}
+use Rattle.ph_model.specs.Layout.{is_child}
+use Rattle.ph_specs.specs.Node.{PlainNode}
+use Rattle.ph_model.specs.EntryList.{entries}
 use Rattle.ph_specs.specs.Record.{unpacked, entries_in}
 use Rattle.ph_bits.specs.Packed.{rank_at}
 use Rattle.ph_node.specs.Kinds.{is_node}

@@ -1,8 +1,9 @@
 -- A node with another body and other contents in one entry.
 use Rattle.std.proofs.Common.{◌≡◌, ℕ, zero, suc, ◌+◌, ◌<◌, ◌≤◌, List, [], ◌∷◌, ◌++◌, take, drop, length, map, refl, ap, sym, ◌∙◌, subst, arith}
-use Rattle.ph_specs.specs.EntryEdits.{what_at, other_what, with_content, split_at, merged, inserted}
-use Rattle.ph_specs.specs.Lawful.{IsBody}
-use Rattle.ph_specs.specs.Node.{Entry, What, value, node, PlainNode, entries, node_of, Flat}
+use Rattle.ph_model.specs.EntryEdits.{what_at, other_what, with_content, split_at, merged, inserted}
+use Rattle.ph_model.specs.Lawful.{IsBody}
+use Rattle.ph_specs.specs.Node.{PlainNode, Flat}
+use Rattle.ph_model.specs.EntryList.{Entry, What, value, node, entries, node_of}
 use Rattle.ph_bits.specs.Edits.{edited}
 use Rattle.ph_node.specs.Kept.{AreKept}
 use Rattle.ph_node.specs.Merge.{addr_at}

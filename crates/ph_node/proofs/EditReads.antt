@@ -1,9 +1,9 @@
 -- The entries of an old record with an edit, as they are read.
 use Rattle.std.proofs.Common.{◌≡◌, ℕ, ◌+◌, ◌<◌, ◌≤◌, List, length, map, take, ap, sym, ◌∙◌, subst, arith, false, slice_index_or, get_or}
 use Rattle.std.specs.Prelude.{Some, slice_get}
-use Rattle.ph_specs.specs.Layout.{unvalued}
+use Rattle.ph_model.specs.Layout.{unvalued, is_child, read_address}
 use Rattle.ph_specs.specs.Node.{Flat}
-use Rattle.ph_specs.specs.NodeSize.{points_in}
+use Rattle.ph_model.specs.NodeSize.{points_in}
 use Rattle.ph_specs.specs.Record.{first_in, entries_in, values_in}
 use Rattle.ph_bits.specs.Edits.{edited, flats_in, new_flat, edit_of}
 use Rattle.ph_bits.specs.Packed.{read_of, rank_at}
@@ -11,7 +11,6 @@ use Rattle.ph_bits.specs.declared.entries.Packed.{Packed}
 use Rattle.ph_node.specs.Recorded.{IsSource}
 use Rattle.std.proofs.lemmas.Option.{slice_get-get_or}
 use Rattle.ph_specs.specs.Record.{Read, read}
-use Rattle.ph_specs.specs.Layout.{is_child, read_address}
 use Rattle.ph_bits.specs.Packed.{read_body}
 use Rattle.ph_linear.proofs.Entries.{no_read}
 use Rattle.ph_node.proofs.Marked.{parts}

@@ -2,7 +2,7 @@
 use Rattle.std.proofs.Common.{◌≡◌, ℕ, zero, suc, ◌+◌, ◌-◌, ◌*◌, ◌/◌, ◌%◌, ◌^◌, List, ◌∷◌, ◌++◌, length, take, drop, map, refl, arith, ap, sym, ◌∙◌, replicate}
 use Rattle.std.specs.List.{take-map}
 use Rattle.std.proofs.lemmas.List.{map-append, take-append-drop, drop-map, drop_at}
-use Rattle.ph_specs.specs.PutTree.{body_below, body_above}
+use Rattle.ph_model.specs.PutTree.{body_below, body_above}
 use Rattle.ph_bits.specs.Packed.{IsPadded}
 use Rattle.ph_node.specs.Bodies.{IsFilled}
 

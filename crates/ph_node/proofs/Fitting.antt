@@ -1,7 +1,7 @@
 -- Entries that rise are few enough for a record.
 use Rattle.std.proofs.Common.{ℕ, ◌+◌, ◌^◌, ◌≤◌, List, [], ◌∷◌, length, arith}
 use Rattle.ph_specs.specs.Node.{Flat}
-use Rattle.ph_specs.specs.Layout.{AreRising}
+use Rattle.ph_model.specs.Layout.{AreRising}
 
 few-from : (dims level least : ℕ) (es : List Flat) → least ≤ 2 ^ dims → AreRising dims level least es → length es + least ≤ 2 ^ dims
 few-from dims level least [] l h = omega (arith, l)

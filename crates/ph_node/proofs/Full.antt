@@ -4,11 +4,11 @@ use Rattle.std.proofs.Common.{refl, arith, ap, sym, ◌∙◌, subst, zero-add, 
 use Rattle.std.specs.Prelude.{◌==◌, nat_le, Some, None, position, slice_get}
 use Rattle.std.specs.List.{position_or_len, AllByRecursion as Each}
 use Rattle.std.proofs.lemmas.Bool.{lt-leb}
-use Rattle.ph_specs.specs.Layout.{read_address, is_child}
-use Rattle.ph_specs.specs.NodeSize.{children_in, points_in}
+use Rattle.ph_model.specs.Layout.{read_address, is_child}
+use Rattle.ph_model.specs.NodeSize.{children_in, points_in}
 use Rattle.ph_specs.specs.Record.{Read, read_point, read_child, entries_in, first_in}
-use Rattle.ph_specs.proofs.laws.TableFields.{both-counts}
-use Rattle.ph_specs.proofs.lemmas.LawfulRead.{AreReads}
+use Rattle.ph_model.proofs.laws.TableFields.{both-counts}
+use Rattle.ph_model.proofs.lemmas.LawfulRead.{AreReads}
 use Rattle.ph_node.specs.Recorded.{IsLaidOut}
 use Rattle.ph_node.proofs.Assembled.{kids-there, reads-there}
 use Rattle.ph_node.proofs.Listings.{many}

@@ -4,13 +4,14 @@ use Rattle.std.specs.List.{insert, remove}
 use Rattle.std.specs.Prelude.{Some, None, nat_lt, if◌then◌else◌}
 use Rattle.ph_digits.specs.Differences.{IsTopDifference}
 use Rattle.ph_digits.proofs.Cuts.{is_body-above, other_address, take-above}
-use Rattle.ph_specs.specs.EntryEdits.{what_at, inserted, split_at}
+use Rattle.ph_model.specs.EntryEdits.{what_at, inserted, split_at}
 use Rattle.ph_specs.specs.Digits.{words_for}
-use Rattle.ph_specs.specs.Lawful.{IsBody}
+use Rattle.ph_model.specs.Lawful.{IsBody}
 use Rattle.ph_specs.specs.Pack.{record_of}
-use Rattle.ph_specs.specs.Node.{Entry, What, value, node, PlainNode, entries, node_of, Flat}
-use Rattle.ph_specs.specs.PutTree.{body_address, body_below, body_above}
-use Rattle.ph_specs.proofs.laws.EntryLists.{listed-chained}
+use Rattle.ph_specs.specs.Node.{PlainNode, Flat}
+use Rattle.ph_model.specs.EntryList.{Entry, What, value, node, entries, node_of}
+use Rattle.ph_model.specs.PutTree.{body_address, body_below, body_above}
+use Rattle.ph_model.proofs.laws.EntryLists.{listed-chained}
 use Rattle.ph_bits.specs.Edits.{edited, least_digits, words_wanted}
 use Rattle.ph_node.specs.Bodies.{IsBodyArray}
 use Rattle.ph_node.specs.Merge.{addr_at}

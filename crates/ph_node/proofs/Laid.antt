@@ -1,10 +1,10 @@
 -- The record of entries is laid out in the smaller layout, and its first word counts its children.
 use Rattle.std.proofs.Common.{◌≡◌, ℕ, ◌≤◌, Bool, List, length, ap, sym, ◌∙◌, subst}
-use Rattle.ph_specs.specs.Layout.{IsRecord, AreRising}
+use Rattle.ph_model.specs.Layout.{IsRecord, AreRising}
 use Rattle.ph_specs.specs.Node.{Flat}
 use Rattle.ph_specs.specs.Pack.{is_cube, layout, children, record_of}
 use Rattle.ph_specs.specs.Record.{first_in, has_cube}
-use Rattle.ph_specs.proofs.laws.Layouts.{IsMade, made}
+use Rattle.ph_model.proofs.laws.Layouts.{IsMade, made}
 use Rattle.ph_node.specs.Recorded.{IsLaidOut}
 
 module _ (dims level : ℕ) (es : List Flat) (some : 1 ≤ dims) (few : dims ≤ 16) (low : level ≤ 61)

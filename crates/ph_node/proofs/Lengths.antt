@@ -5,10 +5,10 @@ use Rattle.std.proofs.Math.Pow.{pow_mono}
 use Rattle.std.proofs.lemmas.Nat.{pow_pos}
 use Rattle.std.proofs.lemmas.List.{length-append}
 use Rattle.ph_specs.specs.Digits.{digits_of, words_for, words_of}
-use Rattle.ph_specs.specs.Layout.{AreRising}
+use Rattle.ph_model.specs.Layout.{AreRising}
 use Rattle.ph_specs.specs.Node.{Flat}
 use Rattle.ph_specs.specs.Pack.{is_cube, table, values, linear_digits, record_of}
-use Rattle.ph_specs.proofs.lemmas.LayoutTables.{table-digits}
+use Rattle.ph_model.proofs.lemmas.LayoutTables.{table-digits}
 use Rattle.ph_specs.proofs.lemmas.Numbers.{length-words_of}
 use Rattle.ph_bits.specs.Edits.{least_digits, words_wanted}
 

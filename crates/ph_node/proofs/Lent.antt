@@ -1,8 +1,9 @@
 -- A child in its place among the children.
 use Rattle.std.proofs.Common.{◌≡◌, ℕ, zero, suc, ◌+◌, ◌<◌, List, [], ◌∷◌, ◌++◌, length, map, refl, ap, sym, ◌∙◌, arith, get_or, slice_set, length-set}
 use Rattle.std.specs.Prelude.{None}
-use Rattle.ph_specs.specs.EntryEdits.{what_at, with_what}
-use Rattle.ph_specs.specs.Node.{Entry, What, value, node, PlainNode, entries, Flat}
+use Rattle.ph_model.specs.EntryEdits.{what_at, with_what}
+use Rattle.ph_specs.specs.Node.{PlainNode, Flat}
+use Rattle.ph_model.specs.EntryList.{Entry, What, value, node, entries}
 use Rattle.ph_node.specs.OneEdit.{value_of, ones_of, held_nodes, nodes_held, flat_of, flats_of, before}
 use Rattle.ph_node.specs.Slots.{nodes_of}
 use Rattle.ph_node.specs.Split.{IsNode}

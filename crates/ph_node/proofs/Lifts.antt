@@ -1,12 +1,14 @@
 -- A node with a child of two entries replaced by one of them.
 use Rattle.std.proofs.Common.{◌≡◌, ℕ, zero, suc, ◌+◌, ◌-◌, ◌<◌, List, [], ◌∷◌, ◌++◌, take, drop, length, refl, ap, sym, ◌∙◌, subst, arith, Bool, true, get_or}
 use Rattle.std.specs.Prelude.{Option, if◌then◌else◌}
-use Rattle.ph_specs.specs.EntryEdits.{what_at, other_what, with_content, merged}
-use Rattle.ph_specs.specs.Lawful.{IsBody, HasZerosFrom, put_together}
-use Rattle.ph_specs.specs.Node.{Entry, What, value, node, PlainNode, entries, Flat}
+use Rattle.ph_model.specs.EntryEdits.{what_at, other_what, with_content, merged}
+use Rattle.ph_specs.specs.TreeRows.{put_together}
+use Rattle.ph_model.specs.Lawful.{IsBody, HasZerosFrom}
+use Rattle.ph_specs.specs.Node.{PlainNode, Flat}
+use Rattle.ph_model.specs.EntryList.{Entry, What, value, node, entries}
 use Rattle.ph_specs.specs.Pack.{record_of}
-use Rattle.ph_specs.specs.PutTree.{body_above}
-use Rattle.ph_specs.proofs.laws.EntryLists.{listed-chained}
+use Rattle.ph_model.specs.PutTree.{body_above}
+use Rattle.ph_model.proofs.laws.EntryLists.{listed-chained}
 use Rattle.ph_bits.specs.Edits.{edited}
 use Rattle.ph_node.specs.Merge.{IsPair, level_held, entries_held, addr_at, body_beside, merge_node}
 use Rattle.ph_node.specs.OneEdit.{value_of, ones_of, held_nodes, nodes_held, node_at, flats_of, before, held_by, IsOldEntry}

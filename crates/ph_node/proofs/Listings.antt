@@ -4,12 +4,13 @@ use Rattle.std.proofs.Common.{not, cond, refl, arith, ap, sym, ◌∙◌, get_or
 use Rattle.std.specs.Prelude.{Some, slice_get, position}
 use Rattle.std.specs.List.{position_or_len}
 use Rattle.std.proofs.lemmas.Option.{get_or_from_slice_get, slice_get-get_or}
-use Rattle.ph_specs.specs.Node.{Entry, value, node, PlainNode, listed, entries}
+use Rattle.ph_specs.specs.Node.{PlainNode}
+use Rattle.ph_model.specs.EntryList.{Entry, value, node, listed, entries}
 use Rattle.ph_specs.specs.Record.{Read, read_point, read_child, read, filled, unpacked, entries_in, values_in, first_in, has_cube}
-use Rattle.ph_specs.specs.NodeSize.{children_in, points_in}
-use Rattle.ph_specs.specs.Layout.{read_address, IsRecord, entries_as}
+use Rattle.ph_model.specs.NodeSize.{children_in, points_in}
+use Rattle.ph_model.specs.Layout.{read_address, IsRecord, entries_as}
 use Rattle.ph_linear.proofs.Entries.{no_read}
-use Rattle.ph_specs.proofs.lemmas.ReadColumns.{length-parts}
+use Rattle.ph_model.proofs.lemmas.ReadColumns.{length-parts}
 use Rattle.ph_linear.proofs.Columns.{length-kinds, length-addresses}
 use Rattle.ph_linear.proofs.Entries.{length-read}
 use Rattle.ph_linear.specs.Linear.{kinds, addresses, bodies}

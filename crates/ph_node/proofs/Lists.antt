@@ -2,12 +2,13 @@
 use Rattle.std.proofs.Common.{◌≡◌, ℕ, ◌+◌, ◌≤◌, List, [], ◌∷◌, ◌++◌, length, map, refl, ap, sym, ◌∙◌, subst, arith}
 use Rattle.std.specs.Prelude.{Some, None}
 use Rattle.std.proofs.lemmas.List.{length-map}
-use Rattle.ph_specs.specs.Layout.{AreRising}
-use Rattle.ph_specs.specs.Node.{Entries, end, point, child, Entry, What, value, node, PlainNode, node_of, listed, chained, Flat, flat}
+use Rattle.ph_model.specs.Layout.{AreRising}
+use Rattle.ph_specs.specs.Node.{Entries, end, point, child, PlainNode, Flat, flat}
+use Rattle.ph_model.specs.EntryList.{Entry, What, value, node, node_of, listed, chained}
 use Rattle.ph_specs.specs.Pack.{children, values, record_of}
 use Rattle.ph_specs.specs.Record.{unpacked}
-use Rattle.ph_specs.proofs.laws.EntryLists.{listed-chained}
-use Rattle.ph_specs.proofs.laws.Unpacked.{child_nodes}
+use Rattle.ph_model.proofs.laws.EntryLists.{listed-chained}
+use Rattle.ph_model.proofs.laws.Unpacked.{child_nodes}
 use Rattle.ph_node.specs.Kept.{AreKept, IsKept}
 use Rattle.ph_node.specs.OneEdit.{value_of, ones_of, held_nodes, nodes_held, flat_of}
 use Rattle.ph_node.specs.Recorded.{IsRecorded}

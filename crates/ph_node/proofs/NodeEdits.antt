@@ -1,8 +1,9 @@
 -- An edit of a node as one of its record, and how long that is then.
 use Rattle.std.proofs.Common.{◌≡◌, ℕ, ◌+◌, ◌<◌, List, length, refl, ap, sym, ◌∙◌, arith}
 use Rattle.std.proofs.lemmas.List.{length-map}
-use Rattle.ph_specs.specs.Layout.{AreRising}
-use Rattle.ph_specs.specs.Node.{Entry, PlainNode, Flat, entries}
+use Rattle.ph_model.specs.Layout.{AreRising}
+use Rattle.ph_specs.specs.Node.{PlainNode, Flat}
+use Rattle.ph_model.specs.EntryList.{Entry, entries}
 use Rattle.ph_specs.specs.Pack.{record_of}
 use Rattle.ph_specs.specs.Record.{first_in, unpacked}
 use Rattle.ph_bits.specs.Edits.{edited}

@@ -1,6 +1,7 @@
 -- An edit of the record of a node is one of the node's entries.
 use Rattle.std.proofs.Common.{◌≡◌, ℕ, List, length, ap, sym, ◌∙◌, subst}
-use Rattle.ph_specs.specs.Node.{PlainNode, entries, Flat}
+use Rattle.ph_specs.specs.Node.{PlainNode, Flat}
+use Rattle.ph_model.specs.EntryList.{entries}
 use Rattle.ph_specs.specs.Record.{first_in}
 use Rattle.ph_bits.specs.Edits.{edited, edit_of, new_flat}
 use Rattle.ph_node.specs.OneEdit.{edit_flats}

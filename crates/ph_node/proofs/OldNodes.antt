@@ -4,13 +4,14 @@ use Rattle.std.proofs.Common.{sym, ◌∙◌, subst, arith, Bool, true, false, s
 use Rattle.std.specs.Prelude.{Some, None, slice_get, if◌then◌else◌}
 use Rattle.std.proofs.lemmas.List.{length-drop}
 use Rattle.ph_specs.specs.Digits.{words_for}
-use Rattle.ph_specs.specs.EntryEdits.{what_at}
-use Rattle.ph_specs.specs.Layout.{is_child}
-use Rattle.ph_specs.specs.Node.{What, value, node, PlainNode, node_of, listed, entries, Flat}
-use Rattle.ph_specs.specs.NodeSize.{children_in, points_in}
+use Rattle.ph_model.specs.EntryEdits.{what_at}
+use Rattle.ph_model.specs.Layout.{is_child}
+use Rattle.ph_specs.specs.Node.{PlainNode, Flat}
+use Rattle.ph_model.specs.EntryList.{What, value, node, node_of, listed, entries}
+use Rattle.ph_model.specs.NodeSize.{children_in, points_in}
 use Rattle.ph_specs.specs.Pack.{values, record_of, pack}
 use Rattle.ph_specs.specs.Record.{Read, read_point, read_child, filled, unpacked, entries_in, values_in, first_in, table_digits}
-use Rattle.ph_specs.proofs.laws.Unpacked.{child_nodes}
+use Rattle.ph_model.proofs.laws.Unpacked.{child_nodes}
 use Rattle.ph_bits.specs.Edits.{flats, flats_in}
 use Rattle.ph_bits.specs.Packed.{rank_at}
 use Rattle.ph_node.specs.Kept.{IsKept}

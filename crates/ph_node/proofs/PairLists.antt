@@ -2,8 +2,8 @@
 use Rattle.std.proofs.Common.{◌≡◌, ◌≢◌, ℕ, ◌<◌, List, [], ◌∷◌, length, take, refl, ap, sym, ◌∙◌, subst, arith, true, false, lt-ltb, le-ltb, inl, inr}
 use Rattle.std.specs.Prelude.{Option, Some, nat_lt, if◌then◌else◌}
 use Rattle.ph_digits.proofs.Cuts.{is_body-below, address-below}
-use Rattle.ph_specs.specs.Layout.{AreRising}
-use Rattle.ph_specs.specs.PutTree.{body_address}
+use Rattle.ph_model.specs.Layout.{AreRising}
+use Rattle.ph_model.specs.PutTree.{body_address}
 use Rattle.ph_linear.proofs.Entries.{split}
 use Rattle.ph_node.specs.OneEdit.{held_by}
 use Rattle.ph_node.specs.Pairs.{below_flat, in_order, pair_flats, flats_in_pair, written_flat}

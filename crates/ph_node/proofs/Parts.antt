@@ -3,11 +3,11 @@ use Rattle.std.proofs.Common.{◌≡◌, ℕ, ◌+◌, ◌<◌, List, [], ◌∷
 use Rattle.ph_digits.specs.Differences.{IsTopDifference}
 use Rattle.ph_digits.proofs.Cuts.{is_body-below, address-below, other_address}
 use Rattle.ph_digits.proofs.Tops.{top-lower}
-use Rattle.ph_specs.specs.Node.{Entry, What}
-use Rattle.ph_specs.specs.Lawful.{IsBody}
-use Rattle.ph_specs.specs.PutTree.{digits_from, split_place}
-use Rattle.ph_specs.specs.EntryEdits.{inserted}
-use Rattle.ph_specs.proofs.laws.SplitPlace.{split_place-is}
+use Rattle.ph_model.specs.EntryList.{Entry, What}
+use Rattle.ph_model.specs.Lawful.{IsBody}
+use Rattle.ph_model.specs.PutTree.{digits_from, split_place}
+use Rattle.ph_model.specs.EntryEdits.{inserted}
+use Rattle.ph_model.proofs.laws.SplitPlace.{split_place-is}
 use Rattle.ph_node.specs.Kept.{IsKept}
 use Rattle.ph_node.specs.Split.{entry_below}
 use Rattle.ph_node.proofs.Keeps.{IsKeptAt, kept-pair}

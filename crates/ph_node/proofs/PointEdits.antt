@@ -2,13 +2,14 @@
 use Rattle.std.proofs.Common.{◌≡◌, ℕ, ◌+◌, ◌<◌, ◌≤◌, ◌^◌, List, length, map, take, true, false, arith, refl, ap, sym, ◌∙◌, subst}
 use Rattle.std.specs.Prelude.{Option, Some, None, MatchOption, position, slice_get}
 use Rattle.std.proofs.lemmas.List.{drop-replicate}
-use Rattle.ph_specs.specs.EntryEdits.{what_at, has_address, point_entry, inserted, without}
-use Rattle.ph_specs.specs.Layout.{is_child}
-use Rattle.ph_specs.specs.Node.{What, value, node, PlainNode, node_of, entries, Flat}
+use Rattle.ph_model.specs.EntryEdits.{what_at, has_address, point_entry, inserted, without}
+use Rattle.ph_model.specs.Layout.{is_child}
+use Rattle.ph_specs.specs.Node.{PlainNode, Flat}
+use Rattle.ph_model.specs.EntryList.{What, value, node, node_of, entries}
 use Rattle.ph_specs.specs.Pack.{pack, record_of}
 use Rattle.ph_specs.specs.Record.{unpacked, entries_in, first_in}
-use Rattle.ph_specs.proofs.laws.EntryEdits.{absent-by}
-use Rattle.ph_specs.proofs.laws.Unpacked.{child_nodes}
+use Rattle.ph_model.proofs.laws.EntryEdits.{absent-by}
+use Rattle.ph_model.proofs.laws.Unpacked.{child_nodes}
 use Rattle.ph_bits.specs.Block.{Block, room_of}
 use Rattle.ph_bits.specs.Edits.{new_flat}
 use Rattle.ph_bits.specs.declared.edits.Edit.{Edit}

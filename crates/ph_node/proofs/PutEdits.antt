@@ -1,7 +1,8 @@
 -- An entry that is put in place of another at its address, as an edit of a node and of its record.
 use Rattle.std.proofs.Common.{◌≡◌, ℕ, ◌<◌, List, length, ap, sym, ◌∙◌, subst, arith, Bool}
-use Rattle.ph_specs.specs.Layout.{AreRising}
-use Rattle.ph_specs.specs.Node.{PlainNode, entries}
+use Rattle.ph_model.specs.Layout.{AreRising}
+use Rattle.ph_specs.specs.Node.{PlainNode}
+use Rattle.ph_model.specs.EntryList.{entries}
 use Rattle.ph_specs.specs.Pack.{record_of}
 use Rattle.ph_specs.specs.Record.{unpacked}
 use Rattle.ph_bits.specs.Packed.{IsPadded}

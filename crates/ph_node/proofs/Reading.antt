@@ -5,12 +5,13 @@ use Rattle.std.specs.Prelude.{Some, slice_get, position, nat_le}
 use Rattle.std.specs.Option.{option_map, unwrap_or}
 use Rattle.std.specs.List.{position_or_len}
 use Rattle.std.proofs.lemmas.Option.{slice_get-get_or, slice_get-map}
-use Rattle.ph_specs.specs.Node.{value, node, PlainNode, listed, entries}
-use Rattle.ph_specs.specs.EntryEdits.{what_at}
-use Rattle.ph_specs.specs.Layout.{read_address, is_child}
-use Rattle.ph_specs.specs.NodeSize.{children_in, points_in}
+use Rattle.ph_specs.specs.Node.{PlainNode}
+use Rattle.ph_model.specs.EntryList.{value, node, listed, entries}
+use Rattle.ph_model.specs.EntryEdits.{what_at}
+use Rattle.ph_model.specs.Layout.{read_address, is_child}
+use Rattle.ph_model.specs.NodeSize.{children_in, points_in}
 use Rattle.ph_specs.specs.Pack.{pack}
-use Rattle.ph_specs.specs.PutTree.{body_above, body_below}
+use Rattle.ph_model.specs.PutTree.{body_above, body_below}
 use Rattle.ph_specs.specs.Record.{Read, read_point, read_child, read, filled, unpacked, entries_in, values_in, first_in}
 use Rattle.ph_bits.specs.Fields.{cut, digits_row}
 use Rattle.ph_bits.specs.Packed.{rank_at, read_body}

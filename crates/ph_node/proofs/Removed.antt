@@ -1,8 +1,9 @@
 -- A node with an entry less.
 use Rattle.std.proofs.Common.{◌≡◌, ℕ, zero, suc, ◌+◌, ◌<◌, ◌≤◌, List, [], ◌∷◌, ◌++◌, length, map, refl, ap, sym, ◌∙◌, subst, arith, lt-ltb, le-ltb, inl, inr}
 use Rattle.std.specs.Prelude.{nat_lt, if◌then◌else◌}
-use Rattle.ph_specs.specs.EntryEdits.{what_at, without}
-use Rattle.ph_specs.specs.Node.{Entry, PlainNode, entries, Flat}
+use Rattle.ph_model.specs.EntryEdits.{what_at, without}
+use Rattle.ph_specs.specs.Node.{PlainNode, Flat}
+use Rattle.ph_model.specs.EntryList.{Entry, entries}
 use Rattle.ph_specs.specs.Pack.{cube_digits, linear_digits}
 use Rattle.ph_linear.proofs.Entries.{split}
 use Rattle.ph_bits.specs.Edits.{edited, least_digits, words_wanted}

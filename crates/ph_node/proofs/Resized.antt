@@ -5,7 +5,7 @@ use Rattle.std.proofs.Math.Seq.{take-append_seam}
 use Rattle.std.proofs.lemmas.List.{length-drop}
 use Rattle.ph_specs.specs.Digits.{words_for}
 use Rattle.ph_specs.specs.Node.{Flat}
-use Rattle.ph_specs.specs.NodeSize.{points_in}
+use Rattle.ph_model.specs.NodeSize.{points_in}
 use Rattle.ph_specs.specs.Pack.{is_cube, cube_digits, linear_digits, values, value_in_front, record_in}
 use Rattle.ph_specs.specs.Record.{Read, read_point, read_child, first_in, has_cube, entries_in, values_in, table_digits}
 use Rattle.ph_bits.specs.Edits.{flats, flats_in, edited, edited_as, new_flat, least_digits, words_wanted}

@@ -6,8 +6,8 @@ use Rattle.std.proofs.lemmas.List.{get_or-map, length-map}
 use Rattle.std.proofs.lemmas.Option.{get_or_from_slice_get, slice_get-get_or}
 use Rattle.ph_specs.specs.Node.{Flat}
 use Rattle.ph_specs.specs.Record.{Read, read_point, read_child, read}
-use Rattle.ph_specs.specs.NodeSize.{points_in}
-use Rattle.ph_specs.specs.Layout.{read_kept, unvalued}
+use Rattle.ph_model.specs.NodeSize.{points_in}
+use Rattle.ph_model.specs.Layout.{read_kept, unvalued}
 use Rattle.ph_linear.proofs.Writing.{no_flat}
 use Rattle.ph_linear.proofs.Entries.{no_read, split}
 use Rattle.ph_bits.specs.Edits.{flats, edited}

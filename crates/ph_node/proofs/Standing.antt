@@ -2,9 +2,9 @@
 use Rattle.std.proofs.Common.{◌≡◌, ℕ, zero, suc, ◌<◌, List, [], ◌∷◌, length, arith, refl, sym}
 use Rattle.std.specs.Prelude.{Some, position, slice_get}
 use Rattle.std.proofs.lemmas.List.Quantifiers.{position-Some}
-use Rattle.ph_specs.specs.Node.{Entry}
-use Rattle.ph_specs.specs.EntryEdits.{has_address, point_entry, what_at}
-use Rattle.ph_specs.proofs.laws.EntryEdits.{address-found}
+use Rattle.ph_model.specs.EntryList.{Entry}
+use Rattle.ph_model.specs.EntryEdits.{has_address, point_entry, what_at}
+use Rattle.ph_model.proofs.laws.EntryEdits.{address-found}
 use Rattle.ph_node.specs.Merge.{addr_at}
 use Rattle.ph_node.specs.Split.{body_at}
 use Rattle.ph_node.specs.Spots.{IsSpot}

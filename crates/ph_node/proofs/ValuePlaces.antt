@@ -3,8 +3,9 @@ use Rattle.std.proofs.Common.{◌≡◌, ℕ, zero, suc, ◌+◌, ◌<◌, ◌�
 use Rattle.std.specs.Prelude.{Option, Some, None}
 use Rattle.std.proofs.lemmas.List.{length-append}
 use Rattle.ph_specs.specs.Digits.{words_of}
-use Rattle.ph_specs.specs.EntryEdits.{what_at}
-use Rattle.ph_specs.specs.Node.{Entry, What, value, node, PlainNode, Flat}
+use Rattle.ph_model.specs.EntryEdits.{what_at}
+use Rattle.ph_specs.specs.Node.{PlainNode, Flat}
+use Rattle.ph_model.specs.EntryList.{Entry, What, value, node}
 use Rattle.ph_specs.specs.Pack.{values, value_in_front, record_of, table, is_cube}
 use Rattle.ph_node.specs.OneEdit.{value_of, flat_of, flats_of}
 use Rattle.ph_node.specs.Split.{IsValue}

@@ -3,8 +3,9 @@ use Rattle.std.proofs.Common.{◌≡◌, ℕ, zero, suc, ◌+◌, ◌<◌, List,
 use Rattle.std.specs.Prelude.{Option, Some, None, ◌^◌, ◌==◌, if◌then◌else◌}
 use Rattle.std.proofs.lemmas.List.{length-append}
 use Rattle.ph_specs.specs.Digits.{Field, field, words_of}
-use Rattle.ph_specs.specs.EntryEdits.{what_at, with_what}
-use Rattle.ph_specs.specs.Node.{Entry, What, value, node, PlainNode, entries, Flat}
+use Rattle.ph_model.specs.EntryEdits.{what_at, with_what}
+use Rattle.ph_specs.specs.Node.{PlainNode, Flat}
+use Rattle.ph_model.specs.EntryList.{Entry, What, value, node, entries}
 use Rattle.ph_specs.specs.Pack.{children, child_mark, value_in_front, first_word, layout, values, record_of, record_in, table}
 use Rattle.ph_specs.specs.Pack.{linear_table, cube_table, bodies, at_address, places, place_kind, place_body, is_cube}
 use Rattle.ph_node.specs.OneEdit.{value_of, held_nodes, nodes_held, flat_of, flats_of}

@@ -1,6 +1,6 @@
 -- Bodies as code keeps them.
 use Rattle.std.specs.Prelude.{◌≡◌, ℕ, ◌-◌, List, ◌++◌, take, replicate}
-use Rattle.ph_specs.specs.Lawful.{IsBody}
+use Rattle.ph_model.specs.Lawful.{IsBody}
 
 -- 16 numbers, those behind the dimensions zeros
 abbrev pub IsFilled : ℕ → List ℕ → Type 0

@@ -2,7 +2,7 @@
 use Rattle.std.specs.Prelude.{List, [], ◌∷◌, ◌+◌, ◌≤◌}
 use Rattle.std.proofs.Common.{arith}
 use denote.Param.Weighed.{most}
-use Rattle.ph_specs.specs.NodeSize.{node_size}
+use Rattle.ph_model.specs.NodeSize.{node_size}
 use Rattle.ph_node.specs.Slots.{nodes_of}
 use Rattle.ph_coord.specs.declared.dims.Dims.{Ghosts}
 use Rattle.ph_node.specs.declared.node.SlotOf.{SlotOf}

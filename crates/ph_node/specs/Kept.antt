@@ -1,7 +1,8 @@
 -- What every node keeps, whatever its children are.
 use Rattle.std.specs.Prelude.{ℕ, ◌+◌, ◌^◌, ◌<◌, ◌≤◌, List, [], ◌∷◌}
-use Rattle.ph_specs.specs.Node.{Entry, PlainNode, entries}
-use Rattle.ph_specs.specs.Lawful.{IsBody}
+use Rattle.ph_specs.specs.Node.{PlainNode}
+use Rattle.ph_model.specs.EntryList.{Entry, entries}
+use Rattle.ph_model.specs.Lawful.{IsBody}
 
 -- entries of a node at a level, whose addresses rise from `least` on and have a digit for each dimension
 abbrev pub AreKept : ℕ → ℕ → ℕ → List Entry → Type 0

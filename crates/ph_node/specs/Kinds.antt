@@ -1,6 +1,6 @@
 -- Whether an entry is a child.
 use Rattle.std.specs.Prelude.{Bool, true, false}
-use Rattle.ph_specs.specs.Node.{What, value, node}
+use Rattle.ph_model.specs.EntryList.{What, value, node}
 
 abbrev pub is_node : What → Bool
 is_node (value v) = false

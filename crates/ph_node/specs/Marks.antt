@@ -1,6 +1,6 @@
 -- Where an entry of a record stands, for those that are read in order.
 use Rattle.std.specs.Prelude.{◌≡◌, ◌<◌, ℕ, List, Some, false, map, slice_get}
-use Rattle.ph_specs.specs.Layout.{read_address}
+use Rattle.ph_model.specs.Layout.{read_address}
 use Rattle.ph_specs.specs.Record.{first_in, entries_in}
 use Rattle.ph_bits.specs.Packed.{rank_at}
 use Rattle.ph_bits.specs.declared.entries.Mark.{Mark}

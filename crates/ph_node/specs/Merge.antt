@@ -1,8 +1,10 @@
 -- What a merge asks of a child, and a node with a child merged into it.
 use Rattle.std.specs.Prelude.{◌≡◌, ℕ, zero, suc, ◌-◌, ◌<◌, List, [], ◌∷◌, length}
-use Rattle.ph_specs.specs.Node.{Entry, What, value, node, PlainNode, node_of, entries}
-use Rattle.ph_specs.specs.Lawful.{HasZerosFrom, put_together}
-use Rattle.ph_specs.specs.EntryEdits.{what_at, merged}
+use Rattle.ph_specs.specs.Node.{PlainNode}
+use Rattle.ph_model.specs.EntryList.{Entry, What, value, node, node_of, entries}
+use Rattle.ph_specs.specs.TreeRows.{put_together}
+use Rattle.ph_model.specs.Lawful.{HasZerosFrom}
+use Rattle.ph_model.specs.EntryEdits.{what_at, merged}
 use Rattle.ph_node.specs.Split.{body_at}
 
 -- the level and the entries of a child; a value has none

@@ -1,9 +1,10 @@
 -- One edit of the entries of a node, and what it reads of an entry.
 use Rattle.std.specs.Prelude.{◌≡◌, ℕ, zero, suc, ◌+◌, ◌^◌, ◌<◌, ◌≤◌, List, [], ◌∷◌, ◌++◌, length, map, take, if◌then◌else◌, Option, Some, None}
-use Rattle.ph_specs.specs.EntryEdits.{what_at}
-use Rattle.ph_specs.specs.Lawful.{IsBody}
-use Rattle.ph_specs.specs.Layout.{AreRising}
-use Rattle.ph_specs.specs.Node.{Entry, Flat, PlainNode, What, value, node, node_of, entries}
+use Rattle.ph_model.specs.EntryEdits.{what_at}
+use Rattle.ph_model.specs.Lawful.{IsBody}
+use Rattle.ph_model.specs.Layout.{AreRising}
+use Rattle.ph_specs.specs.Node.{Flat, PlainNode}
+use Rattle.ph_model.specs.EntryList.{Entry, What, value, node, node_of, entries}
 use Rattle.ph_bits.specs.Edits.{edited, new_flat}
 use Rattle.ph_bits.specs.Packed.{IsPadded}
 use Rattle.ph_bits.specs.declared.edits.Edit.{Edit}

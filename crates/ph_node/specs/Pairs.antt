@@ -1,7 +1,7 @@
 -- The two entries of a child that splits an entry, as its record keeps them.
 use Rattle.std.specs.Prelude.{ℕ, List, [], ◌∷◌, take, nat_lt, if◌then◌else◌, Option, Some}
 use Rattle.ph_specs.specs.Node.{Flat}
-use Rattle.ph_specs.specs.PutTree.{body_address, body_below}
+use Rattle.ph_model.specs.PutTree.{body_address, body_below}
 use Rattle.ph_bits.specs.Edits.{new_flat}
 use Rattle.ph_node.specs.OneEdit.{held_by}
 use Rattle.ph_node.specs.declared.olds.OldEntry.{OldEntry}

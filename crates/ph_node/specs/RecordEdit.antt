@@ -1,7 +1,7 @@
 -- One edit of what stands at an address of a record, in whichever layout it is.
 use Rattle.std.specs.Prelude.{◌≡◌, ℕ, ◌+◌, ◌^◌, ◌<◌, ◌≤◌, List, length, nat_le}
 use Rattle.std.specs.List.{position_or_len}
-use Rattle.ph_specs.specs.Layout.{read_address, AreRising}
+use Rattle.ph_model.specs.Layout.{read_address, AreRising}
 use Rattle.ph_specs.specs.Node.{Flat}
 use Rattle.ph_specs.specs.Pack.{values, record_of}
 use Rattle.ph_specs.specs.Record.{first_in, entries_in}

@@ -1,8 +1,8 @@
 -- What the words and the children of a node keep, whatever is below the children.
 use Rattle.std.specs.Prelude.{◌≡◌, ℕ, List, length}
-use Rattle.ph_specs.specs.Layout.{IsRecord}
+use Rattle.ph_model.specs.Layout.{IsRecord}
 use Rattle.ph_specs.specs.Node.{PlainNode}
-use Rattle.ph_specs.specs.NodeSize.{IsPacked, points_in}
+use Rattle.ph_model.specs.NodeSize.{IsPacked, points_in}
 use Rattle.ph_specs.specs.Pack.{layout}
 use Rattle.ph_specs.specs.Record.{first_in, has_cube, unpacked, entries_in, values_in}
 use Rattle.ph_node.specs.Kept.{IsNodeOf}

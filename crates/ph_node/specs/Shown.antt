@@ -1,6 +1,7 @@
 -- What the parts of a node that a visit shows stand for.
 use Rattle.std.specs.Prelude.{ℕ, take}
-use Rattle.ph_specs.specs.Node.{PlainNode, Entry, What, value, node}
+use Rattle.ph_specs.specs.Node.{PlainNode}
+use Rattle.ph_model.specs.EntryList.{Entry, What, value, node}
 use Rattle.ph_node.specs.declared.reads.NodeRefOf.{NodeRefOf}
 use Rattle.ph_node.specs.declared.reads.EntryOf.{EntryOf}
 use Rattle.ph_node.specs.declared.reads.WhatOf.{WhatOf}

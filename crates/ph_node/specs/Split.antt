@@ -1,8 +1,9 @@
 -- What an edit asks of an entry, and a node with an entry split.
 use Rattle.std.specs.Prelude.{ℕ, zero, suc, ◌<◌, List, [], ◌∷◌}
-use Rattle.ph_specs.specs.Node.{Entry, What, value, node, PlainNode, node_of, entries}
-use Rattle.ph_specs.specs.PutTree.{split_place, body_address, body_below, body_above}
-use Rattle.ph_specs.specs.EntryEdits.{split_at}
+use Rattle.ph_specs.specs.Node.{PlainNode}
+use Rattle.ph_model.specs.EntryList.{Entry, What, value, node, node_of, entries}
+use Rattle.ph_model.specs.PutTree.{split_place, body_address, body_below, body_above}
+use Rattle.ph_model.specs.EntryEdits.{split_at}
 
 abbrev pub IsNode : What → Type 0
 IsNode (value v) = ⊥

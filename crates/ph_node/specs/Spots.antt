@@ -1,11 +1,12 @@
 -- Where an entry stands.
 use Rattle.std.specs.Prelude.{◌≡◌, ◌<◌, ℕ, List, Some, length, map, slice_get}
-use Rattle.ph_specs.specs.Node.{Entry, PlainNode, entries}
+use Rattle.ph_specs.specs.Node.{PlainNode}
+use Rattle.ph_model.specs.EntryList.{Entry, entries}
 use Rattle.ph_node.specs.Merge.{addr_at}
-use Rattle.ph_specs.specs.Lawful.{put_together}
-use Rattle.ph_specs.specs.Layout.{read_address}
+use Rattle.ph_specs.specs.TreeRows.{put_together}
+use Rattle.ph_model.specs.Layout.{read_address}
 use Rattle.ph_specs.specs.Record.{first_in, entries_in}
-use Rattle.ph_specs.specs.PutTree.{body_above}
+use Rattle.ph_model.specs.PutTree.{body_above}
 use Rattle.ph_node.specs.Recorded.{IsLaidOut}
 use Rattle.ph_node.specs.Split.{body_at}
 use Rattle.ph_node.specs.declared.spots.Spot.{Spot}

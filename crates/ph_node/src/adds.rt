@@ -1,7 +1,7 @@
 //! A point entry more.
 
 ghost use Rattle.std.specs.Prelude.{◌≡◌, ◌+◌, ◌^◌, ◌<◌, None, take, position, OnErr, OnOk};
-ghost use Rattle.ph_specs.specs.TreeNames.{node_of, entries, has_address, point_entry, inserted};
+ghost use Rattle.ph_model.specs.ModelNames.{node_of, entries, has_address, point_entry, inserted};
 ghost use Rattle.ph_node.specs.Bodies.{IsBodyArray};
 ghost use Rattle.ph_node.specs.Places.{place_for};
 

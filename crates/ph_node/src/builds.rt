@@ -1,7 +1,8 @@
 //! A block of given entries, for a node of them.
 
 ghost use Rattle.std.specs.Prelude.{◌≡◌, ◌≤◌, [], length, IfOk};
-ghost use Rattle.ph_specs.specs.RecordNames.{AreRising, children as children_of, record_of, first_in};
+ghost use Rattle.ph_specs.specs.RecordNames.{children as children_of, record_of, first_in};
+ghost use Rattle.ph_model.specs.ModelNames.{AreRising};
 ghost use Rattle.ph_node.specs.Recorded.{IsLaidOut};
 
 use crate::node::{NodeOf, SlotOf};

@@ -2,7 +2,7 @@
 
 ghost use Rattle.std.specs.Prelude.{◌≡◌, ◌+◌};
 ghost use Rattle.std.specs.Borrow.{Lends, sem};
-ghost use Rattle.ph_specs.specs.TreeNames.{node_of, entries, node, value, what_at, with_what, with_child};
+ghost use Rattle.ph_model.specs.ModelNames.{node_of, entries, node, value, what_at, with_what, with_child};
 ghost use Rattle.ph_node.specs.OneEdit.{before};
 ghost use Rattle.ph_node.specs.Split.{IsNode, IsValue};
 ghost use Rattle.ph_node.specs.Spots.{IsSpot};

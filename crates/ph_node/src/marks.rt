@@ -1,7 +1,8 @@
 //! The entries of a record that are read one behind the other: each is found from the one in front of it.
 
 ghost use Rattle.std.specs.Prelude.{◌≡◌, ◌+◌, ◌<◌, Some, IfSome};
-ghost use Rattle.ph_specs.specs.RecordNames.{first_in, entries_in, read_address};
+ghost use Rattle.ph_specs.specs.RecordNames.{first_in, entries_in};
+ghost use Rattle.ph_model.specs.ModelNames.{read_address};
 ghost use Rattle.std.specs.Prelude.{slice_get, map};
 ghost use Rattle.ph_bits.specs.Packed.{read_of, IsPadded};
 ghost use Rattle.ph_node.specs.Marks.{IsMarkIn};

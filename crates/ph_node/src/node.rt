@@ -28,14 +28,15 @@ pub type Node<const D: usize> = NodeOf<Dim<D>>;
 pub type Slot<const D: usize> = SlotOf<Dim<D>>;
 
 impl<P: Dims> Model for NodeOf<P> {
-    ghost use Rattle.ph_specs.specs.TreeNames.{PlainNode, coded_node};
+    ghost use Rattle.ph_specs.specs.TreeNames.{PlainNode};
+    ghost use Rattle.ph_model.specs.ModelNames.{coded_node};
 
     ghost Value = { PlainNode };
 
     ghost coded = { coded_node };
 
     ghost use Rattle.ph_specs.specs.RecordNames.{unpacked};
-    ghost use Rattle.ph_specs.specs.TreeNames.{node_size, falls};
+    ghost use Rattle.ph_model.specs.ModelNames.{node_size, falls};
     ghost use Rattle.ph_node.specs.Recorded.{IsRecorded};
     ghost use Rattle.ph_node.specs.Slots.{nodes_of};
 

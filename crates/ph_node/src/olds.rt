@@ -1,7 +1,7 @@
 //! What edits read of a node.
 
 ghost use Rattle.std.specs.Prelude.{◌≡◌, ◌+◌, ◌^◌, ◌<◌, ◌≤◌, length, take};
-ghost use Rattle.ph_specs.specs.TreeNames.{what_at, entries};
+ghost use Rattle.ph_model.specs.ModelNames.{what_at, entries};
 ghost use Rattle.ph_specs.specs.RecordNames.{values, record_of};
 ghost use Rattle.ph_node.specs.OneEdit.{IsOldEntry, flats_of};
 ghost use Rattle.ph_node.specs.Split.{IsValue};

@@ -2,7 +2,7 @@
 
 ghost use Rattle.std.specs.Prelude.{◌≡◌, ◌≢◌, ◌+◌, ◌-◌, ◌<◌, ◌≤◌, take, length, if◌then◌else◌, Some, None, IfOk};
 ghost use Rattle.ph_specs.specs.RecordNames.{record_of};
-ghost use Rattle.ph_specs.specs.TreeNames.{body_address};
+ghost use Rattle.ph_model.specs.ModelNames.{body_address};
 ghost use Rattle.ph_bits.specs.Block.{room_of};
 ghost use Rattle.ph_bits.specs.Edits.{words_wanted};
 ghost use Rattle.ph_bits.specs.Packed.{IsPadded};

@@ -1,7 +1,8 @@
 //! A point into the record of a block, or out of it.
 
 ghost use Rattle.std.specs.Prelude.{◌≡◌, ◌+◌, ◌^◌, ◌≤◌, true, false, Some, MatchOption, length, map, slice_get, OnOk};
-ghost use Rattle.ph_specs.specs.RecordNames.{is_child, is_cube, first_in, has_cube, entries_in};
+ghost use Rattle.ph_specs.specs.RecordNames.{is_cube, first_in, has_cube, entries_in};
+ghost use Rattle.ph_model.specs.ModelNames.{is_child};
 ghost use Rattle.ph_bits.specs.Block.{room_of};
 ghost use Rattle.ph_node.specs.PointEdit.{IsNewPoint, IsPointPut, less_edit, more_edit};
 ghost use Rattle.ph_node.specs.RecordEdit.{IsRecordEdit, with_edit, words_with, record_with};

@@ -1,7 +1,8 @@
 //! What a visit shows of a node.
 
 ghost use Rattle.std.specs.Prelude.{◌≡◌, ◌+◌, ◌*◌, ◌^◌, ◌<◌, ◌≤◌, None, Some, nat_le, length, map, take, position, slice_get, IfOk, IfErr};
-ghost use Rattle.ph_specs.specs.TreeNames.{entries, flat, child_nodes, has_address, what_at, HasZerosFrom, IsBody, body_above, body_below, same_digits};
+ghost use Rattle.ph_specs.specs.TreeNames.{flat, same_digits};
+ghost use Rattle.ph_model.specs.ModelNames.{entries, child_nodes, has_address, what_at, HasZerosFrom, IsBody, body_above, body_below};
 ghost use Rattle.ph_specs.specs.RecordNames.{is_cube, pack};
 ghost use Rattle.ph_bits.specs.Apart.{IsDistanceWithin};
 ghost use Rattle.ph_bits.specs.Between.{each_between};

@@ -3,8 +3,8 @@
 ghost use Rattle.std.specs.Prelude.{◌≡◌, ℕ, ◌+◌, ◌-◌, ◌*◌, ◌%◌, ◌<◌, ◌≤◌, ◌^◌, ◌==◌, nat_le, true, false};
 ghost use Rattle.std.specs.Prelude.{[], None, Some, length, map, position, slice_get, slice_index_or, IfOk, IfErr};
 ghost use Rattle.std.specs.List.{position_or_len};
-ghost use Rattle.ph_specs.specs.RecordNames.{read_address, entries_as, is_child as read_child_test, AreRising, IsRecord, is_cube, values, record_of, first_in};
-ghost use Rattle.ph_specs.specs.RecordNames.{has_cube, entries_in, values_in};
+ghost use Rattle.ph_specs.specs.RecordNames.{is_cube, values, record_of, first_in, has_cube, entries_in, values_in};
+ghost use Rattle.ph_model.specs.ModelNames.{read_address, entries_as, is_child as read_child_test, AreRising, IsRecord};
 ghost use Rattle.ph_bits.specs.Block.{room_of, IsSamePlaces, empty};
 ghost use Rattle.ph_bits.specs.Edits.{least_digits, words_wanted};
 ghost use Rattle.ph_bits.specs.Packed.{read_of, rank_at, IsBodyAt, IsPadded};

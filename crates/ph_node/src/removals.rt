@@ -1,7 +1,7 @@
 //! An entry less, and a child of two entries whose place one of them takes. Neither takes memory.
 
 ghost use Rattle.std.specs.Prelude.{◌≡◌, ◌+◌, ◌-◌, ◌<◌, ◌≤◌, true, false, length, MatchOption, if◌then◌else◌};
-ghost use Rattle.ph_specs.specs.TreeNames.{node_of, entries, what_at, without, child_nodes};
+ghost use Rattle.ph_model.specs.ModelNames.{node_of, entries, what_at, without, child_nodes};
 ghost use Rattle.ph_node.specs.Split.{IsValue, body_at};
 ghost use Rattle.ph_node.specs.Spots.{IsSpot};
 ghost use Rattle.ph_specs.specs.RecordNames.{pack};

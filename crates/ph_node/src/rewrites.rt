@@ -1,7 +1,8 @@
 //! The record of an old record with one edit: changed where the old one lies, or laid out anew.
 
 ghost use Rattle.std.specs.Prelude.{◌≡◌, ◌+◌, ◌-◌, ◌<◌, ◌≤◌, ◌++◌, length, map, take, replicate, slice_get, true, false, Some};
-ghost use Rattle.ph_specs.specs.RecordNames.{read_address, is_child, is_cube, first_in, has_cube, entries_in};
+ghost use Rattle.ph_specs.specs.RecordNames.{is_cube, first_in, has_cube, entries_in};
+ghost use Rattle.ph_model.specs.ModelNames.{read_address, is_child};
 ghost use Rattle.ph_bits.specs.Block.{room_of, IsSamePlaces};
 ghost use Rattle.ph_bits.specs.Filled.{IsSameValues};
 ghost use Rattle.ph_node.specs.RecordEdit.{IsRecordEdit, with_edit, words_with, record_with};

@@ -1,7 +1,7 @@
 //! A node of one point.
 
 ghost use Rattle.std.specs.Prelude.{◌≡◌, ◌+◌, ◌^◌, ◌<◌, ◌≤◌, [], ◌∷◌, take, OnErr, OnOk, IfOk};
-ghost use Rattle.ph_specs.specs.TreeNames.{node_of, point_entry};
+ghost use Rattle.ph_model.specs.ModelNames.{node_of, point_entry};
 ghost use Rattle.ph_bits.specs.Packed.{IsPadded};
 ghost use Rattle.ph_node.specs.Bodies.{IsBodyArray};
 

@@ -1,7 +1,7 @@
 //! An entry that becomes a child of two entries.
 
 ghost use Rattle.std.specs.Prelude.{◌≡◌, ◌≢◌, ◌+◌, ◌≤◌, length, take, OnErr, OnOk};
-ghost use Rattle.ph_specs.specs.TreeNames.{what_at, entries};
+ghost use Rattle.ph_model.specs.ModelNames.{what_at, entries};
 ghost use Rattle.ph_digits.specs.Differences.{IsTopDifference};
 ghost use Rattle.ph_node.specs.Bodies.{IsBodyArray};
 ghost use Rattle.ph_node.specs.Split.{IsBelow, body_at, part_place, split_node};

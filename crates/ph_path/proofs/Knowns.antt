@@ -6,12 +6,14 @@ use Rattle.std.proofs.Math.Pow.{pow_mono}
 use Rattle.std.proofs.lemmas.Nat.{pow_pos, div-mul-add, div-add-mod'}
 use Rattle.std.proofs.lemmas.List.{length-map, length-replicate}
 use Rattle.ph_specs.specs.Coordinate.{offset, IsPoint}
-use Rattle.ph_specs.specs.Lawful.{put_together, IsBody, HasZerosFrom, IsAbove}
-use Rattle.ph_specs.specs.Node.{PlainNode, entries}
-use Rattle.ph_specs.specs.PutTree.{body_above}
-use Rattle.ph_specs.proofs.lemmas.Joined.{offsets, from_place, same_from, from_place-put_together, length-put_together, above-child}
-use Rattle.ph_specs.proofs.lemmas.Bounds.{lows-small, point-long}
-use Rattle.ph_specs.proofs.laws.LawfulRows.{put_together-small}
+use Rattle.ph_specs.specs.TreeRows.{put_together}
+use Rattle.ph_model.specs.Lawful.{IsBody, HasZerosFrom, IsAbove}
+use Rattle.ph_specs.specs.Node.{PlainNode}
+use Rattle.ph_model.specs.EntryList.{entries}
+use Rattle.ph_model.specs.PutTree.{body_above}
+use Rattle.ph_model.proofs.lemmas.Joined.{offsets, from_place, same_from, from_place-put_together, length-put_together, above-child}
+use Rattle.ph_model.proofs.lemmas.Bounds.{lows-small, point-long}
+use Rattle.ph_model.proofs.laws.LawfulRows.{put_together-small}
 use Rattle.ph_digits.proofs.Joins.{above-long}
 use Rattle.ph_node.specs.Split.{body_at}
 use Rattle.ph_node.specs.Spots.{joined_digits}

@@ -1,9 +1,10 @@
 -- The frames of a path, as a walk goes on.
 use Rattle.std.proofs.Common.{◌≡◌, ℕ, zero, suc, ◌+◌, ◌<◌, ◌≤◌, List, [], ◌∷◌, ◌++◌, length, drop, refl, sym, ◌∙◌, ap, arith, add-one}
 use Rattle.std.specs.Prelude.{Option, Some, None, slice_get}
-use Rattle.ph_specs.specs.Node.{Entries, Entry, What, node, PlainNode, chained, in_front, entries}
-use Rattle.ph_specs.specs.EntryEdits.{what_at}
-use Rattle.ph_specs.specs.PutTree.{body_above}
+use Rattle.ph_specs.specs.Node.{Entries, PlainNode}
+use Rattle.ph_model.specs.EntryList.{Entry, What, node, chained, in_front, entries}
+use Rattle.ph_model.specs.EntryEdits.{what_at}
+use Rattle.ph_model.specs.PutTree.{body_above}
 use Rattle.ph_node.specs.Merge.{addr_at}
 use Rattle.ph_node.specs.Shown.{shown}
 use Rattle.ph_node.specs.Split.{body_at}

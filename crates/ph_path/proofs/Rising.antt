@@ -1,7 +1,8 @@
 -- The addresses of the entries of a lawful node rise.
 use Rattle.std.proofs.Common.{ℕ, ◌+◌, ◌≤◌, List, [], ◌∷◌}
-use Rattle.ph_specs.specs.Node.{Entries, end, point, child, Entry, listed}
-use Rattle.ph_specs.specs.Lawful.{IsLawfulFrom}
+use Rattle.ph_specs.specs.Node.{Entries, end, point, child}
+use Rattle.ph_model.specs.EntryList.{Entry, listed}
+use Rattle.ph_model.specs.Lawful.{IsLawfulFrom}
 
 abbrev pub Rising : ℕ → List Entry → Type 0
 Rising least [] = Unit {0}

@@ -2,11 +2,11 @@
 use Rattle.std.proofs.Common.{◌≡◌, ℕ, ◌≤◌, List, sym, subst, arith}
 use Rattle.std.specs.Prelude.{ℤ, Option}
 use Rattle.ph_specs.specs.Coordinate.{IsPoint}
-use Rattle.ph_specs.specs.Lawful.{IsLawful}
+use Rattle.ph_model.specs.Lawful.{IsLawful}
 use Rattle.ph_specs.specs.Node.{PlainNode}
 use Rattle.ph_specs.specs.Shape.{shape}
 use Rattle.ph_specs.specs.Table.{Row, IsTable}
-use Rattle.ph_specs.proofs.laws.TableShape.{table-shape}
+use Rattle.ph_model.proofs.laws.TableShape.{table-shape}
 
 pub shape-lawful : (d w u : ℕ) (o : Option PlainNode) (table : List Row) → 1 ≤ w → w ≡ u → IsTable u d table → o ≡ shape u table → IsLawful w d o
 shape-lawful d w u o table l e h f =

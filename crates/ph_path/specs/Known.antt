@@ -1,7 +1,7 @@
 -- The digits that are known where a walk stands.
 use Rattle.std.specs.Prelude.{ℕ, ◌≤◌, List, map, ℤ}
 use Rattle.ph_specs.specs.Coordinate.{coordinate}
-use Rattle.ph_specs.specs.Lawful.{IsBody}
+use Rattle.ph_model.specs.Lawful.{IsBody}
 
 -- a point by its offsets
 abbrev pub point_at : ℕ → List ℕ → List ℤ

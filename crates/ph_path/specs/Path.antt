@@ -1,7 +1,8 @@
 -- The frames of a path, the last one first, and what is still to be looked at in them.
 use Rattle.std.specs.Prelude.{ℕ, suc, ◌+◌, ◌<◌, List, [], ◌∷◌, ◌++◌, length, drop, Option, Some, None}
-use Rattle.ph_specs.specs.Node.{Entries, end, point, child, PlainNode, entries, chained}
-use Rattle.ph_specs.specs.PutTree.{body_above}
+use Rattle.ph_specs.specs.Node.{Entries, end, point, child, PlainNode}
+use Rattle.ph_model.specs.EntryList.{entries, chained}
+use Rattle.ph_model.specs.PutTree.{body_above}
 use Rattle.ph_node.specs.Shown.{shown}
 use Rattle.ph_path.specs.declared.frame.FrameOf.{FrameOf}
 

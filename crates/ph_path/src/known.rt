@@ -1,7 +1,7 @@
 //! The digits that are known where a walk stands.
 ghost use Rattle.std.specs.Prelude.{◌≡◌, ◌<◌, ◌≤◌, length, take, replicate};
 ghost use Rattle.ph_specs.specs.TableNames.{IsPoint};
-ghost use Rattle.ph_specs.specs.TreeNames.{HasZerosFrom, IsBody, entries};
+ghost use Rattle.ph_model.specs.ModelNames.{HasZerosFrom, IsBody, entries};
 ghost use Rattle.ph_node.specs.Shown.{shown};
 ghost use Rattle.ph_node.specs.Split.{body_at};
 ghost use Rattle.ph_node.specs.Spots.{IsSpot, joined_digits};

@@ -5,7 +5,7 @@ use Rattle.std.specs.Option.{option_map, is_some}
 use Rattle.std.proofs.lemmas.Option.{slice_get-get_or, slice_get-map}
 use Rattle.ph_specs.specs.Node.{Flat}
 use Rattle.ph_specs.specs.Record.{read}
-use Rattle.ph_specs.specs.Layout.{read_kept, unvalued, AreRising}
+use Rattle.ph_model.specs.Layout.{read_kept, unvalued, AreRising}
 use Rattle.ph_record_trials.specs.declared.items.Item.{Item}
 use Rattle.ph_record_trials.specs.Listed.{flat_of, flats}
 

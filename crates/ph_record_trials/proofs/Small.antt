@@ -4,9 +4,9 @@ use Rattle.std.proofs.Math.Nat.{mul-le-mul_left, pow-le-pow_right}
 use Rattle.ph_specs.specs.Digits.{words_for}
 use Rattle.ph_specs.specs.Pack.{linear_digits, cube_digits, values, record_in}
 use Rattle.ph_specs.specs.Record.{first_in}
-use Rattle.ph_specs.specs.Layout.{IsRecord}
-use Rattle.ph_specs.proofs.lemmas.LayoutTables.{entries-few, children-few}
-use Rattle.ph_specs.proofs.laws.Layouts.{made}
+use Rattle.ph_model.specs.Layout.{IsRecord}
+use Rattle.ph_model.proofs.lemmas.LayoutTables.{entries-few, children-few}
+use Rattle.ph_model.proofs.laws.Layouts.{made}
 use Rattle.ph_record_trials.specs.declared.items.Item.{Item}
 use Rattle.ph_record_trials.specs.Listed.{IsWritable, flats}
 use Rattle.ph_record_trials.proofs.Lists.{length-flats}

@@ -2,8 +2,8 @@
 use Rattle.std.specs.Prelude.{◌≡◌, ℕ, ◌≤◌, List, [], ◌∷◌, length, map, take}
 use Rattle.ph_specs.specs.Node.{Flat}
 use Rattle.ph_specs.specs.Pack.{child_mark, children}
-use Rattle.ph_specs.specs.Lawful.{IsBody}
-use Rattle.ph_specs.specs.Layout.{AreRising}
+use Rattle.ph_model.specs.Lawful.{IsBody}
+use Rattle.ph_model.specs.Layout.{AreRising}
 use Rattle.ph_record_trials.specs.declared.items.Item.{Item}
 
 -- two fields and zeros

@@ -1,7 +1,8 @@
 //! Whether records are read as the lists of entries that they were written of.
 
 ghost use Rattle.std.specs.Prelude.{◌≡◌, ◌≤◌, ◌<◌, ◌^◌, true, false, length, IfSome};
-ghost use Rattle.ph_specs.specs.RecordNames.{first_in, IsRecord};
+ghost use Rattle.ph_specs.specs.RecordNames.{first_in};
+ghost use Rattle.ph_model.specs.ModelNames.{IsRecord};
 
 use crate::items::Item;
 use ph_bits::Packed;

@@ -1,7 +1,8 @@
 //! The records of lists of entries.
 
 ghost use Rattle.std.specs.Prelude.{◌≡◌, ◌≤◌, length, IfSome};
-ghost use Rattle.ph_specs.specs.RecordNames.{first_in, IsRecord};
+ghost use Rattle.ph_specs.specs.RecordNames.{first_in};
+ghost use Rattle.ph_model.specs.ModelNames.{IsRecord};
 
 use crate::items::{Item, Items, is_writable};
 use ph_bits::Words;

@@ -1,7 +1,8 @@
 //! Records by hand, and all small records. Calls with long contracts stand in functions that ensure nothing, so that no test carries those along.
 
 ghost use Rattle.std.specs.Prelude.{◌≡◌, ◌≤◌, true, false};
-ghost use Rattle.ph_specs.specs.RecordNames.{IsRecord, first_in};
+ghost use Rattle.ph_specs.specs.RecordNames.{first_in};
+ghost use Rattle.ph_model.specs.ModelNames.{IsRecord};
 
 use crate::{Item, is_cube_back, is_linear_back, record_of};
 use ph_cube::by_dims as cube_calls;

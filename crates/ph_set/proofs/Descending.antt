@@ -4,19 +4,21 @@ use Rattle.std.specs.List.{AllByRecursion as Each}
 use Rattle.std.proofs.lemmas.List.{drop-take}
 use Rattle.std.proofs.lemmas.Bool.{cases_lt}
 use Rattle.ph_specs.specs.Table.{Row}
-use Rattle.ph_specs.specs.Node.{Entry, What, value, node, PlainNode, entries}
-use Rattle.ph_specs.specs.Lawful.{IsAbove, IsLawfulEntry, IsLawfulWhat}
+use Rattle.ph_specs.specs.Node.{PlainNode}
+use Rattle.ph_model.specs.EntryList.{Entry, What, value, node, entries}
+use Rattle.ph_model.specs.Lawful.{IsAbove, IsLawfulEntry, IsLawfulWhat}
 use Rattle.ph_specs.specs.Shape.{row_address}
 use Rattle.ph_specs.specs.WorkSets.{Placed}
-use Rattle.ph_specs.proofs.lemmas.Joined.{from_place}
-use Rattle.ph_specs.proofs.lemmas.RowsBehind.{IsUnder, Each-each}
-use Rattle.ph_specs.proofs.laws.EntryLists.{entries-lawful, entry-lawful}
-use Rattle.ph_specs.proofs.laws.Paths.{placed_child}
+use Rattle.ph_model.proofs.lemmas.Joined.{from_place}
+use Rattle.ph_specs.proofs.lemmas.Members.{Each-each}
+use Rattle.ph_model.proofs.lemmas.RowsBehind.{IsUnder}
+use Rattle.ph_model.proofs.laws.EntryLists.{entries-lawful, entry-lawful}
+use Rattle.ph_model.proofs.laws.Paths.{placed_child}
 use Rattle.ph_node.specs.Merge.{addr_at}
 use Rattle.ph_path.proofs.Rising.{Rising, lawful-rising}
-use Rattle.ph_specs.specs.WorkSets.{seen_nodes}
+use Rattle.ph_model.specs.Combined.{seen_nodes}
 use Rattle.ph_set.specs.Parts.{IsPart, openings, part_rows, part_nodes, rows_in, nodes_in, rows_on, nodes_on, behind, stretch}
-use Rattle.ph_specs.proofs.laws.Combined.{AreParted}
+use Rattle.ph_model.proofs.laws.Combined.{AreParted}
 use Rattle.ph_set.proofs.Parting.{IsRowAt, entry_nodes, part-some, rows-first, rows-append, nodes-first, nodes-append}
 use Rattle.ph_set.proofs.Parting.{behind-rows, rows-below, rows-from, entry-holds, parted-by, behind-part}
 use Rattle.ph_set.proofs.Missed.{entry-missed, entries-missed}

@@ -1,10 +1,12 @@
 -- The digits of entries, joined in one array to those that are known above the level of their node.
 use Rattle.std.proofs.Common.{◌≡◌, ℕ, ◌+◌, ◌<◌, ◌≤◌, List, ◌++◌, length, refl, sym, ◌∙◌, ap, subst, arith}
-use Rattle.ph_specs.specs.EntryEdits.{what_at}
-use Rattle.ph_specs.specs.Lawful.{IsAbove, IsBody, IsLawfulEntry, put_together}
-use Rattle.ph_specs.specs.Node.{PlainNode, What, node, entries}
-use Rattle.ph_specs.specs.PutTree.{body_above}
-use Rattle.ph_specs.proofs.lemmas.Joined.{from_place, same_from}
+use Rattle.ph_model.specs.EntryEdits.{what_at}
+use Rattle.ph_specs.specs.TreeRows.{put_together}
+use Rattle.ph_model.specs.Lawful.{IsAbove, IsBody, IsLawfulEntry}
+use Rattle.ph_specs.specs.Node.{PlainNode}
+use Rattle.ph_model.specs.EntryList.{What, node, entries}
+use Rattle.ph_model.specs.PutTree.{body_above}
+use Rattle.ph_model.proofs.lemmas.Joined.{from_place, same_from}
 use Rattle.ph_node.specs.Split.{body_at}
 use Rattle.ph_node.specs.Spots.{IsSpot, joined_digits}
 use Rattle.ph_node.specs.declared.spots.Spot.{Spot}

@@ -6,8 +6,8 @@ use Rattle.std.proofs.lemmas.List.Filters.{length-filter_both}
 use Rattle.ph_specs.specs.Sets.{common, minus}
 use Rattle.ph_specs.specs.Table.{Row, IsTable, has}
 use Rattle.ph_specs.specs.WorkSets.{all_nodes}
-use Rattle.ph_specs.proofs.laws.BallSearch.{table-points}
-use Rattle.ph_specs.proofs.laws.SetOperations.{union-combined, common-combined, minus-combined}
+use Rattle.ph_specs.proofs.laws.Points.{table-points}
+use Rattle.ph_model.proofs.laws.SetOperations.{union-combined, common-combined, minus-combined}
 use Rattle.ph_specs.proofs.laws.Sets.{is_table-union, is_table-common, is_table-minus}
 use Rattle.ph_set.specs.Meeting.{kept, work}
 use Rattle.ph_set.specs.Operations.{plan_of, rows_of, visits_of}

@@ -9,20 +9,20 @@ use Rattle.ph_specs.specs.Table.{Row, row, has}
 use Rattle.ph_specs.specs.ZOrder.{before}
 use Rattle.ph_specs.proofs.laws.Order.{before_irrefl}
 use Rattle.ph_specs.proofs.laws.Put.{test_from_same}
-use Rattle.ph_specs.specs.Node.{Entry, What, value, node, PlainNode, entries}
-use Rattle.ph_specs.specs.PutTree.{body_address, body_address_from}
+use Rattle.ph_specs.specs.Node.{PlainNode}
+use Rattle.ph_model.specs.EntryList.{Entry, What, value, node, entries}
+use Rattle.ph_model.specs.PutTree.{body_address, body_address_from}
 use Rattle.ph_specs.specs.Shape.{row_address}
 use Rattle.ph_specs.specs.WorkSets.{Placed}
-use Rattle.ph_specs.proofs.lemmas.Joined.{from_place, number_at}
-use Rattle.ph_specs.proofs.lemmas.RowsBehind.{Each-each}
+use Rattle.ph_model.proofs.lemmas.Joined.{from_place, number_at}
+use Rattle.ph_specs.proofs.lemmas.Members.{Each-each}
 use Rattle.ph_digits.proofs.Cuts.{other_address}
 use Rattle.ph_digits.proofs.Tops.{top-lower}
-use Rattle.ph_specs.specs.Combined.{chosen}
-use Rattle.ph_specs.specs.WorkSets.{seen_nodes}
+use Rattle.ph_model.specs.Combined.{chosen, seen_nodes}
 use Rattle.ph_set.specs.Meeting.{kept, work, kept_of, work_of, IsParting}
 use Rattle.ph_set.specs.declared.plan.Plan.{Plan}
 use Rattle.ph_set.specs.Parts.{IsPart, height, part_rows, part_nodes, rows_in, nodes_in, rows_on, nodes_on, stretch}
-use Rattle.ph_specs.proofs.laws.Combined.{AreParted, combined-left}
+use Rattle.ph_model.proofs.laws.Combined.{AreParted, combined-left}
 use Rattle.ph_set.proofs.Parting.{IsRowAt, part-at, parted-by}
 use Rattle.ph_set.proofs.Missed.{part-missed}
 use Rattle.ph_set.proofs.Sights.{seen-none}

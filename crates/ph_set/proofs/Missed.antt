@@ -2,12 +2,12 @@
 use Rattle.std.proofs.Common.{◌≡◌, ℕ, ◌+◌, ◌^◌, ◌<◌, ◌≤◌, List, [], ◌∷◌, refl, ◌∙◌, ap, subst, arith}
 use Rattle.std.specs.List.{AllByRecursion as Each}
 use Rattle.ph_specs.specs.Table.{Row}
-use Rattle.ph_specs.specs.Node.{Entry, What, value, node}
-use Rattle.ph_specs.specs.Lawful.{IsAbove, IsLawfulEntry}
+use Rattle.ph_model.specs.EntryList.{Entry, What, value, node}
+use Rattle.ph_model.specs.Lawful.{IsAbove, IsLawfulEntry}
 use Rattle.ph_specs.specs.Shape.{row_address}
-use Rattle.ph_specs.proofs.lemmas.Joined.{offsets, from_place, number_at, address_from-is, same_number}
-use Rattle.ph_specs.proofs.lemmas.RowsBehind.{Each-each}
-use Rattle.ph_specs.proofs.laws.Paths.{placed_child, held, many, many-append, many-other, none-below}
+use Rattle.ph_model.proofs.lemmas.Joined.{offsets, from_place, number_at, address_from-is, same_number}
+use Rattle.ph_specs.proofs.lemmas.Members.{Each-each}
+use Rattle.ph_model.proofs.laws.Paths.{placed_child, held, many, many-append, many-other, none-below}
 use Rattle.ph_set.specs.Parts.{IsPart, height, part_nodes, nodes_in, behind}
 use Rattle.ph_set.proofs.Parting.{entry_nodes, nodes-first, behind-part, behind-height, behind-address}
 use Rattle.ph_set.proofs.Sights.{AreMissed}

@@ -2,20 +2,20 @@
 use Rattle.std.proofs.Common.{◌≡◌, ℕ, ◌+◌, ◌≤◌, Bool, List, [], ◌++◌, length, refl, sym, ◌∙◌, ap, subst, arith}
 use Rattle.std.specs.Prelude.{Some, None, not, position, take}
 use Rattle.std.specs.List.{AllByRecursion as Each}
-use Rattle.ph_specs.specs.EntryEdits.{what_at, has_address}
+use Rattle.ph_model.specs.EntryEdits.{what_at, has_address}
 use Rattle.ph_specs.specs.Table.{Row}
-use Rattle.ph_specs.specs.Node.{Entry, What, node, PlainNode, entries}
-use Rattle.ph_specs.specs.PutTree.{body_address}
+use Rattle.ph_specs.specs.Node.{PlainNode}
+use Rattle.ph_model.specs.EntryList.{Entry, What, node, entries}
+use Rattle.ph_model.specs.PutTree.{body_address}
 use Rattle.ph_specs.specs.Shape.{row_address}
 use Rattle.ph_specs.specs.WorkSets.{Placed}
-use Rattle.ph_specs.proofs.lemmas.Joined.{from_place}
-use Rattle.ph_specs.proofs.laws.EntryEdits.{address-found}
+use Rattle.ph_model.proofs.lemmas.Joined.{from_place}
+use Rattle.ph_model.proofs.laws.EntryEdits.{address-found}
 use Rattle.ph_node.specs.Merge.{addr_at}
 use Rattle.ph_node.specs.Places.{place_for}
 use Rattle.ph_node.specs.Spots.{IsSpot, joined_digits}
 use Rattle.ph_node.specs.declared.spots.Spot.{Spot}
-use Rattle.ph_specs.specs.Combined.{chosen}
-use Rattle.ph_specs.specs.WorkSets.{seen_nodes}
+use Rattle.ph_model.specs.Combined.{chosen, seen_nodes}
 use Rattle.ph_set.specs.Meeting.{alone, kept_by, kept_of_by, work_of_by}
 use Rattle.ph_set.specs.declared.plan.Plan.{Plan}
 use Rattle.ph_set.specs.Parts.{IsPart, height, openings, part_rows, part_nodes, stretch_rows, stretch_nodes, behind}

@@ -1,23 +1,23 @@
 -- Two nodes at one level, of which some entries are left: what is listed at two of them, and how many nodes it opens there.
 use Rattle.std.proofs.Common.{◌≡◌, ℕ, ◌+◌, ◌<◌, ◌≤◌, Bool, List, [], ◌++◌, length, sym, ◌∙◌, ap, subst, arith}
 use Rattle.std.specs.Prelude.{not}
-use Rattle.ph_specs.specs.EntryEdits.{what_at}
+use Rattle.ph_model.specs.EntryEdits.{what_at}
 use Rattle.ph_specs.specs.Table.{Row}
-use Rattle.ph_specs.specs.Node.{Entry, What, node, PlainNode, entries}
+use Rattle.ph_specs.specs.Node.{PlainNode}
+use Rattle.ph_model.specs.EntryList.{Entry, What, node, entries}
 use Rattle.ph_specs.specs.WorkSets.{Placed}
-use Rattle.ph_specs.proofs.lemmas.Joined.{from_place}
+use Rattle.ph_model.proofs.lemmas.Joined.{from_place}
 use Rattle.ph_node.specs.Merge.{addr_at}
 use Rattle.ph_node.specs.Places.{place_for}
 use Rattle.ph_node.specs.Spots.{IsSpot, joined_digits}
 use Rattle.ph_node.specs.declared.spots.Spot.{Spot}
-use Rattle.ph_specs.specs.Combined.{chosen}
-use Rattle.ph_specs.specs.WorkSets.{seen_nodes}
+use Rattle.ph_model.specs.Combined.{chosen, seen_nodes}
 use Rattle.ph_set.specs.Meeting.{alone, kept, work, kept_by, kept_of, work_of}
 use Rattle.ph_set.specs.Sides.{AreBeside, side_digits, side_node, side_entries, kept_from_by, work_from_by}
 use Rattle.ph_set.specs.declared.plan.Plan.{Plan}
 use Rattle.ph_set.specs.declared.side.SideOf.{SideOf}
 use Rattle.ph_set.specs.Parts.{IsPart, openings, part_rows, part_nodes, rows_on, nodes_on, stretch_rows, stretch_nodes, behind}
-use Rattle.ph_specs.proofs.laws.Combined.{combined-split}
+use Rattle.ph_model.proofs.laws.Combined.{combined-split}
 use Rattle.ph_set.proofs.Descending.{rising, next-behind, passed-rows, passed-first, passed-work, passed-other, both-rows, both-work, theirs-first}
 use Rattle.ph_set.proofs.Turned.{passed-front}
 use Rattle.ph_set.proofs.Walking.{entry_at, new-digits, new-held, IsNext, next-place}

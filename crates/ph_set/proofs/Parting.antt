@@ -2,20 +2,22 @@
 use Rattle.std.proofs.Common.{◌≡◌, ℕ, ◌+◌, ◌^◌, ◌<◌, ◌≤◌, true, ◌||◌, List, [], ◌∷◌, ◌++◌, length, refl, sym, ◌∙◌, ap, subst, arith, append_assoc}
 use Rattle.std.specs.List.{AllByRecursion as Each, list_any}
 use Rattle.ph_specs.specs.Table.{Row}
-use Rattle.ph_specs.specs.Node.{Entry, What, value, node, PlainNode}
-use Rattle.ph_specs.specs.Lawful.{IsAbove, IsLawfulEntry, IsLawfulWhat}
+use Rattle.ph_specs.specs.Node.{PlainNode}
+use Rattle.ph_model.specs.EntryList.{Entry, What, value, node}
+use Rattle.ph_model.specs.Lawful.{IsAbove, IsLawfulEntry, IsLawfulWhat}
 use Rattle.ph_specs.specs.Region.{is_in}
 use Rattle.ph_specs.specs.Shape.{row_address}
 use Rattle.ph_specs.specs.WorkSets.{Placed, placed_below}
-use Rattle.ph_specs.proofs.lemmas.Grouped.{same_place}
-use Rattle.ph_specs.proofs.lemmas.Joined.{offsets, from_place, number_at, offsets-coordinate, address_from-is}
-use Rattle.ph_specs.proofs.lemmas.Joined.{same_from, from_place-put_together, above-child, length-put_together}
-use Rattle.ph_specs.proofs.lemmas.RowsBehind.{IsUnder, Each-append, Each-each, rows-under, under-address, address-put_together, count-rows}
-use Rattle.ph_specs.proofs.laws.LawfulRows.{before-at, put_together-small}
-use Rattle.ph_specs.proofs.laws.Paths.{placed_child, holding}
+use Rattle.ph_model.proofs.lemmas.Grouped.{same_place}
+use Rattle.ph_model.proofs.lemmas.Joined.{offsets, from_place, number_at, offsets-coordinate, address_from-is}
+use Rattle.ph_model.proofs.lemmas.Joined.{same_from, from_place-put_together, above-child, length-put_together}
+use Rattle.ph_specs.proofs.lemmas.Members.{Each-each}
+use Rattle.ph_model.proofs.lemmas.RowsBehind.{IsUnder, Each-append, rows-under, under-address, address-put_together, count-rows}
+use Rattle.ph_model.proofs.laws.LawfulRows.{before-at, put_together-small}
+use Rattle.ph_model.proofs.laws.Paths.{placed_child, holding}
 use Rattle.ph_specs.specs.WorkSets.{holds_some}
 use Rattle.ph_set.specs.Parts.{part_rows, height, IsHeld, IsPart, rows_in, nodes_in, behind}
-use Rattle.ph_specs.proofs.laws.Combined.{AreParted}
+use Rattle.ph_model.proofs.laws.Combined.{AreParted}
 
 -- ---- the rows of a part
 

@@ -2,20 +2,22 @@
 use Rattle.std.proofs.Common.{◌≡◌, ℕ, ◌+◌, ◌≤◌, Bool, true, ◌||◌, List, [], ◌∷◌, length, replicate, refl, sym, ◌∙◌, ap, subst, arith}
 use Rattle.std.specs.Prelude.{Option, Some, map}
 use Rattle.std.specs.List.{list_any, AllByRecursion as Each}
-use Rattle.ph_specs.proofs.lemmas.RowsBehind.{IsUnder}
+use Rattle.ph_model.proofs.lemmas.RowsBehind.{IsUnder}
 use Rattle.std.proofs.lemmas.List.{length-replicate}
-use Rattle.ph_specs.specs.Lawful.{IsLawful, rows}
-use Rattle.ph_specs.specs.Node.{What, node, PlainNode}
+use Rattle.ph_specs.specs.TreeRows.{rows}
+use Rattle.ph_model.specs.Lawful.{IsLawful}
+use Rattle.ph_specs.specs.Node.{PlainNode}
+use Rattle.ph_model.specs.EntryList.{What, node}
 use Rattle.ph_specs.specs.Region.{is_in}
 use Rattle.ph_specs.specs.Shape.{shape}
 use Rattle.ph_specs.specs.Table.{Row, IsTable}
-use Rattle.ph_specs.specs.WorkSets.{Placed, placed, all_nodes}
-use Rattle.ph_specs.proofs.lemmas.Joined.{offsets, from_place}
-use Rattle.ph_specs.proofs.laws.Paths.{placed_child, holding}
-use Rattle.ph_specs.proofs.laws.TableShape.{table-shape}
-use Rattle.ph_specs.proofs.laws.Unique.{zeros_known}
+use Rattle.ph_specs.specs.WorkSets.{Placed, placed, all_nodes, holds_some}
+use Rattle.ph_model.proofs.lemmas.Joined.{offsets, from_place}
+use Rattle.ph_model.proofs.laws.Paths.{placed_child, holding}
+use Rattle.ph_model.proofs.laws.TableShape.{table-shape}
+use Rattle.ph_model.proofs.laws.Unique.{zeros_known}
 use Rattle.ph_path.proofs.Knowns.{zeros-body}
-use Rattle.ph_specs.specs.WorkSets.{holds_some, seen_nodes}
+use Rattle.ph_model.specs.Combined.{seen_nodes}
 use Rattle.ph_set.specs.Meeting.{kept, work, work_of}
 use Rattle.ph_set.specs.Parts.{IsPart, part_rows, part_nodes}
 use Rattle.ph_set.specs.declared.plan.Plan.{Plan}

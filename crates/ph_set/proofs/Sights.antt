@@ -5,9 +5,9 @@ use Rattle.std.proofs.lemmas.List.Elements.{filter-append}
 use Rattle.std.proofs.lemmas.List.Folds.{list_any-append}
 use Rattle.ph_specs.specs.Table.{Row}
 use Rattle.ph_specs.specs.Region.{is_in}
-use Rattle.ph_specs.specs.WorkSets.{Placed}
-use Rattle.ph_specs.specs.WorkSets.{holds_some, seen_nodes}
-use Rattle.ph_specs.proofs.laws.Paths.{holds, many}
+use Rattle.ph_specs.specs.WorkSets.{Placed, holds_some}
+use Rattle.ph_model.specs.Combined.{seen_nodes}
+use Rattle.ph_model.proofs.laws.Paths.{holds, many}
 
 pub seen-append : (w : ℕ) (all : Bool) (rows : List Row) (xs ys : List Placed) → seen_nodes w all rows (xs ++ ys) ≡ seen_nodes w all rows xs + seen_nodes w all rows ys
 seen-append w all rows xs ys =

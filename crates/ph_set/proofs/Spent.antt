@@ -2,7 +2,8 @@
 use Rattle.std.proofs.Common.{◌≡◌, ℕ, ◌+◌, ◌≤◌, Bool, true, false, List, [], length, sym, ◌∙◌, ap, subst, arith}
 use Rattle.std.specs.Prelude.{Result, Ok, Err, OnOk}
 use Rattle.std.proofs.lemmas.Result.{on_ok_weaker}
-use Rattle.ph_specs.specs.WorkSets.{Placed, seen_nodes}
+use Rattle.ph_specs.specs.WorkSets.{Placed}
+use Rattle.ph_model.specs.Combined.{seen_nodes}
 use Rattle.ph_set.specs.Visited.{Visits}
 use Rattle.ph_set.proofs.Sights.{seen-all, seen-nothing}
 

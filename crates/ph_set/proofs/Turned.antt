@@ -1,9 +1,9 @@
 -- Two tables, of which the first is that of the left tree or that of the right one.
 use Rattle.std.proofs.Common.{◌≡◌, Bool, true, false, List, [], ◌++◌, refl, ◌∙◌, ap}
 use Rattle.std.specs.Prelude.{not}
-use Rattle.ph_specs.specs.Combined.{chosen}
+use Rattle.ph_model.specs.Combined.{chosen}
 use Rattle.ph_specs.specs.Table.{Row}
-use Rattle.ph_specs.proofs.laws.Combined.{AreParted, combined-left, combined-left-first, combined-right-first, combined-split, sandwich-left, sandwich-right}
+use Rattle.ph_model.proofs.laws.Combined.{AreParted, combined-left, combined-left-first, combined-right-first, combined-split, sandwich-left, sandwich-right}
 use Rattle.ph_set.specs.Meeting.{kept, kept_by, alone}
 use Rattle.ph_set.specs.declared.plan.Plan.{Plan}
 

@@ -5,12 +5,14 @@ use Rattle.std.specs.Prelude.{Option, Some, None, slice_get, position, nat_le, n
 use Rattle.std.specs.List.{AllByRecursion as Each}
 use Rattle.std.proofs.lemmas.List.{take-append-drop}
 use Rattle.std.proofs.lemmas.Bool.{cases_lt, le-leb, lt-leb, eqb-false}
-use Rattle.ph_specs.specs.Node.{Entry, What, value, node, PlainNode, entries}
-use Rattle.ph_specs.specs.EntryEdits.{what_at, has_address}
-use Rattle.ph_specs.specs.Lawful.{IsBody, IsLawfulEntry, put_together}
-use Rattle.ph_specs.proofs.laws.EntryLists.{chained-listed, entry-lawful}
-use Rattle.ph_specs.proofs.laws.EntryEdits.{IsAbsent, absent-by}
-use Rattle.ph_specs.proofs.lemmas.RowsBehind.{Each-each}
+use Rattle.ph_specs.specs.Node.{PlainNode}
+use Rattle.ph_model.specs.EntryList.{Entry, What, value, node, entries}
+use Rattle.ph_model.specs.EntryEdits.{what_at, has_address}
+use Rattle.ph_specs.specs.TreeRows.{put_together}
+use Rattle.ph_model.specs.Lawful.{IsBody, IsLawfulEntry}
+use Rattle.ph_model.proofs.laws.EntryLists.{chained-listed, entry-lawful}
+use Rattle.ph_model.proofs.laws.EntryEdits.{IsAbsent, absent-by}
+use Rattle.ph_specs.proofs.lemmas.Members.{Each-each}
 use Rattle.ph_node.specs.Merge.{addr_at}
 use Rattle.ph_node.specs.Places.{place_for}
 use Rattle.ph_node.specs.Split.{body_at}

@@ -1,13 +1,13 @@
 -- Two parts of trees that meet: what is listed, and how many nodes are opened for that.
 use Rattle.std.specs.Prelude.{◌≡◌, ℕ, ◌+◌, ◌≤◌, Bool, true, false, not, List, [], Option, Some, None}
-use Rattle.ph_specs.specs.Lawful.{rows}
-use Rattle.ph_specs.specs.Node.{PlainNode, What}
-use Rattle.ph_specs.specs.PutTree.{digits_from}
+use Rattle.ph_specs.specs.TreeRows.{rows}
+use Rattle.ph_specs.specs.Node.{PlainNode}
+use Rattle.ph_model.specs.EntryList.{What}
+use Rattle.ph_model.specs.PutTree.{digits_from}
 use Rattle.ph_specs.specs.Table.{Row}
 use Rattle.ph_specs.specs.WorkSets.{Placed, placed}
 use Rattle.ph_digits.specs.Differences.{IsTopDifference}
-use Rattle.ph_specs.specs.Combined.{combined}
-use Rattle.ph_specs.specs.WorkSets.{seen_nodes}
+use Rattle.ph_model.specs.Combined.{combined, seen_nodes}
 use Rattle.ph_set.specs.Held.{part_digits, part_what, nodes_held}
 use Rattle.ph_set.specs.Parts.{height, part_rows, part_nodes}
 use Rattle.ph_set.specs.declared.part.PartOf.{PartOf}

@@ -1,7 +1,8 @@
 -- What is left of two nodes that are gone through side by side.
 use Rattle.std.specs.Prelude.{◌≡◌, ℕ, ◌+◌, Bool, List, take}
-use Rattle.ph_specs.specs.Node.{Entry, PlainNode, node, entries}
-use Rattle.ph_specs.specs.PutTree.{digits_from}
+use Rattle.ph_specs.specs.Node.{PlainNode}
+use Rattle.ph_model.specs.EntryList.{Entry, node, entries}
+use Rattle.ph_model.specs.PutTree.{digits_from}
 use Rattle.ph_specs.specs.Table.{Row}
 use Rattle.ph_specs.specs.WorkSets.{Placed}
 use Rattle.ph_node.specs.Shown.{shown}

@@ -1,9 +1,7 @@
 //! All rows of a part of a tree.
 ghost use Rattle.std.specs.Prelude.{◌≡◌, ◌+◌, ◌≤◌, [], length, take, OnOk};
-ghost use Rattle.ph_specs.specs.TreeNames.{entries, node as held_node, IsBody, digits_from};
+ghost use Rattle.ph_model.specs.ModelNames.{entries, node as held_node, IsBody, digits_from, chosen, seen_nodes};
 ghost use Rattle.ph_node.specs.Shown.{shown};
-ghost use Rattle.ph_specs.specs.TableNames.{chosen};
-ghost use Rattle.ph_specs.specs.WorkNames.{seen_nodes};
 ghost use Rattle.ph_set.specs.Held.{IsLawfulPart, nodes_held, rows_held};
 ghost use Rattle.ph_set.specs.Meeting.{alone};
 ghost use Rattle.ph_node.specs.Spots.{IsSpot};

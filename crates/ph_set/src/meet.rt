@@ -4,9 +4,8 @@
 //! has something of the other tree at its address, which is where its region holds a point of the other tree, or where all its
 //! rows are listed.
 ghost use Rattle.std.specs.Prelude.{◌≡◌, ◌+◌, ◌<◌, ◌≤◌, ◌++◌, length, map, None, Some, OnOk, IfOk};
-ghost use Rattle.ph_specs.specs.TreeNames.{node as held_node, digits_from};
+ghost use Rattle.ph_model.specs.ModelNames.{node as held_node, digits_from, chosen, AreParted};
 ghost use Rattle.ph_node.specs.Shown.{shown};
-ghost use Rattle.ph_specs.specs.TableNames.{chosen, AreParted};
 ghost use Rattle.ph_set.specs.Held.{IsLawfulPart, held_what, part_digits, part_what, rows_held, with_node, with_value};
 ghost use Rattle.ph_node.specs.Merge.{addr_at};
 ghost use Rattle.ph_set.specs.Meeting.{IsPartingOf, kept_parts, work_parts, kept_parts_by, work_parts_by, apart_parts_by};

@@ -1,6 +1,6 @@
 //! Parts of a tree.
 ghost use Rattle.std.specs.Prelude.{◌≡◌, ◌+◌, ◌≤◌, take};
-ghost use Rattle.ph_specs.specs.TreeNames.{what_at, IsBody, entries};
+ghost use Rattle.ph_model.specs.ModelNames.{what_at, IsBody, entries};
 ghost use Rattle.ph_node.specs.Shown.{shown};
 ghost use Rattle.ph_node.specs.Spots.{IsSpot, joined_digits};
 ghost use Rattle.ph_set.specs.Held.{held_what};

@@ -1,9 +1,9 @@
 //! A descent of two trees from their roots.
 ghost use Rattle.std.specs.Prelude.{◌≡◌, ◌+◌, ◌≤◌, [], take, replicate, Some, OnOk};
 ghost use Rattle.std.specs.Option.{option_copied};
-ghost use Rattle.ph_specs.specs.TreeNames.{IsLawful, rows as rows_of, node as held_node};
-ghost use Rattle.ph_specs.specs.WorkNames.{placed, seen_nodes};
-ghost use Rattle.ph_specs.specs.TableNames.{chosen};
+ghost use Rattle.ph_specs.specs.TreeNames.{rows as rows_of};
+ghost use Rattle.ph_model.specs.ModelNames.{IsLawful, node as held_node, seen_nodes, chosen};
+ghost use Rattle.ph_specs.specs.WorkNames.{placed};
 ghost use Rattle.ph_set.specs.Held.{held_what};
 ghost use Rattle.ph_set.specs.Meeting.{kept_trees, work_trees};
 ghost use Rattle.ph_set.specs.Parts.{AreListed};

@@ -1,6 +1,6 @@
 //! Nodes that are gone through side by side.
 ghost use Rattle.std.specs.Prelude.{◌≡◌, ◌<◌, ◌^◌};
-ghost use Rattle.ph_specs.specs.TreeNames.{entries};
+ghost use Rattle.ph_model.specs.ModelNames.{entries};
 ghost use Rattle.ph_node.specs.Places.{place_for};
 ghost use Rattle.ph_node.specs.Shown.{shown};
 

@@ -1,6 +1,7 @@
 -- Entries in front of a chain.
 use Rattle.std.proofs.Common.{◌≡◌, List, [], ◌∷◌, ◌++◌, refl, ap}
-use Rattle.ph_specs.specs.Node.{Entries, end, Entry, in_front, chained}
+use Rattle.ph_specs.specs.Node.{Entries, end}
+use Rattle.ph_model.specs.EntryList.{Entry, in_front, chained}
 
 abbrev pub with_front : List Entry → Entries → Entries
 with_front [] rest = rest

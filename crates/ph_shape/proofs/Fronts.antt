@@ -6,7 +6,7 @@ use Rattle.std.proofs.lemmas.List.{take_more}
 use Rattle.ph_specs.specs.Table.{Row}
 use Rattle.ph_specs.specs.Shape.{row_address}
 use Rattle.ph_shape.specs.Groups.{HaveAddress, FirstDiffers, IsCut}
-use Rattle.ph_specs.proofs.lemmas.RowsBehind.{Each-append}
+use Rattle.ph_model.proofs.lemmas.RowsBehind.{Each-append}
 
 -- what holds of each holds of one
 pub each-at : {X : Type 0} (P : X → Type 0) (xs : List X) (i : ℕ) (d : X) → Each P xs → i < length xs → P (get_or xs i d)

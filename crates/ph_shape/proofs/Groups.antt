@@ -9,9 +9,11 @@ use Rattle.std.proofs.lemmas.Bool.{and_parts, cases_lt}
 use Rattle.ph_specs.specs.Coordinate.{is_point}
 use Rattle.ph_specs.specs.ZOrder.{address, before, before_below}
 use Rattle.ph_specs.specs.Table.{Row, is_rising}
-use Rattle.ph_specs.specs.Node.{Entry, value, node, PlainNode, in_front}
+use Rattle.ph_specs.specs.Node.{PlainNode}
+use Rattle.ph_model.specs.EntryList.{Entry, value, node, in_front}
 use Rattle.ph_specs.specs.Shape.{Group, row_address, digits_below, digits_between, put_in_front, groups, entries_of, node_at, is_one_group, node_below}
-use Rattle.ph_specs.proofs.lemmas.Grouped.{Each-front as each-front, Each-back as each-back, ungrouped, AreGroups, ungrouped-groups, groups-groups, before_parts}
+use Rattle.ph_model.proofs.lemmas.Grouped.{Each-front as each-front, Each-back as each-back, ungrouped, AreGroups, ungrouped-groups, groups-groups}
+use Rattle.ph_model.proofs.lemmas.Grouped.{before_parts}
 use Rattle.ph_specs.proofs.laws.Order.{before_irrefl}
 use Rattle.ph_zorder.specs.Compared.{IsTopDifference}
 use Rattle.ph_shape.specs.Groups.{HaveAddress, AreAlike, IsGroup, FirstDiffers, group_entry}

@@ -2,9 +2,10 @@
 use Rattle.std.proofs.Common.{◌≡◌, ℕ, refl, sym, ◌∙◌, ap, subst, List, [], ◌∷◌, ◌++◌, length, map}
 use Rattle.std.proofs.lemmas.List.{map-append}
 use Rattle.ph_specs.specs.Table.{Row}
-use Rattle.ph_specs.specs.Node.{Entry, Entries, in_front, chained, PlainNode}
+use Rattle.ph_specs.specs.Node.{Entries, PlainNode}
+use Rattle.ph_model.specs.EntryList.{Entry, in_front, chained}
 use Rattle.ph_specs.specs.Shape.{entries_of, groups}
-use Rattle.ph_specs.proofs.lemmas.RowsBehind.{Each-append}
+use Rattle.ph_model.proofs.lemmas.RowsBehind.{Each-append}
 use Rattle.ph_shape.specs.Bodies.{filled, IsFilled}
 use Rattle.ph_shape.specs.View.{entry_of, what_of, AreFilled}
 use Rattle.ph_shape.specs.declared.plain.EntryOf.{EntryOf}

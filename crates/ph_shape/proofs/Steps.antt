@@ -8,7 +8,8 @@ use Rattle.std.proofs.lemmas.List.{take-append-drop, length-map}
 use Rattle.std.proofs.lemmas.Bool.{and_parts}
 use Rattle.ph_specs.specs.Coordinate.{is_point}
 use Rattle.ph_specs.specs.Table.{Row, IsTable}
-use Rattle.ph_specs.specs.Node.{Entry, What, in_front, value, PlainNode}
+use Rattle.ph_specs.specs.Node.{PlainNode}
+use Rattle.ph_model.specs.EntryList.{Entry, What, in_front, value}
 use Rattle.ph_specs.specs.Shape.{row_address, digits_below, digits_between, entries_of, groups}
 use Rattle.ph_zorder.specs.Compared.{IsTopDifference}
 use Rattle.ph_shape.specs.Bodies.{filled, IsFilled}

@@ -2,8 +2,9 @@
 use Rattle.std.proofs.Common.{◌≡◌, ℕ, zero, suc, ◌<◌, List, [], ◌∷◌, map, length, arith, ap, sym, ◌∙◌, get_or, subst}
 use Rattle.std.specs.Prelude.{Option, Some, slice_get}
 use Rattle.std.proofs.lemmas.List.{length-map}
-use Rattle.ph_specs.specs.Node.{Entry, PlainNode, entries, node_of}
-use Rattle.ph_specs.proofs.laws.EntryLists.{listed-chained}
+use Rattle.ph_specs.specs.Node.{PlainNode}
+use Rattle.ph_model.specs.EntryList.{Entry, entries, node_of}
+use Rattle.ph_model.proofs.laws.EntryLists.{listed-chained}
 use Rattle.ph_shape.specs.Bodies.{IsFilled}
 use Rattle.ph_shape.specs.View.{entry_of, AreFilled}
 use Rattle.ph_shape.specs.declared.plain.EntryOf.{EntryOf}

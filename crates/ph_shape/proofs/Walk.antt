@@ -7,14 +7,16 @@ use Rattle.std.proofs.Math.Seq.{take-append_seam}
 use Rattle.std.proofs.lemmas.Nat.{pow_pos}
 use Rattle.std.proofs.lemmas.List.{append-nil, length-replicate}
 use Rattle.ph_specs.specs.Table.{Row}
-use Rattle.ph_specs.specs.Node.{Entries, Entry, What, value, node, PlainNode, listed, in_front, chained}
+use Rattle.ph_specs.specs.Node.{Entries, PlainNode}
+use Rattle.ph_model.specs.EntryList.{Entry, What, value, node, listed, in_front, chained}
 use Rattle.ph_specs.specs.Shape.{shape}
-use Rattle.ph_specs.specs.Lawful.{IsBody, HasZerosFrom, IsLawful, put_together, rows_behind, rows}
-use Rattle.ph_specs.proofs.lemmas.Joined.{length-put_together, zeros-put_together}
-use Rattle.ph_specs.proofs.laws.EntryLists.{chained-listed}
-use Rattle.ph_specs.proofs.laws.LawfulRows.{put_together-small}
-use Rattle.ph_specs.proofs.laws.Unique.{shape-rows, zeros_known}
-use Rattle.ph_specs.specs.PutTree.{body_above}
+use Rattle.ph_specs.specs.TreeRows.{put_together, rows_behind, rows}
+use Rattle.ph_model.specs.Lawful.{IsBody, HasZerosFrom, IsLawful}
+use Rattle.ph_model.proofs.lemmas.Joined.{length-put_together, zeros-put_together}
+use Rattle.ph_model.proofs.laws.EntryLists.{chained-listed}
+use Rattle.ph_model.proofs.laws.LawfulRows.{put_together-small}
+use Rattle.ph_model.proofs.laws.Unique.{shape-rows, zeros_known}
+use Rattle.ph_model.specs.PutTree.{body_above}
 use Rattle.ph_digits.proofs.Cuts.{above-zeros}
 use Rattle.ph_shape.specs.Bodies.{AreBelow}
 use Rattle.ph_shape.specs.Known.{IsKnown, what_rows, entry_rows, IsOnly}

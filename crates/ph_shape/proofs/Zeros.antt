@@ -4,9 +4,9 @@ use Rattle.std.specs.Prelude.{ℤ}
 use Rattle.std.proofs.lemmas.List.{length-map, map-append, take-append-drop}
 use Rattle.std.proofs.lemmas.Nat.{pow_pos}
 use Rattle.ph_specs.specs.Coordinate.{offset}
-use Rattle.ph_specs.specs.PutTree.{body_above, body_below}
+use Rattle.ph_model.specs.PutTree.{body_above, body_below}
 use Rattle.ph_specs.specs.Shape.{digits_below, digits_between}
-use Rattle.ph_specs.proofs.lemmas.Splits.{below-offsets}
+use Rattle.ph_model.proofs.lemmas.Splits.{below-offsets}
 use Rattle.ph_shape.specs.Bodies.{filled}
 
 map-zeros : (f : ℕ → ℕ) (k : ℕ) → f 0 ≡ 0 → map f (replicate k 0) ≡ replicate k 0

@@ -2,8 +2,9 @@
 use Rattle.std.specs.Prelude.{ℕ, ◌+◌, ◌≤◌, max, List, [], ◌∷◌, take, map}
 use Rattle.std.proofs.Common.{arith}
 use denote.Param.Weighed.{most}
-use Rattle.ph_specs.specs.Node.{Entries, chained, in_front}
-use Rattle.ph_specs.specs.NodeSize.{nodes_in}
+use Rattle.ph_specs.specs.Node.{Entries}
+use Rattle.ph_model.specs.EntryList.{chained, in_front}
+use Rattle.ph_model.specs.NodeSize.{nodes_in}
 use Rattle.ph_shape.specs.View.{entry_of, what_of}
 use Rattle.ph_coord.specs.declared.dims.Dims.{Ghosts}
 use Rattle.ph_shape.specs.declared.plain.EntryOf.{EntryOf}

@@ -2,8 +2,10 @@
 use Rattle.std.specs.Prelude.{◌≡◌, ◌≢◌, ℕ, ◌<◌, ◌≤◌, List, [], ◌∷◌, length, take, drop, true}
 use Rattle.std.specs.List.{AllByRecursion as Each}
 use Rattle.ph_specs.specs.Coordinate.{is_point}
-use Rattle.ph_specs.specs.Table.{Row, IsRising}
-use Rattle.ph_specs.specs.Node.{Entry, value, node, PlainNode}
+use Rattle.ph_specs.specs.Table.{Row}
+use Rattle.ph_model.specs.Order.{IsRising}
+use Rattle.ph_specs.specs.Node.{PlainNode}
+use Rattle.ph_model.specs.EntryList.{Entry, value, node}
 use Rattle.ph_specs.specs.Shape.{row_address, digits_below, digits_between}
 
 -- rows that have one address at a place

@@ -3,8 +3,10 @@ use Rattle.std.specs.Prelude.{◌≡◌, ℕ, List, [], ◌∷◌, length, map, 
 use denote.Ref.{Bor}
 use Rattle.ph_specs.specs.Coordinate.{coordinate}
 use Rattle.ph_specs.specs.Table.{Row, row}
-use Rattle.ph_specs.specs.Node.{Entry, What, value, node, PlainNode}
-use Rattle.ph_specs.specs.Lawful.{HasZerosFrom, IsLawful, put_together, rows_behind, rows}
+use Rattle.ph_specs.specs.Node.{PlainNode}
+use Rattle.ph_model.specs.EntryList.{Entry, What, value, node}
+use Rattle.ph_specs.specs.TreeRows.{put_together, rows_behind, rows}
+use Rattle.ph_model.specs.Lawful.{HasZerosFrom, IsLawful}
 use Rattle.ph_shape.specs.Bodies.{AreBelow}
 
 -- digits that are known above a level, and zeros from it down

@@ -1,7 +1,8 @@
 -- What is shown of what an entry holds.
 use Rattle.std.specs.Prelude.{◌≡◌, ℕ, Option, Some, None}
 use denote.Ref.{Bor}
-use Rattle.ph_specs.specs.Node.{What, value, node, PlainNode}
+use Rattle.ph_specs.specs.Node.{PlainNode}
+use Rattle.ph_model.specs.EntryList.{What, value, node}
 
 -- a point's value, and of a child nothing
 abbrev pub IsValue : What → Option ℕ → Type 0

@@ -1,7 +1,7 @@
 -- What the entries of a node of code are seen as.
 use Rattle.std.specs.Prelude.{ℕ, List, take}
 use Rattle.std.specs.List.{AllByRecursion as Each}
-use Rattle.ph_specs.specs.Node.{Entry, What, value, node}
+use Rattle.ph_model.specs.EntryList.{Entry, What, value, node}
 use Rattle.ph_shape.specs.Bodies.{IsFilled}
 use Rattle.ph_shape.specs.declared.plain.EntryOf.{EntryOf}
 use Rattle.ph_shape.specs.declared.plain.HeldOf.{HeldOf}

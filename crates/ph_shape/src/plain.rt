@@ -1,6 +1,6 @@
 //! An owned plain tree.
 ghost use Rattle.std.specs.Prelude.{◌≡◌, ◌<◌, length, slice_get, IfSome, Some};
-ghost use Rattle.ph_specs.specs.TreeNames.{entries};
+ghost use Rattle.ph_model.specs.ModelNames.{entries};
 ghost use Rattle.ph_shape.specs.Bodies.{filled, IsFilled};
 ghost use Rattle.ph_shape.specs.View.{entry_of};
 ghost use Rattle.ph_shape.specs.Shown.{IsValue, IsChild};
@@ -38,14 +38,15 @@ pub(crate) enum HeldOf<P: Dims> {
 }
 
 impl<P: Dims> Model for PlainOf<P> {
-    ghost use Rattle.ph_specs.specs.TreeNames.{PlainNode, node_of, coded_node};
+    ghost use Rattle.ph_specs.specs.TreeNames.{PlainNode};
+    ghost use Rattle.ph_model.specs.ModelNames.{node_of, coded_node};
 
     ghost Value = { PlainNode };
 
     ghost coded = { coded_node };
 
     ghost use Rattle.std.specs.Prelude.{map};
-    ghost use Rattle.ph_specs.specs.TreeNames.{node_size};
+    ghost use Rattle.ph_model.specs.ModelNames.{node_size};
     ghost use Rattle.ph_shape.specs.View.{entry_of, AreFilled};
 
     ghost view = { λ a. node_of a.level (map (entry_of P.D) a.entries.items) };
@@ -62,7 +63,7 @@ impl<P: Dims> Model for PlainOf<P> {
 
 impl<P: Dims> PlainOf<P> {
     ghost use Rattle.std.specs.Prelude.{map};
-    ghost use Rattle.ph_specs.specs.TreeNames.{node_of};
+    ghost use Rattle.ph_model.specs.ModelNames.{node_of};
     ghost use Rattle.ph_shape.specs.View.{AreFilled};
 
     pub(crate) fn new(level: u32, entries: Vec<EntryOf<P>>) -> PlainOf<P>

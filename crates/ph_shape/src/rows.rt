@@ -1,6 +1,7 @@
 //! The rows of a tree.
 ghost use Rattle.std.specs.Prelude.{◌≡◌, ◌<◌, ◌≤◌, ◌++◌, map, take, IfOk, OnOk};
-ghost use Rattle.ph_specs.specs.TreeNames.{IsLawful, IsLawfulEntry, IsLawfulFrom, put_together, rows as the_rows, rows_behind};
+ghost use Rattle.ph_specs.specs.TreeNames.{put_together, rows as the_rows, rows_behind};
+ghost use Rattle.ph_model.specs.ModelNames.{IsLawful, IsLawfulEntry, IsLawfulFrom};
 ghost use Rattle.ph_shape.specs.Known.{IsKnown, entry_rows, lent, IsOnly};
 ghost use Rattle.ph_shape.specs.View.{entry_of};
 

@@ -1,6 +1,7 @@
 //! The shape of a table.
 ghost use Rattle.std.specs.Prelude.{◌≡◌, ◌<◌, ◌≤◌, ◌+◌, length, map, IfOk};
-ghost use Rattle.ph_specs.specs.TreeNames.{IsLawful, rows as rows_in, node_at, node_below, shape};
+ghost use Rattle.ph_specs.specs.TreeNames.{rows as rows_in, node_at, node_below, shape};
+ghost use Rattle.ph_model.specs.ModelNames.{IsLawful};
 ghost use Rattle.ph_specs.specs.TableNames.{IsTable};
 ghost use Rattle.ph_shape.specs.Bodies.{IsFilled};
 ghost use Rattle.ph_shape.specs.Groups.{HaveAddress, IsGroup, group_entry};

@@ -2,7 +2,7 @@
 use Rattle.std.proofs.Common.{◌≡◌, ℕ, ◌≤◌, sym, ◌∙◌, ap, subst, arith, List, length, drop, Bool, true, false}
 use Rattle.std.specs.Prelude.{Some, None}
 use Rattle.ph_specs.specs.declared.Kind.{Kind}
-use Rattle.ph_specs.specs.KindRows.{IsBytes}
+use Rattle.ph_model.specs.Digits.{IsBytes}
 use Rattle.ph_specs.specs.Load.{body_fault, load_fault}
 use Rattle.ph_specs.specs.Node.{PlainNode}
 use Rattle.ph_specs.specs.SavedTable.{first_node, read_nodes, root_flag}

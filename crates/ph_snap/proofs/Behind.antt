@@ -1,14 +1,15 @@
 -- What is known behind an entry.
 use Rattle.std.proofs.Common.{◌≡◌, ℕ, zero, suc, ◌+◌, ◌^◌, ◌<◌, ◌≤◌, sym, ◌∙◌, ap, subst, arith, List, [], ◌∷◌, ◌++◌, length, take, true}
 use Rattle.std.specs.List.{AllByRecursion as Each}
-use Rattle.ph_specs.specs.Lawful.{IsBody, HasZerosFrom, put_together}
+use Rattle.ph_specs.specs.TreeRows.{put_together}
+use Rattle.ph_model.specs.Lawful.{IsBody, HasZerosFrom}
 use Rattle.ph_specs.specs.Load.{has_zeros_from}
-use Rattle.ph_specs.specs.PutTree.{body_above}
-use Rattle.ph_specs.proofs.lemmas.Columns.{take-front}
+use Rattle.ph_model.specs.PutTree.{body_above}
+use Rattle.ph_model.proofs.lemmas.Columns.{take-front}
 use Rattle.std.specs.Prelude.{◌%◌, ◌==◌}
 use Rattle.std.proofs.Common.{eqb-true}
 use Rattle.ph_specs.proofs.lemmas.Tests.{and-parts}
-use Rattle.ph_specs.proofs.laws.WordDigits.{digits-below}
+use Rattle.ph_model.proofs.laws.WordDigits.{digits-below}
 use Rattle.ph_bits.specs.Fields.{digits_row}
 use Rattle.ph_digits.proofs.Cuts.{above-zeros}
 use Rattle.ph_node.proofs.Merges.{body-joined}

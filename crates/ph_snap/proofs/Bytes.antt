@@ -5,7 +5,7 @@ use Rattle.std.proofs.Math.Nat.{pow-le-pow_right, mod-eq_of_lt}
 use Rattle.std.proofs.lemmas.List.{drop-drop, take_more, map-append, get_or-drop, length-drop}
 use Rattle.ph_specs.specs.Digits.{field, number_of}
 use Rattle.ph_specs.specs.Load.{words_in}
-use Rattle.ph_specs.proofs.lemmas.Columns.{number_after-append}
+use Rattle.ph_model.proofs.lemmas.Columns.{number_after-append}
 
 pub words-more : (n : ℕ) (bytes : List ℕ) → words_in (n + 1) bytes ≡ words_in n bytes ++ number_of (map (field 8) (take 8 (drop (8 * n) bytes))) ∷ []
 words-more zero bytes = refl

@@ -4,7 +4,7 @@ use Rattle.std.specs.Prelude.{Option, Some, None, slice_get}
 use Rattle.std.specs.List.{list_all}
 use Rattle.std.specs.Prelude.{◌&&◌}
 use Rattle.std.proofs.lemmas.List.{take-append-drop}
-use Rattle.ph_specs.specs.Lawful.{put_together}
+use Rattle.ph_specs.specs.TreeRows.{put_together}
 use Rattle.ph_specs.specs.Load.{Place, under, places_under}
 use Rattle.ph_specs.specs.Record.{Read, read_point, read_child, read, first_in, entries_in}
 use Rattle.ph_bits.specs.Fields.{digits_row}

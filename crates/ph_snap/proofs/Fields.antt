@@ -3,12 +3,13 @@ use Rattle.std.proofs.Common.{◌≡◌, ℕ, zero, suc, ◌+◌, ◌-◌, ◌*�
 use Rattle.std.proofs.Common.{◌∷◌, ◌++◌, length, map, take, drop, replicate, append_assoc, true, false}
 use Rattle.std.specs.Prelude.{count_by, ◌&&◌, ◌==◌}
 use Rattle.std.specs.List.{AllByRecursion as Each}
-use Rattle.ph_specs.specs.Digits.{field, number_of, words_for, digits_at, read_fields}
-use Rattle.ph_specs.specs.Layout.{fields_as, tables_as, digits_as}
+use Rattle.ph_specs.specs.Digits.{field, number_of, words_for, read_fields}
+use Rattle.ph_model.specs.Digits.{digits_at}
+use Rattle.ph_model.specs.Layout.{fields_as, tables_as, digits_as}
 use Rattle.ph_specs.specs.Record.{First, first_in, padding, parts, rises_from, absent_are_zero}
 use Rattle.ph_specs.proofs.laws.ReadBack.{total}
-use Rattle.ph_specs.proofs.laws.TableFields.{tables-digits}
-use Rattle.ph_specs.proofs.lemmas.Columns.{take-front, drop-front}
+use Rattle.ph_model.proofs.laws.TableFields.{tables-digits}
+use Rattle.ph_model.proofs.lemmas.Columns.{take-front, drop-front}
 use Rattle.ph_bits.specs.Fields.{digits_row}
 use Rattle.ph_snap.specs.Columns.{body_rows, kinds_fit}
 

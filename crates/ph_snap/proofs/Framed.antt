@@ -5,9 +5,9 @@ use Rattle.std.proofs.lemmas.Bool.{and_parts}
 use Rattle.std.proofs.lemmas.Bool.Decides.{nat_tests}
 use Rattle.ph_specs.specs.Record.{First, first_in, has_cube, record_words}
 use Rattle.ph_specs.specs.Load.{Place as Stand, root, under, known, least_entries, first_fits, has_zeros_from}
-use Rattle.ph_specs.proofs.laws.RecordAgain.{IsFirst, first-facts}
+use Rattle.ph_model.proofs.laws.RecordAgain.{IsFirst, first-facts}
 use Rattle.std.proofs.Common.{false}
-use Rattle.ph_specs.specs.Layout.{IsRecord, entries_as}
+use Rattle.ph_model.specs.Layout.{IsRecord, entries_as, digits_as}
 use Rattle.ph_specs.specs.Record.{entries_in}
 use Rattle.ph_linear.proofs.Ranks.{many}
 use Rattle.ph_cube.proofs.Ranks.{length-entries}
@@ -19,7 +19,6 @@ use Rattle.ph_snap.specs.Forms.{IsForm}
 use Rattle.ph_snap.specs.Frames.{IsFramed}
 use Rattle.ph_snap.specs.Standing.{place_of, ceiling, IsStanding}
 use Rattle.ph_specs.specs.Digits.{words_for}
-use Rattle.ph_specs.specs.Layout.{digits_as}
 use Rattle.ph_specs.specs.Load.{next_first, next_record, words_in}
 use Rattle.ph_snap.specs.declared.first.First.{First as First'}
 use Rattle.ph_snap.specs.Frames.{said_by}

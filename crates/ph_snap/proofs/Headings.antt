@@ -9,7 +9,7 @@ use Rattle.ph_specs.specs.Load.{has_magic, has_byte, is_flag, is_width, dims_fit
 use Rattle.ph_specs.specs.SavedTable.{root_flag}
 use Rattle.ph_specs.specs.Snapshot.{kind_byte}
 use Rattle.ph_specs.proofs.lemmas.Tests.{and-made, and-parts}
-use Rattle.ph_specs.proofs.laws.Loads.{width-fits}
+use Rattle.ph_model.proofs.laws.Loads.{width-fits}
 use Rattle.ph_snap.specs.Faults.{IsLoadFault}
 use Rattle.ph_snap.specs.Headers.{most_of, own_tests, flag_byte, IsVersion, IsHeader, IsHeaderFault}
 use Rattle.ph_snap.specs.declared.fault.LoadFault.{LoadFault}

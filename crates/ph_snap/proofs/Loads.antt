@@ -3,12 +3,12 @@ use Rattle.std.proofs.Common.{◌≡◌, ℕ, ◌+◌, ◌*◌, ◌≤◌, sym, 
 use Rattle.std.specs.Prelude.{None}
 use Rattle.std.proofs.lemmas.List.{length-append, length-drop, drop-drop, take-append-drop}
 use Rattle.ph_specs.specs.declared.Kind.{Kind}
-use Rattle.ph_specs.specs.KindRows.{IsBytes}
+use Rattle.ph_model.specs.Digits.{IsBytes}
 use Rattle.ph_specs.specs.Node.{PlainNode}
 use Rattle.ph_specs.specs.Record.{First, first_in, record_words, entries_in, unpacked}
 use Rattle.ph_specs.specs.Load.{Place, known, next_first, next_record, record_fault, places_under, places_of}
-use Rattle.ph_specs.proofs.lemmas.FoundTree.{Passed, next-passed}
-use Rattle.ph_specs.proofs.laws.RecordAgain.{entries-count}
+use Rattle.ph_model.proofs.lemmas.FoundTree.{Passed, next-passed}
+use Rattle.ph_model.proofs.laws.RecordAgain.{entries-count}
 use Rattle.ph_snap.specs.Faults.{HaveFault, HaveNone}
 use Rattle.ph_snap.specs.Reads.{ReadAs}
 use Rattle.ph_snap.specs.declared.fault.LoadFault.{LoadFault}

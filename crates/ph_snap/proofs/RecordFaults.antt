@@ -6,14 +6,14 @@ use Rattle.std.proofs.lemmas.List.{length-append, length-drop, drop-drop}
 use Rattle.std.proofs.lemmas.Bool.Decides.{nat_tests}
 use Rattle.ph_specs.specs.declared.Kind.{Kind}
 use Rattle.ph_specs.specs.Digits.{words_for, bytes_of}
-use Rattle.ph_specs.specs.KindRows.{IsBytes}
+use Rattle.ph_model.specs.Digits.{IsBytes}
 use Rattle.ph_specs.specs.Record.{first_in, Read, read_point, read_child, table_digits, record_words, entries_in}
 use Rattle.ph_specs.specs.Load.{Fault, Place, root, under, level_fits}
 use Rattle.ph_specs.specs.Load.{words_in, next_first, next_record, record_fault, places_under, places_of, records_fault}
-use Rattle.ph_specs.proofs.lemmas.FoundTree.{Passed, next-passed}
-use Rattle.ph_specs.proofs.lemmas.ByteWords.{length-bytes, length-words_in}
-use Rattle.ph_specs.proofs.lemmas.Counted.{kids}
-use Rattle.ph_specs.proofs.laws.RecordAgain.{entries-count}
+use Rattle.ph_model.proofs.lemmas.FoundTree.{Passed, next-passed}
+use Rattle.ph_model.proofs.lemmas.ByteWords.{length-bytes, length-words_in}
+use Rattle.ph_model.proofs.lemmas.Counted.{kids}
+use Rattle.ph_model.proofs.laws.RecordAgain.{entries-count}
 use Rattle.ph_snap.specs.Faults.{fault_of, IsGiven, IsLoadFault, faults, HaveFault, HaveNone}
 use Rattle.ph_snap.specs.Standing.{ceiling}
 use Rattle.ph_snap.specs.declared.fault.LoadFault.{LoadFault}

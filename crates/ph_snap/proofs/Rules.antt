@@ -11,14 +11,15 @@ use Rattle.std.specs.Int.RustNames.{count_ones}
 use Rattle.std.proofs.lemmas.Nat.{ones_cat}
 use Rattle.std.proofs.lemmas.Bool.{le-leb}
 use Rattle.std.proofs.lemmas.List.{take-append-drop}
-use Rattle.ph_specs.specs.Digits.{field, number_of, words_for, digits_at}
+use Rattle.ph_specs.specs.Digits.{field, number_of, words_for}
+use Rattle.ph_model.specs.Digits.{digits_at}
 use Rattle.ph_specs.specs.Record.{rises_from, absent_are_zero, padding}
-use Rattle.ph_specs.proofs.laws.TableFields.{each-drop}
+use Rattle.ph_model.proofs.laws.TableFields.{each-drop}
 use Rattle.std.proofs.lemmas.List.{length-take}
-use Rattle.ph_specs.proofs.laws.WordDigits.{digits-parts, digits-below, digits-behind, digits-front}
+use Rattle.ph_model.proofs.laws.WordDigits.{digits-parts, digits-below, digits-behind, digits-front}
 use Rattle.ph_bits.specs.Fields.{digits_row, ones_in}
 use Rattle.ph_snap.specs.Columns.{body_rows, kinds_fit, place_fits}
-use Rattle.ph_specs.specs.Layout.{tables_as, digits_as}
+use Rattle.ph_model.specs.Layout.{tables_as, digits_as}
 use Rattle.ph_specs.specs.Pack.{linear_digits}
 use Rattle.ph_specs.specs.Record.{first_in, table_digits, table_number}
 use Rattle.ph_snap.proofs.Fields.{row-split, row-next, body-next, linear-tables, cube-tables}

@@ -10,8 +10,8 @@ use Rattle.ph_specs.specs.Digits.{bytes_of}
 use Rattle.ph_specs.specs.Node.{PlainNode, nodes, nodes_below}
 use Rattle.ph_specs.specs.Pack.{pack}
 use Rattle.ph_specs.specs.Snapshot.{packs}
-use Rattle.ph_specs.proofs.lemmas.ByteWords.{bytes-append, length-bytes}
-use Rattle.ph_specs.proofs.laws.OneToOne.{packs-append}
+use Rattle.ph_model.proofs.lemmas.ByteWords.{bytes-append, length-bytes}
+use Rattle.ph_model.proofs.laws.OneToOne.{packs-append}
 use Rattle.ph_specs.proofs.laws.Ranked.{take-all}
 use Rattle.ph_node.specs.declared.node.SlotOf.{SlotOf}
 use Rattle.ph_tree.proofs.Sizes.{trees, trees-more}

@@ -4,17 +4,17 @@ use Rattle.std.proofs.lemmas.List.{length-append, length-drop}
 use Rattle.ph_specs.specs.declared.Kind.{Kind}
 use Rattle.ph_specs.specs.Digits.{words_for}
 use Rattle.ph_specs.specs.Node.{Entries, end, point, child, PlainNode, nodes, nodes_below}
-use Rattle.ph_specs.specs.NodeSize.{nodes_in, node_size}
-use Rattle.ph_specs.specs.Lawful.{rows, rows_behind, put_together}
+use Rattle.ph_model.specs.NodeSize.{nodes_in, node_size}
+use Rattle.ph_specs.specs.TreeRows.{rows, rows_behind, put_together}
 use Rattle.std.specs.Prelude.{if◌then◌else◌}
 use Rattle.std.proofs.lemmas.Nat.{pow_pos}
 use Rattle.std.proofs.Math.Nat.{mul-le-mul_left}
 use Rattle.ph_specs.specs.Pack.{linear_digits, cube_digits}
 use Rattle.ph_specs.specs.Load.{Place, root, under, least_entries}
 use Rattle.ph_specs.specs.Record.{Read, read_point, read_child, has_cube, table_digits, filled, first_in, entries_in, values_in, unpacked}
-use Rattle.ph_specs.proofs.lemmas.Counted.{kids, spots, spots-kids}
-use Rattle.ph_specs.proofs.lemmas.FoundTree.{Passed}
-use Rattle.ph_specs.proofs.laws.RecordAgain.{entries-count}
+use Rattle.ph_model.proofs.lemmas.Counted.{kids, spots, spots-kids}
+use Rattle.ph_model.proofs.lemmas.FoundTree.{Passed}
+use Rattle.ph_model.proofs.laws.RecordAgain.{entries-count}
 use Rattle.ph_snap.specs.Reads.{points_below, points, all_points, all_sizes}
 
 -- ---- rows

@@ -6,16 +6,17 @@ use Rattle.ph_specs.specs.declared.Kind.{Kind}
 use Rattle.ph_specs.specs.Node.{PlainNode}
 use Rattle.ph_specs.specs.SavedTable.{first_node, read_nodes, root_flag, read_snapshot}
 use Rattle.ph_specs.specs.Load.{bad_extra, body_fault, records_fault, load_fault, root}
-use Rattle.ph_specs.specs.KindRows.{IsBytes}
-use Rattle.ph_specs.specs.Lawful.{IsLawful, rows}
+use Rattle.ph_model.specs.Digits.{IsBytes}
+use Rattle.ph_specs.specs.TreeRows.{rows}
+use Rattle.ph_model.specs.Lawful.{IsLawful}
 use Rattle.ph_specs.specs.Node.{nodes}
 use Rattle.ph_specs.specs.Reply.{Reply}
 use Rattle.ph_specs.specs.Shape.{shape}
 use Rattle.ph_specs.specs.SnapshotOf.{IsSnapshotOf}
 use Rattle.ph_specs.specs.Table.{Row, IsTable}
 use Rattle.ph_specs.specs.WorkSets.{all_nodes}
-use Rattle.ph_specs.proofs.laws.Snapshots.{snapshot-from_none, tree-from_snapshot, read-from_snapshot, table-from_snapshot}
-use Rattle.ph_specs.proofs.laws.TableShape.{table-shape}
+use Rattle.ph_model.proofs.laws.Snapshots.{snapshot-from_none, tree-from_snapshot, read-from_snapshot, table-from_snapshot}
+use Rattle.ph_model.proofs.laws.TableShape.{table-shape}
 use Rattle.ph_tree.proofs.Compared.{length-nodes}
 use Rattle.ph_snap.specs.Faults.{IsLoadFault, faults, HaveFault, HaveNone}
 use Rattle.ph_snap.specs.Reads.{ReadAs}

@@ -3,7 +3,7 @@ use Rattle.std.specs.Prelude.{◌≡◌, ◌+◌, ◌*◌, ◌≤◌, ℕ, List,
 use Rattle.ph_specs.specs.declared.Kind.{Kind}
 use Rattle.ph_specs.specs.Load.{Place}
 use Rattle.ph_specs.specs.Node.{PlainNode}
-use Rattle.ph_specs.specs.NodeSize.{node_size}
+use Rattle.ph_model.specs.NodeSize.{node_size}
 use Rattle.ph_snap.specs.Faults.{HaveNone}
 use Rattle.ph_snap.specs.Reads.{ReadAs, points}
 

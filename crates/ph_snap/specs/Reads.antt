@@ -2,7 +2,7 @@
 use Rattle.std.specs.Prelude.{◌≡◌, ◌≤◌, ◌+◌, ℕ, List, [], ◌∷◌, ◌++◌, length}
 use Rattle.ph_specs.specs.Node.{Entries, end, point, child, PlainNode}
 use Rattle.ph_specs.specs.SavedTable.{read_nodes}
-use Rattle.ph_specs.specs.NodeSize.{node_size}
+use Rattle.ph_model.specs.NodeSize.{node_size}
 
 -- bytes are read as these nodes and what the rest is read as
 abbrev pub ReadAs : ℕ → List ℕ → List PlainNode → List ℕ → Type 0

@@ -1,6 +1,7 @@
 -- Where a record stands.
 use Rattle.std.specs.Prelude.{◌≡◌, ◌<◌, ◌∷◌, ℕ, List, [], take, true, Option, Some, None}
-use Rattle.ph_specs.specs.Lawful.{IsBody, put_together}
+use Rattle.ph_specs.specs.TreeRows.{put_together}
+use Rattle.ph_model.specs.Lawful.{IsBody}
 use Rattle.ph_specs.specs.Load.{Place as Stand, root, under, known, has_zeros_from}
 use Rattle.ph_snap.specs.declared.places.Place.{Place}
 use Rattle.ph_snap.specs.declared.places.Place.TheVariants.{Root, Under}

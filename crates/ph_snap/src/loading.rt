@@ -3,7 +3,7 @@
 ghost use Rattle.std.specs.Prelude.{◌≡◌, ◌+◌, ◌*◌, ◌-◌, ◌^◌, ◌≤◌, List, true, false, None, Some, Ok, length, drop, slice_index, IfOk, IfErr};
 ghost use Rattle.ph_specs.specs.RecordNames.{load_fault, body_fault, first_node, read_nodes, read_snapshot, IsSnapshotOf};
 ghost use Rattle.ph_specs.specs.TableNames.{Row};
-ghost use Rattle.ph_specs.specs.TreeNames.{node_size};
+ghost use Rattle.ph_model.specs.ModelNames.{node_size};
 ghost use Rattle.ph_specs.specs.WorkNames.{all_nodes};
 ghost use Rattle.ph_snap.specs.Faults.{IsLoadFault};
 ghost use Rattle.ph_snap.specs.Forms.{IsForm};

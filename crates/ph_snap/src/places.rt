@@ -1,7 +1,7 @@
 //! Where a record stands.
 
 ghost use Rattle.std.specs.Prelude.{◌≡◌, ◌≤◌, take};
-ghost use Rattle.ph_specs.specs.TreeNames.{IsBody};
+ghost use Rattle.ph_model.specs.ModelNames.{IsBody};
 ghost use Rattle.ph_specs.specs.RecordNames.{known, least_entries};
 ghost use Rattle.ph_snap.specs.Forms.{IsForm};
 ghost use Rattle.ph_snap.specs.Standing.{place_of, IsStanding};

@@ -2,7 +2,8 @@
 
 ghost use Rattle.std.specs.Prelude.{◌≡◌, ◌+◌, ◌*◌, ◌%◌, ◌^◌, ◌<◌, ◌≤◌, ◌==◌, ◌&&◌, true, false, length};
 ghost use Rattle.std.specs.List.{list_all};
-ghost use Rattle.ph_specs.specs.RecordNames.{tables_as, first_in, has_cube, table_digits, table_number, tables_of, padding, rises_from, absent_are_zero};
+ghost use Rattle.ph_specs.specs.RecordNames.{first_in, has_cube, table_digits, table_number, tables_of, padding, rises_from, absent_are_zero};
+ghost use Rattle.ph_model.specs.ModelNames.{tables_as};
 ghost use Rattle.ph_bits.specs.Fields.{digits_row};
 ghost use Rattle.ph_snap.specs.Columns.{body_rows, kinds_fit as the_kinds_fit, place_fits as the_place_fits};
 ghost use Rattle.ph_snap.specs.Frames.{said_by, IsFramed};

@@ -6,15 +6,12 @@ mod RowsFiles
 mod RowsLarge
 mod RowsLines
 mod RowsLoads
-mod RowsMasks
 mod RowsProgram
 mod RowsSearches
 mod RowsSnapshots
 mod RowsTables
 mod RowsWide
-mod VectorsDel
 mod VectorsFaults
 mod VectorsLarge
-mod VectorsPutTree
 mod VectorsSnapshots
 mod VectorsWide

@@ -1,5 +1,3 @@
 -- The names of work, in nodes that are visited that contracts cite, passed on from one place.
-pub use Rattle.ph_specs.specs.Region.{InBoth, Region, gap, is_in, least_distance, meets_window}
-pub use Rattle.ph_specs.specs.Masks.{InPart, IsNextOf, fits_masks, fits_some, masks}
-pub use Rattle.ph_specs.specs.WorkSets.{all_nodes, ball, join_visits, meets, partner_nodes, path, placed, reach, seen_nodes, touch}
-pub use Rattle.ph_specs.specs.WindowWalk.{node_region}
+pub use Rattle.ph_specs.specs.Region.{Region, is_in, least_distance, meets_window}
+pub use Rattle.ph_specs.specs.WorkSets.{all_nodes, ball, join_visits, meets, partner_nodes, path, placed, reach, touch}

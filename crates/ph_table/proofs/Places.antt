@@ -7,9 +7,7 @@ use Rattle.ph_specs.specs.Coordinate.{same_point, is_point}
 use Rattle.ph_specs.specs.ZOrder.{before}
 use Rattle.ph_specs.specs.Table.{Row, find, del, is_rising}
 use Rattle.ph_specs.proofs.laws.Order.{same_from_order}
-use Rattle.ph_specs.proofs.laws.Put.{either, test_from_same}
-use Rattle.ph_specs.proofs.lemmas.PutRows.{before-differs, before-not}
-use Rattle.ph_specs.proofs.laws.FindTree.{not_same}
+use Rattle.ph_specs.proofs.laws.Put.{either, test_from_same, before-differs, before-not, not_same}
 use Rattle.ph_table.specs.Place.{IsCut, IsPlace}
 use Rattle.ph_table.proofs.Search.{rising-at}
 

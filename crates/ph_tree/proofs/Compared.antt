@@ -4,16 +4,17 @@ use Rattle.std.specs.Prelude.{Option, Some, None, replicate, ◌↔◌, IsTrue, 
 use Rattle.std.specs.Borrow.{Bor}
 use Rattle.std.specs.List.{AllByRecursion as Each}
 use Rattle.std.specs.Option.{option_copied}
-use Rattle.ph_specs.specs.Lawful.{IsLawful, IsLawfulFrom, put_together, rows}
+use Rattle.ph_specs.specs.TreeRows.{put_together, rows}
+use Rattle.ph_model.specs.Lawful.{IsLawful, IsLawfulFrom}
 use Rattle.ph_specs.specs.Node.{Entries, end, point, child, PlainNode, flat, nodes, nodes_below}
 use Rattle.ph_specs.specs.Pack.{children, pack}
 use Rattle.ph_specs.specs.Record.{first_in, unpacked}
 use Rattle.ph_specs.specs.Shape.{shape}
 use Rattle.ph_specs.specs.Table.{Row, IsTable}
 use Rattle.ph_specs.specs.WorkSets.{all_nodes, placed, placed_below}
-use Rattle.ph_specs.proofs.laws.OneToOne.{packable}
-use Rattle.ph_specs.proofs.laws.TableShape.{table-shape}
-use Rattle.ph_specs.proofs.laws.Unpacked.{IsPackable, child_nodes, first-record, unpacked-pack}
+use Rattle.ph_model.proofs.laws.OneToOne.{packable}
+use Rattle.ph_model.proofs.laws.TableShape.{table-shape}
+use Rattle.ph_model.proofs.laws.Unpacked.{IsPackable, child_nodes, first-record, unpacked-pack}
 use Rattle.ph_node.specs.Kept.{IsNodeOf}
 use Rattle.ph_node.specs.Slots.{nodes_of}
 use Rattle.ph_node.specs.declared.node.SlotOf.{SlotOf}

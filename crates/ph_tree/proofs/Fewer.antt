@@ -4,12 +4,13 @@ use Rattle.std.specs.Prelude.{ℤ, Option, Some, None}
 use Rattle.ph_specs.specs.Coordinate.{same_point}
 use Rattle.ph_specs.specs.Table.{Row, find, del}
 use Rattle.ph_specs.specs.Node.{PlainNode}
-use Rattle.ph_specs.specs.Lawful.{IsLawful, rows}
-use Rattle.ph_specs.specs.PutTree.{find_tree}
-use Rattle.ph_specs.specs.DelTree.{del_tree}
-use Rattle.ph_specs.proofs.lemmas.Taken.{del-missing}
+use Rattle.ph_specs.specs.TreeRows.{rows}
+use Rattle.ph_model.specs.Lawful.{IsLawful}
+use Rattle.ph_model.specs.PutTree.{find_tree}
+use Rattle.ph_model.specs.DelTree.{del_tree}
+use Rattle.ph_model.proofs.lemmas.Taken.{del-missing}
 use Rattle.ph_specs.proofs.laws.Put.{either}
-use Rattle.ph_specs.proofs.laws.DelTree.{lawful-del_tree, rows-del_tree}
+use Rattle.ph_model.proofs.laws.DelTree.{lawful-del_tree, rows-del_tree}
 use Rattle.ph_tree.specs.Key.{Key}
 use Rattle.ph_tree.specs.Tree.{TreeTable, tree_table, without_row, IsTree}
 use Rattle.ph_tree.proofs.Trees.{tree_of, IsKeyed, at_width, found_before}

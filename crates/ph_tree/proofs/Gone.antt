@@ -4,18 +4,20 @@ use Rattle.std.proofs.Common.{not, cond, inl, inr, refl, arith, ap, sym, ◌∙�
 use Rattle.std.specs.Prelude.{ℤ, Some, None, Option, slice_get, position, unwrap_or}
 use Rattle.std.specs.List.{position_or_len}
 use Rattle.ph_specs.specs.ZOrder.{address}
-use Rattle.ph_specs.specs.Node.{Entries, end, point, child, Entry, What, value, node, PlainNode, entries, listed, node_of}
+use Rattle.ph_specs.specs.Node.{Entries, end, point, child, PlainNode}
+use Rattle.ph_model.specs.EntryList.{Entry, What, value, node, entries, listed, node_of}
 use Rattle.ph_specs.specs.Shape.{digits_below, digits_between}
-use Rattle.ph_specs.specs.Lawful.{IsLawful, IsLawfulFrom, count, put_together}
-use Rattle.ph_specs.specs.PutTree.{find_node, find_tree}
-use Rattle.ph_specs.specs.DelTree.{del_node, del_tree}
-use Rattle.ph_specs.specs.EntryEdits.{has_address, with_child, what_at, without, merged}
-use Rattle.ph_specs.proofs.lemmas.PointDigits.{same_digits-refl}
-use Rattle.ph_specs.proofs.laws.EntryLists.{listed-chained}
-use Rattle.ph_specs.proofs.laws.EntryEdits as laws
-use Rattle.ph_specs.proofs.laws.DelEntries.{IsEntryAt, IsLawfulChild, lawful-child, del_node-none, del_node-point}
-use Rattle.ph_specs.proofs.laws.DelEntries.{del_node-other_point, del_node-other_child, del_node-child, del_node-pair}
-use Rattle.ph_specs.proofs.laws.DelEntries.{length-del_node, length-del_node-child, del_tree-none, del_tree-some}
+use Rattle.ph_specs.specs.TreeRows.{count, put_together}
+use Rattle.ph_model.specs.Lawful.{IsLawful, IsLawfulFrom}
+use Rattle.ph_model.specs.PutTree.{find_node, find_tree}
+use Rattle.ph_model.specs.DelTree.{del_node, del_tree}
+use Rattle.ph_model.specs.EntryEdits.{has_address, with_child, what_at, without, merged}
+use Rattle.ph_model.proofs.lemmas.PointDigits.{same_digits-refl}
+use Rattle.ph_model.proofs.laws.EntryLists.{listed-chained}
+use Rattle.ph_model.proofs.laws.EntryEdits as laws
+use Rattle.ph_model.proofs.laws.DelEntries.{IsEntryAt, IsLawfulChild, lawful-child, del_node-none, del_node-point}
+use Rattle.ph_model.proofs.laws.DelEntries.{del_node-other_point, del_node-other_child, del_node-child, del_node-pair}
+use Rattle.ph_model.proofs.laws.DelEntries.{length-del_node, length-del_node-child, del_tree-none, del_tree-some}
 use Rattle.ph_node.specs.Shown.{shown}
 use Rattle.ph_node.specs.Split.{IsValue, body_at}
 use Rattle.ph_node.specs.Merge.{IsPair, entries_held, addr_at, body_beside, merge_node}

@@ -5,12 +5,12 @@ use Rattle.std.proofs.Math.Nat.{mul-le-mul_left, pow-suc}
 use Rattle.std.proofs.lemmas.List.{length-append}
 use Rattle.ph_specs.specs.Node.{Entries, end, point, child, flat}
 use Rattle.ph_specs.specs.Digits.{words_for, words_of}
-use Rattle.ph_specs.specs.Lawful.{count}
-use Rattle.ph_specs.specs.Layout.{AreRising}
+use Rattle.ph_specs.specs.TreeRows.{count}
+use Rattle.ph_model.specs.Layout.{AreRising}
 use Rattle.ph_specs.specs.Pack.{is_cube, cube_digits, linear_digits, table, values}
 use Rattle.ph_specs.proofs.laws.Put.{either}
 use Rattle.ph_specs.proofs.lemmas.Numbers.{length-words_of}
-use Rattle.ph_specs.proofs.lemmas.LayoutTables.{children-few, table-digits}
+use Rattle.ph_model.proofs.lemmas.LayoutTables.{children-few, table-digits}
 use Rattle.ph_tree.specs.Rooms.{room_of_entries}
 
 -- ---- the digits of tables

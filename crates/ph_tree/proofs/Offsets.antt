@@ -8,12 +8,12 @@ use Rattle.ph_digits.proofs.Cuts.{take-below, is_body-below}
 use Rattle.ph_specs.specs.Coordinate.{offset, coordinate, fits, is_point}
 use Rattle.ph_specs.specs.ZOrder.{address, address_from}
 use Rattle.ph_specs.specs.Shape.{digits_below}
-use Rattle.ph_specs.specs.Lawful.{IsBody}
-use Rattle.ph_specs.specs.PutTree.{body_address, body_address_from, body_below}
+use Rattle.ph_model.specs.Lawful.{IsBody}
+use Rattle.ph_model.specs.PutTree.{body_address, body_address_from, body_below}
 use Rattle.ph_specs.proofs.laws.Order.{offset_small}
-use Rattle.ph_specs.proofs.lemmas.Joined.{offsets, offsets-coordinate}
-use Rattle.ph_specs.proofs.lemmas.PointDigits.{point-whole}
-use Rattle.ph_specs.proofs.lemmas.Splits.{below-offsets}
+use Rattle.ph_model.proofs.lemmas.Joined.{offsets, offsets-coordinate}
+use Rattle.ph_model.proofs.lemmas.PointDigits.{point-whole}
+use Rattle.ph_model.proofs.lemmas.Splits.{below-offsets}
 use Rattle.ph_node.specs.Bodies.{IsBodyArray}
 use Rattle.ph_node.proofs.Filled.{filled-below, filled-behind}
 use Rattle.ph_tree.specs.Key.{Key, key, IsKey}

@@ -5,13 +5,15 @@ use Rattle.ph_specs.specs.ZOrder.{address}
 use Rattle.ph_specs.specs.Node.{Entries, end, point, child, flat}
 use Rattle.ph_specs.specs.Shape.{digits_below, digits_between}
 use Rattle.ph_specs.specs.Digits.{words_for}
-use Rattle.ph_specs.specs.Lawful.{count, IsLawfulFrom}
-use Rattle.ph_specs.specs.Layout.{AreRising}
-use Rattle.ph_specs.specs.PutTree.{same_digits, split_place, with_point, put_entries}
-use Rattle.ph_specs.proofs.laws.Layouts.{rising}
+use Rattle.ph_specs.specs.TreeRows.{count}
+use Rattle.ph_model.specs.Lawful.{IsLawfulFrom}
+use Rattle.ph_model.specs.Layout.{AreRising}
+use Rattle.ph_specs.specs.DelTree.{same_digits}
+use Rattle.ph_model.specs.PutTree.{split_place, with_point, put_entries}
+use Rattle.ph_model.proofs.laws.Layouts.{rising}
 use Rattle.ph_specs.proofs.laws.Put.{either}
-use Rattle.ph_specs.proofs.lemmas.PointDigits.{IsWhole, address-below}
-use Rattle.ph_specs.proofs.lemmas.Splits.{is-body-between, is-body-below}
+use Rattle.ph_model.proofs.lemmas.PointDigits.{IsWhole, address-below}
+use Rattle.ph_model.proofs.lemmas.Splits.{is-body-between, is-body-below}
 use Rattle.ph_tree.specs.Rooms.{room_of_entries}
 use Rattle.ph_tree.proofs.NodeRooms.{entry_digits, least_digits, least-more, words-sum, room-are}
 

@@ -5,12 +5,13 @@ use Rattle.ph_specs.specs.Coordinate.{is_point}
 use Rattle.ph_specs.specs.ZOrder.{address}
 use Rattle.ph_specs.specs.Node.{Entries, end, point, child, PlainNode}
 use Rattle.ph_specs.specs.Shape.{digits_below, digits_between}
-use Rattle.ph_specs.specs.Lawful.{IsLawful, IsLawfulFrom}
-use Rattle.ph_specs.specs.PutTree.{same_digits, split_place, body_address, body_below, inserted_point, with_point, point_below}
-use Rattle.ph_specs.specs.PutTree.{child_below, put_entries, find_entries, find_tree, put_tree}
+use Rattle.ph_model.specs.Lawful.{IsLawful, IsLawfulFrom}
+use Rattle.ph_specs.specs.DelTree.{same_digits}
+use Rattle.ph_model.specs.PutTree.{split_place, body_address, body_below, inserted_point, with_point, point_below}
+use Rattle.ph_model.specs.PutTree.{child_below, put_entries, find_entries, find_tree, put_tree}
 use Rattle.ph_specs.proofs.laws.Put.{either}
-use Rattle.ph_specs.proofs.laws.PutTree.{lawful-put}
-use Rattle.ph_specs.proofs.lemmas.PointDigits.{IsWhole, point-whole}
+use Rattle.ph_model.proofs.laws.PutTree.{lawful-put}
+use Rattle.ph_model.proofs.lemmas.PointDigits.{IsWhole, point-whole}
 use Rattle.ph_tree.specs.Opened.{opened_below, opened_in}
 use Rattle.ph_tree.proofs.Rooms.{found-past, found-behind, found-below}
 use Rattle.ph_tree.proofs.Walks.{opened-later}

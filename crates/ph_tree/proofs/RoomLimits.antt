@@ -2,12 +2,13 @@
 use Rattle.std.proofs.Common.{◌≡◌, ℕ, ◌+◌, ◌*◌, ◌/◌, ◌^◌, ◌≤◌, List, length, ap, sym, ◌∙◌, arith}
 use Rattle.std.proofs.Math.Nat.{mul-le-mul}
 use Rattle.std.proofs.Math.Pow.{pow_mono}
-use Rattle.ph_specs.specs.Lawful.{IsLawfulFrom, count}
+use Rattle.ph_specs.specs.TreeRows.{count}
+use Rattle.ph_model.specs.Lawful.{IsLawfulFrom}
 use Rattle.ph_specs.specs.Node.{PlainNode, flat}
 use Rattle.ph_specs.specs.Pack.{children, linear_digits, pack}
-use Rattle.ph_specs.proofs.lemmas.LayoutTables.{entries-few}
-use Rattle.ph_specs.proofs.laws.Layouts.{rising}
-use Rattle.ph_specs.proofs.laws.Unpacked.{child_nodes}
+use Rattle.ph_model.proofs.lemmas.LayoutTables.{entries-few}
+use Rattle.ph_model.proofs.laws.Layouts.{rising}
+use Rattle.ph_model.proofs.laws.Unpacked.{child_nodes}
 use Rattle.ph_node.specs.Slots.{nodes_of}
 use Rattle.ph_node.specs.declared.node.SlotOf.{SlotOf}
 use Rattle.ph_tree.specs.Rooms.{room_of_entries}

@@ -6,12 +6,12 @@ use Rattle.ph_specs.specs.ZOrder.{address}
 use Rattle.ph_specs.specs.Node.{Entries, end, point, child, PlainNode}
 use Rattle.ph_specs.specs.Shape.{digits_below, digits_between}
 use Rattle.ph_specs.specs.Pack.{is_cube}
-use Rattle.ph_specs.specs.Lawful.{count, IsLawful, IsLawfulFrom}
-use Rattle.ph_specs.specs.PutTree.{same_digits, split_place, body_address, body_below, with_point, point_below}
-use Rattle.ph_specs.specs.PutTree.{child_below, put_entries, find_entries, find_tree, put_tree}
-use Rattle.ph_specs.specs.DelTree.{del_entries}
+use Rattle.ph_specs.specs.TreeRows.{count}
+use Rattle.ph_model.specs.Lawful.{IsLawful, IsLawfulFrom}
+use Rattle.ph_specs.specs.DelTree.{same_digits, del_entries}
+use Rattle.ph_model.specs.PutTree.{split_place, body_address, body_below, with_point, point_below, child_below, put_entries, find_entries, find_tree, put_tree}
 use Rattle.ph_specs.proofs.laws.Put.{either}
-use Rattle.ph_specs.proofs.lemmas.PointDigits.{IsWhole, point-whole}
+use Rattle.ph_model.proofs.lemmas.PointDigits.{IsWhole, point-whole}
 use Rattle.ph_node.specs.Relaid.{differ, is_relaid}
 use Rattle.ph_tree.specs.Rooms.{room_of_entries, relaid_room, spare_room, wanted_below, left_below, spare_wanted_in, spare_left, spare_left_in, more_words}
 use Rattle.ph_tree.proofs.NodeRooms.{entry-words, one-linear, pair-linear}

@@ -4,8 +4,8 @@ use Rattle.std.specs.Prelude.{ℤ, Option, Result, Ok, Err, IfOk, IsErrOf, IsOk,
 use Rattle.std.specs.declared.alloc.AllocError.{AllocError}
 use Rattle.ph_specs.specs.Table.{find}
 use Rattle.ph_specs.specs.Node.{PlainNode}
-use Rattle.ph_specs.specs.PutTree.{find_tree, put_tree}
-use Rattle.ph_specs.specs.DelTree.{del_tree}
+use Rattle.ph_model.specs.PutTree.{find_tree, put_tree}
+use Rattle.ph_model.specs.DelTree.{del_tree}
 use Rattle.ph_specs.specs.WorkSets.{path}
 use Rattle.ph_table.specs.Rows.{put_answer}
 use Rattle.ph_table.specs.declared.table.Put.{Put}

@@ -6,16 +6,16 @@ use Rattle.ph_specs.specs.Coordinate.{same_point}
 use Rattle.ph_specs.specs.Table.{Row, find, put, del, move, is_rising, is_value, IsTable}
 use Rattle.ph_specs.specs.ZOrder.{before}
 use Rattle.ph_specs.specs.Node.{PlainNode}
-use Rattle.ph_specs.specs.Lawful.{IsLawful, rows}
-use Rattle.ph_specs.specs.PutTree.{find_tree, put_tree}
-use Rattle.ph_specs.specs.DelTree.{del_tree}
-use Rattle.ph_specs.proofs.laws.Put.{either, same_from_test, test_from_same, find-put, list_all_before, put-front}
+use Rattle.ph_specs.specs.TreeRows.{rows}
+use Rattle.ph_model.specs.Lawful.{IsLawful}
+use Rattle.ph_model.specs.PutTree.{find_tree, put_tree}
+use Rattle.ph_model.specs.DelTree.{del_tree}
+use Rattle.ph_specs.proofs.laws.Put.{either, same_from_test, test_from_same, find-put, list_all_before, put-front, not_same}
 use Rattle.ph_specs.proofs.laws.Edits.{length-put}
-use Rattle.ph_specs.proofs.laws.FindTree.{not_same}
-use Rattle.ph_specs.proofs.laws.PutTree.{lawful-put_tree, rows-put_tree}
+use Rattle.ph_model.proofs.laws.PutTree.{lawful-put_tree, rows-put_tree}
 use Rattle.ph_specs.proofs.laws.Del.{found-value}
-use Rattle.ph_specs.proofs.laws.DelTree.{lawful-del_tree, rows-del_tree, move-none, move-steps, move-taken}
-use Rattle.ph_specs.proofs.laws.LawfulRows.{rows-table}
+use Rattle.ph_model.proofs.laws.DelTree.{lawful-del_tree, rows-del_tree, move-none, move-steps, move-taken}
+use Rattle.ph_model.proofs.laws.LawfulRows.{rows-table}
 use Rattle.ph_tree.specs.Opened.{opened_in}
 use Rattle.ph_tree.specs.Key.{Key}
 use Rattle.ph_tree.specs.Tree.{TreeTable, tree_table, IsTree}

@@ -5,14 +5,15 @@ use Rattle.std.specs.List.{flat_map, sum_by, count_by}
 use Rattle.std.proofs.lemmas.List.{take_more, append-nil}
 use Rattle.std.proofs.lemmas.List.Concat.{flat_map-append}
 use Rattle.std.proofs.lemmas.List.Sums.{sum_by-append}
-use Rattle.ph_specs.specs.Lawful.{IsLawful, IsLawfulFrom, put_together, rows, rows_behind, count}
+use Rattle.ph_specs.specs.TreeRows.{put_together, rows, rows_behind, count}
+use Rattle.ph_model.specs.Lawful.{IsLawful, IsLawfulFrom}
 use Rattle.ph_specs.specs.Node.{Entries, end, point, child, PlainNode, nodes, nodes_below}
 use Rattle.ph_specs.specs.Pack.{pack}
 use Rattle.ph_specs.specs.Shape.{shape}
 use Rattle.ph_specs.specs.Stats.{stats}
 use Rattle.ph_specs.specs.Table.{Row, IsTable}
-use Rattle.ph_specs.proofs.laws.TableShape.{table-shape}
-use Rattle.ph_specs.proofs.laws.Unpacked.{child_nodes}
+use Rattle.ph_model.proofs.laws.TableShape.{table-shape}
+use Rattle.ph_model.proofs.laws.Unpacked.{child_nodes}
 use Rattle.ph_node.specs.Slots.{nodes_of}
 use Rattle.ph_node.specs.declared.node.SlotOf.{SlotOf}
 use Rattle.ph_tree.specs.declared.stats.Counts.{Counts}

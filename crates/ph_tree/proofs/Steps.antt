@@ -9,18 +9,20 @@ use Rattle.std.proofs.lemmas.Bool.{cases_lt}
 use Rattle.ph_digits.proofs.Cuts.{none_from}
 use Rattle.ph_specs.specs.Coordinate.{offset}
 use Rattle.ph_specs.specs.ZOrder.{address}
-use Rattle.ph_specs.specs.Node.{Entries, end, point, child, Entry, What, value, node, PlainNode, entries, listed, node_of}
+use Rattle.ph_specs.specs.Node.{Entries, end, point, child, PlainNode}
+use Rattle.ph_model.specs.EntryList.{Entry, What, value, node, entries, listed, node_of}
 use Rattle.ph_specs.specs.Shape.{digits_below, digits_between}
-use Rattle.ph_specs.specs.Lawful.{IsBody, HasZerosFrom, IsLawfulFrom}
-use Rattle.ph_specs.specs.PutTree.{same_digits, digits_from, split_place, body_address, body_below, body_above, put_node}
-use Rattle.ph_specs.specs.EntryEdits.{has_address, point_entry, inserted, holding, with_what, with_child, what_at, split_at}
-use Rattle.ph_specs.proofs.lemmas.PointDigits.{same_digits-true, same_digits-false}
-use Rattle.ph_specs.proofs.lemmas.Joined.{same_from}
-use Rattle.ph_specs.proofs.lemmas.Splits.{below-offsets}
-use Rattle.ph_specs.proofs.laws.EntryLists.{node_of-entries}
-use Rattle.ph_specs.proofs.laws.EntryEdits as laws
-use Rattle.ph_specs.proofs.laws.DelEntries.{IsLawfulChild, lawful-child}
-use Rattle.ph_specs.proofs.laws.SplitPlace.{split_place-has, split_place-whole, address-of-body, below-of-body}
+use Rattle.ph_model.specs.Lawful.{IsBody, HasZerosFrom, IsLawfulFrom}
+use Rattle.ph_specs.specs.DelTree.{same_digits}
+use Rattle.ph_model.specs.PutTree.{digits_from, split_place, body_address, body_below, body_above, put_node}
+use Rattle.ph_model.specs.EntryEdits.{has_address, point_entry, inserted, holding, with_what, with_child, what_at, split_at}
+use Rattle.ph_model.proofs.lemmas.PointDigits.{same_digits-true, same_digits-false}
+use Rattle.ph_model.proofs.lemmas.Joined.{same_from}
+use Rattle.ph_model.proofs.lemmas.Splits.{below-offsets}
+use Rattle.ph_model.proofs.laws.EntryLists.{node_of-entries}
+use Rattle.ph_model.proofs.laws.EntryEdits as laws
+use Rattle.ph_model.proofs.laws.DelEntries.{IsLawfulChild, lawful-child}
+use Rattle.ph_model.proofs.laws.SplitPlace.{split_place-has, split_place-whole, address-of-body, below-of-body}
 use Rattle.ph_node.specs.Merge.{addr_at}
 use Rattle.ph_node.specs.Split.{IsBelow, body_at, entry_below, part_place, split_node}
 use Rattle.ph_node.specs.Spots.{IsSpot}

@@ -8,15 +8,16 @@ use Rattle.ph_specs.specs.Coordinate.{is_point}
 use Rattle.ph_specs.specs.Table.{Row, find, put, is_rising, IsTable}
 use Rattle.ph_specs.specs.Node.{PlainNode}
 use Rattle.ph_specs.specs.Shape.{shape}
-use Rattle.ph_specs.specs.Lawful.{IsLawful, rows}
-use Rattle.ph_specs.specs.PutTree.{find_tree, put_tree}
+use Rattle.ph_specs.specs.TreeRows.{rows}
+use Rattle.ph_model.specs.Lawful.{IsLawful}
+use Rattle.ph_model.specs.PutTree.{find_tree, put_tree}
 use Rattle.ph_specs.specs.WorkSets.{path}
 use Rattle.ph_specs.proofs.laws.Edits.{length-put, length-put_old}
-use Rattle.ph_specs.proofs.laws.FindTree.{find-tree}
-use Rattle.ph_specs.proofs.laws.PutTree.{lawful-put_tree, rows-put_tree}
-use Rattle.ph_specs.proofs.laws.Paths.{path-few}
-use Rattle.ph_specs.proofs.laws.Unique.{shape-rows}
-use Rattle.ph_specs.proofs.laws.LawfulRows.{rows-table}
+use Rattle.ph_model.proofs.laws.FindTree.{find-tree}
+use Rattle.ph_model.proofs.laws.PutTree.{lawful-put_tree, rows-put_tree}
+use Rattle.ph_model.proofs.laws.Paths.{path-few}
+use Rattle.ph_model.proofs.laws.Unique.{shape-rows}
+use Rattle.ph_model.proofs.laws.LawfulRows.{rows-table}
 use Rattle.ph_table.specs.declared.table.Put.TheVariants.{New, Old}
 use Rattle.ph_table.specs.Rows.{put_answer}
 use Rattle.ph_tree.specs.Opened.{opened_in}

@@ -3,14 +3,17 @@ use Rattle.std.proofs.Common.{◌≡◌, ◌≢◌, ℕ, zero, suc, ◌+◌, ◌
 use Rattle.std.proofs.Common.{arith, ap, sym, ◌∙◌, subst, inl, inr, ne_eqb, eq-eqb, add-zero, zero-add}
 use Rattle.std.specs.Prelude.{Result, Ok, Err, IfOk, IsErrOf, OnOk, OnErr, IsSome, ℤ, Some, None, Option, slice_get, unwrap_or}
 use Rattle.ph_specs.specs.ZOrder.{address}
-use Rattle.ph_specs.specs.Node.{Entries, end, point, child, Entry, What, value, node, PlainNode, entries, listed, node_of}
+use Rattle.ph_specs.specs.Node.{Entries, end, point, child, PlainNode}
+use Rattle.ph_model.specs.EntryList.{Entry, What, value, node, entries, listed, node_of}
 use Rattle.ph_specs.specs.Shape.{digits_below, digits_between}
-use Rattle.ph_specs.specs.Lawful.{IsLawfulFrom, count}
-use Rattle.ph_specs.specs.PutTree.{same_digits, find_node, put_node}
-use Rattle.ph_specs.specs.EntryEdits.{point_entry, with_what, with_child, what_at}
+use Rattle.ph_specs.specs.TreeRows.{count}
+use Rattle.ph_model.specs.Lawful.{IsLawfulFrom}
+use Rattle.ph_specs.specs.DelTree.{same_digits}
+use Rattle.ph_model.specs.PutTree.{find_node, put_node}
+use Rattle.ph_model.specs.EntryEdits.{point_entry, with_what, with_child, what_at}
 use Rattle.ph_specs.proofs.laws.Put.{either}
-use Rattle.ph_specs.proofs.lemmas.PointDigits.{same_digits-true, same_digits-refl}
-use Rattle.ph_specs.proofs.laws.EntryEdits as laws
+use Rattle.ph_model.proofs.lemmas.PointDigits.{same_digits-true, same_digits-refl}
+use Rattle.ph_model.proofs.laws.EntryEdits as laws
 use Rattle.ph_node.specs.OneEdit.{before}
 use Rattle.ph_node.specs.Shown.{shown}
 use Rattle.ph_node.specs.Split.{IsNode, IsValue}

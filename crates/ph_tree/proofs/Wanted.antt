@@ -2,13 +2,15 @@
 use Rattle.std.proofs.Common.{length, ◌≡◌, ◌≢◌, ℕ, zero, suc, ◌+◌, ◌≤◌, List, cond, refl, arith, ap, sym, ◌∙◌, subst, ne_eqb, eq-eqb}
 use Rattle.std.specs.Prelude.{◌==◌, ℤ, Option, Some, slice_get, unwrap_or}
 use Rattle.ph_specs.specs.ZOrder.{address}
-use Rattle.ph_specs.specs.Node.{Entries, end, point, child, Entry, What, value, node, PlainNode, entries, listed}
+use Rattle.ph_specs.specs.Node.{Entries, end, point, child, PlainNode}
+use Rattle.ph_model.specs.EntryList.{Entry, What, value, node, entries, listed}
 use Rattle.ph_specs.specs.Shape.{digits_below, digits_between}
-use Rattle.ph_specs.specs.Lawful.{IsLawfulFrom, count}
-use Rattle.ph_specs.specs.PutTree.{same_digits}
-use Rattle.ph_specs.specs.DelTree.{del_entries, del_node}
-use Rattle.ph_specs.specs.EntryEdits.{point_entry}
-use Rattle.ph_specs.proofs.lemmas.PointDigits.{same_digits-refl}
+use Rattle.ph_specs.specs.TreeRows.{count}
+use Rattle.ph_model.specs.Lawful.{IsLawfulFrom}
+use Rattle.ph_specs.specs.DelTree.{same_digits, del_entries}
+use Rattle.ph_model.specs.DelTree.{del_node}
+use Rattle.ph_model.specs.EntryEdits.{point_entry}
+use Rattle.ph_model.proofs.lemmas.PointDigits.{same_digits-refl}
 use Rattle.ph_node.specs.Shown.{shown}
 use Rattle.ph_node.specs.declared.reads.NodeRefOf.{NodeRefOf}
 use Rattle.ph_node.specs.declared.spots.Spot.{Spot}

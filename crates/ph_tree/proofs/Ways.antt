@@ -7,20 +7,21 @@ use Rattle.ph_specs.specs.Coordinate.{coordinate, is_point}
 use Rattle.ph_specs.specs.ZOrder.{address}
 use Rattle.ph_specs.specs.Node.{Entries, end, point, child, PlainNode}
 use Rattle.ph_specs.specs.Shape.{digits_between}
-use Rattle.ph_specs.specs.Lawful.{put_together, IsBody, HasZerosFrom, IsLawful, IsLawfulFrom, rows}
-use Rattle.ph_specs.specs.PutTree.{same_digits}
+use Rattle.ph_specs.specs.TreeRows.{put_together, rows}
+use Rattle.ph_model.specs.Lawful.{IsBody, HasZerosFrom, IsLawful, IsLawfulFrom}
+use Rattle.ph_specs.specs.DelTree.{same_digits}
 use Rattle.ph_specs.specs.WorkSets.{placed, placed_below, path}
-use Rattle.ph_specs.proofs.lemmas.Assembled.{cleared}
-use Rattle.ph_specs.proofs.lemmas.Grouped.{same_place}
-use Rattle.ph_specs.proofs.lemmas.Joined.{offsets, from_place, number_at, same_number, IsAbove, from_place-put_together, below-put_together, above-child}
-use Rattle.ph_specs.proofs.lemmas.PointDigits.{IsWhole, point-whole, none-known, zeros-cleared, above-point}
-use Rattle.ph_specs.proofs.lemmas.PointDigits.{address-is, known-between, same_digits-true, same_digits-false}
-use Rattle.ph_specs.proofs.lemmas.RowsBehind.{address-put_together}
-use Rattle.ph_specs.proofs.lemmas.Shaped.{between-between, body-between}
-use Rattle.ph_specs.proofs.lemmas.Splits.{zeros-same, from-cleared}
-use Rattle.ph_specs.proofs.laws.Paths.{holds, many, many-append, many-held, many-other, placed_child, held, holding, none-below}
+use Rattle.ph_model.proofs.lemmas.Assembled.{cleared}
+use Rattle.ph_model.proofs.lemmas.Grouped.{same_place}
+use Rattle.ph_model.proofs.lemmas.Joined.{offsets, from_place, number_at, same_number, IsAbove, from_place-put_together, below-put_together, above-child}
+use Rattle.ph_model.proofs.lemmas.PointDigits.{IsWhole, point-whole, none-known, zeros-cleared, above-point}
+use Rattle.ph_model.proofs.lemmas.PointDigits.{address-is, known-between, same_digits-true, same_digits-false}
+use Rattle.ph_model.proofs.lemmas.RowsBehind.{address-put_together}
+use Rattle.ph_model.proofs.lemmas.Shaped.{between-between, body-between}
+use Rattle.ph_model.proofs.lemmas.Splits.{zeros-same, from-cleared}
+use Rattle.ph_model.proofs.laws.Paths.{holds, many, many-append, many-held, many-other, placed_child, held, holding, none-below}
 use Rattle.ph_specs.proofs.laws.Put.{either}
-use Rattle.ph_specs.proofs.laws.Unique.{shape-rows}
+use Rattle.ph_model.proofs.laws.Unique.{shape-rows}
 use Rattle.ph_tree.specs.Opened.{opened_below, opened_in}
 
 -- ---- a child at the point's address, and one elsewhere

@@ -3,7 +3,7 @@ use Rattle.std.specs.Prelude.{ℕ, ◌+◌, ◌==◌, if◌then◌else◌, List,
 use Rattle.ph_specs.specs.ZOrder.{address}
 use Rattle.ph_specs.specs.Node.{Entries, end, point, child, PlainNode}
 use Rattle.ph_specs.specs.Shape.{digits_between}
-use Rattle.ph_specs.specs.PutTree.{same_digits}
+use Rattle.ph_specs.specs.DelTree.{same_digits}
 
 -- how many nodes below entries at a level: a child at the point's address, and where the point shares its digits those below it
 abbrev pub opened_below : ℕ → ℕ → Entries → List ℤ → ℕ

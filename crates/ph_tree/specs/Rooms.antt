@@ -4,10 +4,9 @@ use Rattle.ph_specs.specs.Digits.{words_for}
 use Rattle.ph_specs.specs.ZOrder.{address}
 use Rattle.ph_specs.specs.Node.{Entries, end, point, child, PlainNode, flat}
 use Rattle.ph_specs.specs.Shape.{digits_below, digits_between}
-use Rattle.ph_specs.specs.Lawful.{count}
+use Rattle.ph_specs.specs.TreeRows.{count}
 use Rattle.ph_specs.specs.Pack.{children, is_cube, record_of}
-use Rattle.ph_specs.specs.PutTree.{same_digits}
-use Rattle.ph_specs.specs.DelTree.{del_entries}
+use Rattle.ph_specs.specs.DelTree.{same_digits, del_entries}
 use Rattle.ph_node.specs.Relaid.{differ, is_relaid}
 
 -- the words of the record of entries at a level, and a word for each child

@@ -1,9 +1,10 @@
 -- What one node says of a point.
 use Rattle.std.specs.Prelude.{◌≡◌, ℕ, List, ℤ, position, slice_get, None, Some}
 use Rattle.ph_specs.specs.ZOrder.{address}
-use Rattle.ph_specs.specs.Node.{Entry, What, value, node, PlainNode, entries}
+use Rattle.ph_specs.specs.Node.{PlainNode}
+use Rattle.ph_model.specs.EntryList.{Entry, What, value, node, entries}
 use Rattle.ph_specs.specs.Shape.{digits_below, digits_between}
-use Rattle.ph_specs.specs.EntryEdits.{has_address}
+use Rattle.ph_model.specs.EntryEdits.{has_address}
 use Rattle.ph_node.specs.OneEdit.{before}
 use Rattle.ph_node.specs.Places.{place_for}
 use Rattle.ph_node.specs.Shown.{shown}

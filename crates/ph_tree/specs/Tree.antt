@@ -2,7 +2,8 @@
 use Rattle.std.specs.Prelude.{◌≡◌, ℕ, ◌≤◌, List, length, ℤ, Option}
 use Rattle.ph_specs.specs.Table.{Row, put, del}
 use Rattle.ph_specs.specs.Node.{PlainNode}
-use Rattle.ph_specs.specs.Lawful.{IsLawful, rows}
+use Rattle.ph_specs.specs.TreeRows.{rows}
+use Rattle.ph_model.specs.Lawful.{IsLawful}
 
 -- a table, its width, and how many rows it may have
 pub record TreeTable : Type 0 where

@@ -1,7 +1,8 @@
 //! Whether nodes are the same.
 
 ghost use Rattle.std.specs.Prelude.{◌≡◌, ◌+◌, ◌≤◌, ◌↔◌, Some, length, IsTrue};
-ghost use Rattle.ph_specs.specs.TreeNames.{IsLawfulFrom, nodes};
+ghost use Rattle.ph_specs.specs.TreeNames.{nodes};
+ghost use Rattle.ph_model.specs.ModelNames.{IsLawfulFrom};
 
 use ph_coord::Dims;
 use ph_node::NodeOf;

@@ -1,7 +1,7 @@
 //! Looking for a point below a node.
 
 ghost use Rattle.std.specs.Prelude.{◌≡◌, ◌+◌, ◌^◌, ◌<◌, ◌≤◌, None, Some, IfSome, MatchOption};
-ghost use Rattle.ph_specs.specs.TreeNames.{IsLawful, IsLawfulFrom, find_node, find_tree};
+ghost use Rattle.ph_model.specs.ModelNames.{IsLawful, IsLawfulFrom, find_node, find_tree};
 ghost use Rattle.ph_node.specs.Shown.{shown};
 ghost use Rattle.ph_tree.specs.Opened.{opened_below, opened_in};
 ghost use Rattle.ph_tree.specs.Rooms.{spare_left, spare_left_in};

@@ -2,7 +2,7 @@
 
 ghost use Rattle.std.specs.Prelude.{◌≡◌, ◌+◌, ◌-◌, ◌*◌, ◌^◌, ◌<◌, ◌≤◌, Some};
 ghost use Rattle.ph_specs.specs.TableNames.{IsPoint};
-ghost use Rattle.ph_specs.specs.TreeNames.{IsLawful, find_tree, put_tree, del_tree};
+ghost use Rattle.ph_model.specs.ModelNames.{IsLawful, find_tree, put_tree, del_tree};
 ghost use Rattle.ph_tree.specs.Moves.{IsMoveOf};
 ghost use Rattle.ph_tree.specs.Opened.{opened_in};
 ghost use Rattle.ph_tree.specs.Rooms.{spare_left_in};

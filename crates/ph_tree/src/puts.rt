@@ -2,7 +2,8 @@
 
 ghost use Rattle.std.specs.Prelude.{◌≡◌, ◌+◌, ◌-◌, ◌*◌, ◌^◌, ◌<◌, ◌≤◌, None, Some, position, IfOk};
 ghost use Rattle.ph_specs.specs.TableNames.{address};
-ghost use Rattle.ph_specs.specs.TreeNames.{entries, node_of, value, IsLawful, IsLawfulFrom, find_node, find_tree, put_node, put_tree, has_address, what_at, with_what};
+ghost use Rattle.ph_model.specs.ModelNames.{entries, node_of, value, IsLawful, IsLawfulFrom, find_node, find_tree, put_node, put_tree, has_address, what_at};
+ghost use Rattle.ph_model.specs.ModelNames.{with_what};
 ghost use Rattle.ph_node.specs.Places.{place_for};
 ghost use Rattle.ph_node.specs.Split.{IsValue};
 ghost use Rattle.ph_node.specs.Spots.{IsSpot};

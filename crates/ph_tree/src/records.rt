@@ -1,7 +1,7 @@
 //! How much room a node takes.
 
 ghost use Rattle.std.specs.Prelude.{◌≡◌, ◌+◌, ◌^◌, ◌≤◌};
-ghost use Rattle.ph_specs.specs.TreeNames.{IsLawfulFrom};
+ghost use Rattle.ph_model.specs.ModelNames.{IsLawfulFrom};
 ghost use Rattle.ph_node.specs.Shown.{shown};
 ghost use Rattle.ph_tree.specs.Rooms.{room_of_entries, relaid_room};
 

@@ -1,7 +1,7 @@
 //! Taking a point out, below a node and out of a tree.
 
 ghost use Rattle.std.specs.Prelude.{◌≡◌, ◌+◌, ◌-◌, ◌*◌, ◌^◌, ◌<◌, ◌≤◌, None, Some, length, MatchOption, IfOk, OnOk, OnErr, IsOk, IsSome};
-ghost use Rattle.ph_specs.specs.TreeNames.{node_of, entries, what_at, without, IsLawful, IsLawfulFrom, find_node, find_tree, del_node, del_tree};
+ghost use Rattle.ph_model.specs.ModelNames.{node_of, entries, what_at, without, IsLawful, IsLawfulFrom, find_node, find_tree, del_node, del_tree};
 ghost use Rattle.ph_bits.specs.Block.{empty, room_of};
 ghost use Rattle.ph_node.specs.Merge.{IsPair, entries_held, merge_node};
 ghost use Rattle.ph_node.specs.Split.{IsValue, body_at};

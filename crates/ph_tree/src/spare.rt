@@ -1,7 +1,8 @@
 //! A block that an edit takes before its first change, for a change behind it.
 
 ghost use Rattle.std.specs.Prelude.{◌≡◌, ◌+◌, ◌^◌, ◌<◌, ◌≤◌, None, Some, IsTrue};
-ghost use Rattle.ph_specs.specs.TreeNames.{IsLawfulFrom, count};
+ghost use Rattle.ph_specs.specs.TreeNames.{count};
+ghost use Rattle.ph_model.specs.ModelNames.{IsLawfulFrom};
 ghost use Rattle.ph_specs.specs.RecordNames.{is_cube};
 ghost use Rattle.ph_bits.specs.Block.{empty};
 ghost use Rattle.ph_node.specs.Shown.{shown};

@@ -2,7 +2,8 @@
 
 ghost use Rattle.std.specs.Prelude.{◌≡◌, ◌<◌, ◌-◌, ◌≤◌, map};
 ghost use Rattle.ph_specs.specs.TableNames.{offset};
-ghost use Rattle.ph_specs.specs.TreeNames.{HasZerosFrom, IsBody, IsLawfulFrom, entries, body_above, body_below, same_digits};
+ghost use Rattle.ph_specs.specs.TreeNames.{same_digits};
+ghost use Rattle.ph_model.specs.ModelNames.{HasZerosFrom, IsBody, IsLawfulFrom, entries, body_above, body_below};
 ghost use Rattle.ph_node.specs.Shown.{shown};
 ghost use Rattle.ph_node.specs.Split.{body_at};
 ghost use Rattle.ph_node.specs.Spots.{IsSpot};

@@ -3,7 +3,8 @@
 ghost use Rattle.std.specs.Prelude.{◌≡◌, ◌≢◌, ◌+◌, ◌-◌, ◌*◌, ◌^◌, ◌<◌, ◌≤◌, ◌↔◌, [], length, None, IsTrue, false};
 ghost use Rattle.std.specs.Option.{option_copied};
 ghost use Rattle.ph_specs.specs.TableNames.{IsPoint, IsTable, find};
-ghost use Rattle.ph_specs.specs.TreeNames.{IsLawful, rows, shape};
+ghost use Rattle.ph_specs.specs.TreeNames.{rows, shape};
+ghost use Rattle.ph_model.specs.ModelNames.{IsLawful};
 ghost use Rattle.ph_specs.specs.WorkNames.{all_nodes, path};
 ghost use Rattle.ph_tree.specs.Tree.{with_row, without_row};
 ghost use Rattle.ph_tree.specs.Puts.{IsPutRow};

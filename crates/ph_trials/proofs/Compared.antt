@@ -7,11 +7,12 @@ use Rattle.std.proofs.lemmas.List.{take_more_same}
 use Rattle.std.proofs.lemmas.Option.{get_or_from_slice_get, slice_get-get_or}
 use Rattle.std.proofs.lemmas.Bool.Decides.{Decides-eqb}
 use denote.Ref.{Bor}
-use Rattle.ph_specs.specs.Node.{Entry, What, value, node, PlainNode, entries, node_of}
-use Rattle.ph_specs.specs.Lawful.{IsLawfulFrom, IsLawfulEntry, IsLawfulWhat}
-use Rattle.ph_specs.specs.PutTree.{same_digits}
-use Rattle.ph_specs.proofs.lemmas.PointDigits.{same_digits-true}
-use Rattle.ph_specs.proofs.laws.EntryLists.{node_of-entries, entries-lawful}
+use Rattle.ph_specs.specs.Node.{PlainNode}
+use Rattle.ph_model.specs.EntryList.{Entry, What, value, node, entries, node_of}
+use Rattle.ph_model.specs.Lawful.{IsLawfulFrom, IsLawfulEntry, IsLawfulWhat}
+use Rattle.ph_specs.specs.DelTree.{same_digits}
+use Rattle.ph_model.proofs.lemmas.PointDigits.{same_digits-true}
+use Rattle.ph_model.proofs.laws.EntryLists.{node_of-entries, entries-lawful}
 use Rattle.ph_specs.proofs.laws.Ranked.{take-all}
 use Rattle.ph_shape.specs.Bodies.{filled}
 use Rattle.ph_shape.specs.Shown.{IsValue, IsChild}

@@ -7,11 +7,12 @@ use Rattle.std.proofs.lemmas.List.{length-map}
 use Rattle.std.proofs.Math.Nat.{mul-le-mul_left, pow-le-pow_right}
 use denote.Ref.{Bor}
 use Rattle.ph_specs.specs.Digits.{words_for}
-use Rattle.ph_specs.specs.Node.{Entry, What, value, node, PlainNode, entries, Flat}
-use Rattle.ph_specs.specs.Layout.{AreRising, unvalued}
+use Rattle.ph_specs.specs.Node.{PlainNode, Flat}
+use Rattle.ph_model.specs.EntryList.{Entry, What, value, node, entries}
+use Rattle.ph_model.specs.Layout.{AreRising, unvalued}
 use Rattle.ph_specs.specs.Pack.{linear_digits, cube_digits, values}
 use Rattle.ph_specs.specs.Record.{read}
-use Rattle.ph_specs.proofs.lemmas.LayoutTables.{entries-few, children-few}
+use Rattle.ph_model.proofs.lemmas.LayoutTables.{entries-few, children-few}
 use Rattle.ph_node.specs.Kept.{AreKept, IsNodeOf}
 use Rattle.ph_node.specs.Shown.{entry_of, what_of}
 use Rattle.ph_node.specs.declared.reads.EntryOf.{EntryOf}

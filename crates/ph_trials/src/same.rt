@@ -2,7 +2,8 @@
 
 ghost use Rattle.std.specs.Prelude.{◌≡◌, ◌<◌, ◌≤◌, ◌↔◌, length, slice_get, IsTrue, IfOk, IfSome};
 ghost use Rattle.std.specs.Option.{option_copied};
-ghost use Rattle.ph_specs.specs.TreeNames.{IsLawfulFrom, entries, shape};
+ghost use Rattle.ph_specs.specs.TreeNames.{shape};
+ghost use Rattle.ph_model.specs.ModelNames.{IsLawfulFrom, entries};
 ghost use Rattle.ph_specs.specs.TableNames.{IsTable};
 ghost use Rattle.ph_node.specs.Shown.{entry_of};
 

@@ -6,18 +6,21 @@ use Rattle.std.proofs.lemmas.List.{length-replicate}
 use Rattle.std.specs.List.{AllByRecursion as Each}
 use Rattle.std.proofs.lemmas.List.Elements.{filter-append}
 use Rattle.ph_specs.specs.Coordinate.{IsPoint, coordinate, is_point}
-use Rattle.ph_specs.specs.Lawful.{put_together, rows, rows_behind, IsAbove, IsLawful, IsLawfulEntry, IsLawfulFrom, IsLawfulWhat}
-use Rattle.ph_specs.specs.Node.{Entries, end, point, child, What, value, node, Entry, PlainNode, chained, in_front}
+use Rattle.ph_specs.specs.TreeRows.{put_together, rows, rows_behind}
+use Rattle.ph_model.specs.Lawful.{IsAbove, IsLawful, IsLawfulEntry, IsLawfulFrom, IsLawfulWhat}
+use Rattle.ph_specs.specs.Node.{Entries, end, point, child, PlainNode}
+use Rattle.ph_model.specs.EntryList.{What, value, node, Entry, chained, in_front}
 use Rattle.ph_specs.specs.Region.{Region, is_in}
 use Rattle.ph_specs.specs.Table.{Row, row}
-use Rattle.ph_specs.specs.WindowWalk.{node_region}
+use Rattle.ph_model.specs.WindowWalk.{node_region}
 use Rattle.ph_specs.specs.WorkSets.{Placed, placed, placed_below}
-use Rattle.ph_specs.proofs.lemmas.Bounds.{small, small-point, same-in, in-same}
-use Rattle.ph_specs.proofs.lemmas.Joined.{offsets, from_place, offsets-coordinate, same_from, from_place-put_together, above-child}
-use Rattle.ph_specs.proofs.lemmas.RowsBehind.{Each-append, Each-each, IsUnder, rows-under}
-use Rattle.ph_specs.proofs.laws.LawfulRows.{rows-points, both-each, put_together-small}
-use Rattle.ph_specs.proofs.laws.Unique.{zeros_known}
-use Rattle.ph_specs.proofs.laws.WindowWalk.{none-pass, refuted}
+use Rattle.ph_model.proofs.lemmas.Bounds.{small, small-point, same-in, in-same}
+use Rattle.ph_model.proofs.lemmas.Joined.{offsets, from_place, offsets-coordinate, same_from, from_place-put_together, above-child}
+use Rattle.ph_specs.proofs.lemmas.Members.{Each-each}
+use Rattle.ph_model.proofs.lemmas.RowsBehind.{Each-append, IsUnder, rows-under}
+use Rattle.ph_model.proofs.laws.LawfulRows.{rows-points, both-each, put_together-small}
+use Rattle.ph_model.proofs.laws.Unique.{zeros_known}
+use Rattle.ph_model.proofs.laws.WindowWalk.{none-pass, refuted}
 use Rattle.ph_path.specs.Known.{point_at}
 use Rattle.ph_path.specs.Path.{entry_steps}
 use Rattle.ph_path.proofs.Knowns.{zeros-body}

@@ -2,10 +2,12 @@
 use Rattle.std.proofs.Common.{◌≡◌, ℕ, suc, ◌+◌, ◌-◌, ◌<◌, ◌≤◌, List, [], ◌∷◌, ◌++◌, length, replicate, refl}
 use Rattle.std.proofs.Common.{sym, ◌∙◌, ap, subst, arith, cond, Bool, true, false, append-nil}
 use Rattle.std.specs.Prelude.{ℤ, Option, Some, None, IfSome, slice_get}
-use Rattle.ph_specs.specs.Lawful.{HasZerosFrom, IsBody, IsLawful, put_together}
-use Rattle.ph_specs.specs.Node.{value, node, Entry, PlainNode, entries}
-use Rattle.ph_specs.specs.PutTree.{body_above}
-use Rattle.ph_specs.specs.WindowWalk.{node_region}
+use Rattle.ph_specs.specs.TreeRows.{put_together}
+use Rattle.ph_model.specs.Lawful.{HasZerosFrom, IsBody, IsLawful}
+use Rattle.ph_specs.specs.Node.{PlainNode}
+use Rattle.ph_model.specs.EntryList.{value, node, Entry, entries}
+use Rattle.ph_model.specs.PutTree.{body_above}
+use Rattle.ph_model.specs.WindowWalk.{node_region}
 use Rattle.ph_specs.specs.WorkSets.{Placed}
 use Rattle.ph_specs.specs.Table.{row}
 use Rattle.ph_node.specs.Shown.{shown}

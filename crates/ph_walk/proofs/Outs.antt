@@ -2,8 +2,8 @@
 use Rattle.std.proofs.Common.{◌≡◌, ℕ, ◌+◌, List, sym, ◌∙◌, subst, arith, inl, inr}
 use Rattle.std.specs.Prelude.{Option, Some, slice_get}
 use Rattle.std.proofs.lemmas.Bool.{cases_lt}
-use Rattle.ph_specs.specs.Lawful.{put_together}
-use Rattle.ph_specs.specs.Node.{Entry}
+use Rattle.ph_specs.specs.TreeRows.{put_together}
+use Rattle.ph_model.specs.EntryList.{Entry}
 use Rattle.ph_walk.specs.Area.{Area, HoldsNone, AreOut}
 
 -- the entry at a place

@@ -5,13 +5,15 @@ use Rattle.std.specs.Prelude.{Option, Some, None, slice_get}
 use Rattle.std.proofs.Math.ListN.{drop_of_length-le}
 use Rattle.std.proofs.Math.Seq.{drop-length}
 use Rattle.std.proofs.lemmas.Bool.{cases_lt}
-use Rattle.ph_specs.specs.Lawful.{put_together, IsAbove, IsLawfulEntry, IsLawfulFrom, IsLawfulWhat}
-use Rattle.ph_specs.specs.Node.{Entries, value, node, Entry, PlainNode, chained, in_front, entries}
-use Rattle.ph_specs.specs.PutTree.{body_above}
+use Rattle.ph_specs.specs.TreeRows.{put_together}
+use Rattle.ph_model.specs.Lawful.{IsAbove, IsLawfulEntry, IsLawfulFrom, IsLawfulWhat}
+use Rattle.ph_specs.specs.Node.{Entries, PlainNode}
+use Rattle.ph_model.specs.EntryList.{value, node, Entry, chained, in_front, entries}
+use Rattle.ph_model.specs.PutTree.{body_above}
 use Rattle.ph_specs.specs.Table.{Row, row}
-use Rattle.ph_specs.specs.WindowWalk.{node_region}
-use Rattle.ph_specs.proofs.laws.EntryLists.{chained-listed, entry-lawful}
-use Rattle.ph_specs.proofs.lemmas.Bounds.{small, lows-small}
+use Rattle.ph_model.specs.WindowWalk.{node_region}
+use Rattle.ph_model.proofs.laws.EntryLists.{chained-listed, entry-lawful}
+use Rattle.ph_model.proofs.lemmas.Bounds.{small, lows-small}
 use Rattle.ph_digits.proofs.Joins.{above-long}
 use Rattle.ph_node.specs.Shown.{shown}
 use Rattle.ph_node.specs.declared.reads.NodeRefOf.{NodeRefOf}

@@ -1,12 +1,13 @@
 -- A set of points, and which entries of a node matter for it.
 use Rattle.std.specs.Prelude.{◌≡◌, ◌↔◌, ℕ, ◌+◌, ◌-◌, ◌^◌, ◌<◌, ◌≤◌, List, ℤ, Bool, true, false, Option, Some, slice_get, filter, length, replicate, MatchOption, IfSome}
 use Rattle.ph_specs.specs.Coordinate.{IsPoint}
-use Rattle.ph_specs.specs.Lawful.{rows_behind, put_together}
-use Rattle.ph_specs.specs.Node.{Entries, What, value, node, Entry, PlainNode, entries}
-use Rattle.ph_specs.specs.PutTree.{body_above}
+use Rattle.ph_specs.specs.TreeRows.{rows_behind, put_together}
+use Rattle.ph_specs.specs.Node.{Entries, PlainNode}
+use Rattle.ph_model.specs.EntryList.{What, value, node, Entry, entries}
+use Rattle.ph_model.specs.PutTree.{body_above}
 use Rattle.ph_specs.specs.Region.{Region, is_in}
 use Rattle.ph_specs.specs.Table.{Row}
-use Rattle.ph_specs.specs.WindowWalk.{node_region}
+use Rattle.ph_model.specs.WindowWalk.{node_region}
 use Rattle.ph_specs.specs.WorkSets.{Placed, placed_below}
 use Rattle.ph_node.specs.Spots.{IsSpot}
 use Rattle.ph_node.specs.declared.spots.Spot.{Spot}

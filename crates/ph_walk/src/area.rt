@@ -1,6 +1,6 @@
 //! Sets of points, as a walk asks for them.
 ghost use Rattle.std.specs.Prelude.{◌≡◌, ◌<◌, ◌+◌, true};
-ghost use Rattle.ph_specs.specs.TreeNames.{IsLawfulFrom, entries, body_above};
+ghost use Rattle.ph_model.specs.ModelNames.{IsLawfulFrom, entries, body_above};
 ghost use Rattle.ph_node.specs.Shown.{shown};
 ghost use Rattle.ph_node.specs.Spots.{IsSpot};
 ghost use Rattle.ph_walk.specs.Area.{IsNote, IsSpotFound, AreDone, IsTold};

@@ -1,7 +1,8 @@
 //! A walk over the rows of a set of points: node by node, in the order of the addresses.
 ghost use Rattle.std.specs.Prelude.{◌≡◌, ◌+◌, ◌<◌, ◌≤◌, None, length, drop, slice_get, IfSome};
 ghost use Rattle.std.specs.Option.{option_copied, option_map};
-ghost use Rattle.ph_specs.specs.TreeNames.{IsLawful, rows};
+ghost use Rattle.ph_specs.specs.TreeNames.{rows};
+ghost use Rattle.ph_model.specs.ModelNames.{IsLawful};
 ghost use Rattle.ph_specs.specs.WorkNames.{placed};
 ghost use Rattle.ph_path.specs.Path.{IsPath};
 ghost use Rattle.ph_walk.specs.Area.{IsArea, kept, touched, TouchesRoot};

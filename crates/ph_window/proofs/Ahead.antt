@@ -3,18 +3,19 @@ use Rattle.std.proofs.Common.{◌≡◌, ℕ, ◌+◌, ◌-◌, ◌<◌, ◌≤�
 use Rattle.std.specs.Prelude.{ℤ, not, filter}
 use Rattle.std.specs.List.{AllByRecursion as Each}
 use Rattle.ph_specs.specs.Coordinate.{coordinate}
-use Rattle.ph_specs.specs.Lawful.{put_together, IsAbove, IsLawfulFrom}
+use Rattle.ph_specs.specs.TreeRows.{put_together}
+use Rattle.ph_model.specs.Lawful.{IsAbove, IsLawfulFrom}
 use Rattle.ph_specs.specs.Node.{Entries, end, point, child}
 use Rattle.ph_specs.specs.Region.{is_in}
-use Rattle.ph_specs.specs.WindowWalk.{node_region}
+use Rattle.ph_model.specs.WindowWalk.{node_region}
 use Rattle.ph_specs.specs.WorkSets.{Placed, placed_below}
 use Rattle.ph_specs.specs.ZOrder.{address, before}
-use Rattle.ph_specs.proofs.lemmas.Joined.{from_place, number_at, offsets, offsets-coordinate, same_from, same_number, from_place-put_together, above-child}
-use Rattle.ph_specs.proofs.lemmas.PointDigits.{address-is}
-use Rattle.ph_specs.proofs.lemmas.PutRows.{before-by}
-use Rattle.ph_specs.proofs.lemmas.RowsBehind.{Each-append, address-put_together}
+use Rattle.ph_model.proofs.lemmas.Joined.{from_place, number_at, offsets, offsets-coordinate, same_from, same_number, from_place-put_together, above-child}
+use Rattle.ph_model.proofs.lemmas.PointDigits.{address-is}
+use Rattle.ph_model.proofs.lemmas.PutRows.{before-by}
+use Rattle.ph_model.proofs.lemmas.RowsBehind.{Each-append, address-put_together}
 use Rattle.ph_specs.proofs.laws.Order.{before_irrefl}
-use Rattle.ph_specs.proofs.laws.Paths.{placed_child, held}
+use Rattle.ph_model.proofs.laws.Paths.{placed_child, held}
 use Rattle.ph_window.specs.Window.{lies_behind}
 
 -- ---- lists

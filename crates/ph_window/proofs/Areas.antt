@@ -2,20 +2,22 @@
 use Rattle.std.proofs.Common.{◌≡◌, ℕ, ◌+◌, ◌-◌, ◌≤◌, List, length, sym, ◌∙◌, ap, arith, true, false, bit_and}
 use Rattle.std.specs.Prelude.{ℤ, Some, slice_get}
 use Rattle.ph_specs.specs.Coordinate.{IsPoint}
-use Rattle.ph_specs.specs.Lawful.{put_together, IsLawfulFrom, IsLawfulEntry, IsLawfulWhat}
-use Rattle.ph_specs.specs.Masks.{masks, fits_masks, fits_some}
-use Rattle.ph_specs.specs.Node.{What, value, node, Entry, PlainNode, end, entries}
+use Rattle.ph_specs.specs.TreeRows.{put_together}
+use Rattle.ph_model.specs.Lawful.{IsLawfulFrom, IsLawfulEntry, IsLawfulWhat}
+use Rattle.ph_model.specs.Masks.{masks, fits_masks, fits_some}
+use Rattle.ph_specs.specs.Node.{PlainNode, end}
+use Rattle.ph_model.specs.EntryList.{What, value, node, Entry, entries}
 use Rattle.ph_specs.specs.Region.{meets_window}
 use Rattle.ph_specs.specs.Table.{row}
 use Rattle.ph_specs.specs.Window.{is_between}
-use Rattle.ph_specs.specs.WindowWalk.{node_region, is_open}
-use Rattle.ph_specs.proofs.lemmas.Bounds.{small, small-point}
-use Rattle.ph_specs.proofs.lemmas.Joined.{length-put_together}
-use Rattle.ph_specs.proofs.lemmas.RowsBehind.{under-point, point-address}
-use Rattle.ph_specs.proofs.laws.EntryLists.{entry-lawful}
-use Rattle.ph_specs.proofs.laws.MaskBounds.{AreMasks, masks-fit, fits-parts}
-use Rattle.ph_specs.proofs.laws.Regions.{meets-point, point-meets}
-use Rattle.ph_specs.proofs.laws.WindowWalk.{At, at-corner, row-opens, child-meets, known-small, refuted}
+use Rattle.ph_model.specs.WindowWalk.{node_region, is_open}
+use Rattle.ph_model.proofs.lemmas.Bounds.{small, small-point}
+use Rattle.ph_model.proofs.lemmas.Joined.{length-put_together}
+use Rattle.ph_model.proofs.lemmas.RowsBehind.{under-point, point-address}
+use Rattle.ph_model.proofs.laws.EntryLists.{entry-lawful}
+use Rattle.ph_model.proofs.laws.MaskBounds.{AreMasks, masks-fit, fits-parts}
+use Rattle.ph_model.proofs.laws.Regions.{meets-point, point-meets}
+use Rattle.ph_model.proofs.laws.WindowWalk.{At, at-corner, row-opens, child-meets, known-small, refuted}
 use Rattle.ph_node.specs.Kinds.{is_node}
 use Rattle.ph_path.specs.Known.{point_at}
 use Rattle.ph_walk.specs.Area.{IsArea, HoldsNone, MayHold, AreOut, IsNext}

@@ -2,18 +2,19 @@
 use Rattle.std.proofs.Common.{◌≡◌, ℕ, ◌+◌, ◌≤◌, List, [], length, replicate, true, refl, sym, ◌∙◌, ap, subst, arith, append-nil}
 use Rattle.std.specs.Prelude.{ℤ, ◌&&◌, filter, Option, Some}
 use Rattle.ph_specs.specs.Coordinate.{IsPoint}
-use Rattle.ph_specs.specs.Lawful.{IsLawful, rows, rows_behind}
+use Rattle.ph_specs.specs.TreeRows.{rows, rows_behind}
+use Rattle.ph_model.specs.Lawful.{IsLawful}
 use Rattle.ph_specs.specs.Node.{PlainNode}
-use Rattle.ph_specs.specs.PutTree.{body_above}
+use Rattle.ph_model.specs.PutTree.{body_above}
 use Rattle.ph_specs.specs.Region.{meets_window}
 use Rattle.ph_specs.specs.Table.{Row}
 use Rattle.ph_specs.specs.Window.{rest}
 use Rattle.ph_specs.specs.WorkSets.{placed, placed_below, all_nodes, meets, path}
-use Rattle.ph_specs.proofs.lemmas.Assembled.{cleared}
-use Rattle.ph_specs.proofs.lemmas.Joined.{offsets, from_place}
-use Rattle.ph_specs.proofs.lemmas.PointDigits.{point-whole, none-known}
-use Rattle.ph_specs.proofs.lemmas.Splits.{from-cleared}
-use Rattle.ph_specs.proofs.laws.Paths.{holds, many, many-held, placed_child, holding}
+use Rattle.ph_model.proofs.lemmas.Assembled.{cleared}
+use Rattle.ph_model.proofs.lemmas.Joined.{offsets, from_place}
+use Rattle.ph_model.proofs.lemmas.PointDigits.{point-whole, none-known}
+use Rattle.ph_model.proofs.lemmas.Splits.{from-cleared}
+use Rattle.ph_model.proofs.laws.Paths.{holds, many, many-held, placed_child, holding}
 use Rattle.ph_zorder.proofs.Decided.{is_body-point}
 use Rattle.ph_path.specs.Known.{Known, AreKnown, known_at, point_at}
 use Rattle.ph_path.proofs.Knowns.{above-top, start-known}

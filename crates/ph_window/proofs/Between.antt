@@ -2,14 +2,15 @@
 use Rattle.std.proofs.Common.{◌≡◌, ℕ, ◌<◌, ◌≤◌, List, [], ◌∷◌, length, refl, sym, ◌∙◌, ap, subst, arith, Bool, true, false, ◌&&◌, leb-true, le-leb}
 use Rattle.std.specs.Prelude.{nat_le}
 use Rattle.ph_specs.specs.Coordinate.{IsPoint, at_most}
-use Rattle.ph_specs.specs.Lawful.{IsBody, put_together}
-use Rattle.ph_specs.specs.Masks.{masks}
-use Rattle.ph_specs.specs.PutTree.{body_above}
+use Rattle.ph_specs.specs.TreeRows.{put_together}
+use Rattle.ph_model.specs.Lawful.{IsBody}
+use Rattle.ph_model.specs.Masks.{masks}
+use Rattle.ph_model.specs.PutTree.{body_above}
 use Rattle.ph_specs.specs.Window.{is_between}
-use Rattle.ph_specs.specs.WindowWalk.{node_region}
-use Rattle.ph_specs.proofs.laws.WindowWalk.{At}
-use Rattle.ph_specs.proofs.lemmas.Joined.{offsets, offsets-coordinate}
-use Rattle.ph_specs.proofs.lemmas.Bounds.{Below, small, small-fit, small-point, at_most-below, below-at_most, lows-small}
+use Rattle.ph_model.specs.WindowWalk.{node_region}
+use Rattle.ph_model.proofs.laws.WindowWalk.{At}
+use Rattle.ph_model.proofs.lemmas.Joined.{offsets, offsets-coordinate}
+use Rattle.ph_model.proofs.lemmas.Bounds.{Below, small, small-fit, small-point, at_most-below, below-at_most, lows-small}
 use Rattle.ph_specs.proofs.lemmas.Tests.{and-parts, and-made}
 use Rattle.ph_zorder.specs.Sides.{side_masks}
 use Rattle.ph_zorder.proofs.Sides.{masks-node}

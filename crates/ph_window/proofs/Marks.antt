@@ -3,9 +3,9 @@ use Rattle.std.proofs.Common.{◌≡◌, ℕ, ◌+◌, ◌*◌, ◌/◌, ◌%◌
 use Rattle.std.specs.Prelude.{ℤ, nat_lt}
 use Rattle.ph_specs.specs.Coordinate.{offset, IsPoint}
 use Rattle.ph_specs.specs.ZOrder.{address, before}
-use Rattle.ph_specs.specs.Lawful.{IsBody}
-use Rattle.ph_specs.specs.PutTree.{body_address, body_address_from, body_above}
-use Rattle.ph_specs.proofs.lemmas.Joined.{from_place, number_at, offsets-coordinate, same_number, same_from}
+use Rattle.ph_model.specs.Lawful.{IsBody}
+use Rattle.ph_model.specs.PutTree.{body_address, body_address_from, body_above}
+use Rattle.ph_model.proofs.lemmas.Joined.{from_place, number_at, offsets-coordinate, same_number, same_from}
 use Rattle.ph_zorder.proofs.Decided.{address-is, before-decided, is_body-point}
 use Rattle.ph_specs.proofs.laws.Order.{before_irrefl}
 use Rattle.ph_path.specs.Known.{Known, known_at, point_at}

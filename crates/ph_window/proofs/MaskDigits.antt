@@ -2,7 +2,7 @@
 use Rattle.std.proofs.Common.{◌≡◌, ℕ, ◌+◌, ◌-◌, ◌*◌, ◌/◌, ◌^◌, List, [], ◌∷◌, refl, ◌∙◌, ap, ◌&&◌}
 use Rattle.std.specs.Prelude.{Option, Some, None, nat_le, if◌then◌else◌}
 use Rattle.std.proofs.lemmas.Nat.{pow_pos}
-use Rattle.ph_specs.specs.PutTree.{body_above}
+use Rattle.ph_model.specs.PutTree.{body_above}
 use Rattle.ph_zorder.specs.Sides.{start_of, meets_side, meets_sides, half_digit, side_mask, side_masks}
 use Rattle.ph_path.proofs.Knowns.{block-whole}
 

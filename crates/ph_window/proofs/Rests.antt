@@ -6,18 +6,22 @@ use Rattle.std.proofs.lemmas.List.Elements.{filter-append}
 use Rattle.ph_specs.specs.Coordinate.{IsPoint}
 use Rattle.ph_specs.specs.ZOrder.{address, before}
 use Rattle.ph_specs.specs.Table.{Row, row}
-use Rattle.ph_specs.specs.Node.{Entries, end, point, child, What, value, node, Entry, PlainNode, listed, chained, in_front}
-use Rattle.ph_specs.specs.Lawful.{put_together, rows_behind, IsBody, IsLawfulFrom, IsLawfulEntry, IsLawfulWhat}
+use Rattle.ph_specs.specs.Node.{Entries, end, point, child, PlainNode}
+use Rattle.ph_model.specs.EntryList.{What, value, node, Entry, listed, chained, in_front}
+use Rattle.ph_specs.specs.TreeRows.{put_together, rows_behind}
+use Rattle.ph_model.specs.Lawful.{IsBody, IsLawfulFrom, IsLawfulEntry, IsLawfulWhat}
 use Rattle.ph_specs.specs.Region.{is_in}
 use Rattle.ph_specs.specs.Window.{window, rest, is_between}
-use Rattle.ph_specs.specs.WindowWalk.{node_region, is_open, point_of}
-use Rattle.ph_specs.proofs.lemmas.RowsBehind.{Each-each, Each-append, IsUnder, under-point, point-address, rows-under}
-use Rattle.ph_specs.proofs.lemmas.PutRows.{before-by, before-not}
+use Rattle.ph_model.specs.WindowWalk.{node_region, is_open, point_of}
+use Rattle.ph_specs.proofs.lemmas.Members.{Each-each}
+use Rattle.ph_model.proofs.lemmas.RowsBehind.{Each-append, IsUnder, under-point, point-address, rows-under}
+use Rattle.ph_specs.proofs.laws.Put.{before-not}
+use Rattle.ph_model.proofs.lemmas.PutRows.{before-by}
 use Rattle.ph_specs.proofs.laws.WindowRest.{Each-filter}
-use Rattle.ph_specs.proofs.laws.WindowSteps.{node-digits}
-use Rattle.ph_specs.proofs.laws.WindowWalk.{At, IsChildRow, child-rows, at-child, none-pass, shut-rows, under-in}
-use Rattle.ph_specs.proofs.laws.OneSide.{one-side}
-use Rattle.ph_specs.proofs.laws.EntryLists.{chained-listed}
+use Rattle.ph_model.proofs.laws.WindowSteps.{node-digits}
+use Rattle.ph_model.proofs.laws.WindowWalk.{At, IsChildRow, child-rows, at-child, none-pass, shut-rows, under-in}
+use Rattle.ph_model.proofs.laws.OneSide.{one-side}
+use Rattle.ph_model.proofs.laws.EntryLists.{chained-listed}
 use Rattle.ph_path.specs.Known.{point_at}
 use Rattle.ph_window.specs.Window.{behind}
 

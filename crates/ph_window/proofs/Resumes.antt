@@ -7,27 +7,29 @@ use Rattle.std.proofs.Math.Seq.{drop-length}
 use Rattle.std.proofs.lemmas.List.Elements.{filter-append}
 use Rattle.std.proofs.lemmas.Option.{get_or_from_slice_get}
 use Rattle.ph_specs.specs.Coordinate.{IsPoint}
-use Rattle.ph_specs.specs.EntryEdits.{what_at}
+use Rattle.ph_model.specs.EntryEdits.{what_at}
 use Rattle.ph_specs.specs.ZOrder.{address, before}
 use Rattle.ph_specs.specs.Table.{Row}
-use Rattle.ph_specs.specs.Node.{Entries, What, value, node, Entry, PlainNode, end, entries, chained, in_front}
-use Rattle.ph_specs.specs.Lawful.{put_together, rows_behind, IsBody, IsLawfulFrom, IsLawfulEntry, IsLawfulWhat}
-use Rattle.ph_specs.specs.Masks.{fits_masks}
-use Rattle.ph_specs.specs.PutTree.{body_above}
+use Rattle.ph_specs.specs.Node.{Entries, PlainNode, end}
+use Rattle.ph_model.specs.EntryList.{What, value, node, Entry, entries, chained, in_front}
+use Rattle.ph_specs.specs.TreeRows.{put_together, rows_behind}
+use Rattle.ph_model.specs.Lawful.{IsBody, IsLawfulFrom, IsLawfulEntry, IsLawfulWhat}
+use Rattle.ph_model.specs.Masks.{fits_masks}
+use Rattle.ph_model.specs.PutTree.{body_above}
 use Rattle.ph_specs.specs.Region.{is_in, meets_window}
 use Rattle.ph_specs.specs.Window.{window}
-use Rattle.ph_specs.specs.WindowWalk.{node_region, is_open}
+use Rattle.ph_model.specs.WindowWalk.{node_region, is_open}
 use Rattle.ph_specs.specs.WorkSets.{placed_below}
-use Rattle.ph_specs.proofs.lemmas.Grouped.{same_place}
-use Rattle.ph_specs.proofs.lemmas.Joined.{from_place, number_at, offsets, offsets-coordinate, from_place-put_together, above-child}
-use Rattle.ph_specs.proofs.lemmas.Bounds.{same-in, in-same, small-point}
-use Rattle.ph_specs.proofs.lemmas.PointDigits.{address-is}
-use Rattle.ph_specs.proofs.lemmas.RowsBehind.{address-put_together}
-use Rattle.ph_specs.proofs.laws.EntryLists.{chained-listed, entry-lawful}
-use Rattle.ph_specs.proofs.laws.Paths.{holds, many, many-append, many-held, placed_child, holding}
-use Rattle.ph_specs.proofs.laws.WindowSteps.{node-digits}
-use Rattle.ph_specs.proofs.laws.OneSide.{one-side}
-use Rattle.ph_specs.proofs.laws.WindowWalk.{At, child-meets}
+use Rattle.ph_model.proofs.lemmas.Grouped.{same_place}
+use Rattle.ph_model.proofs.lemmas.Joined.{from_place, number_at, offsets, offsets-coordinate, from_place-put_together, above-child}
+use Rattle.ph_model.proofs.lemmas.Bounds.{same-in, in-same, small-point}
+use Rattle.ph_model.proofs.lemmas.PointDigits.{address-is}
+use Rattle.ph_model.proofs.lemmas.RowsBehind.{address-put_together}
+use Rattle.ph_model.proofs.laws.EntryLists.{chained-listed, entry-lawful}
+use Rattle.ph_model.proofs.laws.Paths.{holds, many, many-append, many-held, placed_child, holding}
+use Rattle.ph_model.proofs.laws.WindowSteps.{node-digits}
+use Rattle.ph_model.proofs.laws.OneSide.{one-side}
+use Rattle.ph_model.proofs.laws.WindowWalk.{At, child-meets}
 use Rattle.ph_node.specs.Shown.{shown}
 use Rattle.ph_node.specs.Split.{body_at}
 use Rattle.ph_node.specs.Spots.{IsSpot}

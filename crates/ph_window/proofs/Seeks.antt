@@ -7,10 +7,11 @@ use Rattle.std.proofs.lemmas.Bool.{cases_lt}
 use Rattle.std.proofs.lemmas.Option.{slice_get_within, get_or_from_slice_get, slice_get-get_or}
 use Rattle.std.proofs.lemmas.List.Quantifiers.{position-Some}
 use Rattle.std.proofs.lemmas.List.Sums.{fails_before_first}
-use Rattle.ph_specs.specs.EntryEdits.{point_entry, what_at}
-use Rattle.ph_specs.specs.Node.{Entry, PlainNode, entries}
-use Rattle.ph_specs.specs.Masks.{fits_masks, IsNext, IsNextOf}
-use Rattle.ph_specs.proofs.laws.MaskBounds.{fits-between}
+use Rattle.ph_model.specs.EntryEdits.{point_entry, what_at}
+use Rattle.ph_specs.specs.Node.{PlainNode}
+use Rattle.ph_model.specs.EntryList.{Entry, entries}
+use Rattle.ph_model.specs.Masks.{fits_masks, IsNext, IsNextOf}
+use Rattle.ph_model.proofs.laws.MaskBounds.{fits-between}
 use Rattle.ph_node.specs.Split.{body_at}
 use Rattle.ph_node.specs.Spots.{IsSpot}
 use Rattle.ph_node.specs.declared.spots.Spot.{Spot}

@@ -2,20 +2,22 @@
 use Rattle.std.proofs.Common.{◌≡◌, ℕ, ◌-◌, ◌≤◌, List, [], length, take, map, replicate, refl, sym, ◌∙◌, ap, subst, arith, Bool, true, false}
 use Rattle.std.specs.Prelude.{ℤ, Option, Some, None, is_some, if◌then◌else◌}
 use Rattle.ph_specs.specs.Coordinate.{offset, IsPoint}
-use Rattle.ph_specs.specs.Lawful.{IsLawful, rows}
-use Rattle.ph_specs.specs.Masks.{masks, mask}
+use Rattle.ph_specs.specs.TreeRows.{rows}
+use Rattle.ph_model.specs.Lawful.{IsLawful}
+use Rattle.ph_model.specs.Masks.{masks, mask}
 use Rattle.ph_specs.specs.Node.{PlainNode}
-use Rattle.ph_specs.specs.PutTree.{body_above}
+use Rattle.ph_model.specs.PutTree.{body_above}
 use Rattle.ph_specs.specs.Region.{meets_window}
 use Rattle.ph_specs.specs.Shape.{shape}
 use Rattle.ph_specs.specs.Table.{Row, IsTable}
-use Rattle.ph_specs.specs.Window.{window, rest, lowest, highest}
-use Rattle.ph_specs.specs.WindowWalk.{node_region}
+use Rattle.ph_specs.specs.Window.{window, rest}
+use Rattle.ph_model.specs.AllPoints.{lowest, highest}
+use Rattle.ph_model.specs.WindowWalk.{node_region}
 use Rattle.ph_specs.specs.WorkSets.{placed, meets, all_nodes}
-use Rattle.ph_specs.proofs.laws.AllPoints.{whole-table, whole-nodes}
-use Rattle.ph_specs.proofs.laws.TableShape.{table-shape}
-use Rattle.ph_specs.proofs.lemmas.Joined.{offsets}
-use Rattle.ph_specs.proofs.lemmas.PointDigits.{point-whole}
+use Rattle.ph_model.proofs.laws.AllPoints.{whole-table, whole-nodes}
+use Rattle.ph_model.proofs.laws.TableShape.{table-shape}
+use Rattle.ph_model.proofs.lemmas.Joined.{offsets}
+use Rattle.ph_model.proofs.lemmas.PointDigits.{point-whole}
 use Rattle.ph_zorder.proofs.Decided.{is_body-point}
 use Rattle.ph_path.specs.Known.{AreSized}
 use Rattle.ph_path.proofs.Knowns.{above-top, offsets-point, zeros-body}

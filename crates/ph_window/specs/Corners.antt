@@ -1,10 +1,10 @@
 -- The points between two corners.
 use Rattle.std.specs.Prelude.{◌≡◌, ℕ, List, ℤ, Some}
-use Rattle.ph_specs.specs.Lawful.{IsBody}
-use Rattle.ph_specs.specs.Masks.{masks}
+use Rattle.ph_model.specs.Lawful.{IsBody}
+use Rattle.ph_model.specs.Masks.{masks}
 use Rattle.ph_specs.specs.Region.{meets_window}
 use Rattle.ph_specs.specs.Window.{is_between}
-use Rattle.ph_specs.specs.WindowWalk.{node_region}
+use Rattle.ph_model.specs.WindowWalk.{node_region}
 use Rattle.ph_path.specs.Known.{AreSized, point_at}
 use Rattle.ph_walk.specs.Area.{Area}
 use Rattle.ph_walk.specs.declared.area.Masks.{Masks}

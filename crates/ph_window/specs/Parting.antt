@@ -1,6 +1,6 @@
 -- Where two lists of numbers part.
 use Rattle.std.specs.Prelude.{◌≡◌, ℕ, List, Bool, nat_lt, Option, Some, None}
-use Rattle.ph_specs.specs.PutTree.{body_address}
+use Rattle.ph_model.specs.PutTree.{body_address}
 use Rattle.ph_digits.specs.Differences.{IsTopDifference}
 
 -- the greatest place at which they differ, and whether the second has the greater address there

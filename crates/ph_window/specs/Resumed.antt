@@ -2,11 +2,12 @@
 use Rattle.std.specs.Prelude.{◌≡◌, ℕ, ◌+◌, ◌<◌, ◌≤◌, true, false, ◌&&◌, List, ℤ, ◌++◌, length, filter}
 use Rattle.ph_specs.specs.ZOrder.{before}
 use Rattle.ph_specs.specs.Node.{Entries, PlainNode}
-use Rattle.ph_specs.specs.Lawful.{IsLawfulFrom, rows_behind}
+use Rattle.ph_specs.specs.TreeRows.{rows_behind}
+use Rattle.ph_model.specs.Lawful.{IsLawfulFrom}
 use Rattle.ph_specs.specs.Region.{is_in, meets_window}
 use Rattle.ph_specs.specs.WorkSets.{placed_below}
 use Rattle.ph_specs.specs.Window.{rest, is_between}
-use Rattle.ph_specs.specs.PutTree.{body_above}
+use Rattle.ph_model.specs.PutTree.{body_above}
 use Rattle.ph_path.specs.Known.{Known, AreKnown, point_at}
 use Rattle.ph_path.specs.Path.{AreOver, IsPath}
 use Rattle.ph_walk.specs.Area.{Area, touched_below}

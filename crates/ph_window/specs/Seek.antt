@@ -1,8 +1,9 @@
 -- Which entries fit masks.
 use Rattle.std.specs.Prelude.{◌≡◌, ℕ, ◌+◌, ◌<◌, ◌≤◌, ◌^◌, false, true, List, length, slice_get, bit_and, Option, Some, MatchOption, IfSome}
-use Rattle.ph_specs.specs.Lawful.{IsLawfulFrom}
-use Rattle.ph_specs.specs.Node.{Entry, PlainNode}
-use Rattle.ph_specs.specs.Masks.{fits_masks}
+use Rattle.ph_model.specs.Lawful.{IsLawfulFrom}
+use Rattle.ph_specs.specs.Node.{PlainNode}
+use Rattle.ph_model.specs.EntryList.{Entry}
+use Rattle.ph_model.specs.Masks.{fits_masks}
 use Rattle.ph_node.specs.Spots.{IsSpot}
 use Rattle.ph_node.specs.declared.spots.Spot.{Spot}
 

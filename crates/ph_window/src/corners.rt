@@ -1,8 +1,8 @@
 //! The points between two corners.
 ghost use Rattle.std.specs.Prelude.{◌≡◌, ◌<◌, ◌≤◌, ◌-◌, ◌+◌, ◌&&◌, true, false, nat_le, length, map, replicate};
 ghost use Rattle.ph_specs.specs.TableNames.{offset, IsPoint, is_between as lies_between};
-ghost use Rattle.ph_specs.specs.TreeNames.{what_at, IsLawfulFrom, entries, body_above};
-ghost use Rattle.ph_specs.specs.WorkNames.{masks as the_masks, meets_window, node_region};
+ghost use Rattle.ph_model.specs.ModelNames.{what_at, IsLawfulFrom, entries, body_above, masks as the_masks, node_region};
+ghost use Rattle.ph_specs.specs.WorkNames.{meets_window};
 ghost use Rattle.ph_node.specs.Between.{each_between};
 ghost use Rattle.ph_node.specs.Kinds.{is_node};
 ghost use Rattle.ph_node.specs.Shown.{shown};

@@ -1,7 +1,6 @@
 //! The entries of a node that fit the masks of a window.
 ghost use Rattle.std.specs.Prelude.{◌≡◌, ◌<◌, ◌^◌, nat_le, Some, length, position, MatchOption, IfSome};
-ghost use Rattle.ph_specs.specs.TreeNames.{entries};
-ghost use Rattle.ph_specs.specs.WorkNames.{fits_masks};
+ghost use Rattle.ph_model.specs.ModelNames.{entries, fits_masks};
 ghost use Rattle.ph_node.specs.Shown.{shown};
 ghost use Rattle.ph_window.specs.Seek.{AreShut, IsPassed, CanSeek, IsSought};
 

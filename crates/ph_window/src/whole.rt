@@ -1,6 +1,7 @@
 //! The window of all rows of a tree.
 ghost use Rattle.std.specs.Prelude.{◌≡◌, ◌≤◌, length};
-ghost use Rattle.ph_specs.specs.TableNames.{IsPoint, lowest, highest};
+ghost use Rattle.ph_specs.specs.TableNames.{IsPoint};
+ghost use Rattle.ph_model.specs.ModelNames.{lowest, highest};
 ghost use Rattle.ph_specs.specs.WorkNames.{all_nodes};
 
 use crate::window::{Window, WindowOf};

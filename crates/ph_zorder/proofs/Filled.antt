@@ -5,12 +5,13 @@ use Rattle.std.specs.Prelude.{◌==◌, Option, Some, None, if◌then◌else◌}
 use Rattle.std.proofs.lemmas.Nat.{pow_pos, leading_top, or_lt, and_le_r}
 use Rattle.std.specs.Int.Count.{count_leading_zeros}
 use Rattle.std.specs.Int.Bits.{or_zero_r}
-use Rattle.ph_specs.specs.Masks.{fits_masks, next_fitting, then_last, IsNext, IsNextOf}
+use Rattle.ph_model.specs.Masks.{fits_masks, next_fitting, then_last, IsNext, IsNextOf}
 use Rattle.ph_specs.proofs.lemmas.Places.{pow-next}
-use Rattle.ph_specs.proofs.lemmas.MaskDigits.{or-next, and-next}
+use Rattle.ph_model.proofs.lemmas.MaskDigits.{or-next, and-next}
 use Rattle.ph_specs.proofs.lemmas.Tests.{and-parts}
-use Rattle.ph_specs.proofs.laws.NextAddress.{Fits, fits, fit-test, FitsNext, fits-next, next-fits, half-small, back, bit, masked, not-next, filled-next, carried-front}
-use Rattle.ph_specs.proofs.laws.NextFitting.{next_fitting-least}
+use Rattle.ph_model.proofs.laws.NextAddress.{Fits, fits, fit-test, FitsNext, fits-next, next-fits, half-small, back, bit, masked, not-next, filled-next}
+use Rattle.ph_model.proofs.laws.NextAddress.{carried-front}
+use Rattle.ph_model.proofs.laws.NextFitting.{next_fitting-least}
 use Rattle.std.proofs.Math.Pow.{pow_mono}
 use Rattle.std.proofs.Math.Nat.{mod-eq_of_lt}
 use Rattle.std.specs.Option.{SomeIff}

@@ -7,13 +7,12 @@ use Rattle.std.proofs.Math.Pow.{pow_mono}
 use mir.Val.{of_z, to_z}
 use Rattle.ph_specs.specs.Coordinate.{coordinate, IsPoint}
 use Rattle.ph_specs.specs.Distance.{distance, squared_gap}
-use Rattle.ph_specs.specs.Region.{gap}
-use Rattle.ph_specs.proofs.laws.Bound.{bound}
-use Rattle.ph_specs.proofs.laws.Coordinates.{offset-coordinate}
-use Rattle.ph_specs.proofs.laws.LawfulRows.{coordinate-fits}
-use Rattle.ph_specs.proofs.laws.Offsets.{coordinate-apart, square-gap}
-use Rattle.ph_specs.proofs.lemmas.Joined.{offsets}
-use Rattle.ph_specs.proofs.lemmas.PointDigits.{point-whole}
+use Rattle.ph_model.specs.Regions.{gap}
+use Rattle.ph_model.proofs.laws.Bound.{bound}
+use Rattle.ph_specs.proofs.laws.Coordinates.{offset-coordinate, coordinate-fits}
+use Rattle.ph_model.proofs.laws.Offsets.{coordinate-apart, square-gap}
+use Rattle.ph_model.proofs.lemmas.Joined.{offsets}
+use Rattle.ph_model.proofs.lemmas.PointDigits.{point-whole}
 use Rattle.ph_coord.proofs.Signed.{passed}
 use Rattle.ph_zorder.proofs.Decided.{is_body-point}
 

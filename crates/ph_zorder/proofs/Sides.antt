@@ -5,12 +5,12 @@ use Rattle.std.proofs.Math.Pow.{pow_mono}
 use Rattle.std.specs.Prelude.{ℤ, Option, Some, None, nat_le, if◌then◌else◌}
 use Rattle.ph_specs.specs.Coordinate.{offset, coordinate, IsPoint}
 use Rattle.ph_specs.specs.Region.{Region, meets_window}
-use Rattle.ph_specs.specs.Masks.{mask_from, mask, masks}
-use Rattle.ph_specs.specs.WindowWalk.{node_region}
-use Rattle.ph_specs.proofs.lemmas.Joined.{offsets, offsets-coordinate}
-use Rattle.ph_specs.proofs.lemmas.Bounds.{Below, lows, highs, point-long, small, small-point, fit-small, point-fit}
+use Rattle.ph_model.specs.Masks.{mask_from, mask, masks}
+use Rattle.ph_model.specs.WindowWalk.{node_region}
+use Rattle.ph_model.proofs.lemmas.Joined.{offsets, offsets-coordinate}
+use Rattle.ph_model.proofs.lemmas.Bounds.{Below, lows, highs, point-long, small, small-point, fit-small, point-fit}
 use Rattle.ph_specs.proofs.lemmas.Tests.{and-parts, and-made}
-use Rattle.ph_specs.proofs.laws.Regions.{Meets, meets-numbers, numbers-meet}
+use Rattle.ph_model.proofs.laws.Regions.{Meets, meets-numbers, numbers-meet}
 use Rattle.ph_zorder.specs.Sides.{start_of, meets_side, meets_sides, side_mask, side_masks}
 
 mask-sides : (s w level : ℕ) (cs bs : List ℤ) → side_mask s level (offsets w cs) (offsets w bs) ≡ mask_from s w level cs bs

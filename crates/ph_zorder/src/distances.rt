@@ -2,7 +2,8 @@
 ghost use Rattle.std.specs.Prelude.{◌≡◌, ◌*◌, ◌+◌, ◌-◌, ◌^◌, ◌<◌, ◌≤◌, length, map, List, ℤ, true, IsTrue};
 ghost use Rattle.std.specs.List.{list_all, AllByRecursion as Each};
 ghost use Rattle.ph_specs.specs.TableNames.{coordinate, fits, IsPoint, distance as the_distance};
-ghost use Rattle.ph_specs.specs.WorkNames.{gap, is_in, least_distance as the_least_distance};
+ghost use Rattle.ph_specs.specs.WorkNames.{is_in, least_distance as the_least_distance};
+ghost use Rattle.ph_model.specs.ModelNames.{gap};
 ghost use Rattle.ph_zorder.specs.Squares.{greatest_square};
 
 use crate::regions::{Region, ones_below};

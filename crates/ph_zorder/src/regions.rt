@@ -2,7 +2,7 @@
 ghost use Rattle.std.specs.Prelude.{◌≡◌, ◌↔◌, ◌+◌, ◌-◌, ◌<◌, ◌≤◌, ◌^◌, ◌&&◌, ℕ, ℤ, List, true, None, nat_le, length, IfSome, if◌then◌else◌};
 ghost use Rattle.std.specs.List.{AllByRecursion as Each};
 ghost use Rattle.ph_specs.specs.TableNames.{IsPoint};
-ghost use Rattle.ph_specs.specs.WorkNames.{fits_some, masks as the_masks, InPart, InBoth};
+ghost use Rattle.ph_model.specs.ModelNames.{fits_some, masks as the_masks, InPart, InBoth};
 ghost use Rattle.ph_zorder.specs.Sides.{side_masks};
 
 use ph_coord::{Point, Width};

@@ -1,6 +1,6 @@
 //! The step from an address to the next one that fits masks, by whole words.
 ghost use Rattle.std.specs.Prelude.{◌≡◌, bit_and};
-ghost use Rattle.ph_specs.specs.WorkNames.{IsNextOf};
+ghost use Rattle.ph_model.specs.ModelNames.{IsNextOf};
 ghost use Rattle.ph_zorder.specs.Fill.{IsFill};
 
 /// The least address above a number that has every digit of the lower mask and none that the upper mask has not; None where

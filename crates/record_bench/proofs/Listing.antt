@@ -10,8 +10,8 @@ use Rattle.ph_specs.specs.Node.{Flat}
 use Rattle.ph_specs.specs.Digits.{words_for}
 use Rattle.ph_specs.specs.Pack.{children, values, record_in}
 use Rattle.ph_specs.specs.Record.{read_point}
-use Rattle.ph_specs.specs.Layout.{IsRecord, AreRising, unvalued}
-use Rattle.ph_specs.proofs.laws.Layouts.{made}
+use Rattle.ph_model.specs.Layout.{IsRecord, AreRising, unvalued}
+use Rattle.ph_model.proofs.laws.Layouts.{made}
 use Rattle.record_bench.specs.Listed.{points, digits}
 
 abbrev pub point : ℕ → ℕ → ℕ → Flat

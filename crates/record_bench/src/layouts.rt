@@ -1,7 +1,8 @@
 //! The two layouts by one trait.
 
 ghost use Rattle.std.specs.Prelude.{◌≡◌, ◌+◌, ◌^◌, ◌<◌, ◌≤◌, Bool};
-ghost use Rattle.ph_specs.specs.RecordNames.{words_for, record_in, first_in, IsRecord};
+ghost use Rattle.ph_specs.specs.RecordNames.{words_for, record_in, first_in};
+ghost use Rattle.ph_model.specs.ModelNames.{IsRecord};
 ghost use Rattle.ph_bits.specs.Block.{room_of};
 ghost use Rattle.record_bench.specs.Listed.{points, digits};
 

@@ -1,7 +1,8 @@
 //! Records of points.
 
 ghost use Rattle.std.specs.Prelude.{◌≡◌, ◌+◌, ◌<◌, ◌^◌};
-ghost use Rattle.ph_specs.specs.RecordNames.{words_for, IsRecord};
+ghost use Rattle.ph_specs.specs.RecordNames.{words_for};
+ghost use Rattle.ph_model.specs.ModelNames.{IsRecord};
 ghost use Rattle.record_bench.specs.Listed.{digits};
 
 use crate::layouts::Layout;

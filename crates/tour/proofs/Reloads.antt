@@ -6,7 +6,7 @@ use Rattle.ph_specs.specs.KindRows.{rows_fit}
 use Rattle.ph_specs.specs.SavedTable.{read_snapshot}
 use Rattle.ph_specs.specs.Snapshot.{snap}
 use Rattle.ph_specs.specs.Table.{Row, IsTable}
-use Rattle.ph_specs.proofs.laws.Loads.{snap-read}
+use Rattle.ph_model.proofs.laws.Loads.{snap-read}
 use Rattle.ph_specs.proofs.laws.Put.{and}
 
 points-fit : (rows : List Row) → rows_fit Kind.Points rows ≡ true

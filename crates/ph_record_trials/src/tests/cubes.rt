@@ -2,7 +2,8 @@
 //! they lie.
 
 ghost use Rattle.std.specs.Prelude.{◌≡◌, ◌-◌, ◌≤◌, true, false, Some, length, map, take, slice_get};
-ghost use Rattle.ph_specs.specs.RecordNames.{IsRecord, AreRising, entries_as, is_child, first_in};
+ghost use Rattle.ph_specs.specs.RecordNames.{first_in};
+ghost use Rattle.ph_model.specs.ModelNames.{IsRecord, AreRising, entries_as, is_child};
 ghost use Rattle.ph_bits.specs.Edits.{edited_as};
 ghost use Rattle.ph_cube.specs.Edited.{IsEditAt};
 ghost use Rattle.ph_record_trials.specs.Edits.{insert_of, remove_of};

@@ -1,7 +1,8 @@
 //! Records by hand of two dimensions at level 2, in which an entry becomes a child or a point where it lies.
 
 ghost use Rattle.std.specs.Prelude.{◌≡◌, ◌-◌, ◌<◌, ◌≤◌, true, false, Some, length, map, take, slice_get};
-ghost use Rattle.ph_specs.specs.RecordNames.{IsRecord, AreRising, entries_as, read_address, is_child, first_in};
+ghost use Rattle.ph_specs.specs.RecordNames.{first_in};
+ghost use Rattle.ph_model.specs.ModelNames.{IsRecord, AreRising, entries_as, read_address, is_child};
 ghost use Rattle.ph_bits.specs.Edits.{edited_as};
 ghost use Rattle.ph_cube.specs.Edited.{IsEditAt};
 ghost use Rattle.ph_record_trials.specs.Edits.{child_of, point_of};

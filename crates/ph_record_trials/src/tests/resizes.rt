@@ -1,7 +1,8 @@
 //! Points that are left out of linear records, and put into them, where the records lie.
 
 ghost use Rattle.std.specs.Prelude.{◌≡◌, ◌<◌, ◌≤◌, false, Some, length, map, take, slice_get};
-ghost use Rattle.ph_specs.specs.RecordNames.{IsRecord, AreRising, entries_as, is_child, record_in, first_in};
+ghost use Rattle.ph_specs.specs.RecordNames.{record_in, first_in};
+ghost use Rattle.ph_model.specs.ModelNames.{IsRecord, AreRising, entries_as, is_child};
 ghost use Rattle.ph_bits.specs.Edits.{edited_as};
 ghost use Rattle.ph_record_trials.specs.Edits.{insert_of, remove_of};
 

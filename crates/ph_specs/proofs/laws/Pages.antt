@@ -9,8 +9,8 @@ use Rattle.ph_specs.specs.Coordinate.{is_point}
 use Rattle.ph_specs.specs.Window.{Cursor, window, rest, has_more, is_after, is_between, last_listed, next_cursor}
 use Rattle.ph_specs.proofs.laws.Order.{before_irrefl, before_trans}
 use Rattle.ph_specs.proofs.laws.WindowRest.{Each-filter}
-use Rattle.ph_specs.proofs.lemmas.RowsBehind.{Each-each}
-use Rattle.ph_specs.proofs.lemmas.PutRows.{before-not}
+use Rattle.ph_specs.proofs.lemmas.Members.{Each-each}
+use Rattle.ph_specs.proofs.laws.Put.{before-not}
 use Rattle.ph_specs.proofs.lemmas.Tests.{and-parts, each-test}
 
 -- ---- a window from its start

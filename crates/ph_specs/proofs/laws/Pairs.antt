@@ -10,7 +10,7 @@ use Rattle.ph_specs.specs.Coordinate.{low_corner, high_corner, IsPoint, IsBox}
 use Rattle.ph_specs.specs.Window.{window}
 use Rattle.ph_specs.specs.Sets.{pairs, partners, paired}
 use Rattle.ph_specs.specs.Table.{Row, IsTable}
-use Rattle.ph_specs.proofs.laws.BallSearch.{ArePoints, table-points}
+use Rattle.ph_specs.proofs.laws.Points.{ArePoints, table-points}
 use Rattle.ph_specs.proofs.laws.Boxes.{window_lists}
 
 -- ---- no more than all rows of one with all of the other

@@ -1,6 +1,6 @@
 use Rattle.std.proofs.Common.{◌+◌, ◌-◌, arith, length}
-use Rattle.ph_specs.specs.Lawful.{put_together}
-use Rattle.ph_specs.specs.PutTree.{body_above}
+use Rattle.ph_specs.specs.TreeRows.{put_together}
+use Rattle.ph_model.specs.PutTree.{body_above}
 use Rattle.ph_bits.specs.Apart.{greatest_square}
 use Rattle.ph_bits.specs.Fields.{digits_row}
 use Rattle.ph_bits.proofs.Aparts.{apart-first, apart-done, room-on}

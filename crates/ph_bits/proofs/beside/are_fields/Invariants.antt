@@ -1,5 +1,5 @@
 use Rattle.std.proofs.Common.{◌≡◌, ◌+◌, ◌-◌, ◌*◌, length, map, drop}
-use Rattle.ph_specs.specs.PutTree.{same_digits}
+use Rattle.ph_specs.specs.DelTree.{same_digits}
 use Rattle.ph_bits.specs.Fields.{cut, digits_row}
 use Rattle.ph_bits.proofs.beside.are_fields.Given as goal
 

@@ -1,8 +1,8 @@
 use Rattle.std.proofs.Common.{◌≡◌, ◌*◌, ◌^◌, ◌<◌, ℕ, ap, sym, subst, ◌∙◌, arith, map, length, ◌==◌}
 use Rattle.std.proofs.lemmas.List.{length-map}
-use Rattle.ph_specs.specs.Digits.{digits_at}
-use Rattle.ph_specs.specs.PutTree.{same_digits}
-use Rattle.ph_specs.proofs.laws.WordDigits.{digits-below}
+use Rattle.ph_model.specs.Digits.{digits_at}
+use Rattle.ph_specs.specs.DelTree.{same_digits}
+use Rattle.ph_model.proofs.laws.WordDigits.{digits-below}
 use Rattle.ph_bits.specs.Fields.{cut}
 use Rattle.ph_bits.proofs.Packing.{packed-same, cuts-small}
 use Rattle.ph_bits.proofs.RowPlaces.{pieces-row}

@@ -3,9 +3,9 @@ use Rattle.std.specs.Ordering.{ord_min}
 use Rattle.std.specs.Int.RustNames.{count_ones}
 use Rattle.std.proofs.lemmas.Nat.{ones-le, ones_cat, shr_below}
 use Rattle.std.proofs.Math.Nat.{mod-eq_of_lt}
-use Rattle.ph_specs.specs.Digits.{digits_at}
+use Rattle.ph_model.specs.Digits.{digits_at}
 use Rattle.ph_bits.specs.Fields.{ones_in}
-use Rattle.ph_specs.proofs.laws.WordDigits.{each-fits, digits-one, digits-parts, digits-below}
+use Rattle.ph_model.proofs.laws.WordDigits.{each-fits, digits-one, digits-parts, digits-below}
 use Rattle.ph_bits.proofs.fields.ones_across.Goals as goal
 
 least : (a b : ℕ) → ord_min nat_cmp a b ≡ min a b

@@ -1,8 +1,8 @@
 use Rattle.std.proofs.Common.{◌≡◌, ◌≤◌, ◌<◌, ◌+◌, ◌-◌, ◌*◌, ◌/◌, ◌%◌, ◌^◌, ℕ, List, length, slice_index_or, sym, ◌∙◌, ap, arith}
 use Rattle.std.specs.List.{AllByRecursion as Each}
 use Rattle.std.specs.Int.RustNames.{count_ones}
-use Rattle.ph_specs.specs.Digits.{digits_at}
-use Rattle.ph_specs.proofs.laws.WordDigits.{each-fits, digits-one, digits-below}
+use Rattle.ph_model.specs.Digits.{digits_at}
+use Rattle.ph_model.proofs.laws.WordDigits.{each-fits, digits-one, digits-below}
 use Rattle.ph_bits.specs.Fields.{ones_in}
 use Rattle.ph_bits.proofs.fields.ones_before.Goals as goal
 

@@ -1,6 +1,6 @@
 use Rattle.std.proofs.Common.{◌≡◌, take, drop, length, replicate}
-use Rattle.ph_specs.specs.Lawful.{put_together}
-use Rattle.ph_specs.specs.PutTree.{body_above}
+use Rattle.ph_specs.specs.TreeRows.{put_together}
+use Rattle.ph_model.specs.PutTree.{body_above}
 use Rattle.ph_bits.proofs.joins.join_address.Given as goal
 
 abbrev pub invariant-loop-i : goal.invariant-loop-i

@@ -1,6 +1,6 @@
 use Rattle.std.proofs.Common.{◌≡◌, take, drop, length}
-use Rattle.ph_specs.specs.Lawful.{put_together}
-use Rattle.ph_specs.specs.PutTree.{body_above}
+use Rattle.ph_specs.specs.TreeRows.{put_together}
+use Rattle.ph_model.specs.PutTree.{body_above}
 use Rattle.ph_bits.specs.Fields.{digits_row}
 use Rattle.ph_bits.proofs.joins.join_row.Given as goal
 

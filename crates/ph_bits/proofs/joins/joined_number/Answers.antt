@@ -1,5 +1,5 @@
 use Rattle.std.proofs.Common.{◌+◌, ◌-◌, ◌*◌, ◌/◌, ◌%◌, ◌^◌, ◌<◌, sym, subst, arith, get_or, length, mod-lt}
-use Rattle.ph_specs.proofs.laws.WordDigits.{digits-below}
+use Rattle.ph_model.proofs.laws.WordDigits.{digits-below}
 use Rattle.ph_digits.proofs.Joins.{small-at}
 use Rattle.ph_bits.proofs.JoinedNumbers.{joined-at, joined-small}
 use Rattle.ph_bits.proofs.joins.joined_number.Goals as goal

@@ -1,5 +1,5 @@
 use Rattle.std.proofs.Common.{◌^◌, ◌<◌, sym, subst}
-use Rattle.ph_specs.proofs.laws.WordDigits.{digits-below}
+use Rattle.ph_model.proofs.laws.WordDigits.{digits-below}
 use Rattle.ph_bits.proofs.MovedRuns.{moved-put}
 use Rattle.ph_bits.proofs.moves.move_field.Goals as goal
 

@@ -1,5 +1,5 @@
 use Rattle.std.proofs.Common.{rules, ◌≡◌, ◌≤◌, ◌<◌, ◌+◌, ◌-◌, ◌*◌, ◌/◌, ◌%◌, ◌^◌, ℕ, slice_index_or, sym, subst, arith, Fits, w64}
-use Rattle.ph_specs.proofs.laws.WordDigits.{digits-below}
+use Rattle.ph_model.proofs.laws.WordDigits.{digits-below}
 use Rattle.ph_bits.proofs.Codes.{one}
 use Rattle.ph_bits.proofs.MovedRuns.{moved-put}
 use Rattle.ph_bits.proofs.Replaced.{put}

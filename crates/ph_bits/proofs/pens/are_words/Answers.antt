@@ -1,4 +1,4 @@
-use Rattle.ph_specs.proofs.laws.WordDigits.{each-fits}
+use Rattle.ph_model.proofs.laws.WordDigits.{each-fits}
 use Rattle.ph_bits.proofs.pens.are_words.Goals as goal
 
 pub returns : goal.returns

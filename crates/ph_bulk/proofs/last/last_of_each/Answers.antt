@@ -3,7 +3,8 @@ use Rattle.std.specs.List.{list_all}
 use Rattle.std.specs.Prelude.{not, IsTrue}
 use Rattle.ph_specs.specs.Coordinate.{is_point}
 use Rattle.ph_specs.specs.Sets.{table_of}
-use Rattle.ph_specs.specs.Table.{put, IsRising}
+use Rattle.ph_specs.specs.Table.{put}
+use Rattle.ph_model.specs.Order.{IsRising}
 use Rattle.ph_specs.specs.ZOrder.{before}
 use Rattle.ph_bulk.proofs.Sorted.{IsNext, next-row, table-more}
 use Rattle.ph_bulk.proofs.last.last_of_each.Goals as goal

@@ -1,7 +1,7 @@
 use Rattle.std.proofs.Common.{rules, ◌<◌, ◌≤◌, ◌∷◌, [], ◌++◌, length, reverse, arith, refl, ap, sym, subst, ◌∙◌}
 use Rattle.ph_specs.specs.Pack.{children}
 use Rattle.ph_specs.specs.Record.{first_in, unpacked}
-use Rattle.ph_specs.proofs.laws.Unpacked.{child_nodes}
+use Rattle.ph_model.proofs.laws.Unpacked.{child_nodes}
 use Rattle.ph_node.specs.Recorded.{IsLaidOut}
 use Rattle.ph_node.specs.Slots.{nodes_of, in_slot}
 use Rattle.ph_node.proofs.Turned.{nodes-first, nodes-long, nodes-turned}

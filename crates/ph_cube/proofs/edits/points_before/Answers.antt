@@ -1,12 +1,12 @@
 use Rattle.std.proofs.Common.{◌≡◌, ◌+◌, ◌^◌, ◌≤◌, List, length, arith, sym, ap, ◌∙◌, take, true}
 use Rattle.std.specs.Prelude.{nat_le}
 use Rattle.std.specs.List.{position_or_len}
-use Rattle.ph_specs.specs.Layout.{entries_as, read_address}
-use Rattle.ph_specs.specs.NodeSize.{children_in, points_in}
+use Rattle.ph_model.specs.Layout.{entries_as, read_address}
+use Rattle.ph_model.specs.NodeSize.{children_in, points_in}
 use Rattle.ph_specs.specs.Record.{Read}
-use Rattle.ph_specs.proofs.laws.TableFields.{both-counts}
-use Rattle.ph_specs.proofs.laws.WordDigits.{each-fits}
-use Rattle.ph_specs.proofs.lemmas.ReadColumns.{length-parts}
+use Rattle.ph_model.proofs.laws.TableFields.{both-counts}
+use Rattle.ph_model.proofs.laws.WordDigits.{each-fits}
+use Rattle.ph_model.proofs.lemmas.ReadColumns.{length-parts}
 use Rattle.ph_cube.specs.Cube.{kinds, bodies, twos_in}
 use Rattle.ph_cube.proofs.Columns.{length-kinds}
 use Rattle.ph_cube.proofs.EditedPlaces.{below-most}

@@ -2,7 +2,7 @@ use Rattle.std.proofs.Common.{rules, ◌^◌, ◌<◌, take, replicate, sym, ◌
 use Rattle.std.specs.List.{AllByRecursion as Each}
 use Rattle.ph_specs.specs.Pack.{bodies}
 use Rattle.ph_specs.specs.Record.{first_in}
-use Rattle.ph_specs.proofs.laws.WordDigits.{each-fits}
+use Rattle.ph_model.proofs.laws.WordDigits.{each-fits}
 use Rattle.ph_linear.specs.Edited.{IsColumnOver}
 use Rattle.ph_linear.proofs.Overs.{column-stays}
 use Rattle.ph_cube.proofs.EditedTables.{kind-then, body-then, body-fits}

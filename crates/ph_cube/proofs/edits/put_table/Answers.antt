@@ -1,6 +1,6 @@
 use Rattle.std.proofs.Common.{rules, ◌^◌, ◌<◌}
 use Rattle.std.specs.List.{AllByRecursion as Each}
-use Rattle.ph_specs.proofs.laws.WordDigits.{each-fits}
+use Rattle.ph_model.proofs.laws.WordDigits.{each-fits}
 use Rattle.ph_cube.proofs.EditedTables.{within}
 use Rattle.ph_cube.proofs.edits.put_table.Goals as goal
 

@@ -1,4 +1,4 @@
-use Rattle.ph_specs.proofs.laws.WordDigits.{each-fits}
+use Rattle.ph_model.proofs.laws.WordDigits.{each-fits}
 use Rattle.ph_cube.proofs.Stood.{stands-at}
 use Rattle.ph_cube.proofs.known.body_at.Goals as goal
 

@@ -2,7 +2,7 @@ use Rattle.std.proofs.Common.{◌≡◌, ◌+◌, ◌-◌, ◌*◌, ◌%◌, ◌
 use Rattle.std.specs.Prelude.{◌==◌, if◌then◌else◌}
 use Rattle.std.proofs.lemmas.Nat.{pow-add}
 use Rattle.ph_bits.specs.Fields.{ones_in}
-use Rattle.ph_specs.proofs.laws.WordDigits.{each-fits}
+use Rattle.ph_model.proofs.laws.WordDigits.{each-fits}
 use Rattle.ph_linear.proofs.Halving.{shifted}
 use Rattle.ph_cube.specs.Cube.{kinds}
 use Rattle.ph_cube.proofs.Ranks.{none-in, ones-add, room, kind-one, present-ones, present-entries}

@@ -4,9 +4,9 @@ use Rattle.std.specs.List.{AllByRecursion as Each}
 use Rattle.std.proofs.lemmas.Bool.{eqb-false}
 use Rattle.std.proofs.Math.Nat.{pow-le-pow_right}
 use Rattle.ph_bits.specs.Fields.{ones_in}
-use Rattle.ph_specs.specs.Layout.{IsRecord}
+use Rattle.ph_model.specs.Layout.{IsRecord}
 use Rattle.ph_specs.specs.Record.{first_in}
-use Rattle.ph_specs.proofs.laws.WordDigits.{each-fits}
+use Rattle.ph_model.proofs.laws.WordDigits.{each-fits}
 use Rattle.ph_cube.specs.Cube.{kinds}
 use Rattle.ph_cube.proofs.Columns.{kind-digits}
 use Rattle.ph_cube.proofs.Ranks.{ones-add, room, kind-one, present-ones, present-entries}

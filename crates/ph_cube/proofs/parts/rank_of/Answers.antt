@@ -1,10 +1,10 @@
 use Rattle.std.proofs.Common.{◌≡◌, ◌+◌, ◌-◌, ℕ, List, sym, ap, ◌∙◌, arith, take, true}
 use Rattle.std.specs.Prelude.{if◌then◌else◌}
-use Rattle.ph_specs.specs.NodeSize.{children_in, points_in}
+use Rattle.ph_model.specs.NodeSize.{children_in, points_in}
 use Rattle.ph_specs.specs.Record.{Read}
-use Rattle.ph_specs.specs.Layout.{entries_as}
-use Rattle.ph_specs.proofs.laws.TableFields.{both-counts}
-use Rattle.ph_specs.proofs.laws.WordDigits.{each-fits}
+use Rattle.ph_model.specs.Layout.{entries_as}
+use Rattle.ph_model.proofs.laws.TableFields.{both-counts}
+use Rattle.ph_model.proofs.laws.WordDigits.{each-fits}
 use Rattle.ph_linear.proofs.Ranks.{ranked}
 use Rattle.ph_cube.proofs.Entries.{children}
 use Rattle.ph_cube.proofs.Ranks.{length-entries}

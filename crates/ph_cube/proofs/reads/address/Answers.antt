@@ -1,4 +1,4 @@
-use Rattle.ph_specs.proofs.laws.WordDigits.{each-fits}
+use Rattle.ph_model.proofs.laws.WordDigits.{each-fits}
 use Rattle.ph_cube.proofs.Entries.{address-is}
 use Rattle.ph_cube.proofs.reads.address.Goals as goal
 

@@ -1,5 +1,5 @@
 use Rattle.std.proofs.Common.{sym, ◌∙◌}
-use Rattle.ph_specs.proofs.laws.WordDigits.{each-fits}
+use Rattle.ph_model.proofs.laws.WordDigits.{each-fits}
 use Rattle.ph_cube.proofs.Stood.{stands, stands-within}
 use Rattle.ph_cube.proofs.reads.find_entry.Goals as goal
 

@@ -1,7 +1,7 @@
 use Rattle.std.proofs.Common.{◌≡◌, ap, sym, ◌∙◌, true, false}
 use Rattle.std.specs.Option.{unwrap_or}
-use Rattle.ph_specs.specs.Layout.{entries_as}
-use Rattle.ph_specs.proofs.laws.WordDigits.{each-fits}
+use Rattle.ph_model.specs.Layout.{entries_as}
+use Rattle.ph_model.proofs.laws.WordDigits.{each-fits}
 use Rattle.ph_bits.specs.Packed.{rank_at}
 use Rattle.ph_cube.proofs.Entries.{kind-is}
 use Rattle.ph_cube.proofs.reads.rank.Goals as goal

@@ -1,8 +1,8 @@
 use Rattle.std.proofs.Common.{◌≡◌, ◌+◌, ◌*◌, ◌%◌, ◌^◌, ◌<◌, ◌≤◌, ℕ, arith, length, lt-ltb, le-ltb, true, refl}
 use Rattle.std.specs.Prelude.{nat_le}
 use Rattle.std.specs.List.{position_or_len}
-use Rattle.ph_specs.specs.Layout.{read_address, entries_as}
-use Rattle.ph_specs.proofs.laws.WordDigits.{each-fits}
+use Rattle.ph_model.specs.Layout.{read_address, entries_as}
+use Rattle.ph_model.proofs.laws.WordDigits.{each-fits}
 use Rattle.ph_linear.proofs.Halving.{shifted}
 use Rattle.ph_cube.specs.Cube.{kinds, bodies}
 use Rattle.ph_cube.proofs.Columns.{length-kinds}

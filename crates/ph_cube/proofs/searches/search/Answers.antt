@@ -1,6 +1,6 @@
 use Rattle.std.proofs.Common.{◌≡◌, ℕ, sym, ◌∙◌, ap, arith, slice_index_or, eq-eqb, ne_eqb, false}
 use Rattle.std.specs.Prelude.{◌==◌, Some}
-use Rattle.ph_specs.proofs.laws.WordDigits.{each-fits}
+use Rattle.ph_model.proofs.laws.WordDigits.{each-fits}
 use Rattle.ph_cube.specs.Cube.{kinds}
 use Rattle.ph_cube.proofs.Columns.{kind-digits}
 use Rattle.ph_cube.proofs.Places.{present}

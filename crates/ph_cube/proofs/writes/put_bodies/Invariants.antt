@@ -2,7 +2,7 @@ use Rattle.std.proofs.Common.{◌≡◌, ◌+◌, ◌*◌, ◌^◌, ◌≤◌, �
 use Rattle.std.specs.Prelude.{IfSome}
 use Rattle.ph_specs.specs.Digits.{number_after}
 use Rattle.ph_specs.specs.Pack.{bodies, places, place_body, at_address}
-use Rattle.ph_specs.specs.Layout.{AreRising}
+use Rattle.ph_model.specs.Layout.{AreRising}
 use Rattle.ph_bits.specs.Block.{IsSamePlaces}
 use Rattle.ph_bits.specs.Written.{IsPen, digits_by, number_by}
 use Rattle.ph_cube.proofs.writes.put_bodies.Given as goal

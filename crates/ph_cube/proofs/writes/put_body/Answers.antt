@@ -2,10 +2,10 @@ use Rattle.std.proofs.Common.{◌≡◌, ◌≤◌, ◌<◌, ◌^◌, ℕ, take,
 use Rattle.std.specs.List.{AllByRecursion as Each}
 use Rattle.std.specs.Option.{option_map}
 use Rattle.ph_specs.specs.Node.{Flat}
-use Rattle.ph_specs.specs.Lawful.{IsBody}
+use Rattle.ph_model.specs.Lawful.{IsBody}
 use Rattle.ph_specs.specs.Digits.{field, number_after}
 use Rattle.ph_specs.specs.Pack.{at_address, body_fields, place_body}
-use Rattle.ph_specs.proofs.lemmas.Cubes.{places-bodies}
+use Rattle.ph_model.proofs.lemmas.Cubes.{places-bodies}
 use Rattle.ph_bits.specs.Packed.{read_of}
 use Rattle.ph_bits.specs.Written.{number_by}
 use Rattle.ph_cube.specs.Written.{is_there}

@@ -3,7 +3,7 @@ use Rattle.std.specs.Prelude.{Some}
 use Rattle.std.specs.Option.{option_map}
 use Rattle.ph_specs.specs.Node.{Flat}
 use Rattle.ph_specs.specs.Pack.{at_address}
-use Rattle.ph_specs.specs.Layout.{unvalued, AreRising}
+use Rattle.ph_model.specs.Layout.{unvalued, AreRising}
 use Rattle.ph_bits.specs.Packed.{read_of}
 use Rattle.ph_linear.proofs.Writing.{Given, no_flat, read-at, given}
 use Rattle.ph_cube.proofs.Standing.{drop-first, here, later}

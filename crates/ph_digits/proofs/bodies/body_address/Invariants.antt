@@ -1,5 +1,5 @@
 use Rattle.std.proofs.Common.{◌≡◌, ◌<◌, ◌^◌, drop}
-use Rattle.ph_specs.specs.PutTree.{body_address_from, body_address}
+use Rattle.ph_model.specs.PutTree.{body_address_from, body_address}
 use Rattle.ph_digits.proofs.bodies.body_address.Given as goal
 
 abbrev pub invariant-loop-field : goal.invariant-loop-field

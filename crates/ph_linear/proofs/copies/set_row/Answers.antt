@@ -1,7 +1,8 @@
 use Rattle.std.proofs.Common.{◌≡◌, ◌+◌, ◌*◌, ◌^◌, ◌≤◌, ◌<◌, ℕ, length, take, map, slice_index_or, sym, ◌∙◌, ap, subst, arith}
 use Rattle.std.proofs.Math.Nat.{mul-le-mul_left}
 use Rattle.std.proofs.lemmas.List.{length-take-le}
-use Rattle.ph_specs.specs.Digits.{field, number_of, digits_at}
+use Rattle.ph_specs.specs.Digits.{field, number_of}
+use Rattle.ph_model.specs.Digits.{digits_at}
 use Rattle.ph_linear.specs.Edited.{IsOver}
 use Rattle.ph_linear.proofs.Overs.{over-same, over-put, over-next, row-more, each-at}
 use Rattle.ph_linear.proofs.copies.set_row.Goals as goal

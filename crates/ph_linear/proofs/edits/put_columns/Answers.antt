@@ -2,10 +2,10 @@ use Rattle.std.proofs.Common.{rules, ◌+◌, ◌^◌, ◌<◌, ◌≤◌, lengt
 use Rattle.std.specs.Prelude.{if◌then◌else◌}
 use Rattle.std.specs.List.{AllByRecursion as Each}
 use Rattle.ph_specs.specs.Digits.{field}
-use Rattle.ph_specs.specs.Layout.{entries_as, values_as}
+use Rattle.ph_model.specs.Layout.{entries_as, values_as}
 use Rattle.ph_specs.specs.Pack.{bodies}
 use Rattle.ph_specs.specs.Record.{first_in}
-use Rattle.ph_specs.proofs.laws.WordDigits.{each-fits}
+use Rattle.ph_model.proofs.laws.WordDigits.{each-fits}
 use Rattle.ph_bits.specs.Edits.{flats, new_flat}
 use Rattle.ph_linear.specs.Edited.{IsColumnOver}
 use Rattle.ph_linear.proofs.EditedEntries.{table-old}

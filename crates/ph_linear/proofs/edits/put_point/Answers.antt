@@ -1,5 +1,5 @@
 use Rattle.std.proofs.Common.{◌-◌, length, take, arith, ◌∙◌, false}
-use Rattle.ph_specs.specs.Layout.{entries_as}
+use Rattle.ph_model.specs.Layout.{entries_as}
 use Rattle.ph_linear.proofs.PutRecords.{none, points-child, point-changed}
 use Rattle.ph_linear.proofs.Ranks.{many}
 use Rattle.ph_linear.proofs.edits.put_point.Goals as goal

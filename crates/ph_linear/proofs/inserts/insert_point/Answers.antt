@@ -2,11 +2,11 @@ use Rattle.std.proofs.Common.{rules, ◌≡◌, ℕ, List, ◌∷◌, ◌++◌, 
 use Rattle.std.specs.List.{AllByRecursion as Each}
 use Rattle.std.proofs.lemmas.List.{length-take-le, take-take}
 use Rattle.ph_specs.specs.Digits.{words_for}
-use Rattle.ph_specs.specs.Lawful.{IsBody}
-use Rattle.ph_specs.specs.Layout.{entries_as, values_as}
+use Rattle.ph_model.specs.Lawful.{IsBody}
+use Rattle.ph_model.specs.Layout.{entries_as, values_as}
 use Rattle.ph_specs.specs.Pack.{children, first_word}
 use Rattle.ph_specs.specs.Record.{first_in}
-use Rattle.ph_specs.proofs.laws.WordDigits.{each-fits}
+use Rattle.ph_model.proofs.laws.WordDigits.{each-fits}
 use Rattle.ph_bits.specs.Edits.{edited_as, flats, new_flat}
 use Rattle.ph_linear.specs.Runs.{digits_more, runs_with, with_fields}
 use Rattle.ph_linear.proofs.EditedEntries.{table-old}

@@ -1,10 +1,10 @@
 use Rattle.std.proofs.Common.{◌≡◌, ◌+◌, ◌*◌, ◌<◌, ◌≤◌, ◌^◌, ℕ, List, sym, ◌∙◌, ap, subst, arith, slice_index_or, false}
 use Rattle.std.specs.List.{AllByRecursion as Each}
 use Rattle.std.proofs.Math.Nat.{pow-le-pow_right}
-use Rattle.ph_specs.specs.Digits.{digits_at}
-use Rattle.ph_specs.specs.Layout.{IsRecord}
+use Rattle.ph_model.specs.Digits.{digits_at}
+use Rattle.ph_model.specs.Layout.{IsRecord}
 use Rattle.ph_specs.specs.Record.{first_in}
-use Rattle.ph_specs.proofs.laws.WordDigits.{each-fits, digits-below}
+use Rattle.ph_model.proofs.laws.WordDigits.{each-fits, digits-below}
 use Rattle.ph_linear.specs.Linear.{addresses}
 use Rattle.ph_linear.proofs.Columns.{address-digits, two_words}
 use Rattle.ph_linear.proofs.parts.address_at.Goals as goal

@@ -1,5 +1,5 @@
 use Rattle.std.proofs.Common.{◌==◌, ap, sym, ◌∙◌}
-use Rattle.ph_specs.proofs.laws.WordDigits.{each-fits}
+use Rattle.ph_model.proofs.laws.WordDigits.{each-fits}
 use Rattle.ph_linear.proofs.Columns.{kind-digits}
 use Rattle.ph_linear.proofs.parts.child_at.Goals as goal
 

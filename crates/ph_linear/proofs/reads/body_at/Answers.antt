@@ -1,7 +1,7 @@
 use Rattle.std.proofs.Common.{◌+◌, ◌*◌, ℕ, false, sym, subst}
-use Rattle.ph_specs.specs.Layout.{entries_as}
+use Rattle.ph_model.specs.Layout.{entries_as}
 use Rattle.ph_specs.specs.Record.{first_in}
-use Rattle.ph_specs.proofs.laws.WordDigits.{each-fits}
+use Rattle.ph_model.proofs.laws.WordDigits.{each-fits}
 use Rattle.ph_bits.specs.Packed.{IsBodyAt}
 use Rattle.ph_linear.proofs.Bodies.{begins}
 use Rattle.ph_linear.proofs.reads.body_at.Goals as goal

@@ -2,7 +2,7 @@ use Rattle.std.proofs.Common.{◌≡◌, ℕ, sym, ◌∙◌, ap, take, get_or, 
 use Rattle.std.specs.Prelude.{Some}
 use Rattle.std.specs.Option.{option_map, unwrap_or}
 use Rattle.std.proofs.lemmas.Option.{slice_get-map}
-use Rattle.ph_specs.specs.Layout.{entries_as}
+use Rattle.ph_model.specs.Layout.{entries_as}
 use Rattle.ph_specs.specs.Record.{read}
 use Rattle.ph_bits.specs.Fields.{digits_row}
 use Rattle.ph_bits.specs.Packed.{read_body}

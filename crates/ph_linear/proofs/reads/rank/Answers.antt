@@ -1,6 +1,6 @@
 use Rattle.std.proofs.Common.{◌≡◌, ap, sym, ◌∙◌, false}
 use Rattle.std.specs.Option.{unwrap_or}
-use Rattle.ph_specs.specs.Layout.{entries_as}
+use Rattle.ph_model.specs.Layout.{entries_as}
 use Rattle.ph_bits.specs.Packed.{rank_at}
 use Rattle.ph_linear.proofs.Ranks.{kind-is}
 use Rattle.ph_linear.proofs.reads.rank.Goals as goal

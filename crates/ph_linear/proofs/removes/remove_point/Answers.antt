@@ -2,7 +2,7 @@ use Rattle.std.proofs.Common.{rules, ◌≡◌, ◌+◌, ◌^◌, ◌<◌, ◌�
 use Rattle.std.specs.List.{AllByRecursion as Each}
 use Rattle.ph_specs.specs.Pack.{record_in}
 use Rattle.ph_specs.specs.Record.{first_in}
-use Rattle.ph_specs.proofs.laws.WordDigits.{each-fits}
+use Rattle.ph_model.proofs.laws.WordDigits.{each-fits}
 use Rattle.ph_bits.specs.Edits.{edited_as}
 use Rattle.ph_linear.specs.Resized.{IsClosable, with_less}
 use Rattle.ph_linear.proofs.LessRecords.{closed-record}

@@ -1,7 +1,7 @@
 use Rattle.std.proofs.Common.{◌≡◌, ◌+◌, ◌*◌, ◌-◌, ◌/◌, ◌%◌, ◌<◌, ◌≤◌, ◌^◌, ℕ, ◌∙◌, ap, subst, arith, List, length, slice_index_or, inl, inr}
-use Rattle.ph_specs.specs.Digits.{digits_at}
+use Rattle.ph_model.specs.Digits.{digits_at}
 use Rattle.ph_specs.specs.Record.{first_in}
-use Rattle.ph_specs.proofs.laws.WordDigits.{each-fits}
+use Rattle.ph_model.proofs.laws.WordDigits.{each-fits}
 use Rattle.ph_linear.specs.Linear.{addresses}
 use Rattle.ph_linear.proofs.Columns.{length-addresses}
 use Rattle.ph_linear.proofs.Entries.{split, first-at}

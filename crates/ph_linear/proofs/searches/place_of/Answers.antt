@@ -1,9 +1,9 @@
 use Rattle.std.proofs.Common.{◌≡◌, ◌+◌, ◌*◌, ◌-◌, ◌/◌, ◌%◌, ◌<◌, ◌≤◌, ◌^◌, ℕ, refl, sym, ◌∙◌, ap, subst, arith, List, length, slice_index_or, false}
 use Rattle.std.specs.List.{AllByRecursion as Each}
-use Rattle.ph_specs.specs.Digits.{digits_at}
-use Rattle.ph_specs.specs.Layout.{IsRecord}
+use Rattle.ph_model.specs.Digits.{digits_at}
+use Rattle.ph_model.specs.Layout.{IsRecord}
 use Rattle.ph_specs.specs.Record.{first_in}
-use Rattle.ph_specs.proofs.laws.WordDigits.{each-fits}
+use Rattle.ph_model.proofs.laws.WordDigits.{each-fits}
 use Rattle.ph_linear.specs.Linear.{addresses}
 use Rattle.ph_linear.proofs.Columns.{length-addresses, two_words}
 use Rattle.ph_linear.proofs.Entries.{rises-most, first-at}

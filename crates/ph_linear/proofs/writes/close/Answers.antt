@@ -2,7 +2,7 @@ use Rattle.std.proofs.Common.{◌≡◌, ◌∷◌, [], List, arith, ◌∙◌, 
 use Rattle.ph_specs.specs.Node.{Flat}
 use Rattle.ph_specs.specs.Digits.{words_of}
 use Rattle.ph_specs.specs.Pack.{first_word, table}
-use Rattle.ph_specs.proofs.lemmas.LayoutTables.{children-few, table-fit}
+use Rattle.ph_model.proofs.lemmas.LayoutTables.{children-few, table-fit}
 use Rattle.ph_linear.proofs.Writing.{byte, byte-few, few, finished}
 use Rattle.ph_linear.proofs.writes.close.Goals as goal
 

@@ -5,7 +5,7 @@ use Rattle.std.proofs.lemmas.Option.{slice_get-get_or}
 use Rattle.ph_specs.specs.Node.{Flat}
 use Rattle.ph_specs.specs.Pack.{child_mark, values, value_in_front}
 use Rattle.ph_specs.specs.Record.{read}
-use Rattle.ph_specs.specs.Layout.{unvalued}
+use Rattle.ph_model.specs.Layout.{unvalued}
 use Rattle.ph_bits.specs.Block.{room_of}
 use Rattle.ph_linear.proofs.Writing.{no_flat, given, values-more, values-room, value-of, no-value}
 use Rattle.ph_linear.proofs.writes.put_values.Goals as goal

@@ -2,7 +2,7 @@ use Rattle.std.proofs.Common.{◌∷◌, [], arith, ◌∙◌, ap, List, false}
 use Rattle.ph_specs.specs.Node.{Flat}
 use Rattle.ph_specs.specs.Digits.{number_after, words_for}
 use Rattle.ph_specs.specs.Pack.{bodies}
-use Rattle.ph_specs.proofs.lemmas.LayoutTables.{table-digits}
+use Rattle.ph_model.proofs.lemmas.LayoutTables.{table-digits}
 use Rattle.ph_bits.specs.Fields.{number_in}
 use Rattle.ph_linear.specs.Written.{kind_fields, address_fields, body_list}
 use Rattle.ph_linear.proofs.Writing.{table-number}

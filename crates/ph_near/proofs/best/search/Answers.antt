@@ -4,9 +4,10 @@ use Rattle.std.specs.BinaryHeap.{heap_items}
 use Rattle.std.specs.List.{AllByRecursion as Each}
 use Rattle.std.specs.Option.{option_copied}
 use Rattle.ph_specs.specs.Coordinate.{coordinate}
-use Rattle.ph_specs.specs.Lawful.{IsLawful, rows}
-use Rattle.ph_specs.proofs.lemmas.Members.{Each-parts}
-use Rattle.ph_specs.proofs.lemmas.RowsBehind.{Each-append, Each-each}
+use Rattle.ph_specs.specs.TreeRows.{rows}
+use Rattle.ph_model.specs.Lawful.{IsLawful}
+use Rattle.ph_specs.proofs.lemmas.Members.{Each-parts, Each-each}
+use Rattle.ph_model.proofs.lemmas.RowsBehind.{Each-append}
 use Rattle.ph_near.specs.Found.{IsFound}
 use Rattle.ph_near.specs.Nearing.{IsNearing}
 use Rattle.ph_near.specs.Opening.{IsOpened, opened_at, opened_items, line_of, AreWaiting, IsChild}

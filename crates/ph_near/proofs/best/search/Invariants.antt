@@ -3,8 +3,8 @@ use Rattle.std.specs.BinaryHeap.{heap_items, IsHeap}
 use Rattle.std.specs.List.{AllByRecursion as Each}
 use Rattle.std.specs.Option.{option_copied}
 use Rattle.ph_specs.specs.Coordinate.{coordinate}
-use Rattle.ph_specs.specs.Lawful.{rows}
-use Rattle.ph_specs.proofs.lemmas.Searching.{nodes_in}
+use Rattle.ph_specs.specs.TreeRows.{rows}
+use Rattle.ph_model.proofs.lemmas.Searching.{nodes_in}
 use Rattle.ph_near.specs.Nearing.{IsNearing}
 use Rattle.ph_near.specs.Opening.{IsOpened, line_of, AreWaiting}
 use Rattle.ph_near.specs.Ranking.{IsRanking}

@@ -1,6 +1,6 @@
 use Rattle.std.proofs.Common.{◌≤◌, ◌∙◌, refl, ap, sym, subst, arith}
-use Rattle.ph_specs.specs.Lawful.{HasZerosFrom}
-use Rattle.ph_specs.specs.Node.{entries}
+use Rattle.ph_model.specs.Lawful.{HasZerosFrom}
+use Rattle.ph_model.specs.EntryList.{entries}
 use Rattle.ph_node.specs.Shown.{shown}
 use Rattle.ph_node.specs.Split.{body_at}
 use Rattle.ph_near.specs.Opening.{IsEntered}

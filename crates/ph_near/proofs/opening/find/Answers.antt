@@ -1,10 +1,10 @@
 use Rattle.std.proofs.Common.{◌≡◌, ◌<◌, ◌≤◌, ◌^◌, ◌∙◌, inl, inr, refl, ap, sym, subst, arith, map}
 use Rattle.std.proofs.lemmas.Result.{on_ok_weaker}
 use Rattle.std.specs.List.{AllByRecursion as Each}
-use Rattle.ph_specs.specs.BestFirst.{item_distance}
+use Rattle.ph_model.specs.BestFirst.{item_distance}
 use Rattle.ph_specs.specs.Coordinate.{coordinate}
-use Rattle.ph_specs.specs.EntryEdits.{what_at}
-use Rattle.ph_specs.specs.Node.{entries}
+use Rattle.ph_model.specs.EntryEdits.{what_at}
+use Rattle.ph_model.specs.EntryList.{entries}
 use Rattle.ph_node.specs.Shown.{shown}
 use Rattle.ph_near.specs.Far.{entry_gap}
 use Rattle.ph_near.specs.Found.{IsFound, found_item}

@@ -1,8 +1,8 @@
 use Rattle.std.proofs.Common.{◌≡◌, ◌+◌, ℕ, Bool, true, false, not, arith, ap, sym, ◌∙◌, subst, map}
 use Rattle.std.specs.Prelude.{Some, slice_get}
-use Rattle.ph_specs.specs.Layout.{is_child}
+use Rattle.ph_model.specs.Layout.{is_child}
 use Rattle.ph_specs.specs.Record.{entries_in}
-use Rattle.ph_specs.proofs.laws.WordDigits.{each-fits}
+use Rattle.ph_model.proofs.laws.WordDigits.{each-fits}
 use Rattle.ph_linear.proofs.Writing.{byte, byte-few}
 use Rattle.ph_node.proofs.Full.{both-before}
 use Rattle.ph_node.proofs.Marked.{points-next}

@@ -1,6 +1,6 @@
 use Rattle.std.proofs.Common.{sym, subst, take, arith}
 use Rattle.std.specs.Prelude.{Some}
-use Rattle.ph_specs.specs.Layout.{AreRising}
+use Rattle.ph_model.specs.Layout.{AreRising}
 use Rattle.ph_node.specs.OneEdit.{held_by}
 use Rattle.ph_node.proofs.Fitting.{few}
 use Rattle.ph_node.proofs.PairLists.{pair_is, rising-order, length-order}

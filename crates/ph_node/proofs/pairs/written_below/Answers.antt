@@ -2,7 +2,7 @@ use Rattle.std.proofs.Common.{ℕ, List, ap, sym, subst, ◌∙◌, take}
 use Rattle.std.specs.Prelude.{Some, None, if◌then◌else◌}
 use Rattle.ph_digits.proofs.Cuts.{take-below}
 use Rattle.ph_specs.specs.Node.{Flat}
-use Rattle.ph_specs.specs.PutTree.{body_address}
+use Rattle.ph_model.specs.PutTree.{body_address}
 use Rattle.ph_bits.specs.Packed.{IsPadded}
 use Rattle.ph_node.proofs.Filled.{padded-below}
 use Rattle.ph_node.proofs.pairs.written_below.Goals as goal

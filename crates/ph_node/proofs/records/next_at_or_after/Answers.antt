@@ -1,6 +1,6 @@
 use Rattle.std.proofs.Common.{◌≡◌, ◌^◌, sym, ◌∙◌, arith, eqb-true}
 use Rattle.ph_specs.specs.Record.{first_in}
-use Rattle.ph_specs.proofs.laws.WordDigits.{each-fits}
+use Rattle.ph_model.proofs.laws.WordDigits.{each-fits}
 use Rattle.ph_node.proofs.Full.{full-next, full-end}
 use Rattle.ph_node.proofs.records.next_at_or_after.Goals as goal
 

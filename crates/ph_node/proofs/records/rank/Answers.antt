@@ -1,6 +1,6 @@
 use Rattle.std.proofs.Common.{◌≡◌, ◌-◌, false, arith, ap, sym, ◌∙◌}
 use Rattle.ph_specs.specs.Record.{entries_in}
-use Rattle.ph_specs.proofs.laws.WordDigits.{each-fits}
+use Rattle.ph_model.proofs.laws.WordDigits.{each-fits}
 use Rattle.ph_bits.specs.Packed.{rank_at}
 use Rattle.ph_node.proofs.Full.{both-before}
 use Rattle.ph_node.proofs.records.rank.Goals as goal

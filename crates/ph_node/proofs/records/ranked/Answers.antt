@@ -1,5 +1,5 @@
 use Rattle.std.proofs.Common.{sym, ◌∙◌, arith}
-use Rattle.ph_specs.proofs.laws.WordDigits.{each-fits}
+use Rattle.ph_model.proofs.laws.WordDigits.{each-fits}
 use Rattle.ph_node.proofs.Full.{only-points, only-children, before-points, before-children, both-before}
 use Rattle.ph_node.proofs.records.ranked.Goals as goal
 

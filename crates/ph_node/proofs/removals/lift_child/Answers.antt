@@ -1,7 +1,8 @@
 use Rattle.std.proofs.Common.{◌≡◌, ◌<◌, ap, sym, ◌∙◌, subst, length, Bool}
 use Rattle.std.specs.List.{insert}
 use Rattle.std.specs.Prelude.{if◌then◌else◌}
-use Rattle.ph_specs.specs.Node.{PlainNode, entries}
+use Rattle.ph_specs.specs.Node.{PlainNode}
+use Rattle.ph_model.specs.EntryList.{entries}
 use Rattle.ph_bits.specs.Edits.{edited}
 use Rattle.ph_node.specs.OneEdit.{node_at, nodes_held}
 use Rattle.ph_node.specs.Slots.{nodes_of}

@@ -2,7 +2,7 @@ use Rattle.std.proofs.Common.{◌≡◌, ℕ, ◌+◌, ◌-◌, List, length, ta
 use Rattle.std.proofs.lemmas.List.{length-take-le}
 use Rattle.std.specs.Prelude.{nat_le}
 use Rattle.std.specs.List.{position_or_len}
-use Rattle.ph_specs.specs.Layout.{IsRecord, AreRising, entries_as, read_address}
+use Rattle.ph_model.specs.Layout.{IsRecord, AreRising, entries_as, read_address}
 use Rattle.ph_specs.specs.Pack.{record_in}
 use Rattle.ph_specs.specs.Record.{first_in, has_cube}
 use Rattle.ph_bits.specs.Edits.{edited_as}

@@ -2,7 +2,7 @@ use Rattle.std.proofs.Common.{◌≡◌, ◌+◌, ◌-◌, ◌∷◌, ◌<◌, �
 use Rattle.std.proofs.lemmas.Bool.{eqb-false}
 use Rattle.ph_specs.specs.Node.{Flat}
 use Rattle.ph_specs.specs.Pack.{children}
-use Rattle.ph_specs.specs.Layout.{AreRising}
+use Rattle.ph_model.specs.Layout.{AreRising}
 use Rattle.ph_record_trials.specs.declared.items.Item.{Item}
 use Rattle.ph_record_trials.specs.Listed.{flat_of, flats}
 use Rattle.ph_record_trials.proofs.Lists.{no_item, drop-item, lower, length-flats}

@@ -1,6 +1,6 @@
 use Rattle.std.proofs.Common.{◌≡◌, ◌≤◌, ◌^◌, length, drop}
 use Rattle.ph_specs.specs.Pack.{children}
-use Rattle.ph_specs.specs.Layout.{AreRising}
+use Rattle.ph_model.specs.Layout.{AreRising}
 use Rattle.ph_record_trials.specs.Listed.{flats}
 use Rattle.ph_record_trials.proofs.items.is_writable.Given as goal
 

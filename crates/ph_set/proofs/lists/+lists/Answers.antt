@@ -1,8 +1,8 @@
 use Rattle.std.proofs.Common.{rules, ◌≡◌, ◌+◌, ◌++◌, length, map, take, OnOk, sym, ◌∙◌, ap, subst, arith}
-use Rattle.ph_specs.specs.EntryEdits.{what_at}
-use Rattle.ph_specs.specs.Lawful.{IsBody}
-use Rattle.ph_specs.specs.Node.{entries, node}
-use Rattle.ph_specs.specs.PutTree.{body_above}
+use Rattle.ph_model.specs.EntryEdits.{what_at}
+use Rattle.ph_model.specs.Lawful.{IsBody}
+use Rattle.ph_model.specs.EntryList.{entries, node}
+use Rattle.ph_model.specs.PutTree.{body_above}
 use Rattle.ph_node.specs.Shown.{shown}
 use Rattle.ph_node.specs.Spots.{joined_digits}
 use Rattle.ph_path.proofs.Knowns.{wider}

@@ -1,6 +1,6 @@
 use Rattle.std.proofs.Common.{◌≡◌, ◌+◌, ◌≤◌, ◌*◌, ◌++◌, length, map, take}
-use Rattle.ph_specs.specs.Lawful.{IsBody}
-use Rattle.ph_specs.specs.PutTree.{digits_from}
+use Rattle.ph_model.specs.Lawful.{IsBody}
+use Rattle.ph_model.specs.PutTree.{digits_from}
 use Rattle.ph_node.specs.Shown.{shown}
 use Rattle.ph_set.specs.Parts.{rows_over, nodes_over}
 use Rattle.ph_set.proofs.lists.+lists.Given as goal

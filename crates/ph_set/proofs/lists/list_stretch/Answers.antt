@@ -1,5 +1,5 @@
 use Rattle.std.proofs.Common.{◌≡◌, ◌++◌, length, map, take, OnOk, sym, subst}
-use Rattle.ph_specs.specs.Node.{entries, node}
+use Rattle.ph_model.specs.EntryList.{entries, node}
 use Rattle.ph_node.specs.Shown.{shown}
 use Rattle.ph_path.proofs.Knowns.{above-whole}
 use Rattle.ph_set.specs.Parts.{IsPart, rows_in, nodes_in, stretch}

@@ -1,7 +1,7 @@
 use Rattle.std.proofs.Common.{rules, ◌≡◌, ℕ, ◌+◌, ◌<◌, ◌≤◌, ◌++◌, length, map, take, OnOk, None, refl, sym, ◌∙◌, ap, subst, arith, append_assoc}
-use Rattle.ph_specs.specs.Node.{entries, node, value}
+use Rattle.ph_model.specs.EntryList.{entries, node, value}
 use Rattle.ph_node.specs.Shown.{shown}
-use Rattle.ph_specs.specs.Combined.{chosen}
+use Rattle.ph_model.specs.Combined.{chosen}
 use Rattle.ph_set.specs.Held.{IsLawfulPart, held_what, part_digits, part_what}
 use Rattle.ph_set.specs.Meeting.{kept_of, kept_parts, IsParting}
 use Rattle.ph_set.specs.Parts.{AreListed, height, rows_in, stretch}

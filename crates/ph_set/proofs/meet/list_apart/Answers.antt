@@ -1,6 +1,6 @@
 use Rattle.std.proofs.Common.{◌≡◌, ◌+◌, [], take, arith}
-use Rattle.ph_specs.specs.PutTree.{body_address}
-use Rattle.ph_specs.specs.WorkSets.{seen_nodes}
+use Rattle.ph_model.specs.PutTree.{body_address}
+use Rattle.ph_model.specs.Combined.{seen_nodes}
 use Rattle.ph_set.specs.Held.{held_what, nodes_held}
 use Rattle.ph_set.specs.Meeting.{work_parts}
 use Rattle.ph_set.proofs.Spent.{visits-same}

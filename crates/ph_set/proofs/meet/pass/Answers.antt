@@ -1,6 +1,6 @@
 use Rattle.std.proofs.Common.{map, ◌∙◌, ap, arith}
 use Rattle.ph_node.specs.Merge.{addr_at}
-use Rattle.ph_specs.specs.Combined.{chosen}
+use Rattle.ph_model.specs.Combined.{chosen}
 use Rattle.ph_set.specs.Meeting.{alone}
 use Rattle.ph_set.specs.Parts.{stretch_rows}
 use Rattle.ph_set.specs.Sides.{side_digits, side_entries, side_node, kept_from_by}

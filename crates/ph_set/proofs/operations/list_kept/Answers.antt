@@ -1,6 +1,6 @@
 use Rattle.std.proofs.Common.{rules, ◌≡◌, ◌≤◌, ◌++◌, map, sym, ◌∙◌, ap, arith, List}
 use Rattle.std.specs.Option.{option_copied}
-use Rattle.ph_specs.specs.Lawful.{rows}
+use Rattle.ph_specs.specs.TreeRows.{rows}
 use Rattle.ph_specs.specs.Table.{Row}
 use Rattle.ph_specs.specs.WorkSets.{placed, all_nodes}
 use Rattle.ph_path.proofs.Roots.{shape-lawful}

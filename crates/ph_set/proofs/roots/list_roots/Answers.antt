@@ -1,9 +1,9 @@
 use Rattle.std.proofs.Common.{◌≡◌, ◌++◌, [], map, OnOk, sym, ◌∙◌, ap, subst}
 use Rattle.std.specs.Prelude.{Some}
 use Rattle.std.specs.Option.{option_copied}
-use Rattle.ph_specs.specs.Lawful.{rows}
+use Rattle.ph_specs.specs.TreeRows.{rows}
 use Rattle.ph_set.specs.Meeting.{kept}
-use Rattle.ph_specs.proofs.laws.Combined.{combined-left}
+use Rattle.ph_model.proofs.laws.Combined.{combined-left}
 use Rattle.ph_set.proofs.roots.list_roots.Goals as goal
 
 pub returns-in-Some-None-clause-rows : goal.returns-in-Some-None-clause-rows

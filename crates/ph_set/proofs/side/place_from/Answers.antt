@@ -1,5 +1,5 @@
 use Rattle.std.proofs.Common.{◌∙◌, sym}
-use Rattle.ph_specs.specs.Node.{entries}
+use Rattle.ph_model.specs.EntryList.{entries}
 use Rattle.ph_node.specs.Shown.{shown}
 use Rattle.ph_set.proofs.Walking.{place-none}
 use Rattle.ph_set.proofs.side.place_from.Goals as goal

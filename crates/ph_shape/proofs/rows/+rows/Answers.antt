@@ -4,9 +4,10 @@ use Rattle.std.specs.List.{AllByRecursion as Each}
 use Rattle.std.proofs.lemmas.List.{length-map, map-append}
 use Rattle.ph_specs.specs.Coordinate.{coordinate}
 use Rattle.ph_specs.specs.Table.{row, Row}
-use Rattle.ph_specs.specs.Node.{node}
-use Rattle.ph_specs.specs.Lawful.{put_together, rows_behind, IsLawfulEntry, IsLawfulWhat}
-use Rattle.ph_specs.proofs.laws.EntryLists.{entries-lawful}
+use Rattle.ph_model.specs.EntryList.{node}
+use Rattle.ph_specs.specs.TreeRows.{put_together, rows_behind}
+use Rattle.ph_model.specs.Lawful.{IsLawfulEntry, IsLawfulWhat}
+use Rattle.ph_model.proofs.laws.EntryLists.{entries-lawful}
 use Rattle.ph_shape.specs.Bodies.{AreBelow}
 use Rattle.ph_shape.specs.Known.{IsKnown, entry_rows, what_rows}
 use Rattle.ph_shape.specs.View.{entry_of, what_of}

@@ -1,6 +1,6 @@
 use Rattle.std.proofs.Common.{◌≡◌, ◌+◌, ◌*◌, ◌++◌, map, take, drop}
-use Rattle.ph_specs.specs.Lawful.{rows_behind}
-use Rattle.ph_specs.specs.Node.{chained}
+use Rattle.ph_specs.specs.TreeRows.{rows_behind}
+use Rattle.ph_model.specs.EntryList.{chained}
 use Rattle.ph_shape.specs.View.{entry_of}
 use Rattle.ph_shape.proofs.rows.+rows.Given as goal
 

@@ -1,6 +1,6 @@
 use Rattle.std.proofs.Common.{◌≡◌, arith, refl, subst, sym, take, drop}
-use Rattle.ph_specs.specs.Lawful.{put_together}
-use Rattle.ph_specs.specs.PutTree.{body_above}
+use Rattle.ph_specs.specs.TreeRows.{put_together}
+use Rattle.ph_model.specs.PutTree.{body_above}
 use Rattle.ph_shape.specs.Bodies.{AreBelow}
 use Rattle.ph_shape.proofs.Walk.{below-more, joined-front}
 use Rattle.ph_shape.proofs.rows.digits_behind.Goals as goal

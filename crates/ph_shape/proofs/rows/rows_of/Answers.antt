@@ -1,6 +1,7 @@
 use Rattle.std.proofs.Common.{◌++◌, List, arith, sym, ◌∙◌, ap, subst, take, map, replicate, ℕ}
 use Rattle.std.specs.Prelude.{Some}
-use Rattle.ph_specs.specs.Lawful.{IsLawful, rows, rows_behind}
+use Rattle.ph_specs.specs.TreeRows.{rows, rows_behind}
+use Rattle.ph_model.specs.Lawful.{IsLawful}
 use Rattle.ph_specs.specs.Table.{Row}
 use Rattle.ph_shape.specs.Known.{IsKnown, lent}
 use Rattle.ph_shape.proofs.Made.{map-same}

@@ -3,7 +3,8 @@ use Rattle.std.specs.Prelude.{true}
 use Rattle.std.specs.List.{AllByRecursion as Each}
 use Rattle.std.proofs.lemmas.List.{length-map}
 use Rattle.ph_specs.specs.Coordinate.{is_point}
-use Rattle.ph_specs.specs.Node.{Entry, Entries, PlainNode, value, node}
+use Rattle.ph_specs.specs.Node.{Entries, PlainNode}
+use Rattle.ph_model.specs.EntryList.{Entry, value, node}
 use Rattle.ph_specs.specs.Table.{Row}
 use Rattle.ph_specs.specs.Shape.{row_address, digits_below, digits_between, node_below, node_at}
 use Rattle.ph_shape.specs.Groups.{HaveAddress}

@@ -1,11 +1,12 @@
 use Rattle.std.proofs.Common.{ℕ, List, [], ◌∷◌, length, ◌≤◌, ap, ◌∙◌, ◌≡◌, ◌+◌, ◌-◌, arith, subst, sym, map}
 use Rattle.std.specs.Prelude.{Option, Some}
 use Rattle.std.proofs.lemmas.Grind.{common_steps}
-use Rattle.ph_specs.specs.Lawful.{IsLawful, rows}
+use Rattle.ph_specs.specs.TreeRows.{rows}
+use Rattle.ph_model.specs.Lawful.{IsLawful}
 use Rattle.ph_specs.specs.Node.{PlainNode}
 use Rattle.ph_specs.specs.Table.{Row}
 use Rattle.ph_specs.specs.Shape.{node_at, node_below, shape}
-use Rattle.ph_specs.proofs.laws.TableShape.{table-shape}
+use Rattle.ph_model.proofs.laws.TableShape.{table-shape}
 use Rattle.ph_shape.specs.Groups.{IsGroup}
 use Rattle.ph_shape.proofs.Steps.{table-group}
 use Rattle.ph_shape.proofs.Made.{map-same}

@@ -1,7 +1,7 @@
 use Rattle.std.proofs.Common.{length, ap, sym, subst, ◌∙◌, arith}
 use Rattle.ph_specs.specs.SnapshotOf.{IsSnapshotOf}
 use Rattle.ph_specs.specs.WorkSets.{all_nodes}
-use Rattle.ph_specs.proofs.laws.Snapshots.{none-from_snapshot}
+use Rattle.ph_model.proofs.laws.Snapshots.{none-from_snapshot}
 use Rattle.ph_snap.proofs.Asked.{empty-is, root-asked, body-asked}
 use Rattle.ph_snap.proofs.Headings.{given-fault, other-fault, header-dims}
 use Rattle.ph_snap.proofs.Sizes.{rows-points, nodes-size}

@@ -2,7 +2,7 @@ use Rattle.std.proofs.Common.{◌≡◌, ◌+◌, ◌*◌, ◌≤◌, ◌++◌, 
 use Rattle.std.proofs.lemmas.List.{length-append, length-reverse}
 use Rattle.ph_specs.specs.Load.{known, places_under}
 use Rattle.ph_specs.specs.Node.{PlainNode}
-use Rattle.ph_specs.specs.NodeSize.{node_size}
+use Rattle.ph_model.specs.NodeSize.{node_size}
 use Rattle.ph_specs.specs.Record.{first_in, entries_in, unpacked}
 use Rattle.ph_node.specs.Slots.{nodes_of, in_slot}
 use Rattle.ph_node.proofs.Turned.{nodes-first, nodes-turned}

@@ -1,6 +1,6 @@
 use Rattle.std.proofs.Common.{◌++◌, ◌∷◌, [], sym, ◌∙◌, ap, arith, length}
 use Rattle.ph_specs.specs.Load.{words_in}
-use Rattle.ph_specs.proofs.lemmas.ByteWords.{length-words_in}
+use Rattle.ph_model.proofs.lemmas.ByteWords.{length-words_in}
 use Rattle.ph_snap.proofs.Bytes.{words-more}
 use Rattle.ph_snap.proofs.records.read_words.Goals as goal
 

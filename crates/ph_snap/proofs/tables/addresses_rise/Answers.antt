@@ -1,5 +1,5 @@
 use Rattle.std.proofs.Common.{◌+◌, ◌*◌, ◌∙◌, ap, arith}
-use Rattle.ph_specs.specs.Digits.{digits_at}
+use Rattle.ph_model.specs.Digits.{digits_at}
 use Rattle.ph_snap.proofs.Rules.{rises-on}
 use Rattle.ph_snap.proofs.tables.addresses_rise.Goals as goal
 

@@ -1,6 +1,6 @@
 use Rattle.std.proofs.Common.{◌*◌, ◌%◌, ◌^◌, ◌+◌, ◌∙◌, ap, refl, true, false}
 use Rattle.ph_specs.specs.Record.{First, absent_are_zero}
-use Rattle.ph_specs.proofs.laws.WordDigits.{each-fits}
+use Rattle.ph_model.proofs.laws.WordDigits.{each-fits}
 use Rattle.ph_bits.specs.Fields.{digits_row}
 use Rattle.ph_snap.specs.Columns.{body_rows}
 use Rattle.ph_snap.proofs.Framed.{long-as}

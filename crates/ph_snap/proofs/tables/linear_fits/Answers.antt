@@ -1,7 +1,7 @@
 use Rattle.std.proofs.Common.{◌≡◌, ◌+◌, ◌∙◌, ap, sym, refl, false, eq-eqb, ne_eqb}
 use Rattle.std.specs.Prelude.{◌&&◌, ◌==◌}
 use Rattle.ph_specs.specs.Record.{First, rises_from}
-use Rattle.ph_specs.proofs.laws.WordDigits.{each-fits}
+use Rattle.ph_model.proofs.laws.WordDigits.{each-fits}
 use Rattle.ph_bits.specs.Fields.{digits_row}
 use Rattle.ph_snap.proofs.Framed.{long-as}
 use Rattle.ph_snap.proofs.Rules.{linear-is}

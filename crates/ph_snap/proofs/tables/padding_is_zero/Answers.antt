@@ -1,6 +1,6 @@
 use Rattle.std.proofs.Common.{◌∙◌, ap, arith}
 use Rattle.ph_specs.specs.Record.{table_digits}
-use Rattle.ph_specs.proofs.laws.WordDigits.{each-fits}
+use Rattle.ph_model.proofs.laws.WordDigits.{each-fits}
 use Rattle.ph_snap.proofs.Rules.{padding-is}
 use Rattle.ph_snap.proofs.tables.padding_is_zero.Goals as goal
 

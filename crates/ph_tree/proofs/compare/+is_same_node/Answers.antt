@@ -1,5 +1,5 @@
 use Rattle.std.proofs.Common.{rules, ◌≡◌, ap, ◌∙◌, arith}
-use Rattle.ph_specs.proofs.laws.Unpacked.{child_nodes}
+use Rattle.ph_model.proofs.laws.Unpacked.{child_nodes}
 use Rattle.ph_node.specs.Slots.{nodes_of}
 use Rattle.ph_specs.specs.Pack.{pack}
 use Rattle.ph_tree.proofs.Compared.{IsSeen, seen-lawful, seen-size, seen-long, seen-same}

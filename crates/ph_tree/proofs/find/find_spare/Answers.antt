@@ -1,6 +1,6 @@
 use Rattle.std.proofs.Common.{◌≡◌, sym, ap, ◌∙◌, subst, arith}
 use Rattle.std.specs.Prelude.{Some, None, IfSome, MatchOption}
-use Rattle.ph_specs.specs.PutTree.{find_tree}
+use Rattle.ph_model.specs.PutTree.{find_tree}
 use Rattle.ph_node.specs.Shown.{shown}
 use Rattle.ph_tree.specs.Opened.{opened_in}
 use Rattle.ph_tree.specs.Rooms.{spare_left_in}

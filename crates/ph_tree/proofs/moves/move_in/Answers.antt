@@ -1,8 +1,8 @@
 use Rattle.std.proofs.Common.{◌≡◌, ℕ, ◌^◌, ◌≤◌, arith, lt-ltb, sym, ap, ◌∙◌, subst, refl}
 use Rattle.std.specs.Prelude.{Option, Some, None}
-use Rattle.ph_specs.specs.Lawful.{IsLawful}
-use Rattle.ph_specs.specs.PutTree.{find_tree, put_tree}
-use Rattle.ph_specs.proofs.laws.PutTree.{lawful-put_tree}
+use Rattle.ph_model.specs.Lawful.{IsLawful}
+use Rattle.ph_model.specs.PutTree.{find_tree, put_tree}
+use Rattle.ph_model.proofs.laws.PutTree.{lawful-put_tree}
 use Rattle.ph_bits.specs.Block.{Block}
 use Rattle.ph_tree.specs.Rooms.{spare_wanted_in, spare_left_in}
 use Rattle.ph_tree.specs.Spare.{IsRoomy}

@@ -1,6 +1,6 @@
 use Rattle.std.proofs.Common.{◌-◌, ℕ, arith, rules, sym, ap, ◌∙◌}
-use Rattle.ph_specs.specs.Node.{node}
-use Rattle.ph_specs.specs.EntryEdits.{with_child}
+use Rattle.ph_model.specs.EntryList.{node}
+use Rattle.ph_model.specs.EntryEdits.{with_child}
 use Rattle.ph_tree.proofs.PutCases.{found_as, put_as, lifted}
 use Rattle.ph_tree.proofs.Walks.{IsStepAt, step_at, absent_found, same_found, same_value, same_spot, same_put, below_node}
 use Rattle.ph_tree.proofs.Walks.{below_spot, below_rank, below_lent, way_below, other_found, other_opened}

@@ -1,6 +1,6 @@
 use Rattle.std.proofs.Common.{◌≡◌, Bool, sym, ap, ◌∙◌}
 use Rattle.std.specs.Prelude.{if◌then◌else◌}
-use Rattle.ph_specs.specs.Lawful.{count}
+use Rattle.ph_specs.specs.TreeRows.{count}
 use Rattle.ph_node.specs.Relaid.{is_relaid}
 use Rattle.ph_node.specs.Shown.{shown}
 use Rattle.ph_tree.specs.Rooms.{room_of_entries}

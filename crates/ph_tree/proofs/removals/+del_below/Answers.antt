@@ -1,8 +1,8 @@
 use Rattle.std.proofs.Common.{◌≡◌, ◌-◌, ◌≤◌, ℕ, length, arith, refl, rules, sym, ap, ◌∙◌, subst}
 use Rattle.std.specs.Prelude.{Some}
-use Rattle.ph_specs.specs.Node.{entries, node}
-use Rattle.ph_specs.specs.DelTree.{del_node}
-use Rattle.ph_specs.specs.EntryEdits.{with_child, what_at}
+use Rattle.ph_model.specs.EntryList.{entries, node}
+use Rattle.ph_model.specs.DelTree.{del_node}
+use Rattle.ph_model.specs.EntryEdits.{with_child, what_at}
 use Rattle.ph_node.specs.Merge.{IsPair, entries_held, merge_node}
 use Rattle.ph_node.specs.Shown.{shown}
 use Rattle.ph_node.specs.Split.{IsValue, body_at}

@@ -1,7 +1,8 @@
 use Rattle.std.proofs.Common.{◌≡◌, ◌∙◌, ◌-◌, ◌≤◌, length, ap, arith, refl, subst, sym}
 use Rattle.std.specs.Prelude.{Some}
-use Rattle.ph_specs.specs.DelTree.{del_node}
-use Rattle.ph_specs.specs.Node.{PlainNode, entries}
+use Rattle.ph_model.specs.DelTree.{del_node}
+use Rattle.ph_specs.specs.Node.{PlainNode}
+use Rattle.ph_model.specs.EntryList.{entries}
 use Rattle.ph_tree.specs.Opened.{opened_in}
 use Rattle.ph_tree.specs.Rooms.{relaid_room}
 use Rattle.ph_tree.specs.Spares.{HasRoom}

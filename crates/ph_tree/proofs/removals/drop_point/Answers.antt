@@ -1,8 +1,8 @@
 use Rattle.std.proofs.Common.{◌≡◌, ◌+◌, ◌≤◌, ℕ, length, Bool, ap, sym, ◌∙◌, arith, true}
 use Rattle.std.specs.Prelude.{Option, Some, None, MatchOption, if◌then◌else◌}
-use Rattle.ph_specs.specs.Lawful.{count}
+use Rattle.ph_specs.specs.TreeRows.{count}
 use Rattle.ph_specs.specs.Pack.{pack}
-use Rattle.ph_specs.proofs.laws.Unpacked.{child_nodes}
+use Rattle.ph_model.proofs.laws.Unpacked.{child_nodes}
 use Rattle.ph_bits.specs.Block.{Block, room_of}
 use Rattle.ph_node.specs.Relaid.{is_relaid}
 use Rattle.ph_tree.specs.Rooms.{room_of_entries}

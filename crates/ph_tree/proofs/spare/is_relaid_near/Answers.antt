@@ -1,7 +1,7 @@
 use Rattle.std.proofs.Common.{◌≡◌, ◌+◌, Bool, true, false, not, refl, sym, ap, arith, ◌∙◌}
 use Rattle.std.specs.Prelude.{if◌then◌else◌}
 use Rattle.std.specs.Bool.{beq}
-use Rattle.ph_specs.specs.Lawful.{count}
+use Rattle.ph_specs.specs.TreeRows.{count}
 use Rattle.ph_specs.specs.Pack.{is_cube}
 use Rattle.ph_node.specs.Relaid.{differ, is_relaid}
 use Rattle.ph_node.specs.Shown.{shown}

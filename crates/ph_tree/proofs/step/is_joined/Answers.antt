@@ -1,7 +1,7 @@
 use Rattle.std.proofs.Common.{◌≡◌, arith, sym, ap, ◌∙◌, length}
 use Rattle.std.specs.Prelude.{map}
 use Rattle.ph_specs.specs.Coordinate.{offset}
-use Rattle.ph_specs.proofs.lemmas.PointDigits.{same_digits-refl}
+use Rattle.ph_model.proofs.lemmas.PointDigits.{same_digits-refl}
 use Rattle.ph_node.specs.Shown.{shown}
 use Rattle.ph_tree.proofs.Steps.{gapless}
 use Rattle.ph_tree.proofs.step.is_joined.Goals as goal

@@ -1,12 +1,12 @@
 use Rattle.std.proofs.Common.{◌≡◌, arith, refl, sym, ap, ◌∙◌, subst}
 use Rattle.std.specs.Prelude.{position}
-use Rattle.ph_specs.specs.Node.{node, entries}
+use Rattle.ph_model.specs.EntryList.{node, entries}
 use Rattle.ph_specs.specs.ZOrder.{address}
-use Rattle.ph_specs.specs.EntryEdits.{has_address}
+use Rattle.ph_model.specs.EntryEdits.{has_address}
 use Rattle.ph_node.specs.Places.{place_for}
 use Rattle.ph_node.specs.Shown.{shown, what_of}
 use Rattle.ph_node.specs.Split.{IsNode}
-use Rattle.ph_specs.proofs.laws.DelEntries.{lawful-child}
+use Rattle.ph_model.proofs.laws.DelEntries.{lawful-child}
 use Rattle.ph_tree.specs.Step.{IsAt, IsApart, opened_for}
 use Rattle.ph_node.proofs.Standing.{parts_at, parts_there}
 use Rattle.ph_tree.proofs.Steps.{at_entry, same_below, other_below, same_between, other_between}

@@ -1,5 +1,5 @@
 use Rattle.std.proofs.Common.{◌≡◌, ◌+◌, ◌*◌, take}
-use Rattle.ph_specs.specs.Node.{entries}
+use Rattle.ph_model.specs.EntryList.{entries}
 use Rattle.ph_node.specs.Shown.{shown}
 use Rattle.ph_trials.proofs.same.+same.Given as goal
 

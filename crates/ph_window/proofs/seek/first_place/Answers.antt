@@ -1,6 +1,6 @@
 use Rattle.std.proofs.Common.{◌≡◌, length, arith, sym, subst}
 use Rattle.std.specs.Prelude.{MatchOption}
-use Rattle.ph_specs.specs.Node.{entries}
+use Rattle.ph_model.specs.EntryList.{entries}
 use Rattle.ph_node.specs.Shown.{shown}
 use Rattle.ph_window.specs.Seek.{AreShut, IsPassed}
 use Rattle.ph_window.proofs.Seeks.{lower-passed}

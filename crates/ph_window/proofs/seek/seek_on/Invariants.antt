@@ -1,5 +1,5 @@
 use Rattle.std.proofs.Common.{◌-◌, length}
-use Rattle.ph_specs.specs.Node.{entries}
+use Rattle.ph_model.specs.EntryList.{entries}
 use Rattle.ph_window.specs.Seek.{IsPassed}
 use Rattle.ph_window.proofs.seek.seek_on.Given as goal
 

@@ -1,7 +1,7 @@
 use Rattle.std.proofs.Common.{rules, ◌≡◌, subst, sym}
 use Rattle.ph_specs.specs.Coordinate.{IsPoint}
-use Rattle.ph_specs.proofs.laws.AllPoints.{highest-point}
-use Rattle.ph_specs.specs.Window.{highest}
+use Rattle.ph_model.proofs.laws.AllPoints.{highest-point}
+use Rattle.ph_model.specs.AllPoints.{highest}
 use Rattle.ph_window.proofs.whole.greatest_corner.Goals as goal
 
 pub returns-clause-point : goal.returns-clause-point

@@ -1,7 +1,7 @@
 use Rattle.std.proofs.Common.{rules, ◌≡◌, subst, sym}
 use Rattle.ph_specs.specs.Coordinate.{IsPoint}
-use Rattle.ph_specs.proofs.laws.AllPoints.{lowest-point}
-use Rattle.ph_specs.specs.Window.{lowest}
+use Rattle.ph_model.proofs.laws.AllPoints.{lowest-point}
+use Rattle.ph_model.specs.AllPoints.{lowest}
 use Rattle.ph_window.proofs.whole.least_corner.Goals as goal
 
 pub returns-clause-point : goal.returns-clause-point

@@ -1,8 +1,8 @@
 use Rattle.std.proofs.Common.{◌≤◌, ◌∙◌, sym, subst}
 use Rattle.ph_specs.specs.Distance.{distance}
 use Rattle.ph_specs.specs.Region.{nearest_point}
-use Rattle.ph_specs.proofs.laws.Bound.{least_distance-point}
-use Rattle.ph_specs.proofs.laws.RegionDistance.{nearest_point-in}
+use Rattle.ph_model.proofs.laws.Bound.{least_distance-point}
+use Rattle.ph_model.proofs.laws.RegionDistance.{nearest_point-in}
 use Rattle.ph_zorder.proofs.distances.least_distance.Goals as goal
 
 pub returns-clause-nearest : goal.returns-clause-nearest

@@ -1,7 +1,7 @@
 use Rattle.std.proofs.Common.{◌∙◌, ap, arith, subst, sym}
 use Rattle.ph_specs.specs.Coordinate.{IsPoint}
 use Rattle.ph_specs.specs.Region.{Region, least_distance}
-use Rattle.ph_specs.proofs.laws.Bound.{bound}
+use Rattle.ph_model.proofs.laws.Bound.{bound}
 use Rattle.ph_zorder.proofs.Gaps.{point-offsets}
 use Rattle.ph_zorder.proofs.distances.least_of.Goals as goal
 

@@ -1,7 +1,7 @@
 use Rattle.std.proofs.Common.{◌≡◌, ◌*◌, ◌+◌, ◌≤◌, ◌<◌, ◌^◌, length, map}
 use Rattle.std.specs.List.{AllByRecursion as Each}
 use Rattle.ph_specs.specs.Coordinate.{coordinate}
-use Rattle.ph_specs.proofs.laws.Bound.{bound}
+use Rattle.ph_model.proofs.laws.Bound.{bound}
 use Rattle.ph_zorder.specs.Squares.{greatest_square}
 use Rattle.ph_zorder.proofs.distances.offset_least_distance.Given as goal
 

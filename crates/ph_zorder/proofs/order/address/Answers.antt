@@ -1,5 +1,5 @@
 use Rattle.std.proofs.Common.{ap, ◌∙◌}
-use Rattle.ph_specs.specs.PutTree.{body_address}
+use Rattle.ph_model.specs.PutTree.{body_address}
 use Rattle.ph_zorder.proofs.Decided.{address-is}
 use Rattle.ph_zorder.proofs.order.address.Goals as goal
 

@@ -2,10 +2,11 @@ use Rattle.std.proofs.Common.{◌≡◌, ◌↔◌, ◌<◌, ◌^◌, ◌∙◌,
 use Rattle.std.specs.Prelude.{ℤ, Option, Some, None, IfSome}
 use Rattle.std.specs.List.{AllByRecursion as Each}
 use Rattle.ph_specs.specs.Coordinate.{IsPoint}
-use Rattle.ph_specs.specs.Region.{Region, InBoth}
-use Rattle.ph_specs.specs.Masks.{masks, fits_some, InPart}
-use Rattle.ph_specs.proofs.laws.Masks.{masks-part, masks-none}
-use Rattle.ph_specs.proofs.laws.MaskBounds.{AreMasks, masks-fit}
+use Rattle.ph_specs.specs.Region.{Region}
+use Rattle.ph_model.specs.Regions.{InBoth}
+use Rattle.ph_model.specs.Masks.{masks, fits_some, InPart}
+use Rattle.ph_model.proofs.laws.Masks.{masks-part, masks-none}
+use Rattle.ph_model.proofs.laws.MaskBounds.{AreMasks, masks-fit}
 use Rattle.ph_zorder.proofs.Sides.{masks-by, point-small}
 use Rattle.ph_zorder.proofs.regions.masks.Goals as goal
 

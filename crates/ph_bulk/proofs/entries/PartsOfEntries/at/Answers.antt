@@ -1,7 +1,7 @@
 use Rattle.std.proofs.Common.{arith, sym, ◌∙◌, ap}
 use Rattle.std.specs.Prelude.{Option, Some}
 use Rattle.std.proofs.lemmas.List.{length-map}
-use Rattle.ph_specs.specs.Layout.{unvalued}
+use Rattle.ph_model.specs.Layout.{unvalued}
 use Rattle.ph_specs.specs.Record.{Read}
 use Rattle.ph_bulk.specs.Parts.{flat_in}
 use Rattle.ph_bulk.proofs.Flats.{get-map-map}

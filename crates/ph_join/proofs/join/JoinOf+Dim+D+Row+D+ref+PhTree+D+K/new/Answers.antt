@@ -1,7 +1,7 @@
 use Rattle.std.proofs.Common.{sym, subst}
 use Rattle.std.specs.List.{AllByRecursion}
 use Rattle.ph_specs.specs.Coordinate.{IsPoint}
-use Rattle.ph_specs.proofs.laws.BallSearch.{table-points}
+use Rattle.ph_specs.proofs.laws.Points.{table-points}
 use Rattle.ph_join.proofs.join.JoinOf+Dim+D+Row+D+ref+PhTree+D+K.new.Goals as goal
 
 pub invariant_of-result : goal.invariant_of-result

@@ -1,6 +1,6 @@
 use Rattle.std.proofs.Common.{rules, ◌≡◌, ℕ, ◌+◌, ◌-◌, ◌^◌, ◌<◌, ◌≤◌, arith, refl, sym, ◌∙◌}
 use Rattle.std.specs.List.{AllByRecursion as Each}
-use Rattle.ph_specs.proofs.laws.WordDigits.{each-fits}
+use Rattle.ph_model.proofs.laws.WordDigits.{each-fits}
 use Rattle.ph_linear.specs.Runs.{start}
 use Rattle.ph_linear.proofs.ClosedColumns.{ordered}
 use Rattle.ph_linear.proofs.ClosedRuns.{moved-equal}

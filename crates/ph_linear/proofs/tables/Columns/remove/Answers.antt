@@ -1,7 +1,7 @@
 use Rattle.std.proofs.Common.{rules, ◌≡◌, ℕ, ◌+◌, ◌-◌, ◌^◌, ◌<◌, ◌≤◌, arith, refl, ◌∙◌, Fits, w64, slice_index_or}
 use Rattle.std.specs.List.{AllByRecursion as Each}
 use Rattle.ph_specs.specs.Digits.{digits_of, words_for}
-use Rattle.ph_specs.proofs.laws.WordDigits.{each-fits}
+use Rattle.ph_model.proofs.laws.WordDigits.{each-fits}
 use Rattle.ph_linear.specs.Runs.{start, runs_without, with_fields}
 use Rattle.ph_linear.proofs.ClosedColumns.{close-columns, ordered, ordered-at}
 use Rattle.ph_linear.proofs.ClosedRuns.{moved-equal}

@@ -1,6 +1,6 @@
 use Rattle.std.proofs.Common.{◌∙◌, ap, sym, subst, rules, map}
 use Rattle.std.specs.BinaryHeap.{heap_items}
-use Rattle.ph_specs.specs.Lawful.{IsBody}
+use Rattle.ph_model.specs.Lawful.{IsBody}
 use Rattle.ph_specs.proofs.lemmas.Gathered.{Each-permutation}
 use Rattle.ph_specs.proofs.laws.Ranked.{take-all}
 use Rattle.ph_near.specs.declared.found.Found.{Found}

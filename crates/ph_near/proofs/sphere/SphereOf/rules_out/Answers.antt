@@ -1,5 +1,5 @@
 use Rattle.std.proofs.Common.{◌≡◌, ◌≤◌, List, ℕ, take, refl, sym, subst, ap, arith, ◌∙◌}
-use Rattle.ph_specs.specs.Lawful.{IsBody}
+use Rattle.ph_model.specs.Lawful.{IsBody}
 use Rattle.ph_node.specs.Shown.{shown}
 use Rattle.ph_path.proofs.Knowns.{wider}
 use Rattle.ph_near.specs.BallSphere.{Sphere}

@@ -1,8 +1,8 @@
 use Rattle.std.proofs.Common.{◌≡◌, ◌-◌, length, arith, ap, sym, subst, ◌∙◌}
 use Rattle.ph_specs.specs.Pack.{is_cube, values}
 use Rattle.ph_specs.specs.Record.{first_in}
-use Rattle.ph_specs.proofs.laws.Layouts.{fits-first, first-made}
-use Rattle.ph_specs.proofs.lemmas.LayoutTables.{children-few}
+use Rattle.ph_model.proofs.laws.Layouts.{fits-first, first-made}
+use Rattle.ph_model.proofs.lemmas.LayoutTables.{children-few}
 use Rattle.ph_bits.specs.Block.{room_of}
 use Rattle.ph_bits.specs.Edits.{words_wanted}
 use Rattle.ph_node.specs.Recorded.{IsLaidOut}

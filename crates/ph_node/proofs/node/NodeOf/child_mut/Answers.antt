@@ -1,5 +1,5 @@
 use Rattle.std.proofs.Common.{◌≡◌, arith, refl, ap, sym, ◌∙◌, get_or, length}
-use Rattle.ph_specs.specs.Node.{entries}
+use Rattle.ph_model.specs.EntryList.{entries}
 use Rattle.ph_node.specs.OneEdit.{before, nodes_held}
 use Rattle.ph_node.specs.Slots.{nodes_of}
 use Rattle.ph_node.proofs.Lent.{lent, lent-is, lent-below}

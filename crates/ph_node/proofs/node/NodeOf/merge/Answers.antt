@@ -1,11 +1,12 @@
 use Rattle.std.proofs.Common.{◌≡◌, ◌<◌, ◌^◌, ◌++◌, ℕ, Bool, List, Some, take, drop, arith, refl, ap, sym, ◌∙◌, subst, length}
 use Rattle.std.specs.List.{AllByRecursion as Each}
 use Rattle.std.specs.Prelude.{if◌then◌else◌}
-use Rattle.ph_specs.specs.Node.{PlainNode, node, entries}
-use Rattle.ph_specs.specs.EntryEdits.{what_at, other_what}
+use Rattle.ph_specs.specs.Node.{PlainNode}
+use Rattle.ph_model.specs.EntryList.{node, entries}
+use Rattle.ph_model.specs.EntryEdits.{what_at, other_what}
 use Rattle.ph_specs.specs.Pack.{record_of}
 use Rattle.ph_specs.specs.Record.{unpacked}
-use Rattle.ph_specs.proofs.laws.EntryLists.{node_of-entries}
+use Rattle.ph_model.proofs.laws.EntryLists.{node_of-entries}
 use Rattle.ph_bits.specs.Edits.{edited}
 use Rattle.ph_bits.specs.declared.edits.Edit.{Edit}
 use Rattle.ph_node.specs.Kinds.{is_node}

@@ -1,8 +1,8 @@
 use Rattle.std.proofs.Common.{◌≡◌, take, ap, refl, sym, ◌∙◌, subst}
 use Rattle.std.specs.Prelude.{if◌then◌else◌}
-use Rattle.ph_specs.specs.EntryEdits.{what_at}
-use Rattle.ph_specs.specs.Lawful.{IsBody}
-use Rattle.ph_specs.specs.Node.{value, entries}
+use Rattle.ph_model.specs.EntryEdits.{what_at}
+use Rattle.ph_model.specs.Lawful.{IsBody}
+use Rattle.ph_model.specs.EntryList.{value, entries}
 use Rattle.ph_bits.specs.Fields.{digits_row}
 use Rattle.ph_bits.specs.Packed.{IsPadded}
 use Rattle.ph_node.specs.OneEdit.{IsOldEntry, value_of, ones_of, before, held_by}

@@ -1,7 +1,8 @@
 use Rattle.std.proofs.Common.{◌≡◌, ◌^◌, ◌<◌, ◌≤◌, ℕ, List, [], ◌∷◌, take, arith, ap, refl, sym, ◌∙◌, length}
-use Rattle.ph_specs.specs.Node.{PlainNode, node_of, chained}
-use Rattle.ph_specs.specs.EntryEdits.{point_entry}
-use Rattle.ph_specs.specs.Lawful.{IsBody}
+use Rattle.ph_specs.specs.Node.{PlainNode}
+use Rattle.ph_model.specs.EntryList.{node_of, chained}
+use Rattle.ph_model.specs.EntryEdits.{point_entry}
+use Rattle.ph_model.specs.Lawful.{IsBody}
 use Rattle.ph_specs.specs.Pack.{pack}
 use Rattle.ph_specs.specs.Record.{unpacked}
 use Rattle.ph_node.specs.Kept.{IsKept}

@@ -1,9 +1,9 @@
 use Rattle.std.proofs.Common.{◌≡◌, ℕ, arith, ap, sym, ◌∙◌, subst, length, take, true, Some, false, refl, ◌+◌, ◌≤◌, Bool}
 use Rattle.std.specs.Prelude.{if◌then◌else◌}
-use Rattle.ph_specs.specs.Node.{entries}
+use Rattle.ph_model.specs.EntryList.{entries}
 use Rattle.ph_specs.specs.Pack.{record_of}
 use Rattle.ph_specs.specs.Record.{unpacked}
-use Rattle.ph_specs.proofs.laws.EntryLists.{node_of-entries}
+use Rattle.ph_model.proofs.laws.EntryLists.{node_of-entries}
 use Rattle.ph_bits.specs.Packed.{IsPadded}
 use Rattle.ph_bits.specs.declared.edits.Edit.{Edit}
 use Rattle.ph_node.specs.OneEdit.{edit_flats}

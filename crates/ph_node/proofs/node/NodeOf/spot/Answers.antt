@@ -1,5 +1,5 @@
 use Rattle.std.proofs.Common.{sym, subst, ◌<◌, ◌^◌}
-use Rattle.ph_specs.specs.Node.{entries}
+use Rattle.ph_model.specs.EntryList.{entries}
 use Rattle.ph_node.proofs.Keeps.{kept-address}
 use Rattle.ph_node.proofs.Listings.{node_is}
 use Rattle.ph_node.proofs.Reading.{within-there, address-told}

@@ -1,5 +1,5 @@
 use Rattle.std.proofs.Common.{◌≡◌, ℕ, List, ap, arith, length}
-use Rattle.ph_specs.specs.Node.{entries}
+use Rattle.ph_model.specs.EntryList.{entries}
 use Rattle.ph_specs.specs.Pack.{record_of}
 use Rattle.ph_node.specs.OneEdit.{flats_of}
 use Rattle.ph_node.proofs.Listings.{length-nodes}

@@ -1,5 +1,5 @@
 use Rattle.std.proofs.Common.{take, ap, sym, subst, ◌∙◌}
-use Rattle.ph_specs.specs.Lawful.{IsBody}
+use Rattle.ph_model.specs.Lawful.{IsBody}
 use Rattle.ph_bits.specs.Packed.{IsPadded}
 use Rattle.ph_node.specs.Shown.{shown}
 use Rattle.ph_node.proofs.Filled.{filled-behind}

@@ -1,7 +1,8 @@
 use Rattle.std.proofs.Common.{◌≡◌, ℕ, List, length, refl, arith, ap, sym, subst, ◌∙◌}
-use Rattle.ph_specs.specs.Lawful.{IsBody, put_together}
-use Rattle.ph_specs.specs.Node.{entries}
-use Rattle.ph_specs.specs.PutTree.{body_above}
+use Rattle.ph_specs.specs.TreeRows.{put_together}
+use Rattle.ph_model.specs.Lawful.{IsBody}
+use Rattle.ph_model.specs.EntryList.{entries}
+use Rattle.ph_model.specs.PutTree.{body_above}
 use Rattle.ph_bits.specs.Apart.{IsDistanceWithin}
 use Rattle.ph_bits.specs.Fields.{digits_row}
 use Rattle.ph_node.specs.Shown.{shown}

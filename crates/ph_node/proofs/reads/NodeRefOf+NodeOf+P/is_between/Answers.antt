@@ -1,6 +1,6 @@
 use Rattle.std.proofs.Common.{ap, ◌∙◌}
-use Rattle.ph_specs.specs.Node.{entries}
-use Rattle.ph_specs.specs.PutTree.{same_digits}
+use Rattle.ph_model.specs.EntryList.{entries}
+use Rattle.ph_specs.specs.DelTree.{same_digits}
 use Rattle.ph_node.specs.Shown.{shown}
 use Rattle.ph_node.specs.Split.{body_at}
 use Rattle.ph_node.proofs.Reading.{cut-above}

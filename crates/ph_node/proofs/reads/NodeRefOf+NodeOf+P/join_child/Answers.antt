@@ -1,9 +1,10 @@
 use Rattle.std.proofs.Common.{◌≡◌, ℕ, List, [], ◌∷◌, ◌+◌, ◌^◌, ◌<◌, length, replicate, refl, sym, arith, ap, subst, ◌∙◌}
 use Rattle.std.specs.List.{AllByRecursion as Each}
 use Rattle.std.proofs.Math.Nat.{mod-eq_of_lt}
-use Rattle.ph_specs.specs.Lawful.{HasZerosFrom, put_together}
-use Rattle.ph_specs.specs.Node.{entries}
-use Rattle.ph_specs.specs.PutTree.{body_above}
+use Rattle.ph_specs.specs.TreeRows.{put_together}
+use Rattle.ph_model.specs.Lawful.{HasZerosFrom}
+use Rattle.ph_model.specs.EntryList.{entries}
+use Rattle.ph_model.specs.PutTree.{body_above}
 use Rattle.ph_node.specs.Shown.{shown}
 use Rattle.ph_node.specs.Split.{body_at}
 use Rattle.ph_node.proofs.reads.NodeRefOf+NodeOf+P.join_child.Goals as goal

@@ -1,7 +1,7 @@
 use Rattle.std.proofs.Common.{ℕ, refl, arith, ap, sym, ◌∙◌}
-use Rattle.ph_specs.specs.Lawful.{put_together}
-use Rattle.ph_specs.specs.Node.{entries}
-use Rattle.ph_specs.specs.PutTree.{body_above}
+use Rattle.ph_specs.specs.TreeRows.{put_together}
+use Rattle.ph_model.specs.EntryList.{entries}
+use Rattle.ph_model.specs.PutTree.{body_above}
 use Rattle.ph_bits.specs.Between.{each_between}
 use Rattle.ph_node.specs.Shown.{shown}
 use Rattle.ph_node.specs.Split.{body_at}

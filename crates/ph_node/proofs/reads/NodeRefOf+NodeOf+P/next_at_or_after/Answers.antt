@@ -1,7 +1,7 @@
 use Rattle.std.proofs.Common.{sym, ◌∙◌, ap}
 use Rattle.std.specs.Prelude.{position, nat_le}
 use Rattle.ph_specs.specs.Record.{entries_in}
-use Rattle.ph_specs.specs.Layout.{read_address}
+use Rattle.ph_model.specs.Layout.{read_address}
 use Rattle.ph_node.proofs.Listings.{place_is}
 use Rattle.ph_node.proofs.reads.NodeRefOf+NodeOf+P.next_at_or_after.Goals as goal
 

@@ -1,5 +1,5 @@
 use Rattle.std.proofs.Common.{arith, sym, ap, subst, true, ◌∙◌}
-use Rattle.ph_specs.specs.Node.{value}
+use Rattle.ph_model.specs.EntryList.{value}
 use Rattle.ph_node.proofs.Listings.{length-nodes, get-nodes}
 use Rattle.ph_specs.specs.Record.{entries_in}
 use Rattle.ph_bits.specs.Packed.{rank_at}

@@ -1,5 +1,5 @@
 use Rattle.std.proofs.Common.{◌∙◌, ◌==◌}
-use Rattle.ph_specs.specs.Node.{entries}
+use Rattle.ph_model.specs.EntryList.{entries}
 use Rattle.ph_node.specs.Shown.{shown}
 use Rattle.ph_node.proofs.Reading.{place-there, front-there}
 use Rattle.ph_node.proofs.Standing.{spot_found}

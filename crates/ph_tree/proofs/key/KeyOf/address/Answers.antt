@@ -1,5 +1,5 @@
 use Rattle.std.proofs.Common.{◌≡◌, ◌<◌, ◌^◌, length, ◌∙◌, ap, take, subst}
-use Rattle.ph_specs.specs.PutTree.{body_address}
+use Rattle.ph_model.specs.PutTree.{body_address}
 use Rattle.ph_tree.proofs.Offsets.{address_is}
 use Rattle.ph_tree.proofs.key.KeyOf.address.Goals as goal
 

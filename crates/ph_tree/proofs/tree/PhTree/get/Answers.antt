@@ -1,6 +1,6 @@
 use Rattle.std.proofs.Common.{◌≡◌, sym, ◌∙◌, ap, arith}
 use Rattle.std.specs.Prelude.{Some}
-use Rattle.ph_specs.specs.PutTree.{find_tree}
+use Rattle.ph_model.specs.PutTree.{find_tree}
 use Rattle.ph_node.specs.Shown.{shown}
 use Rattle.ph_tree.specs.Opened.{opened_in}
 use Rattle.ph_tree.proofs.Trees.{IsKeyed, key_made, found_is, opened_is, opened_few}

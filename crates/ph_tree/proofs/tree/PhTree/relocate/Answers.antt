@@ -1,6 +1,6 @@
 use Rattle.std.proofs.Common.{◌≡◌, ◌≤◌, ◌+◌, ◌*◌, ◌∙◌, length, sym, ap, arith, subst, refl, inl, inr}
 use Rattle.std.specs.Prelude.{IfOk, OnOk, Some, None, IsSome}
-use Rattle.ph_specs.specs.PutTree.{find_tree}
+use Rattle.ph_model.specs.PutTree.{find_tree}
 use Rattle.ph_specs.specs.Table.{find}
 use Rattle.ph_specs.specs.WorkSets.{path}
 use Rattle.ph_specs.proofs.laws.Put.{same_from_test}

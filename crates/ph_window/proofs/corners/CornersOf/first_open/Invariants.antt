@@ -1,6 +1,6 @@
 use Rattle.std.proofs.Common.{◌≤◌, ◌-◌, length}
-use Rattle.ph_specs.specs.Node.{entries}
-use Rattle.ph_specs.specs.PutTree.{body_above}
+use Rattle.ph_model.specs.EntryList.{entries}
+use Rattle.ph_model.specs.PutTree.{body_above}
 use Rattle.ph_node.specs.Shown.{shown}
 use Rattle.ph_walk.specs.Area.{AreOut}
 use Rattle.ph_window.specs.Corners.{points_of}

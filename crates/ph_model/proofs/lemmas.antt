@@ -1,0 +1,25 @@
+-- Steps of the laws.
+pub mod Assembled
+pub mod Bounds
+pub mod ByteWords
+pub mod Columns
+pub mod Counted
+pub mod Cubes
+pub mod FoundTree
+pub mod Gaps
+pub mod Grouped
+pub mod Joined
+pub mod LawfulRead
+pub mod LayoutTables
+pub mod MaskDigits
+pub mod Passes
+pub mod PointDigits
+pub mod PutRows
+pub mod ReadColumns
+pub mod RowsBehind
+pub mod Searching
+pub mod Shaped
+pub mod Splits
+pub mod TablesAgain
+pub mod Taken
+pub mod TreePasses

@@ -1,0 +1,20 @@
+-- The tree as a model: entries and nodes, their edits and layouts, then walks and searches.
+pub mod EntryList
+pub mod Order
+pub mod Digits
+pub mod Lawful
+pub mod PutTree
+pub mod DelTree
+pub mod EntryEdits
+pub mod Layout
+pub mod NodeCode
+pub mod NodeSize
+pub mod Combined
+pub mod Regions
+pub mod AllPoints
+pub mod Masks
+pub mod WindowWalk
+pub mod Nearness
+pub mod BallSearch
+pub mod BestFirst
+pub mod ModelNames
