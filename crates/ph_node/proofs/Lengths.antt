@@ -61,5 +61,5 @@ rounded-steps r room s l h k e =
 pub rounded-most : (r room s : ℕ) → 2 ≤ r → 2 ^ r ≤ room → s ≤ 2 ^ (r - 2) → 4 * ((room + s - 1) / s * s) ≤ 5 * room
 rounded-most r room s l h k = omega (arith, div-mul-le_self (room + s - 1) s, quarter r l, h, k)
 
-pub rounded-below : (r room s : ℕ) → 2 ≤ r → 2 ^ r ≤ room → s ≤ 2 ^ (r - 2) → room ≤ 2 ^ 20 + 2 ^ 16 → (room + s - 1) / s * s < 2 ^ 21
+pub rounded-below : (r room s : ℕ) → 2 ≤ r → 2 ^ r ≤ room → s ≤ 2 ^ (r - 2) → room ≤ 2 ^ 20 + 2 ^ 19 → (room + s - 1) / s * s < 2 ^ 21
 rounded-below r room s l h k m = omega (arith, div-mul-le_self (room + s - 1) s, quarter r l, h, k, m)

@@ -1,5 +1,5 @@
 -- How much room blocks have.
-use Rattle.std.specs.Prelude.{◌≡◌, ℕ, ◌+◌, ◌*◌, ◌<◌, ◌≤◌, List, length, Result, IsOk, OnOk}
+use Rattle.std.specs.Prelude.{◌≡◌, ℕ, ◌+◌, ◌*◌, ◌<◌, ◌≤◌, Bool, nat_le, List, length, Result, IsOk, OnOk}
 use Rattle.ph_specs.specs.Pack.{is_cube}
 use Rattle.ph_specs.specs.Record.{first_in, has_cube}
 use Rattle.ph_bits.specs.Filled.{Filled}
@@ -9,6 +9,13 @@ use Rattle.ph_node.specs.RecordEdit.{with_edit, words_with}
 -- the places of a block: those of its words, those of its values, and the spare ones
 abbrev pub places_of : {X : Type 0} → Filled X → ℕ
 places_of b = length b.words + b.spare + length b.values
+
+-- whether a block has at most half as many places more than its words and its values want, and a few
+abbrev pub is_used : {X : Type 0} → Filled X → Bool
+is_used b = nat_le (2 * places_of b) (3 * (length b.words + length b.values) + 8)
+
+abbrev pub IsUsed : {X : Type 0} → Filled X → Type 0
+IsUsed b = 2 * places_of b ≤ 3 * (length b.words + length b.values) + 8
 
 -- a record keeps its layout with an edit
 abbrev pub IsLayoutKept : ℕ → List ℕ → Edit → Type 0

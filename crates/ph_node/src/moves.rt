@@ -1,9 +1,9 @@
 //! Words and children that go from one block to another.
 
-ghost use Rattle.std.specs.Prelude.{◌≡◌, ◌+◌, ◌*◌, ◌^◌, ◌<◌, ◌≤◌, [], true, false, length, take, drop, if◌then◌else◌, IsOk, OnOk};
+ghost use Rattle.std.specs.Prelude.{◌≡◌, ◌+◌, ◌*◌, ◌^◌, ◌<◌, ◌≤◌, [], true, false, length, take, drop, if◌then◌else◌, IsOk, OnOk, OnErr};
 ghost use Rattle.std.specs.List.{remove};
 ghost use Rattle.ph_bits.specs.Kids.{IsWord};
-ghost use Rattle.ph_node.specs.Rooms.{places_of};
+ghost use Rattle.ph_node.specs.Rooms.{places_of, is_used, IsUsed};
 
 use crate::{NoMemory, records};
 use ph_bits::{Block, Words};
@@ -52,6 +52,48 @@ fn widen<T: Drop>(block: &mut Block<T>, long: usize) -> Result<(), NoMemory>
     ensures most { OnOk result (4 * places_of block.new ≤ 5 * (long + length block.old.values)) }
 {
     let mut words = records::roomy(block.allocator(), long + block.count())?;
+    words.extend(block.words());
+    move_into(block, words);
+    Ok(())
+}
+
+/// Sees to it that a block has at most half as many places more than its words and its values want, and a few: else they go to other memory, with about the
+/// room that they want, and the old memory is given back. Without memory nothing has changed.
+#[inline(always)]
+pub(crate) fn give_back<T: Drop>(block: &mut Block<T>) -> Result<(), NoMemory>
+    requires { IsWord T.row }
+    ensures used { OnOk result (IsUsed block.new) }
+    ensures words { block.new.words ≡ block.old.words }
+    ensures values { block.new.values ≡ block.old.values }
+    ensures lean { IsUsed block.old → IsOk result × (block.new ≡ block.old) }
+    ensures kept { OnErr result (block.new ≡ block.old) }
+{
+    if is_used(block) {
+        return Ok(());
+    }
+    narrow(block)
+}
+
+// Whether most places of a block are in use.
+#[inline(always)]
+fn is_used<T>(block: &Block<T>) -> bool
+    ensures { result ≡ is_used block.now }
+{
+    let wanted = block.len() + block.count();
+    2 * (wanted + block.spare()) <= 3 * wanted + 8
+}
+
+// Moves a block to other memory, with less room.
+#[inline(never)]
+fn narrow<T: Drop>(block: &mut Block<T>) -> Result<(), NoMemory>
+    requires sized { IsWord T.row }
+    requires much { 3 * (length block.old.words + length block.old.values) + 8 < 2 * places_of block.old }
+    ensures used { OnOk result (IsUsed block.new) }
+    ensures words { block.new.words ≡ block.old.words }
+    ensures values { block.new.values ≡ block.old.values }
+    ensures kept { OnErr result (block.new ≡ block.old) }
+{
+    let mut words = records::roomy(block.allocator(), block.len() + block.count())?;
     words.extend(block.words());
     move_into(block, words);
     Ok(())

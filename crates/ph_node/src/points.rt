@@ -7,9 +7,9 @@ ghost use Rattle.ph_bits.specs.Block.{room_of};
 ghost use Rattle.ph_node.specs.PointEdit.{IsNewPoint, IsPointPut, less_edit, more_edit};
 ghost use Rattle.ph_node.specs.RecordEdit.{IsRecordEdit, with_edit, words_with, record_with};
 ghost use Rattle.ph_node.specs.Relaid.{is_relaid};
-ghost use Rattle.ph_node.specs.Rooms.{IsFitting, IsRoomFor, places_of};
+ghost use Rattle.ph_node.specs.Rooms.{IsFitting, IsRoomFor, IsUsed, places_of};
 
-use crate::moves::{make_room, move_into};
+use crate::moves::{give_back, make_room, move_into};
 use crate::node::SlotOf;
 use crate::spots::Spot;
 use crate::{NoMemory, records, rewrites};
@@ -121,9 +121,14 @@ fn length_with<P: Dims>(block: &Block<SlotOf<P>>, edit: &Edit) -> usize
 }
 
 /// Takes a point out of the record of a block: where the record lies, or entry by entry into another block where its layout changes,
-/// which is handed in. Takes no memory.
+/// which is handed in. Then a block that has much more room than it wants gives some back, and an error says only that there was no memory to do
+/// so: the point is out.
 #[inline(always)]
-pub(crate) fn remove_point<P: Dims>(block: &mut Block<SlotOf<P>>, edit: &Edit, spare: Option<Words>)
+pub(crate) fn remove_point<P: Dims>(
+    block: &mut Block<SlotOf<P>>,
+    edit: &Edit,
+    spare: Option<Words>,
+) -> Result<(), NoMemory>
     requires edit { IsRecordEdit P.D block.old.words edit.now }
     requires less { edit.now.less ≡ 1 }
     requires more { edit.now.more ≡ 0 }
@@ -132,6 +137,7 @@ pub(crate) fn remove_point<P: Dims>(block: &mut Block<SlotOf<P>>, edit: &Edit, s
         → MatchOption spare ⊥ (λ w. length block.old.words + length block.old.values ≤ room_of w) }
     ensures words { block.new.words ≡ record_with P.D block.old.words edit.now }
     ensures values { block.new.values ≡ block.old.values }
+    ensures used { OnOk result (IsUsed block.new) }
 {
     let dims = P::D;
     let words = block.words();
@@ -144,6 +150,7 @@ pub(crate) fn remove_point<P: Dims>(block: &mut Block<SlotOf<P>>, edit: &Edit, s
     } else {
         rewrites::remove_entry(block, dims, edit);
     }
+    give_back(block)
 }
 
 /// Lays the record with the edit out in other words, and moves the children behind it.

@@ -294,7 +294,7 @@ pub(crate) fn block<P: Dims>(
 
 /// A block without words that has room for so many of them, and for some more where that is many.
 pub(crate) fn roomy(alloc: Global, room: usize) -> Result<Words, NoMemory>
-    requires { room ≤ 2 ^ 20 + 2 ^ 16 }
+    requires { room ≤ 2 ^ 20 + 2 ^ 19 }
     ensures none { IfOk result (λ w. w.words ≡ []) }
     ensures room { IfOk result (λ w. room ≤ room_of w) }
     ensures most { IfOk result (λ w. 4 * room_of w ≤ 5 * room) }
@@ -304,7 +304,7 @@ pub(crate) fn roomy(alloc: Global, room: usize) -> Result<Words, NoMemory>
 
 // The room of a block that wants so much: above 32 places, the next multiple of a quarter of the greatest power of two in it.
 fn rounded(room: usize) -> usize
-    requires { room ≤ 2 ^ 20 + 2 ^ 16 }
+    requires { room ≤ 2 ^ 20 + 2 ^ 19 }
     ensures enough { room ≤ result }
     ensures most { 4 * result ≤ 5 * room }
     ensures limit { result < 2 ^ 21 }

@@ -1,4 +1,4 @@
-//! An entry less, and a child of two entries whose place one of them takes. Neither takes memory.
+//! An entry less, and a child of two entries whose place one of them takes. Neither wants memory.
 
 ghost use Rattle.std.specs.Prelude.{◌≡◌, ◌+◌, ◌-◌, ◌<◌, ◌≤◌, true, false, length, MatchOption, if◌then◌else◌};
 ghost use Rattle.ph_model.specs.ModelNames.{node_of, entries, what_at, without, child_nodes};
@@ -26,7 +26,8 @@ use std::sync::ledger::Ledger;
 impl<P: Dims> NodeOf<P> {
     /// Lets a point entry go. Another entry is left. The record is changed where it lies, as long as its layout stays. Else it is laid
     /// out in words that the caller hands in, which have room for the node's own and for its children, and the children move behind
-    /// it; [`NodeRefOf::is_relaid`](crate::NodeRefOf::is_relaid) tells before whether they are wanted. Takes no memory.
+    /// it; [`NodeRefOf::is_relaid`](crate::NodeRefOf::is_relaid) tells before whether they are wanted. Where much of the room is free then, the record goes
+    /// to memory of about its size, if there is some: no call fails for want of it.
     pub fn drop_entry<C: Ledger>(
         &mut self,
         spot: Spot,
@@ -42,7 +43,8 @@ impl<P: Dims> NodeOf<P> {
         ensures cost { changes.new ≡ changes.old + 1 }
     {
         let edit = less_edit(spot);
-        remove_point(&mut self.block, &edit, spare);
+        // Where there is no memory for less room, the block keeps what it has.
+        let _ = remove_point(&mut self.block, &edit, spare);
         changes.tick();
     }
 
