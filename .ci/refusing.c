@@ -10,12 +10,13 @@
  * The file that REFUSALS names gets a letter for each such call: m, r or w, and R, I, N or C. What was called before
  * this library began, which is the loader's own, is neither counted nor refused.
  *
- * The file that LIVE_BLOCKS names has, as a decimal number, how many blocks were taken and not given back when standard
- * output was last written to.
+ * The file that LIVE_BLOCKS names has, as two decimal numbers, how many blocks were taken and not given back when standard
+ * output was last written to, and how many bytes they have.
  */
 #define _GNU_SOURCE
 #include <errno.h>
 #include <fcntl.h>
+#include <malloc.h>
 #include <stdio.h>
 #include <stdlib.h>
 #include <sys/stat.h>
@@ -45,7 +46,7 @@ static const char *live_told_to;
 static struct nth allocations, reads, renames, closes;
 static int is_short;
 static unsigned long interruptions;
-static long live;
+static long live, live_bytes;
 
 static unsigned long number_in(const char *name) {
     const char *number = getenv(name);
@@ -79,9 +80,15 @@ static int is_refused(struct nth *calls, char letter, int error) {
     return 1;
 }
 
+static void count_block(void *block, long sign) {
+    if (block == NULL)
+        return;
+    __atomic_add_fetch(&live, sign, __ATOMIC_RELAXED);
+    __atomic_add_fetch(&live_bytes, sign * (long)malloc_usable_size(block), __ATOMIC_RELAXED);
+}
+
 static void *counted(void *block) {
-    if (block != NULL)
-        __atomic_add_fetch(&live, 1, __ATOMIC_RELAXED);
+    count_block(block, 1);
     return block;
 }
 
@@ -98,19 +105,19 @@ void *calloc(size_t count, size_t size) {
 }
 
 void free(void *block) {
-    if (block != NULL)
-        __atomic_sub_fetch(&live, 1, __ATOMIC_RELAXED);
+    count_block(block, -1);
     __libc_free(block);
 }
 
 void *realloc(void *block, size_t size) {
     if (no_memory())
         return NULL;
-    if (block == NULL)
-        return counted(__libc_realloc(block, size));
-    if (size == 0)
-        __atomic_sub_fetch(&live, 1, __ATOMIC_RELAXED);
-    return __libc_realloc(block, size);
+    count_block(block, -1);
+    void *moved = __libc_realloc(block, size);
+    /* Without memory the old block stays, unless none was wanted. */
+    if (moved == NULL && size != 0)
+        count_block(block, 1);
+    return counted(moved);
 }
 
 void *memalign(size_t alignment, size_t size) {
@@ -160,8 +167,9 @@ ssize_t read(int fd, void *into, size_t count) {
 
 ssize_t write(int fd, const void *piece, size_t count) {
     if (fd == STDOUT_FILENO && live_told_to != NULL) {
-        char text[24];
-        int length = snprintf(text, sizeof text, "%ld", __atomic_load_n(&live, __ATOMIC_RELAXED));
+        char text[48];
+        int length = snprintf(text, sizeof text, "%ld %ld", __atomic_load_n(&live, __ATOMIC_RELAXED),
+                              __atomic_load_n(&live_bytes, __ATOMIC_RELAXED));
         put_in(live_told_to, O_CREAT | O_TRUNC, text, (size_t)length);
     }
     return __write(fd, piece, shortened(fd, count, 'w'));

@@ -78,3 +78,12 @@ def run_refused(words, script, folder, library, refusal):
     ran = subprocess.run(words, input=script, stdout=subprocess.PIPE, cwd=folder, env=environment, timeout=SECONDS)
     with open(told, encoding='ascii') as file:
         return Ended(ran.returncode, ran.stdout, file.read())
+
+
+def live(program, script, folder, library):
+    """Runs a script whole, and tells how many blocks of memory and how many bytes the program had when it last wrote, and what it replied."""
+    told = os.path.join(os.path.dirname(folder), 'live')
+    ended = run_refused([program, 'run'], script, folder, library, {'LIVE_BLOCKS': told})
+    with open(told, encoding='ascii') as file:
+        blocks, taken = map(int, file.read().split())
+    return blocks, taken, ended

@@ -33,6 +33,8 @@ pub(crate) fn make_room<T: Drop>(block: &mut Block<T>, long: usize) -> Result<()
     ensures lean { long ≤ length block.old.words + block.old.spare → IsOk result × (block.new ≡ block.old) }
     ensures most { length block.old.words + block.old.spare < long
         → OnOk result (4 * places_of block.new ≤ 5 * (long + length block.old.values)) }
+    ensures used { length block.old.words ≤ long → IsUsed block.old
+        → OnOk result (2 * places_of block.new ≤ 3 * (long + length block.old.values) + 4) }
 {
     if long <= block.len() + block.spare() {
         return Ok(());
@@ -80,14 +82,14 @@ fn is_used<T>(block: &Block<T>) -> bool
     ensures { result ≡ is_used block.now }
 {
     let wanted = block.len() + block.count();
-    2 * (wanted + block.spare()) <= 3 * wanted + 8
+    2 * (wanted + block.spare()) <= 3 * wanted + 4
 }
 
 // Moves a block to other memory, with less room.
 #[inline(never)]
 fn narrow<T: Drop>(block: &mut Block<T>) -> Result<(), NoMemory>
     requires sized { IsWord T.row }
-    requires much { 3 * (length block.old.words + length block.old.values) + 8 < 2 * places_of block.old }
+    requires much { 3 * (length block.old.words + length block.old.values) + 4 < 2 * places_of block.old }
     ensures used { OnOk result (IsUsed block.new) }
     ensures words { block.new.words ≡ block.old.words }
     ensures values { block.new.values ≡ block.old.values }

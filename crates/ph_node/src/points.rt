@@ -97,6 +97,7 @@ pub(crate) fn add_anew<P: Dims>(block: &mut Block<SlotOf<P>>, edit: &Edit) -> Re
     requires { IsNewPoint P.D block.old.words (length block.old.values) edit.now }
     ensures put { IsPointPut P.D block.old edit.now result block.new }
     ensures most { OnOk result (IsFitting P.D block.old edit.now block.new) }
+    ensures used { OnOk result (IsUsed block.new) }
 {
     let room = length_with(block, edit) + block.count();
     let words = records::roomy(block.allocator(), room)?;
@@ -124,7 +125,7 @@ fn length_with<P: Dims>(block: &Block<SlotOf<P>>, edit: &Edit) -> usize
 /// which is handed in. Then a block that has much more room than it wants gives some back, and an error says only that there was no memory to do
 /// so: the point is out.
 #[inline(always)]
-pub(crate) fn remove_point<P: Dims>(
+pub(crate) fn take_point<P: Dims>(
     block: &mut Block<SlotOf<P>>,
     edit: &Edit,
     spare: Option<Words>,

@@ -14,7 +14,7 @@ ghost use Rattle.ph_node.specs.Slots.{nodes_of};
 
 use crate::node::{NodeOf, SlotOf};
 use crate::olds::OldEntry;
-use crate::points::{less_edit, remove_point};
+use crate::points::{less_edit, take_point};
 use crate::rewrites;
 use crate::spots::Spot;
 use ph_bits::{Block, Edit, Packed, Words};
@@ -44,7 +44,7 @@ impl<P: Dims> NodeOf<P> {
     {
         let edit = less_edit(spot);
         // Where there is no memory for less room, the block keeps what it has.
-        let _ = remove_point(&mut self.block, &edit, spare);
+        let _ = take_point(&mut self.block, &edit, spare);
         changes.tick();
     }
 

@@ -229,7 +229,7 @@ impl<const D: usize> PhTree<D> {
     ///
     /// It takes memory only where a node loses a point and its record changes its layout by that: for the words of that record
     /// and for the node's children. Where the layout stays the record is changed where it lies. An absent point, the last row, and a
-    /// node that goes take none either. An error leaves all as it was.
+    /// node that goes take none either. An error leaves all as it was. A node of which much memory is free then moves to less of it, if there is some.
     pub fn del<V: Ledger, C: Ledger>(
         &mut self,
         p: &Point<D>,

@@ -22,4 +22,5 @@ returns-then-changes_layout-clause-room g c =
       same = λ has. absurd (changed has.0);
       longer = λ _. c.add_anew.ensures.most;
       changed = λ _. c.add_anew.ensures.most;
+      used = λ _. c.add_anew.ensures.used;
     }

@@ -6,7 +6,7 @@ use Rattle.ph_bits.specs.Block.{room_of}
 use Rattle.ph_node.specs.RecordEdit.{IsRecordEdit, with_edit}
 use Rattle.ph_node.specs.Relaid.{is_relaid}
 use Rattle.ph_node.proofs.Resized.{stays_less, relaid, shorter_with}
-use Rattle.ph_node.proofs.points.remove_point.Goals as goal
+use Rattle.ph_node.proofs.points.take_point.Goals as goal
 
 pub overflow_sub-left : goal.overflow_sub-left
 overflow_sub-left g c =
