@@ -120,10 +120,11 @@ fn shift_words_down(words: &mut [u64], from: u64, place: u64, count: u64)
 {
     let start = from / 64;
     let front = from % 64;
+    let behind = 64 - front;
     let mut first = words[start as usize];
     for i in 0..count {
         let last = words[(start + i + 1) as usize];
-        words[(place + i) as usize] = word_across(first, last, front);
+        words[(place + i) as usize] = word_across(first, last, front, behind);
         first = last;
     }
 }
@@ -156,6 +157,7 @@ fn shift_four(words: &mut [u64], from: u64, place: u64)
 {
     let start = (from / 64) as usize;
     let front = from % 64;
+    let behind = 64 - front;
     let (a, b, c, d, e) = (
         words[start],
         words[start + 1],
@@ -164,10 +166,10 @@ fn shift_four(words: &mut [u64], from: u64, place: u64)
         words[start + 4],
     );
     let to = place as usize;
-    words[to + 3] = word_across(d, e, front);
-    words[to + 2] = word_across(c, d, front);
-    words[to + 1] = word_across(b, c, front);
-    words[to] = word_across(a, b, front);
+    words[to + 3] = word_across(d, e, front, behind);
+    words[to + 2] = word_across(c, d, front, behind);
+    words[to + 1] = word_across(b, c, front, behind);
+    words[to] = word_across(a, b, front, behind);
 }
 
 // The same, one word a turn.
@@ -180,24 +182,27 @@ fn shift_few_up(words: &mut [u64], from: u64, place: u64, count: u64)
 {
     let start = from / 64;
     let front = from % 64;
+    let behind = 64 - front;
     let mut last = words[(start + count) as usize];
     let mut left = count;
     while left > 0 {
         left -= 1;
         let first = words[(start + left) as usize];
-        words[(place + left) as usize] = word_across(first, last, front);
+        words[(place + left) as usize] = word_across(first, last, front, behind);
         last = first;
     }
 }
 
-// The 64 digits of two words that begin behind the first `front`. It is one double shift of the processor.
+// The 64 digits of two words that begin behind the first `front`. Whoever makes many words makes `behind` once: where each has
+// its own `64 - front`, the compiler makes double shifts, of which there are no vectors.
 #[inline(always)]
-fn word_across(first: u64, last: u64, front: u64) -> u64
+fn word_across(first: u64, last: u64, front: u64, behind: u64) -> u64
     requires some { 0 < front }
     requires inside { front < 64 }
+    requires word { front + behind ≡ 64 }
     ensures { result ≡ first % 2 ^ (64 - front) * 2 ^ front + last / 2 ^ (64 - front) }
 {
-    (first << front) | (last >> (64 - front))
+    (first << front) | (last >> behind)
 }
 
 // Moves digits to others that lie in one word, in front of its last `behind`.
