@@ -9,3 +9,4 @@ pub mod Standing
 pub mod EditedPlaces
 pub mod EditedTables
 pub mod PutTables
+pub mod KindWords

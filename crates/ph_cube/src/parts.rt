@@ -32,7 +32,7 @@ pub(crate) fn address_of(words: &[u64], dims: usize, i: usize) -> u64
     addr
 }
 
-// The address of the entry behind entry `i`, which stands at an address.
+// The address of the entry behind entry `i`, which stands at an address. Words whose kinds are all 0 are passed as wholes.
 #[inline(always)]
 pub(crate) fn next_present(words: &[u64], dims: usize, i: usize, addr: u64) -> u64
     requires record { IsRecord true dims words.now }
@@ -41,11 +41,15 @@ pub(crate) fn next_present(words: &[u64], dims: usize, i: usize, addr: u64) -> u
     ensures { StandsAt dims words.now result (i + 1) }
 {
     let _ = (dims, i);
-    let mut next = addr + 1;
-    while field(words, 64 + next * 2, 2) == 0 {
-        next += 1;
+    let mut first = addr + 1;
+    let mut place = first / 32 + 1;
+    let mut left = words[place as usize] << (first % 32 * 2);
+    while left == 0 {
+        first = place * 32;
+        place += 1;
+        left = words[place as usize];
     }
-    next
+    first + left.leading_zeros() as u64 / 2
 }
 
 // Whether a child stands at an address.
