@@ -1,5 +1,6 @@
 -- Lemmas on trees of many rows.
 mod Chains
+mod Codes
 mod Flats
 mod Sorted
 mod Lasts

@@ -16,7 +16,7 @@ use Rattle.ph_bulk.specs.Order.{any_offset, words_before, words_first, row_befor
 
 -- ---- one place
 
-decided-gt : (a b : ℕ) (below : Bool) → b < a → decided a b below ≡ false
+pub decided-gt : (a b : ℕ) (below : Bool) → b < a → decided a b below ≡ false
 decided-gt a b below h = let apart : a ≡ b → ⊥ = λ e. omega arith in rw (le-ltb a b (omega arith), ne_eqb a b apart)
 
 -- how a place can have decided that numbers do not come first
@@ -91,11 +91,11 @@ words-decided (suc n) t xs ys l e d =
           (decided-apart (body_address n xs) (body_address n ys) (words_before n xs ys) (subst (λ k. body_address k xs ≢ body_address k ys) same d))
     ]
 
-address-number : (s k : ℕ) (xs : List ℕ) → body_address_from s k xs ≡ number_at s k xs
+pub address-number : (s k : ℕ) (xs : List ℕ) → body_address_from s k xs ≡ number_at s k xs
 address-number s k [] = refl
 address-number s k (x ∷ xs) = address-number (s * 2 + x / 2 ^ k % 2) k xs
 
-is_lt-nat_cmp : (a b : ℕ) → is_lt (nat_cmp a b) ≡ nat_lt a b
+pub is_lt-nat_cmp : (a b : ℕ) → is_lt (nat_cmp a b) ≡ nat_lt a b
 is_lt-nat_cmp a b = by_tests (nat_lt a b) (a == b)
   where
     by_tests : (s t : Bool) → is_lt (cond s Less (cond t Equal Greater)) ≡ s

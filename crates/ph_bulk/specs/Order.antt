@@ -1,5 +1,5 @@
 -- The order in which rows are sorted: by the digits of the offsets of their coordinates.
-use Rattle.std.specs.Prelude.{ℕ, zero, suc, Bool, false, ◌&&◌, ◌||◌, ◌==◌, nat_lt, if◌then◌else◌, List, [], ◌∷◌, map, ℤ}
+use Rattle.std.specs.Prelude.{ℕ, zero, suc, ◌+◌, ◌*◌, ◌^◌, Bool, false, ◌&&◌, ◌||◌, ◌==◌, nat_lt, if◌then◌else◌, List, [], ◌∷◌, length, map, ℤ}
 use Rattle.ph_specs.specs.Coordinate.{fits, offset, same_point}
 use Rattle.ph_model.specs.PutTree.{body_address}
 use Rattle.ph_specs.specs.Table.{Row}
@@ -21,6 +21,15 @@ any_offset width c = if fits width c then offset width c else 0
 -- whether a row is sorted before another
 abbrev pub row_before : ℕ → Row → Row → Bool
 row_before width a b = words_first (map (any_offset width) a.point) (map (any_offset width) b.point)
+
+-- the digits of numbers below a place as one number: the addresses, from the greatest place down
+abbrev pub code_below : ℕ → List ℕ → ℕ
+code_below zero xs = 0
+code_below (suc place) xs = body_address place xs * 2 ^ (length xs * place) + code_below place xs
+
+-- the code of a point: the digits of the offsets of its coordinates
+abbrev pub code_of : ℕ → List ℤ → ℕ
+code_of width p = code_below width (map (any_offset width) p)
 
 -- whether the last of some rows is at a point
 abbrev pub is_last : List Row → List ℤ → Bool

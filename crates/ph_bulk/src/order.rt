@@ -1,16 +1,68 @@
 //! The order in which rows are sorted.
-ghost use Rattle.std.specs.Prelude.{◌≡◌, ◌≤◌, length, map, OnOk};
+ghost use Rattle.std.specs.Prelude.{◌≡◌, ◌≤◌, ◌*◌, length, map, IsTrue, OnOk};
+ghost use Rattle.std.specs.List.{AllByRecursion as Each};
 ghost use Rattle.std.specs.List.Sorted.{IsPermutation, IsSortedBy, IsStableBy};
 ghost use Rattle.std.specs.Ordering.{is_lt};
-ghost use Rattle.ph_bulk.specs.Order.{any_offset, words_first, row_before};
+ghost use Rattle.ph_bulk.specs.Order.{any_offset, words_first, row_before, code_of};
 
 use crate::NoMemory;
 use ph_coord::{Point, Row, Width};
 use ph_digits::{body_address, top_difference};
 use std::cmp::Ordering;
 
+// With fewer dimensions a comparison is cheap, and codes save little or nothing.
+const LEAST_CODED_DIMS: usize = 4;
+
+// How many digits a code has room for.
+const CODE_DIGITS: usize = 128;
+
 /// Sorts rows by the Z-order of their points. Rows at one point keep their order.
+///
+/// Points of four dimensions and more, and of few digits, are sorted by codes, with room for the codes and for the rows once more.
+/// Rows that rise already would take several times as long by codes, so ask `rising` first.
 pub(crate) fn sort_rows<const D: usize>(w: Width, rows: &mut Vec<Row<D>>) -> Result<(), NoMemory>
+    requires { D ≤ 16 }
+    ensures sorted { OnOk result (IsSortedBy (row_before w) rows.new.items) }
+    ensures stable { OnOk result (IsStableBy (row_before w) rows.old.items rows.new.items) }
+    ensures moved { IsPermutation rows.old.items rows.new.items }
+{
+    if has_codes::<D>(w) {
+        sort_by_codes(w, rows)
+    } else {
+        sort_by_words(w, rows)
+    }
+}
+
+// Whether points are sorted by codes.
+fn has_codes<const D: usize>(w: Width) -> bool
+    requires { D ≤ 16 }
+    ensures { IsTrue result → D * w ≤ 128 }
+{
+    D >= LEAST_CODED_DIMS && D * w.bits() as usize <= CODE_DIGITS
+}
+
+// Sorts rows by the codes of their points, each made once.
+fn sort_by_codes<const D: usize>(w: Width, rows: &mut Vec<Row<D>>) -> Result<(), NoMemory>
+    requires dims { D ≤ 16 }
+    requires digits { D * w ≤ 128 }
+    ensures sorted { OnOk result (IsSortedBy (row_before w) rows.new.items) }
+    ensures stable { OnOk result (IsStableBy (row_before w) rows.old.items rows.new.items) }
+    ensures moved { IsPermutation rows.old.items rows.new.items }
+{
+    let _bits = w.bits();
+    have_dims(rows.as_slice());
+    rows.sort_by_cached_key(
+        |row|
+            requires dims { D ≤ 16 }
+            requires digits { D * w ≤ 128 }
+            ensures { result ≡ code_of w row.now.point }
+        { code_of(w, &row.point) },
+    )?;
+    Ok(())
+}
+
+// Sorts rows by comparing their points.
+fn sort_by_words<const D: usize>(w: Width, rows: &mut Vec<Row<D>>) -> Result<(), NoMemory>
     requires { D ≤ 16 }
     ensures sorted { OnOk result (IsSortedBy (row_before w) rows.new.items) }
     ensures stable { OnOk result (IsStableBy (row_before w) rows.old.items rows.new.items) }
@@ -23,6 +75,38 @@ pub(crate) fn sort_rows<const D: usize>(w: Width, rows: &mut Vec<Row<D>>) -> Res
         { row_cmp(w, a, b) },
     )?;
     Ok(())
+}
+
+// Points have a number for each dimension. It does nothing when it runs.
+#[inline(always)]
+fn have_dims<const D: usize>(rows: &[Row<D>])
+    ensures { Each (λ r. length r.point ≡ D) rows.now }
+{
+    for row in rows {
+        numbers_of(row);
+    }
+}
+
+// The numbers of a row's point, one for each dimension.
+#[inline(always)]
+fn numbers_of<const D: usize>(row: &Row<D>) -> &[i64]
+    ensures { length row.now.point ≡ D }
+{
+    row.point.as_slice()
+}
+
+// The digits of a point's offsets as one number: the addresses, from the greatest place down.
+fn code_of<const D: usize>(w: Width, p: &Point<D>) -> u128
+    requires dims { D ≤ 16 }
+    requires digits { D * w ≤ 128 }
+    ensures { result ≡ code_of w p.now }
+{
+    let offsets = any_offsets(w, p);
+    let mut code = 0;
+    for place in (0..w.bits()).rev() {
+        code = (code << D) + u128::from(body_address(place, &offsets));
+    }
+    code
 }
 
 // How the point of a row stands to that of another.
