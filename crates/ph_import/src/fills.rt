@@ -1,9 +1,9 @@
-//! Rows into a tree that has none.
-ghost use Rattle.std.specs.Prelude.{◌≡◌, [], length, OnErr};
+//! A tree with other rows.
+ghost use Rattle.std.specs.Prelude.{◌≡◌, length, OnErr};
 ghost use Rattle.std.specs.List.{AllByRecursion as Each};
 ghost use Rattle.ph_specs.specs.TableNames.{IsPoint, table_of};
 ghost use Rattle.ph_specs.specs.WorkNames.{all_nodes};
-ghost use Rattle.ph_import.specs.Imported.{IsImported};
+ghost use Rattle.ph_import.specs.Imported.{IsRenewed};
 
 use crate::fault::ImportFault;
 use ph_bulk::{build, last_rows};
@@ -13,7 +13,7 @@ use ph_undo::Kept;
 use std::alloc::Global;
 use std::sync::ledger::Ledger;
 
-// Puts rows into a tree that has none: the rows are sorted and each node is made once. That there are too many is told before the
+// Gives a tree the table of rows in place of its own: the rows are sorted and each node is made once. That there are too many is told before the
 // first is made. After an error the tree is as it was.
 pub(crate) fn fill<const D: usize, C: Ledger>(
     alloc: Global,
@@ -21,9 +21,8 @@ pub(crate) fn fill<const D: usize, C: Ledger>(
     rows: Vec<Row<D>>,
     changes: &mut Steps<C>,
 ) -> Result<(), ImportFault>
-    requires empty { kept.old.table ≡ [] }
-    requires points { Each (λ r. IsPoint kept.old.width D r.point) rows.items }
-    ensures done { IsImported kept.old kept.new rows.entry.items
+    requires { Each (λ r. IsPoint kept.old.width D r.point) rows.items }
+    ensures done { IsRenewed kept.old kept.new (table_of kept.old.width rows.entry.items)
         (length (all_nodes kept.old.width D (table_of kept.old.width rows.entry.items)))
         changes.old changes.new result }
     ensures err { OnErr result (kept.new ≡ kept.old) }

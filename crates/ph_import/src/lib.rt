@@ -4,6 +4,7 @@
 mod fault;
 mod fills;
 mod imports;
+mod merges;
 mod room;
 mod rows;
 

@@ -21,17 +21,18 @@ use std::sync::ledger::Ledger;
 pub(crate) fn put_rows<const D: usize, V: Ledger, C: Ledger>(
     alloc: Global,
     kept: &mut Kept<D>,
-    rows: &[Row<D>],
+    rows: Vec<Row<D>>,
     visits: &mut Steps<V>,
     changes: &mut Steps<C>,
 ) -> Result<(), ImportFault>
-    requires points { Each (λ r. IsPoint kept.old.width D r.point) rows.now }
-    ensures done { IsImported kept.old kept.new rows.now (2 * length rows.now) changes.old changes.new result }
-    ensures fault { IsErrOf result ImportFault.NoMemory → IsPart kept.old kept.new rows.now }
-    ensures visits { visits.new ≤ visits.old + rows_visits D kept.old rows.now }
-    ensures limit { visits.new ≤ visits.old + 4 * kept.old.width * length rows.now }
+    requires points { Each (λ r. IsPoint kept.old.width D r.point) rows.items }
+    ensures done { IsImported kept.old kept.new rows.entry.items (2 * length rows.entry.items) changes.old changes.new result }
+    ensures fault { IsErrOf result ImportFault.NoMemory → IsPart kept.old kept.new rows.entry.items }
+    ensures visits { visits.new ≤ visits.old + rows_visits D kept.old rows.entry.items }
+    ensures limit { visits.new ≤ visits.old + 4 * kept.old.width * length rows.entry.items }
     ensures later { visits.old ≤ visits.new }
 {
+    let rows = rows.as_slice();
     if !has_room(alloc, kept.tree(), rows, visits)? {
         return Err(ImportFault::Full);
     }
