@@ -8,7 +8,10 @@ pub mod Reached
 pub mod Listing
 pub mod HalfGaps
 pub mod AddressSums
+pub mod TwoWrites
+pub mod TableSums
 pub mod Entries
+pub mod Scans
 pub mod Ranks
 pub mod Searches
 mod Distances

@@ -14,6 +14,7 @@ pub record AreHalves {d : ℕ} (level : ℕ) (known center : List ℕ) (h : Halv
   pub high : (i : ℕ) → i < d → slice_index h.high i ≡ half_gap level (slice_index known i) 1 (slice_index center i)
 
 pub record AreSmall {d : ℕ} (h : Halves d) : Type 0 where
+  pub few : d ≤ 16
   pub lows : length h.low ≡ d
   pub highs : length h.high ≡ d
   pub low : (i : ℕ) → i < d → slice_index h.low i ≤ greatest_square
@@ -29,23 +30,9 @@ abbrev pub halves_sum : ℕ → List ℕ → List ℕ → ℕ
 halves_sum addr (a ∷ low) (b ∷ high) = half_of (addr / 2 ^ length low % 2) a b + halves_sum addr low high
 halves_sum addr _ _ = 0
 
--- the same in the dimensions before one of n
-abbrev pub halves_before : ℕ → ℕ → List ℕ → List ℕ → ℕ → ℕ
-halves_before n addr low high zero = 0
-halves_before n addr low high (suc i) =
-    halves_before n addr low high i + half_of (addr / 2 ^ (n - 1 - i) % 2) (slice_index low i) (slice_index high i)
-
--- the sums that are kept are those of the last address
-pub record AreSummed {d : ℕ} (h : Halves d) : Type 0 where
-  pub small : AreSmall h
-  pub long : length h.before ≡ d
-  pub before : (i : ℕ) → i < d → slice_index h.before i ≡ halves_before d h.last h.low h.high i
-
--- the sum of the numbers before one
-abbrev pub sum_before : List ℕ → ℕ → ℕ
-sum_before xs zero = 0
-sum_before xs (suc i) = sum_before xs i + slice_index xs i
-
-pub record HasSums (d : ℕ) (xs before : List ℕ) : Type 0 where
-  pub long : length before ≡ d
-  pub sums : (i : ℕ) → i < d → slice_index before i ≡ sum_before xs i
+-- the sum over so many dimensions of n by the digits of a number: its last digit is that of the dimension `from` before the last
+abbrev pub digits_sum : ℕ → List ℕ → List ℕ → ℕ → ℕ → ℕ → ℕ
+digits_sum n low high from number zero = 0
+digits_sum n low high from number (suc i) =
+    digits_sum n low high from number i
+    + half_of (number / 2 ^ i % 2) (slice_index low (n - 1 - (from + i))) (slice_index high (n - 1 - (from + i)))

@@ -6,6 +6,9 @@ pub mod Ball
 pub mod BallSphere
 pub mod Far
 pub mod Halves
+pub mod Tables
+pub mod Sums
 pub mod Opening
+pub mod Scanning
 pub mod Nearing
 pub mod Nearest

@@ -9,6 +9,8 @@ mod halves;
 mod opening;
 mod ranking;
 mod sphere;
+mod sums;
+mod tables;
 mod waiting;
 
 pub use ball::{Ball, BallOf};

@@ -1,22 +1,25 @@
 //! Opening nodes: their rows are found, and their children wait from then on.
 
-ghost use Rattle.std.specs.Prelude.{◌≡◌, ◌+◌, ◌<◌, ◌≤◌, [], ◌∷◌, ◌++◌, length, map, true, false, vec_capacity, IfOk, OnOk};
+ghost use Rattle.std.specs.Prelude.{◌≡◌, ◌+◌, ◌<◌, ◌≤◌, [], ◌∷◌, ◌++◌, length, map, true, false, vec_capacity, IfOk, OnOk, IfSome, IfNone};
 ghost use Rattle.std.specs.BinaryHeap.{heap_items, IsHeap};
 ghost use Rattle.ph_specs.specs.TableNames.{coordinate};
 ghost use Rattle.ph_model.specs.ModelNames.{what_at, IsBody, entries};
 ghost use Rattle.ph_node.specs.Kinds.{is_node};
 ghost use Rattle.ph_node.specs.Shown.{shown};
 ghost use Rattle.ph_node.specs.Spots.{IsSpot};
-ghost use Rattle.ph_near.specs.Halves.{AreHalves, AreSummed};
+ghost use Rattle.ph_near.specs.Far.{corner_of, gaps_above};
 ghost use Rattle.ph_near.specs.Nearing.{IsKept};
 ghost use Rattle.ph_near.specs.Opening.{IsOpened, IsEntered, opened_items, place_item, line_of, AreWaiting, IsTried, IsTreated};
+ghost use Rattle.ph_near.specs.Scanning.{AreBeyond, IsNear};
+ghost use Rattle.ph_near.specs.Sums.{AreSums, told_by};
 ghost use Rattle.ph_near.specs.Ranking.{IsRanking};
 ghost use Rattle.ph_near.specs.Waiting.{waiting_cmp};
 
 use crate::beyond::is_point_beyond;
 use crate::found::Found;
-use crate::halves::Halves;
+use crate::halves::Distances;
 use crate::ranking::Ranking;
+use crate::sums::Sums;
 use crate::waiting::Waiting;
 use ph_coord::Width;
 use ph_node::{NoMemory, Node, NodeRef, NodeRefOf, Spot, WhatOf};
@@ -40,6 +43,13 @@ pub(crate) struct OpenedOf<'t, N, const D: usize> {
 }
 
 pub(crate) type Opened<'t, const D: usize> = OpenedOf<'t, Node<D>, D>;
+
+// An entry that may be near enough, and the square of the least distance that its address tells.
+#[derive(Clone, Copy)]
+struct Near {
+    pub spot: Spot,
+    pub distance: u128,
+}
 
 // No node is opened yet.
 pub(crate) fn none_opened<'t, const D: usize>(alloc: Global) -> Result<Vec<Opened<'t, D>>, NoMemory>
@@ -107,9 +117,11 @@ pub(crate) fn open<'t, const D: usize>(
     let _bits = w.bits();
     let at = opened.len();
     keep(from.node, from.known, opened)?;
-    let mut halves = Halves::new(from.node.level(), &from.known, center);
-    for place in 0..from.node.len() {
-        treat(at, from, place, &mut halves, w, center, ranking, queue)?;
+    let sums = Sums::new(from.node.level(), &from.known, center, from.node.len());
+    let mut place = 0;
+    while let Some(near) = next_near(from, &sums, place, ranking.limit()) {
+        treat(at, from, near, w, center, ranking, queue)?;
+        place = near.spot.place + 1;
     }
     Ok(())
 }
@@ -129,24 +141,61 @@ fn keep<'t, const D: usize>(
     }
 }
 
-// Treats the entry at a place of a node, which is the one at `at` of those that were opened.
+// The first entry at or behind a place that may be within a limit.
+#[inline(always)]
+fn next_near<'t, const D: usize>(
+    from: &Opened<'t, D>,
+    sums: &Sums<D>,
+    place: usize,
+    limit: u128,
+) -> Option<Near>
+    requires sums { AreSums sums.now }
+    ensures near { IfSome result (λ near. IsNear (told_by sums.now) (entries (shown from.now.node)) limit place near) }
+    ensures none { IfNone result (AreBeyond (told_by sums.now) (entries (shown from.now.node)) limit place (length (entries (shown from.now.node)))) }
+{
+    match sums {
+        Sums::Direct(halves) => first_near(from, halves, place, limit),
+        Sums::Tabled(tables) => first_near(from, tables, place, limit),
+    }
+}
+
+// The same by one form of sums. Most entries of a large node are beyond the limit: this loop writes nothing.
+#[inline(always)]
+fn first_near<'t, const D: usize, S: Distances<D>>(
+    from: &Opened<'t, D>,
+    sums: &S,
+    place: usize,
+    limit: u128,
+) -> Option<Near>
+    requires sound { S.IsSound sums.now }
+    ensures near { IfSome result (λ near. IsNear (S.told sums.now) (entries (shown from.now.node)) limit place near) }
+    ensures none { IfNone result (AreBeyond (S.told sums.now) (entries (shown from.now.node)) limit place (length (entries (shown from.now.node)))) }
+{
+    for i in place..from.node.len() {
+        let spot = from.node.spot(i);
+        let distance = sums.least(spot.addr);
+        if distance <= limit {
+            return Some(Near { spot, distance });
+        }
+    }
+    None
+}
+
+// Treats an entry of a node that may be near enough. The node is the one at `at` of those that were opened.
 #[inline(always)]
 fn treat<'t, const D: usize>(
     at: usize,
     from: &Opened<'t, D>,
-    place: usize,
-    halves: &mut Halves<D>,
+    near: Near,
     w: Width,
     center: &[u64; D],
     ranking: &mut Ranking<D>,
     queue: &mut BinaryHeap<Waiting>,
 ) -> Result<(), NoMemory>
-    requires some { 1 ≤ D }
     requires few { D ≤ 16 }
     requires opened { IsOpened w D from.now }
-    requires place { place < length (entries (shown from.now.node)) }
-    requires halves { AreHalves (shown from.now.node).level from.now.known center.now halves.old }
-    requires summed { AreSummed halves.old }
+    requires spot { IsSpot (entries (shown from.now.node)) near.spot }
+    requires told { near.distance ≡ gaps_above (shown from.now.node).level (corner_of (shown from.now.node).level near.spot.addr from.now.known) center.now }
     requires point { IsBody D w center.now }
     requires ranking { IsRanking ranking.old }
     requires order { IsHeap waiting_cmp (heap_items queue.old) }
@@ -154,24 +203,17 @@ fn treat<'t, const D: usize>(
     ensures ranking { OnOk result (IsRanking ranking.new) }
     ensures order { OnOk result (IsHeap waiting_cmp (heap_items queue.new)) }
     ensures treated { OnOk result
-        (IsTreated ranking.old.n w (map (coordinate w) center.now) at from.now place
+        (IsTreated ranking.old.n w (map (coordinate w) center.now) at from.now near.spot.place
         (heap_items ranking.old.rows) (heap_items ranking.new.rows) (heap_items queue.old) (heap_items queue.new)) }
-    ensures halves { AreHalves (shown from.now.node).level from.now.known center.now halves.new }
-    ensures summed { AreSummed halves.new }
 {
     let _bits = w.bits();
-    let spot = from.node.spot(place);
-    let distance = halves.least(spot.addr);
-    if distance > ranking.limit() {
-        return Ok(());
-    }
-    if !from.node.is_child(spot) {
-        return find(from, spot, w, center, ranking);
+    if !from.node.is_child(near.spot) {
+        return find(from, near.spot, w, center, ranking);
     }
     let child = Waiting {
-        distance,
+        distance: near.distance,
         opened: at,
-        place,
+        place: near.spot.place,
     };
     match queue.push(child) {
         Ok(()) => Ok(()),

@@ -1,19 +1,18 @@
-use Rattle.std.proofs.Common.{◌≡◌, ◌++◌, map, drop}
+use Rattle.std.proofs.Common.{◌≡◌, ◌-◌, ◌≤◌, ◌++◌, length, map, drop}
 use Rattle.std.specs.BinaryHeap.{heap_items, IsHeap}
 use Rattle.ph_specs.specs.Coordinate.{coordinate}
+use Rattle.ph_specs.specs.Record.{entries}
 use Rattle.ph_node.specs.Shown.{shown}
-use Rattle.ph_near.specs.Halves.{AreHalves, AreSummed}
 use Rattle.ph_near.specs.Nearing.{IsKept}
 use Rattle.ph_near.specs.Opening.{opened_items, line_of, AreWaiting}
 use Rattle.ph_near.specs.Ranking.{IsRanking}
 use Rattle.ph_near.specs.Waiting.{waiting_cmp}
 use Rattle.ph_near.proofs.opening.open.Given as goal
 
-abbrev pub invariant-loop-place : goal.invariant-loop-place
-invariant-loop-place g l = record {
+abbrev pub invariant-loop-near : goal.invariant-loop-near
+invariant-loop-near g l = record {
+  within : l.place ≤ length (entries (shown l.from.node));
   n : l.ranking.n ≡ l.fn.ranking.n;
-  halves : AreHalves (shown l.from.node).level l.from.known l.center l.halves;
-  summed : AreSummed l.halves;
   ranking : IsRanking l.ranking;
   order : IsHeap waiting_cmp (heap_items l.queue);
   waits : AreWaiting l.w (map (coordinate l.w) l.center) l.opened.items (heap_items l.queue);
@@ -21,3 +20,6 @@ invariant-loop-place g l = record {
       (opened_items l.w l.from ++ line_of l.w l.fn.opened.items (heap_items l.fn.queue)) (heap_items l.ranking.rows)
       (drop l.place (opened_items l.w l.from) ++ line_of l.w l.opened.items (heap_items l.queue));
 }
+
+abbrev pub decreases-loop-near : goal.decreases-loop-near
+decreases-loop-near g l = length (entries (shown l.from.node)) - l.place

@@ -4,7 +4,6 @@ use Rattle.ph_node.specs.Apart.{greatest_square}
 use Rattle.ph_near.specs.Far.{gap_above}
 use Rattle.ph_near.specs.Halves.{half_gap}
 use Rattle.ph_near.proofs.FarRegions.{corner-room}
-use Rattle.ph_near.proofs.AddressSums.{before-low}
 use Rattle.ph_near.proofs.HalfGaps.{set-more}
 use Rattle.ph_near.proofs.halves.Halves.new.Goals as goal
 
@@ -54,17 +53,11 @@ loop-i-preserved g c =
           c.loop-i.invariant.small_high c.squared_gap-in-loop-i.ensures.limit;
     }
 
-pub returns-clause-summed : goal.returns-clause-summed
-returns-clause-summed g c =
-    let low = c.loop-i.low in
-    let high = c.loop-i.high in
-    record {
-      small = record {
-        lows = c.loop-i.invariant.lows;
-        highs = c.loop-i.invariant.highs;
-        low = λ j k. c.loop-i.invariant.small_low j (omega (arith, k, c.loop-i-test.false));
-        high = λ j k. c.loop-i.invariant.small_high j (omega (arith, k, c.loop-i-test.false));
-      };
-      long = c.sums_before-before.ensures.long;
-      before = λ j k. c.sums_before-before.ensures.sums j k ∙ before-low g.row.D j low high;
-    }
+pub returns-clause-small : goal.returns-clause-small
+returns-clause-small g c = record {
+  few = c.requires.few;
+  lows = c.loop-i.invariant.lows;
+  highs = c.loop-i.invariant.highs;
+  low = λ j k. c.loop-i.invariant.small_low j (omega (arith, k, c.loop-i-test.false));
+  high = λ j k. c.loop-i.invariant.small_high j (omega (arith, k, c.loop-i-test.false));
+}
