@@ -9,10 +9,9 @@ use Rattle.ph_near.specs.declared.opening.Near.{Near}
 abbrev pub AreBeyond : (ℕ → ℕ) → List Entry → ℕ → ℕ → ℕ → Type 0
 AreBeyond told es limit from to = (j : ℕ) → from ≤ j → j < to → limit < told (addr_at es j)
 
--- an entry is the first from a place on that is not
+-- an entry is the first from a place on that may not be
 pub record IsNear (told : ℕ → ℕ) (es : List Entry) (limit place : ℕ) (near : Near) : Type 0 where
   pub spot : IsSpot es near.spot
   pub distance : near.distance ≡ told near.spot.addr
-  pub within : near.distance ≤ limit
   pub behind : place ≤ near.spot.place
   pub beyond : AreBeyond told es limit place near.spot.place

@@ -1,6 +1,6 @@
 //! Opening nodes: their rows are found, and their children wait from then on.
 
-ghost use Rattle.std.specs.Prelude.{◌≡◌, ◌+◌, ◌<◌, ◌≤◌, [], ◌∷◌, ◌++◌, length, map, true, false, vec_capacity, IfOk, OnOk, IfSome, IfNone};
+ghost use Rattle.std.specs.Prelude.{◌≡◌, ℕ, ◌+◌, ◌<◌, ◌≤◌, [], ◌∷◌, ◌++◌, length, map, true, false, vec_capacity, IfOk, OnOk, IfSome, IfNone};
 ghost use Rattle.std.specs.BinaryHeap.{heap_items, IsHeap};
 ghost use Rattle.ph_specs.specs.TableNames.{coordinate};
 ghost use Rattle.ph_model.specs.ModelNames.{what_at, IsBody, entries};
@@ -29,7 +29,7 @@ use std::alloc::Global;
 use std::collections::BinaryHeap;
 use std::sync::ledger::Ledger;
 
-// In up to so many dimensions a row is told as fast as it is tried.
+// In up to so many dimensions a row is told as fast as it is tried, and most entries of a node are near enough.
 const FEW_DIMS: usize = 3;
 
 // Room for so many opened nodes is taken at once.
@@ -141,7 +141,8 @@ fn keep<'t, const D: usize>(
     }
 }
 
-// The first entry at or behind a place that may be within a limit.
+// An entry at or behind a place, before which none is within a limit. It is within it itself, but in few dimensions, where entries are
+// taken one after the other.
 #[inline(always)]
 fn next_near<'t, const D: usize>(
     from: &Opened<'t, D>,
@@ -154,12 +155,32 @@ fn next_near<'t, const D: usize>(
     ensures none { IfNone result (AreBeyond (told_by sums.now) (entries (shown from.now.node)) limit place (length (entries (shown from.now.node)))) }
 {
     match sums {
+        Sums::Direct(halves) if D <= FEW_DIMS => near_at(from, halves, place),
         Sums::Direct(halves) => first_near(from, halves, place, limit),
         Sums::Tabled(tables) => first_near(from, tables, place, limit),
     }
 }
 
-// The same by one form of sums. Most entries of a large node are beyond the limit: this loop writes nothing.
+// The entry at a place.
+#[inline(always)]
+fn near_at<'t, const D: usize, S: Distances<D>>(
+    from: &Opened<'t, D>,
+    sums: &S,
+    place: usize,
+) -> Option<Near>
+    requires sound { S.IsSound sums.now }
+    ensures near { (limit : ℕ) → IfSome result (λ near. IsNear (S.told sums.now) (entries (shown from.now.node)) limit place near) }
+    ensures none { (limit : ℕ) → IfNone result (AreBeyond (S.told sums.now) (entries (shown from.now.node)) limit place (length (entries (shown from.now.node)))) }
+{
+    if place >= from.node.len() {
+        return None;
+    }
+    let spot = from.node.spot(place);
+    let distance = sums.least(spot.addr);
+    Some(Near { spot, distance })
+}
+
+// The first entry at or behind a place that is within a limit. Most entries of a large node are beyond it: the loop writes nothing.
 #[inline(always)]
 fn first_near<'t, const D: usize, S: Distances<D>>(
     from: &Opened<'t, D>,
@@ -169,6 +190,7 @@ fn first_near<'t, const D: usize, S: Distances<D>>(
 ) -> Option<Near>
     requires sound { S.IsSound sums.now }
     ensures near { IfSome result (λ near. IsNear (S.told sums.now) (entries (shown from.now.node)) limit place near) }
+    ensures within { IfSome result (λ near. near.distance ≤ limit) }
     ensures none { IfNone result (AreBeyond (S.told sums.now) (entries (shown from.now.node)) limit place (length (entries (shown from.now.node)))) }
 {
     for i in place..from.node.len() {
@@ -207,6 +229,9 @@ fn treat<'t, const D: usize>(
         (heap_items ranking.old.rows) (heap_items ranking.new.rows) (heap_items queue.old) (heap_items queue.new)) }
 {
     let _bits = w.bits();
+    if D <= FEW_DIMS && near.distance > ranking.limit() {
+        return Ok(());
+    }
     if !from.node.is_child(near.spot) {
         return find(from, near.spot, w, center, ranking);
     }
