@@ -4,7 +4,7 @@ use Rattle.ph_model.specs.BestFirst.{Item, item_distance}
 use Rattle.ph_specs.specs.Coordinate.{coordinate}
 use Rattle.ph_model.specs.Lawful.{IsBody}
 use Rattle.ph_specs.specs.Node.{PlainNode}
-use Rattle.ph_specs.specs.Record.{entries}
+use Rattle.ph_model.specs.EntryList.{entries}
 use Rattle.ph_node.specs.Merge.{addr_at}
 use Rattle.ph_node.specs.Shown.{shown}
 use Rattle.ph_near.specs.declared.found.Found.{Found}

@@ -108,7 +108,9 @@ fn list_kept<const D: usize, V: Ledger>(
     requires left { a.now.width ≡ plan.now.width }
     requires right { b.now.width ≡ plan.now.width }
     ensures rows { IfOk result (λ rows. rows.items ≡ kept plan.now a.now.table b.now.table) }
-    ensures visits { Visits result (work plan.now a.now.table (all_nodes plan.now.width D a.now.table) b.now.table (all_nodes plan.now.width D b.now.table)) visits.old visits.new }
+    ensures visits { Visits result
+        (work plan.now a.now.table (all_nodes plan.now.width D a.now.table) b.now.table (all_nodes plan.now.width D b.now.table))
+        visits.old visits.new }
     ensures left { IsTable plan.now.width D a.now.table }
     ensures right { IsTable plan.now.width D b.now.table }
     ensures wide { 1 ≤ plan.now.width }

@@ -37,7 +37,8 @@ pub fn union<const D: usize, V: Ledger, C: Ledger>(
     ensures visits { Visits result (length (all_nodes a.now.width D a.now.table) + length (all_nodes a.now.width D b.now.table)) visits.old visits.new }
     ensures later { visits.old ≤ visits.new }
     ensures refused { IsErrOf result SetFault.Full → changes.new ≡ changes.old }
-    ensures seen { IsErrOf result SetFault.Full → visits.new ≡ visits.old + (length (all_nodes a.now.width D a.now.table) + length (all_nodes a.now.width D b.now.table)) }
+    ensures seen { IsErrOf result SetFault.Full
+        → visits.new ≡ visits.old + (length (all_nodes a.now.width D a.now.table) + length (all_nodes a.now.width D b.now.table)) }
 {
     // A use that makes the number of dimensions known.
     let _root = a.root();

@@ -1,4 +1,4 @@
-use Rattle.ph_specs.specs.Record.{entries}
+use Rattle.ph_model.specs.EntryList.{entries}
 use Rattle.ph_node.specs.Shown.{shown}
 use Rattle.ph_near.specs.Scanning.{AreBeyond}
 use Rattle.ph_near.proofs.opening.first_near.Given as goal

@@ -1,6 +1,6 @@
 use Rattle.std.proofs.Common.{sym, subst, length}
 use Rattle.std.specs.Prelude.{IfSome, IfNone}
-use Rattle.ph_specs.specs.Record.{entries}
+use Rattle.ph_model.specs.EntryList.{entries}
 use Rattle.ph_node.specs.Shown.{shown}
 use Rattle.ph_near.specs.Scanning.{AreBeyond, IsNear}
 use Rattle.ph_near.specs.Sums.{told_by}

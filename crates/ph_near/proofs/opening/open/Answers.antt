@@ -1,7 +1,7 @@
 use Rattle.std.proofs.Common.{◌≡◌, ℕ, ◌<◌, ◌≤◌, ◌++◌, ◌+◌, ◌-◌, ◌^◌, ◌∙◌, refl, ap, sym, subst, arith, rules, map, drop, length}
 use Rattle.std.specs.BinaryHeap.{heap_items}
 use Rattle.ph_specs.specs.Coordinate.{coordinate}
-use Rattle.ph_specs.specs.Record.{entries}
+use Rattle.ph_model.specs.EntryList.{entries}
 use Rattle.ph_node.specs.Shown.{shown}
 use Rattle.ph_near.specs.Far.{corner_of, gaps_above}
 use Rattle.ph_near.specs.Halves.{AreHalves}

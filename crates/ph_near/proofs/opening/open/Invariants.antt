@@ -1,7 +1,7 @@
 use Rattle.std.proofs.Common.{◌≡◌, ◌-◌, ◌≤◌, ◌++◌, length, map, drop}
 use Rattle.std.specs.BinaryHeap.{heap_items, IsHeap}
 use Rattle.ph_specs.specs.Coordinate.{coordinate}
-use Rattle.ph_specs.specs.Record.{entries}
+use Rattle.ph_model.specs.EntryList.{entries}
 use Rattle.ph_node.specs.Shown.{shown}
 use Rattle.ph_near.specs.Nearing.{IsKept}
 use Rattle.ph_near.specs.Opening.{opened_items, line_of, AreWaiting}

@@ -3,7 +3,7 @@ use Rattle.std.proofs.lemmas.Result.{on_ok_weaker}
 use Rattle.ph_model.specs.BestFirst.{item_distance}
 use Rattle.ph_specs.specs.Coordinate.{coordinate}
 use Rattle.ph_model.specs.EntryEdits.{what_at}
-use Rattle.ph_specs.specs.Record.{entries}
+use Rattle.ph_model.specs.EntryList.{entries}
 use Rattle.ph_node.specs.Kinds.{is_node}
 use Rattle.ph_node.specs.Shown.{shown}
 use Rattle.ph_near.specs.Far.{corner_of, gaps_above}
