@@ -15,7 +15,7 @@ use std::sync::ledger::Ledger;
 // A point of one dimension, and a value.
 type Pair = (i64, u64);
 
-// Rows that are imported into a tree of one row for at most so many.
+// Rows that are imported into a tree of one row for at most so many, or of more rows far away for as many more.
 #[derive(Clone, Copy)]
 struct Case {
     max: u64,
@@ -27,6 +27,9 @@ struct Case {
 }
 
 const BEFORE: Pair = (1, 5);
+
+// Rows that stand far away. Without them the tree is made anew of its row and those that come, and with them the rows are put one by one.
+const FAR_AWAY: [Pair; 3] = [(100, 0), (101, 1), (102, 2)];
 
 const FULL: Result<(), ImportFault> = Err(ImportFault::Full);
 
@@ -85,20 +88,33 @@ fn row(rt: &impl Abort, w: Width, pair: Pair) -> Row<1>
     }
 }
 
-// The tree of one row, for at most so many.
+// The tree of one row and of others far away, for at most so many.
 fn tree_before<V: Ledger, C: Ledger>(
     rt: &impl Abort,
     alloc: Global,
     max: u64,
+    far_away: &[Pair],
     counters: &mut Counters<V, C>,
 ) -> Kept<1> {
     let w = Width::new(32).expect(rt, "a width");
     let mut kept = Kept::new(PhTree::new(alloc, w, max));
-    let first = row(rt, w, BEFORE);
+    put(rt, &mut kept, BEFORE, counters);
+    for pair in far_away {
+        put(rt, &mut kept, *pair, counters);
+    }
+    kept
+}
+
+fn put<V: Ledger, C: Ledger>(
+    rt: &impl Abort,
+    kept: &mut Kept<1>,
+    pair: Pair,
+    counters: &mut Counters<V, C>,
+) {
+    let first = row(rt, kept.tree().width(), pair);
     let Counters { visits, changes } = counters;
     let done = kept.put(first.point, first.value, visits, changes);
     assert!(rt; done.is_ok());
-    kept
 }
 
 fn import<V: Ledger, C: Ledger>(
@@ -129,12 +145,16 @@ fn check<V: Ledger, C: Ledger>(
     rt: &impl Abort,
     alloc: Global,
     case: &Case,
+    far_away: &[Pair],
     counters: &mut Counters<V, C>,
 ) {
-    let mut kept = tree_before(rt, alloc, case.max, counters);
+    let more = far_away.len() as u64;
+    let max = case.max.checked_add(more).expect(rt, "few rows");
+    let len = case.len.checked_add(more).expect(rt, "few rows");
+    let mut kept = tree_before(rt, alloc, max, far_away, counters);
     let outcome = import(rt, alloc, &mut kept, case.rows, counters);
     let tree = kept.tree();
-    assert!(rt; (outcome, tree.len()) == (case.outcome, case.len));
+    assert!(rt; (outcome, tree.len()) == (case.outcome, len));
     for (x, value) in [1, 2, 3].into_iter().zip(case.values) {
         assert!(rt;
             value_at(rt, tree, x, &mut counters.visits) == value,
@@ -149,7 +169,8 @@ impl<A: Abort> Counting for NearlyFull<'_, A> {
     fn run<V: Ledger, C: Ledger>(self, counters: &mut Counters<V, C>) {
         let NearlyFull(rt, alloc) = self;
         for case in cases() {
-            check(rt, alloc, &case, counters);
+            check(rt, alloc, &case, &[], counters);
+            check(rt, alloc, &case, &FAR_AWAY, counters);
         }
     }
 }
