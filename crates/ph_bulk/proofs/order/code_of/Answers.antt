@@ -9,7 +9,7 @@ digit : (g : Over) (c : After-from g) →
     IsNextDigit g.row.D c.args.w c.loop-place.place c.loop-place.code c.from.result c.any_offsets-offsets.result (map (any_offset c.args.w) c.args.p.now)
 digit g c =
     next-digit g.row.D c.args.w c.loop-place.place c.loop-place.code c.from.result c.any_offsets-offsets.result (map (any_offset c.args.w) c.args.p.now)
-    c.loop-place.invariant.dims c.requires.digits c.any_offsets-offsets.ensures c.loop-place-test.true c.loop-place.invariant.whole
+    c.loop-place.invariant.dims c.requires.digits c.any_offsets-offsets.ensures (omega (arith, c.loop-place-test.true)) c.loop-place.invariant.whole
     (c.from.ensures ∙ c.body_address.ensures.value)
 
 pub overflow_add-code : goal.overflow_add-code
