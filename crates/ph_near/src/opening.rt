@@ -19,7 +19,7 @@ use crate::beyond::is_point_beyond;
 use crate::found::Found;
 use crate::halves::Distances;
 use crate::ranking::Ranking;
-use crate::sums::Sums;
+use crate::sums::{FEW_DIMS as DIRECT_DIMS, Sums};
 use crate::waiting::Waiting;
 use ph_coord::Width;
 use ph_node::{NoMemory, Node, NodeRef, NodeRefOf, Spot, WhatOf};
@@ -29,7 +29,7 @@ use std::alloc::Global;
 use std::collections::BinaryHeap;
 use std::sync::ledger::Ledger;
 
-// In up to so many dimensions a row is told as fast as it is tried, and most entries of a node are near enough.
+// In up to so many dimensions a row is told as fast as it is tried.
 const FEW_DIMS: usize = 3;
 
 // Room for so many opened nodes is taken at once.
@@ -155,7 +155,7 @@ fn next_near<'t, const D: usize>(
     ensures none { IfNone result (AreBeyond (told_by sums.now) (entries (shown from.now.node)) limit place (length (entries (shown from.now.node)))) }
 {
     match sums {
-        Sums::Direct(halves) if D <= FEW_DIMS => near_at(from, halves, place),
+        Sums::Direct(halves) if D <= DIRECT_DIMS => near_at(from, halves, place),
         Sums::Direct(halves) => first_near(from, halves, place, limit),
         Sums::Tabled(tables) => first_near(from, tables, place, limit),
     }
@@ -229,7 +229,7 @@ fn treat<'t, const D: usize>(
         (heap_items ranking.old.rows) (heap_items ranking.new.rows) (heap_items queue.old) (heap_items queue.new)) }
 {
     let _bits = w.bits();
-    if D <= FEW_DIMS && near.distance > ranking.limit() {
+    if D <= DIRECT_DIMS && near.distance > ranking.limit() {
         return Ok(());
     }
     if !from.node.is_child(near.spot) {

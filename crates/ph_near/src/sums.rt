@@ -9,7 +9,7 @@ use crate::halves::Halves;
 use crate::tables::Tables;
 
 // In up to so many dimensions, and for up to so many entries, a sum is made anew as fast as tables are made and read.
-const FEW_DIMS: usize = 4;
+pub(crate) const FEW_DIMS: usize = 4;
 
 const FEW_ENTRIES: usize = 8;
 
