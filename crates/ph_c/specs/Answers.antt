@@ -26,11 +26,26 @@ no_width = 12
 abbrev pub no_point : ℕ
 no_point = 13
 
+abbrev pub reversed : ℕ
+reversed = 14
+
 abbrev pub full : ℕ
 full = 15
 
 abbrev pub no_memory : ℕ
 no_memory = 16
+
+abbrev pub no_room : ℕ
+no_room = 17
+
+abbrev pub unlike : ℕ
+unlike = 18
+
+abbrev pub no_boxes : ℕ
+no_boxes = 19
+
+abbrev pub damaged : ℕ
+damaged = 20
 
 -- an answer is one of these
 abbrev pub IsOneOf : List ℕ → ℕ → Type 0

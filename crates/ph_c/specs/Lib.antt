@@ -7,3 +7,12 @@ pub mod Edits
 pub mod Opens
 pub mod Pages
 pub mod Windows
+pub mod Nears
+pub mod Balls
+pub mod Asked
+pub mod Openings
+pub mod Builds
+pub mod Combining
+pub mod Snapshots
+pub mod Slices
+pub mod SliceLaws

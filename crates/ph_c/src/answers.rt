@@ -16,6 +16,16 @@ pub(crate) const NO_WIDTH: u32 = 12;
 
 pub(crate) const NO_POINT: u32 = 13;
 
+pub(crate) const REVERSED: u32 = 14;
+
 pub(crate) const FULL: u32 = 15;
 
 pub(crate) const NO_MEMORY: u32 = 16;
+
+pub(crate) const NO_ROOM: u32 = 17;
+
+pub(crate) const UNLIKE: u32 = 18;
+
+pub(crate) const NO_BOXES: u32 = 19;
+
+pub(crate) const DAMAGED: u32 = 20;

@@ -2,16 +2,34 @@
 #![tactic(auto)]
 
 mod answers;
+mod asked;
+mod balls;
+mod boxes;
+mod builds;
+mod bulk;
+mod combining;
 mod edits;
+mod frames;
 mod handle;
+mod hits;
 mod loose;
+mod nears;
 mod opens;
 mod pages;
 mod rows;
+mod saves;
+mod sets;
+mod slice_sink;
+mod snapshots;
 mod trees;
 mod windows;
 
+pub use boxes::{ph_covering, ph_inside, ph_overlapping};
+pub use builds::ph_build;
 pub use edits::{ph_get, ph_move, ph_put, ph_remove};
 pub use handle::Handle;
+pub use nears::{ph_ball, ph_nearest};
 pub use opens::{ph_close, ph_dimensions, ph_length, ph_most, ph_open, ph_width};
+pub use saves::{ph_load, ph_save};
+pub use sets::{ph_common, ph_minus, ph_union};
 pub use windows::ph_window;

@@ -3,12 +3,13 @@ ghost use Rattle.std.specs.Prelude.{◌≡◌, ◌+◌, ◌*◌, ◌<◌, ◌≤
 ghost use Rattle.std.specs.Option.{SomeIff};
 ghost use Rattle.ph_c.specs.Trees.{table_at};
 ghost use Rattle.ph_c.specs.Pages.{points_of, values_of, overlaid, IsRoom};
-ghost use Rattle.ph_c.specs.Windows.{AreCorners, cursor_at, IsWindow, IsListed, lent};
+ghost use Rattle.ph_c.specs.Windows.{AreCorners, cursor_at, IsWindow, IsListed, IsLastIn, last_of, lent};
 ghost use Rattle.ph_specs.specs.TableNames.{IsPoint, rest};
 ghost use Rattle.ph_window.specs.Page.{IsLast};
 
 use crate::answers::{DONE, NO_POINT};
 use crate::rows::point_in;
+use ph_coord::Point;
 use ph_steps::Steps;
 use ph_tree::PhTree;
 use ph_window::{Cursor, Window};
@@ -24,16 +25,16 @@ pub(crate) fn room_for<const D: usize>(points: usize, values: usize) -> usize
     if rows < values { rows } else { values }
 }
 
-// Writes numbers over those of an array from a place on.
-fn overlay(array: &mut [i64], place: usize, numbers: &[i64])
+/// Writes numbers over those of an array from a place on.
+pub(crate) fn overlay(array: &mut [i64], place: usize, numbers: &[i64])
     requires { place + length numbers.now ≤ length array.old }
     ensures { array.new ≡ take place array.old ++ numbers.now ++ drop (place + length numbers.now) array.old }
 {
     array[place..place + numbers.len()].copy_from_slice(numbers);
 }
 
-// Writes a number over that of an array at a place.
-fn overlay_word(array: &mut [u64], place: usize, word: u64)
+/// Writes a number over that of an array at a place.
+pub(crate) fn overlay_word(array: &mut [u64], place: usize, word: u64)
     requires { place < length array.old }
     ensures { array.new ≡ take place array.old ++ (word ∷ []) ++ drop (place + 1) array.old }
 {
@@ -66,8 +67,8 @@ pub(crate) fn fill<const D: usize, V: Ledger>(
     room
 }
 
-// Writes the first rows of a window, how many, and whether more are left.
-fn list_rows<const D: usize, V: Ledger>(
+/// Writes the first rows of a window, how many, and whether more are left.
+pub(crate) fn list_rows<const D: usize, V: Ledger>(
     window: &mut Window<'_, D>,
     points: &mut [i64],
     values: &mut [u64],
@@ -113,8 +114,8 @@ pub(crate) fn list_window<const D: usize, V: Ledger>(
     DONE
 }
 
-// The window behind the last point that was listed.
-fn window_at<'t, const D: usize, V: Ledger>(
+/// The window behind the last point that was listed.
+pub(crate) fn window_at<'t, const D: usize, V: Ledger>(
     tree: &'t PhTree<D>,
     cursor: &Cursor<D>,
     visits: &mut Steps<V>,
@@ -143,15 +144,22 @@ fn cursor_in<const D: usize>(
     let (Some(lo), Some(hi)) = (point_in(tree, low), point_in(tree, high)) else {
         return None;
     };
+    match last_in(tree, last) {
+        Some(last) => Some(Cursor { lo, hi, last }),
+        None => None,
+    }
+}
+
+/// The last point that was listed, of numbers that are a point of the tree, or none where there are no numbers.
+pub(crate) fn last_in<const D: usize>(tree: &PhTree<D>, last: &[i64]) -> Option<Option<Point<D>>>
+    requires { D ≤ 16 }
+    ensures { SomeIff result (IsLastIn (table_at D tree.now) last.now) (last_of last.now) }
+{
     if last.len() == 0 {
-        return Some(Cursor { lo, hi, last: None });
+        return Some(None);
     }
     match point_in(tree, last) {
-        Some(point) => Some(Cursor {
-            lo,
-            hi,
-            last: Some(point),
-        }),
+        Some(point) => Some(Some(point)),
         None => None,
     }
 }

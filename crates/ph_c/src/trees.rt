@@ -57,6 +57,11 @@ macro_rules! with_tree {
     };
 }
 
+mod both;
+mod listings;
+mod made;
+mod saved;
+
 impl Tree {
     /// An empty tree of so many dimensions, for at most so many rows. It takes no memory.
     pub(crate) fn new(alloc: Global, w: Width, dims: u32, most: u64) -> Tree
