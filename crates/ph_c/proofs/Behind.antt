@@ -1,39 +1,20 @@
 -- The rows of a ball that come after the last one listed.
-use Rattle.std.proofs.Common.{◌≡◌, ℕ, true, false, List, [], ◌∷◌, drop, refl, sym, ap, ◌∙◌, subst, cond, arith}
-use Rattle.std.specs.Prelude.{ℤ, Option, Some, None, slice_get, filter, map, ◌&&◌}
+use Rattle.std.proofs.Common.{◌≡◌, ℕ, true, List, [], ◌∷◌, refl, sym, ap, ◌∙◌, subst, arith}
+use Rattle.std.specs.Prelude.{ℤ, Option, Some, None, filter, map, ◌&&◌}
 use Rattle.std.specs.List.{AllByRecursion as Each, list_all}
+use Rattle.std.specs.Option.{SomeIff}
 use Rattle.std.proofs.lemmas.Bool.{and_parts}
-use Rattle.std.proofs.lemmas.Grind.{common_steps}
 use Rattle.ph_specs.specs.Coordinate.{IsPoint, is_point}
 use Rattle.ph_specs.specs.Distance.{within}
 use Rattle.ph_specs.specs.Table.{Row, IsTable, is_rising, is_value}
 use Rattle.ph_specs.specs.Window.{is_after}
 use Rattle.ph_specs.proofs.laws.WindowRest.{Each-filter}
+use Rattle.ph_window.specs.Page.{IsLast}
 use Rattle.ph_table.specs.Hits.{TableHit, hits_of}
 use Rattle.ph_c.specs.Answers as code
 use Rattle.ph_c.specs.Balls.{AreCenter, IsBall, ball_rest, behind}
 use Rattle.ph_c.specs.Trees.{AnyTable}
-use Rattle.ph_c.specs.Windows.{IsListed, Lent, last_of}
-
-first-is : {X : Type 0} (x : X) (xs : List X) (y : X) → slice_get (x ∷ xs) 0 ≡ Some y → x ≡ y
-first-is x xs y is = let e : Some x ≡ Some y = is in cc
-
--- a row that does not come after it is passed
-pub behind-skips : (w : ℕ) (last : Option (List ℤ)) (hits : List TableHit) (h : TableHit) → slice_get hits 0 ≡ Some h →
-    is_after w last h.row.point ≡ false → behind w last (drop 1 hits) ≡ behind w last hits
-behind-skips w last [] h is early = refl
-behind-skips w last (x ∷ hits) h is early =
-    let f : is_after w last x.row.point ≡ false = rw (first-is x hits h is) early in
-    sym (ap (λ t. cond t (x.row ∷ behind w last hits) (behind w last hits)) f)
-
--- one that does is the next one
-pub behind-next : (w : ℕ) (last : Option (List ℤ)) (hits : List TableHit) (h : TableHit) → slice_get hits 0 ≡ Some h →
-    is_after w last h.row.point ≡ true → behind w last hits ≡ h.row ∷ behind w last (drop 1 hits)
-behind-next w last [] h is late = let no : None ≡ Some h = is in cc
-behind-next w last (x ∷ hits) h is late =
-    let e : x ≡ h = first-is x hits h is in
-    let f : is_after w last x.row.point ≡ true = rw e late in
-    ap (λ t. cond t (x.row ∷ behind w last hits) (behind w last hits)) f ∙ ap (λ (y : TableHit). y.row ∷ behind w last hits) e
+use Rattle.ph_c.specs.Windows.{IsLastIn, IsListed, Lent, last_of}
 
 -- the rows of hits are those that they were made of
 pub behind-hits : (w : ℕ) (last : Option (List ℤ)) (q : List ℤ) (rows : List Row) → behind w last (hits_of q rows) ≡ filter (λ r. is_after w last r.point) rows
@@ -62,25 +43,16 @@ points-of-hits w d q (r ∷ rows) h = (h.0, points-of-hits w d q rows h.1)
 pub points-within : (w d : ℕ) (q : List ℤ) (r : ℕ) (rows : List Row) → IsTable w d rows → Each (λ h. IsPoint w d h.row.point) (hits_of q (within q r rows))
 points-within w d q r rows t = points-of-hits w d q (within q r rows) (Each-filter (λ s. IsPoint w d s.point) _ rows (points-of-table w d rows t))
 
--- ---- the first hit
+-- ---- facts of one case of an option
 
-pub first-point : (w d : ℕ) (hits : List TableHit) (h : TableHit) → Each (λ x. IsPoint w d x.row.point) hits → slice_get hits 0 ≡ Some h → IsPoint w d h.row.point
-first-point w d [] h points is = let no : None ≡ Some h = is in cc
-first-point w d (x ∷ hits) h points is = subst (λ (y : TableHit). IsPoint w d y.row.point) (first-is x hits h is) points.0
+pub some-is : {X : Type 0} (o : Option X) (P : Type 0) (v x : X) → SomeIff o P v → o ≡ Some x → P × (x ≡ v)
+some-is None P v x h is = let no : None ≡ Some x = is in cc
+some-is (Some y) P v x h is = let same : y ≡ x = cc in (h.0, sym same ∙ h.1)
 
-pub rest-points : (w d : ℕ) (hits : List TableHit) → Each (λ x. IsPoint w d x.row.point) hits → Each (λ x. IsPoint w d x.row.point) (drop 1 hits)
-rest-points w d [] points = tt
-rest-points w d (x ∷ hits) points = points.1
-
--- what a search for the next row that comes after the last one listed has found
-pub found-row : (w : ℕ) (last : Option (List ℤ)) (all hits : List TableHit) (h : TableHit) → behind w last hits ≡ behind w last all → slice_get hits 0 ≡ Some h →
-    is_after w last h.row.point ≡ true → (Some h.row ≡ slice_get (behind w last all) 0) × (behind w last (drop 1 hits) ≡ drop 1 (behind w last all))
-found-row w last all hits h same is late =
-    let next : behind w last all ≡ h.row ∷ behind w last (drop 1 hits) = sym same ∙ behind-next w last hits h is late in
-    (sym (ap (λ (l : List Row). slice_get l 0) next), sym (ap (λ (l : List Row). drop 1 l) next))
-
-pub found-none : (w : ℕ) (last : Option (List ℤ)) (all hits : List TableHit) → behind w last hits ≡ behind w last all → hits ≡ [] → behind w last all ≡ []
-found-none w last all hits same none = sym same ∙ ap (behind w last) none
+-- numbers that are a last point, if there are some
+pub last-known : (t : AnyTable) (w : ℕ) (numbers : List ℤ) (l : Option (List ℤ)) → w ≡ t.tree.width → l ≡ last_of numbers → IsLastIn t numbers → IsLast w t.dims l
+last-known t w [] l is-w is h = subst (λ (o : Option (List ℤ)). IsLast w t.dims o) (sym is) tt
+last-known t w (c ∷ p) l is-w is h = subst (λ (o : Option (List ℤ)). IsLast w t.dims o) (sym is) (subst (λ (v : ℕ). IsPoint v t.dims (c ∷ p)) (sym is-w) h)
 
 -- ---- a page
 

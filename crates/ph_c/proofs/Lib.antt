@@ -7,4 +7,3 @@ mod Behind
 mod Questions
 mod Slices
 mod Paired
-mod Making

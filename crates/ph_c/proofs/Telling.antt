@@ -1,15 +1,12 @@
 -- Hits that are written into arrays one by one.
-use Rattle.std.proofs.Common.{◌≡◌, ℕ, suc, ◌+◌, ◌*◌, ◌<◌, ◌≤◌, List, [], ◌∷◌, ◌++◌, length, get_or, take, drop, refl, sym, ap, ◌∙◌, add-one, arith, length-append}
+use Rattle.std.proofs.Common.{◌≡◌, ℕ, suc, ◌+◌, ◌*◌, ◌<◌, List, [], ◌∷◌, ◌++◌, length, get_or, take, drop, refl, sym, ap, ◌∙◌, add-one, arith, length-append}
 use Rattle.std.specs.Prelude.{ℤ}
-use Rattle.std.proofs.Math.Nat.{mul-le-mul_right}
 use Rattle.std.proofs.Math.Seq.{take-suc}
 use Rattle.std.proofs.lemmas.Grind.{common_steps, flat_map-append}
 use Rattle.std.proofs.lemmas.List.{map-append}
-use Rattle.ph_specs.specs.Distance.{near}
-use Rattle.ph_specs.specs.Table.{Row}
-use Rattle.ph_table.specs.Hits.{TableHit, hits_of}
+use Rattle.ph_table.specs.Hits.{TableHit}
 use Rattle.ph_c.specs.Pages.{overlaid}
-use Rattle.ph_c.specs.Nears.{FitHits, hit_points, hit_values, hit_distances, halves}
+use Rattle.ph_c.specs.Nears.{hit_points, hit_values, hit_distances, halves}
 use Rattle.ph_c.proofs.Filling.{laid-more}
 
 -- the first i hits stand in the arrays
@@ -48,19 +45,3 @@ telling-more dims hits values₀ points₀ distances₀ i values points distance
       points_are = rw (more, points-more (take i hits) h) (laid-more (hit_points (take i hits)) h.row.point points₀ points (i * dims) dims f.points_are f.points_sized size);
       distances_are = rw (more, distances-more (take i hits) h) (laid-more (hit_distances (take i hits)) (halves h.distance) distances₀ distances (i * 2) 2 f.distances_are f.distances_sized refl);
     }
-
--- ---- how many hits fit
-
--- fewer hits fit too
-pub fit-fewer : (dims points values distances n m : ℕ) → FitHits dims points values distances n → m ≤ n → FitHits dims points values distances m
-fit-fewer dims points values distances n m f h =
-    let p : m * dims ≤ n * dims = mul-le-mul_right dims h in
-    (omega (arith, f.0, h), omega (arith, f.1, p), omega (arith, f.2, h), omega (arith, f.3, h))
-
--- there are at most as many of the nearest rows as were asked for
-pub nearest-few : (q : List ℤ) (n : ℕ) (table : List Row) → length (hits_of q (near q n table)) ≤ n
-nearest-few q n table = grind (arith, common_steps)
-
--- a room that is not 0 has room for one
-pub fits-one : (dims points values distances n : ℕ) → FitHits dims points values distances n → (n ≡ 0 → ⊥) → FitHits dims points values distances 1
-fits-one dims points values distances n f some = fit-fewer dims points values distances n 1 f (omega (arith, some))

@@ -53,9 +53,10 @@ pub(crate) fn list_asked<const K: usize, const D: usize, V: Ledger>(
     ensures { IsAsked question (table_at D tree.now) low.now high.now last.now
         (lent points.old values.old count.old more.old) (lent points.new values.new count.new more.new) result }
 {
-    let Some((lo, hi, last)) = asked_in::<K, D>(tree, low, high, last) else {
+    let Some(asked) = asked_in::<K, D>(tree, low, high, last) else {
         return NO_POINT;
     };
+    let (lo, hi, last) = asked;
     if !is_at_most(lo.as_slice(), hi.as_slice()) {
         return REVERSED;
     }

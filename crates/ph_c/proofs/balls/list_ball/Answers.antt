@@ -1,16 +1,41 @@
 -- The hits of the ball are at points of the tree, and those behind the last one are the rows of the page.
-use Rattle.std.proofs.Common.{◌≡◌, List}
-use Rattle.std.specs.Prelude.{ℤ, Option}
-use Rattle.ph_c.proofs.Behind.{points-within}
+use Rattle.std.proofs.Common.{arith}
+use Rattle.ph_c.specs.Edits.{IsPointIn}
+use Rattle.ph_c.specs.Trees.{table_at}
+use Rattle.ph_c.specs.Windows.{IsLastIn, last_of, lent}
+use Rattle.ph_c.proofs.Behind.{ball-done, last-known, points-within, some-is}
 use Rattle.ph_c.proofs.balls.list_ball.Goals as goal
 
-pub list_behind-requires-clause-inside : goal.list_behind-requires-clause-inside
-list_behind-requires-clause-inside g c =
-    rw (c.new-ball.ensures.hits, c.width-w.ensures)
-    (points-within c.args.tree.now.width g.row.D _ c.args.radius c.args.tree.now.table c.root-root.ensures.table)
+pub list_behind-requires : goal.list_behind-requires
+list_behind-requires g c =
+    let t = table_at g.row.D c.args.tree.now in
+    let l = some-is c.last_in.result (IsLastIn t c.args.last.now) (last_of c.args.last.now) c.in-Some-Some.last c.last_in.ensures c.in-Some-Some.is-1 in (
+      omega arith,
+      (
+        omega arith,
+        (
+          omega arith,
+          (
+            c.root-root.ensures.some,
+            (
+              c.requires,
+              (
+                last-known t c.width-w.result c.args.last.now c.in-Some-Some.last c.width-w.ensures l.1 l.0,
+                rw (c.new-ball.ensures.hits, c.width-w.ensures)
+                    (points-within c.args.tree.now.width g.row.D c.in-Some-Some.q c.args.radius c.args.tree.now.table c.root-root.ensures.table),
+              ),
+            ),
+          ),
+        ),
+      ),
+    )
 
 pub returns : goal.returns
 returns g c =
-    let h = c.in-Some-Some in
-    let b = c.new-ball in
-    ?
+    let t = table_at g.row.D c.args.tree.now in
+    let q = some-is c.point_in.result (IsPointIn t c.args.center.now) c.args.center.now c.in-Some-Some.q c.point_in.ensures c.in-Some-Some.is-0 in
+    let l = some-is c.last_in.result (IsLastIn t c.args.last.now) (last_of c.args.last.now) c.in-Some-Some.last c.last_in.ensures c.in-Some-Some.is-1 in
+    ball-done t c.args.center.now c.in-Some-Some.q c.args.last.now c.args.radius c.width-w.result c.in-Some-Some.last c.new-ball.result.hits
+    (lent c.args.points.now c.args.values.now c.args.count.now c.args.more.now)
+    (lent c.list_behind.new.points c.list_behind.new.values c.list_behind.new.count c.list_behind.new.more)
+    q.1 l.1 c.width-w.ensures c.new-ball.ensures.hits (q.0, l.0) c.list_behind.ensures
