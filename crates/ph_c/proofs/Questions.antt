@@ -8,7 +8,7 @@ use Rattle.ph_box.specs.declared.question.Question.TheVariants.{Overlap, Inside,
 use Rattle.ph_specs.specs.Boxes.{AreBoxes, IsWindowFor}
 use Rattle.ph_specs.specs.Coordinate.{IsPoint, IsBox, at_most}
 use Rattle.ph_specs.specs.Table.{Row, IsTable}
-use Rattle.ph_specs.specs.Window.{is_after, window, rest}
+use Rattle.ph_specs.specs.Window.{is_after, rest}
 use Rattle.ph_specs.proofs.laws.Boxes.{window_lists}
 use Rattle.ph_c.specs.Answers as code
 use Rattle.ph_c.specs.Asked.{AreAsked, HasBoxes, IsAsked, asked_rest, asked_rows}

@@ -1,5 +1,5 @@
 -- A tree of many rows at once.
-use Rattle.std.specs.Prelude.{◌≡◌, ◌≢◌, ◌↔◌, ◌*◌, ◌<◌, ◌≤◌, ℕ, List, [], ◌∷◌, ℤ, length, take, drop, IsTrue}
+use Rattle.std.specs.Prelude.{◌≡◌, ◌↔◌, ◌*◌, ◌<◌, ◌≤◌, ℕ, List, [], ◌∷◌, ℤ, length, take, drop, IsTrue}
 use Rattle.std.specs.List.{list_all}
 use Rattle.ph_specs.specs.Coordinate.{fits}
 use Rattle.ph_specs.specs.Sets.{table_of}

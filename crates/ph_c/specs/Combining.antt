@@ -1,5 +1,5 @@
 -- A tree that is made of two.
-use Rattle.std.specs.Prelude.{◌≡◌, ◌≢◌, ◌↔◌, ◌<◌, ◌≤◌, ℕ, List, [], ◌∷◌, length, Option, Some, None}
+use Rattle.std.specs.Prelude.{◌≡◌, ◌↔◌, ◌<◌, ◌≤◌, ℕ, List, [], ◌∷◌, length, Option, Some, None}
 use Rattle.ph_specs.specs.Sets.{union}
 use Rattle.ph_specs.specs.Table.{Row}
 use Rattle.ph_c.specs.declared.trees.Tree.{Tree}

@@ -1,5 +1,5 @@
 -- Calls that open a tree with rows in a handle.
-use Rattle.std.specs.Prelude.{◌≡◌, ◌≢◌, ◌↔◌, ℕ, [], ◌∷◌, Option, Some, None, Result, Ok, Err, MatchResult}
+use Rattle.std.specs.Prelude.{◌≡◌, ◌≢◌, ◌↔◌, ℕ, [], ◌∷◌, Option, Some, Result, Ok, Err, MatchResult}
 use Rattle.std.specs.Global.{Box}
 use Rattle.ph_c.specs.declared.trees.Tree.{Tree}
 use Rattle.ph_c.specs.Trees.{AnyTable, any_table}

@@ -1,5 +1,5 @@
 -- The window is that of the question about the asked box.
-use Rattle.std.proofs.Common.{◌≡◌, List, true, sym, ap, ◌∙◌, arith}
+use Rattle.std.proofs.Common.{List, sym, ap, ◌∙◌, arith}
 use Rattle.std.specs.Prelude.{ℤ, Option}
 use Rattle.ph_specs.specs.Coordinate.{at_most}
 use Rattle.ph_c.specs.Trees.{table_at}

@@ -1,5 +1,5 @@
 -- A row more stands behind those that are there.
-use Rattle.std.proofs.Common.{◌≡◌, ◌<◌, length, take, sym, ap, ◌∙◌, arith}
+use Rattle.std.proofs.Common.{◌≡◌, length, take, sym, ap, ◌∙◌, arith}
 use Rattle.ph_c.specs.Builds.{rows_of}
 use Rattle.ph_c.proofs.Paired.{rows-all, rows-more}
 use Rattle.ph_c.proofs.bulk.rows_of.Goals as goal

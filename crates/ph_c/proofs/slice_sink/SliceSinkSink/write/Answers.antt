@@ -1,5 +1,5 @@
 -- Bytes are written over as many, behind those that were written before.
-use Rattle.std.proofs.Common.{◌≡◌, ℕ, ◌+◌, ◌-◌, ◌≤◌, List, length, refl, ap, arith}
+use Rattle.std.proofs.Common.{◌≡◌, ℕ, ◌+◌, ◌≤◌, List, length, refl, ap, arith}
 use Rattle.std.proofs.lemmas.Grind.{common_steps}
 use Rattle.ph_c.proofs.Slices.{put-size, put-behind}
 use Rattle.ph_c.proofs.slice_sink.SliceSinkSink.write.Goals as goal
