@@ -10,5 +10,4 @@ pub mod Differing
 pub mod Shelves
 pub mod Frames
 pub mod Imports
-pub mod Cursors
 mod Within

@@ -15,10 +15,9 @@ use Rattle.ph_table.specs.Hits.{TableHit}
 use Rattle.ph_window.specs.Page.{IsLast}
 use Rattle.ph_window.specs.declared.page.Tail.{Tail}
 use Rattle.ph_window.specs.declared.page.Tail.TheVariants.{More, End}
-use Rattle.ph_any_tree.specs.Tables.{AnyTable, cursor_of, cursor_dims}
+use Rattle.ph_any_tree.specs.Tables.{AnyTable}
 use Rattle.ph_any_tree.specs.Working.{most_to_resume, least_to_resume}
 use Rattle.ph_io.specs.Writing.{WritesFront}
-use Rattle.ph_any_tree.specs.declared.any_cursor.AnyCursor.{AnyCursor}
 use Rattle.ph_any_tree.specs.declared.answer.Answer.{Answer}
 use Rattle.ph_any_tree.specs.declared.answer.Answer.TheVariants.{Good}
 use Rattle.ph_any_tree.specs.declared.answer.Stop.{Stop}
@@ -132,13 +131,6 @@ abbrev pub ListsPage : AnyTable → Cursor → ℕ → Taken → Taken → ℕ �
 ListsPage t c n sink now_sink visits now_visits (Ok behind) = PageListed t c n sink now_sink visits now_visits behind
 ListsPage t c n sink now_sink visits now_visits (Err stop) =
     FrontListed (page_replies t c n) (most_to_resume t.tree.width t.dims t.tree.table c.last + met t c.lo c.hi) sink now_sink visits now_visits stop
-
--- the same by cursors of any number of dimensions
-abbrev pub ListsAnyPage : AnyTable → AnyCursor → ℕ → Taken → Taken → ℕ → ℕ → Result AnyCursor Stop → Type 0
-ListsAnyPage t c n sink now_sink visits now_visits (Ok behind) =
-    (cursor_dims behind ≡ t.dims) × PageListed t (cursor_of c) n sink now_sink visits now_visits (cursor_of behind)
-ListsAnyPage t c n sink now_sink visits now_visits (Err stop) =
-    ListsPage t (cursor_of c) n sink now_sink visits now_visits (Err stop)
 
 abbrev pub is_more : Tail → Bool
 is_more More = true

@@ -38,8 +38,8 @@ fn bounds_of<const K: usize, const D: usize>(
     bounds(question, w, &lo, &hi)
 }
 
-// Lists the boxes that a question lists, and then their number.
-pub(crate) fn list_boxes<const K: usize, const D: usize, O: Sink, V: Ledger>(
+/// Gives the sink the boxes that a question lists, in a tree of boxes of `K` dimensions, and then their number. It takes no memory.
+pub fn list_boxes<const K: usize, const D: usize, O: Sink, V: Ledger>(
     tree: &PhTree<D>,
     question: Question,
     asked: &Coords<'_>,

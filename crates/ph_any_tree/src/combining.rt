@@ -11,8 +11,8 @@ use ph_undo::Kept;
 use std::alloc::Global;
 use std::sync::ledger::Ledger;
 
-// Puts the tree that is made of two in place of the first, and tells the number of its rows. After an error the first is as before.
-pub(crate) fn combine_trees<const D: usize, V: Ledger, C: Ledger>(
+/// Puts the tree that is made of two in place of the first, and tells the number of its rows. After an error the first is as before.
+pub fn combine_trees<const D: usize, V: Ledger, C: Ledger>(
     kept: &mut Kept<D>,
     other: &Kept<D>,
     alloc: Global,

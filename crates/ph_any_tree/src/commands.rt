@@ -51,7 +51,8 @@ fn number_at(w: Width, coord: &Coord) -> i64
     }
 }
 
-pub(crate) fn put_row<const D: usize, V: Ledger, C: Ledger>(
+/// Puts a value at a point, in place of the one that stands there. It may want memory for a row that is new; without it all is as before.
+pub fn put_row<const D: usize, V: Ledger, C: Ledger>(
     kept: &mut Kept<D>,
     at: &Coords<'_>,
     value: u64,
@@ -74,7 +75,8 @@ pub(crate) fn put_row<const D: usize, V: Ledger, C: Ledger>(
     }
 }
 
-pub(crate) fn get_row<const D: usize, V: Ledger>(
+/// Tells the value at a point.
+pub fn get_row<const D: usize, V: Ledger>(
     kept: &Kept<D>,
     at: &Coords<'_>,
     visits: &mut Steps<V>,
@@ -92,7 +94,8 @@ pub(crate) fn get_row<const D: usize, V: Ledger>(
     }
 }
 
-pub(crate) fn del_row<const D: usize, V: Ledger, C: Ledger>(
+/// Takes the row at a point out. It may want memory where a record changes its layout; without it all is as before.
+pub fn del_row<const D: usize, V: Ledger, C: Ledger>(
     kept: &mut Kept<D>,
     at: &Coords<'_>,
     visits: &mut Steps<V>,
@@ -110,7 +113,8 @@ pub(crate) fn del_row<const D: usize, V: Ledger, C: Ledger>(
     }
 }
 
-pub(crate) fn move_row<const D: usize, V: Ledger, C: Ledger>(
+/// Moves the row at a point to another, where none is. It may want memory; without it all is as before.
+pub fn move_row<const D: usize, V: Ledger, C: Ledger>(
     kept: &mut Kept<D>,
     from: &Coords<'_>,
     to: &Coords<'_>,
@@ -134,14 +138,16 @@ pub(crate) fn move_row<const D: usize, V: Ledger, C: Ledger>(
     }
 }
 
-pub(crate) fn count_rows<const D: usize>(kept: &Kept<D>) -> Reply
+/// Tells how many rows there are.
+pub fn count_rows<const D: usize>(kept: &Kept<D>) -> Reply
     requires { D ≤ 16 }
     ensures { Idled (table_at D kept.now) Asked.Count (table_at D kept.now) (reply_of result) }
 {
     Reply::Rows(kept.tree().len())
 }
 
-pub(crate) fn clear_rows<const D: usize>(kept: &mut Kept<D>, alloc: Global) -> Reply
+/// Takes all rows out, and forgets the edits. It wants no memory.
+pub fn clear_rows<const D: usize>(kept: &mut Kept<D>, alloc: Global) -> Reply
     requires { D ≤ 16 }
     ensures { Idled (table_at D kept.old) Asked.Clear (table_at D kept.new) (reply_of result) }
 {
@@ -153,11 +159,8 @@ pub(crate) fn clear_rows<const D: usize>(kept: &mut Kept<D>, alloc: Global) -> R
     Reply::Cleared
 }
 
-pub(crate) fn are_same<const D: usize, V: Ledger>(
-    a: &Kept<D>,
-    b: &Kept<D>,
-    visits: &mut Steps<V>,
-) -> bool
+/// Whether two trees have the same width and the same rows.
+pub fn are_same<const D: usize, V: Ledger>(a: &Kept<D>, b: &Kept<D>, visits: &mut Steps<V>) -> bool
     ensures { IsCompared (slot_of Points (table_at D a.now) []) (slot_of Points (table_at D b.now) []) visits.old visits.new result }
 {
     let (first, second) = (a.tree(), b.tree());
@@ -169,11 +172,8 @@ pub(crate) fn are_same<const D: usize, V: Ledger>(
     first.same(second, visits)
 }
 
-pub(crate) fn cursor_at<const D: usize>(
-    tree: &PhTree<D>,
-    lo: &Coords<'_>,
-    hi: &Coords<'_>,
-) -> Cursor<D>
+/// A cursor between two corners, with no row listed.
+pub fn cursor_at<const D: usize>(tree: &PhTree<D>, lo: &Coords<'_>, hi: &Coords<'_>) -> Cursor<D>
     requires lo { length lo.now ≡ D }
     requires hi { length hi.now ≡ D }
     requires lo_range { list_all (fits tree.now.width) (numbers_of lo.now) ≡ true }

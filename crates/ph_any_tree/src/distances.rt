@@ -19,8 +19,9 @@ use ph_tree::PhTree;
 use std::alloc::Global;
 use std::sync::ledger::Ledger;
 
-// Lists the rows nearest to a point, at most so many, and then their number. All are found before the first is listed.
-pub(crate) fn list_near<const D: usize, O: Sink, V: Ledger>(
+/// Gives the sink the rows nearest to a point, at most `n`, with their distances, and then their number. All are found before the first is given,
+/// and take memory until then; without it nothing is given.
+pub fn list_near<const D: usize, O: Sink, V: Ledger>(
     tree: &PhTree<D>,
     alloc: Global,
     q: &Coords<'_>,
@@ -56,8 +57,8 @@ fn list_hits<const D: usize, O: Sink>(
     say(out, text, &Reply::End(hits.len() as u128))
 }
 
-// Lists the rows whose distance from a point, squared, is at most `r`, and then their number.
-pub(crate) fn list_ball<const D: usize, O: Sink, V: Ledger>(
+/// Gives the sink the rows whose distance from a point, squared, is at most `r`, and then their number. It takes no memory.
+pub fn list_ball<const D: usize, O: Sink, V: Ledger>(
     tree: &PhTree<D>,
     q: &Coords<'_>,
     r: u128,

@@ -21,8 +21,8 @@ use ph_tree::PhTree;
 use ph_window::{Cursor, Tail, Window};
 use std::sync::ledger::Ledger;
 
-// Lists the rows between two corners, and then their number.
-pub(crate) fn list_window<const D: usize, O: Sink, V: Ledger>(
+/// Gives the sink the rows between two corners, and then their number. It takes no memory.
+pub fn list_window<const D: usize, O: Sink, V: Ledger>(
     tree: &PhTree<D>,
     lo: &Coords<'_>,
     hi: &Coords<'_>,
@@ -69,8 +69,8 @@ pub(crate) fn list_between<const D: usize, O: Sink, V: Ledger>(
     say(out, text, &Reply::End(count))
 }
 
-// Lists the next rows of a cursor, and whether more are left. Gives the cursor behind them.
-pub(crate) fn list_page<const D: usize, O: Sink, V: Ledger>(
+/// Gives the sink the next rows of a cursor, at most `n`, and whether more are left. The cursor that it answers stands behind them. It takes no memory.
+pub fn list_page<const D: usize, O: Sink, V: Ledger>(
     tree: &PhTree<D>,
     cursor: &Cursor<D>,
     n: u32,

@@ -15,8 +15,8 @@ use ph_steps::Steps;
 use ph_tree::PhTree;
 use std::sync::ledger::Ledger;
 
-// Lists the pairs of two trees, and then their number.
-pub(crate) fn list_pairs<const K: usize, const D: usize, O: Sink, V: Ledger>(
+/// Gives the sink the pairs of a box of one tree and one of another that overlap, and then their number. It takes no memory.
+pub fn list_pairs<const K: usize, const D: usize, O: Sink, V: Ledger>(
     a: &PhTree<D>,
     b: &PhTree<D>,
     out: &mut O,

@@ -21,8 +21,8 @@ use ph_window::Window;
 use std::alloc::Global;
 use std::sync::ledger::Ledger;
 
-// Puts the rows of a text into a tree, once all of them are read and it has room for them.
-pub(crate) fn import_text<const D: usize, V: Ledger, C: Ledger>(
+/// Puts the rows of a text into a tree, once all of them are read and it has room for them. Without memory some first rows may be in.
+pub fn import_text<const D: usize, V: Ledger, C: Ledger>(
     kept: &mut Kept<D>,
     alloc: Global,
     text: &[u8],
@@ -77,8 +77,8 @@ fn record_reply(fault: CsvFault) -> Result<Reply, NoMemory>
     }
 }
 
-// Writes the rows of a tree to a file of this name, in place of one that has it. Where the files fail, one of the name stays as it was.
-pub(crate) fn export_tree<const D: usize, F: Files, V: Ledger>(
+/// Writes the rows of a tree to a file of this name, in place of one that has it. Where the files fail, one of the name stays as it was.
+pub fn export_tree<const D: usize, F: Files, V: Ledger>(
     tree: &PhTree<D>,
     file: &FileName<'_>,
     files: &mut F,

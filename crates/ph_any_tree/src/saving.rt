@@ -17,8 +17,8 @@ use ph_undo::Kept;
 use std::alloc::Global;
 use std::sync::ledger::Ledger;
 
-// Gives a sink the snapshot of a tree, and tells how many bytes it has.
-pub(crate) fn save_tree<const D: usize, O: Sink, V: Ledger>(
+/// Gives a sink the snapshot of a tree, and tells how many bytes it has.
+pub fn save_tree<const D: usize, O: Sink, V: Ledger>(
     tree: &PhTree<D>,
     kind: Kind,
     out: &mut O,
@@ -31,8 +31,8 @@ pub(crate) fn save_tree<const D: usize, O: Sink, V: Ledger>(
     save(tree, kind, out, visits)
 }
 
-// The tree of which the bytes are the snapshot, for any number of rows, of which no edits are kept.
-pub(crate) fn load_kept<const D: usize, C: Ledger>(
+/// The tree of which the bytes are the snapshot, for any number of rows, of which no edits are kept.
+pub fn load_kept<const D: usize, C: Ledger>(
     alloc: Global,
     bytes: &[u8],
     kind: Kind,

@@ -59,8 +59,8 @@ fn sizes_line(sizes: &Stats) -> ArrayString<LINE_BYTES>
     line
 }
 
-// The sizes of a tree. Each node is visited once.
-pub(crate) fn tree_sizes<const D: usize, V: Ledger>(kept: &Kept<D>, visits: &mut Steps<V>) -> Stats
+/// The sizes of a tree. Each node is visited once.
+pub fn tree_sizes<const D: usize, V: Ledger>(kept: &Kept<D>, visits: &mut Steps<V>) -> Stats
     requires { D ≤ 16 }
     ensures sizes { stats_of result ≡ sizes_at (table_at D kept.now) }
     ensures visits { visits.new ≡ visits.old + node_count (table_at D kept.now) }
@@ -68,8 +68,8 @@ pub(crate) fn tree_sizes<const D: usize, V: Ledger>(kept: &Kept<D>, visits: &mut
     kept.tree().stats(visits)
 }
 
-// Gives the sizes of a tree to the sink. Each node is visited once.
-pub(crate) fn list_sizes<const D: usize, O: Sink, V: Ledger>(
+/// Gives the sizes of a tree to the sink. Each node is visited once.
+pub fn list_sizes<const D: usize, O: Sink, V: Ledger>(
     kept: &Kept<D>,
     out: &mut O,
     visits: &mut Steps<V>,

@@ -11,8 +11,8 @@ use ph_undo::Kept;
 use std::alloc::Global;
 use std::sync::ledger::Ledger;
 
-// Keeps the last edits of a tree from now on, at most so many. After an error all is as before.
-pub(crate) fn keep_edits<const D: usize>(
+/// Keeps the last edits of a tree from now on, at most so many, and forgets those that it has. After an error all is as before.
+pub fn keep_edits<const D: usize>(
     kept: &mut Kept<D>,
     alloc: Global,
     n: u32,
@@ -24,8 +24,8 @@ pub(crate) fn keep_edits<const D: usize>(
     Ok(Reply::Keeping(n))
 }
 
-// Takes so many of the last edits of a tree back. After an error some are.
-pub(crate) fn back_edits<const D: usize, V: Ledger, C: Ledger>(
+/// Takes so many of the last edits of a tree back. After an error some are.
+pub fn back_edits<const D: usize, V: Ledger, C: Ledger>(
     kept: &mut Kept<D>,
     n: u32,
     visits: &mut Steps<V>,
@@ -44,8 +44,8 @@ pub(crate) fn back_edits<const D: usize, V: Ledger, C: Ledger>(
     Ok(Reply::WentBack(n))
 }
 
-// Takes the rows of another tree in place of its own, and forgets the edits.
-pub(crate) fn take_rows<const D: usize>(kept: &mut Kept<D>, other: Kept<D>)
+/// Takes the rows of another tree of the same width in place of its own, of which it may have as many, and forgets the edits.
+pub fn take_rows<const D: usize>(kept: &mut Kept<D>, other: Kept<D>)
     requires width { other.width ≡ kept.old.width }
     requires room { length other.table ≤ kept.old.max }
     ensures { kept.new ≡ without_past kept.old other.entry.table }
