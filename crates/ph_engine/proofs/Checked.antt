@@ -17,8 +17,10 @@ use Rattle.ph_specs.specs.Program.{check_line, checked_words, named_kind, own_fa
 use Rattle.ph_specs.specs.Refusals.{fetch, short_enough, bytes_of}
 use Rattle.ph_specs.specs.Reply.{Reply, line_of, reply_text, reply_words}
 use Rattle.ph_specs.specs.SavedTable.{fault_reply, read_unless, rows_saved}
+use Rattle.ph_specs.specs.SnapshotOf.{IsSnapshotOf}
 use Rattle.ph_specs.specs.State.{Files}
 use Rattle.ph_specs.specs.Stats.{Stats, stats}
+use Rattle.ph_specs.specs.Table.{Row}
 use Rattle.ph_specs.specs.WorkSets.{all_nodes}
 use Rattle.ph_model.proofs.laws.Snapshots.{none-from_snapshot, read-from_snapshot}
 use Rattle.ph_script.specs.declared.reply.Reply.{Reply as Told}
@@ -26,12 +28,11 @@ use Rattle.ph_script.specs.Meaning.{reply_of}
 use Rattle.ph_snap.specs.Faults.{IsLoadFault}
 use Rattle.ph_snap.specs.declared.fault.LoadFault.{LoadFault}
 use Rattle.ph_engine.specs.Beside.{Filings, beside_sink}
-use Rattle.ph_engine.specs.Checking.{FileHasSizes, HasSizes, IsSavedAs, LineGiven, Meets, CheckDone, bytes_checked, nodes_saved, nodes_unless, status_of}
+use Rattle.ph_engine.specs.Checking.{FileHasSizes, HasSizes, LineGiven, Meets, CheckDone, bytes_checked, nodes_saved, nodes_unless, status_of}
 use Rattle.ph_engine.specs.Filing.{TellsFault, TellsUnfetched}
 use Rattle.ph_any_tree.specs.Loading.{IsWithinBytes}
 use Rattle.ph_any_tree.specs.Telling.{is_refusal, StopHasCause, ToldOr}
 use Rattle.ph_any_tree.specs.Working.{one_if}
-use Rattle.ph_any_tree.specs.Tables.{AnyTable}
 use Rattle.ph_engine.specs.Statuses.{IsRead}
 use Rattle.ph_any_tree.specs.declared.answer.Answer.{Answer}
 use Rattle.ph_any_tree.specs.declared.answer.Answer.TheVariants as answer
@@ -44,44 +45,43 @@ use Rattle.ph_engine.proofs.Filed.{fetched, fetch-load, has-fetched, found_short
 
 -- ---- bytes
 
-module _ (bytes : List ℕ) (kind : Kind) (t : AnyTable) (h : IsSavedAs bytes kind t) where
-  no-fault : load_fault kind t.dims t.tree.width bytes ≡ None
-  no-fault = none-from_snapshot kind t.dims t.tree.width bytes t.tree.table h.snapshot
+module _ (bytes : List ℕ) (rows : List Row) (h : IsSnapshotOf (named_kind bytes) (slice_index bytes 5) (named_width bytes) bytes rows) where
+  no-fault : own_fault bytes ≡ None
+  no-fault = none-from_snapshot (named_kind bytes) (slice_index bytes 5) (named_width bytes) bytes rows h
 
-  rows-by : (first : Option Fault) → first ≡ None → read_unless first t.dims t.tree.width bytes ≡ Ok t.tree.table → rows_saved t.dims t.tree.width bytes ≡ t.tree.table
+  rows-by : (first : Option Fault) → first ≡ None → read_unless first (slice_index bytes 5) (named_width bytes) bytes ≡ Ok rows →
+      rows_saved (slice_index bytes 5) (named_width bytes) bytes ≡ rows
   rows-by None n r = cc
   rows-by (Some fault) n r = absurd (let clash : Some fault ≡ None = n in cc)
 
-  rows-are : rows_saved t.dims t.tree.width bytes ≡ t.tree.table
-  rows-are = rows-by (load_fault kind t.dims t.tree.width bytes) no-fault (read-from_snapshot kind t.dims t.tree.width bytes t.tree.table h.snapshot)
+  rows-are : rows_saved (slice_index bytes 5) (named_width bytes) bytes ≡ rows
+  rows-are = rows-by (own_fault bytes) no-fault (read-from_snapshot (named_kind bytes) (slice_index bytes 5) (named_width bytes) bytes rows h)
 
-  -- of what is told by the header the same is told by the table
-  told-as : {A : Type 0} (f : Option Fault → Kind → ℕ → ℕ → A) →
-      f (own_fault bytes) (named_kind bytes) (slice_index bytes 5) (named_width bytes) ≡ f None kind t.dims t.tree.width
-  told-as f =
-      ap (λ k. f (load_fault k (slice_index bytes 5) (named_width bytes) bytes) k (slice_index bytes 5) (named_width bytes)) h.kind_is
-      ∙ ap (λ d. f (load_fault kind d (named_width bytes) bytes) kind d (named_width bytes)) h.dims_are
-      ∙ ap (λ w. f (load_fault kind t.dims w bytes) kind t.dims w) h.width_is
-      ∙ ap (λ o. f o kind t.dims t.tree.width) no-fault
-
-  pub words-are : words_of_snapshot bytes ≡ checked_words kind t.dims (stats t.tree.width t.dims t.tree.table)
+  pub words-are : words_of_snapshot bytes ≡ checked_words (named_kind bytes) (slice_index bytes 5) (stats (named_width bytes) (slice_index bytes 5) rows)
   words-are =
-      told-as (λ o k d w. words_unless o k d w bytes)
-      ∙ ap (λ r. checked_words kind t.dims (stats t.tree.width t.dims r)) rows-are
+      ap (λ o. words_unless o (named_kind bytes) (slice_index bytes 5) (named_width bytes) bytes) no-fault
+      ∙ ap (λ r. checked_words (named_kind bytes) (slice_index bytes 5) (stats (named_width bytes) (slice_index bytes 5) r)) rows-are
 
-  pub nodes-are : nodes_saved bytes ≡ length (all_nodes t.tree.width t.dims t.tree.table)
+  pub nodes-are : nodes_saved bytes ≡ length (all_nodes (named_width bytes) (slice_index bytes 5) rows)
   nodes-are =
-      told-as (λ o k d w. nodes_unless o d w bytes)
-      ∙ ap (λ r. length (all_nodes t.tree.width t.dims r)) rows-are
+      ap (λ o. nodes_unless o (slice_index bytes 5) (named_width bytes) bytes) no-fault
+      ∙ ap (λ r. length (all_nodes (named_width bytes) (slice_index bytes 5) r)) rows-are
 
   -- a text that was composed as its line
   pub sizes-given : (sink now_sink : Taken) (said line : List ℕ) (result : Result Answer Stop) → said ≡ line →
-      line ≡ line_of (checked_words kind t.dims (stats t.tree.width t.dims t.tree.table)) →
+      line ≡ line_of (checked_words (named_kind bytes) (slice_index bytes 5) (stats (named_width bytes) (slice_index bytes 5) rows)) →
       LineGiven sink now_sink said result → LineGiven sink now_sink (line_of (words_of_snapshot bytes)) result
   sizes-given sink now_sink said line result s l g = subst (λ x. LineGiven sink now_sink x result) (s ∙ l ∙ ap line_of (sym words-are)) g
 
   pub has-sizes : HasSizes bytes (line_of (words_of_snapshot bytes))
-  has-sizes = record { kind = kind; dims = t.dims; width = t.tree.width; rows = t.tree.table; snapshot = h.snapshot; said = ap line_of words-are }
+  has-sizes = record {
+    kind = named_kind bytes;
+    dims = slice_index bytes 5;
+    width = named_width bytes;
+    rows = rows;
+    snapshot = h;
+    said = ap line_of words-are;
+  }
 
 -- ---- a reply in place of the sizes
 

@@ -5,7 +5,7 @@ use Rattle.ph_script.specs.declared.command.Command.{Command}
 use Rattle.ph_script.specs.declared.command.Command.TheVariants as by
 use Rattle.ph_script.specs.Meaning.{command_of}
 use Rattle.ph_specs.specs.declared.Kind.{Kind}
-use Rattle.ph_engine.specs.Doing.{is_on_row, is_tried, is_sure, is_listed}
+use Rattle.ph_engine.specs.Doing.{is_begin, is_on_row, is_tried, is_sure, is_listed}
 
 -- a command that is none about a row is told by what it is not
 pub no-row : (c : Command) → ((at : List Coord) (value : ℕ) → c ≡ by.Put at value → ⊥) →
@@ -28,17 +28,20 @@ all-tried (by.Back count) h n1 n2 n3 n4 = n4 count refl
 all-tried other h n1 n2 n3 n4 = absurd cc
 
 pub all-sure : (c : Command) → is_sure (command_of c) ≡ true →
-    ((kind : Kind) (k : ℕ) (width : ℕ) (max : ℕ) → c ≡ by.Begin kind k width max → ⊥) →
     (c ≡ by.Count → ⊥) → (c ≡ by.Clear → ⊥) →
     ((name : List ℕ) (lo : List Coord) (hi : List Coord) → c ≡ by.Cursor name lo hi → ⊥) →
     ((file : List ℕ) → c ≡ by.Save file → ⊥) → ((file : List ℕ) → c ≡ by.Export file → ⊥) → ⊥
-all-sure (by.Begin kind k width max) h n1 n2 n3 n4 n5 n6 = n1 kind k width max refl
-all-sure by.Count h n1 n2 n3 n4 n5 n6 = n2 refl
-all-sure by.Clear h n1 n2 n3 n4 n5 n6 = n3 refl
-all-sure (by.Cursor name lo hi) h n1 n2 n3 n4 n5 n6 = n4 name lo hi refl
-all-sure (by.Save file) h n1 n2 n3 n4 n5 n6 = n5 file refl
-all-sure (by.Export file) h n1 n2 n3 n4 n5 n6 = n6 file refl
-all-sure other h n1 n2 n3 n4 n5 n6 = absurd cc
+all-sure by.Count h n1 n2 n3 n4 n5 = n1 refl
+all-sure by.Clear h n1 n2 n3 n4 n5 = n2 refl
+all-sure (by.Cursor name lo hi) h n1 n2 n3 n4 n5 = n3 name lo hi refl
+all-sure (by.Save file) h n1 n2 n3 n4 n5 = n4 file refl
+all-sure (by.Export file) h n1 n2 n3 n4 n5 = n5 file refl
+all-sure other h n1 n2 n3 n4 n5 = absurd cc
+
+-- a command that makes no slot another one is told by what it is not
+pub no-begin : (c : Command) → ((kind : Kind) (k : ℕ) (width : ℕ) (max : ℕ) → c ≡ by.Begin kind k width max → ⊥) → is_begin (command_of c) ≡ false
+no-begin (by.Begin kind k width max) n = absurd (n kind k width max refl)
+no-begin other n = refl
 
 pub all-lists : (c : Command) → is_listed (command_of c) ≡ true →
     ((lo : List Coord) (hi : List Coord) → c ≡ by.Window lo hi → ⊥) →

@@ -1,4 +1,6 @@
 pub mod Names
+pub mod Sizes
+pub mod Variants
 pub mod Cuts
 pub mod Machines
 pub mod Sums

@@ -5,20 +5,24 @@ use Rattle.std.specs.List.{list_all}
 use Rattle.std.proofs.lemmas.Grind.{common_steps}
 use Rattle.ph_io.specs.Giving.{Taken}
 use Rattle.ph_specs.specs.declared.Kind.{Kind}
+use Rattle.ph_specs.specs.declared.Kind.TheVariants.{Points, Boxes}
 use Rattle.ph_specs.specs.Command.{Command}
 use Rattle.ph_specs.specs.Coordinate.{fits, low_corner, high_corner, IsPoint}
-use Rattle.ph_specs.specs.Engine.{effect, unless_refused, page_outcome, listing, hit_listing, row_replies, page_end}
+use Rattle.ph_specs.specs.Engine.{effect, opened_dims, unless_refused, page_outcome, listing, hit_listing, row_replies, page_end}
 use Rattle.ph_specs.specs.Distance.{distance, near, within}
 use Rattle.ph_specs.specs.Named.{Named, lookup, enter, has_name}
 use Rattle.ph_specs.specs.Reply.{Reply, reply_text, replies_text}
-use Rattle.ph_specs.specs.Refusals.{refusal}
-use Rattle.ph_specs.specs.State.{Engine, Slot, Files, outcome}
+use Rattle.ph_specs.specs.Refusals.{refusal, refuse_if, has_wrong_dims, has_wrong_kind, boxes_of}
+use Rattle.ph_specs.specs.State.{Engine, Slot, Files, empty_slot, outcome}
+use Rattle.ph_specs.specs.Past.{Past}
 use Rattle.ph_specs.specs.Table.{Row}
 use Rattle.ph_specs.specs.Stats.{stats}
 use Rattle.ph_specs.specs.WorkSets.{all_nodes, ball, meets}
 use Rattle.ph_specs.specs.Window.{Cursor, next_cursor, page, has_more, window}
+use Rattle.ph_undo.specs.Kept.{tree_of}
 use Rattle.ph_script.specs.declared.command.Command.{Command as Written}
 use Rattle.ph_script.specs.Meaning.{command_of}
+use Rattle.ph_engine.specs.Asking.{asking}
 use Rattle.ph_engine.specs.Beside.{beside_sink}
 use Rattle.ph_engine.specs.Doing.{is_on_slot, Begun, DoneOr, DoneWith, is_page}
 use Rattle.ph_any_tree.specs.Served.{Does}
@@ -26,7 +30,7 @@ use Rattle.ph_any_tree.specs.Listing.{Lists, ListsNear, reached, FrontListed, Pa
 use Rattle.ph_any_tree.specs.Telling.{is_refusal}
 use Rattle.ph_engine.specs.Refusing.{early_refusal, late_refusal}
 use Rattle.ph_engine.specs.Naming.{place}
-use Rattle.ph_any_tree.specs.Tables.{AnyTable, slot_of, engine_of, cursor_of}
+use Rattle.ph_any_tree.specs.Tables.{AnyTable, table_at, tree_at, slot_of, engine_of, IsOfKind}
 use Rattle.ph_engine.specs.Slots.{named}
 use Rattle.std.proofs.lemmas.Bool.{lt-ltb}
 use Rattle.ph_any_tree.specs.Working.{work, engine_bounds, most_to_resume}
@@ -81,6 +85,31 @@ cursor-begun s name lo hi cursors h e =
           (record { enough_visits = omega arith; enough_changes = omega arith });
     }
 
+-- ---- a slot that is opened
+
+kind-of-begin : (own kind : Kind) (k width max : ℕ) →
+    (has_wrong_kind own (Command.Begin kind k width max) ≡ false) × (boxes_of own (Command.Begin kind k width max) ≡ [])
+kind-of-begin Points kind k width max = (refl, refl)
+kind-of-begin Boxes kind k width max = (refl, refl)
+
+begin-early : (s : Slot) (kind : Kind) (k width max : ℕ) → has_wrong_dims (Command.Begin kind k width max) ≡ false →
+    early_refusal s (Command.Begin kind k width max) ≡ None
+begin-early s kind k width max h = let own = kind-of-begin s.kind kind k width max in rw (h, own.0, own.1) refl
+
+pub slot-begun : (s now : Slot) (kind : Kind) (k width max : ℕ) → has_wrong_dims (Command.Begin kind k width max) ≡ false →
+    now ≡ empty_slot kind (opened_dims kind k) width max → Begun s (Command.Begin kind k width max) now Reply.Opened
+slot-begun s now kind k width max h e =
+    let command = Command.Begin kind k width max in
+    let early : early_refusal s command ≡ None = begin-early s kind k width max h in
+    record {
+      does = λ most files fault. ap (λ r. unless_refused r (engine_of s) files command)
+          (unrefused most s files fault command refl early refl) ∙
+          ap (λ x. outcome (engine_of x) files (Reply.Opened ∷ [])) (sym e);
+      most = λ visits changes most files fault. record { few_visits = omega arith; few_changes = omega arith };
+      least = λ visits changes most files fault. rw (unrefused most s files fault command refl early refl)
+          (record { enough_visits = omega arith; enough_changes = omega arith });
+    }
+
 -- ---- a page
 
 is-there : (b : Bool) → not b ≡ false → b ≡ true
@@ -92,14 +121,14 @@ pub cursor-there : (s : Slot) (name : List ℕ) (n : ℕ) → early_refusal s (C
 cursor-there s name n h = is-there (has_name name s.cursors) (has-cursor s (Command.Page name n) h)
 
 -- the cursor at its place is the one that is found under the name
-pub found-there : (name : List ℕ) (items first second : List Held) (r : Result ℕ ℕ) (i : ℕ) (d : Held) →
+pub found-there : {D : ℕ} (name : List ℕ) (items first second : List (Held D)) (r : Result ℕ ℕ) (i : ℕ) (d : Held D) →
     first ≡ items → second ≡ items → r ≡ place name (named first) → r ≡ Ok i →
     MatchResult r (λ j. j < length first) (λ j. j ≤ length first) →
-    lookup name (named items) ≡ Some (cursor_of (get_or second i d).cursor)
+    lookup name (named items) ≡ Some (get_or second i d).cursor
 found-there name items first second r i d e f p is within =
     let at : place name (named second) ≡ Ok i = ap (λ xs. place name (named xs)) (f ∙ sym e) ∙ sym p ∙ is in
     let short : i < length second = omega (arith, rw is at within, ap (λ xs. length xs) (e ∙ sym f)) in
-    subst (λ xs. lookup name (named xs) ≡ Some (cursor_of (get_or second i d).cursor)) f (found-in (λ h. h.name) (λ h. cursor_of h.cursor) name second i d at short)
+    subst (λ xs. lookup name (named xs) ≡ Some (get_or second i d).cursor) f (found-in (λ h. h.name) (λ h. h.cursor) name second i d at short)
 
 good-row : (r : Row) (text : List ℕ) → is_refusal (reply_text (Reply.RowIs r) ++ text) ≡ false
 good-row r text = elim r.point as (λ p. is_refusal (reply_text (Reply.RowIs (record { point = p; value = r.value })) ++ text) ≡ false) [ [] ↦ refl | x ∷ p ↦ refl ]
@@ -122,6 +151,12 @@ page-does kind t cursors after name n c h there e most files fault =
     ap (λ r. unless_refused r (engine_of s) files command) (unrefused most s files fault command refl h refl)
     ∙ ap (page_outcome (engine_of s) files name n) there
     ∙ ap (λ x. outcome (engine_of (slot_of kind t x)) files (page_replies t c n)) (sym e)
+
+-- a page of a tree is one of the table with its past
+pub kept-listed : (d : ℕ) (k : Past) (c : Cursor) (n : ℕ) (sink now_sink : Taken) (v now_v : ℕ) (behind : Cursor) →
+    PageListed (tree_at d (tree_of k)) c n sink now_sink v now_v behind → PageListed (table_at d k) c n sink now_sink v now_v behind
+kept-listed d k c n sink now_sink v now_v behind h =
+    record { told = h.told; next = h.next; rest_behind = h.rest_behind; last = h.last; grows = h.grows; visited = h.visited }
 
 -- a page that was listed, whose cursor was moved
 pub page-done : (kind : Kind) (t : AnyTable) (cursors after : Named Cursor) (name : List ℕ) (n : ℕ)
@@ -215,17 +250,22 @@ pub record IsListing (s : Slot) (command : Command) (replies : List Reply) (leas
   pub no_page : is_page command ≡ false
   pub good : is_refusal (replies_text replies) ≡ false
 
--- the same in the arm of a command of the code
+-- such a command, whatever the files are
+pub slot-listed : {s : Slot} {command : Command} {replies : List Reply} {least most_visits : ℕ} {sink now_sink : Taken}
+    {v now_v : ℕ} (result : Result Answer Stop) → early_refusal s command ≡ None → IsListing s command replies least most_visits →
+    Lists replies least most_visits sink now_sink v now_v result → DoneWith s command sink now_sink v now_v s result
+slot-listed {s} {command} {replies} {least} {most_visits} {sink} {now_sink} {v} {now_v} result h k listed = record {
+  done = λ most files filings changes. listing-done s command replies least most_visits sink now_sink files
+      filings v now_v changes h k.on_slot k.late k.effect k.bounds most result k.no_page k.good listed;
+}
+
+-- the same of an arm of the code
 pub arm-listed : {s now : Slot} {cmd arm : Written} {replies : List Reply} {least most_visits : ℕ} {sink now_sink : Taken}
     {v now_v : ℕ} (result : Result Answer Stop) → s ≡ now → cmd ≡ arm → early_refusal now (command_of cmd) ≡ None →
     IsListing s (command_of arm) replies least most_visits →
     Lists replies least most_visits sink now_sink v now_v result →
     DoneWith s (command_of arm) sink now_sink v now_v s result
-arm-listed {s} {now} {cmd} {arm} {replies} {least} {most_visits} {sink} {now_sink} {v} {now_v} result e is h k listed = record {
-  done = λ most files filings changes. listing-done s (command_of arm) replies least most_visits sink now_sink files
-      filings v now_v changes (unrefused-arm s now cmd arm e is (sym h)) k.on_slot k.late k.effect k.bounds most result
-      k.no_page k.good listed;
-}
+arm-listed {s} {now} {cmd} {arm} result e is h k listed = slot-listed result (unrefused-arm s now cmd arm e is (sym h)) k listed
 
 pub rows-good : (rows : List Row) → is_refusal (replies_text (listing rows)) ≡ false
 rows-good rows = good-rows rows false (length rows)
@@ -238,12 +278,6 @@ pub lists-window : (s : Slot) (lo hi : List ℤ) →
     IsListing s (Command.Window lo hi) (listing (window lo hi s.table)) (window_met s lo hi) (window_met s lo hi)
 lists-window s lo hi = search (rules, rows-good)
 
--- the command that asks a question about boxes
-abbrev pub asking : Question → List ℤ → Command
-asking Overlap q = Command.Overlap q
-asking Inside q = Command.Inside q
-asking Cover q = Command.Covers q
-
 pub lists-boxes : (question : Question) (s : Slot) (q : List ℤ) →
     let n = window_met s (low_bound question s.width (low_corner q) (high_corner q)) (high_bound question s.width (low_corner q) (high_corner q)) in
     IsListing s (asking question q) (listing (answered question q s.table)) n n
@@ -254,6 +288,35 @@ lists-boxes Cover s q = search (rules, rows-good)
 pub lists-sizes : (s : Slot) → let n = length (all_nodes s.width s.dims s.table) in
     IsListing s Command.Statistics (Reply.StatsAre (stats s.width s.dims s.table) ∷ []) n n
 lists-sizes s = search rules
+
+-- a slot that does not refuse a question about boxes has boxes
+right-kind : (a b : Bool) (later : Option Reply) → refuse_if a Reply.ErrorDims (refuse_if b Reply.ErrorKind later) ≡ None → b ≡ false
+right-kind true b later h = absurd cc
+right-kind false true later h = absurd cc
+right-kind false false later h = refl
+
+asked-kind : (question : Question) (kind : Kind) (q : List ℤ) → has_wrong_kind kind (asking question q) ≡ false → kind ≡ Boxes
+asked-kind Overlap Points q h = absurd (let no : true ≡ false = h in cc)
+asked-kind Inside Points q h = absurd (let no : true ≡ false = h in cc)
+asked-kind Cover Points q h = absurd (let no : true ≡ false = h in cc)
+asked-kind question Boxes q h = refl
+
+pub asked-boxes : (question : Question) (kind : Kind) (t : AnyTable) (cursors : Named Cursor) (now : Slot) (q : List ℤ) →
+    slot_of kind t cursors ≡ now → early_refusal now (asking question q) ≡ None → IsOfKind kind t → IsOfKind Boxes t
+asked-boxes question kind t cursors now q e h k =
+    let command = asking question q in
+    let right = right-kind (has_wrong_dims command) (has_wrong_kind kind command) _ (ap (λ s. early_refusal s command) e ∙ h) in
+    subst (λ x. IsOfKind x t) (asked-kind question kind q right) k
+
+one-true : (a : Bool) → not (a && true) ≡ false → a ≡ true
+one-true true h = refl
+one-true false h = absurd cc
+
+-- and the asked one is in range
+pub asked-range : (question : Question) (s : Slot) (q : List ℤ) → early_refusal s (asking question q) ≡ None → list_all (fits s.width) q ≡ true
+asked-range Overlap s q h = one-true (list_all (fits s.width) q) (in-range s (Command.Overlap q) h)
+asked-range Inside s q h = one-true (list_all (fits s.width) q) (in-range s (Command.Inside q) h)
+asked-range Cover s q h = one-true (list_all (fits s.width) q) (in-range s (Command.Covers q) h)
 
 -- ---- rows with their distances
 

@@ -1,6 +1,8 @@
 -- Two slots side by side: pairs that are listed, and the table that is made of both.
 use Rattle.std.proofs.Common.{◌≡◌, ℕ, ◌+◌, Bool, true, false, List, [], ◌∷◌, ◌++◌, length, map, refl, ap, sym, subst, ◌∙◌, arith}
-use Rattle.std.specs.Prelude.{Option, Some, None, Result, Ok, Err, not}
+use Rattle.std.specs.Prelude.{Option, Some, None, Result, Ok, Err, not, ◌&&◌, ◌==◌}
+use Rattle.std.specs.Cmp.Lexicographic.{pointwise}
+use Rattle.std.proofs.lemmas.Bool.{eqb-true}
 use Rattle.ph_io.specs.Giving.{Taken}
 use Rattle.ph_specs.specs.declared.Kind.{Kind}
 use Rattle.ph_specs.specs.declared.Kind.TheVariants.{Points, Boxes}
@@ -9,7 +11,7 @@ use Rattle.ph_specs.specs.declared.Which.{Which}
 use Rattle.ph_specs.specs.declared.SetOperation.TheVariants.{Union, Common, Minus}
 use Rattle.ph_specs.specs.Boxes.{AreBoxes}
 use Rattle.ph_specs.specs.Command.{Command}
-use Rattle.ph_specs.specs.Engine.{pair_listing, unless_refused}
+use Rattle.ph_specs.specs.Engine.{pair_listing, same_slots, unless_refused}
 use Rattle.ph_specs.specs.Named.{Named}
 use Rattle.ph_specs.specs.Refusals.{refusal, slot_refusal, or_else, refuse_if, join_refusal, combine_refusal, points_differ, same_kind}
 use Rattle.ph_specs.specs.Refusals.{has_wrong_kind, boxes_of}
@@ -17,7 +19,7 @@ use Rattle.ph_specs.specs.Reply.{Reply, reply_text, replies_text}
 use Rattle.ph_specs.specs.Coordinate.{IsBox}
 use Rattle.ph_specs.specs.Sets.{pairs, combine}
 use Rattle.ph_specs.specs.State.{Slot, Engine, Files, current, other, slot_at, other_at, put_slot, with_slot, outcome}
-use Rattle.ph_specs.specs.Table.{Row, has}
+use Rattle.ph_specs.specs.Table.{Row, has, same_row}
 use Rattle.ph_specs.specs.Window.{Cursor}
 use Rattle.ph_specs.specs.WorkSets.{all_nodes, join_visits, combine_visits}
 use Rattle.ph_join.specs.Joining.{one_of}
@@ -27,6 +29,7 @@ use Rattle.ph_set.specs.declared.error.SetFault.TheVariants.{Full, NoMemory}
 use Rattle.ph_script.specs.declared.reply.Reply.{Reply as Told}
 use Rattle.ph_script.specs.Meaning.{reply_of}
 use Rattle.ph_engine.specs.Beside.{beside_sink}
+use Rattle.ph_any_tree.specs.Comparing.{IsCompared}
 use Rattle.ph_any_tree.specs.Served.{Does}
 use Rattle.ph_engine.specs.Doing.{DoneBeside}
 use Rattle.ph_engine.specs.Filing.{QuietOr}
@@ -44,6 +47,20 @@ use Rattle.ph_engine.proofs.Lifted.{same}
 use Rattle.ph_engine.proofs.Paged.{listing-beside}
 use Rattle.ph_any_tree.proofs.Frames.{of-kind-still}
 use Rattle.ph_any_tree.proofs.Frames.{boxes-put-all}
+
+-- ---- slots that are compared
+
+other-dims : (a b : ℕ) (x : Bool) → (a ≡ b → ⊥) → (a == b) ≡ x → (a == b) ≡ false
+other-dims a b true n e = absurd (n (eqb-true a b e))
+other-dims a b false n e = e
+
+-- slots whose dimensions differ are not the same
+pub dims-compared : (s t : Slot) (v : ℕ) → (s.dims ≡ t.dims → ⊥) → IsCompared s t v v false
+dims-compared s t v n =
+    let no : same_slots s t ≡ false =
+    ap (λ b. same_kind s.kind t.kind && b && (s.width == t.width) && pointwise same_row s.table t.table) (other-dims s.dims t.dims (s.dims == t.dims) n refl)
+    ∙ elim (same_kind s.kind t.kind) as (λ k. (k && false && (s.width == t.width) && pointwise same_row s.table t.table) ≡ false) [ true ↦ refl | false ↦ refl ] in
+    record { same = sym no; later = omega arith; few = omega arith; all = λ e. absurd (let clash : false ≡ true = sym no ∙ e in cc) }
 
 -- ---- pairs that are listed
 

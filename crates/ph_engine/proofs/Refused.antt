@@ -10,11 +10,11 @@ use Rattle.ph_specs.specs.Reply.{Reply}
 use Rattle.ph_specs.specs.State.{Slot, Engine, Files, current}
 use Rattle.ph_specs.specs.Refusals.{refusal, slot_refusal, slots_refusal, or_else, refuse_if, has_wrong_dims, boxes_of, has_wrong_kind}
 use Rattle.ph_specs.specs.Refusals.{is_out_of_range, is_reversed, lacks_cursor, has_too_many_cursors}
-use Rattle.ph_engine.specs.Refusing.{early_refusal, late_refusal, names_points_outside, names_reversed}
+use Rattle.ph_engine.specs.Refusing.{early_refusal, late_refusal, cursor_refusal, names_points_outside, names_reversed}
 use Rattle.ph_script.specs.declared.command.Command.{Command as Written}
 use Rattle.ph_script.specs.Meaning.{command_of}
 use Rattle.ph_any_tree.specs.Tables.{engine_of}
-use Rattle.ph_engine.specs.Doing.{Begun, is_on_slot, goes_together}
+use Rattle.ph_engine.specs.Doing.{Begun, is_begin, is_on_slot, goes_together}
 
 -- a cause behind which others are looked for
 refuse-or : (b : Bool) (r : Reply) (x y : Option Reply) → refuse_if b r (or_else x y) ≡ or_else (refuse_if b r x) y
@@ -58,10 +58,43 @@ refused-begun s cmd r on h = record {
       (record { enough_visits = omega arith; enough_changes = omega arith });
 }
 
+-- a slot that is opened with dimensions or a width that none has
+pub wrong-dims-begun : (s : Slot) (kind : Kind) (k width max : ℕ) → has_wrong_dims (Command.Begin kind k width max) ≡ true →
+    Begun s (Command.Begin kind k width max) s Reply.ErrorDims
+wrong-dims-begun s kind k width max h =
+    let cmd = Command.Begin kind k width max in
+    let first : early_refusal s cmd ≡ Some Reply.ErrorDims =
+    ap (λ b. refuse_if b Reply.ErrorDims
+    (refuse_if (has_wrong_kind s.kind cmd) Reply.ErrorKind
+    (refuse_if (is_out_of_range s cmd) Reply.ErrorRange
+    (refuse_if (is_reversed s cmd) Reply.ErrorReversed (cursor_refusal s cmd))))) h in
+    refused-begun s cmd Reply.ErrorDims refl first
+
 -- a command that is not refused at all
 pub unrefused : (most : ℕ) (s : Slot) (files : Files) (fault : Bool) (cmd : Command) → is_on_slot cmd ≡ true →
     early_refusal s cmd ≡ None → late_refusal most s files fault cmd ≡ None → refusal most (engine_of s) files fault cmd ≡ None
 unrefused most s files fault cmd on h k = refusal-parts most (engine_of s) files fault cmd on ∙ ap (λ r. or_else r (late_refusal most s files fault cmd)) h ∙ k
+
+-- ---- commands that open no slot
+
+opened-dims : (cmd : Command) → is_begin cmd ≡ false → has_wrong_dims cmd ≡ false
+opened-dims (Command.Begin kind k width max) h = absurd cc
+opened-dims other h = refl
+
+-- the cause by what the code has tested
+pub early-told : {s now : Slot} (cmd : Command) (kind outside reversed : Bool) (later : Option Reply) (w : ℕ) →
+    s ≡ now → is_begin cmd ≡ false → kind ≡ has_wrong_kind s.kind cmd → w ≡ s.width →
+    outside ≡ names_points_outside w cmd → reversed ≡ names_reversed s.kind cmd → later ≡ cursor_refusal now cmd →
+    refuse_if kind Reply.ErrorKind (refuse_if outside Reply.ErrorRange (refuse_if reversed Reply.ErrorReversed later)) ≡ early_refusal now cmd
+early-told {s} {now} cmd kind outside reversed later w e opened k is o r l =
+    let kinds = k ∙ ap (λ x. has_wrong_kind x.kind cmd) e in
+    let ranges = o ∙ ap (λ v. names_points_outside v cmd) (is ∙ ap (λ x. x.width) e) in
+    let bounds = r ∙ ap (λ x. names_reversed x.kind cmd) e in
+    (λ i. refuse_if (kinds i) Reply.ErrorKind (refuse_if (ranges i) Reply.ErrorRange (refuse_if (bounds i) Reply.ErrorReversed (l i))))
+    ∙ ap (λ b. refuse_if b Reply.ErrorDims
+    (refuse_if (has_wrong_kind now.kind cmd) Reply.ErrorKind
+    (refuse_if (names_points_outside now.width cmd) Reply.ErrorRange
+    (refuse_if (names_reversed now.kind cmd) Reply.ErrorReversed (cursor_refusal now cmd))))) (sym (opened-dims cmd opened))
 
 -- ---- commands about the row at a point
 

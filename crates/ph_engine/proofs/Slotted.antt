@@ -14,19 +14,20 @@ use Rattle.ph_specs.specs.Coordinate.{is_box, IsBox}
 use Rattle.ph_specs.specs.Named.{Named, has_name}
 use Rattle.ph_specs.specs.Reply.{Reply}
 use Rattle.ph_specs.specs.State.{Slot, current, with_past}
-use Rattle.ph_specs.specs.Past.{after_edit}
+use Rattle.ph_specs.specs.Past.{Past, after_edit}
 use Rattle.ph_specs.specs.Table.{Row, has, del, move}
 use Rattle.ph_specs.specs.Refusals.{refusal, boxes_of}
 use Rattle.ph_specs.specs.Window.{Cursor}
-use Rattle.ph_specs.specs.Engine.{effect, unless_refused, opened_dims}
+use Rattle.ph_specs.specs.Engine.{effect, unless_refused}
+use Rattle.ph_tree.specs.Tree.{TreeTable}
+use Rattle.ph_undo.specs.Kept.{tree_of}
 use Rattle.ph_script.specs.declared.reply.Reply.{Reply as Told}
 use Rattle.ph_specs.proofs.laws.BoxRows.{boxes-put, boxes-del, boxes-move}
 use Rattle.ph_any_tree.specs.Served.{ServedOr}
-use Rattle.ph_any_tree.specs.Tables.{SameFrame, AnyTable, empty_table, slot_of, engine_of, cursor_of, IsCursorIn}
+use Rattle.ph_any_tree.specs.Tables.{SameFrame, AnyTable, table_at, bare, empty_table, slot_of, engine_of, IsCursorIn}
 use Rattle.ph_engine.specs.Slots.{named, entered, IsSlot}
 use Rattle.ph_engine.specs.Refusing.{early_refusal}
 use Rattle.ph_engine.specs.declared.cursors.Held.{Held}
-use Rattle.ph_any_tree.specs.declared.any_cursor.AnyCursor.{AnyCursor}
 use Rattle.ph_engine.proofs.Refused.{unreversed}
 use Rattle.ph_engine.proofs.Names.{true-is, is-true, sorted-entered, length-entered, all-entered}
 use Rattle.ph_any_tree.proofs.Frames.{of-kind-still}
@@ -140,34 +141,54 @@ module _ (kind : Kind) (t : AnyTable) (cursors : Named Cursor) where
   clear-frame = keeps Command.Clear (refl, refl) (λ e b c. (tt, tt))
 
 -- a cursor that serves in a table serves in such a one
-cursor-kept : (kind : Kind) (t now : AnyTable) (c : AnyCursor) → SameFrame kind t now → IsCursorIn t c → IsCursorIn now c
-cursor-kept kind t now c f h = record { dims = h.dims ∙ sym f.dims; lo = rw (f.width, f.dims) h.lo; hi = rw (f.width, f.dims) h.hi; last = rw (f.width, f.dims) h.last }
+cursor-kept : (kind : Kind) (t now : AnyTable) (c : Cursor) → SameFrame kind t now → IsCursorIn t c → IsCursorIn now c
+cursor-kept kind t now c f h = record { lo = rw (f.width, f.dims) h.lo; hi = rw (f.width, f.dims) h.hi; last = rw (f.width, f.dims) h.last }
 
-cursors-kept : (kind : Kind) (t now : AnyTable) (held : List Held) → SameFrame kind t now →
+cursors-kept : {D : ℕ} (kind : Kind) (t now : AnyTable) (held : List (Held D)) → SameFrame kind t now →
     AllByRecursion (λ h. IsCursorIn t h.cursor) held → AllByRecursion (λ h. IsCursorIn now h.cursor) held
 cursors-kept kind t now [] f h = h
 cursors-kept kind t now (x ∷ held) f h = (cursor-kept kind t now x.cursor f h.0, cursors-kept kind t now held f h.1)
 
-pub slot-keeps : (kind : Kind) (t now : AnyTable) (held : List Held) → SameFrame kind t now → IsSlot kind t held → IsSlot kind now held
-slot-keeps kind t now held f h = record { of_kind = f.of_kind h.of_kind; few = h.few; sorted = h.sorted; serve = cursors-kept kind t now held f h.serve }
+pub slot-keeps : {D : ℕ} (kind : Kind) (t now : AnyTable) (held : List (Held D)) → SameFrame kind t now → IsSlot kind t held → IsSlot kind now held
+slot-keeps kind t now held f h = record {
+  some = rw f.dims h.some;
+  limit = rw f.dims h.limit;
+  of_kind = f.of_kind h.of_kind;
+  few = h.few;
+  sorted = h.sorted;
+  serve = cursors-kept kind t now held f h.serve;
+}
 
 -- the same behind a command about rows
-pub frame-kept : {E : Type 0} {kind : Kind} {t : AnyTable} {held : List Held} {command : Command} (now : AnyTable)
+pub frame-kept : {E : Type 0} {D : ℕ} {kind : Kind} {t : AnyTable} {held : List (Held D)} {command : Command} (now : AnyTable)
     (outcome : Result Told E) (v now_v c now_c : ℕ) → KeepsFrame kind t command →
     ServedOr t command now v now_v c now_c outcome → IsSlot kind t held → IsSlot kind now held
-frame-kept {kind} {t} {held} {command} now outcome v now_v c now_c k h s =
+frame-kept {D} {kind} {t} {held} {command} now outcome v now_v c now_c k h s =
     slot-keeps kind t now held (same-frame kind t now command outcome v now_v c now_c k h) s
 
 -- ---- a slot that is opened
 
-pub slot-opened : (kind : Kind) (k dims w max : ℕ) → dims ≡ opened_dims kind k → IsSlot kind (empty_table dims w max) []
-slot-opened Points k dims w max e = record { of_kind = tt; few = omega arith; sorted = refl; serve = tt }
-slot-opened Boxes k dims w max e =
-    record { of_kind = (let even : dims % 2 ≡ 0 = omega (arith, e) in even, tt, tt); few = omega arith; sorted = refl; serve = tt }
+-- a tree of which no edits are kept
+pub kept-new : (k : Past) (t : TreeTable) → tree_of k ≡ t → k.depth ≡ 0 → k.past ≡ [] → k ≡ bare t
+kept-new k t e d p = λ i. record { table = (e i).table; width = (e i).width; max = (e i).max; depth = d i; past = p i }
+
+empty-opened : (D : ℕ) (kind : Kind) (dims w max : ℕ) → 1 ≤ dims → dims ≤ 16 → (kind ≡ Boxes → dims % 2 ≡ 0) →
+    IsSlot {D = D} kind (empty_table dims w max) []
+empty-opened D Points dims w max some limit even = record { some = some; limit = limit; of_kind = tt; few = omega arith; sorted = refl; serve = tt }
+empty-opened D Boxes dims w max some limit even =
+    record { some = some; limit = limit; of_kind = (even refl, tt, tt); few = omega arith; sorted = refl; serve = tt }
+
+pub slot-opened : {D : ℕ} (kind : Kind) (dims w max : ℕ) (k : Past) (t : TreeTable) (held : List (Held D)) →
+    tree_of k ≡ t → k.depth ≡ 0 → k.past ≡ [] → t.table ≡ [] → t.width ≡ w → t.max ≡ max → held ≡ [] →
+    1 ≤ dims → dims ≤ 16 → (kind ≡ Boxes → dims % 2 ≡ 0) → IsSlot kind (table_at dims k) held
+slot-opened {D} kind dims w max k t held e d p rows width most none some limit even =
+    let same : k ≡ bare (record { table = []; width = w; max = max }) =
+    kept-new k t e d p ∙ (λ i. bare (record { table = rows i; width = width i; max = most i })) in
+    rw (same, none) (empty-opened D kind dims w max some limit even)
 
 -- ---- with a cursor more
 
-pub names-sorted : (kind : Kind) (t : AnyTable) (held : List Held) → IsSlot kind t held → T (is_sorted (slice_cmp nat_cmp) (named held))
+pub names-sorted : {D : ℕ} (kind : Kind) (t : AnyTable) (held : List (Held D)) → IsSlot kind t held → T (is_sorted (slice_cmp nat_cmp) (named held))
 names-sorted kind t held h = true-is (is_sorted (slice_cmp nat_cmp) (named held)) h.sorted
 
 few-entered : (b : Bool) (n : ℕ) → n ≤ 16 → (n ≡ 16 → b ≡ true) → cond b n (n + 1) ≤ 16
@@ -177,13 +198,15 @@ few-entered false n h k = less n h (λ e. absurd (let f : false ≡ true = k e i
     less : (n : ℕ) → n ≤ 16 → (n ≡ 16 → ⊥) → n + 1 ≤ 16
     less n h k = omega arith
 
-pub slot-entered : (kind : Kind) (t : AnyTable) (h : Held) (held : List Held) → IsSlot kind t held →
+pub slot-entered : {D : ℕ} (kind : Kind) (t : AnyTable) (h : Held D) (held : List (Held D)) → IsSlot kind t held →
     IsCursorIn t h.cursor → (length held ≡ 16 → has_name h.name (named held) ≡ true) → IsSlot kind t (entered h held)
 slot-entered kind t h held s c room =
     let sorted = names-sorted kind t held s in
     record {
+      some = s.some;
+      limit = s.limit;
       of_kind = s.of_kind;
-      few = rw (length-entered (λ x. x.name) (λ x. cursor_of x.cursor) h held sorted) (few-entered (has_name h.name (named held)) (length held) s.few room);
-      sorted = is-true _ (sorted-entered (λ x. x.name) (λ x. cursor_of x.cursor) h held sorted);
-      serve = all-entered (λ x. IsCursorIn t x.cursor) (λ x. x.name) (λ x. cursor_of x.cursor) h held s.serve c;
+      few = rw (length-entered (λ x. x.name) (λ x. x.cursor) h held sorted) (few-entered (has_name h.name (named held)) (length held) s.few room);
+      sorted = is-true _ (sorted-entered (λ x. x.name) (λ x. x.cursor) h held sorted);
+      serve = all-entered (λ x. IsCursorIn t x.cursor) (λ x. x.name) (λ x. x.cursor) h held s.serve c;
     }

@@ -23,7 +23,6 @@ use Rattle.ph_engine.specs.Doing.{HoldsFound}
 use Rattle.ph_any_tree.specs.Telling.{refuses, is_refusal}
 use Rattle.ph_any_tree.specs.Working.{one_if}
 use Rattle.ph_engine.specs.Seen.{Seen}
-use Rattle.ph_any_tree.specs.Tables.{AnyTable}
 use Rattle.ph_engine.specs.Statuses.{IsRead, read_status, stop_status}
 use Rattle.ph_any_tree.specs.declared.answer.Answer.{Answer}
 use Rattle.ph_engine.specs.declared.status.Status.{Status}
@@ -38,12 +37,18 @@ abbrev pub front_of : Kind → ℕ → List ℕ
 front_of Points dims = codes "points" ++ 32 ∷ decimal dims ++ 32 ∷ []
 front_of Boxes dims = codes "boxes" ++ 32 ∷ decimal (dims / 2) ++ 32 ∷ []
 
--- the bytes are the snapshot of this table, by their own header
-pub record IsSavedAs (bytes : List ℕ) (kind : Kind) (t : AnyTable) : Type 0 where
-  pub kind_is : named_kind bytes ≡ kind
-  pub dims_are : slice_index bytes 5 ≡ t.dims
-  pub width_is : named_width bytes ≡ t.tree.width
-  pub snapshot : IsSnapshotOf kind t.dims t.tree.width bytes t.tree.table
+-- the bytes are the snapshot of a table, and the line has its sizes, for a visit and a change of each node of its tree
+pub record IsLineOf (kind : Kind) (dims width : ℕ) (bytes line : List ℕ) (visits now_visits changes now_changes : ℕ) : Type 0 where
+  pub rows : List Row
+  pub snapshot : IsSnapshotOf kind dims width bytes rows
+  pub said : line ≡ line_of (checked_words kind dims (stats width dims rows))
+  pub seen : now_visits ≡ visits + length (all_nodes width dims rows)
+  pub made : now_changes ≡ changes + length (all_nodes width dims rows)
+
+-- the same by their own header
+abbrev pub IsOwnLine : List ℕ → List ℕ → ℕ → ℕ → ℕ → ℕ → Type 0
+IsOwnLine bytes line visits now_visits changes now_changes =
+    IsLineOf (named_kind bytes) (slice_index bytes 5) (named_width bytes) bytes line visits now_visits changes now_changes
 
 -- the bytes are the snapshot of some table, and the line has its sizes
 pub record HasSizes (bytes line : List ℕ) : Type 0 where

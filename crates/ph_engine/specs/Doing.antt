@@ -54,6 +54,11 @@ is_on_slot Command.Join = false
 is_on_slot (Command.Combine operation) = false
 is_on_slot _ = true
 
+-- whether it makes the slot another one, with a number of dimensions of its own
+abbrev pub is_begin : Command → Bool
+is_begin (Command.Begin kind k width max) = true
+is_begin _ = false
+
 -- the commands about the row at a point
 abbrev pub is_on_row : Command → Bool
 is_on_row (Command.Put p v) = true
@@ -70,9 +75,8 @@ is_tried (Command.Keep n) = true
 is_tried (Command.Back n) = true
 is_tried _ = false
 
--- and those that want none, on one slot
+-- and those that want none, on one slot that stays
 abbrev pub is_sure : Command → Bool
-is_sure (Command.Begin kind k width max) = true
 is_sure Command.Count = true
 is_sure Command.Clear = true
 is_sure (Command.Cursor name lo hi) = true

@@ -8,6 +8,7 @@ pub mod Outcomes
 pub mod Statuses
 pub mod Naming
 pub mod Slots
+pub mod AnySlots
 pub mod Comparing
 pub mod Refusing
 pub mod Causes

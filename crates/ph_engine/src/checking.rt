@@ -1,26 +1,27 @@
 //! The check of a file that holds a saved table.
-ghost use Rattle.std.specs.Prelude.{◌≡◌, ◌≤◌, ◌+◌, [], false, length, IfOk, IfErr, Ok};
+ghost use Rattle.std.specs.Prelude.{◌≡◌, ◌≤◌, ◌+◌, [], false, length, IfOk, IfErr, OnErr, Ok};
 ghost use Rattle.ph_io.specs.Causes.{Rose};
 ghost use Rattle.ph_specs.specs.ProgramNames.{checked_words, own_fault, words_of_snapshot, line_of};
-ghost use Rattle.ph_specs.specs.RecordNames.{stats};
+ghost use Rattle.ph_specs.specs.RecordNames.{load_fault, stats};
 ghost use Rattle.ph_snap.specs.Faults.{IsLoadFault};
-ghost use Rattle.ph_engine.specs.Checking.{CheckDone, HasSizes, IsSavedAs, LineGiven, front_of, nodes_saved, status_of};
+ghost use Rattle.ph_engine.specs.Checking.{CheckDone, HasSizes, IsLineOf, IsOwnLine, LineGiven, front_of, nodes_saved, status_of};
 ghost use Rattle.ph_any_tree.specs.Listing.{node_count};
+ghost use Rattle.ph_any_tree.specs.Tables.{table_at};
 ghost use Rattle.ph_any_tree.specs.Loading.{IsWithinBytes};
 ghost use Rattle.ph_any_tree.specs.Telling.{is_refusal, StopHasCause};
-ghost use Rattle.ph_any_tree.specs.Tables.{any_table};
 ghost use Rattle.ph_engine.specs.Told.{beside_by};
 ghost use Rattle.ph_any_tree.specs.Told.{taken_by};
 
 use crate::filing::{fault_reply, fetch_reply};
 use crate::status::{Limits, Status};
 use arrayvec::ArrayString;
-use ph_any_tree::{Answer, AnyTree, LINE_BYTES, Stop, push_count, push_sizes, tell};
+use ph_any_tree::{Answer, LINE_BYTES, Stop, load_kept, push_count, push_sizes, tell, tree_sizes};
 use ph_coord::{Kind, Width};
 use ph_io::{Failed, Files, Sink, write_piece};
 use ph_script::{FileName, Text};
 use ph_snap::{LoadFault, read_header};
 use ph_steps::Steps;
+use ph_undo::Kept;
 use std::alloc::Global;
 use std::sync::ledger::Ledger;
 
@@ -77,25 +78,22 @@ fn check_bytes<O: Sink, V: Ledger, C: Ledger>(
     ensures nodes { result ≡ Ok Answer.Good → changes.new ≤ changes.old + nodes_saved bytes.now }
     ensures cause { StopHasCause (O.faults out.old) (O.faults out.new) result }
 {
-    match read_tree(alloc, bytes, changes) {
-        Ok((kind, tree)) => {
-            let line = table_line(kind, &tree, visits);
-            drop(tree);
-            say_line(out, line.as_str())
-        }
+    match snapshot_line(alloc, bytes, visits, changes) {
+        Ok(line) => say_line(out, line.as_str()),
         Err(fault) => tell(out, &mut Text::new(), &fault_reply(fault)),
     }
 }
 
-// The kind and the tree of a snapshot, by its own header.
-fn read_tree<C: Ledger>(
+// The line of the table of which the bytes are the snapshot, by their own header.
+fn snapshot_line<V: Ledger, C: Ledger>(
     alloc: Global,
     bytes: &[u8],
+    visits: &mut Steps<V>,
     changes: &mut Steps<C>,
-) -> Result<(Kind, AnyTree), LoadFault>
-    ensures saved { IfOk result (λ r. IsSavedAs bytes.now r.0 (any_table r.1)) }
+) -> Result<ArrayString<LINE_BYTES>, LoadFault>
+    ensures line { IfOk result (λ line. IsOwnLine bytes.now line.bytes visits.old visits.new changes.old changes.new) }
     ensures fault { IfErr result (λ e. IsLoadFault (own_fault bytes.now) e) }
-    ensures nodes { IfOk result (λ r. changes.new ≡ changes.old + node_count (any_table r.1)) }
+    ensures unseen { OnErr result (visits.new ≡ visits.old) }
     ensures within { IsWithinBytes bytes.now changes.old changes.new }
 {
     let header = match read_header(bytes) {
@@ -105,23 +103,82 @@ fn read_tree<C: Ledger>(
     let Some(w) = Width::new(header.width) else {
         unreachable!()
     };
-    let tree = AnyTree::load(alloc, bytes, header.kind, header.dims, w, changes)?;
-    Ok((header.kind, tree))
+    line_by_dims(alloc, bytes, header.kind, header.dims, w, visits, changes)
 }
 
-// The line of a table: what its rows are, with their dimensions, and the sizes of its tree.
-fn table_line<V: Ledger>(
+// The same by these dimensions.
+fn line_by_dims<V: Ledger, C: Ledger>(
+    alloc: Global,
+    bytes: &[u8],
     kind: Kind,
-    tree: &AnyTree,
+    dims: u32,
+    w: Width,
+    visits: &mut Steps<V>,
+    changes: &mut Steps<C>,
+) -> Result<ArrayString<LINE_BYTES>, LoadFault>
+    requires some { 1 ≤ dims }
+    requires limit { dims ≤ 16 }
+    ensures line { IfOk result (λ line. IsLineOf kind dims w bytes.now line.bytes visits.old visits.new changes.old changes.new) }
+    ensures fault { IfErr result (λ e. IsLoadFault (load_fault kind dims w bytes.now) e) }
+    ensures unseen { OnErr result (visits.new ≡ visits.old) }
+    ensures within { IsWithinBytes bytes.now changes.old changes.new }
+{
+    match dims {
+        1 => table_line::<1, V, C>(alloc, bytes, kind, w, visits, changes),
+        2 => table_line::<2, V, C>(alloc, bytes, kind, w, visits, changes),
+        3 => table_line::<3, V, C>(alloc, bytes, kind, w, visits, changes),
+        4 => table_line::<4, V, C>(alloc, bytes, kind, w, visits, changes),
+        5 => table_line::<5, V, C>(alloc, bytes, kind, w, visits, changes),
+        6 => table_line::<6, V, C>(alloc, bytes, kind, w, visits, changes),
+        7 => table_line::<7, V, C>(alloc, bytes, kind, w, visits, changes),
+        8 => table_line::<8, V, C>(alloc, bytes, kind, w, visits, changes),
+        9 => table_line::<9, V, C>(alloc, bytes, kind, w, visits, changes),
+        10 => table_line::<10, V, C>(alloc, bytes, kind, w, visits, changes),
+        11 => table_line::<11, V, C>(alloc, bytes, kind, w, visits, changes),
+        12 => table_line::<12, V, C>(alloc, bytes, kind, w, visits, changes),
+        13 => table_line::<13, V, C>(alloc, bytes, kind, w, visits, changes),
+        14 => table_line::<14, V, C>(alloc, bytes, kind, w, visits, changes),
+        15 => table_line::<15, V, C>(alloc, bytes, kind, w, visits, changes),
+        16 => table_line::<16, V, C>(alloc, bytes, kind, w, visits, changes),
+        _ => unreachable!(),
+    }
+}
+
+// The same of D dimensions.
+fn table_line<const D: usize, V: Ledger, C: Ledger>(
+    alloc: Global,
+    bytes: &[u8],
+    kind: Kind,
+    w: Width,
+    visits: &mut Steps<V>,
+    changes: &mut Steps<C>,
+) -> Result<ArrayString<LINE_BYTES>, LoadFault>
+    requires some { 1 ≤ D }
+    requires limit { D ≤ 16 }
+    ensures line { IfOk result (λ line. IsLineOf kind D w bytes.now line.bytes visits.old visits.new changes.old changes.new) }
+    ensures fault { IfErr result (λ e. IsLoadFault (load_fault kind D w bytes.now) e) }
+    ensures unseen { OnErr result (visits.new ≡ visits.old) }
+    ensures within { IsWithinBytes bytes.now changes.old changes.new }
+{
+    match load_kept::<D, C>(alloc, bytes, kind, w, changes) {
+        Ok(kept) => Ok(kept_line(&kept, kind, visits)),
+        Err(fault) => Err(fault),
+    }
+}
+
+// What the rows of a tree are, with their dimensions, and its sizes.
+fn kept_line<const D: usize, V: Ledger>(
+    kept: &Kept<D>,
+    kind: Kind,
     visits: &mut Steps<V>,
 ) -> ArrayString<LINE_BYTES>
-    ensures line { let t = any_table tree.now in
-        result.bytes ≡ line_of (checked_words kind t.dims (stats t.tree.width t.dims t.tree.table)) }
-    ensures visits { visits.new ≡ visits.old + node_count (any_table tree.now) }
+    requires { D ≤ 16 }
+    ensures line { result.bytes ≡ line_of (checked_words kind D (stats kept.now.width D kept.now.table)) }
+    ensures visits { visits.new ≡ visits.old + node_count (table_at D kept.now) }
 {
     let mut line = ArrayString::new();
-    push_kind(&mut line, kind, tree.dims());
-    push_sizes(&mut line, &tree.sizes(visits));
+    push_kind(&mut line, kind, D as u32);
+    push_sizes(&mut line, &tree_sizes(kept, visits));
     line.push_str("\n");
     line
 }

@@ -8,7 +8,6 @@ ghost use Rattle.ph_engine.specs.Naming.{place};
 ghost use Rattle.ph_engine.specs.Slots.{named, entered};
 
 use arrayvec::ArrayVec;
-use ph_any_tree::AnyCursor;
 use ph_coord::Point;
 use ph_script::Name;
 use ph_window::Cursor;
@@ -19,31 +18,31 @@ pub(crate) const CURSORS: usize = 16;
 
 /// A cursor with its name.
 #[derive(Clone, Copy)]
-pub struct Held {
+pub struct Held<const D: usize> {
     pub name: Name,
-    pub cursor: AnyCursor,
+    pub cursor: Cursor<D>,
 }
 
 // What stands in the places of a slot's list that no cursor has.
-impl Default for Held {
-    fn default() -> Held {
-        let origin = Point::new([0]);
+impl<const D: usize> Default for Held<D> {
+    fn default() -> Held<D> {
+        let origin = Point::new([0; D]);
         let Some(name) = Name::new("-") else {
             unreachable!()
         };
         Held {
             name,
-            cursor: AnyCursor::D1(Cursor {
+            cursor: Cursor {
                 lo: origin,
                 hi: origin,
                 last: None,
-            }),
+            },
         }
     }
 }
 
 // The place of the cursor of this name, or else the place where it would stand.
-pub(crate) fn place_of(held: &[Held], name: &Name) -> Result<usize, usize>
+pub(crate) fn place_of<const D: usize>(held: &[Held<D>], name: &Name) -> Result<usize, usize>
     ensures place { result ≡ place name.now (named held.now) }
     ensures within { MatchResult result (λ i. i < length held.now) (λ i. i ≤ length held.now) }
 {
@@ -58,10 +57,11 @@ pub(crate) fn place_of(held: &[Held], name: &Name) -> Result<usize, usize>
 }
 
 // Puts a cursor under its name, in place of one that has it.
-pub(crate) fn enter(cursors: &mut ArrayVec<Held, CURSORS>, held: Held)
+pub(crate) fn enter<const D: usize>(cursors: &mut ArrayVec<Held<D>, CURSORS>, held: Held<D>)
+    requires limit { D ≤ 16 }
     requires sorted { IsTrue (is_sorted (slice_cmp nat_cmp) (named cursors.old.items)) }
     requires room { length cursors.old.items ≡ 16 → has_name held.name (named cursors.old.items) ≡ true }
-    ensures { cursors.new.items ≡ entered held cursors.old.items }
+    ensures { cursors.new.items ≡ entered held.entry cursors.old.items }
 {
     match place_of(cursors.as_slice(), &held.name) {
         Ok(i) => cursors.as_mut_slice()[i] = held,

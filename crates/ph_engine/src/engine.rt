@@ -3,6 +3,7 @@ ghost use Rattle.std.specs.Prelude.{◌≡◌, ◌<◌, ◌≤◌, ◌^◌, []};
 ghost use Rattle.ph_specs.specs.ProgramNames.{Command as Asked, opened, Reply as Replied, new_engine, current, slot_at};
 ghost use Rattle.ph_script.specs.Meaning.{command_of, reply_of};
 ghost use Rattle.ph_script.specs.Fit.{HasDims};
+ghost use Rattle.ph_engine.specs.AnySlots.{any_slot};
 ghost use Rattle.ph_engine.specs.Comparing.{Compares};
 ghost use Rattle.ph_engine.specs.Doing.{DoneOr, DoneBeside, LeavesBegun};
 ghost use Rattle.ph_engine.specs.Filing.{QuietOr};
@@ -32,10 +33,11 @@ pub struct Engine {
 
 impl Model for Engine {
     ghost use Rattle.ph_specs.specs.ProgramNames.{Engine as State};
+    ghost use Rattle.ph_engine.specs.AnySlots.{any_slot};
 
     ghost Value = { State };
 
-    ghost view = { λ e. record { a = e.a; b = e.b; current = e.current } };
+    ghost view = { λ e. record { a = any_slot e.a; b = any_slot e.b; current = e.current } };
 }
 
 impl Engine {
@@ -52,7 +54,7 @@ impl Engine {
 
     /// A slot.
     pub fn slot(&self, which: Which) -> &Slot
-        ensures { result.now ≡ slot_at which self.now }
+        ensures { any_slot result.now ≡ slot_at which self.now }
     {
         match which {
             Which::A => &self.a,

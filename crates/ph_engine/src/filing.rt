@@ -1,11 +1,11 @@
 //! Commands on files: a table as a snapshot, and back.
-ghost use Rattle.std.specs.Prelude.{◌≡◌, true, false, length, IfOk};
+ghost use Rattle.std.specs.Prelude.{◌≡◌, ◌≤◌, true, false, length, IfOk};
 ghost use Rattle.ph_snap.specs.Saving.{VisitsAll};
 ghost use Rattle.ph_script.specs.Meaning.{reply_of};
 ghost use Rattle.ph_engine.specs.Drafting.{FilledOr};
 ghost use Rattle.ph_engine.specs.Filing.{EnteredOr, LoadsNodes, LoadsOr, TableLoaded, TableSaved, TellsFault, TellsUnfetched, loaded_reply};
 ghost use Rattle.ph_engine.specs.Filing.{loaded_table};
-ghost use Rattle.ph_any_tree.specs.Tables.{SameFrame, IsOfKind, any_table};
+ghost use Rattle.ph_any_tree.specs.Tables.{SameFrame, IsOfKind, table_at};
 ghost use Rattle.ph_any_tree.specs.Loading.{IsWithinBytes};
 ghost use Rattle.ph_engine.specs.Told.{aside_by};
 ghost use Rattle.ph_any_tree.specs.Listing.{node_count};
@@ -14,75 +14,76 @@ ghost use Rattle.ph_any_tree.specs.Told.{shelf_by};
 
 use crate::file_sink::FileSink;
 use crate::status::Limits;
-use ph_any_tree::AnyTree;
+use ph_any_tree::{load_kept, save_tree, take_rows};
 use ph_coord::Kind;
 use ph_io::{Failed, FetchFault, Files};
 use ph_script::{FileName, Reply};
 use ph_snap::LoadFault;
 use ph_steps::Steps;
 use ph_tree::NoMemory;
+use ph_undo::Kept;
 use std::alloc::Global;
 use std::sync::ledger::Ledger;
 
 // Saves the rows of a tree under a name, in place of a file that has it.
-pub(crate) fn save_table<F: Files, V: Ledger>(
-    tree: &AnyTree,
+pub(crate) fn save_table<const D: usize, F: Files, V: Ledger>(
+    kept: &Kept<D>,
     kind: Kind,
     file: &FileName<'_>,
     files: &mut F,
     visits: &mut Steps<V>,
 ) -> Reply
-    ensures saved { TableSaved kind (any_table tree.now) file.now
+    ensures saved { TableSaved kind (table_at D kept.now) file.now
         (aside_by F.Files files.old visits.old 0)
         (aside_by F.Files files.new visits.new 0)
         (reply_of result) }
     ensures begun { F.is_begun files.new ≡ false }
 {
-    match save_tree(tree, kind, file, files, visits) {
+    match save_file(kept, kind, file, files, visits) {
         Ok(count) => Reply::Saved(count),
         Err(Failed) => Reply::ErrorFile,
     }
 }
 
 // Writes the snapshot of a tree to a file of this name, and tells how many bytes it has. Where the files fail, one of the name stays as it was.
-fn save_tree<F: Files, V: Ledger>(
-    tree: &AnyTree,
+fn save_file<const D: usize, F: Files, V: Ledger>(
+    kept: &Kept<D>,
     kind: Kind,
     file: &FileName<'_>,
     files: &mut F,
     visits: &mut Steps<V>,
 ) -> Result<u128, Failed>
-    ensures entered { EnteredOr (shelf_by F.Files files.old) (shelf_by F.Files files.new) file.now (snap_of kind (any_table tree.now)) result }
-    ensures visits { VisitsAll (node_count (any_table tree.now)) visits.old visits.new result }
+    ensures entered { EnteredOr (shelf_by F.Files files.old) (shelf_by F.Files files.new) file.now (snap_of kind (table_at D kept.now)) result }
+    ensures visits { VisitsAll (node_count (table_at D kept.now)) visits.old visits.new result }
 {
     files.begin(file.as_str())?;
-    let count = append_tree(tree, kind, files, visits)?;
+    let count = append_tree(kept, kind, files, visits)?;
     files.finish()?;
     Ok(count)
 }
 
 // Appends the snapshot of a tree to the file that is begun.
-fn append_tree<F: Files, V: Ledger>(
-    tree: &AnyTree,
+fn append_tree<const D: usize, F: Files, V: Ledger>(
+    kept: &Kept<D>,
     kind: Kind,
     files: &mut F,
     visits: &mut Steps<V>,
 ) -> Result<u128, Failed>
     requires begun { F.is_begun files.old ≡ true }
-    ensures filled { FilledOr (shelf_by F.Files files.old) (shelf_by F.Files files.new) (snap_of kind (any_table tree.now)) result }
-    ensures count { IfOk result (λ n. n ≡ length (snap_of kind (any_table tree.now))) }
-    ensures visits { VisitsAll (node_count (any_table tree.now)) visits.old visits.new result }
+    ensures filled { FilledOr (shelf_by F.Files files.old) (shelf_by F.Files files.new) (snap_of kind (table_at D kept.now)) result }
+    ensures count { IfOk result (λ n. n ≡ length (snap_of kind (table_at D kept.now))) }
+    ensures visits { VisitsAll (node_count (table_at D kept.now)) visits.old visits.new result }
 {
     let mut sink = FileSink::new(files);
-    match tree.save(kind, &mut sink, visits) {
+    match save_tree(kept.tree(), kind, &mut sink, visits) {
         Ok(count) => { if sink.works { Ok(count) } else { Err(Failed) } }
         Err(Failed) => Err(Failed),
     }
 }
 
 // Puts the rows of a snapshot in place of those of a tree, once all of them are there.
-pub(crate) fn load_table<F: Files, C: Ledger>(
-    tree: &mut AnyTree,
+pub(crate) fn load_table<const D: usize, F: Files, C: Ledger>(
+    kept: &mut Kept<D>,
     kind: Kind,
     alloc: Global,
     file: &FileName<'_>,
@@ -90,17 +91,19 @@ pub(crate) fn load_table<F: Files, C: Ledger>(
     limits: &Limits,
     changes: &mut Steps<C>,
 ) -> Result<Reply, NoMemory>
-    requires of_kind { IsOfKind kind (any_table tree.old) }
-    ensures frame { SameFrame kind (any_table tree.old) (any_table tree.new) }
-    ensures loaded { TableLoaded limits.now.file_bytes kind (any_table tree.old) file.now
+    requires some { 1 ≤ D }
+    requires limit { D ≤ 16 }
+    requires of_kind { IsOfKind kind (table_at D kept.old) }
+    ensures frame { SameFrame kind (table_at D kept.old) (table_at D kept.new) }
+    ensures loaded { TableLoaded limits.now.file_bytes kind (table_at D kept.old) file.now
         (aside_by F.Files files.old 0 changes.old)
         (aside_by F.Files files.new 0 changes.new)
-        (any_table tree.new) result }
+        (table_at D kept.new) result }
     ensures begun { F.is_begun files.new ≡ F.is_begun files.old }
 {
     let mut bytes = Vec::new(alloc);
     match files.fetch(file.as_str(), limits.file_bytes, &mut bytes) {
-        Ok(()) => load_bytes(tree, kind, alloc, bytes.as_slice(), changes),
+        Ok(()) => load_bytes(kept, kind, alloc, bytes.as_slice(), changes),
         Err(fault) => fetch_reply(fault),
     }
 }
@@ -115,38 +118,39 @@ pub(crate) fn fetch_reply(fault: FetchFault) -> Result<Reply, NoMemory>
     }
 }
 
-fn load_bytes<C: Ledger>(
-    tree: &mut AnyTree,
+fn load_bytes<const D: usize, C: Ledger>(
+    kept: &mut Kept<D>,
     kind: Kind,
     alloc: Global,
     bytes: &[u8],
     changes: &mut Steps<C>,
 ) -> Result<Reply, NoMemory>
-    requires of_kind { IsOfKind kind (any_table tree.old) }
-    ensures loads { LoadsOr kind (any_table tree.old) bytes.now (any_table tree.new) result }
-    ensures frame { SameFrame kind (any_table tree.old) (any_table tree.new) }
+    requires some { 1 ≤ D }
+    requires limit { D ≤ 16 }
+    requires of_kind { IsOfKind kind (table_at D kept.old) }
+    ensures loads { LoadsOr kind (table_at D kept.old) bytes.now (table_at D kept.new) result }
+    ensures frame { SameFrame kind (table_at D kept.old) (table_at D kept.new) }
     ensures within { IsWithinBytes bytes.now changes.old changes.new }
-    ensures nodes { LoadsNodes kind (any_table tree.old) bytes.now result changes.old changes.new }
+    ensures nodes { LoadsNodes kind (table_at D kept.old) bytes.now result changes.old changes.new }
 {
-    match AnyTree::load(alloc, bytes, kind, tree.dims(), tree.width(), changes) {
-        Ok(loaded) => Ok(replace(tree, loaded)),
+    match load_kept(alloc, bytes, kind, kept.tree().width(), changes) {
+        Ok(loaded) => Ok(replace(kept, loaded)),
         Err(fault) => fault_reply(fault),
     }
 }
 
 // Puts a tree in place of another one, if it may have so many rows.
-fn replace(tree: &mut AnyTree, loaded: AnyTree) -> Reply
-    requires width { (any_table loaded).tree.width ≡ (any_table tree.old).tree.width }
-    requires dims { (any_table loaded).dims ≡ (any_table tree.old).dims }
-    ensures table { any_table tree.new ≡ loaded_table (any_table tree.old) (any_table loaded).tree.table }
-    ensures reply { reply_of result ≡ loaded_reply (any_table tree.old).tree.max (any_table loaded).tree.table }
+fn replace<const D: usize>(kept: &mut Kept<D>, loaded: Kept<D>) -> Reply
+    requires { loaded.width ≡ kept.old.width }
+    ensures table { table_at D kept.new ≡ loaded_table (table_at D kept.old) loaded.entry.table }
+    ensures reply { reply_of result ≡ loaded_reply kept.old.max loaded.entry.table }
 {
-    let rows = loaded.len();
-    if rows > tree.max() {
+    let rows = loaded.tree().len();
+    if rows > kept.tree().max() {
         drop(loaded);
         return Reply::ErrorFull;
     }
-    tree.replace(loaded);
+    take_rows(kept, loaded);
     Reply::Loaded(rows)
 }
 

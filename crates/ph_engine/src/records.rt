@@ -1,24 +1,25 @@
 //! Commands on files of records: rows as comma-separated fields, a line each.
-ghost use Rattle.std.specs.Prelude.{◌≡◌, false};
+ghost use Rattle.std.specs.Prelude.{◌≡◌, ◌≤◌, false};
 ghost use Rattle.ph_script.specs.Meaning.{reply_of};
-ghost use Rattle.ph_any_tree.specs.Tables.{SameFrame, any_table};
+ghost use Rattle.ph_any_tree.specs.Tables.{SameFrame, table_at};
 ghost use Rattle.ph_engine.specs.Recording.{TableExported, TableImported};
 ghost use Rattle.ph_engine.specs.Told.{aside_by};
 
 use crate::filing::fetch_reply;
 use crate::status::Limits;
-use ph_any_tree::AnyTree;
+use ph_any_tree::{export_tree, import_text};
 use ph_coord::Kind;
 use ph_io::{Failed, Files};
 use ph_script::{FileName, Reply};
 use ph_steps::Steps;
 use ph_tree::NoMemory;
+use ph_undo::Kept;
 use std::alloc::Global;
 use std::sync::ledger::Ledger;
 
 // Puts the rows of a file into a tree, once all of them are read and it has room for them.
-pub(crate) fn import_table<F: Files, V: Ledger, C: Ledger>(
-    tree: &mut AnyTree,
+pub(crate) fn import_table<const D: usize, F: Files, V: Ledger, C: Ledger>(
+    kept: &mut Kept<D>,
     kind: Kind,
     alloc: Global,
     file: &FileName<'_>,
@@ -28,34 +29,37 @@ pub(crate) fn import_table<F: Files, V: Ledger, C: Ledger>(
     visits: &mut Steps<V>,
     changes: &mut Steps<C>,
 ) -> Result<Reply, NoMemory>
-    ensures frame { SameFrame kind (any_table tree.old) (any_table tree.new) }
-    ensures imported { TableImported limits.now.file_bytes kind (any_table tree.old) file.now header
+    requires { D ≤ 16 }
+    ensures frame { SameFrame kind (table_at D kept.old) (table_at D kept.new) }
+    ensures imported { TableImported limits.now.file_bytes kind (table_at D kept.old) file.now header
         (aside_by F.Files files.old visits.old changes.old)
         (aside_by F.Files files.new visits.new changes.new)
-        (any_table tree.new) result }
+        (table_at D kept.new) result }
     ensures begun { F.is_begun files.new ≡ F.is_begun files.old }
 {
     let mut bytes = Vec::new(alloc);
     match files.fetch(file.as_str(), limits.file_bytes, &mut bytes) {
-        Ok(()) => tree.import(alloc, bytes.as_slice(), kind, header, visits, changes),
+        Ok(()) => import_text(kept, alloc, bytes.as_slice(), kind, header, visits, changes),
         Err(fault) => fetch_reply(fault),
     }
 }
 
 // Writes the rows of a tree to a file of this name, in place of one that has it.
-pub(crate) fn export_table<F: Files, V: Ledger>(
-    tree: &AnyTree,
+pub(crate) fn export_table<const D: usize, F: Files, V: Ledger>(
+    kept: &Kept<D>,
     file: &FileName<'_>,
     files: &mut F,
     visits: &mut Steps<V>,
 ) -> Reply
-    ensures exported { TableExported (any_table tree.now) file.now
+    requires { D ≤ 16 }
+    ensures exported { TableExported (table_at D kept.now) file.now
         (aside_by F.Files files.old visits.old 0)
         (aside_by F.Files files.new visits.new 0)
         (reply_of result) }
     ensures begun { F.is_begun files.new ≡ false }
 {
-    match tree.export(file, files, visits) {
+    let tree = kept.tree();
+    match export_tree(tree, file, files, visits) {
         Ok(()) => Reply::Exported(tree.len()),
         Err(Failed) => Reply::ErrorFile,
     }

@@ -2,7 +2,7 @@
 ghost use Rattle.std.specs.Prelude.{◌≡◌, ◌&&◌, nat_le, length};
 ghost use Rattle.std.specs.List.{list_all};
 ghost use Rattle.ph_specs.specs.TableNames.{at_most, fits, is_box};
-ghost use Rattle.ph_specs.specs.Command.Command.{Get as AskGet, Relocate as AskRelocate};
+ghost use Rattle.ph_specs.specs.Command.Command.{Begin as AskBegin, Get as AskGet, Relocate as AskRelocate};
 ghost use Rattle.ph_specs.specs.ProgramNames.{most_dims, has_wrong_dims as asks_wrong_dims, has_wrong_kind as asks_wrong_kind};
 ghost use Rattle.ph_specs.specs.RecordNames.{is_width};
 ghost use Rattle.ph_script.specs.Meaning.{command_of, number_of_coord, numbers_of, reply_of};
@@ -39,14 +39,11 @@ impl Refusal {
     }
 }
 
-// Whether the command opens a slot with a number of dimensions or a width that none has.
-pub(crate) fn has_wrong_dims(cmd: &Command<'_>) -> bool
-    ensures { result ≡ asks_wrong_dims (command_of cmd.now) }
+// Whether a slot is opened with a number of dimensions or a width that none has.
+pub(crate) fn has_wrong_dims(kind: Kind, k: u32, width: u32) -> bool
+    ensures { result ≡ asks_wrong_dims (AskBegin kind k width 0) }
 {
-    match cmd {
-        Command::Begin { kind, k, width, .. } => !dims_fit(*kind, *k) || !is_width(*width),
-        _ => false,
-    }
+    !dims_fit(kind, k) || !is_width(width)
 }
 
 fn dims_fit(kind: Kind, k: u32) -> bool

@@ -1,89 +1,166 @@
-//! A table with what belongs to it, and what a command does to it.
-ghost use Rattle.std.specs.Prelude.{◌≡◌, ◌<◌, ◌≤◌, ◌+◌, ◌^◌, None, true, false, not, ◌&&◌, nat_le, length, option_map};
-ghost use Rattle.ph_specs.specs.Command.Command.{Back as AskBack, Begin as AskBegin, Cursor as AskCursor, Page as AskPage};
-ghost use Rattle.ph_specs.specs.ProgramNames.{has_name, has_wrong_dims, lacks_cursor, has_too_many_cursors, opened_dims, new_slot};
+//! A slot of any number of dimensions, and the choice of its number.
+ghost use Rattle.std.specs.Prelude.{◌≡◌, ◌≤◌, ◌<◌, ◌+◌, ◌%◌, ◌^◌, true, false};
+ghost use Rattle.ph_specs.specs.Command.Command.{Begin as AskBegin};
+ghost use Rattle.ph_specs.specs.ProgramNames.{has_wrong_dims, new_slot, opened_dims};
+ghost use Rattle.ph_specs.specs.State.{empty_slot};
 ghost use Rattle.ph_specs.specs.RecordNames.{stats};
-ghost use Rattle.ph_script.specs.Meaning.{command_of, numbers_of, reply_of};
+ghost use Rattle.ph_specs.specs.declared.Kind.TheVariants.{Boxes};
+ghost use Rattle.ph_script.specs.Meaning.{command_of, reply_of};
 ghost use Rattle.ph_script.specs.Fit.{HasDims};
 ghost use Rattle.ph_tree.specs.Stats.{stats_of};
-ghost use Rattle.ph_engine.specs.Causes.{refusal_reply};
-ghost use Rattle.ph_engine.specs.Doing.{Begun, DoneWith, DoneOr, LeavesBegun, is_on_row, is_on_slot, is_sure, is_tried, is_listed};
-ghost use Rattle.ph_engine.specs.Filing.{FiledOr, QuietOr, Replies};
-ghost use Rattle.ph_engine.specs.Refusing.{early_refusal, cursor_refusal};
+ghost use Rattle.ph_engine.specs.AnySlots.{any_slot, variant_dims, IsFrameOf};
+ghost use Rattle.ph_engine.specs.Doing.{Begun, DoneOr, LeavesBegun, is_begin, is_on_slot};
 ghost use Rattle.ph_any_tree.specs.Tables.{engine_of};
 ghost use Rattle.ph_any_tree.specs.Telling.{StopHasCause};
 ghost use Rattle.ph_any_tree.specs.Working.{nodes_of};
-ghost use Rattle.ph_engine.specs.Told.{aside_by, beside_by};
-ghost use Rattle.ph_any_tree.specs.Told.{taken_by};
+ghost use Rattle.ph_engine.specs.Told.{beside_by};
 
-use crate::cursors::{CURSORS, Held, enter, place_of};
-use crate::filing::{load_table, save_table};
-use crate::records::{export_table, import_table};
-use crate::refusals::{Refusal, has_wrong_dims, has_wrong_kind, is_out_of_range, is_reversed};
+use crate::frame::Frame;
+use crate::refusals::has_wrong_dims;
+use crate::slot_of::SlotOf;
 use crate::status::Limits;
-use arrayvec::ArrayVec;
-use ph_any_tree::{Answer, AnyTree, Stop, say, tell};
-use ph_box::Question;
+use ph_any_tree::{Answer, Stop, say};
 use ph_coord::{Kind, Width};
 use ph_io::{Files, Sink};
-use ph_script::{Command, Coords, Name, Reply, Text};
+use ph_script::{Command, Reply, Text};
 use ph_steps::Steps;
-use ph_tree::{NoMemory, Stats};
+use ph_tree::Stats;
 use std::alloc::Global;
-use std::marker::Model;
+use std::mem::replace;
 use std::sync::ledger::Ledger;
 
 mod both;
-mod rows;
 
-/// A table of points or boxes, as a tree, and its cursors in the order of their names. Points have 1 to 16 dimensions, boxes 1 to 8, and
-/// each coordinate has 1 to 62 bits.
+/// A table of points or boxes with its cursors, by its number of dimensions: 1 to 16.
 #[derive(Drop)]
-pub struct Slot {
-    kind: Kind,
-    tree: AnyTree,
-    cursors: ArrayVec<Held, CURSORS>,
+pub enum Slot {
+    D1(SlotOf<1>),
+    D2(SlotOf<2>),
+    D3(SlotOf<3>),
+    D4(SlotOf<4>),
+    D5(SlotOf<5>),
+    D6(SlotOf<6>),
+    D7(SlotOf<7>),
+    D8(SlotOf<8>),
+    D9(SlotOf<9>),
+    D10(SlotOf<10>),
+    D11(SlotOf<11>),
+    D12(SlotOf<12>),
+    D13(SlotOf<13>),
+    D14(SlotOf<14>),
+    D15(SlotOf<15>),
+    D16(SlotOf<16>),
 }
 
-impl Model for Slot {
-    ghost use Rattle.ph_specs.specs.ProgramNames.{Slot as State};
-    ghost use Rattle.ph_any_tree.specs.Tables.{any_table, slot_of};
-    ghost use Rattle.ph_engine.specs.Slots.{named, IsSlot};
+// Runs a body with the slot of whatever number of dimensions.
+macro_rules! with_slot {
+    ($any:expr, $slot:ident => $body:expr) => {
+        match $any {
+            Slot::D1($slot) => $body,
+            Slot::D2($slot) => $body,
+            Slot::D3($slot) => $body,
+            Slot::D4($slot) => $body,
+            Slot::D5($slot) => $body,
+            Slot::D6($slot) => $body,
+            Slot::D7($slot) => $body,
+            Slot::D8($slot) => $body,
+            Slot::D9($slot) => $body,
+            Slot::D10($slot) => $body,
+            Slot::D11($slot) => $body,
+            Slot::D12($slot) => $body,
+            Slot::D13($slot) => $body,
+            Slot::D14($slot) => $body,
+            Slot::D15($slot) => $body,
+            Slot::D16($slot) => $body,
+        }
+    };
+}
 
-    ghost Value = { State };
-
-    ghost view = { λ s. slot_of s.kind (any_table s.tree) (named s.cursors.items) };
-
-    ghost invariant = { λ s. IsSlot s.kind (any_table s.tree) s.cursors.items };
+// Does a command with the slot of whatever number of dimensions, of which boxes have half.
+macro_rules! exec_by_dims {
+    ($any:expr, $($of:ident),* => $($arg:expr),*) => {
+        match $any {
+            Slot::D1(slot) => slot.exec::<0, $($of),*>($($arg),*),
+            Slot::D2(slot) => slot.exec::<1, $($of),*>($($arg),*),
+            Slot::D3(slot) => slot.exec::<1, $($of),*>($($arg),*),
+            Slot::D4(slot) => slot.exec::<2, $($of),*>($($arg),*),
+            Slot::D5(slot) => slot.exec::<2, $($of),*>($($arg),*),
+            Slot::D6(slot) => slot.exec::<3, $($of),*>($($arg),*),
+            Slot::D7(slot) => slot.exec::<3, $($of),*>($($arg),*),
+            Slot::D8(slot) => slot.exec::<4, $($of),*>($($arg),*),
+            Slot::D9(slot) => slot.exec::<4, $($of),*>($($arg),*),
+            Slot::D10(slot) => slot.exec::<5, $($of),*>($($arg),*),
+            Slot::D11(slot) => slot.exec::<5, $($of),*>($($arg),*),
+            Slot::D12(slot) => slot.exec::<6, $($of),*>($($arg),*),
+            Slot::D13(slot) => slot.exec::<6, $($of),*>($($arg),*),
+            Slot::D14(slot) => slot.exec::<7, $($of),*>($($arg),*),
+            Slot::D15(slot) => slot.exec::<7, $($of),*>($($arg),*),
+            Slot::D16(slot) => slot.exec::<8, $($of),*>($($arg),*),
+        }
+    };
 }
 
 impl Slot {
     // An empty table of points of two dimensions and 32 bits, with any number of rows. It takes no memory.
     pub(crate) fn new(alloc: Global) -> Slot
-        ensures { result ≡ new_slot }
+        ensures { any_slot result ≡ new_slot }
     {
-        Slot {
-            kind: Kind::Points,
-            tree: AnyTree::new(alloc, new_width(), 2, u64::MAX),
-            cursors: ArrayVec::new(),
+        Slot::D2(SlotOf::new(alloc, Kind::Points, new_width(), u64::MAX))
+    }
+
+    // An empty table of so many dimensions, for at most so many rows. It takes no memory.
+    fn open(alloc: Global, kind: Kind, w: Width, dims: u32, max: u64) -> Slot
+        requires some { 1 ≤ dims }
+        requires limit { dims ≤ 16 }
+        requires even { kind ≡ Boxes → dims % 2 ≡ 0 }
+        ensures { any_slot result ≡ empty_slot kind dims w max }
+    {
+        match dims {
+            1 => Slot::D1(SlotOf::new(alloc, kind, w, max)),
+            2 => Slot::D2(SlotOf::new(alloc, kind, w, max)),
+            3 => Slot::D3(SlotOf::new(alloc, kind, w, max)),
+            4 => Slot::D4(SlotOf::new(alloc, kind, w, max)),
+            5 => Slot::D5(SlotOf::new(alloc, kind, w, max)),
+            6 => Slot::D6(SlotOf::new(alloc, kind, w, max)),
+            7 => Slot::D7(SlotOf::new(alloc, kind, w, max)),
+            8 => Slot::D8(SlotOf::new(alloc, kind, w, max)),
+            9 => Slot::D9(SlotOf::new(alloc, kind, w, max)),
+            10 => Slot::D10(SlotOf::new(alloc, kind, w, max)),
+            11 => Slot::D11(SlotOf::new(alloc, kind, w, max)),
+            12 => Slot::D12(SlotOf::new(alloc, kind, w, max)),
+            13 => Slot::D13(SlotOf::new(alloc, kind, w, max)),
+            14 => Slot::D14(SlotOf::new(alloc, kind, w, max)),
+            15 => Slot::D15(SlotOf::new(alloc, kind, w, max)),
+            _ => Slot::D16(SlotOf::new(alloc, kind, w, max)),
         }
     }
 
+    // What its rows are.
+    #[inline(always)]
+    fn frame(&self) -> Frame
+        ensures frame { IsFrameOf (any_slot self.now) result }
+        ensures known { (any_slot self.now).dims ≡ variant_dims self.now }
+    {
+        with_slot!(self, slot => slot.frame())
+    }
+
     // The number of dimensions of the points: 1 to 16.
+    #[inline(always)]
     pub(crate) fn dims(&self) -> u32
-        ensures value { result ≡ self.now.dims }
+        ensures value { result ≡ (any_slot self.now).dims }
+        ensures known { result ≡ variant_dims self.now }
         ensures some { 1 ≤ result }
         ensures limit { result ≤ 16 }
     {
-        self.tree.dims()
+        self.frame().dims
     }
 
     // The sizes of its tree. Each node is visited once.
     pub(crate) fn sizes<V: Ledger>(&self, visits: &mut Steps<V>) -> Stats
-        ensures sizes { stats_of result ≡ stats self.now.width self.now.dims self.now.table }
-        ensures visits { visits.new ≡ visits.old + nodes_of self.now }
+        ensures sizes { stats_of result ≡ stats (any_slot self.now).width (any_slot self.now).dims (any_slot self.now).table }
+        ensures visits { visits.new ≡ visits.old + nodes_of (any_slot self.now) }
     {
-        self.tree.sizes(visits)
+        with_slot!(self, slot => slot.sizes(visits))
     }
 
     // Does a command that is about this slot alone, as in an engine whose other slot is new.
@@ -99,162 +176,14 @@ impl Slot {
         visits: &mut Steps<V>,
         changes: &mut Steps<C>,
     ) -> Result<Answer, Stop>
-        requires dims { HasDims self.old.dims cmd.now }
+        requires dims { HasDims (any_slot self.old).dims cmd.now }
         requires file { limits.now.file_bytes < 2 ^ 63 }
         requires slot { is_on_slot (command_of cmd.now) ≡ true }
-        ensures done { DoneOr limits.now.file_bytes (engine_of self.old) (command_of cmd.now)
+        ensures done { DoneOr limits.now.file_bytes (engine_of (any_slot self.old)) (command_of cmd.now)
             (beside_by O.Sink F.Files out.old files.old visits.old changes.old)
             (beside_by O.Sink F.Files out.new files.new visits.new changes.new)
-            (engine_of self.new) result }
+            (engine_of (any_slot self.new)) result }
         ensures cause { StopHasCause (O.faults out.old) (O.faults out.new) result }
-        ensures begun { LeavesBegun (command_of cmd.now) (F.is_begun files.old) (F.is_begun files.new) }
-    {
-        match cmd {
-            Command::Put { at, value } => {
-                let outcome = self.put(at, *value, visits, changes);
-                tell(out, text, &outcome)
-            }
-            Command::Get { at } => {
-                let reply = self.get(at, visits);
-                say(out, text, &reply)
-            }
-            Command::Del { at } => {
-                let outcome = self.del(at, visits, changes);
-                tell(out, text, &outcome)
-            }
-            Command::Relocate { from, to } => {
-                let outcome = self.relocate(from, to, visits, changes);
-                tell(out, text, &outcome)
-            }
-            _ => self.exec_other(alloc, cmd, out, files, limits, text, visits, changes),
-        }
-    }
-
-    // The same of a command about no single row. It is a call of its own, so that the short way of the others stays short.
-    #[inline(never)]
-    fn exec_other<O: Sink, F: Files, V: Ledger, C: Ledger>(
-        &mut self,
-        alloc: Global,
-        cmd: &Command<'_>,
-        out: &mut O,
-        files: &mut F,
-        limits: &Limits,
-        text: &mut Text,
-        visits: &mut Steps<V>,
-        changes: &mut Steps<C>,
-    ) -> Result<Answer, Stop>
-        requires dims { HasDims self.old.dims cmd.now }
-        requires file { limits.now.file_bytes < 2 ^ 63 }
-        requires slot { is_on_slot (command_of cmd.now) ≡ true }
-        requires other { is_on_row (command_of cmd.now) ≡ false }
-        ensures done { DoneOr limits.now.file_bytes (engine_of self.old) (command_of cmd.now)
-            (beside_by O.Sink F.Files out.old files.old visits.old changes.old)
-            (beside_by O.Sink F.Files out.new files.new visits.new changes.new)
-            (engine_of self.new) result }
-        ensures cause { StopHasCause (O.faults out.old) (O.faults out.new) result }
-        ensures begun { LeavesBegun (command_of cmd.now) (F.is_begun files.old) (F.is_begun files.new) }
-    {
-        if let Some(refusal) = self.refusal(cmd) {
-            return say(out, text, &refusal.reply());
-        }
-        match cmd {
-            Command::Load { .. }
-            | Command::Import { .. }
-            | Command::Keep { .. }
-            | Command::Back { .. } => {
-                let outcome = self.try_reply(alloc, cmd, files, limits, visits, changes);
-                tell(out, text, &outcome)
-            }
-            Command::Begin { .. }
-            | Command::Count
-            | Command::Clear
-            | Command::Cursor { .. }
-            | Command::Save { .. }
-            | Command::Export { .. } => {
-                let reply = self.reply(alloc, cmd, files, visits);
-                say(out, text, &reply)
-            }
-            Command::Window { .. }
-            | Command::Page { .. }
-            | Command::Near { .. }
-            | Command::Within { .. }
-            | Command::Overlap { .. }
-            | Command::Inside { .. }
-            | Command::Covers { .. }
-            | Command::Stats => self.list(alloc, cmd, out, text, visits),
-            Command::Put { .. }
-            | Command::Get { .. }
-            | Command::Del { .. }
-            | Command::Relocate { .. }
-            | Command::Select { .. }
-            | Command::Same
-            | Command::Join
-            | Command::Combine { .. } => { unreachable!() }
-        }
-    }
-
-    // Does a command of one reply that may want memory.
-    fn try_reply<F: Files, V: Ledger, C: Ledger>(
-        &mut self,
-        alloc: Global,
-        cmd: &Command<'_>,
-        files: &mut F,
-        limits: &Limits,
-        visits: &mut Steps<V>,
-        changes: &mut Steps<C>,
-    ) -> Result<Reply, NoMemory>
-        requires dims { HasDims self.old.dims cmd.now }
-        requires file { limits.now.file_bytes < 2 ^ 63 }
-        requires unrefused { early_refusal self.old (command_of cmd.now) ≡ None }
-        requires tried { is_tried (command_of cmd.now) ≡ true }
-        ensures filed { FiledOr limits.now.file_bytes (engine_of self.old) (command_of cmd.now)
-            (aside_by F.Files files.old visits.old changes.old)
-            (aside_by F.Files files.new visits.new changes.new)
-            (engine_of self.new) result }
-        ensures begun { F.is_begun files.new ≡ F.is_begun files.old }
-    {
-        match cmd {
-            Command::Load { file } => load_table(
-                &mut self.tree,
-                self.kind,
-                alloc,
-                file,
-                files,
-                limits,
-                changes,
-            ),
-            Command::Import { file, header } => import_table(
-                &mut self.tree,
-                self.kind,
-                alloc,
-                file,
-                *header,
-                files,
-                limits,
-                visits,
-                changes,
-            ),
-            Command::Keep { n } => self.tree.keep(alloc, *n),
-            Command::Back { n } => self.back(*n, visits, changes),
-            _ => unreachable!(),
-        }
-    }
-
-    // Does a command of one reply that wants no memory.
-    fn reply<F: Files, V: Ledger>(
-        &mut self,
-        alloc: Global,
-        cmd: &Command<'_>,
-        files: &mut F,
-        visits: &mut Steps<V>,
-    ) -> Reply
-        requires dims { HasDims self.old.dims cmd.now }
-        requires unrefused { early_refusal self.old (command_of cmd.now) ≡ None }
-        requires sure { is_sure (command_of cmd.now) ≡ true }
-        ensures replies { Replies self.old (command_of cmd.now)
-            (aside_by F.Files files.old visits.old 0)
-            (aside_by F.Files files.new visits.new 0)
-            self.new (reply_of result) }
         ensures begun { LeavesBegun (command_of cmd.now) (F.is_begun files.old) (F.is_begun files.new) }
     {
         match cmd {
@@ -263,196 +192,63 @@ impl Slot {
                 k,
                 width,
                 max,
-            } => self.begin(alloc, *kind, *k, *width, *max),
-            Command::Count => self.tree.count(),
-            Command::Clear => self.tree.clear(alloc),
-            Command::Cursor { name, lo, hi } => self.set_cursor(name, lo, hi),
-            Command::Save { file } => save_table(&self.tree, self.kind, file, files, visits),
-            Command::Export { file } => export_table(&self.tree, file, files, visits),
-            _ => unreachable!(),
+            } => {
+                let reply = self.begin(alloc, *kind, *k, *width, *max);
+                say(out, text, &reply)
+            }
+            _ => self.exec_by(alloc, cmd, out, files, limits, text, visits, changes),
         }
     }
 
-    // Does a command that lists rows, or the sizes of the tree.
-    fn list<O: Sink, V: Ledger>(
+    // The same of a command that leaves the number of dimensions.
+    #[inline(always)]
+    fn exec_by<O: Sink, F: Files, V: Ledger, C: Ledger>(
         &mut self,
         alloc: Global,
         cmd: &Command<'_>,
         out: &mut O,
+        files: &mut F,
+        limits: &Limits,
         text: &mut Text,
         visits: &mut Steps<V>,
-    ) -> Result<Answer, Stop>
-        requires dims { HasDims self.old.dims cmd.now }
-        requires unrefused { early_refusal self.old (command_of cmd.now) ≡ None }
-        requires lists { is_listed (command_of cmd.now) ≡ true }
-        ensures done { DoneWith self.old (command_of cmd.now) (taken_by O.Sink out.old) (taken_by O.Sink out.new) visits.old visits.new self.new result }
-        ensures cause { StopHasCause (O.faults out.old) (O.faults out.new) result }
-    {
-        match cmd {
-            Command::Window { lo, hi } => self.tree.list_window(lo, hi, out, text, visits),
-            Command::Page { name, n } => self.page(name, *n, out, text, visits),
-            Command::Near { q, n } => self.tree.list_near(alloc, q, *n, out, text, visits),
-            Command::Within { q, r } => self.tree.list_ball(q, *r, out, text, visits),
-            Command::Overlap { bounds } => {
-                self.tree
-                    .list_boxes(Question::Overlap, bounds, out, text, visits)
-            }
-            Command::Inside { bounds } => {
-                self.tree
-                    .list_boxes(Question::Inside, bounds, out, text, visits)
-            }
-            Command::Covers { bounds } => {
-                self.tree
-                    .list_boxes(Question::Cover, bounds, out, text, visits)
-            }
-            Command::Stats => self.tree.list_sizes(out, visits),
-            _ => unreachable!(),
-        }
-    }
-
-    // Why it refuses a command, where that is told without files: the first cause in the order of causes.
-    fn refusal(&self, cmd: &Command<'_>) -> Option<Refusal>
-        ensures { option_map refusal_reply result ≡ early_refusal self.now (command_of cmd.now) }
-    {
-        // A use that makes known what a slot keeps.
-        let _tree = &self.tree;
-        if has_wrong_dims(cmd) {
-            return Some(Refusal::Dims);
-        }
-        if has_wrong_kind(self.kind, cmd) {
-            return Some(Refusal::Kind);
-        }
-        if is_out_of_range(self.tree.width(), cmd) {
-            return Some(Refusal::Range);
-        }
-        if is_reversed(self.kind, cmd) {
-            return Some(Refusal::Reversed);
-        }
-        self.cursor_refusal(cmd)
-    }
-
-    // The same of the causes that are about cursors, which come behind the others.
-    fn cursor_refusal(&self, cmd: &Command<'_>) -> Option<Refusal>
-        ensures { option_map refusal_reply result ≡ cursor_refusal self.now (command_of cmd.now) }
-    {
-        if self.lacks_cursor(cmd) {
-            return Some(Refusal::Cursor);
-        }
-        if self.has_too_many_cursors(cmd) {
-            return Some(Refusal::Cursors);
-        }
-        None
-    }
-
-    // Whether the command is a page of a cursor that is not there.
-    fn lacks_cursor(&self, cmd: &Command<'_>) -> bool
-        ensures { result ≡ lacks_cursor self.now (command_of cmd.now) }
-    {
-        match cmd {
-            Command::Page { name, .. } => !self.has_cursor(name),
-            _ => false,
-        }
-    }
-
-    // Whether the command makes a cursor for which there is no room.
-    fn has_too_many_cursors(&self, cmd: &Command<'_>) -> bool
-        ensures { result ≡ has_too_many_cursors self.now (command_of cmd.now) }
-    {
-        match cmd {
-            Command::Cursor { name, .. } => self.has_no_room(name),
-            _ => false,
-        }
-    }
-
-    fn has_no_room(&self, name: &Name) -> bool
-        ensures { result ≡ (not (has_name name.now self.now.cursors) && nat_le 16 (length self.now.cursors)) }
-    {
-        !self.has_cursor(name) && self.cursors.len() >= CURSORS
-    }
-
-    fn has_cursor(&self, name: &Name) -> bool
-        ensures { result ≡ has_name name.now self.now.cursors }
-    {
-        place_of(self.cursors.as_slice(), name).is_ok()
-    }
-
-    // Takes so many of its last edits back, if as many are kept.
-    fn back<V: Ledger, C: Ledger>(
-        &mut self,
-        n: u32,
-        visits: &mut Steps<V>,
         changes: &mut Steps<C>,
-    ) -> Result<Reply, NoMemory>
-        ensures { QuietOr (engine_of self.old) (AskBack n) visits.old visits.new changes.old changes.new (engine_of self.new) result }
+    ) -> Result<Answer, Stop>
+        requires dims { HasDims (any_slot self.old).dims cmd.now }
+        requires file { limits.now.file_bytes < 2 ^ 63 }
+        requires slot { is_on_slot (command_of cmd.now) ≡ true }
+        requires opened { is_begin (command_of cmd.now) ≡ false }
+        ensures done { DoneOr limits.now.file_bytes (engine_of (any_slot self.old)) (command_of cmd.now)
+            (beside_by O.Sink F.Files out.old files.old visits.old changes.old)
+            (beside_by O.Sink F.Files out.new files.new visits.new changes.new)
+            (engine_of (any_slot self.new)) result }
+        ensures cause { StopHasCause (O.faults out.old) (O.faults out.new) result }
+        ensures begun { LeavesBegun (command_of cmd.now) (F.is_begun files.old) (F.is_begun files.new) }
     {
-        if self.tree.steps() < n {
-            return Ok(Reply::ErrorPast);
-        }
-        self.tree.back(n, visits, changes)
+        exec_by_dims!(self, O, F, V, C => alloc, cmd, out, files, limits, text, visits, changes)
     }
 
-    // Makes it a new one for points or boxes of so many dimensions and bits, without cursors.
+    // Makes it a new one for points or boxes of so many dimensions and bits, without cursors, unless none has so many.
+    #[inline(never)]
     fn begin(&mut self, alloc: Global, kind: Kind, k: u32, width: u32, max: u64) -> Reply
+        ensures { Begun (any_slot self.old) (AskBegin kind k width max) (any_slot self.new) (reply_of result) }
+    {
+        if has_wrong_dims(kind, k, width) {
+            return Reply::ErrorDims;
+        }
+        self.renew(alloc, kind, k, width, max)
+    }
+
+    // The same where some slot has so many.
+    fn renew(&mut self, alloc: Global, kind: Kind, k: u32, width: u32, max: u64) -> Reply
         requires { has_wrong_dims (AskBegin kind k width max) ≡ false }
-        ensures { Begun self.old (AskBegin kind k width max) self.new (reply_of result) }
+        ensures { Begun (any_slot self.old) (AskBegin kind k width max) (any_slot self.new) (reply_of result) }
     {
         let Some(w) = Width::new(width) else {
             unreachable!()
         };
-        self.kind = kind;
-        self.tree = AnyTree::new(alloc, w, tree_dims(kind, k), max);
-        self.cursors.clear();
+        // An assignment would let the former table go here, in sixteen arms that each want a proof; `drop` has its own.
+        drop(replace(self, Slot::open(alloc, kind, w, tree_dims(kind, k), max)));
         Reply::Opened
-    }
-
-    // Makes a cursor of this name, in place of one that has it.
-    fn set_cursor(&mut self, name: &Name, lo: &Coords<'_>, hi: &Coords<'_>) -> Reply
-        requires lo { length lo.now ≡ self.old.dims }
-        requires hi { length hi.now ≡ self.old.dims }
-        requires unrefused { early_refusal self.old (AskCursor name.now (numbers_of lo.now) (numbers_of hi.now)) ≡ None }
-        ensures { Begun self.old (AskCursor name.now (numbers_of lo.now) (numbers_of hi.now)) self.new (reply_of result) }
-    {
-        let cursor = self.tree.cursor(lo, hi);
-        enter(
-            &mut self.cursors,
-            Held {
-                name: *name,
-                cursor,
-            },
-        );
-        Reply::Ready
-    }
-
-    // Lists the next rows of the cursor of this name, and moves it behind them unless a write fails.
-    fn page<O: Sink, V: Ledger>(
-        &mut self,
-        name: &Name,
-        n: u32,
-        out: &mut O,
-        text: &mut Text,
-        visits: &mut Steps<V>,
-    ) -> Result<Answer, Stop>
-        requires { early_refusal self.old (AskPage name.now n) ≡ None }
-        ensures done { DoneWith self.old (AskPage name.now n) (taken_by O.Sink out.old) (taken_by O.Sink out.new) visits.old visits.new self.new result }
-        ensures cause { StopHasCause (O.faults out.old) (O.faults out.new) result }
-    {
-        let Ok(i) = place_of(self.cursors.as_slice(), name) else {
-            unreachable!()
-        };
-        let cursor = self.cursors.as_slice()[i].cursor;
-        match self.tree.list_page(&cursor, n, out, text, visits) {
-            Ok(cursor) => {
-                enter(
-                    &mut self.cursors,
-                    Held {
-                        name: *name,
-                        cursor,
-                    },
-                );
-                Ok(Answer::Good)
-            }
-            Err(stop) => Err(stop),
-        }
     }
 }
 
@@ -462,6 +258,7 @@ fn tree_dims(kind: Kind, k: u32) -> u32
     ensures value { result ≡ opened_dims kind k }
     ensures some { 1 ≤ result }
     ensures limit { result ≤ 16 }
+    ensures even { kind ≡ Boxes → result % 2 ≡ 0 }
 {
     match kind {
         Kind::Points => k,

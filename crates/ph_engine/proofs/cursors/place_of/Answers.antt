@@ -3,31 +3,30 @@ use Rattle.std.specs.Prelude.{Err}
 use Rattle.std.specs.Ordering.{nat_cmp}
 use Rattle.std.specs.Cmp.Lexicographic.{slice_cmp}
 use Rattle.ph_engine.specs.declared.cursors.Held.{Held}
-use Rattle.ph_any_tree.specs.Tables.{cursor_of}
 use Rattle.ph_engine.proofs.Names.{behind-less, behind-equal, behind-greater, behind-all}
 use Rattle.ph_engine.proofs.cursors.place_of.Goals as goal
 
 pub loop-i-init : goal.loop-i-init
-loop-i-init c = refl
+loop-i-init g c = refl
 
 pub loop-i-preserved : goal.loop-i-preserved
-loop-i-preserved c =
-    let order = ap {A = Held} (λ h. slice_cmp nat_cmp c.args.name.now h.name) (sym c.index-held-i.is) ∙ sym c.cmp.ensures ∙ c.in-Greater.is in
-    c.loop-i.invariant ∙ behind-greater (λ h. h.name) (λ h. cursor_of h.cursor) c.loop-i.i c.args.name.now c.args.held.now c.index-held-i.result c.loop-i-test.true order
+loop-i-preserved g c =
+    let order = ap {A = Held g.row.D} (λ h. slice_cmp nat_cmp c.args.name.now h.name) (sym c.index-held-i.is) ∙ sym c.cmp.ensures ∙ c.in-Greater.is in
+    c.loop-i.invariant ∙ behind-greater (λ h. h.name) (λ h. h.cursor) c.loop-i.i c.args.name.now c.args.held.now c.index-held-i.result c.loop-i-test.true order
 
 pub returns-in-Less-clause-place : goal.returns-in-Less-clause-place
-returns-in-Less-clause-place c =
-    let order = ap {A = Held} (λ h. slice_cmp nat_cmp c.args.name.now h.name) (sym c.index-held-i.is) ∙ sym c.cmp.ensures ∙ c.in-Less.is in
-    sym (c.loop-i.invariant ∙ behind-less (λ h. h.name) (λ h. cursor_of h.cursor) c.loop-i.i c.args.name.now
+returns-in-Less-clause-place g c =
+    let order = ap {A = Held g.row.D} (λ h. slice_cmp nat_cmp c.args.name.now h.name) (sym c.index-held-i.is) ∙ sym c.cmp.ensures ∙ c.in-Less.is in
+    sym (c.loop-i.invariant ∙ behind-less (λ h. h.name) (λ h. h.cursor) c.loop-i.i c.args.name.now
     c.args.held.now c.index-held-i.result c.loop-i-test.true order)
 
 pub returns-in-Equal-clause-place : goal.returns-in-Equal-clause-place
-returns-in-Equal-clause-place c =
-    let order = ap {A = Held} (λ h. slice_cmp nat_cmp c.args.name.now h.name) (sym c.index-held-i.is) ∙ sym c.cmp.ensures ∙ c.in-Equal.is in
-    sym (c.loop-i.invariant ∙ behind-equal (λ h. h.name) (λ h. cursor_of h.cursor) c.loop-i.i c.args.name.now
+returns-in-Equal-clause-place g c =
+    let order = ap {A = Held g.row.D} (λ h. slice_cmp nat_cmp c.args.name.now h.name) (sym c.index-held-i.is) ∙ sym c.cmp.ensures ∙ c.in-Equal.is in
+    sym (c.loop-i.invariant ∙ behind-equal (λ h. h.name) (λ h. h.cursor) c.loop-i.i c.args.name.now
     c.args.held.now c.index-held-i.result c.loop-i-test.true order)
 
 pub returns-clause-place : goal.returns-clause-place
-returns-clause-place c =
+returns-clause-place g c =
     let all : c.loop-i.i ≡ length c.args.held.now = omega arith in
-    sym (c.loop-i.invariant ∙ behind-all (λ h. h.name) (λ h. cursor_of h.cursor) c.loop-i.i c.args.name.now c.args.held.now c.loop-i-test.false ∙ ap (λ k. Err k) all)
+    sym (c.loop-i.invariant ∙ behind-all (λ h. h.name) (λ h. h.cursor) c.loop-i.i c.args.name.now c.args.held.now c.loop-i-test.false ∙ ap (λ k. Err k) all)

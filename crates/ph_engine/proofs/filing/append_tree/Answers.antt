@@ -14,7 +14,7 @@ fell a b true f works none is rose =
 
 pub returns-in-Err-clause-filled : goal.returns-in-Err-clause-filled
 returns-in-Err-clause-filled g c =
-    let f = c.save.ensures.follows in
-    let no : c.save.new.out.works ≡ false = fell _ _ _ f c.new-sink.ensures.works c.new-sink.ensures.late refl c.in-Err.ensures.cause.failed in
+    let f = c.save_tree.ensures.follows in
+    let no : c.save_tree.new.out.works ≡ false = fell _ _ _ f c.new-sink.ensures.works c.new-sink.ensures.late refl c.in-Err.ensures.cause.failed in
     let rose = f.fell c.new-sink.ensures.works no in
     search (rules, no, rose)

@@ -1,6 +1,6 @@
 use Rattle.std.proofs.Common.{refl}
 use Rattle.ph_specs.specs.Command.{Command}
-use Rattle.ph_any_tree.specs.Tables.{any_table, slot_of}
+use Rattle.ph_any_tree.specs.Tables.{table_at, slot_of}
 use Rattle.ph_engine.proofs.Filed.{fetch-load, read-filed-or, unfetched-filed-or}
 use Rattle.ph_engine.proofs.Loads.{same-frame-still}
 use Rattle.ph_engine.proofs.filing.load_table.Goals as goal
@@ -11,10 +11,10 @@ returns-in-Ok-clause-loaded g c =
     let loads = c.load_bytes.ensures in
     record {
       filed = λ visits cursors.
-          read-filed-or c.args.limits.now.file_bytes c.args.kind (any_table c.args.tree.now) cursors c.args.file.now c.as_slice.result.now
+          read-filed-or c.args.limits.now.file_bytes c.args.kind (table_at g.row.D c.args.kept.now) cursors c.args.file.now c.as_slice.result.now
           (g.F.Files.faults c.args.files.now) (g.F.Files.faults c.fetch.new.self) visits c.args.changes.now
           c.load_bytes.new.changes
-          (g.F.Files.files c.args.files.now) (g.F.Files.files c.fetch.new.self) (any_table c.load_bytes.new.tree)
+          (g.F.Files.files c.args.files.now) (g.F.Files.files c.fetch.new.self) (table_at g.row.D c.load_bytes.new.kept)
           c.load_bytes.result (rw (c.as_slice.ensures.value, ← c.as_str.ensures.value) e.fetches) (rw c.as_slice.ensures.value e.within)
           e.files e.counts loads.loads loads.within.kept loads.within.few loads.nodes;
     }
@@ -22,7 +22,7 @@ returns-in-Ok-clause-loaded g c =
 pub returns : goal.returns
 returns g c =
     let e = c.in-Err.ensures in
-    let t = any_table c.args.tree.now in
+    let t = table_at g.row.D c.args.kept.now in
     record {
       frame = same-frame-still c.args.kind t;
       begun = e.is_begun;

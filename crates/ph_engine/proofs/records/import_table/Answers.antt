@@ -1,6 +1,6 @@
 use Rattle.std.proofs.Common.{refl}
 use Rattle.ph_specs.specs.Command.{Command}
-use Rattle.ph_any_tree.specs.Tables.{any_table, slot_of}
+use Rattle.ph_any_tree.specs.Tables.{table_at, slot_of}
 use Rattle.ph_engine.proofs.Filed.{unfetched-filed-or}
 use Rattle.ph_engine.proofs.Recorded.{fetch-import, imported-filed-or}
 use Rattle.ph_engine.proofs.Loads.{same-frame-still}
@@ -9,21 +9,21 @@ use Rattle.ph_engine.proofs.records.import_table.Goals as goal
 pub returns-in-Ok-clause-imported : goal.returns-in-Ok-clause-imported
 returns-in-Ok-clause-imported g c =
     let e = c.in-Ok.ensures in
-    let i = c.import.ensures in
+    let i = c.import_text.ensures in
     record {
       filed = λ cursors.
-          imported-filed-or c.args.limits.now.file_bytes c.args.kind (any_table c.args.tree.now) cursors c.args.file.now c.as_slice.result.now
+          imported-filed-or c.args.limits.now.file_bytes c.args.kind (table_at g.row.D c.args.kept.now) cursors c.args.file.now c.as_slice.result.now
           c.args.header (g.F.Files.faults c.args.files.now) (g.F.Files.faults c.fetch.new.self) c.args.visits.now
-          c.import.new.visits c.args.changes.now c.import.new.changes
-          (g.F.Files.files c.args.files.now) (g.F.Files.files c.fetch.new.self) (any_table c.import.new.self)
-          c.import.result (rw (c.as_slice.ensures.value, ← c.as_str.ensures.value) e.fetches) (rw c.as_slice.ensures.value e.within)
+          c.import_text.new.visits c.args.changes.now c.import_text.new.changes
+          (g.F.Files.files c.args.files.now) (g.F.Files.files c.fetch.new.self) (table_at g.row.D c.import_text.new.kept)
+          c.import_text.result (rw (c.as_slice.ensures.value, ← c.as_str.ensures.value) e.fetches) (rw c.as_slice.ensures.value e.within)
           e.files e.counts i.imports i.later i.few_visits i.kept i.few_changes;
     }
 
 pub returns : goal.returns
 returns g c =
     let e = c.in-Err.ensures in
-    let t = any_table c.args.tree.now in
+    let t = table_at g.row.D c.args.kept.now in
     let name = c.args.file.now in
     record {
       frame = same-frame-still c.args.kind t;

@@ -1,4 +1,5 @@
 use Rattle.std.proofs.Common.{arith, rules, ap, ◌∙◌, ◌%◌, ◌<◌, ◌+◌, ◌^◌}
+use Rattle.ph_engine.specs.AnySlots.{any_slot}
 use Rattle.ph_tree.specs.Stats.{stats_of}
 use Rattle.ph_any_tree.specs.Working.{nodes_of}
 use Rattle.ph_engine.proofs.Soaks.{HasSoaked, all_drawn, soak_clean, soak_cut, sizes_line_is}
@@ -21,7 +22,7 @@ has_soaked g c =
       fits = omega (arith, small, c.taken.ensures);
       sized = c.sizes-sizes.ensures.visits ∙ ap (λ s. c.exec_all.new.visits + nodes_of s) c.slot.ensures;
       said = c.as_bytes.ensures.value ∙ c.as_str.ensures.value ∙ c.soak_line-line.ensures ∙
-          sizes_line_is c.args.n (stats_of c.sizes-sizes.result) c.slot.result.now c.exec_all.new.eng.a c.taken.result
+          sizes_line_is c.args.n (stats_of c.sizes-sizes.result) (any_slot c.slot.result.now) c.exec_all.new.eng.a c.taken.result
           c.exec_all.new.replies c.sizes-sizes.ensures.sizes c.slot.ensures c.taken.ensures;
     }
 

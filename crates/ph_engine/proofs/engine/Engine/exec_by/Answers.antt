@@ -2,6 +2,7 @@ use Rattle.std.proofs.Common.{refl}
 use Rattle.ph_specs.specs.Command.{Command as Asked}
 use Rattle.ph_specs.specs.declared.Which.TheVariants.{A, B}
 use Rattle.ph_script.specs.Meaning.{command_of}
+use Rattle.ph_engine.specs.AnySlots.{any_slot}
 use Rattle.ph_engine.proofs.Commanded.{select-done, compare-done, tells-said}
 use Rattle.ph_engine.proofs.Filed.{done-filed}
 use Rattle.ph_engine.proofs.Lifted.{done-at, on-slot}
@@ -36,12 +37,12 @@ returns-in-Combine-clause-done g c =
 
 pub returns-in-A-clause-done : goal.returns-in-A-clause-done
 returns-in-A-clause-done g c =
-    done-at c.args.limits.now.file_bytes c.args.self.now _ c.exec.new.self A (command_of c.args.cmd.now) _ _ c.exec.result
+    done-at c.args.limits.now.file_bytes c.args.self.now _ (any_slot c.exec.new.self) A (command_of c.args.cmd.now) _ _ c.exec.result
     c.self.view_is c.in-A.is (on-slot c.args.cmd.now c.in_default.not-Select c.in_default.not-Same c.in_default.not-Join
     c.in_default.not-Combine) c.exec.ensures.done
 
 pub returns-in-B-clause-done : goal.returns-in-B-clause-done
 returns-in-B-clause-done g c =
-    done-at c.args.limits.now.file_bytes c.args.self.now _ c.exec-in-B.new.self B (command_of c.args.cmd.now) _ _ c.exec-in-B.result
+    done-at c.args.limits.now.file_bytes c.args.self.now _ (any_slot c.exec-in-B.new.self) B (command_of c.args.cmd.now) _ _ c.exec-in-B.result
     c.self.view_is c.in-B.is (on-slot c.args.cmd.now c.in_default.not-Select c.in_default.not-Same c.in_default.not-Join
     c.in_default.not-Combine) c.exec-in-B.ensures.done

@@ -1,5 +1,8 @@
-use Rattle.ph_engine.proofs.Slotted.{slot-opened}
+use Rattle.std.proofs.Common.{◌∙◌, sym}
+use Rattle.ph_engine.specs.AnySlots.{any_slot}
+use Rattle.ph_engine.proofs.Refused.{wrong-dims-begun}
 use Rattle.ph_engine.proofs.slot.Slot.begin.Goals as goal
 
-pub invariant_of-self : goal.invariant_of-self
-invariant_of-self c = rw (c.new-2.ensures, c.clear.ensures) (slot-opened c.args.kind c.args.k c.tree_dims.result c.in-Some.w c.args.max c.tree_dims.ensures.value)
+pub returns-then-has_wrong_dims : goal.returns-then-has_wrong_dims
+returns-then-has_wrong_dims c =
+    wrong-dims-begun (any_slot c.args.self.now) c.args.kind c.args.k c.args.width c.args.max (sym c.has_wrong_dims.ensures ∙ c.if-has_wrong_dims.true)

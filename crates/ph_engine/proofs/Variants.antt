@@ -1,0 +1,56 @@
+-- Slots by their number of dimensions.
+use Rattle.std.proofs.Common.{◌≡◌, ℕ, List, [], ◌∷◌, refl, ap, sym, ◌∙◌, get_or}
+use Rattle.std.specs.Prelude.{◌-◌, ◌%◌}
+use Rattle.ph_specs.specs.State.{Slot as State}
+use Rattle.ph_engine.specs.AnySlots.{any_slot, variant_dims}
+use Rattle.ph_engine.specs.declared.slot.Slot.{Slot}
+use Rattle.ph_engine.specs.declared.slot.Slot.TheVariants as slot
+
+-- the slots of each number of dimensions, from 1 on
+abbrev variants : List (State → Slot)
+variants = slot.D1 ∷ slot.D2 ∷ slot.D3 ∷ slot.D4 ∷ slot.D5 ∷ slot.D6 ∷ slot.D7 ∷ slot.D8 ∷ slot.D9 ∷ slot.D10 ∷ slot.D11 ∷ slot.D12 ∷ slot.D13 ∷ slot.D14 ∷ slot.D15 ∷ slot.D16 ∷ []
+
+-- a slot is known by its number of dimensions
+abbrev pub by_dims : ℕ → State → Slot
+by_dims dims = get_or variants (dims - 1) slot.D1
+
+by-dims : (s : Slot) → s ≡ by_dims (variant_dims s) (any_slot s)
+by-dims (slot.D1 s) = refl
+by-dims (slot.D2 s) = refl
+by-dims (slot.D3 s) = refl
+by-dims (slot.D4 s) = refl
+by-dims (slot.D5 s) = refl
+by-dims (slot.D6 s) = refl
+by-dims (slot.D7 s) = refl
+by-dims (slot.D8 s) = refl
+by-dims (slot.D9 s) = refl
+by-dims (slot.D10 s) = refl
+by-dims (slot.D11 s) = refl
+by-dims (slot.D12 s) = refl
+by-dims (slot.D13 s) = refl
+by-dims (slot.D14 s) = refl
+by-dims (slot.D15 s) = refl
+by-dims (slot.D16 s) = refl
+
+-- a slot that has as many dimensions as another
+pub same-variant : (a b variant : Slot) → variant_dims a ≡ variant_dims b → a ≡ variant → b ≡ by_dims (variant_dims variant) (any_slot b)
+same-variant a b variant d e = by-dims b ∙ ap (λ n. by_dims n (any_slot b)) (sym d ∙ ap variant_dims e)
+
+-- one with an even number of dimensions
+pub even-variant : (s : Slot) → variant_dims s % 2 ≡ 0 → ((x : State) → s ≡ slot.D2 x → ⊥) → ((x : State) → s ≡ slot.D4 x → ⊥) → ((x : State) → s ≡ slot.D6 x → ⊥) → ((x : State) → s ≡ slot.D8 x → ⊥) → ((x : State) → s ≡ slot.D10 x → ⊥) → ((x : State) → s ≡ slot.D12 x → ⊥) → ((x : State) → s ≡ slot.D14 x → ⊥) → ((x : State) → s ≡ slot.D16 x → ⊥) → ⊥
+even-variant (slot.D1 x) e n2 n4 n6 n8 n10 n12 n14 n16 = absurd (let odd : 1 ≡ 0 = e in cc)
+even-variant (slot.D2 x) e n2 n4 n6 n8 n10 n12 n14 n16 = n2 x refl
+even-variant (slot.D3 x) e n2 n4 n6 n8 n10 n12 n14 n16 = absurd (let odd : 1 ≡ 0 = e in cc)
+even-variant (slot.D4 x) e n2 n4 n6 n8 n10 n12 n14 n16 = n4 x refl
+even-variant (slot.D5 x) e n2 n4 n6 n8 n10 n12 n14 n16 = absurd (let odd : 1 ≡ 0 = e in cc)
+even-variant (slot.D6 x) e n2 n4 n6 n8 n10 n12 n14 n16 = n6 x refl
+even-variant (slot.D7 x) e n2 n4 n6 n8 n10 n12 n14 n16 = absurd (let odd : 1 ≡ 0 = e in cc)
+even-variant (slot.D8 x) e n2 n4 n6 n8 n10 n12 n14 n16 = n8 x refl
+even-variant (slot.D9 x) e n2 n4 n6 n8 n10 n12 n14 n16 = absurd (let odd : 1 ≡ 0 = e in cc)
+even-variant (slot.D10 x) e n2 n4 n6 n8 n10 n12 n14 n16 = n10 x refl
+even-variant (slot.D11 x) e n2 n4 n6 n8 n10 n12 n14 n16 = absurd (let odd : 1 ≡ 0 = e in cc)
+even-variant (slot.D12 x) e n2 n4 n6 n8 n10 n12 n14 n16 = n12 x refl
+even-variant (slot.D13 x) e n2 n4 n6 n8 n10 n12 n14 n16 = absurd (let odd : 1 ≡ 0 = e in cc)
+even-variant (slot.D14 x) e n2 n4 n6 n8 n10 n12 n14 n16 = n14 x refl
+even-variant (slot.D15 x) e n2 n4 n6 n8 n10 n12 n14 n16 = absurd (let odd : 1 ≡ 0 = e in cc)
+even-variant (slot.D16 x) e n2 n4 n6 n8 n10 n12 n14 n16 = n16 x refl
