@@ -10,7 +10,7 @@ use Rattle.ph_script.specs.declared.reply.Reply.{Reply as Told}
 use Rattle.ph_specs.proofs.laws.BoxRows.{boxes-put}
 use Rattle.ph_any_tree.specs.Tables.{SameFrame, AnyTable, IsOfKind}
 use Rattle.ph_specs.specs.Sets.{put_all}
-use Rattle.ph_any_tree.specs.Recording.{first_rows, has_none, ImportsOr, is_overfull, table_with, table_with_some}
+use Rattle.ph_any_tree.specs.Recording.{first_rows, is_renewed, ImportsOr, is_overfull, table_with, table_with_some}
 
 pub of-kind-still : (kind : Kind) (t now : AnyTable) → now.dims ≡ t.dims →
     (kind ≡ Boxes → AreBoxes t.tree.table → AllByRecursion AreBoxes t.tree.past →
@@ -53,7 +53,7 @@ rows-frame kind t now rows (Ok reply) b h =
     rw h.0 (elim (is_overfull t rows) as (λ full. SameFrame kind t (if full then t else table_with t rows))
     [ true ↦ frame-still kind t | false ↦ frame-with kind t rows b ])
 rows-frame kind t now rows (Err error) b h =
-    rw h.1 (elim (is_overfull t rows || has_none t.tree.table) as (λ full. SameFrame kind t (if full then t else table_with_some t (first_rows h.0 rows))) [
+    rw h.1 (elim (is_overfull t rows || is_renewed t.tree.table rows) as (λ full. SameFrame kind t (if full then t else table_with_some t (first_rows h.0 rows))) [
       | true ↦ frame-still kind t
       | false ↦ frame-some kind t (first_rows h.0 rows) (λ e. boxes-take h.0 (take (length rows - 1) rows) (boxes-take (length rows - 1) rows (b e)))
     ])

@@ -1,5 +1,5 @@
 -- What imports and exports do to a table.
-use Rattle.std.specs.Prelude.{◌≡◌, ℕ, ◌≤◌, ◌+◌, ◌-◌, Bool, true, false, ◌||◌, nat_lt, if◌then◌else◌, List, [], ◌∷◌, length, take, Result, Ok, Err}
+use Rattle.std.specs.Prelude.{◌≡◌, ℕ, ◌≤◌, ◌+◌, ◌-◌, Bool, true, false, ◌||◌, nat_lt, nat_le, if◌then◌else◌, List, [], ◌∷◌, length, take, Result, Ok, Err}
 use Rattle.ph_specs.specs.Reply.{Reply}
 use Rattle.ph_specs.specs.Table.{Row}
 use Rattle.ph_specs.specs.Sets.{put_all}
@@ -16,10 +16,9 @@ use Rattle.ph_any_tree.specs.Working.{import_bounds}
 use Rattle.ph_any_tree.specs.Shelves.{Shelf, Filled, Unfilled, Entered}
 use Rattle.ph_io.specs.declared.streams.Failed.{Failed}
 
--- whether a table has no row
-abbrev pub has_none : List Row → Bool
-has_none [] = true
-has_none (r ∷ rows) = false
+-- whether a table has no more rows than come, so that it gets them all or none
+abbrev pub is_renewed : List Row → List Row → Bool
+is_renewed table rows = nat_le (length table) (length rows)
 
 -- at most so many rows in front, and never all
 abbrev pub first_rows : ℕ → List Row → List Row
@@ -51,9 +50,9 @@ imported_reply t (Err fault) = fault
 abbrev pub table_with_some : AnyTable → List Row → AnyTable
 table_with_some t rows = table_at t.dims (with_some t.tree rows)
 
--- the table with some first rows of those that were read, and not all of them, if it has rows and the import would be done
+-- the table with some first rows of those that were read, and not all of them, if it has more rows than these and the import would be done
 abbrev pub table_with_first : AnyTable → ℕ → Result (List Row) Reply → AnyTable
-table_with_first t part (Ok rows) = if is_overfull t rows || has_none t.tree.table then t else table_with_some t (first_rows part rows)
+table_with_first t part (Ok rows) = if is_overfull t rows || is_renewed t.tree.table rows then t else table_with_some t (first_rows part rows)
 table_with_first t part (Err fault) = t
 
 -- the bounds of an import

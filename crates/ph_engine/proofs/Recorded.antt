@@ -15,7 +15,7 @@ use Rattle.ph_specs.specs.declared.Kind.{Kind}
 use Rattle.ph_script.specs.declared.reply.Reply.{Reply as Told}
 use Rattle.ph_script.specs.Meaning.{reply_of}
 use Rattle.ph_import.specs.Imported.{with_some}
-use Rattle.ph_any_tree.specs.Recording.{first_rows, has_none, import_changes, import_visits, ImportsOr, imported_table, imported_reply, is_overfull}
+use Rattle.ph_any_tree.specs.Recording.{first_rows, is_renewed, import_changes, import_visits, ImportsOr, imported_table, imported_reply, is_overfull}
 use Rattle.ph_any_tree.specs.Recording.{table_with, table_with_some, table_with_first}
 use Rattle.ph_engine.specs.Doing.{rows_put, with_first}
 use Rattle.ph_engine.specs.Beside.{aside}
@@ -38,7 +38,7 @@ full-first : (kind : Kind) (t : AnyTable) (cursors : Named Cursor) (part : ℕ) 
     engine_of (slot_of kind (table_with_first t part (Ok rows)) cursors) ≡
     with_first (engine_of (slot_of kind t cursors)) part (rows_put (slot_of kind t cursors) (Ok rows))
 full-first kind t cursors part rows =
-    elim (is_overfull t rows || has_none t.tree.table)
+    elim (is_overfull t rows || is_renewed t.tree.table rows)
     as (λ b. engine_of (slot_of kind (if b then t else table_with_some t (first_rows part rows)) cursors) ≡
     with_first (engine_of (slot_of kind t cursors)) part (if b then None else Some rows)) [
       | true ↦ refl

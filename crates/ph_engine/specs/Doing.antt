@@ -23,7 +23,7 @@ use Rattle.ph_any_tree.specs.declared.answer.Stop.{Stop}
 use Rattle.ph_any_tree.specs.declared.answer.Stop.TheVariants.{WriteFault, NoMemory}
 use Rattle.ph_any_tree.specs.Telling.{refuses}
 use Rattle.ph_any_tree.specs.Served.{DoesAt, MostAt, LeastAt, takes_memory}
-use Rattle.ph_any_tree.specs.Recording.{has_none, first_rows}
+use Rattle.ph_any_tree.specs.Recording.{is_renewed, first_rows}
 
 -- ---- all commands
 
@@ -158,9 +158,9 @@ is_page _ = false
 abbrev pub cut_engine : Engine → Command → Engine → Engine
 cut_engine e command after = if is_page command then e else after
 
--- the rows that an import puts one after another, if it has read them and the table has some and may have them too
+-- the rows that an import puts one after another, if it has read them and the table has more than these and may have them too
 abbrev pub rows_put : Slot → Result (List Row) Reply → Option (List Row)
-rows_put s (Ok rows) = if nat_lt s.max (length (put_all s.width s.table rows)) || has_none s.table then None else Some rows
+rows_put s (Ok rows) = if nat_lt s.max (length (put_all s.width s.table rows)) || is_renewed s.table rows then None else Some rows
 rows_put s (Err fault) = None
 
 abbrev pub imported : Slot → Files → Command → Option (List Row)

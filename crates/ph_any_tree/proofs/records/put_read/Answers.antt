@@ -8,4 +8,4 @@ pub returns-in-Err-NoMemory-clause-imports : goal.returns-in-Err-NoMemory-clause
 returns-in-Err-NoMemory-clause-imports g c =
     let e = c.in-Err-NoMemory.ensures in
     starved-put (table_at g.row.D c.args.kept.now) c.import_rows.new.kept c.args.rows.items c.in-Err-NoMemory.field-0
-    e.done.unchanged e.whole (e.fault (ap Err c.in-Err-NoMemory.field-0-is))
+    e.done.unchanged e.at_once (e.fault (ap Err c.in-Err-NoMemory.field-0-is))
