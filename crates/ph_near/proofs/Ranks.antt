@@ -1,5 +1,5 @@
 -- Heaps of rows that were found, and of what waits.
-use Rattle.std.proofs.Common.{◌≡◌, inl, inr, ℕ, zero, suc, ◌<◌, ◌≤◌, refl, sym, ◌∙◌, ap, subst, arith, Bool}
+use Rattle.std.proofs.Common.{◌≡◌, inl, inr, ℕ, zero, suc, ◌<◌, ◌≤◌, ◌^◌, refl, sym, ◌∙◌, ap, subst, arith, Bool}
 use Rattle.std.proofs.Common.{true, false, List, [], ◌∷◌, ◌++◌, length, get_or, append-nil, ltb-false}
 use Rattle.std.specs.Prelude.{nat_lt, Result, Ok, Err, OnOk}
 use Rattle.std.specs.Ordering.{is_lt}
@@ -16,7 +16,7 @@ use Rattle.ph_specs.proofs.lemmas.Gathered.{Each-permutation}
 use Rattle.ph_near.specs.declared.found.Found.{Found}
 use Rattle.ph_near.specs.declared.waiting.Waiting.{Waiting}
 use Rattle.ph_near.specs.Found.{found_cmp}
-use Rattle.ph_near.specs.Ranking.{IsAdded, IsBeyond, IsWanted}
+use Rattle.ph_near.specs.Ranking.{IsAdded, IsBeyond, IsLimit, IsWanted}
 use Rattle.ph_near.specs.Waiting.{waiting_cmp}
 use Rattle.ph_near.proofs.FoundOrder.{last-chain, last-way, last-all, no-farther}
 
@@ -67,6 +67,10 @@ module _ {d : ℕ} where
 
   pub last-wanted : (n : ℕ) (rows : List (Found d)) (x : Found d) → 0 < length rows → x ≡ get_or rows 0 x → (t : ℕ) → t ≤ x.distance → IsWanted n rows t
   last-wanted n rows x l e t m = inr (x, first-there x rows l e, m)
+
+  -- of fewer than n rows there is no limit
+  pub limit-none : (n : ℕ) (rows : List (Found d)) → length rows < n → IsLimit n rows 340282366920938463463374607431768211455
+  limit-none n rows l = record { beyond = λ t a b. absurd (omega (arith, a, b)); wanted = λ t a. inl l }
 
   -- there is room
   pub added-few : (n : ℕ) (x : Found d) (old new : List (Found d)) → length old < n → IsPermutation (x ∷ old) new → IsAdded n x old new

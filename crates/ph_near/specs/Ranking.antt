@@ -1,5 +1,5 @@
 -- The best rows that were found.
-use Rattle.std.specs.Prelude.{◌≡◌, ℕ, ◌<◌, ◌≤◌, ◌⊎◌, List, [], ◌∷◌, ◌++◌, length, map}
+use Rattle.std.specs.Prelude.{◌≡◌, ℕ, ◌^◌, ◌<◌, ◌≤◌, ◌⊎◌, List, [], ◌∷◌, ◌++◌, length, map}
 use Rattle.std.specs.BinaryHeap.{heap_items, IsHeap, IsUpperBound, lt_by_cmp}
 use Rattle.std.specs.List.{AllByRecursion as Each}
 use Rattle.std.specs.List.Sorted.{IsPermutation, IsSortedBy}
@@ -11,7 +11,7 @@ use Rattle.ph_near.specs.declared.ranking.Ranking.{Ranking}
 use Rattle.ph_near.specs.Found.{found_cmp}
 
 -- at most n rows, the last one on top
-pub record IsRanking {d : ℕ} (r : Ranking d) : Type 0 where
+pub record IsRanked {d : ℕ} (r : Ranking d) : Type 0 where
   pub some : 1 ≤ r.n
   pub order : IsHeap found_cmp (heap_items r.rows)
   pub few : length (heap_items r.rows) ≤ r.n
@@ -24,6 +24,16 @@ pub record IsBeyond {d : ℕ} (n : ℕ) (rows : List (Found d)) (t : ℕ) : Type
 -- fewer than n of the rows are nearer than t
 abbrev pub IsWanted : {d : ℕ} → ℕ → List (Found d) → ℕ → Type 0
 IsWanted {d} n rows t = (length rows < n) ⊎ ((f : Found d) × In f rows × (t ≤ f.distance))
+
+-- what is farther is none of the n nearest
+pub record IsLimit {d : ℕ} (n : ℕ) (rows : List (Found d)) (limit : ℕ) : Type 0 where
+  pub beyond : (t : ℕ) → limit < t → t < 2 ^ 128 → IsBeyond n rows t
+  pub wanted : (t : ℕ) → t ≤ limit → IsWanted n rows t
+
+pub record IsRanking {d : ℕ} (r : Ranking d) : Type 0 where
+  pub ranked : IsRanked r
+  pub open ranked use *
+  pub limit : IsLimit r.n (heap_items r.rows) r.limit
 
 -- a row comes to others, of which the first n stay
 pub record IsAdded {d : ℕ} (n : ℕ) (x : Found d) (old new : List (Found d)) : Type 0 where

@@ -19,7 +19,7 @@ use crate::beyond::is_point_beyond;
 use crate::found::Found;
 use crate::halves::Distances;
 use crate::ranking::Ranking;
-use crate::sums::{FEW_DIMS as DIRECT_DIMS, Sums};
+use crate::sums::{DIRECT_DIMS, Sums};
 use crate::waiting::Waiting;
 use ph_coord::Width;
 use ph_node::{NoMemory, Node, NodeRef, NodeRefOf, Spot, WhatOf};

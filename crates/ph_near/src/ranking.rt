@@ -6,7 +6,7 @@ ghost use Rattle.std.specs.List.{AllByRecursion as Each};
 ghost use Rattle.std.specs.List.Sorted.{IsPermutation};
 ghost use Rattle.ph_model.specs.ModelNames.{IsBody};
 ghost use Rattle.ph_near.specs.Found.{found_cmp};
-ghost use Rattle.ph_near.specs.Ranking.{IsRanking, IsAdded, IsBeyond, IsWanted, IsListed};
+ghost use Rattle.ph_near.specs.Ranking.{IsRanked, IsRanking, IsLimit, IsAdded, IsBeyond, IsWanted, IsListed};
 
 use crate::found::Found;
 use ph_coord::{Point, Row, Width};
@@ -17,11 +17,13 @@ use std::alloc::Global;
 use std::cmp::min;
 use std::collections::BinaryHeap;
 
-// The first n rows of those that were found, or all where these are fewer. The last of them is on top.
+// The first n rows of those that were found, or all where these are fewer. The last of them is on top. The limit is looked at for each
+// entry of a node, and changes with a row alone.
 #[derive(Drop)]
 pub(crate) struct Ranking<const D: usize> {
     n: usize,
     rows: BinaryHeap<Found<D>>,
+    limit: u128,
 }
 
 impl<const D: usize> Ranking<D> {
@@ -35,7 +37,11 @@ impl<const D: usize> Ranking<D> {
         ensures ranking { IfOk result (λ r. IsRanking r) }
     {
         let rows = BinaryHeap::with_capacity(alloc, min(n, tree.len() as usize))?;
-        Ok(Ranking { n, rows })
+        Ok(Ranking {
+            n,
+            rows,
+            limit: u128::MAX,
+        })
     }
 
     // How far the last of n rows is: what is farther is none of the n nearest.
@@ -45,6 +51,15 @@ impl<const D: usize> Ranking<D> {
         requires ranking { IsRanking self.now }
         ensures beyond { (t : ℕ) → result < t → t < 2 ^ 128 → IsBeyond self.now.n (heap_items self.now.rows) t }
         ensures wanted { (t : ℕ) → t ≤ result → IsWanted self.now.n (heap_items self.now.rows) t }
+    {
+        self.limit
+    }
+
+    // The limit of the rows that are ranked.
+    fn last_distance(&self) -> u128
+        requires few { D ≤ 16 }
+        requires ranked { IsRanked self.now }
+        ensures { IsLimit self.now.n (heap_items self.now.rows) result }
     {
         if self.rows.len() < self.n {
             return u128::MAX;
@@ -57,9 +72,23 @@ impl<const D: usize> Ranking<D> {
 
     // Takes in a row if it is one of the first n of those found.
     pub(crate) fn add(&mut self, found: Found<D>) -> Result<(), NoMemory>
-        requires { IsRanking self.old }
+        requires few { D ≤ 16 }
+        requires ranking { IsRanking self.old }
         ensures n { self.new.n ≡ self.old.n }
         ensures ranking { OnOk result (IsRanking self.new) }
+        ensures added { OnOk result (IsAdded self.old.n found.entry (heap_items self.old.rows) (heap_items self.new.rows)) }
+    {
+        self.rank(found)?;
+        self.limit = self.last_distance();
+        Ok(())
+    }
+
+    // The same to the rows alone.
+    #[inline(always)]
+    fn rank(&mut self, found: Found<D>) -> Result<(), NoMemory>
+        requires { IsRanked self.old }
+        ensures n { self.new.n ≡ self.old.n }
+        ensures ranked { OnOk result (IsRanked self.new) }
         ensures added { OnOk result (IsAdded self.old.n found.entry (heap_items self.old.rows) (heap_items self.new.rows)) }
     {
         if self.rows.len() < self.n {

@@ -9,7 +9,7 @@ use crate::halves::Halves;
 use crate::tables::Tables;
 
 // In up to so many dimensions, and for up to so many entries, a sum is made anew as fast as tables are made and read.
-pub(crate) const FEW_DIMS: usize = 4;
+pub(crate) const DIRECT_DIMS: usize = 4;
 
 const FEW_ENTRIES: usize = 8;
 
@@ -31,7 +31,7 @@ impl<const D: usize> Sums<D> {
         ensures sums { AreSums result }
     {
         let halves = Halves::new(level, known, center);
-        if D <= FEW_DIMS || entries <= FEW_ENTRIES {
+        if D <= DIRECT_DIMS || entries <= FEW_ENTRIES {
             return Sums::Direct(halves);
         }
         Sums::Tabled(Tables::new(halves))

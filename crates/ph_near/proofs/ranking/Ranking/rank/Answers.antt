@@ -6,13 +6,13 @@ use Rattle.ph_near.specs.Ranking.{IsAdded}
 use Rattle.ph_near.proofs.Ranks.{on-both, added-few, added-in, added-out, added-at, moved-as}
 use Rattle.std.specs.BinaryHeap.PeekMut.{peek_mut_top, peek_mut_rest, HasRoomForTop}
 use Rattle.ph_near.specs.Found.{found_cmp}
-use Rattle.ph_near.proofs.ranking.Ranking.add.Goals.{then-is_lt, else-is_lt}
-use Rattle.ph_near.proofs.ranking.Ranking.add.Goals as goal
+use Rattle.ph_near.proofs.ranking.Ranking.rank.Goals.{then-is_lt, else-is_lt}
+use Rattle.ph_near.proofs.ranking.Ranking.rank.Goals as goal
 
 -- ---- there is room
 
-pub returns-then-len-self-clause-ranking : goal.returns-then-len-self-clause-ranking
-returns-then-len-self-clause-ranking g c =
+pub returns-then-len-self-clause-ranked : goal.returns-then-len-self-clause-ranked
+returns-then-len-self-clause-ranked g c =
     on-both c.push.result
     (λ p k. record {
       some = omega (arith, c.push.ensures.n, c.requires.some);
