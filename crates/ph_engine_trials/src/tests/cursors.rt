@@ -4,6 +4,6 @@ use ph_engine::Held;
 // It has these fields and no other.
 #[test]
 fn fields(rt: HostRuntime) {
-    let Held { name, cursor: _ } = &Held::default();
+    let Held { name, cursor: _ } = &Held::<2>::default();
     assert!(rt; name.as_str() == "-");
 }
