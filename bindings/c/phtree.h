@@ -124,7 +124,7 @@ uint32_t ph_ball(ph_tree *tree, const int64_t *center, size_t length, uint64_t r
  * In a tree of boxes a point is the low corner of a box, then its high corner, so the number of dimensions is even. `low` and `high` are the
  * corners of the asked box, of half as many numbers each. Boxes are closed: two that touch overlap. These list pages as `ph_window` does. They answer
  * PH_NO_BOXES, PH_NO_POINT for a wrong corner or a wrong `last`, or PH_REVERSED, the earlier of these where there are several. That each point of the
- * tree is a box is up to the program: no call asks for it.
+ * tree is a box is up to the program: no call asks for it. A point that is none is listed where the window that answers the question for boxes has it.
  */
 
 /* Lists the boxes that have a point in common with the asked one. */

@@ -110,7 +110,8 @@ class Round:
             return
         pairs = lambda p: zip(low, p[:half], p[half:], high)
         assert list(self.tree.overlapping(low, high)) == self.where(lambda p: all(a <= d and b >= c for c, a, b, d in pairs(p)))
-        assert list(self.tree.inside(low, high)) == self.where(lambda p: all(a >= c and b <= d for c, a, b, d in pairs(p)))
+        # Most points here are no boxes. Of such a point both halves are held against both corners, which of a box says no more.
+        assert list(self.tree.inside(low, high)) == self.where(lambda p: all(c <= a <= d and c <= b <= d for c, a, b, d in pairs(p)))
         assert list(self.tree.covering(low, high)) == self.where(lambda p: all(a <= c and b >= d for c, a, b, d in pairs(p)))
 
     def copies(self):

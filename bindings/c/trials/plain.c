@@ -187,11 +187,12 @@ static int is_overlapping(const struct table *table, const struct asked *asked, 
     return yes;
 }
 
+/* Most points here are no boxes. Of such a point both halves are held against both corners, which of a box says no more. */
 static int is_inside(const struct table *table, const struct asked *asked, const int64_t *p) {
     uint32_t half = table->dims / 2;
     int yes = 1;
-    for (uint32_t i = 0; i < half; i++)
-        yes &= p[i] >= asked->p[i] && p[half + i] <= asked->q[i];
+    for (uint32_t i = 0; i < table->dims; i++)
+        yes &= asked->p[i % half] <= p[i] && p[i] <= asked->q[i % half];
     return yes;
 }
 
