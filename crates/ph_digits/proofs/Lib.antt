@@ -1,3 +1,4 @@
 pub mod Cuts
 pub mod Joins
 pub mod Tops
+pub mod WordOrders

@@ -5,8 +5,10 @@
 
 mod bodies;
 mod differences;
+mod order;
 mod words;
 
 pub use bodies::{body_above, body_address, body_below, join};
 pub use differences::top_difference;
+pub use order::words_cmp;
 pub use words::{address_digit, digit, digits_above, digits_below};

@@ -3,7 +3,8 @@ ghost use Rattle.std.specs.Prelude.{◌≡◌};
 
 use super::{point, width};
 use ph_coord::{Number, Point, offsets_of, read_number, z_before};
-use ph_digits::{body_address, join, top_difference};
+use ph_digits::{body_address, join, top_difference, words_cmp};
+use std::cmp::Ordering::{self, Equal, Greater, Less};
 
 const SPELLINGS: [(&[u8], Number); 14] = [
     (
@@ -113,4 +114,28 @@ fn joined_and_compared(rt: HostRuntime) {
     assert!(rt; body_address(2, &known) == 0b01);
     assert!(rt; top_difference(&known, &[0b1_1011, 0b0_0001]) == Some(2));
     assert!(rt; top_difference(&known, &known).is_none());
+}
+
+// The first word that differs at the greatest place at which any differ decides.
+const WORDS: [([u64; 3], [u64; 3], Ordering); 8] = [
+    ([6, 0, 9], [6, 0, 9], Equal),
+    ([0, 0, 7], [0, 0, 8], Less),
+    ([0b011, 0b111, 0], [0b100, 0b000, 0], Less),
+    ([0b101, 0, 0], [0b100, 1, 1], Greater),
+    ([0, 0b10, 0b11], [1, 0b10, 0b01], Greater),
+    ([1, 0, 0b01], [0, 1, 0b10], Less),
+    ([0, 1 << 63, 0], [u64::MAX >> 1, 0, 0], Greater),
+    ([0, u64::MAX, u64::MAX], [1 << 63, 0, 0], Less),
+];
+
+#[test]
+fn order_of_words(rt: HostRuntime) {
+    for (xs, ys, order) in WORDS {
+        assert!(rt; words_cmp(&xs, &ys) == order);
+        assert!(rt; words_cmp(&ys, &xs) == order.reverse());
+    }
+    assert!(rt; words_cmp(&[], &[]) == Equal);
+    let mut last = [0; 20];
+    last[19] = 1;
+    assert!(rt; words_cmp(&[0; 20], &last) == Less);
 }
