@@ -65,7 +65,7 @@ none-differs xs ys long e =
     sym (from-zero xs) ∙ from_bits 0 xs ys long (λ k l. (same-at 0 k xs ys long (ap (λ m. bit_at m k) e ∙ bit_at-zero k)).1) ∙ from-zero ys
 
 -- the digit at the top of a number is 1
-top-digit : (m j : ℕ) → 2 ^ j ≤ m → m < 2 ^ suc j → bit_at m j ≡ 1
+pub top-digit : (m j : ℕ) → 2 ^ j ≤ m → m < 2 ^ suc j → bit_at m j ≡ 1
 top-digit m j h k =
     let e : 2 ^ suc j ≡ 2 * 2 ^ j = omega arith in
     ap (λ x. x % 2) (div-eq_of_lt-le {k = 1} (2 ^ j) {m = m} (omega (arith, h)) (omega (arith, k, e)))

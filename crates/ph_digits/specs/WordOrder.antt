@@ -1,5 +1,5 @@
 -- The Z-order of lists of numbers.
-use Rattle.std.specs.Prelude.{ℕ, zero, suc, List, [], ◌∷◌}
+use Rattle.std.specs.Prelude.{ℕ, zero, suc, ◌<◌, ◌≤◌, ◌^◌, List, [], ◌∷◌}
 use Rattle.std.specs.declared.cmp.Ordering.{Ordering}
 use Rattle.std.specs.Cmp.{IsTotalOrder, on_total}
 use Rattle.std.specs.Cmp.Lexicographic.{slice_cmp, nat_list_cmp_total}
@@ -22,3 +22,9 @@ words_cmp xs ys = words_cmp_below 64 xs ys
 pub words_total : IsTotalOrder words_cmp
 unfolding words_cmp
 words_total = on_total (addresses_below 64) nat_list_cmp_total
+
+-- a number has a binary digit 1 above all those of another
+pub record IsHigher (a b : ℕ) : Type 0 where
+  pub place : ℕ
+  pub reached : 2 ^ place ≤ a
+  pub above : b < 2 ^ place

@@ -1,39 +1,34 @@
 //! The Z-order of lists of words, by whole words.
 
-ghost use Rattle.std.specs.Prelude.{◌≡◌, ◌<◌, length};
-ghost use Rattle.std.specs.Ordering.{nat_cmp};
-ghost use Rattle.ph_model.specs.ModelNames.{body_address};
-ghost use Rattle.ph_digits.specs.WordOrder.{words_cmp};
+ghost use Rattle.std.specs.Prelude.{◌≡◌, ◌↔◌, length, IsTrue};
+ghost use Rattle.ph_digits.specs.WordOrder.{words_cmp, IsHigher};
 
-use crate::differences::top_difference;
-use crate::words::digit;
 use std::cmp::Ordering;
 
-/// How two lists of words stand in Z-order: the first word that differs at the greatest place at which any differ decides.
+/// How two lists of words stand in Z-order: of the words that differ at the greatest place the first ones decide.
 ///
-/// The work is two passes over the words at most, however far down the place is.
+/// The work is one pass over the words, with no branch that depends on them.
 pub fn words_cmp(xs: &[u64], ys: &[u64]) -> Ordering
     requires { length xs.now ≡ length ys.now }
     ensures { result ≡ words_cmp xs.now ys.now }
 {
-    match top_difference(xs, ys) {
-        None => Ordering::Equal,
-        Some(place) => address_cmp(place, xs, ys),
-    }
-}
-
-// How the digits at a place stand as numbers, those of the first words the most significant.
-fn address_cmp(place: u32, xs: &[u64], ys: &[u64]) -> Ordering
-    requires place { place < 64 }
-    requires same { length xs.now ≡ length ys.now }
-    ensures { result ≡ nat_cmp (body_address place xs.now) (body_address place ys.now) }
-{
+    let mut first = 0;
+    let mut second = 0;
+    let mut difference = 0;
     for (x, y) in xs.iter().zip(ys) {
-        let a = digit(place, *x);
-        let b = digit(place, *y);
-        if a != b {
-            return a.cmp(&b);
+        let here = *x ^ *y;
+        if is_higher(here, difference) {
+            first = *x;
+            second = *y;
+            difference = here;
         }
     }
-    Ordering::Equal
+    first.cmp(&second)
+}
+
+// Whether the greatest 1 of a word is above all those of another. Where both have it, it is masked away, and what is left is less.
+fn is_higher(word: u64, other: u64) -> bool
+    ensures { IsTrue result ↔ IsHigher word other }
+{
+    other < word & !other
 }
