@@ -92,3 +92,32 @@ number_end n k room d place a l e =
   where
     sum : (n k A R : ℕ) → n * (A * R) + k * R ≡ (n * A + k) * R
     sum n k A R = omega arith
+
+-- ---- zeros
+
+-- a word of zeros more
+pub number-zeros : (n m i : ℕ) → m ≡ n * 2 ^ (64 * i) → m * 2 ^ 64 + 0 ≡ n * 2 ^ (64 * (i + 1))
+number-zeros n m i e =
+    let q : 64 * i + 64 ≡ 64 * (i + 1) = omega arith in
+    ap (λ t. t * 2 ^ 64 + 0) e ∙ turn n (2 ^ (64 * i)) (2 ^ 64) ∙ ap (λ t. n * t) (sym (pow-add 2 (64 * i) 64) ∙ ap (λ t. 2 ^ t) q)
+  where
+    turn : (n a b : ℕ) → n * a * b + 0 ≡ n * (a * b)
+    turn n a b = omega arith
+
+-- a pen at the beginning of a word
+pub number-begun : (n k room : ℕ) → room ≡ 64 → k < 2 ^ (64 - room) → n * 2 ^ (64 - room) + k ≡ n
+number-begun n k room e l =
+    let z : 64 - room ≡ 0 = omega (arith, e) in
+    let m : k < 2 ^ 0 = subst (λ t. k < 2 ^ t) z l in
+    ap (λ t. n * 2 ^ t + k) z ∙ omega (arith, m)
+
+-- zeros in three runs
+pub zeros-runs : (n first whole last all : ℕ) → first + whole + last ≡ all → n * 2 ^ first * 2 ^ whole * 2 ^ last ≡ n * 2 ^ all
+zeros-runs n first whole last all e =
+    turn n (2 ^ first) (2 ^ whole) (2 ^ last)
+    ∙ ap (λ t. n * (t * 2 ^ last)) (sym (pow-add 2 first whole))
+    ∙ ap (λ t. n * t) (sym (pow-add 2 (first + whole) last))
+    ∙ ap (λ t. n * 2 ^ t) e
+  where
+    turn : (n a b c : ℕ) → n * a * b * c ≡ n * (a * b * c)
+    turn n a b c = omega arith
