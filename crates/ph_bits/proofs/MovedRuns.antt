@@ -52,6 +52,21 @@ moved-up old mid new from to m w e f o l p q = record {
   behind = λ a k h i. q.behind a k (omega (arith, h)) (omega (arith, i, e)) ∙ p.behind a k (omega (arith, h)) i;
 }
 
+-- the last digits, and then those in front of them, which are stored as a number: the runs may overlap in any way
+pub moved-stored : (old mid new : List ℕ) (from to m w v : ℕ) → length mid ≡ length old → length new ≡ length old →
+    from + m + w ≤ 64 * length old → to + m + w ≤ 64 * length old → v ≡ digits_at old from m
+    → IsMoved old (from + m) (to + m) w mid → IsPut mid to m v new → IsMoved old from to (m + w) new
+moved-stored old mid new from to m w v e f k l d p q = record {
+  value =
+      let n : to + m + w ≤ 64 * length new = omega (arith, l, f) in
+      digits-parts new to m w n
+      ∙ ap (λ t. t * 2 ^ w + digits_at new (to + m) w) (q.value ∙ d)
+      ∙ ap (λ t. digits_at old from m * 2 ^ w + t) (q.behind (to + m) w (omega arith) (omega (arith, l, e)) ∙ p.value)
+      ∙ sym (digits-parts old from m w k);
+  front = λ a j h. q.front a j h ∙ p.front a j (omega (arith, h));
+  behind = λ a j h i. q.behind a j (omega (arith, h)) (omega (arith, i, e)) ∙ p.behind a j (omega (arith, h)) i;
+}
+
 pub moved-equal : (old new : List ℕ) (from from2 to to2 len len2 : ℕ) → from ≡ from2 → to ≡ to2 → len ≡ len2 →
     IsMoved old from to len new → IsMoved old from2 to2 len2 new
 moved-equal old new from from2 to to2 len len2 e f g o =
@@ -144,18 +159,28 @@ word-stored ws place v l h f =
         ap (λ t. t % 2 ^ 64 * 2 ^ 0) z ∙ omega (arith, m)
 
 -- a word that is made of two, in the first of which `shift` digits stand in front
+pub word-across : (ws : List ℕ) (start shift v : ℕ) → shift < 64 → suc start < length ws → ((i : ℕ) → Fits w64 (slice_index_or ws i 0))
+    → v ≡ slice_index_or ws start 0 % 2 ^ (64 - shift) * 2 ^ shift + slice_index_or ws (suc start) 0 / 2 ^ (64 - shift)
+    → v ≡ digits_at ws (64 * start + shift) 64
+word-across ws start shift v q s h e =
+    let room : 64 - shift + shift ≡ 64 = omega (arith, q) in
+    e ∙ sym (digits-two ws start shift (64 - shift) shift (64 - shift) (omega (arith, q)) (omega (arith, q)) s
+    (each-fits ws h)) ∙ ap (λ t. digits_at ws (64 * start + shift) t) room
+
+pub word-put : (ws : List ℕ) (place v : ℕ) → place < length ws → ((i : ℕ) → Fits w64 (slice_index_or ws i 0)) → v < 2 ^ 64 →
+    IsPut ws (64 * place) 64 v (slice_set ws place v)
+word-put ws place v l h small =
+    let inside : 64 * place + 64 ≤ 64 * length ws = omega (arith, l) in
+    put ws _ (64 * place) 64 v inside small h (word-stored ws place v l h small)
+
 pub word-moved : (ws : List ℕ) (start shift place v : ℕ) → 0 < shift → shift < 64 → suc start < length ws →
     place < length ws → ((i : ℕ) → Fits w64 (slice_index_or ws i 0))
     → v ≡ slice_index_or ws start 0 % 2 ^ (64 - shift) * 2 ^ shift + slice_index_or ws (suc start) 0 / 2 ^ (64 - shift)
     → IsMoved ws (64 * start + shift) (64 * place) 64 (slice_set ws place v)
 word-moved ws start shift place v p q s l h e =
-    let room : 64 - shift + shift ≡ 64 = omega (arith, q) in
-    let inside : 64 * place + 64 ≤ 64 * length ws = omega (arith, l) in
-    let d : v ≡ digits_at ws (64 * start + shift) 64 =
-    e ∙ sym (digits-two ws start shift (64 - shift) shift (64 - shift) (omega (arith, q)) (omega (arith, q)) s
-    (each-fits ws h)) ∙ ap (λ t. digits_at ws (64 * start + shift) t) room in
+    let d : v ≡ digits_at ws (64 * start + shift) 64 = word-across ws start shift v q s h e in
     let small : v < 2 ^ 64 = subst (λ t. t < 2 ^ 64) (sym d) (digits-below ws (64 * start + shift) 64) in
-    moved-put ws _ (64 * start + shift) (64 * place) 64 v d (put ws _ (64 * place) 64 v inside small h (word-stored ws place v l h small))
+    moved-put ws _ (64 * start + shift) (64 * place) 64 v d (word-put ws place v l h small)
 
 -- digits of words that are equal
 same-words : (old new : List ℕ) (from to n : ℕ) →

@@ -109,8 +109,8 @@ fn copy_words(words: &mut [u64], start: u64, place: u64, count: u64)
     words.copy_within(start as usize..(start + count) as usize, place as usize);
 }
 
-// Moves digits that begin within a word to so many words, the first word first. Each word is read once, and before it is
-// written: what was written lies in front of the word that was read last.
+// Moves digits that begin within a word to so many words, from the first word to the last, four words a turn and then those
+// that are left: what was written lies in front of the words that are read next.
 fn shift_words_down(words: &mut [u64], from: u64, place: u64, count: u64)
     requires across { 0 < from % 64 }
     requires order { 64 * place ≤ from }
@@ -118,19 +118,14 @@ fn shift_words_down(words: &mut [u64], from: u64, place: u64, count: u64)
     requires near { from + 64 * count ≤ 2 ^ 62 }
     ensures { IsMoved words.old from (64 * place) (64 * count) words.new }
 {
-    let start = from / 64;
-    let front = from % 64;
-    let behind = 64 - front;
-    let mut first = words[start as usize];
-    for i in 0..count {
-        let last = words[(start + i + 1) as usize];
-        words[(place + i) as usize] = word_across(first, last, front, behind);
-        first = last;
+    for turn in 0..count / 4 {
+        shift_four(words, from + 256 * turn, place + 4 * turn);
     }
+    let done = count / 4 * 4;
+    shift_few_down(words, from + 64 * done, place + done, count % 4);
 }
 
-// The same from the last word to the first, four words a turn and then those that are left: what was written lies behind the words
-// that are read next.
+// The same from the last word to the first: what was written lies behind the words that are read next.
 fn shift_words_up(words: &mut [u64], from: u64, place: u64, count: u64)
     requires across { 0 < from % 64 }
     requires order { from ≤ 64 * place }
@@ -146,13 +141,13 @@ fn shift_words_up(words: &mut [u64], from: u64, place: u64, count: u64)
     shift_few_up(words, from, place, left);
 }
 
-// Moves digits that begin within a word to four words, all of which are read before the first is written.
+// Moves digits that begin within a word to four words, all of which are read before the first is written. So the two runs may
+// overlap in any way.
 #[inline(always)]
 fn shift_four(words: &mut [u64], from: u64, place: u64)
     requires across { 0 < from % 64 }
-    requires order { from ≤ 64 * place }
-    requires inside { 64 * place + 256 ≤ 64 * length words.old }
-    requires near { 64 * place + 256 ≤ 2 ^ 62 }
+    requires from { from + 256 ≤ 64 * length words.old }
+    requires to { 64 * place + 256 ≤ 64 * length words.old }
     ensures { IsMoved words.old from (64 * place) 256 words.new }
 {
     let start = (from / 64) as usize;
@@ -172,7 +167,27 @@ fn shift_four(words: &mut [u64], from: u64, place: u64)
     words[to] = word_across(a, b, front, behind);
 }
 
-// The same, one word a turn.
+// Moves digits that begin within a word to so many words, the first word first. Each word is read once, and before it is
+// written: what was written lies in front of the word that was read last.
+fn shift_few_down(words: &mut [u64], from: u64, place: u64, count: u64)
+    requires across { 0 < from % 64 }
+    requires order { 64 * place ≤ from }
+    requires inside { from + 64 * count ≤ 64 * length words.old }
+    requires near { from + 64 * count ≤ 2 ^ 62 }
+    ensures { IsMoved words.old from (64 * place) (64 * count) words.new }
+{
+    let start = from / 64;
+    let front = from % 64;
+    let behind = 64 - front;
+    let mut first = words[start as usize];
+    for i in 0..count {
+        let last = words[(start + i + 1) as usize];
+        words[(place + i) as usize] = word_across(first, last, front, behind);
+        first = last;
+    }
+}
+
+// The same from the last word to the first.
 fn shift_few_up(words: &mut [u64], from: u64, place: u64, count: u64)
     requires across { 0 < from % 64 }
     requires order { from ≤ 64 * place }
