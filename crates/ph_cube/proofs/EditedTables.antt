@@ -28,7 +28,7 @@ use Rattle.ph_cube.specs.Cube as Cube
 use Rattle.ph_cube.specs.Edited.{IsEditAt, entries_below}
 use Rattle.ph_cube.proofs.EditedPlaces.{Rises, rises-flats, long-flats, below, below-flats, below-most, other, none-here}
 use Rattle.ph_cube.proofs.EditedPlaces.{new-there, places-split, places-same, length-places, digits-kinds, digits-bodies}
-use Rattle.ph_cube.proofs.Standing.{zeros-front, zeros-fit}
+use Rattle.ph_cube.proofs.PlaceRuns.{zeros-front, zeros-fit}
 
 module _ (dims : ℕ) (words : List ℕ) (e : Edit) (addr : ℕ) (r : IsRecord true dims words) (h : Each (λ x. x < 2 ^ 64) words) (k : IsEditAt dims words e addr) where
   abbrev b : ℕ

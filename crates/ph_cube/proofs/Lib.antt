@@ -6,6 +6,7 @@ pub mod Entries
 pub mod Bodies
 pub mod Stood
 pub mod Standing
+pub mod PlaceRuns
 pub mod EditedPlaces
 pub mod EditedTables
 pub mod PutTables

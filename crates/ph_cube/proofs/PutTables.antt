@@ -18,7 +18,7 @@ use Rattle.ph_linear.proofs.Overs.{over-equal, over-next, over-table, column-sam
 use Rattle.ph_cube.specs.Edited.{IsEditAt}
 use Rattle.ph_cube.proofs.EditedPlaces.{length-places, digits-kinds, digits-bodies}
 use Rattle.ph_cube.proofs.EditedTables.{table-old, long, kinds-edited, bodies-edited}
-use Rattle.ph_cube.proofs.Standing.{table-number}
+use Rattle.ph_cube.proofs.PlaceRuns.{table-number}
 
 module _ (dims : ℕ) (words : List ℕ) (e : Edit) (addr : ℕ) (r : IsRecord true dims words) (h : Each (λ x. x < 2 ^ 64) words) (k : IsEditAt dims words e addr) where
   abbrev b : ℕ

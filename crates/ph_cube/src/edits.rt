@@ -7,7 +7,7 @@ ghost use Rattle.ph_bits.specs.Edits.{edited_as};
 ghost use Rattle.ph_linear.specs.Edited.{IsChanged, IsColumn, IsOutline, with_table};
 ghost use Rattle.ph_cube.specs.Edited.{IsEditAt, entries_below};
 
-use crate::parts::children_before;
+use crate::parts::{addresses, children_before};
 use ph_bits::{Edit, Packed};
 use ph_linear::{Column, Outline, children_in, count_in, drop_value, level_in, put_value};
 
@@ -42,14 +42,6 @@ fn bodies_of(old: &[u64], dims: usize) -> Column
         width: dims as u64 * level_in(old) as u64,
         count,
     }
-}
-
-// How many addresses there are.
-fn addresses(dims: usize) -> u64
-    requires { dims ≤ 16 }
-    ensures { result ≡ 2 ^ dims }
-{
-    1 << dims
 }
 
 // The edit as one of columns, which have a body for each address.

@@ -11,6 +11,15 @@ ghost use Rattle.ph_cube.specs.Stands.{StandsAt};
 use ph_bits::{field, ones_before};
 use ph_linear::level_in;
 
+// How many addresses there are.
+#[inline(always)]
+pub(crate) fn addresses(dims: usize) -> u64
+    requires { dims ≤ 16 }
+    ensures { result ≡ 2 ^ dims }
+{
+    1 << dims
+}
+
 // The address of entry `i`, by halving the addresses that are left.
 #[inline(always)]
 pub(crate) fn address_of(words: &[u64], dims: usize, i: usize) -> u64

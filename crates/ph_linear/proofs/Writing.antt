@@ -2,6 +2,7 @@
 use Rattle.std.proofs.Common.{slice_set, ◌≤◌, ◌≡◌, ℕ, zero, suc, ◌+◌, ◌*◌, ◌^◌, ◌<◌, ◌≤◌, refl, sym, ◌∙◌, ap, arith, List}
 use Rattle.std.proofs.Common.{[], ◌∷◌, ◌++◌, length, map, take, Bool, true, false, get_or, length-append}
 use Rattle.std.specs.Prelude.{Option, Some, None, slice_get, if◌then◌else◌}
+use Rattle.std.specs.List.{AllByRecursion as Each}
 use Rattle.std.proofs.lemmas.List.{map-append, get_or-map}
 use Rattle.std.proofs.lemmas.Option.{get_or_from_slice_get}
 use mir.Val.{bool_byte}
@@ -11,7 +12,7 @@ use Rattle.ph_specs.specs.Digits.{field, number_after, words_of}
 use Rattle.ph_specs.specs.Pack.{child_mark, body_fields, bodies, children, values, value_in_front, linear_table, table, layout, first_word, record_in}
 use Rattle.ph_specs.specs.Record.{Read, read_point, read_child, read}
 use Rattle.ph_model.specs.Layout.{unvalued, read_kept, AreRising}
-use Rattle.ph_model.proofs.lemmas.Columns.{number_after-append}
+use Rattle.ph_model.proofs.lemmas.Columns.{number_after-append, AreBodies}
 use Rattle.ph_model.proofs.lemmas.LayoutTables.{entries-few}
 use Rattle.std.proofs.Math.Nat.{pow-le-pow_right}
 use Rattle.ph_linear.specs.Written.{kind_fields, address_fields, body_list}
@@ -101,6 +102,16 @@ pub bodies-more : (level r : ℕ) (es : List Flat) (i : ℕ) → i < length es �
     number_after (number_after r (bodies level (body_list (take i es)))) (body_fields level (get_or es i no_flat).body)
 bodies-more level r es i l =
     ap (λ t. number_after r (bodies level (body_list t))) (more es i l) ∙ bodies-last level r (take i es) (get_or es i no_flat)
+
+-- bodies without digits
+pub bodies-none : (dims r : ℕ) (bs : List (List ℕ)) → AreBodies dims 0 bs → number_after r (bodies 0 bs) ≡ r
+bodies-none dims r [] h = refl
+bodies-none dims r (b ∷ bs) h =
+    number_after-append r (body_fields 0 b) (bodies 0 bs) ∙ ap (λ t. number_after t (bodies 0 bs)) (body-none r b h.0.1) ∙ bodies-none dims r bs h.1
+  where
+    body-none : (r : ℕ) (b : List ℕ) → Each (λ v. v < 2 ^ 0) b → number_after r (body_fields 0 b) ≡ r
+    body-none r [] h = refl
+    body-none r (v ∷ b) h = let z : r * 2 ^ 0 + v ≡ r = omega (arith, h.0) in body-none (r * 2 ^ 0 + v) b h.1 ∙ z
 
 children-last : (es : List Flat) (e : Flat) → children (es ++ e ∷ []) ≡ children es + child_mark e.value
 children-last [] e = omega arith

@@ -108,7 +108,7 @@ fn put_addresses<P: Dims, E: Entries<P>>(pen: &mut Pen, words: &mut Words, from:
     }
 }
 
-// The bodies.
+// The bodies. At level 0 they have no digits.
 fn put_bodies<P: Dims, E: Entries<P>>(pen: &mut Pen, words: &mut Words, from: &E, level: u32)
     requires pen { IsPen pen.old }
     requires few { P.D ≤ 16 }
@@ -120,6 +120,9 @@ fn put_bodies<P: Dims, E: Entries<P>>(pen: &mut Pen, words: &mut Words, from: &E
     ensures number { number_by words.new.words pen.new ≡ number_after (number_by words.old.words pen.old) (bodies level (body_list (E.list from.now))) }
     ensures places { IsSamePlaces words.old words.new }
 {
+    if level == 0 {
+        return;
+    }
     let mut mark = None;
     for i in 0..from.count() {
         let entry = from.at(i, &mut mark);

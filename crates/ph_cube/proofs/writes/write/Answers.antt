@@ -4,7 +4,7 @@ use Rattle.ph_specs.specs.Digits.{number_after, words_for}
 use Rattle.ph_specs.specs.Pack.{bodies, places, place_kind, place_body}
 use Rattle.ph_model.proofs.lemmas.LayoutTables.{table-digits}
 use Rattle.ph_bits.specs.Fields.{number_in}
-use Rattle.ph_cube.proofs.Standing.{table-number}
+use Rattle.ph_cube.proofs.PlaceRuns.{table-number}
 use Rattle.ph_cube.proofs.writes.write.Goals as goal
 
 pub close-requires-clause-digits : goal.close-requires-clause-digits

@@ -3,9 +3,11 @@ use Rattle.std.specs.List.{AllByRecursion as Each}
 use Rattle.ph_specs.specs.Node.{Flat}
 use Rattle.ph_specs.specs.Digits.{field, number_after}
 use Rattle.ph_specs.specs.Pack.{bodies}
+use Rattle.ph_model.specs.Layout.{AreRising}
+use Rattle.ph_model.proofs.lemmas.Columns.{entries-bodies}
 use Rattle.ph_bits.specs.Written.{number_by}
 use Rattle.ph_linear.specs.Written.{body_list}
-use Rattle.ph_linear.proofs.Writing.{given, no_flat, bodies-more, rising-at}
+use Rattle.ph_linear.proofs.Writing.{given, no_flat, bodies-more, bodies-none, rising-at}
 use Rattle.ph_linear.proofs.writes.put_bodies.Given.{Over}
 use Rattle.ph_linear.proofs.writes.put_bodies.Goals as goal
 use Rattle.ph_linear.proofs.writes.put_bodies.Goals.{After-at-entry}
@@ -51,3 +53,12 @@ loop-i-preserved g c =
           ∙ sym (bodies-more w r es i (omega (arith, c.loop-i-test.true, v.end)));
       places = (c.put_row.ensures.places.0 ∙ v.places.0, c.put_row.ensures.places.1 ∙ v.places.1);
     }
+
+-- at level 0
+pub returns-then-level-eq0-clause-number : goal.returns-then-level-eq0-clause-number
+returns-then-level-eq0-clause-number g c =
+    let z : c.args.level ≡ 0 = omega (arith, c.if-level-eq0.true) in
+    let es : List Flat = g.E.Entries.list c.args.from.now in
+    let r : ℕ = number_by c.args.words.now.words c.args.pen.now in
+    let rise : AreRising g.P.Dims.D 0 0 (g.E.Entries.list c.args.from.now) = subst (λ t. AreRising g.P.Dims.D t 0 (g.E.Entries.list c.args.from.now)) z c.requires.entries in
+    sym (ap (λ t. number_after r (bodies t (body_list es))) z ∙ bodies-none g.P.Dims.D r (body_list es) (entries-bodies g.P.Dims.D 0 0 es rise))
