@@ -3,6 +3,8 @@ pub mod Sights
 pub mod Parting
 mod Missed
 mod Spent
+mod Taking
+mod Rooms
 mod Turned
 mod Walking
 mod Joining

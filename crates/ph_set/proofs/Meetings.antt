@@ -1,6 +1,6 @@
 -- What a descent of two trees lists where two parts meet, and how many nodes it opens there.
 use Rattle.std.proofs.Common.{◌≡◌, ◌≢◌, ℕ, ◌+◌, ◌*◌, ◌/◌, ◌%◌, ◌^◌, ◌<◌, ◌≤◌, Bool, true, false, List, [], ◌∷◌, ◌++◌}
-use Rattle.std.proofs.Common.{length, cond, inl, inr, refl, sym, ◌∙◌, ap, subst, arith, append_assoc}
+use Rattle.std.proofs.Common.{length, cond, inl, inr, refl, sym, ◌∙◌, ap, subst, arith}
 use Rattle.std.specs.Prelude.{ℤ, Some, None, map, take, is_some, if◌then◌else◌}
 use Rattle.std.specs.List.{AllByRecursion as Each}
 use Rattle.std.proofs.lemmas.Bool.{cases_lt}
@@ -27,15 +27,6 @@ use Rattle.ph_set.proofs.Parting.{IsRowAt, part-at, parted-by}
 use Rattle.ph_set.proofs.Missed.{part-missed}
 use Rattle.ph_set.proofs.Sights.{seen-none}
 use Rattle.ph_set.proofs.Walking.{whole-rows, whole-nodes, stretch-none}
-
--- ---- rows that are listed one after another
-
-pub after-two : (old mid a b all : List Row) → mid ≡ old ++ a → all ≡ a ++ b → mid ++ b ≡ old ++ all
-after-two old mid a b all h k = ap (λ t. t ++ b) h ∙ append_assoc old a b ∙ ap (λ t. old ++ t) (sym k)
-
-pub after-three : (old mid next a b c all : List Row) → mid ≡ old ++ a → next ≡ mid ++ b → all ≡ a ++ (b ++ c) → next ++ c ≡ old ++ all
-after-three old mid next a b c all h k l =
-    ap (λ t. t ++ c) (k ∙ ap (λ t. t ++ b) h) ∙ append_assoc (old ++ a) b c ∙ append_assoc old a (b ++ c) ∙ ap (λ t. old ++ t) (sym l)
 
 -- ---- addresses of digits
 

@@ -1,6 +1,6 @@
 -- A descent of two trees from their roots.
-use Rattle.std.proofs.Common.{◌≡◌, ℕ, ◌+◌, ◌≤◌, Bool, true, ◌||◌, List, [], ◌∷◌, length, replicate, refl, sym, ◌∙◌, ap, subst, arith}
-use Rattle.std.specs.Prelude.{Option, Some, map}
+use Rattle.std.proofs.Common.{◌≡◌, ℕ, ◌+◌, ◌≤◌, Bool, true, ◌||◌, List, [], ◌∷◌, length, replicate, sym, ◌∙◌, ap, subst, arith}
+use Rattle.std.specs.Prelude.{Option, Some}
 use Rattle.std.specs.List.{list_any, AllByRecursion as Each}
 use Rattle.ph_model.proofs.lemmas.RowsBehind.{IsUnder}
 use Rattle.std.proofs.lemmas.List.{length-replicate}
@@ -76,6 +76,9 @@ root-length w d n ds o e f =
     ap (λ t. length (part_nodes w t o)) e ∙ ap (λ t. length (part_nodes w (replicate d 0) t)) f in
     omega (arith, a)
 
+pub root-rows : (w d : ℕ) (n : PlainNode) (ds : List ℕ) (o : What) → ds ≡ replicate d 0 → o ≡ node n → part_rows w ds o ≡ rows w d (Some n)
+root-rows w d n ds o e f = ap (λ t. part_rows w t o) e ∙ ap (part_rows w (replicate d 0)) f
+
 -- ---- trees that are shapes
 
 pub tree-rows : (w u d : ℕ) (o : Option PlainNode) (table : List Row) → 1 ≤ w → w ≡ u → IsTable u d table → o ≡ shape u table → rows w d o ≡ table
@@ -84,10 +87,6 @@ tree-rows w u d o table l e h f =
 
 pub tree-nodes : (w u d : ℕ) (o : Option PlainNode) (table : List Row) → w ≡ u → o ≡ shape u table → placed w d o ≡ all_nodes w d table
 tree-nodes w u d o table e f = ap (placed w d) (f ∙ ap (λ k. shape k table) (sym e))
-
-pub map-same : (xs : List Row) → map (λ r. r) xs ≡ xs
-map-same [] = refl
-map-same (x ∷ xs) = ap {B = List Row} (λ t. x ∷ t) (map-same xs)
 
 pub same-kept : (p : Plan) (xs ys us vs : List Row) → xs ≡ us → ys ≡ vs → kept p xs ys ≡ kept p us vs
 same-kept p xs ys us vs e f = ap (λ t. kept p t ys) e ∙ ap (kept p us) f

@@ -6,3 +6,5 @@ pub mod Sides
 pub mod Operations
 pub mod Made
 pub mod Visited
+pub mod Sinks
+pub mod SinkLaws

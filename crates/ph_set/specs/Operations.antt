@@ -1,5 +1,5 @@
 -- The set operations on two trees.
-use Rattle.std.specs.Prelude.{ℕ, ◌+◌, ◌-◌, ◌^◌, min, true, false, List, length}
+use Rattle.std.specs.Prelude.{ℕ, ◌+◌, min, true, false, List, length}
 use Rattle.ph_specs.specs.Sets.{union, common, minus}
 use Rattle.ph_specs.specs.Table.{Row}
 use Rattle.ph_specs.specs.WorkSets.{all_nodes, touch}
@@ -19,9 +19,9 @@ rows_of Union width xs ys = union width xs ys
 rows_of Common width xs ys = common xs ys
 rows_of Minus width xs ys = minus xs ys
 
--- for how many of them room is taken, where the tables have so many rows: for as many as can be kept, as far as that can be counted
+-- for how many of them room is taken, where the tables have so many rows: for as many as can be kept
 abbrev pub room_of : Operation → ℕ → ℕ → ℕ
-room_of Union m n = min (m + n) (2 ^ 64 - 1)
+room_of Union m n = m + n
 room_of Common m n = min m n
 room_of Minus m n = m
 

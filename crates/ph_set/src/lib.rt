@@ -13,6 +13,7 @@ mod part;
 mod plan;
 mod roots;
 mod side;
+mod sink;
 mod trees;
 
 pub use error::SetFault;

@@ -8,7 +8,7 @@ ghost use Rattle.ph_set.specs.Visited.{Visits};
 
 use crate::NoMemory;
 use crate::error::SetFault;
-use crate::operations::{Operation, combined_rows};
+use crate::operations::{Operation, combined_rows, has_more};
 use ph_bulk::build;
 use ph_coord::Row;
 use ph_steps::Steps;
@@ -19,9 +19,10 @@ use std::sync::ledger::Ledger;
 /// The tree of the rows of both trees, for at most `max` rows. At a point of both the value is that of `a`.
 ///
 /// Both trees have coordinates of one width, and so has the union. Memory is taken for a vector of as many rows as both trees have,
-/// 8 (D + 1) bytes each, and for the nodes of the union. Each node of both trees is visited exactly once, but for want of memory, and each
-/// node of the union is made once. It is `Full` where the union has more than `max` rows, before a node is made. After an
-/// error nothing of the union stays; both trees are lent for reading and stay as they are.
+/// 8 (D + 1) bytes each, before a node is visited, and for the nodes of the union. Each node of both trees is visited exactly once, but for want of
+/// memory, and each node of the union is made once. It is `Full` where the union has more than `max` rows, before a node is made and whether
+/// there is memory or not: where there is none for the rows, they are only counted. After an error nothing of the union stays; both trees are
+/// lent for reading and stay as they are.
 pub fn union<const D: usize, V: Ledger, C: Ledger>(
     alloc: Global,
     a: &PhTree<D>,
@@ -39,10 +40,14 @@ pub fn union<const D: usize, V: Ledger, C: Ledger>(
     ensures refused { IsErrOf result SetFault.Full → changes.new ≡ changes.old }
     ensures seen { IsErrOf result SetFault.Full
         → visits.new ≡ visits.old + (length (all_nodes a.now.width D a.now.table) + length (all_nodes a.now.width D b.now.table)) }
+    ensures wanted { IsErrOf result SetFault.NoMemory → length (union_of a.now.width a.now.table b.now.table) ≤ max }
 {
     // A use that makes the number of dimensions known.
     let _root = a.root();
     let Ok(rows) = combined_rows(alloc, Operation::Union, a, b, visits) else {
+        if has_more(Operation::Union, a, b, max, visits) {
+            return Err(SetFault::Full);
+        }
         return Err(SetFault::NoMemory);
     };
     if rows.len() as u64 > max {

@@ -1,16 +1,13 @@
-use Rattle.std.proofs.Common.{rules, ◌≡◌, ◌+◌, ◌++◌, length, map, take, OnOk, sym, ◌∙◌, ap, subst, arith}
-use Rattle.ph_model.specs.EntryEdits.{what_at}
+use Rattle.std.proofs.Common.{rules, [], length, take, refl, sym, ◌∙◌, ap, subst, arith}
 use Rattle.ph_model.specs.Lawful.{IsBody}
 use Rattle.ph_model.specs.EntryList.{entries, node}
 use Rattle.ph_model.specs.PutTree.{body_above}
 use Rattle.ph_node.specs.Shown.{shown}
-use Rattle.ph_node.specs.Spots.{joined_digits}
 use Rattle.ph_path.proofs.Knowns.{wider}
-use Rattle.ph_set.specs.Parts.{IsPart, openings, part_rows, stretch_rows}
+use Rattle.ph_set.specs.Parts.{IsPart, openings, rows_in}
 use Rattle.ph_set.proofs.Joining.{same-above, stepped, joined-known, joined-from, child-level, child-part, child-rows, child-nodes, child-from}
-use Rattle.ph_set.proofs.Meetings.{after-two}
-use Rattle.ph_set.proofs.Spent.{visits-on}
-use Rattle.std.proofs.lemmas.Result.{on_ok_weaker}
+use Rattle.ph_set.proofs.Taking.{taken-on, taken-whole}
+use Rattle.ph_set.proofs.Walking.{stretch-none}
 use Rattle.ph_set.proofs.lists.+lists.Goals as goal
 
 pub list_entries-list_entry-requires : goal.list_entries-list_entry-requires
@@ -23,28 +20,31 @@ list_entries-list_entry-requires g t c κs within =
     c.loop-i.invariant.above)) c.requires.part in
     (omega (arith, c.decreases), search (rules, within, known, part))
 
-pub list_entries-returns-in_err-list_entry-clause-visits : goal.list_entries-returns-in_err-list_entry-clause-visits
-list_entries-returns-in_err-list_entry-clause-visits g t c =
-    let step = stepped c.args.w g.P.Dims.D (take g.P.Dims.D c.args.known.now) (take g.P.Dims.D c.loop-i.known) (shown c.args.node) c.requires.part
-    c.loop-i.invariant.above c.spot.result c.spot.ensures.spot c.loop-i.i c.args.to c.spot.ensures.place (omega (arith, c.loop-i-test.true)) c.requires.within in
-    record { all = search rules; most = omega (arith, step.nodes, c.list_entry.ensures.visits.most, c.loop-i.invariant.visits) }
+pub list_entries-loop-i-init : goal.list_entries-loop-i-init
+list_entries-loop-i-init g t c = record {
+  rows = record { taken = []; adds_them = g.met.S.RowSink.adds_none c.args.rows.now; split = refl };
+  visits = refl;
+  known = c.requires.known;
+  above = refl;
+}
 
 pub list_entries-loop-i-preserved : goal.list_entries-loop-i-preserved
 list_entries-loop-i-preserved g t c =
     let step = stepped c.args.w g.P.Dims.D (take g.P.Dims.D c.args.known.now) (take g.P.Dims.D c.loop-i.known) (shown c.args.node) c.requires.part
     c.loop-i.invariant.above c.spot.result c.spot.ensures.spot c.loop-i.i c.args.to c.spot.ensures.place (omega (arith, c.loop-i-test.true)) c.requires.within in
-    let n = shown c.args.node in
-    let new = joined_digits n c.spot.result (take g.P.Dims.D c.loop-i.known) in
-    let rest = stretch_rows c.args.w n (body_above n.level (take g.P.Dims.D c.args.known.now)) (c.loop-i.i + 1) c.args.to in
     record {
-      rows =
-          after-two (map g.P.Space.row_of c.loop-i.rows.items) (map g.P.Space.row_of c.list_entry.new.rows.items)
-          (part_rows c.args.w new (what_at (entries n) c.spot.result.place)) rest _ c.in_ok-list_entry.ensures.rows step.rows ∙ c.loop-i.invariant.rows;
-      visits = omega (arith, step.nodes, c.in_ok-list_entry.ensures.visits.all, c.loop-i.invariant.visits);
-      later = omega (arith, c.list_entry.ensures.later, c.loop-i.invariant.later);
-      known = c.in_ok-list_entry.ensures.known;
-      above = c.in_ok-list_entry.ensures.above ∙ c.loop-i.invariant.above;
+      rows = taken-on g.S.RowSink.adds g.met.S.RowSink.adds_more _ _ _ _ _ _ _ c.loop-i.invariant.rows c.list_entry.ensures.rows step.rows;
+      visits = omega (arith, step.nodes, c.list_entry.ensures.visits, c.loop-i.invariant.visits);
+      known = c.list_entry.ensures.known;
+      above = c.list_entry.ensures.above ∙ c.loop-i.invariant.above;
     }
+
+pub list_entries-returns-clause-rows : goal.list_entries-returns-clause-rows
+list_entries-returns-clause-rows g t c =
+    let n = shown c.args.node in
+    taken-whole g.S.RowSink.adds g.met.S.RowSink.adds_more _ _ _ _ c.loop-i.invariant.rows
+    (ap (rows_in c.args.w n.level (body_above n.level (take g.P.Dims.D c.args.known.now)))
+    (stretch-none c.loop-i.i c.args.to (entries n) (omega (arith, c.loop-i-test.false))))
 
 pub list_entry-join_entry-requires-clause-known : goal.list_entry-join_entry-requires-clause-known
 list_entry-join_entry-requires-clause-known g t c =
@@ -70,13 +70,13 @@ list_entry-list_entries-requires g t c κs within =
     (take d c.join_entry.new.known) c.join_entry.ensures m held in
     (omega (arith, low, c.decreases), search (rules, within, known, part))
 
-pub list_entry-returns-in_ok-push-in-Value-clause-known : goal.list_entry-returns-in_ok-push-in-Value-clause-known
-list_entry-returns-in_ok-push-in-Value-clause-known g t c =
+pub list_entry-returns-in-Value-clause-known : goal.list_entry-returns-in-Value-clause-known
+list_entry-returns-in-Value-clause-known g t c =
     joined-known c.args.w g.P.Dims.D (take g.P.Dims.D c.args.known.now) (shown c.args.node) c.requires.part
     c.args.spot c.requires.spot (take g.P.Dims.D c.join_entry.new.known) c.join_entry.ensures
 
-pub list_entry-returns-in_ok-push-in-Value-clause-above : goal.list_entry-returns-in_ok-push-in-Value-clause-above
-list_entry-returns-in_ok-push-in-Value-clause-above g t c =
+pub list_entry-returns-in-Value-clause-above : goal.list_entry-returns-in-Value-clause-above
+list_entry-returns-in-Value-clause-above g t c =
     joined-from c.args.w g.P.Dims.D (take g.P.Dims.D c.args.known.now) (shown c.args.node) c.requires.part c.args.spot
     c.requires.spot (take g.P.Dims.D c.join_entry.new.known) c.join_entry.ensures
 
@@ -84,7 +84,7 @@ pub list_entry-returns-in-Child-clause-rows : goal.list_entry-returns-in-Child-c
 list_entry-returns-in-Child-clause-rows g t c =
     let d = g.P.Dims.D in
     let held = sym c.in-Child.ensures ∙ ap node (sym c.visit-below.ensures.shows) in
-    subst (λ r. OnOk c.list_entries.result (map g.P.Space.row_of c.list_entries.new.rows.items ≡ map g.P.Space.row_of c.args.rows.now.items ++ r))
+    subst (g.S.RowSink.adds c.args.rows.now c.list_entries.new.rows)
     (child-rows c.args.w d (take d c.args.known.now) (shown c.args.node) c.requires.part c.args.spot c.requires.spot
     (take d c.join_entry.new.known) c.join_entry.ensures (shown c.visit-below.result) held c.len.result c.len.ensures)
     c.list_entries.ensures.rows
@@ -98,14 +98,12 @@ list_entry-returns-in-Child-clause-visits g t c =
     (child-nodes c.args.w d (take d c.args.known.now) (shown c.args.node) c.requires.part c.args.spot
     c.requires.spot (take d c.join_entry.new.known) c.join_entry.ensures (shown c.visit-below.result) held
     c.len.result c.len.ensures) in
-    visits-on c.list_entries.ensures.visits (omega (arith, one, below, c.visit-below.ensures.cost))
+    omega (arith, one, below, c.visit-below.ensures.cost, c.list_entries.ensures.visits)
 
 pub list_entry-returns-in-Child-clause-above : goal.list_entry-returns-in-Child-clause-above
 list_entry-returns-in-Child-clause-above g t c =
     let d = g.P.Dims.D in
     let held = sym c.in-Child.ensures ∙ ap node (sym c.visit-below.ensures.shows) in
-    on_ok_weaker c.list_entries.result
-    (λ e. child-from c.args.w d (take d c.args.known.now) (shown c.args.node) c.requires.part c.args.spot
+    child-from c.args.w d (take d c.args.known.now) (shown c.args.node) c.requires.part c.args.spot
     c.requires.spot (take d c.join_entry.new.known) c.join_entry.ensures (shown c.visit-below.result) held
-    (take d c.list_entries.new.known) e)
-    c.list_entries.ensures.above
+    (take d c.list_entries.new.known) c.list_entries.ensures.above

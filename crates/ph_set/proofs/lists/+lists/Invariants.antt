@@ -1,8 +1,9 @@
-use Rattle.std.proofs.Common.{◌≡◌, ◌+◌, ◌≤◌, ◌*◌, ◌++◌, length, map, take}
+use Rattle.std.proofs.Common.{◌≡◌, ◌+◌, ◌*◌, length, take}
 use Rattle.ph_model.specs.Lawful.{IsBody}
 use Rattle.ph_model.specs.PutTree.{digits_from}
 use Rattle.ph_node.specs.Shown.{shown}
 use Rattle.ph_set.specs.Parts.{rows_over, nodes_over}
+use Rattle.ph_set.specs.Sinks.{AreTaken}
 use Rattle.ph_set.proofs.lists.+lists.Given as goal
 
 abbrev pub decreases-list_entry : goal.decreases-list_entry
@@ -13,11 +14,10 @@ decreases-list_entries g l = 2 * (shown l.node).level + 1
 
 abbrev pub invariant-list_entries-loop-i : goal.invariant-list_entries-loop-i
 invariant-list_entries-loop-i g l = record {
-  rows : map g.P.Space.row_of l.rows.items ++ rows_over l.w g.P.Dims.D (shown l.node) l.fn.known l.i l.to ≡
-      map g.P.Space.row_of l.fn.rows.items ++ rows_over l.w g.P.Dims.D (shown l.node) l.fn.known l.from l.to;
+  rows : AreTaken g.S.RowSink.adds l.fn.rows l.rows (rows_over l.w g.P.Dims.D (shown l.node) l.fn.known l.from l.to)
+      (rows_over l.w g.P.Dims.D (shown l.node) l.fn.known l.i l.to);
   visits : l.visits + length (nodes_over l.w g.P.Dims.D (shown l.node) l.fn.known l.i l.to) ≡ l.fn.visits + length
       (nodes_over l.w g.P.Dims.D (shown l.node) l.fn.known l.from l.to);
-  later : l.fn.visits ≤ l.visits;
   known : IsBody g.P.Dims.D l.w (take g.P.Dims.D l.known);
   above : digits_from ((shown l.node).level + 1) (take g.P.Dims.D l.known) ≡ digits_from ((shown l.node).level + 1) (take g.P.Dims.D l.fn.known);
 }

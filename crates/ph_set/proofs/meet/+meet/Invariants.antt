@@ -1,7 +1,8 @@
-use Rattle.std.proofs.Common.{◌≡◌, ◌+◌, ◌-◌, ◌*◌, ◌≤◌, ◌++◌, map}
+use Rattle.std.proofs.Common.{◌≡◌, ◌+◌, ◌-◌, ◌*◌, ◌≤◌}
 use Rattle.ph_node.specs.Shown.{shown}
 use Rattle.ph_set.specs.Held.{held_what}
 use Rattle.ph_set.specs.Parts.{height}
+use Rattle.ph_set.specs.Sinks.{AreTaken}
 use Rattle.ph_set.specs.Sides.{side_node, kept_from, work_from}
 use Rattle.ph_set.proofs.meet.+meet.Given as goal
 
@@ -28,10 +29,8 @@ decreases-side_by_side-loop-i g l = (l.lefts - l.i) + (l.rights - l.j)
 
 abbrev pub invariant-side_by_side-loop-i : goal.invariant-side_by_side-loop-i
 invariant-side_by_side-loop-i g l = record {
-  rows : map g.P.Space.row_of l.rows.items ++ kept_from l.plan g.P.Dims.D l.a l.i l.b l.j ≡
-      map g.P.Space.row_of l.fn.rows.items ++ kept_from l.plan g.P.Dims.D l.a 0 l.b 0;
+  rows : AreTaken g.S.RowSink.adds l.fn.rows l.rows (kept_from l.plan g.P.Dims.D l.a 0 l.b 0) (kept_from l.plan g.P.Dims.D l.a l.i l.b l.j);
   visits : l.visits + work_from l.plan g.P.Dims.D l.a l.i l.b l.j ≡ l.fn.visits + work_from l.plan g.P.Dims.D l.a 0 l.b 0;
-  later : l.fn.visits ≤ l.visits;
   left : l.i ≤ l.lefts;
   right : l.j ≤ l.rights;
 }

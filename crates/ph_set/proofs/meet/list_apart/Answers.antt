@@ -3,7 +3,6 @@ use Rattle.ph_model.specs.PutTree.{body_address}
 use Rattle.ph_model.specs.Combined.{seen_nodes}
 use Rattle.ph_set.specs.Held.{held_what, nodes_held}
 use Rattle.ph_set.specs.Meeting.{work_parts}
-use Rattle.ph_set.proofs.Spent.{visits-same}
 use Rattle.ph_set.proofs.Meetings.{address-known, apart-first, apart-second, apart-work}
 use Rattle.ph_set.proofs.meet.list_apart.Given.{Over}
 use Rattle.ph_set.proofs.meet.list_apart.Goals.{After-body_address-second}
@@ -42,8 +41,8 @@ cost g c =
 
 pub returns-then-first-second-clause-visits : goal.returns-then-first-second-clause-visits
 returns-then-first-second-clause-visits g c =
-    visits-same c.list_in_order.ensures.visits (cost g (goal.at.returns-then-first-second-clause-visits g c).After-body_address-second)
+    omega (arith, cost g (goal.at.returns-then-first-second-clause-visits g c).After-body_address-second, c.list_in_order.ensures.visits)
 
 pub returns-else-first-second-clause-visits : goal.returns-else-first-second-clause-visits
 returns-else-first-second-clause-visits g c =
-    visits-same c.list_in_order-else-first-second.ensures.visits (omega (arith, cost g (goal.at.returns-else-first-second-clause-visits g c).After-body_address-second))
+    omega (arith, cost g (goal.at.returns-else-first-second-clause-visits g c).After-body_address-second, c.list_in_order-else-first-second.ensures.visits)

@@ -1,4 +1,4 @@
-use Rattle.std.proofs.Common.{◌≡◌, ◌++◌, [], map, OnOk, sym, ◌∙◌, ap, subst}
+use Rattle.std.proofs.Common.{[], sym, ◌∙◌, ap, subst}
 use Rattle.std.specs.Prelude.{Some}
 use Rattle.std.specs.Option.{option_copied}
 use Rattle.ph_specs.specs.TreeRows.{rows}
@@ -10,7 +10,7 @@ pub returns-in-Some-None-clause-rows : goal.returns-in-Some-None-clause-rows
 returns-in-Some-None-clause-rows g c =
     let p = c.args.plan.now in
     let d = g.P.Dims.D in
-    subst (λ r. OnOk c.list_root.result (map g.P.Space.row_of c.list_root.new.rows.items ≡ map g.P.Space.row_of c.args.rows.now.items ++ r))
+    subst (g.S.RowSink.adds c.args.rows.now c.list_root.new.rows)
     (sym (combined-left p.width p.left p.both p.right (rows p.width d (Some c.in-Some-None.x.now)))
     ∙ ap (λ o. kept p (rows p.width d (option_copied o)) []) (sym c.in-Some-None.is-0)
     ∙ ap (λ o. kept p (rows p.width d (option_copied c.args.a)) (rows p.width d (option_copied o))) (sym c.in-Some-None.is-1))

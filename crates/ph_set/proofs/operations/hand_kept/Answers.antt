@@ -1,14 +1,13 @@
-use Rattle.std.proofs.Common.{rules, ◌≡◌, ◌≤◌, ◌++◌, map, sym, ◌∙◌, ap, arith, List}
+use Rattle.std.proofs.Common.{◌≡◌, ◌≤◌, sym, subst, arith}
 use Rattle.std.specs.Option.{option_copied}
 use Rattle.ph_specs.specs.TreeRows.{rows}
-use Rattle.ph_specs.specs.Table.{Row}
 use Rattle.ph_specs.specs.WorkSets.{placed, all_nodes}
 use Rattle.ph_path.proofs.Roots.{shape-lawful}
 use Rattle.ph_set.specs.Meeting.{kept, work, kept_trees, work_trees}
-use Rattle.ph_set.proofs.Rooted.{tree-rows, tree-nodes, map-same, same-kept, same-work}
-use Rattle.ph_set.proofs.operations.list_kept.Given.{Over}
-use Rattle.ph_set.proofs.operations.list_kept.Goals.{After-list_roots}
-use Rattle.ph_set.proofs.operations.list_kept.Goals as goal
+use Rattle.ph_set.proofs.Rooted.{tree-rows, tree-nodes, same-kept, same-work}
+use Rattle.ph_set.proofs.operations.hand_kept.Given.{Over}
+use Rattle.ph_set.proofs.operations.hand_kept.Goals.{After-list_roots}
+use Rattle.ph_set.proofs.operations.hand_kept.Goals as goal
 
 pub list_roots-requires-clause-left : goal.list_roots-requires-clause-left
 list_roots-requires-clause-left g c =
@@ -44,20 +43,9 @@ roots g c =
           (all_nodes p.width d c.args.a.now.table) (all_nodes p.width d c.args.b.now.table) x y n m,
     )
 
-pub returns-in_err-list_roots-clause-visits : goal.returns-in_err-list_roots-clause-visits
-returns-in_err-list_roots-clause-visits g c =
-    let same = (roots g (goal.at.returns-in_err-list_roots-clause-visits g c).After-list_roots).1 in
-    record { all = search rules; most = omega (arith, same, c.list_roots.ensures.visits.most) }
-
 pub returns-clause-rows : goal.returns-clause-rows
 returns-clause-rows g c =
-    let p = c.args.plan.now in
-    sym (map-same c.list_roots.new.rows.items)
-    ∙ c.in_ok-list_roots.ensures.rows
-    ∙ ap (λ (t : List Row). map (λ r. r) t ++ kept_trees p g.row.D (option_copied c.root-left.result) (option_copied c.root-right.result)) c.in_ok-rows.ensures.none
-    ∙ (roots g (goal.at.returns-clause-rows g c).After-list_roots).0
+    subst (g.S.RowSink.adds c.args.rows.now c.list_roots.new.rows) (roots g (goal.at.returns-clause-rows g c).After-list_roots).0 c.list_roots.ensures.rows
 
 pub returns-clause-visits : goal.returns-clause-visits
-returns-clause-visits g c =
-    let same = (roots g (goal.at.returns-clause-visits g c).After-list_roots).1 in
-    record { all = omega (arith, same, c.in_ok-list_roots.ensures.visits.all); most = omega (arith, same, c.list_roots.ensures.visits.most) }
+returns-clause-visits g c = omega (arith, (roots g (goal.at.returns-clause-visits g c).After-list_roots).1, c.list_roots.ensures.visits)
