@@ -21,8 +21,8 @@ use std::sync::ledger::Ledger;
 /// A tree without rows gets all of them at once, from the sorted rows. No node is visited, each is made once, and an error
 /// leaves the tree as it was. It takes memory to sort, for another copy of the rows where a point stands twice, and for the nodes.
 ///
-/// So does a tree with rows that has no more of them than come: it is made anew of its own rows and these. Each of its nodes is visited once at most. That takes memory for
-/// a copy of all rows besides.
+/// So does a tree with rows that has no more of them than come: it is made anew of its own rows and these. Each of its nodes is visited once
+/// at most. That takes memory for a copy of all rows besides.
 ///
 /// A tree with more rows gets one after another, in their order. `NoMemory` leaves the rows in it that were put before, and the last edits
 /// of the tree where there are none. Where it would have room for as many new points as there are rows, none is looked up before;
@@ -38,7 +38,6 @@ pub fn import_rows<const D: usize, V: Ledger, C: Ledger>(
     ensures done { IsImported kept.old kept.new rows.entry.items
         (most_changes kept.old.width D kept.old.table rows.entry.items)
         changes.old changes.new result }
-    ensures whole { kept.old.table ≡ [] → OnErr result (kept.new ≡ kept.old) }
     ensures at_once { length kept.old.table ≤ length rows.entry.items → OnErr result (kept.new ≡ kept.old) }
     ensures fault { IsErrOf result ImportFault.NoMemory → kept.old.table ≢ [] → IsPart kept.old kept.new rows.entry.items }
     ensures visits { visits.new ≤ visits.old + import_visits D kept.old rows.entry.items }
