@@ -52,9 +52,10 @@ pub record TooMany (operation : SetOperation) (t u now : AnyTable) (changes now_
   pub full : has_too_many operation t.tree.width t.tree.max t.tree.table u.tree.table ≡ true
   pub none : now_changes ≡ changes
 
--- it is as before for want of memory
+-- it is as before for want of memory, and there are not too many rows
 pub record Unmade (operation : SetOperation) (t u now : AnyTable) (changes now_changes : ℕ) : Type 0 where
   pub stays : now ≡ t
+  pub fits : has_too_many operation t.tree.width t.tree.max t.tree.table u.tree.table ≡ false
   pub few : now_changes ≤ changes + combined_nodes operation t u
 
 abbrev pub MadeOr : SetOperation → AnyTable → AnyTable → AnyTable → ℕ → ℕ → Result ℕ SetFault → Type 0

@@ -7,7 +7,7 @@ use Rattle.ph_specs.specs.Reply.{Reply, replies_text}
 use Rattle.ph_specs.specs.Table.{Row}
 use Rattle.ph_specs.specs.Sets.{put_all}
 use Rattle.ph_specs.specs.Past.{back}
-use Rattle.ph_specs.specs.Refusals.{has_file_fault, import_rows, table_read}
+use Rattle.ph_specs.specs.Refusals.{combine_refusal, has_file_fault, import_rows, table_read}
 use Rattle.ph_import.specs.Imported.{with_some}
 use Rattle.ph_specs.specs.State.{Slot, Engine, Files, Outcome, outcome, past_in, with_past, current, other, with_slot}
 use Rattle.ph_specs.specs.Engine.{act}
@@ -16,7 +16,7 @@ use Rattle.ph_specs.specs.Named.{lookup}
 use Rattle.ph_engine.specs.Beside.{Beside, beside_sink, IsTold, StillTells, Filings}
 use Rattle.ph_any_tree.specs.Telling.{is_refusal}
 use Rattle.ph_any_tree.specs.Working.{one_if, work_of, IsAtMost, IsAtLeast}
-use Rattle.ph_engine.specs.Refusing.{early_refusal, frame_refusal}
+use Rattle.ph_engine.specs.Refusing.{early_refusal}
 use Rattle.ph_any_tree.specs.Tables.{engine_of}
 use Rattle.ph_any_tree.specs.declared.answer.Answer.{Answer}
 use Rattle.ph_any_tree.specs.declared.answer.Stop.{Stop}
@@ -135,9 +135,9 @@ MakesNodes s files command changes now_changes =
 abbrev pub slot_wants : ℕ → Slot → Files → Bool → Command → Bool
 slot_wants most s files fault command = is_none (early_refusal s command) && not (has_file_fault most files fault command) && takes_memory s command
 
--- whether both slots go together, where a command knows both and takes memory
+-- whether both slots go together and what is made of them is not too large, where a command knows both and takes memory
 abbrev pub goes_together : Engine → Command → Bool
-goes_together e (Command.Combine operation) = is_none (frame_refusal (current e) (other e))
+goes_together e (Command.Combine operation) = is_none (combine_refusal operation (current e) (other e))
 goes_together e _ = true
 
 -- whether it may want memory in an engine, with files of at most so many bytes, where the files fail in it or do not

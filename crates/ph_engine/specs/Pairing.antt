@@ -12,7 +12,6 @@ use Rattle.ph_join.specs.Joining.{one_of}
 use Rattle.ph_script.specs.declared.reply.Reply.{Reply as Told}
 use Rattle.ph_script.specs.Meaning.{reply_of}
 use Rattle.ph_any_tree.specs.Listing.{Lists}
-use Rattle.ph_engine.specs.Refusing.{frame_refusal}
 use Rattle.ph_any_tree.specs.declared.answer.Answer.{Answer}
 use Rattle.ph_any_tree.specs.declared.answer.Stop.{Stop}
 
@@ -43,10 +42,10 @@ pub record SlotsCombined (operation : SetOperation) (s t now : Slot) (reply : Re
   pub said : reply ≡ combined_reply (combine_refusal operation s t) operation s t
   pub nodes : now_changes ≡ changes + combined_changes (combine_refusal operation s t) operation s t
 
--- memory was missing, in slots that go together
+-- memory was missing, in slots that are not refused
 pub record SlotsKept (operation : SetOperation) (s t now : Slot) (changes now_changes : ℕ) : Type 0 where
   pub stays : now ≡ s
-  pub together : frame_refusal s t ≡ None
+  pub together : combine_refusal operation s t ≡ None
   pub few : now_changes ≤ changes + length (all_nodes s.width s.dims (combine operation s.width s.table t.table))
 
 abbrev pub CombinesSlots : {E : Type 0} → SetOperation → Slot → Slot → Slot → ℕ → ℕ → Result Told E → Type 0
