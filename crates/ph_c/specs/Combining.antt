@@ -1,7 +1,9 @@
 -- A tree that is made of two.
 use Rattle.std.specs.Prelude.{◌≡◌, ◌↔◌, ◌<◌, ◌≤◌, ℕ, List, [], ◌∷◌, length, Option, Some, None}
-use Rattle.ph_specs.specs.Sets.{union}
+use Rattle.ph_specs.specs.Sets.{union, common, minus}
 use Rattle.ph_specs.specs.Table.{Row}
+use Rattle.ph_c.specs.declared.combining.Operation.{Operation}
+use Rattle.ph_c.specs.declared.combining.Operation.TheVariants.{Union, Common, Minus}
 use Rattle.ph_c.specs.declared.trees.Tree.{Tree}
 use Rattle.ph_c.specs.Trees.{AnyTable, table_at}
 use Rattle.ph_c.specs.Answers.{IsOneOf, no_tree}
@@ -53,3 +55,15 @@ pub record NoPart (t u : AnyTable) (answer : ℕ) : Type 0 where
   pub known : IsOneOf (code.unlike ∷ code.no_memory ∷ []) answer
   pub unlike : (answer ≡ code.unlike) ↔ (AreAlike t u → ⊥)
   pub no_memory : answer ≡ code.no_memory → AreAlike t u
+
+-- what an operation makes
+abbrev pub IsCombined : Operation → AnyTable → AnyTable → AnyTable → Type 0
+IsCombined (Union most) t u made = IsUnion t u most made
+IsCombined Common t u made = IsPart (common t.tree.table u.tree.table) t u made
+IsCombined Minus t u made = IsPart (minus t.tree.table u.tree.table) t u made
+
+-- why it makes none
+abbrev pub NotCombined : Operation → AnyTable → AnyTable → ℕ → Type 0
+NotCombined (Union most) t u answer = NoUnion t u most answer
+NotCombined Common t u answer = NoPart t u answer
+NotCombined Minus t u answer = NoPart t u answer

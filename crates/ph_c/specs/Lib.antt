@@ -10,6 +10,7 @@ pub mod Windows
 pub mod Nears
 pub mod Balls
 pub mod Asked
+pub mod Listings
 pub mod Openings
 pub mod Builds
 pub mod Combining

@@ -1,11 +1,11 @@
 //! The boxes that a question about a box lists, written into lent arrays.
-ghost use Rattle.std.specs.Prelude.{◌*◌, ◌≡◌, ◌≤◌};
+ghost use Rattle.std.specs.Prelude.{◌*◌, ◌/◌, ◌≡◌, ◌≤◌};
 ghost use Rattle.std.specs.Option.{SomeIff};
 ghost use Rattle.ph_c.specs.Trees.{table_at};
 ghost use Rattle.ph_c.specs.Windows.{last_of, lent};
 ghost use Rattle.ph_c.specs.Asked.{AreAsked, IsAsked};
 
-use crate::answers::{DONE, NO_POINT, REVERSED};
+use crate::answers::{DONE, NO_BOXES, NO_POINT, REVERSED};
 use crate::pages::{last_in, list_rows, window_at};
 use ph_box::{Question, bounds};
 use ph_coord::{Point, is_at_most};
@@ -35,8 +35,8 @@ fn asked_in<const K: usize, const D: usize>(
     }
 }
 
-/// Writes a page of the boxes that a question about the box between two corners lists.
-pub(crate) fn list_asked<const K: usize, const D: usize, V: Ledger>(
+/// Writes a page of the boxes that a question about the box between two corners lists. They have K dimensions.
+pub(crate) fn list_boxes<const K: usize, const D: usize, V: Ledger>(
     tree: &PhTree<D>,
     question: Question,
     low: &[i64],
@@ -48,11 +48,37 @@ pub(crate) fn list_asked<const K: usize, const D: usize, V: Ledger>(
     more: &mut u32,
     visits: &mut Steps<V>,
 ) -> u32
-    requires few { D ≤ 16 }
-    requires halves { K * 2 ≡ D }
+    requires { K ≡ D / 2 }
     ensures { IsAsked question (table_at D tree.now) low.now high.now last.now
         (lent points.old values.old count.old more.old) (lent points.new values.new count.new more.new) result }
 {
+    if D % 2 != 0 {
+        return NO_BOXES;
+    }
+    list_asked::<K, D, V>(
+        tree, question, low, high, last, points, values, count, more, visits,
+    )
+}
+
+// The same where the points can be boxes.
+fn list_asked<const K: usize, const D: usize, V: Ledger>(
+    tree: &PhTree<D>,
+    question: Question,
+    low: &[i64],
+    high: &[i64],
+    last: &[i64],
+    points: &mut [i64],
+    values: &mut [u64],
+    count: &mut usize,
+    more: &mut u32,
+    visits: &mut Steps<V>,
+) -> u32
+    requires { K * 2 ≡ D }
+    ensures { IsAsked question (table_at D tree.now) low.now high.now last.now
+        (lent points.old values.old count.old more.old) (lent points.new values.new count.new more.new) result }
+{
+    // A use that makes known that the rows are a table, and the number of dimensions.
+    let _root = tree.root();
     let Some(asked) = asked_in::<K, D>(tree, low, high, last) else {
         return NO_POINT;
     };
@@ -60,8 +86,6 @@ pub(crate) fn list_asked<const K: usize, const D: usize, V: Ledger>(
     if !is_at_most(lo.as_slice(), hi.as_slice()) {
         return REVERSED;
     }
-    // A use that makes known that the rows are a table, and that there is a dimension.
-    let _root = tree.root();
     let (lo, hi) = bounds(question, tree.width(), &lo, &hi);
     let mut window = window_at(tree, &Cursor { lo, hi, last }, visits);
     list_rows(&mut window, points, values, count, more, visits);

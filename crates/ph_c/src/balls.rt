@@ -123,15 +123,14 @@ pub(crate) fn list_ball<const D: usize, V: Ledger>(
     more: &mut u32,
     visits: &mut Steps<V>,
 ) -> u32
-    requires { D ≤ 16 }
     ensures { IsBall (table_at D tree.now) center.now radius last.now
         (lent points.old values.old count.old more.old) (lent points.new values.new count.new more.new) result }
 {
+    // A use that makes known that the rows are a table, and the number of dimensions.
+    let _root = tree.root();
     let (Some(q), Some(last)) = (point_in(tree, center), last_in(tree, last)) else {
         return NO_POINT;
     };
-    // A use that makes known that the rows are a table, and that there is a dimension.
-    let _root = tree.root();
     let w = tree.width();
     let mut ball = Ball::new(tree, q, radius);
     list_behind(&mut ball, w, &last, points, values, count, more, visits);

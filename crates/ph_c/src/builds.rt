@@ -5,8 +5,9 @@ ghost use Rattle.ph_c.specs.Builds.{IsBuilt, NotBuilt, rows_for};
 ghost use Rattle.ph_c.specs.Openings.{BoxedOr, Opening};
 
 use crate::answers::NO_MEMORY;
-use crate::frames::{frame_of, give_made};
+use crate::frames::width_for;
 use crate::handle::Handle;
+use crate::openings::give_made;
 use crate::trees::Tree;
 use ph_steps::Steps;
 use std::alloc::Global;
@@ -46,7 +47,7 @@ fn build_in<C: Ledger>(
     ensures { BoxedOr (IsBuilt (rows_for dims width most points.now values.now)) (NotBuilt (rows_for dims width most points.now values.now)) result }
 {
     let mut changes: Steps<C> = Steps::new(changes);
-    let w = frame_of(dims, width)?;
+    let w = width_for(dims, width)?;
     let tree = Tree::of_rows(alloc, dims, w, most, points, values, &mut changes)?;
     match Box::new(alloc, tree) {
         Ok(tree) => Ok(tree),

@@ -1,8 +1,8 @@
 //! Trees of D dimensions that are made of two.
-ghost use Rattle.std.specs.Prelude.{◌≡◌, ◌≤◌, MatchResult};
+ghost use Rattle.std.specs.Prelude.{◌≡◌, MatchResult};
 ghost use Rattle.ph_specs.specs.TableNames.{common as common_of, minus as minus_of};
 ghost use Rattle.ph_c.specs.Trees.{table_at};
-ghost use Rattle.ph_c.specs.Combining.{IsUnion, NoUnion, IsPart, NoPart};
+ghost use Rattle.ph_c.specs.Combining.{IsCombined, NotCombined, IsUnion, NoUnion, IsPart, NoPart};
 
 use crate::answers::{FULL, NO_MEMORY, UNLIKE};
 use ph_set::{SetFault, common, minus, union};
@@ -11,8 +11,37 @@ use ph_tree::PhTree;
 use std::alloc::Global;
 use std::sync::ledger::Ledger;
 
-/// The tree of the rows of both, for at most `most` of them. At a point of both the value is that of the first.
-pub(crate) fn union_of<const D: usize, V: Ledger, C: Ledger>(
+/// What is made of two trees.
+#[derive(Clone, Copy)]
+pub(crate) enum Operation {
+    /// The rows of both, for at most `most` of them. At a point of both the value is that of the first.
+    Union { most: u64 },
+    /// The rows of the first at points that the second has, for as many as the first may have.
+    Common,
+    /// The rows of the first at points that the second has not, for as many as the first may have.
+    Minus,
+}
+
+/// The tree that an operation makes of two, or the answer why there is none.
+pub(crate) fn combined<const D: usize, V: Ledger, C: Ledger>(
+    alloc: Global,
+    operation: Operation,
+    a: &PhTree<D>,
+    b: &PhTree<D>,
+    counters: &mut Counters<V, C>,
+) -> Result<PhTree<D>, u32>
+    ensures { MatchResult result
+        (λ t. IsCombined operation (table_at D a.now) (table_at D b.now) (table_at D t))
+        (NotCombined operation (table_at D a.now) (table_at D b.now)) }
+{
+    match operation {
+        Operation::Union { most } => union_of(alloc, a, b, most, counters),
+        Operation::Common => common_of(alloc, a, b, counters),
+        Operation::Minus => minus_of(alloc, a, b, counters),
+    }
+}
+
+fn union_of<const D: usize, V: Ledger, C: Ledger>(
     alloc: Global,
     a: &PhTree<D>,
     b: &PhTree<D>,
@@ -40,8 +69,7 @@ pub(crate) fn union_of<const D: usize, V: Ledger, C: Ledger>(
     }
 }
 
-/// The tree of the rows of the first at points that the second has.
-pub(crate) fn common_of<const D: usize, V: Ledger, C: Ledger>(
+fn common_of<const D: usize, V: Ledger, C: Ledger>(
     alloc: Global,
     a: &PhTree<D>,
     b: &PhTree<D>,
@@ -60,8 +88,7 @@ pub(crate) fn common_of<const D: usize, V: Ledger, C: Ledger>(
     }
 }
 
-/// The tree of the rows of the first at points that the second has not.
-pub(crate) fn minus_of<const D: usize, V: Ledger, C: Ledger>(
+fn minus_of<const D: usize, V: Ledger, C: Ledger>(
     alloc: Global,
     a: &PhTree<D>,
     b: &PhTree<D>,

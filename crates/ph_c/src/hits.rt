@@ -98,15 +98,14 @@ pub(crate) fn list_nearest<const D: usize, V: Ledger>(
     count: &mut usize,
     visits: &mut Steps<V>,
 ) -> u32
-    requires { D ≤ 16 }
     ensures { IsNear (table_at D tree.now) center.now (lent_hits points.old values.old distances.old count.old)
         (lent_hits points.new values.new distances.new count.new) result }
 {
+    // A use that makes the number of dimensions known.
+    let _root = tree.root();
     let Some(q) = point_in(tree, center) else {
         return NO_POINT;
     };
-    // A use that makes known that there is a dimension.
-    let _root = tree.root();
     let room = room_for_hits::<D>(points.len(), values.len(), distances.len());
     match nearest(alloc, tree, q, room, visits) {
         Ok(hits) => {

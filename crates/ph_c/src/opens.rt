@@ -46,7 +46,7 @@ pub extern "C" fn ph_length(alloc: Global, h: &mut Handle, rows: &mut u64) -> u3
     let Some(tree) = h.take(alloc) else {
         return NO_TREE;
     };
-    *rows = tree.len();
+    *rows = tree.frame().rows;
     h.give(alloc, tree);
     DONE
 }
@@ -60,7 +60,7 @@ pub extern "C" fn ph_most(alloc: Global, h: &mut Handle, most: &mut u64) -> u32
     let Some(tree) = h.take(alloc) else {
         return NO_TREE;
     };
-    *most = tree.most();
+    *most = tree.frame().most;
     h.give(alloc, tree);
     DONE
 }
@@ -74,7 +74,7 @@ pub extern "C" fn ph_width(alloc: Global, h: &mut Handle, width: &mut u32) -> u3
     let Some(tree) = h.take(alloc) else {
         return NO_TREE;
     };
-    *width = tree.width().bits();
+    *width = tree.frame().width.bits();
     h.give(alloc, tree);
     DONE
 }
@@ -88,7 +88,7 @@ pub extern "C" fn ph_dimensions(alloc: Global, h: &mut Handle, dims: &mut u32) -
     let Some(tree) = h.take(alloc) else {
         return NO_TREE;
     };
-    *dims = tree.dims();
+    *dims = tree.frame().dims;
     h.give(alloc, tree);
     DONE
 }

@@ -100,15 +100,14 @@ pub(crate) fn list_window<const D: usize, V: Ledger>(
     more: &mut u32,
     visits: &mut Steps<V>,
 ) -> u32
-    requires { D ≤ 16 }
     ensures { IsWindow (table_at D tree.now) low.now high.now last.now
         (lent points.old values.old count.old more.old) (lent points.new values.new count.new more.new) result }
 {
+    // A use that makes the number of dimensions known.
+    let _root = tree.root();
     let Some(cursor) = cursor_in(tree, low, high, last) else {
         return NO_POINT;
     };
-    // A use that makes known that there is a dimension.
-    let _root = tree.root();
     let mut window = window_at(tree, &cursor, visits);
     list_rows(&mut window, points, values, count, more, visits);
     DONE

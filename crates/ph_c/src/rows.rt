@@ -26,9 +26,10 @@ pub(crate) fn put_row<const D: usize, V: Ledger, C: Ledger>(
     former: &mut u64,
     counters: &mut Counters<V, C>,
 ) -> u32
-    requires { D ≤ 16 }
     ensures { IsPut (table_at D tree.old) point.now value (table_at D tree.new) former.old former.new result }
 {
+    // A use that makes the number of dimensions known.
+    let _root = tree.root();
     let Some(p) = point_in(tree, point) else {
         return NO_POINT;
     };
@@ -49,9 +50,10 @@ pub(crate) fn get_row<const D: usize, V: Ledger>(
     value: &mut u64,
     visits: &mut Steps<V>,
 ) -> u32
-    requires { D ≤ 16 }
     ensures { IsGet (table_at D tree.now) point.now value.old value.new result }
 {
+    // A use that makes the number of dimensions known.
+    let _root = tree.root();
     let Some(p) = point_in(tree, point) else {
         return NO_POINT;
     };
@@ -70,9 +72,10 @@ pub(crate) fn remove_row<const D: usize, V: Ledger, C: Ledger>(
     former: &mut u64,
     counters: &mut Counters<V, C>,
 ) -> u32
-    requires { D ≤ 16 }
     ensures { IsRemove (table_at D tree.old) point.now (table_at D tree.new) former.old former.new result }
 {
+    // A use that makes the number of dimensions known.
+    let _root = tree.root();
     let Some(p) = point_in(tree, point) else {
         return NO_POINT;
     };
@@ -92,9 +95,10 @@ pub(crate) fn move_row<const D: usize, V: Ledger, C: Ledger>(
     to: &[i64],
     counters: &mut Counters<V, C>,
 ) -> u32
-    requires { D ≤ 16 }
     ensures { IsMove (table_at D tree.old) from.now to.now (table_at D tree.new) result }
 {
+    // A use that makes the number of dimensions known.
+    let _root = tree.root();
     let (Some(p), Some(q)) = (point_in(tree, from), point_in(tree, to)) else {
         return NO_POINT;
     };

@@ -6,8 +6,9 @@ ghost use Rattle.ph_c.specs.Openings.{BoxedOr, Opening};
 ghost use Rattle.ph_c.specs.Snapshots.{IsSave, IsLoaded, NotLoaded};
 
 use crate::answers::{NO_MEMORY, NO_TREE};
-use crate::frames::{frame_of, give_made};
+use crate::frames::width_for;
 use crate::handle::Handle;
+use crate::openings::give_made;
 use crate::trees::Tree;
 use ph_steps::Steps;
 use std::alloc::Global;
@@ -59,7 +60,7 @@ fn load_in<C: Ledger>(
     ensures { BoxedOr (IsLoaded dims width bytes.now) (NotLoaded dims width bytes.now) result }
 {
     let mut changes: Steps<C> = Steps::new(changes);
-    let w = frame_of(dims, width)?;
+    let w = width_for(dims, width)?;
     let tree = Tree::load(alloc, dims, w, bytes, &mut changes)?;
     match Box::new(alloc, tree) {
         Ok(tree) => Ok(tree),

@@ -3,12 +3,13 @@ ghost use Rattle.std.specs.Prelude.{◌≡◌, ◌<◌, Some, MatchOption};
 ghost use Rattle.ph_specs.specs.TableNames.{common, minus};
 ghost use Rattle.ph_c.specs.Trees.{any_table};
 ghost use Rattle.ph_c.specs.Calls.{table_in};
-ghost use Rattle.ph_c.specs.Combining.{Combines, LackOne, IsUnion, NoUnion, IsPart, NoPart};
+ghost use Rattle.ph_c.specs.Combining.{Combines, LackOne, IsCombined, NotCombined, IsUnion, NoUnion, IsPart, NoPart};
 ghost use Rattle.ph_c.specs.Openings.{BoxedOr, Opening};
 
 use crate::answers::{NO_MEMORY, NO_TREE};
-use crate::frames::give_made;
+use crate::combining::Operation;
 use crate::handle::Handle;
+use crate::openings::give_made;
 use crate::trees::Tree;
 use ph_steps::Counters;
 use std::alloc::Global;
@@ -29,13 +30,7 @@ pub extern "C" fn ph_union(
     ensures answer { Combines (table_in a.old.tree) (table_in b.old.tree) result (into.new.tree ≡ into.old.tree)
         (λ t u. Opening (IsUnion t u most) (NoUnion t u most) (table_in into.old.tree) (table_in into.new.tree) result) }
 {
-    let Some((left, right)) = take_both(alloc, a, b) else {
-        return NO_TREE;
-    };
-    let made = union_in::<Brand, Brand>(alloc, &left, &right, most, Blank::new(1), Blank::new(1));
-    a.give(alloc, left);
-    b.give(alloc, right);
-    give_made(alloc, into, made)
+    combine(alloc, into, a, b, Operation::Union { most })
 }
 
 /// Opens the tree of the rows of `a` at whose points `b` has a row.
@@ -46,13 +41,7 @@ pub extern "C" fn ph_common(alloc: Global, into: &mut Handle, a: &mut Handle, b:
     ensures answer { Combines (table_in a.old.tree) (table_in b.old.tree) result (into.new.tree ≡ into.old.tree)
         (λ t u. Opening (IsPart (common t.tree.table u.tree.table) t u) (NoPart t u) (table_in into.old.tree) (table_in into.new.tree) result) }
 {
-    let Some((left, right)) = take_both(alloc, a, b) else {
-        return NO_TREE;
-    };
-    let made = common_in::<Brand, Brand>(alloc, &left, &right, Blank::new(1), Blank::new(1));
-    a.give(alloc, left);
-    b.give(alloc, right);
-    give_made(alloc, into, made)
+    combine(alloc, into, a, b, Operation::Common)
 }
 
 /// Opens the tree of the rows of `a` at whose points `b` has no row.
@@ -63,10 +52,33 @@ pub extern "C" fn ph_minus(alloc: Global, into: &mut Handle, a: &mut Handle, b: 
     ensures answer { Combines (table_in a.old.tree) (table_in b.old.tree) result (into.new.tree ≡ into.old.tree)
         (λ t u. Opening (IsPart (minus t.tree.table u.tree.table) t u) (NoPart t u) (table_in into.old.tree) (table_in into.new.tree) result) }
 {
+    combine(alloc, into, a, b, Operation::Minus)
+}
+
+// Opens the tree that an operation makes of both trees.
+fn combine(
+    alloc: Global,
+    into: &mut Handle,
+    a: &mut Handle,
+    b: &mut Handle,
+    operation: Operation,
+) -> u32
+    ensures first { a.new.tree ≡ a.old.tree }
+    ensures second { b.new.tree ≡ b.old.tree }
+    ensures answer { Combines (table_in a.old.tree) (table_in b.old.tree) result (into.new.tree ≡ into.old.tree)
+        (λ t u. Opening (IsCombined operation t u) (NotCombined operation t u) (table_in into.old.tree) (table_in into.new.tree) result) }
+{
     let Some((left, right)) = take_both(alloc, a, b) else {
         return NO_TREE;
     };
-    let made = minus_in::<Brand, Brand>(alloc, &left, &right, Blank::new(1), Blank::new(1));
+    let made = combine_in::<Brand, Brand>(
+        alloc,
+        &left,
+        &right,
+        operation,
+        Blank::new(1),
+        Blank::new(1),
+    );
     a.give(alloc, left);
     b.give(alloc, right);
     give_made(alloc, into, made)
@@ -90,64 +102,21 @@ fn take_both(alloc: Global, a: &mut Handle, b: &mut Handle) -> Option<(Box<Tree>
     }
 }
 
-// The trees in boxes, with counters that nobody reads, made of blanks.
-
-fn union_in<V: Ledger, C: Ledger>(
+// The tree in a box, with counters that nobody reads, made of blanks.
+fn combine_in<V: Ledger, C: Ledger>(
     alloc: Global,
     a: &Tree,
     b: &Tree,
-    most: u64,
+    operation: Operation,
     visits: Blank,
     changes: Blank,
 ) -> Result<Box<Tree>, u32>
     requires visits { (visits.name ≡ V.name) × (visits.parts ≡ V.parts) × (0 < visits.parts) }
     requires changes { (changes.name ≡ C.name) × (changes.parts ≡ C.parts) × (0 < changes.parts) }
-    ensures { BoxedOr (IsUnion (any_table a.now) (any_table b.now) most) (NoUnion (any_table a.now) (any_table b.now) most) result }
+    ensures { BoxedOr (IsCombined operation (any_table a.now) (any_table b.now)) (NotCombined operation (any_table a.now) (any_table b.now)) result }
 {
     let mut counters: Counters<V, C> = Counters::new(visits, changes);
-    let tree = a.union(alloc, b, most, &mut counters)?;
-    match Box::new(alloc, tree) {
-        Ok(tree) => Ok(tree),
-        Err(_) => Err(NO_MEMORY),
-    }
-}
-
-fn common_in<V: Ledger, C: Ledger>(
-    alloc: Global,
-    a: &Tree,
-    b: &Tree,
-    visits: Blank,
-    changes: Blank,
-) -> Result<Box<Tree>, u32>
-    requires visits { (visits.name ≡ V.name) × (visits.parts ≡ V.parts) × (0 < visits.parts) }
-    requires changes { (changes.name ≡ C.name) × (changes.parts ≡ C.parts) × (0 < changes.parts) }
-    ensures { BoxedOr
-        (IsPart (common (any_table a.now).tree.table (any_table b.now).tree.table) (any_table a.now) (any_table b.now))
-        (NoPart (any_table a.now) (any_table b.now)) result }
-{
-    let mut counters: Counters<V, C> = Counters::new(visits, changes);
-    let tree = a.common(alloc, b, &mut counters)?;
-    match Box::new(alloc, tree) {
-        Ok(tree) => Ok(tree),
-        Err(_) => Err(NO_MEMORY),
-    }
-}
-
-fn minus_in<V: Ledger, C: Ledger>(
-    alloc: Global,
-    a: &Tree,
-    b: &Tree,
-    visits: Blank,
-    changes: Blank,
-) -> Result<Box<Tree>, u32>
-    requires visits { (visits.name ≡ V.name) × (visits.parts ≡ V.parts) × (0 < visits.parts) }
-    requires changes { (changes.name ≡ C.name) × (changes.parts ≡ C.parts) × (0 < changes.parts) }
-    ensures { BoxedOr
-        (IsPart (minus (any_table a.now).tree.table (any_table b.now).tree.table) (any_table a.now) (any_table b.now))
-        (NoPart (any_table a.now) (any_table b.now)) result }
-{
-    let mut counters: Counters<V, C> = Counters::new(visits, changes);
-    let tree = a.minus(alloc, b, &mut counters)?;
+    let tree = a.combined(alloc, b, operation, &mut counters)?;
     match Box::new(alloc, tree) {
         Ok(tree) => Ok(tree),
         Err(_) => Err(NO_MEMORY),

@@ -1,10 +1,10 @@
 //! A tree of 1 to 16 dimensions as one type.
-ghost use Rattle.std.specs.Prelude.{◌≡◌, ◌<◌, ◌≤◌, length};
+ghost use Rattle.std.specs.Prelude.{◌≡◌, ◌≤◌};
 ghost use Rattle.ph_c.specs.Trees.{any_table, empty_table};
 ghost use Rattle.ph_c.specs.Edits.{IsPut, IsGet, IsRemove, IsMove};
-ghost use Rattle.ph_c.specs.Windows.{IsWindow, lent};
+ghost use Rattle.ph_c.specs.Opens.{IsFrameOf};
 
-use crate::pages::list_window;
+use crate::frames::{Frame, frame_of};
 use crate::rows::{get_row, move_row, put_row, remove_row};
 use ph_coord::Width;
 use ph_steps::{Counters, Steps};
@@ -89,49 +89,11 @@ impl Tree {
         }
     }
 
-    /// Its number of dimensions: 1 to 16.
-    pub(crate) fn dims(&self) -> u32
-        ensures { result ≡ (any_table self.now).dims }
+    /// What it is for, and how many rows it has.
+    pub(crate) fn frame(&self) -> Frame
+        ensures { IsFrameOf (any_table self.now) result }
     {
-        match self {
-            Tree::D1(_) => 1,
-            Tree::D2(_) => 2,
-            Tree::D3(_) => 3,
-            Tree::D4(_) => 4,
-            Tree::D5(_) => 5,
-            Tree::D6(_) => 6,
-            Tree::D7(_) => 7,
-            Tree::D8(_) => 8,
-            Tree::D9(_) => 9,
-            Tree::D10(_) => 10,
-            Tree::D11(_) => 11,
-            Tree::D12(_) => 12,
-            Tree::D13(_) => 13,
-            Tree::D14(_) => 14,
-            Tree::D15(_) => 15,
-            Tree::D16(_) => 16,
-        }
-    }
-
-    /// The width of its coordinates.
-    pub(crate) fn width(&self) -> Width
-        ensures { result ≡ (any_table self.now).tree.width }
-    {
-        with_tree!(self, tree => tree.width())
-    }
-
-    /// The number of its rows.
-    pub(crate) fn len(&self) -> u64
-        ensures { result ≡ length (any_table self.now).tree.table }
-    {
-        with_tree!(self, tree => tree.len())
-    }
-
-    /// The number of rows that it may have.
-    pub(crate) fn most(&self) -> u64
-        ensures { result ≡ (any_table self.now).tree.max }
-    {
-        with_tree!(self, tree => tree.max())
+        with_tree!(self, tree => frame_of(tree))
     }
 
     /// Puts a value at a point, and writes the one that stood there to `former`.
@@ -181,23 +143,5 @@ impl Tree {
         ensures { IsMove (any_table self.old) from.now to.now (any_table self.new) result }
     {
         with_tree!(self, tree => move_row(tree, from, to, counters))
-    }
-
-    /// Writes a page of a window.
-    pub(crate) fn window<V: Ledger>(
-        &self,
-        low: &[i64],
-        high: &[i64],
-        last: &[i64],
-        points: &mut [i64],
-        values: &mut [u64],
-        count: &mut usize,
-        more: &mut u32,
-        visits: &mut Steps<V>,
-    ) -> u32
-        ensures { IsWindow (any_table self.now) low.now high.now last.now
-            (lent points.old values.old count.old more.old) (lent points.new values.new count.new more.new) result }
-    {
-        with_tree!(self, tree => list_window(tree, low, high, last, points, values, count, more, visits))
     }
 }

@@ -1,12 +1,11 @@
 //! Trees of any number of dimensions that are made of two.
-ghost use Rattle.ph_specs.specs.TableNames.{common, minus};
 ghost use Rattle.ph_c.specs.Trees.{any_table};
-ghost use Rattle.ph_c.specs.Combining.{IsUnion, NoUnion, IsPart, NoPart};
+ghost use Rattle.ph_c.specs.Combining.{IsCombined, NotCombined};
 ghost use Rattle.ph_c.specs.Openings.{MadeOr};
 
 use super::Tree;
 use crate::answers::UNLIKE;
-use crate::combining::{common_of, minus_of, union_of};
+use crate::combining::{Operation, combined};
 use ph_steps::Counters;
 use std::alloc::Global;
 use std::sync::ledger::Ledger;
@@ -37,44 +36,18 @@ macro_rules! with_both {
 }
 
 impl Tree {
-    /// The tree of the rows of both, for at most `most` of them, or the answer why there is none.
-    pub(crate) fn union<V: Ledger, C: Ledger>(
+    /// The tree that an operation makes of it and another one, or the answer why there is none.
+    pub(crate) fn combined<V: Ledger, C: Ledger>(
         &self,
         alloc: Global,
         other: &Tree,
-        most: u64,
-        counters: &mut Counters<V, C>,
-    ) -> Result<Tree, u32>
-        ensures { MadeOr (IsUnion (any_table self.now) (any_table other.now) most) (NoUnion (any_table self.now) (any_table other.now) most) result }
-    {
-        with_both!(self, other, a, b => union_of(alloc, a, b, most, counters))
-    }
-
-    /// The tree of the rows at points that the other has, or the answer why there is none.
-    pub(crate) fn common<V: Ledger, C: Ledger>(
-        &self,
-        alloc: Global,
-        other: &Tree,
+        operation: Operation,
         counters: &mut Counters<V, C>,
     ) -> Result<Tree, u32>
         ensures { MadeOr
-            (IsPart (common (any_table self.now).tree.table (any_table other.now).tree.table) (any_table self.now) (any_table other.now))
-            (NoPart (any_table self.now) (any_table other.now)) result }
+            (IsCombined operation (any_table self.now) (any_table other.now))
+            (NotCombined operation (any_table self.now) (any_table other.now)) result }
     {
-        with_both!(self, other, a, b => common_of(alloc, a, b, counters))
-    }
-
-    /// The tree of the rows at points that the other has not, or the answer why there is none.
-    pub(crate) fn minus<V: Ledger, C: Ledger>(
-        &self,
-        alloc: Global,
-        other: &Tree,
-        counters: &mut Counters<V, C>,
-    ) -> Result<Tree, u32>
-        ensures { MadeOr
-            (IsPart (minus (any_table self.now).tree.table (any_table other.now).tree.table) (any_table self.now) (any_table other.now))
-            (NoPart (any_table self.now) (any_table other.now)) result }
-    {
-        with_both!(self, other, a, b => minus_of(alloc, a, b, counters))
+        with_both!(self, other, a, b => combined(alloc, operation, a, b, counters))
     }
 }

@@ -18,7 +18,7 @@ list_behind-requires g c =
           (
             c.root-root.ensures.some,
             (
-              c.requires,
+              c.root-root.ensures.few,
               (
                 last-known t c.width-w.result c.args.last.now c.in-Some-Some.last c.width-w.ensures l.1 l.0,
                 rw (c.new-ball.ensures.hits, c.width-w.ensures)
