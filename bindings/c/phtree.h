@@ -70,6 +70,18 @@ uint32_t ph_width(ph_tree *tree, uint32_t *width);
 /* Writes the number of dimensions. Answers PH_DONE or PH_NO_TREE. */
 uint32_t ph_dimensions(ph_tree *tree, uint32_t *dims);
 
+/* What a tree is made of. It is a function of the rows, the width and the dimensions alone, whatever was put and taken out before. */
+typedef struct ph_tree_sizes {
+    uint64_t rows;
+    uint64_t nodes;  /* at most as many as rows */
+    uint64_t linear; /* nodes in the linear layout, which lists their entries */
+    uint64_t cube;   /* nodes in the cube layout, which has a place for each address */
+    uint64_t words;  /* 8 bytes each, of the records of all nodes, or 2^64 - 1, should there be more: a snapshot has 8 bytes more than these */
+} ph_tree_sizes;
+
+/* Writes the sizes of the tree. Answers PH_DONE or PH_NO_TREE. Takes no memory. Visits each node once. */
+uint32_t ph_sizes(ph_tree *tree, ph_tree_sizes *sizes);
+
 /* ---- rows ---- */
 
 /* Puts a value at a point. Answers PH_DONE where no row was there, and PH_REPLACED where one was, whose value is written to `former`; else PH_NO_TREE,

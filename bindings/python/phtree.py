@@ -24,12 +24,13 @@ import os
 import pathlib
 import struct
 from array import array
+from collections import namedtuple
 from collections.abc import ItemsView, MutableMapping, ValuesView
 from ctypes import byref, c_int64, c_size_t, c_uint8, c_uint32, c_uint64, c_void_p
 from fractions import Fraction
 from operator import index
 
-__all__ = ["Tree"]
+__all__ = ["Sizes", "Tree"]
 
 MOST = 2**64 - 1
 MOST_SQUARE = 2**128 - 1
@@ -51,6 +52,13 @@ REFUSALS = {
 
 class _Handle(ctypes.Structure):
     _fields_ = [("at", c_void_p)]
+
+
+class _Sizes(ctypes.Structure):
+    _fields_ = [(name, c_uint64) for name in ("rows", "nodes", "linear", "cube", "words")]
+
+
+Sizes = namedtuple("Sizes", [name for name, _ in _Sizes._fields_])
 
 
 class _Calls:
@@ -220,6 +228,13 @@ class Tree(MutableMapping):
         """How many rows the tree may have."""
         _check(_calls.ph_most(self._me, self._got))
         return self._value.value
+
+    def sizes(self):
+        """What the tree is made of: rows, nodes, those in the linear and in the cube layout, and the words of 8 bytes of all their records. The same rows
+        are the same sizes, whatever was put and taken out before."""
+        sizes = _Sizes()
+        _check(_calls.ph_sizes(self._me, byref(sizes)))
+        return Sizes(*(getattr(sizes, name) for name in Sizes._fields))
 
     def _set(self, into, point):
         try:

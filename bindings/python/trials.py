@@ -114,6 +114,17 @@ class Round:
         assert list(self.tree.inside(low, high)) == self.where(lambda p: all(c <= a <= d and c <= b <= d for c, a, b, d in pairs(p)))
         assert list(self.tree.covering(low, high)) == self.where(lambda p: all(a <= c and b >= d for c, a, b, d in pairs(p)))
 
+    def sizes(self):
+        """The root stands at the highest place, and another node at each place where two rows that are neighbours in Z-order differ first."""
+        digits = [self.z_order(p) for p, _ in self.where(lambda p: True)]
+        nodes = {()} if digits else set()
+        for a, b in zip(digits, digits[1:]):
+            first = next(i for i in range(len(a)) if a[i] != b[i]) // self.dimensions * self.dimensions
+            nodes.add(tuple(a[:first]))
+        sizes = self.tree.sizes()
+        assert sizes.rows == len(self.rows) and sizes.nodes == len(nodes) == sizes.linear + sizes.cube
+        assert 8 + 8 * sizes.words == len(self.tree.to_bytes())
+
     def copies(self):
         assert dict(Tree.from_rows(self.dimensions, self.rows, self.width)) == self.rows
         assert dict(pickle.loads(pickle.dumps(self.tree))) == self.rows
@@ -144,11 +155,11 @@ class Round:
             small[p] = 2
             other = (-1 - p[0],) + p[1:]
             assert raised(lambda: small.__setitem__(other, 1)) is OverflowError and dict(small) == {p: 2} and small.most == 1
-        assert raised(lambda: len(small)) is ValueError
+        assert raised(lambda: len(small)) is ValueError and raised(small.sizes) is ValueError
 
     def run(self, missing):
-        questions = [self.look_up, self.window, self.window_beside_edits, self.nearest, self.ball, self.boxes, self.copies, self.sets, self.snapshots,
-                     self.refusals]
+        questions = [self.look_up, self.window, self.window_beside_edits, self.nearest, self.ball, self.boxes, self.copies, self.sizes, self.sets,
+                     self.snapshots, self.refusals]
         for _ in range(STEPS):
             for _ in range(self.random.choice([1, 5, 20])):
                 try:

@@ -37,6 +37,8 @@ fn many() -> Result<(), Box<dyn Error>> {
     }
     assert_eq!(tree.relocate(&[1, 1, 1], &[2, 2, 2])?, Moved::Taken);
     assert_eq!((tree.len(), tree.get(&[5, 5, 5])?, tree.get(&[5, 5, 6])?), (512, Some(5), None));
+    let sizes = tree.sizes();
+    assert_eq!((sizes.rows, sizes.linear + sizes.cube), (512, sizes.nodes));
     assert_eq!(std::thread::spawn(move || tree.len()).join().unwrap_or(0), 512);
     println!("1024 rows were put, and 512 moved and taken out");
     Ok(())

@@ -16,10 +16,22 @@ struct Handle {
     at: *mut c_void,
 }
 
+/// What a tree is made of: rows, nodes, those of each of two layouts, and the words of 8 bytes of all their records.
+#[repr(C)]
+#[derive(Clone, Copy, Debug, Default, PartialEq, Eq)]
+pub struct Sizes {
+    pub rows: u64,
+    pub nodes: u64,
+    pub linear: u64,
+    pub cube: u64,
+    pub words: u64,
+}
+
 extern "C" {
     fn ph_open(tree: *mut Handle, dims: u32, width: u32, most: u64) -> u32;
     fn ph_close(tree: *mut Handle);
     fn ph_length(tree: *mut Handle, rows: *mut u64) -> u32;
+    fn ph_sizes(tree: *mut Handle, sizes: *mut Sizes) -> u32;
     fn ph_put(tree: *mut Handle, point: *const i64, length: usize, value: u64, former: *mut u64) -> u32;
     fn ph_get(tree: *mut Handle, point: *const i64, length: usize, value: *mut u64) -> u32;
     fn ph_remove(tree: *mut Handle, point: *const i64, length: usize, former: *mut u64) -> u32;
@@ -119,6 +131,13 @@ impl<const D: usize> Tree<D> {
 
     pub fn is_empty(&self) -> bool {
         self.len() == 0
+    }
+
+    /// What the tree is made of. The same rows are the same sizes.
+    pub fn sizes(&self) -> Sizes {
+        let mut sizes = Sizes::default();
+        unsafe { ph_sizes(self.handle.get(), &mut sizes) };
+        sizes
     }
 
     /// Puts a value at a point. Gives the value that stood there.

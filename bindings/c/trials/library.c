@@ -8,6 +8,7 @@
 #pragma weak ph_most
 #pragma weak ph_width
 #pragma weak ph_dimensions
+#pragma weak ph_sizes
 #pragma weak ph_remove
 #pragma weak ph_move
 #pragma weak ph_window
@@ -98,6 +99,20 @@ int is_same(ph_tree *tree, const struct table *table) {
         if (ph_get(tree, table->rows[i].point, table->dims, &number) != PH_DONE || number != table->rows[i].value)
             return 0;
     return 1;
+}
+
+int has_sizes(ph_tree *tree, const struct table *table) {
+    ph_tree_sizes sizes = {7, 7, 7, 7, 7}, before = sizes;
+    uint64_t needed = 0;
+    uint8_t byte = 0;
+    if (!ph_sizes)
+        return 1;
+    uint32_t answer = ph_sizes(tree, &sizes);
+    if (table->dims == 0)
+        return answer == PH_NO_TREE && memcmp(&sizes, &before, sizeof sizes) == 0;
+    if (answer != PH_DONE || sizes.rows != table->count || sizes.nodes != count_nodes(table) || sizes.linear + sizes.cube != sizes.nodes)
+        return 0;
+    return !ph_save || (ph_save(tree, &byte, 0, &needed) == PH_NO_ROOM && needed == 8 + 8 * sizes.words);
 }
 
 static int is_loaded(ph_tree *tree, const struct table *table, const uint8_t *bytes, uint8_t *again, size_t length) {

@@ -18,6 +18,33 @@ int is_before(uint32_t dims, const int64_t *p, const int64_t *q) {
     return p[at] < q[at];
 }
 
+/* The highest place at which two points differ. */
+static int place_apart(const struct table *table, const int64_t *p, const int64_t *q) {
+    uint64_t differing = 0;
+    int place = (int)table->width - 1;
+    for (uint32_t i = 0; i < table->dims; i++)
+        differing |= (uint64_t)p[i] ^ (uint64_t)q[i];
+    while (place > 0 && (differing >> place & 1) == 0)
+        place--;
+    return place;
+}
+
+size_t count_nodes(const struct table *table) {
+    int open[64], depth = 0;
+    size_t nodes = 0;
+    for (size_t i = 0; i < table->count; i++) {
+        /* The root, before the first row. */
+        int place = i == 0 ? (int)table->width - 1 : place_apart(table, table->rows[i - 1].point, table->rows[i].point);
+        while (depth > 0 && open[depth - 1] < place)
+            depth--;
+        if (depth == 0 || open[depth - 1] != place) {
+            open[depth++] = place;
+            nodes++;
+        }
+    }
+    return nodes;
+}
+
 static int is_point(const struct table *table, uint32_t dims, const int64_t *p, size_t length) {
     int64_t half = (int64_t)1 << (table->width - 1);
     for (size_t i = 0; i < length; i++)

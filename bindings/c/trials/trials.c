@@ -178,6 +178,8 @@ static void step(int is_refused) {
         end(call->name, "it writes something else", answer, right);
     if ((answer < PH_NO_TREE || below(20) == 0) && !are_same())
         end(call->name, "the trees have other rows", answer, right);
+    if (below(30) == 0 && !has_sizes(trees, tables))
+        end("sizes", "the sizes are others", 0, 0);
     if (below(30) == 0 && !is_saved(trees, tables))
         end("save", "the snapshot is another one", 0, 0);
 }

@@ -81,6 +81,12 @@ int is_same(ph_tree *tree, const struct table *table);
 /* Whether a snapshot is loaded as the same rows, saved as the same bytes, and refused where its end is missing. Where memory is missing it is not asked. */
 int is_saved(ph_tree *tree, const struct table *table);
 
+/* How many nodes the tree of a table has: the root, at the highest place, and another one at each place where two rows that are neighbours differ first. */
+size_t count_nodes(const struct table *table);
+
+/* Whether a tree has the sizes of a table: its rows and nodes, each node in one of two layouts, and words as its snapshot has; and none where that has none. */
+int has_sizes(ph_tree *tree, const struct table *table);
+
 /* Refuses the n-th call for memory from now on, counted from 1, or none where that is 0. */
 void refuse(unsigned long n);
 

@@ -7,3 +7,4 @@ mod Behind
 mod Questions
 mod Slices
 mod Paired
+mod Counted

@@ -5,6 +5,7 @@ pub mod Answers
 pub mod Calls
 pub mod Edits
 pub mod Opens
+pub mod Sizes
 pub mod Pages
 pub mod Windows
 pub mod Nears

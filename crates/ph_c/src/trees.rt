@@ -3,9 +3,11 @@ ghost use Rattle.std.specs.Prelude.{◌≡◌, ◌≤◌};
 ghost use Rattle.ph_c.specs.Trees.{any_table, empty_table};
 ghost use Rattle.ph_c.specs.Edits.{IsPut, IsGet, IsRemove, IsMove};
 ghost use Rattle.ph_c.specs.Opens.{IsFrameOf};
+ghost use Rattle.ph_c.specs.Sizes.{AreSizesOf};
 
 use crate::frames::{Frame, frame_of};
 use crate::rows::{get_row, move_row, put_row, remove_row};
+use crate::sizes::{TreeSizes, sizes_of};
 use ph_coord::Width;
 use ph_steps::{Counters, Steps};
 use ph_tree::PhTree;
@@ -94,6 +96,13 @@ impl Tree {
         ensures { IsFrameOf (any_table self.now) result }
     {
         with_tree!(self, tree => frame_of(tree))
+    }
+
+    /// Its sizes.
+    pub(crate) fn sizes<V: Ledger>(&self, visits: &mut Steps<V>) -> TreeSizes
+        ensures { AreSizesOf (any_table self.now) result }
+    {
+        with_tree!(self, tree => sizes_of(tree, visits))
     }
 
     /// Puts a value at a point, and writes the one that stood there to `former`.
