@@ -19,8 +19,8 @@ use Rattle.ph_script.specs.declared.lines.Line.TheVariants.{Text, Long}
 use Rattle.ph_script.specs.Shown.{IsLine}
 use Rattle.ph_script.proofs.Pieces.{line-reading, line-from_kept}
 use Rattle.ph_engine.specs.Machine.{Machine, Turn, Met, turn, met, unmet, KEPT, KEPT-is}
-use Rattle.ph_any_tree.specs.Working.{Work, one_if, no_work, work_of, IsAtMost, IsAtLeast}
-use Rattle.ph_any_tree.specs.Telling.{is_refusal, refuses}
+use Rattle.ph_commands.specs.Working.{Work, one_if, no_work, work_of, IsAtMost, IsAtLeast}
+use Rattle.ph_commands.specs.Telling.{is_refusal, refuses}
 use Rattle.ph_engine.specs.Costs.{Spent, Worked}
 use Rattle.ph_engine.specs.Answering.{Said, SaysOr}
 use Rattle.ph_engine.specs.ScriptMachine.{Whole, whole, told_now, told_then, files_found, files_met, file_by, files_in, reading_in}
@@ -29,9 +29,9 @@ use Rattle.ph_engine.specs.Beside.{Beside, AreTold, IsTold, StillTells, Filings}
 use Rattle.ph_engine.specs.Doing.{Done, DoneOr, HoldsFound, Knows, Leads, file_read, uses_files, cut_engine, starved_engine, wants_memory}
 use Rattle.ph_io.specs.Writing.{WritesFront}
 use Rattle.ph_engine.specs.Serving.{StaysKnown}
-use Rattle.ph_any_tree.specs.declared.answer.Answer.{Answer}
-use Rattle.ph_any_tree.specs.declared.answer.Stop.{Stop}
-use Rattle.ph_any_tree.specs.declared.answer.Stop.TheVariants.{WriteFault, NoMemory}
+use Rattle.ph_commands.specs.declared.answer.Answer.{Answer}
+use Rattle.ph_commands.specs.declared.answer.Stop.{Stop}
+use Rattle.ph_commands.specs.declared.answer.Stop.TheVariants.{WriteFault, NoMemory}
 use Rattle.ph_io.proofs.Appending.{given_none}
 use Rattle.ph_engine.proofs.Machines.{or_false}
 use Rattle.ph_engine.proofs.Sums.{no-filings}

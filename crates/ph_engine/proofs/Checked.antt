@@ -30,15 +30,15 @@ use Rattle.ph_snap.specs.declared.fault.LoadFault.{LoadFault}
 use Rattle.ph_engine.specs.Beside.{Filings, beside_sink}
 use Rattle.ph_engine.specs.Checking.{FileHasSizes, HasSizes, LineGiven, Meets, CheckDone, bytes_checked, nodes_saved, nodes_unless, status_of}
 use Rattle.ph_engine.specs.Filing.{TellsFault, TellsUnfetched}
-use Rattle.ph_any_tree.specs.Loading.{IsWithinBytes}
-use Rattle.ph_any_tree.specs.Telling.{is_refusal, StopHasCause, ToldOr}
-use Rattle.ph_any_tree.specs.Working.{one_if}
+use Rattle.ph_commands.specs.Loading.{IsWithinBytes}
+use Rattle.ph_commands.specs.Telling.{is_refusal, StopHasCause, ToldOr}
+use Rattle.ph_commands.specs.Working.{one_if}
 use Rattle.ph_engine.specs.Statuses.{IsRead}
-use Rattle.ph_any_tree.specs.declared.answer.Answer.{Answer}
-use Rattle.ph_any_tree.specs.declared.answer.Answer.TheVariants as answer
+use Rattle.ph_commands.specs.declared.answer.Answer.{Answer}
+use Rattle.ph_commands.specs.declared.answer.Answer.TheVariants as answer
 use Rattle.ph_engine.specs.declared.status.Status.TheVariants.{Clean, Refused, WriteFault, Memory}
-use Rattle.ph_any_tree.specs.declared.answer.Stop.{Stop}
-use Rattle.ph_any_tree.specs.declared.answer.Stop.TheVariants as stop
+use Rattle.ph_commands.specs.declared.answer.Stop.{Stop}
+use Rattle.ph_commands.specs.declared.answer.Stop.TheVariants as stop
 use Rattle.ph_engine.proofs.OwnDims.{own-dims}
 use Rattle.ph_engine.proofs.OwnHeaders.{own-none}
 use Rattle.ph_engine.proofs.Filed.{fetched, fetch-load, has-fetched, found_short, met-short, short-there, absent, over, long_bytes, failed-once, failed-never}

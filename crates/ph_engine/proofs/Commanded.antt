@@ -13,17 +13,17 @@ use Rattle.ph_specs.specs.Refusals.{refusal, has_wrong_kind, boxes_of}
 use Rattle.ph_specs.specs.State.{Slot, Engine, Files, current, outcome}
 use Rattle.ph_script.specs.declared.reply.Reply.{Reply as Told}
 use Rattle.ph_script.specs.Meaning.{reply_of}
-use Rattle.ph_any_tree.specs.Telling.{is_refusal, refuses, Tells}
+use Rattle.ph_commands.specs.Telling.{is_refusal, refuses, Tells}
 use Rattle.ph_engine.specs.Beside.{Beside, beside_sink, IsTold, StillTells, Filings}
 use Rattle.ph_engine.specs.Comparing.{Compares}
-use Rattle.ph_any_tree.specs.Working.{work_of, nodes_of, IsAtMost, IsAtLeast}
-use Rattle.ph_any_tree.specs.Served.{Does}
+use Rattle.ph_commands.specs.Working.{work_of, nodes_of, IsAtMost, IsAtLeast}
+use Rattle.ph_commands.specs.Served.{Does}
 use Rattle.ph_engine.specs.Doing.{DoneOr, Begun, uses_files, is_page, cut_engine}
-use Rattle.ph_any_tree.specs.Tables.{engine_of}
+use Rattle.ph_commands.specs.Tables.{engine_of}
 use Rattle.ph_io.specs.Writing.{WritesFront}
-use Rattle.ph_any_tree.specs.declared.answer.Answer.{Answer}
-use Rattle.ph_any_tree.specs.declared.answer.Stop.{Stop}
-use Rattle.ph_any_tree.specs.declared.answer.Stop.TheVariants.{WriteFault, NoMemory}
+use Rattle.ph_commands.specs.declared.answer.Answer.{Answer}
+use Rattle.ph_commands.specs.declared.answer.Stop.{Stop}
+use Rattle.ph_commands.specs.declared.answer.Stop.TheVariants.{WriteFault, NoMemory}
 
 pub told-told : (told now_told : Option Files) (files : Files) → now_told ≡ told → IsTold told files → StillTells told now_told files
 told-told None now_told files e k = tt

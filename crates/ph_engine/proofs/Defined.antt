@@ -5,7 +5,7 @@ use Rattle.ph_specs.specs.Lines.{lines}
 use Rattle.ph_specs.specs.Reply.{replies_text}
 use Rattle.ph_specs.specs.State.{Engine, Files, Outcome}
 use Rattle.ph_specs.specs.Engine.{run, written}
-use Rattle.ph_any_tree.proofs.Replies.{texts-append}
+use Rattle.ph_commands.proofs.Replies.{texts-append}
 use Rattle.std.specs.Prelude.{Some, None}
 use Rattle.ph_engine.specs.Beside.{Beside, AreTold}
 use Rattle.ph_engine.specs.Machine.{Turn, answers, after, lines_of}

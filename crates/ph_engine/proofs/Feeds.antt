@@ -8,13 +8,13 @@ use Rattle.ph_specs.specs.Lines.{LF, lines}
 use Rattle.ph_specs.proofs.laws.Put.{and}
 use Rattle.ph_engine.specs.Costs.{Spent}
 use Rattle.ph_engine.specs.Machine.{Machine, Met, Turn, turn, answers, after, some_refused, lines_of, KEPT, KEPT-is}
-use Rattle.ph_any_tree.specs.Telling.{is_refusal}
+use Rattle.ph_commands.specs.Telling.{is_refusal}
 use Rattle.ph_engine.specs.Cutting.{ended, is_unbroken}
 use Rattle.ph_engine.specs.Answering.{Said, SaidOr}
 use Rattle.ph_engine.specs.Feeding.{Fed, Halted, FedOr, Feeds, AtEnd, EndsOr}
 use Rattle.ph_engine.specs.Statuses.{read_status, stop_status}
-use Rattle.ph_any_tree.specs.declared.answer.Stop.{Stop}
-use Rattle.ph_any_tree.specs.declared.answer.Stop.TheVariants.{WriteFault, NoMemory}
+use Rattle.ph_commands.specs.declared.answer.Stop.{Stop}
+use Rattle.ph_commands.specs.declared.answer.Stop.TheVariants.{WriteFault, NoMemory}
 use Rattle.ph_io.proofs.Appending.{given_none, given_both}
 use Rattle.ph_engine.proofs.Cuts.{lines-unbroken, ended-append, all-append, take-front, take-none, take-empty}
 use Rattle.ph_engine.proofs.Machines.{answers-append, after-append, refused-append, lines-append, or_false}

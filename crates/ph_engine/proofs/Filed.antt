@@ -28,15 +28,15 @@ use Rattle.ph_script.specs.Meaning.{reply_of}
 use Rattle.ph_engine.specs.Beside.{aside, beside_sink, Filings, Tells, IsTold, StillTells}
 use Rattle.ph_engine.specs.Doing.{is_on_slot, Begun, DoneOr, Unfiled, Knows, Leads, MakesNodes, HoldsFound, file_read, rows_loaded, rows_read}
 use Rattle.ph_engine.specs.Doing.{is_page, cut_engine, starved_engine, uses_files}
-use Rattle.ph_any_tree.specs.Served.{Does, ServedOr, takes_memory}
+use Rattle.ph_commands.specs.Served.{Does, ServedOr, takes_memory}
 use Rattle.ph_engine.specs.Filing.{Filed, FiledOr, LoadsNodes, LoadsOr, TellsUnfetched, read_table, read_reply}
 use Rattle.ph_engine.specs.Refusing.{early_refusal, late_refusal}
-use Rattle.ph_any_tree.specs.Tables.{table_at, AnyTable, slot_of, engine_of}
-use Rattle.ph_any_tree.specs.Working.{work_of, engine_bounds, least_unless, IsAtMost, IsAtLeast}
-use Rattle.ph_any_tree.specs.Telling.{Tells as Says, ToldOr}
-use Rattle.ph_any_tree.specs.declared.answer.Answer.{Answer}
-use Rattle.ph_any_tree.specs.declared.answer.Stop.{Stop}
-use Rattle.ph_any_tree.specs.declared.answer.Stop.TheVariants.{WriteFault, NoMemory}
+use Rattle.ph_commands.specs.Tables.{table_at, AnyTable, slot_of, engine_of}
+use Rattle.ph_commands.specs.Working.{work_of, engine_bounds, least_unless, IsAtMost, IsAtLeast}
+use Rattle.ph_commands.specs.Telling.{Tells as Says, ToldOr}
+use Rattle.ph_commands.specs.declared.answer.Answer.{Answer}
+use Rattle.ph_commands.specs.declared.answer.Stop.{Stop}
+use Rattle.ph_commands.specs.declared.answer.Stop.TheVariants.{WriteFault, NoMemory}
 use Rattle.ph_engine.proofs.Commanded.{one-text, told-told}
 use Rattle.ph_engine.proofs.Plain.{IsPlain, does-at, work-at, wants-at}
 use Rattle.ph_engine.proofs.Refused.{refusal-parts, alone}

@@ -8,7 +8,7 @@ use Rattle.ph_engine.specs.Serving.{ServesLine, ServesEnd}
 use Rattle.ph_engine.specs.Standing.{Standing}
 use Rattle.ph_engine.specs.Statuses.{read_status, stop_status}
 use Rattle.ph_engine.specs.declared.status.Status.{Status}
-use Rattle.ph_any_tree.specs.declared.answer.Stop.{Stop}
+use Rattle.ph_commands.specs.declared.answer.Stop.{Stop}
 use Rattle.ph_engine.proofs.Answered.{shown-whole}
 use Rattle.ph_engine.proofs.Feeds.{end-said, end-stopped, ends-read}
 

@@ -17,12 +17,12 @@ use Rattle.ph_script.specs.declared.command.Command.TheVariants as by
 use Rattle.ph_script.specs.Meaning.{command_of}
 use Rattle.ph_engine.specs.Beside.{Beside}
 use Rattle.ph_engine.specs.Doing.{Leads, DoneOr, Unfiled, is_on_slot, is_page, imported, slot_wants, starved_engine, with_first}
-use Rattle.ph_any_tree.specs.Tables.{engine_of}
-use Rattle.ph_any_tree.specs.Working.{work, work_of, engine_bounds, least_unless, IsAtMost, IsAtLeast}
+use Rattle.ph_commands.specs.Tables.{engine_of}
+use Rattle.ph_commands.specs.Working.{work, work_of, engine_bounds, least_unless, IsAtMost, IsAtLeast}
 use Rattle.ph_engine.proofs.Refused.{alone}
-use Rattle.ph_any_tree.specs.declared.answer.Answer.{Answer}
-use Rattle.ph_any_tree.specs.declared.answer.Stop.{Stop}
-use Rattle.ph_any_tree.specs.declared.answer.Stop.TheVariants.{WriteFault, NoMemory}
+use Rattle.ph_commands.specs.declared.answer.Answer.{Answer}
+use Rattle.ph_commands.specs.declared.answer.Stop.{Stop}
+use Rattle.ph_commands.specs.declared.answer.Stop.TheVariants.{WriteFault, NoMemory}
 
 -- what an engine of one slot is led to, in an engine with another other slot
 abbrev pub lift : Engine → Outcome → Outcome

@@ -17,7 +17,7 @@ use Rattle.ph_script.specs.declared.reply.Reply.{Reply as Told}
 use Rattle.ph_script.specs.Meaning.{reply_of}
 use Rattle.ph_snap.specs.Faults.{IsLoadFault}
 use Rattle.ph_snap.specs.declared.fault.LoadFault.{LoadFault}
-use Rattle.ph_any_tree.specs.Tables.{SameFrame, AnyTable, table_at, IsOfKind}
+use Rattle.ph_commands.specs.Tables.{SameFrame, AnyTable, table_at, IsOfKind}
 use Rattle.ph_engine.specs.Filing.{LoadsOr, TellsFault, loaded_table, read_table, read_reply}
 
 boxes-fit : (rows : List Row) → rows_fit Boxes rows ≡ true → AreBoxes rows

@@ -2,8 +2,8 @@
 use Rattle.std.proofs.Common.{◌≡◌, ◌+◌, ℕ, arith, Bool, true, false, ◌||◌, List, [], ◌∷◌, ◌++◌, refl, ap, sym, ◌∙◌, append_assoc}
 use Rattle.std.proofs.lemmas.List.{map-append}
 use Rattle.ph_engine.specs.Machine.{Machine, Turn, answers, after, some_refused, some_uses, total, lines_of, faults_in}
-use Rattle.ph_any_tree.specs.Working.{Work}
-use Rattle.ph_any_tree.specs.Telling.{is_refusal}
+use Rattle.ph_commands.specs.Working.{Work}
+use Rattle.ph_commands.specs.Telling.{is_refusal}
 
 pub answers-append : {S : Type 0} (m : Machine S) (s : S) (xs ys : List Turn) → answers m s (xs ++ ys) ≡ answers m s xs ++ answers m (after m s xs) ys
 answers-append m s [] ys = refl

@@ -25,22 +25,22 @@ use Rattle.ph_script.specs.Meaning.{command_of}
 use Rattle.ph_engine.specs.Asking.{asking}
 use Rattle.ph_engine.specs.Beside.{beside_sink}
 use Rattle.ph_engine.specs.Doing.{is_on_slot, Begun, DoneOr, DoneWith, is_page}
-use Rattle.ph_any_tree.specs.Served.{Does}
-use Rattle.ph_any_tree.specs.Listing.{Lists, ListsNear, reached, FrontListed, PageListed, page_replies, met, answered}
-use Rattle.ph_any_tree.specs.Telling.{is_refusal}
+use Rattle.ph_commands.specs.Served.{Does}
+use Rattle.ph_commands.specs.Listing.{Lists, ListsNear, reached, FrontListed, PageListed, page_replies, met, answered}
+use Rattle.ph_commands.specs.Telling.{is_refusal}
 use Rattle.ph_engine.specs.Refusing.{early_refusal, late_refusal}
 use Rattle.ph_engine.specs.Naming.{place}
-use Rattle.ph_any_tree.specs.Tables.{AnyTable, table_at, tree_at, slot_of, engine_of, IsOfKind}
+use Rattle.ph_commands.specs.Tables.{AnyTable, table_at, tree_at, slot_of, engine_of, IsOfKind}
 use Rattle.ph_engine.specs.Slots.{named}
 use Rattle.std.proofs.lemmas.Bool.{lt-ltb}
-use Rattle.ph_any_tree.specs.Working.{work, engine_bounds, most_to_resume}
+use Rattle.ph_commands.specs.Working.{work, engine_bounds, most_to_resume}
 use Rattle.ph_box.specs.Questions.{low_bound, high_bound}
 use Rattle.ph_box.specs.declared.question.Question.{Question}
 use Rattle.ph_box.specs.declared.question.Question.TheVariants.{Overlap, Inside, Cover}
-use Rattle.ph_any_tree.specs.declared.answer.Answer.{Answer}
-use Rattle.ph_any_tree.specs.declared.answer.Answer.TheVariants.{Good}
-use Rattle.ph_any_tree.specs.declared.answer.Stop.{Stop}
-use Rattle.ph_any_tree.specs.declared.answer.Stop.TheVariants.{WriteFault, NoMemory}
+use Rattle.ph_commands.specs.declared.answer.Answer.{Answer}
+use Rattle.ph_commands.specs.declared.answer.Answer.TheVariants.{Good}
+use Rattle.ph_commands.specs.declared.answer.Stop.{Stop}
+use Rattle.ph_commands.specs.declared.answer.Stop.TheVariants.{WriteFault, NoMemory}
 use Rattle.ph_engine.specs.declared.cursors.Held.{Held}
 use Rattle.ph_io.proofs.Appending.{given_none}
 use Rattle.ph_engine.proofs.Commanded.{Most, done-all, no-faults, told-told}

@@ -29,24 +29,24 @@ use Rattle.ph_set.specs.declared.error.SetFault.TheVariants.{Full, NoMemory}
 use Rattle.ph_script.specs.declared.reply.Reply.{Reply as Told}
 use Rattle.ph_script.specs.Meaning.{reply_of}
 use Rattle.ph_engine.specs.Beside.{beside_sink}
-use Rattle.ph_any_tree.specs.Comparing.{IsCompared}
-use Rattle.ph_any_tree.specs.Served.{Does}
+use Rattle.ph_commands.specs.Comparing.{IsCompared}
+use Rattle.ph_commands.specs.Served.{Does}
 use Rattle.ph_engine.specs.Doing.{DoneBeside}
 use Rattle.ph_engine.specs.Filing.{QuietOr}
-use Rattle.ph_any_tree.specs.Tables.{SameFrame, AnyTable, slot_of, IsOfKind}
-use Rattle.ph_any_tree.specs.Telling.{is_refusal, Tells}
-use Rattle.ph_any_tree.specs.Pairing.{pair_said, MadeOr, combined_table}
+use Rattle.ph_commands.specs.Tables.{SameFrame, AnyTable, slot_of, IsOfKind}
+use Rattle.ph_commands.specs.Telling.{is_refusal, Tells}
+use Rattle.ph_commands.specs.Pairing.{pair_said, MadeOr, combined_table}
 use Rattle.ph_engine.specs.Pairing.{JoinsSlots, combined_slot, combined_reply, combined_changes, CombinesSlots, SeesAll, VisitsSlots}
 use Rattle.ph_engine.specs.Refusing.{early_refusal, frame_refusal}
-use Rattle.ph_any_tree.specs.Working.{work_of, IsAtMost, IsAtLeast}
-use Rattle.ph_any_tree.specs.declared.answer.Answer.{Answer}
-use Rattle.ph_any_tree.specs.declared.answer.Stop.{Stop}
+use Rattle.ph_commands.specs.Working.{work_of, IsAtMost, IsAtLeast}
+use Rattle.ph_commands.specs.declared.answer.Answer.{Answer}
+use Rattle.ph_commands.specs.declared.answer.Stop.{Stop}
 use Rattle.ph_engine.proofs.Commanded.{done-said, told-told}
 use Rattle.ph_engine.proofs.Filed.{filed-quietly, leaves-filings}
 use Rattle.ph_engine.proofs.Lifted.{same}
 use Rattle.ph_engine.proofs.Paged.{listing-beside}
-use Rattle.ph_any_tree.proofs.Frames.{of-kind-still}
-use Rattle.ph_any_tree.proofs.Frames.{boxes-put-all}
+use Rattle.ph_commands.proofs.Frames.{of-kind-still}
+use Rattle.ph_commands.proofs.Frames.{boxes-put-all}
 
 -- ---- slots that are compared
 

@@ -10,11 +10,11 @@ use Rattle.ph_specs.specs.State.{Slot, Engine, Files, Outcome, current}
 use Rattle.ph_specs.specs.Refusals.{refusal, or_else, has_file_fault}
 use Rattle.ph_specs.specs.Engine.{act, effect, unless_refused}
 use Rattle.ph_specs.specs.Window.{Cursor}
-use Rattle.ph_any_tree.specs.Served.{DoesAt, takes_memory}
+use Rattle.ph_commands.specs.Served.{DoesAt, takes_memory}
 use Rattle.ph_engine.specs.Doing.{wants_memory, is_on_row, is_on_slot, starved_engine, rows_loaded}
-use Rattle.ph_any_tree.specs.Working.{Work, work, work_of, engine_bounds, least_unless}
+use Rattle.ph_commands.specs.Working.{Work, work, work_of, engine_bounds, least_unless}
 use Rattle.ph_engine.specs.Refusing.{early_refusal, late_refusal}
-use Rattle.ph_any_tree.specs.Tables.{AnyTable, slot_of, engine_of}
+use Rattle.ph_commands.specs.Tables.{AnyTable, slot_of, engine_of}
 use Rattle.ph_engine.proofs.Refused.{refusal-parts, alone, in-range}
 
 -- an outcome whose current slot is one of boxes

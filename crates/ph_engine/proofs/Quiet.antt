@@ -12,13 +12,13 @@ use Rattle.ph_script.specs.declared.reply.Reply.{Reply as Told}
 use Rattle.ph_script.specs.Meaning.{reply_of}
 use Rattle.ph_engine.specs.Beside.{beside_sink}
 use Rattle.ph_engine.specs.Doing.{DoneOr, is_on_slot, is_page}
-use Rattle.ph_any_tree.specs.Served.{ServedOr}
+use Rattle.ph_commands.specs.Served.{ServedOr}
 use Rattle.ph_engine.specs.Filing.{QuietOr}
 use Rattle.ph_engine.specs.Refusing.{early_refusal}
-use Rattle.ph_any_tree.specs.Tables.{AnyTable, slot_of, engine_of}
-use Rattle.ph_any_tree.specs.Telling.{ToldOr}
-use Rattle.ph_any_tree.specs.declared.answer.Answer.{Answer}
-use Rattle.ph_any_tree.specs.declared.answer.Stop.{Stop}
+use Rattle.ph_commands.specs.Tables.{AnyTable, slot_of, engine_of}
+use Rattle.ph_commands.specs.Telling.{ToldOr}
+use Rattle.ph_commands.specs.declared.answer.Answer.{Answer}
+use Rattle.ph_commands.specs.declared.answer.Stop.{Stop}
 use Rattle.ph_engine.proofs.Filed.{done-filed, filed-begun, filed-served}
 use Rattle.ph_engine.proofs.Plain.{IsPlain}
 use Rattle.ph_engine.proofs.Refused.{refused-begun}

@@ -15,13 +15,13 @@ use Rattle.ph_specs.specs.declared.Kind.{Kind}
 use Rattle.ph_script.specs.declared.reply.Reply.{Reply as Told}
 use Rattle.ph_script.specs.Meaning.{reply_of}
 use Rattle.ph_import.specs.Imported.{with_some}
-use Rattle.ph_any_tree.specs.Recording.{first_rows, is_renewed, import_changes, import_visits, ImportsOr, imported_table, imported_reply, is_overfull}
-use Rattle.ph_any_tree.specs.Recording.{table_with, table_with_some, table_with_first}
+use Rattle.ph_commands.specs.Recording.{first_rows, is_renewed, import_changes, import_visits, ImportsOr, imported_table, imported_reply, is_overfull}
+use Rattle.ph_commands.specs.Recording.{table_with, table_with_some, table_with_first}
 use Rattle.ph_engine.specs.Doing.{rows_put, with_first}
 use Rattle.ph_engine.specs.Beside.{aside}
 use Rattle.ph_engine.specs.Filing.{FiledOr}
-use Rattle.ph_any_tree.specs.Tables.{AnyTable, slot_of, engine_of}
-use Rattle.ph_any_tree.specs.Working.{import_bounds, work_of, IsAtMost}
+use Rattle.ph_commands.specs.Tables.{AnyTable, slot_of, engine_of}
+use Rattle.ph_commands.specs.Working.{import_bounds, work_of, IsAtMost}
 use Rattle.ph_engine.proofs.Filed.{IsFetch, fetched-act, fetched-filed, fetched-starved, never-early}
 
 -- ---- import

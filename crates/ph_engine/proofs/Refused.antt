@@ -13,7 +13,7 @@ use Rattle.ph_specs.specs.Refusals.{is_out_of_range, is_reversed, lacks_cursor, 
 use Rattle.ph_engine.specs.Refusing.{early_refusal, late_refusal, cursor_refusal, names_points_outside, names_reversed}
 use Rattle.ph_script.specs.declared.command.Command.{Command as Written}
 use Rattle.ph_script.specs.Meaning.{command_of}
-use Rattle.ph_any_tree.specs.Tables.{engine_of}
+use Rattle.ph_commands.specs.Tables.{engine_of}
 use Rattle.ph_engine.specs.Doing.{Begun, is_begin, is_on_slot, goes_together}
 
 -- a cause behind which others are looked for

@@ -19,8 +19,8 @@ use Rattle.ph_engine.specs.Statuses.{read_status, stop_status}
 use Rattle.ph_engine.specs.declared.status.Status.{Status}
 use Rattle.ph_engine.specs.declared.status.Status.TheVariants as by
 use Rattle.ph_engine.specs.declared.status.Status.TheVariants.{Clean, Refused, Usage, ReadFault, TooLong}
-use Rattle.ph_any_tree.specs.declared.answer.Stop.{Stop}
-use Rattle.ph_any_tree.specs.declared.answer.Stop.TheVariants.{WriteFault, NoMemory}
+use Rattle.ph_commands.specs.declared.answer.Stop.{Stop}
+use Rattle.ph_commands.specs.declared.answer.Stop.TheVariants.{WriteFault, NoMemory}
 use Rattle.ph_io.proofs.Appending.{given_none, given_both, consumes_none, consumes_both, consumes_kept, take_within, length_more}
 use Rattle.ph_engine.proofs.Cuts.{lines-ended, whole-ended, whole-unbroken, all-append, take-empty}
 use Rattle.ph_engine.proofs.Machines.{answers-append, after-append, refused-append, lines-append}

@@ -23,14 +23,14 @@ use Rattle.ph_tree.specs.Tree.{TreeTable}
 use Rattle.ph_undo.specs.Kept.{tree_of}
 use Rattle.ph_script.specs.declared.reply.Reply.{Reply as Told}
 use Rattle.ph_specs.proofs.laws.BoxRows.{boxes-put, boxes-del, boxes-move}
-use Rattle.ph_any_tree.specs.Served.{ServedOr}
-use Rattle.ph_any_tree.specs.Tables.{SameFrame, AnyTable, table_at, bare, empty_table, slot_of, engine_of, IsCursorIn}
+use Rattle.ph_commands.specs.Served.{ServedOr}
+use Rattle.ph_commands.specs.Tables.{SameFrame, AnyTable, table_at, bare, empty_table, slot_of, engine_of, IsCursorIn}
 use Rattle.ph_engine.specs.Slots.{named, entered, IsSlot}
 use Rattle.ph_engine.specs.Refusing.{early_refusal}
 use Rattle.ph_engine.specs.declared.cursors.Held.{Held}
 use Rattle.ph_engine.proofs.Refused.{unreversed}
 use Rattle.ph_engine.proofs.Names.{true-is, is-true, sorted-entered, length-entered, all-entered}
-use Rattle.ph_any_tree.proofs.Frames.{of-kind-still}
+use Rattle.ph_commands.proofs.Frames.{of-kind-still}
 
 -- ---- rows that are boxes
 

@@ -20,11 +20,11 @@ use Rattle.ph_specs.specs.Stats.{Stats, stats}
 use Rattle.ph_specs.specs.Engine.{act, after, effect, unless_refused}
 use Rattle.ph_engine.specs.Beside.{Beside, alone, beside, Tells}
 use Rattle.ph_engine.specs.Doing.{Done, Undone, Unfiled, Leads, Knows, HoldsFound, file_read, starved_engine, wants_memory}
-use Rattle.ph_any_tree.specs.Working.{Work, one_if, work_of, nodes_of, IsAtMost, IsAtLeast}
+use Rattle.ph_commands.specs.Working.{Work, one_if, work_of, nodes_of, IsAtMost, IsAtLeast}
 use Rattle.ph_engine.specs.Soaking.{is_drawn, AreDrawn, sum_work, visits_most, Soaked, SoakedInPart, SoakDone}
-use Rattle.ph_any_tree.specs.declared.answer.Answer.{Answer}
+use Rattle.ph_commands.specs.declared.answer.Answer.{Answer}
 use Rattle.ph_engine.specs.declared.status.Status.TheVariants.{Clean, WriteFault}
-use Rattle.ph_any_tree.proofs.Replies.{texts-append}
+use Rattle.ph_commands.proofs.Replies.{texts-append}
 
 -- ---- the commands that are drawn
 

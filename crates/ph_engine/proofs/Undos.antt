@@ -13,9 +13,9 @@ use Rattle.ph_specs.specs.Window.{Cursor}
 use Rattle.ph_script.specs.declared.reply.Reply.{Reply as Told}
 use Rattle.ph_script.specs.Meaning.{reply_of}
 use Rattle.ph_engine.specs.Filing.{QuietOr}
-use Rattle.ph_any_tree.specs.Tables.{AnyTable, slot_of, engine_of}
-use Rattle.ph_any_tree.specs.Undoing.{GoesBackOr}
-use Rattle.ph_any_tree.proofs.Differing.{part-begun}
+use Rattle.ph_commands.specs.Tables.{AnyTable, slot_of, engine_of}
+use Rattle.ph_commands.specs.Undoing.{GoesBackOr}
+use Rattle.ph_commands.proofs.Differing.{part-begun}
 use Rattle.ph_engine.proofs.Filed.{filed-quietly, leaves-filings}
 use Rattle.ph_engine.proofs.Commanded.{told-told}
 

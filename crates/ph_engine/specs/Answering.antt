@@ -3,10 +3,10 @@ use Rattle.std.specs.Prelude.{◌≡◌, ◌<◌, ℕ, Bool, true, List, [], ◌
 use Rattle.ph_io.specs.Giving.{Given}
 use Rattle.ph_engine.specs.Beside.{Beside}
 use Rattle.ph_engine.specs.Machine.{Machine, Met, Turn, turn, answers, after, lines_of}
-use Rattle.ph_any_tree.specs.Telling.{is_refusal}
+use Rattle.ph_commands.specs.Telling.{is_refusal}
 use Rattle.ph_engine.specs.Costs.{Spent, Worked}
-use Rattle.ph_any_tree.specs.declared.answer.Stop.{Stop}
-use Rattle.ph_any_tree.specs.declared.answer.Stop.TheVariants.{WriteFault, NoMemory}
+use Rattle.ph_commands.specs.declared.answer.Stop.{Stop}
+use Rattle.ph_commands.specs.declared.answer.Stop.TheVariants.{WriteFault, NoMemory}
 
 -- the line was answered
 pub record Said {S : Type 0} (m : Machine S) (s : S) (t : Turn) (b now_b : Beside) (now : S) (refused : Bool) : Type 0 where

@@ -20,15 +20,15 @@ use Rattle.ph_specs.specs.Table.{Row}
 use Rattle.ph_specs.specs.WorkSets.{all_nodes}
 use Rattle.ph_engine.specs.Beside.{Beside, Filings}
 use Rattle.ph_engine.specs.Doing.{HoldsFound}
-use Rattle.ph_any_tree.specs.Telling.{refuses, is_refusal}
-use Rattle.ph_any_tree.specs.Working.{one_if}
+use Rattle.ph_commands.specs.Telling.{refuses, is_refusal}
+use Rattle.ph_commands.specs.Working.{one_if}
 use Rattle.ph_engine.specs.Seen.{Seen}
 use Rattle.ph_engine.specs.Statuses.{IsRead, read_status, stop_status}
-use Rattle.ph_any_tree.specs.declared.answer.Answer.{Answer}
+use Rattle.ph_commands.specs.declared.answer.Answer.{Answer}
 use Rattle.ph_engine.specs.declared.status.Status.{Status}
 use Rattle.ph_engine.specs.declared.status.Status.TheVariants.{Clean, Refused, WriteFault, Memory}
-use Rattle.ph_any_tree.specs.declared.answer.Stop.{Stop}
-use Rattle.ph_any_tree.specs.declared.answer.Stop.TheVariants as stop
+use Rattle.ph_commands.specs.declared.answer.Stop.{Stop}
+use Rattle.ph_commands.specs.declared.answer.Stop.TheVariants as stop
 
 -- ---- bytes
 

@@ -2,7 +2,7 @@
 use Rattle.std.specs.Prelude.{◌≡◌, ℕ, Bool, if◌then◌else◌}
 use Rattle.ph_specs.specs.Reply.{Reply}
 use Rattle.ph_specs.specs.State.{Engine}
-use Rattle.ph_any_tree.specs.Comparing.{IsCompared}
+use Rattle.ph_commands.specs.Comparing.{IsCompared}
 
 -- the same of the slots of an engine, with the reply that it has
 abbrev pub Compares : Engine → ℕ → ℕ → Reply → Type 0

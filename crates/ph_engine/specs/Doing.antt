@@ -14,16 +14,16 @@ use Rattle.ph_specs.specs.Engine.{act}
 use Rattle.ph_specs.specs.WorkSets.{all_nodes}
 use Rattle.ph_specs.specs.Named.{lookup}
 use Rattle.ph_engine.specs.Beside.{Beside, beside_sink, IsTold, StillTells, Filings}
-use Rattle.ph_any_tree.specs.Telling.{is_refusal}
-use Rattle.ph_any_tree.specs.Working.{one_if, work_of, IsAtMost, IsAtLeast}
+use Rattle.ph_commands.specs.Telling.{is_refusal}
+use Rattle.ph_commands.specs.Working.{one_if, work_of, IsAtMost, IsAtLeast}
 use Rattle.ph_engine.specs.Refusing.{early_refusal}
-use Rattle.ph_any_tree.specs.Tables.{engine_of}
-use Rattle.ph_any_tree.specs.declared.answer.Answer.{Answer}
-use Rattle.ph_any_tree.specs.declared.answer.Stop.{Stop}
-use Rattle.ph_any_tree.specs.declared.answer.Stop.TheVariants.{WriteFault, NoMemory}
-use Rattle.ph_any_tree.specs.Telling.{refuses}
-use Rattle.ph_any_tree.specs.Served.{DoesAt, MostAt, LeastAt, takes_memory}
-use Rattle.ph_any_tree.specs.Recording.{is_renewed, first_rows}
+use Rattle.ph_commands.specs.Tables.{engine_of}
+use Rattle.ph_commands.specs.declared.answer.Answer.{Answer}
+use Rattle.ph_commands.specs.declared.answer.Stop.{Stop}
+use Rattle.ph_commands.specs.declared.answer.Stop.TheVariants.{WriteFault, NoMemory}
+use Rattle.ph_commands.specs.Telling.{refuses}
+use Rattle.ph_commands.specs.Served.{DoesAt, MostAt, LeastAt, takes_memory}
+use Rattle.ph_commands.specs.Recording.{is_renewed, first_rows}
 
 -- ---- all commands
 

@@ -3,7 +3,7 @@ use Rattle.std.specs.Prelude.{◌≡◌, Bool, true, false, refl}
 use Rattle.std.proofs.Common.{◌∙◌, arith}
 use Rattle.ph_io.specs.Causes.{Rose}
 use Rattle.ph_engine.specs.Drafting.{Drafted, Follows}
-use Rattle.ph_any_tree.proofs.Shelves.{stays_itself, stays_on}
+use Rattle.ph_commands.proofs.Shelves.{stays_itself, stays_on}
 
 pub follows_itself : (a : Drafted) → Follows a a
 follows_itself a =

@@ -3,7 +3,7 @@ use Rattle.std.specs.Prelude.{◌≡◌, ◌≤◌, ◌+◌, ℕ, Bool, true, fa
 use Rattle.ph_io.specs.Causes.{Rose}
 use Rattle.ph_io.specs.Shelf.{Map, Draft, Stays}
 use Rattle.ph_io.specs.declared.streams.Failed.{Failed}
-use Rattle.ph_any_tree.specs.Shelves.{Shelf, Filled, Unfilled}
+use Rattle.ph_commands.specs.Shelves.{Shelf, Filled, Unfilled}
 
 -- the bytes and the name of a draft, where it is known
 abbrev pub draft_bytes : Option Draft → Option (List ℕ)

@@ -8,8 +8,8 @@ use Rattle.ph_engine.specs.Cutting.{ended, is_unbroken, are_unbroken}
 use Rattle.ph_engine.specs.Answering.{Answers, SaidFront, Unsaid}
 use Rattle.ph_engine.specs.Statuses.{read_status}
 use Rattle.ph_specs.specs.Lines.{lines}
-use Rattle.ph_any_tree.specs.declared.answer.Stop.{Stop}
-use Rattle.ph_any_tree.specs.declared.answer.Stop.TheVariants.{WriteFault, NoMemory}
+use Rattle.ph_commands.specs.declared.answer.Stop.{Stop}
+use Rattle.ph_commands.specs.declared.answer.Stop.TheVariants.{WriteFault, NoMemory}
 use Rattle.ph_engine.specs.declared.status.Status.{Status}
 use Rattle.ph_engine.specs.declared.status.Status.TheVariants as by
 use Rattle.ph_engine.specs.declared.status.Status.TheVariants.{Clean, Refused, Usage, ReadFault, TooLong}

@@ -22,10 +22,10 @@ use Rattle.ph_snap.specs.declared.fault.LoadFault.{LoadFault}
 use Rattle.ph_snap.specs.declared.fault.LoadFault.TheVariants as by
 use Rattle.ph_engine.specs.Beside.{Beside, Filings, aside, with_visits, with_changes}
 use Rattle.ph_engine.specs.Doing.{Knows, Leads, MakesNodes, Unfiled, uses_files}
-use Rattle.ph_any_tree.specs.Shelves.{Shelf, Unfilled}
-use Rattle.ph_any_tree.specs.Working.{one_if, work_of, IsAtMost, IsAtLeast}
-use Rattle.ph_any_tree.specs.Tables.{AnyTable, table_at, slot_of, engine_of}
-use Rattle.ph_any_tree.specs.Shelves.{Entered}
+use Rattle.ph_commands.specs.Shelves.{Shelf, Unfilled}
+use Rattle.ph_commands.specs.Working.{one_if, work_of, IsAtMost, IsAtLeast}
+use Rattle.ph_commands.specs.Tables.{AnyTable, table_at, slot_of, engine_of}
+use Rattle.ph_commands.specs.Shelves.{Entered}
 
 -- A command has this reply and leads to this engine. The files failed in it or not.
 pub record Filed (most : ℕ) (e : Engine) (command : Command) (b now_b : Beside) (now : Engine) (reply : Reply) : Type 0 where

@@ -1,7 +1,7 @@
 -- A machine that answers lines, one after another, and what each of them meets of the files.
 use Rattle.std.specs.Prelude.{◌≡◌, ℕ, ◌+◌, Bool, false, ◌||◌, List, [], ◌∷◌, ◌++◌, map, Option, None, refl}
-use Rattle.ph_any_tree.specs.Working.{one_if, Work}
-use Rattle.ph_any_tree.specs.Telling.{is_refusal}
+use Rattle.ph_commands.specs.Working.{one_if, Work}
+use Rattle.ph_commands.specs.Telling.{is_refusal}
 
 -- what a line meets of the files: whether they fail in it, and the bytes of the file that it reads, where there is one
 pub record Met : Type 0 where

@@ -11,9 +11,9 @@ use Rattle.ph_specs.specs.WorkSets.{all_nodes, join_visits, combine_visits}
 use Rattle.ph_join.specs.Joining.{one_of}
 use Rattle.ph_script.specs.declared.reply.Reply.{Reply as Told}
 use Rattle.ph_script.specs.Meaning.{reply_of}
-use Rattle.ph_any_tree.specs.Listing.{Lists}
-use Rattle.ph_any_tree.specs.declared.answer.Answer.{Answer}
-use Rattle.ph_any_tree.specs.declared.answer.Stop.{Stop}
+use Rattle.ph_commands.specs.Listing.{Lists}
+use Rattle.ph_commands.specs.declared.answer.Answer.{Answer}
+use Rattle.ph_commands.specs.declared.answer.Stop.{Stop}
 
 -- the same of two slots
 abbrev pub JoinsSlots : Slot → Slot → Taken → Taken → ℕ → ℕ → Result Answer Stop → Type 0

@@ -8,7 +8,7 @@ use Rattle.ph_specs.specs.declared.Kind.{Kind}
 use Rattle.ph_script.specs.declared.reply.Reply.{Reply as Told}
 use Rattle.ph_engine.specs.Beside.{Beside, with_changes}
 use Rattle.ph_engine.specs.Filing.{Filed, FiledOr}
-use Rattle.ph_any_tree.specs.Tables.{AnyTable, slot_of, engine_of}
+use Rattle.ph_commands.specs.Tables.{AnyTable, slot_of, engine_of}
 
 -- an import into a table, whatever cursors stand beside it
 pub record TableImported {E : Type 0} (most : ℕ) (kind : Kind) (t : AnyTable) (name : List ℕ) (header : Bool)

@@ -8,7 +8,7 @@ use Rattle.ph_specs.specs.Engine.{act, step, run}
 use Rattle.ph_specs.specs.Named.{enter}
 use Rattle.ph_engine.specs.Doing.{file_read, wants_memory, uses_files, cut_engine, starved_engine}
 use Rattle.ph_engine.specs.Machine.{Machine, Turn}
-use Rattle.ph_any_tree.specs.Working.{Work, no_work, work_of}
+use Rattle.ph_commands.specs.Working.{Work, no_work, work_of}
 
 -- an engine, and the files beside it where they are known
 pub record Whole : Type 0 where

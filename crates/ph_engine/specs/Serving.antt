@@ -12,7 +12,7 @@ use Rattle.ph_engine.specs.Feeding.{Feeds, Ends}
 use Rattle.ph_engine.specs.Outcomes.{Outcome}
 use Rattle.ph_engine.specs.Standing.{Standing}
 use Rattle.ph_engine.specs.declared.status.Status.{Status}
-use Rattle.ph_any_tree.specs.declared.answer.Stop.{Stop}
+use Rattle.ph_commands.specs.declared.answer.Stop.{Stop}
 
 -- the text is that of a line of at most so many bytes
 abbrev pub IsText : List ℕ → List ℕ → Type 0

@@ -9,7 +9,7 @@ use Rattle.ph_specs.specs.Named.{Named}
 use Rattle.ph_specs.specs.Window.{Cursor}
 use Rattle.ph_engine.specs.Naming.{place, under, entered_at}
 use Rattle.ph_engine.specs.declared.cursors.Held.{Held}
-use Rattle.ph_any_tree.specs.Tables.{AnyTable, IsCursorIn, IsOfKind}
+use Rattle.ph_commands.specs.Tables.{AnyTable, IsCursorIn, IsOfKind}
 
 -- the cursors of a slot under their names
 abbrev pub named : {D : ℕ} → List (Held D) → Named Cursor

@@ -11,7 +11,7 @@ use Rattle.ph_specs.specs.Reply.{replies_text}
 use Rattle.ph_specs.specs.Engine.{act}
 use Rattle.ph_specs.specs.State.{Engine, Files}
 use Rattle.ph_engine.specs.Beside.{Beside, without_files}
-use Rattle.ph_any_tree.specs.Working.{Work, work_of, nodes_of}
+use Rattle.ph_commands.specs.Working.{Work, work_of, nodes_of}
 use Rattle.ph_engine.specs.Doing.{wants_memory}
 use Rattle.ph_engine.specs.Seen.{Seen}
 use Rattle.ph_engine.specs.declared.status.Status.{Status}

@@ -2,8 +2,8 @@
 use Rattle.std.specs.Prelude.{◌≤◌, ◌≡◌, ◌⊎◌, ℕ, List, length, Bool, if◌then◌else◌, Option, Some, None}
 use Rattle.ph_engine.specs.declared.status.Status.{Status}
 use Rattle.ph_engine.specs.declared.status.Status.TheVariants.{Clean, Refused, Usage, ReadFault, WriteFault, Memory}
-use Rattle.ph_any_tree.specs.declared.answer.Stop.{Stop}
-use Rattle.ph_any_tree.specs.declared.answer.Stop.TheVariants as stop
+use Rattle.ph_commands.specs.declared.answer.Stop.{Stop}
+use Rattle.ph_commands.specs.declared.answer.Stop.TheVariants as stop
 use Rattle.ph_io.specs.Causes.{Rose}
 
 -- the script was read to its end

@@ -4,7 +4,7 @@ use Rattle.ph_io.specs.declared.files.Files.{Ghosts as FilesTell}
 use Rattle.ph_io.specs.declared.streams.Sink.{Ghosts as SinkTells}
 use Rattle.ph_io.specs.declared.streams.Source.{Ghosts as SourceTells}
 use Rattle.ph_specs.specs.State.{Engine}
-use Rattle.ph_any_tree.specs.Told.{taken_by}
+use Rattle.ph_commands.specs.Told.{taken_by}
 use Rattle.ph_engine.specs.Beside.{Beside, alone, aside, beside}
 use Rattle.ph_engine.specs.Drafting.{Drafted, drafted}
 use Rattle.ph_engine.specs.Seen.{Seen, seen}

@@ -5,17 +5,17 @@ ghost use Rattle.ph_specs.specs.ProgramNames.{checked_words, own_fault, words_of
 ghost use Rattle.ph_specs.specs.RecordNames.{load_fault, stats};
 ghost use Rattle.ph_snap.specs.Faults.{IsLoadFault};
 ghost use Rattle.ph_engine.specs.Checking.{CheckDone, HasSizes, IsLineOf, IsOwnLine, LineGiven, front_of, nodes_saved, status_of};
-ghost use Rattle.ph_any_tree.specs.Listing.{node_count};
-ghost use Rattle.ph_any_tree.specs.Tables.{table_at};
-ghost use Rattle.ph_any_tree.specs.Loading.{IsWithinBytes};
-ghost use Rattle.ph_any_tree.specs.Telling.{is_refusal, StopHasCause};
+ghost use Rattle.ph_commands.specs.Listing.{node_count};
+ghost use Rattle.ph_commands.specs.Tables.{table_at};
+ghost use Rattle.ph_commands.specs.Loading.{IsWithinBytes};
+ghost use Rattle.ph_commands.specs.Telling.{is_refusal, StopHasCause};
 ghost use Rattle.ph_engine.specs.Told.{beside_by};
-ghost use Rattle.ph_any_tree.specs.Told.{taken_by};
+ghost use Rattle.ph_commands.specs.Told.{taken_by};
 
 use crate::filing::{fault_reply, fetch_reply};
 use crate::status::{Limits, Status};
 use arrayvec::ArrayString;
-use ph_any_tree::{Answer, LINE_BYTES, Stop, load_kept, push_count, push_sizes, tell, tree_sizes};
+use ph_commands::{Answer, LINE_BYTES, Stop, load_kept, push_count, push_sizes, tell, tree_sizes};
 use ph_coord::{Kind, Width};
 use ph_io::{Failed, Files, Sink, write_piece};
 use ph_script::{FileName, Text};

@@ -7,13 +7,13 @@ ghost use Rattle.ph_engine.specs.AnySlots.{any_slot};
 ghost use Rattle.ph_engine.specs.Comparing.{Compares};
 ghost use Rattle.ph_engine.specs.Doing.{DoneOr, DoneBeside, LeavesBegun};
 ghost use Rattle.ph_engine.specs.Filing.{QuietOr};
-ghost use Rattle.ph_any_tree.specs.Telling.{StopHasCause};
+ghost use Rattle.ph_commands.specs.Telling.{StopHasCause};
 ghost use Rattle.ph_engine.specs.Told.{beside_by};
-ghost use Rattle.ph_any_tree.specs.Told.{taken_by};
+ghost use Rattle.ph_commands.specs.Told.{taken_by};
 
 use crate::slot::Slot;
 use crate::status::Limits;
-use ph_any_tree::{Answer, Stop, say, tell};
+use ph_commands::{Answer, Stop, say, tell};
 use ph_io::{Files, Sink};
 use ph_script::{Command, Reply, SetOperation, Text, Which};
 use ph_steps::Steps;

@@ -20,7 +20,7 @@ mod task;
 pub use cursors::Held;
 pub use engine::Engine;
 pub use frame::Frame;
-pub use ph_any_tree::{Answer, Stop};
+pub use ph_commands::{Answer, Stop};
 pub use program::top;
 pub use slot::Slot;
 pub use slot_of::SlotOf;

@@ -4,7 +4,7 @@ ghost use Rattle.ph_specs.specs.ProgramNames.{Task as Asked, task};
 ghost use Rattle.ph_engine.specs.Ending.{TopEnds, TellsUsage};
 ghost use Rattle.ph_engine.specs.Statuses.{HasWriteCause};
 ghost use Rattle.ph_engine.specs.Told.{seen_by};
-ghost use Rattle.ph_any_tree.specs.Told.{taken_by};
+ghost use Rattle.ph_commands.specs.Told.{taken_by};
 
 use crate::checking::check;
 use crate::engine::Engine;

@@ -1,13 +1,13 @@
 //! Commands on files of records: rows as comma-separated fields, a line each.
 ghost use Rattle.std.specs.Prelude.{◌≡◌, ◌≤◌, false};
 ghost use Rattle.ph_script.specs.Meaning.{reply_of};
-ghost use Rattle.ph_any_tree.specs.Tables.{SameFrame, table_at};
+ghost use Rattle.ph_commands.specs.Tables.{SameFrame, table_at};
 ghost use Rattle.ph_engine.specs.Recording.{TableExported, TableImported};
 ghost use Rattle.ph_engine.specs.Told.{aside_by};
 
 use crate::filing::fetch_reply;
 use crate::status::Limits;
-use ph_any_tree::{export_tree, import_text};
+use ph_commands::{export_tree, import_text};
 use ph_coord::Kind;
 use ph_io::{Failed, Files};
 use ph_script::{FileName, Reply};

@@ -14,11 +14,11 @@ ghost use Rattle.ph_engine.specs.Causes.{refusal_reply};
 ghost use Rattle.ph_engine.specs.Doing.{Begun, DoneWith, DoneOr, LeavesBegun, is_begin, is_on_row, is_on_slot, is_sure, is_tried, is_listed};
 ghost use Rattle.ph_engine.specs.Filing.{FiledOr, QuietOr, Replies};
 ghost use Rattle.ph_engine.specs.Refusing.{early_refusal, cursor_refusal};
-ghost use Rattle.ph_any_tree.specs.Tables.{engine_of};
-ghost use Rattle.ph_any_tree.specs.Telling.{StopHasCause};
-ghost use Rattle.ph_any_tree.specs.Working.{nodes_of};
+ghost use Rattle.ph_commands.specs.Tables.{engine_of};
+ghost use Rattle.ph_commands.specs.Telling.{StopHasCause};
+ghost use Rattle.ph_commands.specs.Working.{nodes_of};
 ghost use Rattle.ph_engine.specs.Told.{aside_by, beside_by};
-ghost use Rattle.ph_any_tree.specs.Told.{taken_by};
+ghost use Rattle.ph_commands.specs.Told.{taken_by};
 
 use crate::cursors::{CURSORS, Held, enter, place_of};
 use crate::filing::{load_table, save_table};
@@ -27,11 +27,11 @@ use crate::records::{export_table, import_table};
 use crate::refusals::{Refusal, has_wrong_kind, is_out_of_range, is_reversed};
 use crate::status::Limits;
 use arrayvec::ArrayVec;
-use ph_any_tree::{
+use ph_box::Question;
+use ph_commands::{
     Answer, Stop, back_edits, clear_rows, count_rows, cursor_at, keep_edits, list_ball, list_boxes,
     list_near, list_page, list_sizes, list_window, say, tell, tree_sizes,
 };
-use ph_box::Question;
 use ph_coord::{Kind, Width};
 use ph_io::{Files, Sink};
 use ph_script::{Command, Coords, Name, Reply, Text};
@@ -56,7 +56,7 @@ pub struct SlotOf<const D: usize> {
 
 impl<const D: usize> Model for SlotOf<D> {
     ghost use Rattle.ph_specs.specs.ProgramNames.{Slot as State};
-    ghost use Rattle.ph_any_tree.specs.Tables.{table_at, slot_of};
+    ghost use Rattle.ph_commands.specs.Tables.{table_at, slot_of};
     ghost use Rattle.ph_engine.specs.Slots.{named, IsSlot};
 
     ghost Value = { State };

@@ -11,7 +11,7 @@ use crate::engine::Engine;
 use crate::status::{Limits, Status};
 use arrayvec::ArrayString;
 use itoa::Buffer;
-use ph_any_tree::{LINE_BYTES, Stop, push_count, push_sizes};
+use ph_commands::{LINE_BYTES, Stop, push_count, push_sizes};
 use ph_io::{CleanFiles, CountSink, Failed, Sink, write_piece};
 use ph_script::{CoordBuffer, Gen, Text, Which};
 use ph_steps::Steps;

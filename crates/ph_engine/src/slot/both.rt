@@ -1,17 +1,17 @@
 //! Two slots of any number of dimensions side by side.
 ghost use Rattle.std.specs.Prelude.{◌≡◌, ◌%◌, None, option_map};
 ghost use Rattle.ph_specs.specs.ProgramNames.{join_refusal, points_differ};
-ghost use Rattle.ph_any_tree.specs.Comparing.{IsCompared};
+ghost use Rattle.ph_commands.specs.Comparing.{IsCompared};
 ghost use Rattle.ph_engine.specs.AnySlots.{any_slot};
 ghost use Rattle.ph_engine.specs.Causes.{refusal_reply};
 ghost use Rattle.ph_engine.specs.Pairing.{JoinsSlots, CombinesSlots, SeesAll, VisitsSlots};
 ghost use Rattle.ph_engine.specs.Refusing.{frame_refusal};
-ghost use Rattle.ph_any_tree.specs.Telling.{StopHasCause};
-ghost use Rattle.ph_any_tree.specs.Told.{taken_by};
+ghost use Rattle.ph_commands.specs.Telling.{StopHasCause};
+ghost use Rattle.ph_commands.specs.Told.{taken_by};
 
 use super::Slot;
 use crate::refusals::Refusal;
-use ph_any_tree::{Answer, Stop};
+use ph_commands::{Answer, Stop};
 use ph_coord::Kind;
 use ph_io::Sink;
 use ph_script::{Reply, SetOperation, Text};

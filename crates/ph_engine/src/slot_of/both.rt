@@ -1,14 +1,14 @@
 //! Two slots of as many dimensions side by side.
 ghost use Rattle.std.specs.Prelude.{◌≡◌, ◌/◌, None};
 ghost use Rattle.ph_specs.specs.ProgramNames.{join_refusal};
-ghost use Rattle.ph_any_tree.specs.Comparing.{IsCompared};
+ghost use Rattle.ph_commands.specs.Comparing.{IsCompared};
 ghost use Rattle.ph_engine.specs.Pairing.{JoinsSlots, CombinesSlots, SeesAll, VisitsSlots};
 ghost use Rattle.ph_engine.specs.Refusing.{frame_refusal};
-ghost use Rattle.ph_any_tree.specs.Telling.{StopHasCause};
-ghost use Rattle.ph_any_tree.specs.Told.{taken_by};
+ghost use Rattle.ph_commands.specs.Telling.{StopHasCause};
+ghost use Rattle.ph_commands.specs.Told.{taken_by};
 
 use super::SlotOf;
-use ph_any_tree::{Answer, Stop, are_same, combine_trees, list_pairs};
+use ph_commands::{Answer, Stop, are_same, combine_trees, list_pairs};
 use ph_io::Sink;
 use ph_script::{Reply, SetOperation, Text};
 use ph_set::SetFault;

@@ -5,11 +5,11 @@ ghost use Rattle.ph_script.specs.Meaning.{numbers_of, reply_of};
 ghost use Rattle.ph_engine.specs.Causes.{refusal_reply};
 ghost use Rattle.ph_engine.specs.Filing.{QuietOr, Shows};
 ghost use Rattle.ph_engine.specs.Refusing.{early_refusal};
-ghost use Rattle.ph_any_tree.specs.Tables.{engine_of};
+ghost use Rattle.ph_commands.specs.Tables.{engine_of};
 
 use super::SlotOf;
 use crate::refusals::{Refusal, are_no_boxes, are_outside, is_no_box, is_outside};
-use ph_any_tree::{del_row, get_row, move_row, put_row};
+use ph_commands::{del_row, get_row, move_row, put_row};
 use ph_script::{Coords, Reply};
 use ph_steps::Steps;
 use ph_tree::NoMemory;

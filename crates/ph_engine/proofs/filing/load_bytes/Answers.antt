@@ -1,5 +1,5 @@
 use Rattle.std.proofs.Common.{◌∙◌, ap, refl}
-use Rattle.ph_any_tree.specs.Tables.{table_at}
+use Rattle.ph_commands.specs.Tables.{table_at}
 use Rattle.ph_engine.proofs.Loads.{loaded-frame, loads-none, nodes-loaded, nodes-none}
 use Rattle.ph_engine.proofs.filing.load_bytes.Goals as goal
 

@@ -1,6 +1,6 @@
 use Rattle.std.proofs.Common.{refl}
 use Rattle.ph_specs.specs.Command.{Command}
-use Rattle.ph_any_tree.specs.Tables.{table_at, slot_of}
+use Rattle.ph_commands.specs.Tables.{table_at, slot_of}
 use Rattle.ph_engine.proofs.Filed.{fetch-load, read-filed-or, unfetched-filed-or}
 use Rattle.ph_engine.proofs.Loads.{same-frame-still}
 use Rattle.ph_engine.proofs.filing.load_table.Goals as goal

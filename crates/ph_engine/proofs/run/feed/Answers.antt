@@ -8,7 +8,7 @@ use Rattle.ph_engine.specs.Told.{beside_by}
 use Rattle.ph_script.specs.declared.lines.Line.{Line}
 use Rattle.ph_engine.specs.Answering.{SaysOr}
 use Rattle.ph_engine.specs.Beside.{Beside}
-use Rattle.ph_any_tree.specs.declared.answer.Stop.{Stop}
+use Rattle.ph_commands.specs.declared.answer.Stop.{Stop}
 use Rattle.ph_engine.specs.ScriptMachine.{Whole, whole, told_now, script_machine}
 use Rattle.ph_engine.proofs.Feeds.{fed-none, line-said, line-stopped, then-fed, then-stopped, then-part}
 use Rattle.ph_engine.proofs.Scans.{feed-unbroken, none-unbroken, feed-next, feed-within, whole as whole-piece, unended-feed, unended-none}

@@ -6,7 +6,7 @@ use Rattle.ph_engine.specs.Serving.{ServesLine, ServesEnd}
 use Rattle.ph_engine.specs.Standing.{Standing}
 use Rattle.ph_engine.specs.Statuses.{read_status}
 use Rattle.ph_engine.specs.Told.{beside_by, standing_by}
-use Rattle.ph_any_tree.specs.declared.answer.Stop.{Stop}
+use Rattle.ph_commands.specs.declared.answer.Stop.{Stop}
 use Rattle.ph_engine.proofs.Answered.{known-left, known-still}
 use Rattle.ph_engine.proofs.Feeds.{end-none, ends-read}
 use Rattle.ph_engine.proofs.Last.{end_status, line-ends}

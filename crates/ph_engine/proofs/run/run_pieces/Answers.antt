@@ -5,7 +5,7 @@ use Rattle.ph_engine.specs.Feeding.{Feeds, Ends}
 use Rattle.ph_engine.specs.Told.{beside_by}
 use Rattle.ph_engine.specs.ScriptMachine.{whole, told_now, script_machine}
 use Rattle.ph_engine.specs.Serving.{StaysKnown, ServesPiece}
-use Rattle.ph_any_tree.specs.declared.answer.Stop.{Stop}
+use Rattle.ph_commands.specs.declared.answer.Stop.{Stop}
 use Rattle.ph_engine.proofs.Answered.{known-on, known-right, known-left}
 use Rattle.ph_engine.proofs.Known.{reached-known}
 use Rattle.ph_engine.proofs.Runs.{interrupted, at-end, stopped, exceeded, reached-more}

@@ -1,7 +1,7 @@
 use Rattle.std.proofs.Common.{arith, rules, ap, ◌∙◌, ◌%◌, ◌<◌, ◌+◌, ◌^◌}
 use Rattle.ph_engine.specs.AnySlots.{any_slot}
 use Rattle.ph_tree.specs.Stats.{stats_of}
-use Rattle.ph_any_tree.specs.Working.{nodes_of}
+use Rattle.ph_commands.specs.Working.{nodes_of}
 use Rattle.ph_engine.proofs.Soaks.{HasSoaked, all_drawn, soak_clean, soak_cut, sizes_line_is}
 use Rattle.ph_engine.proofs.soaking.soak.Given.{Over}
 use Rattle.ph_engine.proofs.soaking.soak.Goals.{After-as_bytes}

@@ -1,5 +1,5 @@
 use Rattle.ph_tree.specs.Stats.{stats_of}
-use Rattle.ph_any_tree.proofs.SizeLines.{line_of_soak}
+use Rattle.ph_commands.proofs.SizeLines.{line_of_soak}
 use Rattle.ph_engine.proofs.soaking.soak_line.Goals as goal
 
 pub returns : goal.returns

@@ -1,6 +1,6 @@
 use Rattle.std.proofs.Common.{refl}
 use Rattle.std.specs.Prelude.{Ok}
-use Rattle.ph_any_tree.specs.Tables.{engine_of}
+use Rattle.ph_commands.specs.Tables.{engine_of}
 use Rattle.ph_engine.specs.AnySlots.{any_slot}
 use Rattle.ph_engine.proofs.Commanded.{tells-said}
 use Rattle.ph_engine.proofs.Filed.{done-filed, filed-begun}

@@ -4,7 +4,7 @@ use Rattle.std.specs.List.{list_all}
 use Rattle.ph_specs.specs.Boxes.{AreBoxes}
 use Rattle.ph_specs.specs.Coordinate.{fits}
 use Rattle.ph_script.specs.Meaning.{numbers_of}
-use Rattle.ph_any_tree.specs.Tables.{table_at, slot_of}
+use Rattle.ph_commands.specs.Tables.{table_at, slot_of}
 use Rattle.ph_engine.specs.Asking.{asking}
 use Rattle.ph_engine.specs.Refusing.{early_refusal}
 use Rattle.ph_engine.specs.Slots.{named}

@@ -1,6 +1,6 @@
 use Rattle.std.proofs.Common.{◌∙◌}
 use Rattle.ph_engine.specs.Refusing.{frame_refusal}
-use Rattle.ph_any_tree.specs.Tables.{table_at}
+use Rattle.ph_commands.specs.Tables.{table_at}
 use Rattle.ph_engine.specs.Slots.{named}
 use Rattle.ph_engine.proofs.Pairings.{combined-frame}
 use Rattle.ph_engine.proofs.Slotted.{slot-keeps}

@@ -1,7 +1,7 @@
 use Rattle.std.proofs.Common.{◌≡◌, false, refl, rules}
 use Rattle.std.specs.Prelude.{Ok}
 use Rattle.ph_script.specs.Meaning.{command_of}
-use Rattle.ph_any_tree.specs.Tables.{engine_of}
+use Rattle.ph_commands.specs.Tables.{engine_of}
 use Rattle.ph_engine.specs.Doing.{is_on_row}
 use Rattle.ph_engine.proofs.Commanded.{tells-said}
 use Rattle.ph_engine.proofs.Filed.{done-filed}

@@ -2,7 +2,7 @@ use Rattle.std.proofs.Common.{◌≡◌, ◌∙◌, false, ap, rules, sym}
 use Rattle.std.specs.Prelude.{Ok, Some}
 use Rattle.ph_script.specs.Meaning.{command_of, reply_of}
 use Rattle.ph_engine.specs.Doing.{is_page}
-use Rattle.ph_any_tree.specs.Tables.{engine_of}
+use Rattle.ph_commands.specs.Tables.{engine_of}
 use Rattle.ph_engine.proofs.Commanded.{done-refused, tells-said}
 use Rattle.ph_engine.proofs.Filed.{done-filed}
 use Rattle.ph_engine.proofs.Refused.{refused-begun}

@@ -1,7 +1,7 @@
 use Rattle.std.proofs.Common.{ap, sym, ◌∙◌}
 use Rattle.std.specs.Prelude.{is_ok}
 use Rattle.ph_engine.specs.Naming.{place}
-use Rattle.ph_any_tree.specs.Tables.{table_at}
+use Rattle.ph_commands.specs.Tables.{table_at}
 use Rattle.ph_engine.specs.Slots.{named}
 use Rattle.ph_engine.proofs.Names.{has-place}
 use Rattle.ph_engine.proofs.Slotted.{names-sorted}

@@ -1,5 +1,5 @@
 use Rattle.std.proofs.Common.{sym}
-use Rattle.ph_any_tree.specs.Tables.{table_at}
+use Rattle.ph_commands.specs.Tables.{table_at}
 use Rattle.ph_engine.specs.Slots.{named}
 use Rattle.ph_engine.proofs.Groups.{all-lists}
 use Rattle.ph_engine.proofs.Paged.{arm-listed, lists-window, lists-ball, lists-sizes, near-listed}

@@ -5,7 +5,7 @@ use Rattle.ph_specs.specs.Command.{Command}
 use Rattle.ph_specs.specs.Named.{enter, lookup}
 use Rattle.ph_engine.specs.Naming.{place}
 use Rattle.ph_engine.specs.Refusing.{early_refusal}
-use Rattle.ph_any_tree.specs.Tables.{table_at, slot_of, IsCursorIn}
+use Rattle.ph_commands.specs.Tables.{table_at, slot_of, IsCursorIn}
 use Rattle.ph_engine.specs.Slots.{named}
 use Rattle.ph_engine.specs.declared.cursors.Held.{Held}
 use Rattle.ph_engine.proofs.Names.{has-place, under-entered, all-at}

@@ -3,7 +3,7 @@ use Rattle.std.specs.Prelude.{Some}
 use Rattle.ph_specs.specs.Command.{Command}
 use Rattle.ph_script.specs.Meaning.{numbers_of}
 use Rattle.ph_engine.specs.Refusing.{early_refusal}
-use Rattle.ph_any_tree.specs.Tables.{table_at}
+use Rattle.ph_commands.specs.Tables.{table_at}
 use Rattle.ph_engine.specs.Slots.{named}
 use Rattle.ph_engine.proofs.Plain.{plain-put}
 use Rattle.ph_engine.proofs.Refused.{early-put}

@@ -1,6 +1,6 @@
 use Rattle.std.proofs.Common.{sym}
 use Rattle.std.specs.Prelude.{Ok}
-use Rattle.ph_any_tree.specs.Tables.{table_at, slot_of}
+use Rattle.ph_commands.specs.Tables.{table_at, slot_of}
 use Rattle.ph_engine.specs.Slots.{named}
 use Rattle.ph_engine.proofs.Filed.{filed-begun, filed-served}
 use Rattle.ph_engine.proofs.Groups.{all-sure}

@@ -5,7 +5,7 @@ use Rattle.ph_specs.specs.Command.{Command}
 use Rattle.ph_specs.specs.Named.{enter, has_name}
 use Rattle.ph_script.specs.Meaning.{numbers_of, number_of_coord}
 use Rattle.ph_engine.specs.Refusing.{early_refusal}
-use Rattle.ph_any_tree.specs.Tables.{table_at, slot_of}
+use Rattle.ph_commands.specs.Tables.{table_at, slot_of}
 use Rattle.ph_engine.specs.Slots.{named}
 use Rattle.ph_engine.specs.declared.cursors.Held.{Held}
 use Rattle.ph_engine.proofs.Names.{under-entered}

@@ -1,4 +1,4 @@
-use Rattle.ph_any_tree.specs.Tables.{table_at}
+use Rattle.ph_commands.specs.Tables.{table_at}
 use Rattle.ph_engine.specs.Slots.{named}
 use Rattle.ph_engine.proofs.Groups.{all-tried}
 use Rattle.ph_engine.proofs.Slotted.{slot-keeps}
