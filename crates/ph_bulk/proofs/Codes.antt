@@ -1,28 +1,29 @@
 -- Points sorted by the digits of their offsets as one number.
 use Rattle.std.proofs.Common.{◌≡◌, ℕ, zero, suc, ◌+◌, ◌*◌, ◌^◌, ◌<◌, ◌≤◌, ◌⊎◌, Bool, true, false, ◌&&◌, cond, List, [], ◌∷◌, length}
-use Rattle.std.proofs.Common.{map, filter, get_or, refl, sym, ◌∙◌, ap, subst, arith, inl, inr, lt-ltb, le-ltb}
-use Rattle.std.specs.Prelude.{ℤ, nat_lt, not, ◌-◌, ◌%◌}
+use Rattle.std.proofs.Common.{map, filter, get_or, refl, sym, ◌∙◌, ap, subst, arith, inl, inr}
+use Rattle.std.specs.Prelude.{ℤ, not, ◌-◌, ◌%◌}
 use Rattle.std.specs.Cmp.{IsStrictWeakOrder}
+use Rattle.std.specs.Int.{cast_unsigned, w64}
 use Rattle.std.specs.List.{AllByRecursion as Each}
 use Rattle.std.specs.List.Sorted.{IsPermutation, IsSortedBy, IsStableBy, IsSortedByKey, IsStableByKey, ties}
-use Rattle.std.specs.Ordering.{is_lt, nat_cmp}
-use Rattle.std.proofs.Math.Nat.{eq-or-lt_of_le, mul-le-mul_right, le-mul_of_pos_right, mod-eq_of_lt}
+use Rattle.std.specs.Ordering.{is_lt, nat_cmp, ordering_then}
+use Rattle.std.proofs.Math.Nat.{le-mul_of_pos_right, mod-eq_of_lt, mod-lt}
 use Rattle.std.proofs.Math.Pow.{pow_mono}
-use Rattle.std.proofs.lemmas.Bool.{and_parts, cases_lt, cases_eq, not-true}
+use Rattle.std.proofs.lemmas.Bool.{and_parts, not-true}
 use Rattle.std.proofs.lemmas.List.{length-map}
 use Rattle.std.proofs.lemmas.List.Elements.{All-from_recursion, recursion_from_All, filter_agree}
 use Rattle.std.proofs.lemmas.List.Sorted.{All-permutation}
 use Rattle.std.proofs.lemmas.Nat.{pow_pos, pow-add, mul-add-lt}
-use Rattle.ph_specs.specs.Coordinate.{fits, offset}
+use Rattle.ph_specs.specs.Coordinate.{half}
 use Rattle.ph_specs.specs.Table.{Row}
-use Rattle.ph_specs.proofs.laws.Order.{decided, decided-lt, decided-eq, offset_small}
 use Rattle.ph_model.specs.Lawful.{IsBody}
 use Rattle.ph_model.specs.PutTree.{body_address}
-use Rattle.ph_model.proofs.lemmas.Joined.{same_number}
-use Rattle.ph_digits.proofs.Cuts.{address-below, none_from}
+use Rattle.ph_digits.proofs.Cuts.{address-below}
+use Rattle.ph_digits.specs.WordOrder.{words_cmp_below, words_cmp}
+use Rattle.ph_digits.proofs.WordOrders.{below-cut, two-digits}
 use Rattle.ph_shape.proofs.Fronts.{each-at}
-use Rattle.ph_bulk.specs.Order.{any_offset, words_before, words_first, row_before, code_below, code_of}
-use Rattle.ph_bulk.proofs.Orders.{order, decided-gt, address-number, is_lt-nat_cmp}
+use Rattle.ph_bulk.specs.Order.{any_offset, row_before, code_below, code_of}
+use Rattle.ph_bulk.proofs.Orders.{order}
 
 -- ---- codes
 
@@ -77,74 +78,32 @@ next-digit d w (suc n) code a xs ys e l same some h v =
     no-more : (x y limit : ℕ) → x + y < limit → x < limit
     no-more x y limit l = omega arith
 
--- of two numbers in two digits the first digits decide, and else the second ones
-by-digits : (a b c d p : ℕ) (below : Bool) → c < p → d < p → nat_lt c d ≡ below → nat_lt (a * p + c) (b * p + d) ≡ decided a b below
-by-digits a b c d p below l m h =
-    elim (cases_lt a b) [
-      | inl lt ↦
-          let wide : (a + 1) * p ≤ b * p = mul-le-mul_right p (omega arith) in
-          lt-ltb (a * p + c) (b * p + d) (omega (arith, wide)) ∙ sym (decided-lt a b below lt)
-      | inr ge ↦ elim (cases_eq a b) [
-        | inl e ↦ ap (λ k. nat_lt (k * p + c) (b * p + d)) e ∙ same-front (b * p) c d ∙ h ∙ sym (decided-eq a b below e)
-        | inr ne ↦
-            let wide : (b + 1) * p ≤ a * p = mul-le-mul_right p (omega arith) in
-            le-ltb (a * p + c) (b * p + d) (omega (arith, wide)) ∙ sym (decided-gt a b below (omega arith))
-      ]
-    ]
-  where
-    same-front : (k c d : ℕ) → nat_lt (k + c) (k + d) ≡ nat_lt c d
-    same-front k c d =
-        elim (cases_lt c d) [
-          | inl lt ↦ lt-ltb (k + c) (k + d) (omega arith) ∙ sym (lt-ltb c d lt)
-          | inr ge ↦ le-ltb (k + c) (k + d) (omega arith) ∙ sym (le-ltb c d ge)
-        ]
-
 -- codes stand as the numbers do by their digits
-code-order : (n : ℕ) (xs ys : List ℕ) → length xs ≡ length ys → nat_lt (code_below n xs) (code_below n ys) ≡ words_before n xs ys
+code-order : (n : ℕ) (xs ys : List ℕ) → length xs ≡ length ys → nat_cmp (code_below n xs) (code_below n ys) ≡ words_cmp_below n xs ys
 code-order zero xs ys e = refl
 code-order (suc n) xs ys e =
-    ap (λ k. nat_lt (body_address n xs * 2 ^ (k * n) + code_below n xs) (code_below (suc n) ys)) e
-    ∙ by-digits (body_address n xs) (body_address n ys) (code_below n xs) (code_below n ys) (2 ^ (length ys * n)) (words_before n xs ys)
-    (subst (λ k. code_below n xs < 2 ^ (k * n)) e (code-limit n xs)) (code-limit n ys) (code-order n xs ys e)
-
--- places from the width on decide nothing
-words-cut : (n w d : ℕ) (xs ys : List ℕ) → w ≤ n → IsBody d w xs → IsBody d w ys → words_before n xs ys ≡ words_before w xs ys
-words-cut zero w d xs ys l h k = let z : w ≡ 0 = omega (arith, l) in ap (λ m. words_before m xs ys) (sym z)
-words-cut (suc n) w d xs ys l h k =
-    elim (eq-or-lt_of_le l) [
-      | inl e ↦ ap (λ m. words_before m xs ys) (sym e)
-      | inr g ↦
-          let le : w ≤ n = omega (arith, g) in
-          let same : body_address n xs ≡ body_address n ys =
-          address-number 0 n xs ∙ same_number 0 w n xs ys le (none_from d w xs ys h k) ∙ sym (address-number 0 n ys) in
-          decided-eq (body_address n xs) (body_address n ys) (words_before n xs ys) same ∙ words-cut n w d xs ys le h k
-    ]
+    ap (λ k. nat_cmp (body_address n xs * 2 ^ (k * n) + code_below n xs) (code_below (suc n) ys)) e
+    ∙ two-digits (body_address n xs) (body_address n ys) (code_below n xs) (code_below n ys) (2 ^ (length ys * n))
+    (subst (λ k. code_below n xs < 2 ^ (k * n)) e (code-limit n xs)) (code-limit n ys)
+    ∙ ap (ordering_then (nat_cmp (body_address n xs) (body_address n ys))) (code-order n xs ys e)
 
 -- ---- codes of points
 
-any-limit : (w : ℕ) (c : ℤ) → 1 ≤ w → any_offset w c < 2 ^ w
-any-limit w c positive = by-test (offset w c) (2 ^ w) (fits w c) (pow_pos w) (offset_small w c positive)
-  where
-    by-test : (x p : ℕ) (b : Bool) → 0 < p → (b ≡ true → x < p) → cond b x 0 < p
-    by-test x p true l h = h refl
-    by-test x p false l h = l
+any-small : (w : ℕ) (p : List ℤ) → Each (λ x. x < 2 ^ w) (map (any_offset w) p)
+any-small w [] = tt
+any-small w (c ∷ p) = (mod-lt (cast_unsigned w64 c + half w) (pow_pos w), any-small w p)
 
-any-small : (w : ℕ) (p : List ℤ) → 1 ≤ w → Each (λ x. x < 2 ^ w) (map (any_offset w) p)
-any-small w [] positive = tt
-any-small w (c ∷ p) positive = (any-limit w c positive, any-small w p positive)
+any-body : (w d : ℕ) (p : List ℤ) → length p ≡ d → IsBody d w (map (any_offset w) p)
+any-body w d p e = (length-map p (any_offset w) ∙ e, any-small w p)
 
-any-body : (w d : ℕ) (p : List ℤ) → 1 ≤ w → length p ≡ d → IsBody d w (map (any_offset w) p)
-any-body w d p positive e = (length-map p (any_offset w) ∙ e, any-small w p positive)
-
-row-codes : (w d : ℕ) (a b : Row) → 1 ≤ w → w ≤ 62 → length a.point ≡ d → length b.point ≡ d →
+row-codes : (w d : ℕ) (a b : Row) → w ≤ 62 → length a.point ≡ d → length b.point ≡ d →
     is_lt (nat_cmp (code_of w a.point) (code_of w b.point)) ≡ row_before w a b
-unfolding words_first
-row-codes w d a b positive l h k =
-    let xs = any-body w d a.point positive h in
-    let ys = any-body w d b.point positive k in
-    is_lt-nat_cmp (code_of w a.point) (code_of w b.point)
-    ∙ code-order w (map (any_offset w) a.point) (map (any_offset w) b.point) (xs.0 ∙ sym ys.0)
-    ∙ sym (words-cut 64 w d (map (any_offset w) a.point) (map (any_offset w) b.point) (omega (arith, l)) xs ys)
+unfolding words_cmp
+row-codes w d a b l h k =
+    let xs = any-body w d a.point h in
+    let ys = any-body w d b.point k in
+    ap is_lt (code-order w (map (any_offset w) a.point) (map (any_offset w) b.point) (xs.0 ∙ sym ys.0)
+    ∙ sym (below-cut 64 w d (map (any_offset w) a.point) (map (any_offset w) b.point) (omega (arith, l)) xs ys))
 
 -- ---- elements that tie
 
@@ -233,11 +192,11 @@ module _ {X : Type 0} (lt : X → X → Bool) (o : IsStrictWeakOrder lt) where
 abbrev HasDims : ℕ → Row → Type 0
 HasDims d r = length r.point ≡ d
 
-module _ (w d : ℕ) (positive : 1 ≤ w) (limit : w ≤ 62) (rows ys : List Row) (dims : Each (λ r. length r.point ≡ d) rows) (moved : IsPermutation rows ys) where
+module _ (w d : ℕ) (limit : w ≤ 62) (rows ys : List Row) (dims : Each (λ r. length r.point ≡ d) rows) (moved : IsPermutation rows ys) where
   pub rows-sorted : IsSortedByKey (λ (r : Row). code_of w r.point) nat_cmp ys → IsSortedBy (row_before w) ys
   rows-sorted up =
-      sorted-by-key (row_before w) (order w) (λ (r : Row). code_of w r.point) (HasDims d) (λ a b h k. row-codes w d a b positive limit h k) rows ys dims moved up
+      sorted-by-key (row_before w) (order w) (λ (r : Row). code_of w r.point) (HasDims d) (λ a b h k. row-codes w d a b limit h k) rows ys dims moved up
 
   pub rows-stable : IsStableByKey (λ (r : Row). code_of w r.point) nat_cmp rows ys → IsStableBy (row_before w) rows ys
   rows-stable st =
-      stable-by-key (row_before w) (order w) (λ (r : Row). code_of w r.point) (HasDims d) (λ a b h k. row-codes w d a b positive limit h k) rows ys dims moved st
+      stable-by-key (row_before w) (order w) (λ (r : Row). code_of w r.point) (HasDims d) (λ a b h k. row-codes w d a b limit h k) rows ys dims moved st

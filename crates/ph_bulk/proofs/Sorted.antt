@@ -1,65 +1,64 @@
 -- Rows in order, and their table.
 use Rattle.std.proofs.Common.{◌≡◌, ℕ, zero, suc, ◌+◌, ◌<◌, ◌≤◌, Bool, true, false, ◌&&◌, cond, List, [], ◌∷◌, ◌++◌, length}
-use Rattle.std.proofs.Common.{map, take, filter, get_or, refl, sym, ◌∙◌, ap, subst, arith, inl, inr}
-use Rattle.std.specs.Prelude.{ℤ, not, None, ◌==◌}
+use Rattle.std.proofs.Common.{map, take, filter, get_or, refl, sym, ◌∙◌, ap, subst, arith}
+use Rattle.std.specs.Prelude.{ℤ, pos, negsuc, ◌-◌, ◌*◌, ◌%◌, ◌^◌, not, None, ◌==◌}
+use Rattle.std.specs.Ordering.{is_lt}
+use Rattle.std.specs.declared.cmp.Ordering.TheVariants.{Equal}
 use Rattle.std.specs.List.{list_all, AllByRecursion as Each}
 use Rattle.std.specs.List.Sorted.{IsPermutation, IsSortedBy, IsStableBy, ties}
-use Rattle.std.proofs.Math.Nat.{eq-or-lt_of_le}
-use Rattle.std.proofs.lemmas.Bool.{and_parts}
+use Rattle.std.proofs.Math.Nat.{add-mul-mod_self_right, mod-eq_of_lt}
+use Rattle.std.proofs.Math.Pow.{pow_mono}
+use Rattle.std.proofs.lemmas.Bool.{and_parts, leb-true}
+use Rattle.std.proofs.lemmas.Nat.{pow_pos, pow-add}
 use Rattle.std.proofs.lemmas.List.{take_more}
 use Rattle.std.proofs.lemmas.List.Sorted.{All-permutation, sorted_far}
 use Rattle.std.proofs.lemmas.List.Elements.{All-from_recursion, recursion_from_All}
-use Rattle.ph_specs.specs.Coordinate.{fits, offset, same_point, is_point, IsPoint}
-use Rattle.ph_model.specs.Lawful.{IsBody}
-use Rattle.ph_specs.specs.ZOrder.{address, before, before_below}
+use Rattle.ph_specs.specs.Coordinate.{fits, half, offset, same_point, is_point, IsPoint}
+use Rattle.ph_specs.specs.ZOrder.{before}
 use Rattle.ph_specs.specs.Table.{Row, row, find, put, is_rising, is_value, IsTable}
 use Rattle.ph_specs.specs.Sets.{put_all, table_of}
 use Rattle.ph_model.proofs.laws.Combined.{not-back, not-same}
-use Rattle.ph_specs.proofs.laws.Order.{decided, decided-eq}
+use Rattle.ph_specs.proofs.laws.Order.{offset_small}
 use Rattle.ph_specs.proofs.laws.Put.{and, is_rising-put, list_all-put, same_from_test}
 use Rattle.ph_specs.proofs.laws.SameTables.{pick, find-put_all, pick-filter, same-tables}
 use Rattle.ph_specs.proofs.laws.Sets.{is_table-table_of}
-use Rattle.ph_model.proofs.lemmas.Joined.{offsets, address_from-is, same_number}
-use Rattle.ph_digits.proofs.Cuts.{none_from}
-use Rattle.ph_zorder.proofs.Decided.{address-is, is_body-point}
+use Rattle.ph_digits.specs.WordOrder.{words_cmp}
+use Rattle.ph_digits.proofs.WordOrders.{words-same}
+use Rattle.ph_zorder.proofs.Decided.{is_body-point}
+use Rattle.ph_zorder.proofs.Ordered.{words-before}
 use Rattle.ph_shape.proofs.Fronts.{each-at}
-use Rattle.ph_bulk.specs.Order.{any_offset, words_before, words_first, row_before}
-use Rattle.ph_bulk.proofs.Orders.{order, words-same}
+use Rattle.ph_bulk.specs.Order.{any_offset, row_before}
+use Rattle.ph_bulk.proofs.Orders.{order}
 
 -- ---- the order of rows is that of their points
 
-words-offsets : (n w : ℕ) (p q : List ℤ) → words_before n (offsets w p) (offsets w q) ≡ before_below n w p q
-words-offsets zero w p q = refl
-words-offsets (suc n) w p q = λ i. decided (address-is n w p i) (address-is n w q i) (words-offsets n w p q i)
+-- the number that stands for a coordinate is its offset
+any-fit : (w : ℕ) (c : ℤ) → 1 ≤ w → w ≤ 62 → fits w c ≡ true → any_offset w c ≡ offset w c
+any-fit w (pos n) positive l h =
+    let up : n + half w ≡ half w + n = omega arith in
+    ap (λ k. k % 2 ^ w) up ∙ mod-eq_of_lt (offset_small w (pos n) positive h)
+any-fit w (negsuc n) positive l h =
+    let long : 64 ≡ (64 - w) + w = omega (arith, l) in
+    let whole : 2 ^ 64 ≡ 2 ^ (64 - w) * 2 ^ w = ap (λ k. 2 ^ k) long ∙ pow-add 2 (64 - w) w in
+    let low : n ≤ half w - 1 = leb-true n (half w - 1) (and_parts _ _ h).0 in
+    let wide : half w ≤ 2 ^ 64 = pow_mono {i = w - 1} {j = 64} (omega (arith, l)) in
+    let some : 0 < half w = pow_pos (w - 1) in
+    let around : (2 ^ 64 - suc n) + half w ≡ offset w (negsuc n) + 2 ^ 64 = omega (arith, low, wide, some) in
+    ap (λ k. k % 2 ^ w) (around ∙ ap (λ k. offset w (negsuc n) + k) whole)
+    ∙ add-mul-mod_self_right (offset w (negsuc n)) (2 ^ (64 - w)) (2 ^ w)
+    ∙ mod-eq_of_lt (offset_small w (negsuc n) positive h)
 
--- places above the width decide nothing
-before-more : (n w d : ℕ) (p q : List ℤ) → w ≤ n → IsBody d w (offsets w p) → IsBody d w (offsets w q) → before_below n w p q ≡ before_below w w p q
-before-more zero w d p q l h k = let z : w ≡ 0 = omega (arith, l) in ap (λ m. before_below m w p q) (sym z)
-before-more (suc n) w d p q l h k =
-    elim (eq-or-lt_of_le l) [
-      | inl e ↦ ap (λ m. before_below m w p q) (sym e)
-      | inr g ↦
-          let le : w ≤ n = omega (arith, g) in
-          let same : address w p n ≡ address w q n = address_from-is w 0 n p ∙ same_number 0 w n (offsets w p)
-          (offsets w q) le (none_from d w (offsets w p) (offsets w q) h k) ∙ sym (address_from-is w 0 n q) in
-          decided-eq (address w p n) (address w q n) (before_below n w p q) same ∙ before-more n w d p q le h k
-    ]
-
-offsets-before : (w d : ℕ) (p q : List ℤ) → 1 ≤ w → w ≤ 62 → IsPoint w d p → IsPoint w d q → words_first (offsets w p) (offsets w q) ≡ before w p q
-unfolding words_first
-offsets-before w d p q positive l h k = words-offsets 64 w p q ∙ before-more 64 w d p q (omega (arith, l))
-    (is_body-point w d p positive h) (is_body-point w d q positive k)
-
-any-is : (w : ℕ) (p : List ℤ) → list_all (fits w) p ≡ true → map (any_offset w) p ≡ map (offset w) p
-any-is w [] h = refl
-any-is w (c ∷ p) h =
+any-is : (w : ℕ) (p : List ℤ) → 1 ≤ w → w ≤ 62 → list_all (fits w) p ≡ true → map (any_offset w) p ≡ map (offset w) p
+any-is w [] positive l h = refl
+any-is w (c ∷ p) positive l h =
     let k = and_parts (fits w c) (list_all (fits w) p) h in
-    λ i. ap (λ b. cond b (offset w c) 0) k.0 i ∷ any-is w p k.1 i
+    λ i. any-fit w c positive l k.0 i ∷ any-is w p positive l k.1 i
 
 row-order : (w d : ℕ) (a b : Row) → 1 ≤ w → w ≤ 62 → IsPoint w d a.point → IsPoint w d b.point → row_before w a b ≡ before w a.point b.point
 row-order w d a b positive l h k =
-    (λ i. words_first (any-is w a.point (and_parts (length a.point == d) _ h).1 i)
-    (any-is w b.point (and_parts (length b.point == d) _ k).1 i)) ∙ offsets-before w d a.point b.point positive l h k
+    (λ i. is_lt (words_cmp (any-is w a.point positive l (and_parts (length a.point == d) _ h).1 i)
+    (any-is w b.point positive l (and_parts (length b.point == d) _ k).1 i)))
+    ∙ words-before w d a.point b.point (omega (arith, l)) (is_body-point w d a.point positive h) (is_body-point w d b.point positive k)
 
 -- ---- the table of rows
 
@@ -167,10 +166,10 @@ table-more w rows i r m e =
 -- ---- sorted rows make the same table
 
 tie : (w : ℕ) (a b : Row) → a.point ≡ b.point → ties (row_before w) a b ≡ true
-unfolding words_first
-tie w a b e =
-    (λ i. not (words_before 64 (map (any_offset w) (e i)) (map (any_offset w) b.point)) && not (words_before 64 (map (any_offset w) b.point) (map (any_offset w) (e i))))
-    ∙ ap (λ t. not t && not t) (words-same 64 (map (any_offset w) b.point))
+tie w a b e = λ i. not (is_lt (sym (same a.point b.point e) i)) && not (is_lt (sym (same b.point a.point (sym e)) i))
+  where
+    same : (p q : List ℤ) → p ≡ q → Equal ≡ words_cmp (map (any_offset w) p) (map (any_offset w) q)
+    same p q e = words-same (map (any_offset w) p) (map (any_offset w) q) (ap (map (any_offset w)) e)
 
 all-tie : (w : ℕ) (q : List ℤ) (rows : List Row) → Each (λ r. same_point r.point q ≡ true → ties (row_before w) (row q 0) r ≡ true) rows
 all-tie w q [] = tt

@@ -1,26 +1,19 @@
 -- The order in which rows are sorted: by the digits of the offsets of their coordinates.
-use Rattle.std.specs.Prelude.{ℕ, zero, suc, ◌+◌, ◌*◌, ◌^◌, Bool, false, ◌&&◌, ◌||◌, ◌==◌, nat_lt, if◌then◌else◌, List, [], ◌∷◌, length, map, ℤ}
-use Rattle.ph_specs.specs.Coordinate.{fits, offset, same_point}
+use Rattle.std.specs.Prelude.{ℕ, zero, suc, ◌+◌, ◌*◌, ◌%◌, ◌^◌, Bool, false, if◌then◌else◌, List, [], ◌∷◌, length, map, ℤ}
+use Rattle.std.specs.Int.{cast_unsigned, w64}
+use Rattle.std.specs.Ordering.{is_lt}
+use Rattle.ph_specs.specs.Coordinate.{half, same_point}
 use Rattle.ph_model.specs.PutTree.{body_address}
 use Rattle.ph_specs.specs.Table.{Row}
+use Rattle.ph_digits.specs.WordOrder.{words_cmp}
 
--- whether numbers come before others by their digits below a place: the greatest place at which the digits differ decides
-abbrev pub words_before : ℕ → List ℕ → List ℕ → Bool
-words_before zero xs ys = false
-words_before (suc place) xs ys =
-    nat_lt (body_address place xs) (body_address place ys) || ((body_address place xs == body_address place ys) && words_before place xs ys)
-
--- the same by all digits of a word
-unfoldable pub words_first : List ℕ → List ℕ → Bool
-words_first xs ys = words_before 64 xs ys
-
--- the offset of a coordinate, and 0 for a number that is none
+-- the offset of a coordinate, and some number of as many digits for one that is none
 abbrev pub any_offset : ℕ → ℤ → ℕ
-any_offset width c = if fits width c then offset width c else 0
+any_offset width c = (cast_unsigned w64 c + half width) % 2 ^ width
 
 -- whether a row is sorted before another
 abbrev pub row_before : ℕ → Row → Row → Bool
-row_before width a b = words_first (map (any_offset width) a.point) (map (any_offset width) b.point)
+row_before width a b = is_lt (words_cmp (map (any_offset width) a.point) (map (any_offset width) b.point))
 
 -- the digits of numbers below a place as one number: the addresses, from the greatest place down
 abbrev pub code_below : ℕ → List ℕ → ℕ

@@ -3,11 +3,11 @@ ghost use Rattle.std.specs.Prelude.{◌≡◌, ◌≤◌, ◌*◌, length, map, 
 ghost use Rattle.std.specs.List.{AllByRecursion as Each};
 ghost use Rattle.std.specs.List.Sorted.{IsPermutation, IsSortedBy, IsStableBy};
 ghost use Rattle.std.specs.Ordering.{is_lt};
-ghost use Rattle.ph_bulk.specs.Order.{any_offset, words_first, row_before, code_of};
+ghost use Rattle.ph_bulk.specs.Order.{any_offset, row_before, code_of};
 
 use crate::NoMemory;
 use ph_coord::{Point, Row, Width};
-use ph_digits::{body_address, top_difference};
+use ph_digits::{body_address, digits_below, words_cmp};
 use std::cmp::Ordering;
 
 // With fewer dimensions a comparison is cheap, and codes save little or nothing.
@@ -114,7 +114,7 @@ fn row_cmp<const D: usize>(w: Width, a: &Row<D>, b: &Row<D>) -> Ordering
     requires { D ≤ 16 }
     ensures { is_lt result ≡ row_before w a.now b.now }
 {
-    word_cmp(&any_offsets(w, &a.point), &any_offsets(w, &b.point))
+    words_cmp(&any_offsets(w, &a.point), &any_offsets(w, &b.point))
 }
 
 // The offsets of a point's coordinates.
@@ -128,22 +128,10 @@ fn any_offsets<const D: usize>(w: Width, p: &Point<D>) -> [u64; D]
     offsets
 }
 
-// The offset of a coordinate, and 0 for a number that is none, since a sort may compare any two rows.
+// The offset of a coordinate, with no test of its range: a sort may compare any two rows, so each number has to have one.
 fn any_offset(w: Width, c: i64) -> u64
     ensures { result ≡ any_offset w c }
 {
-    if w.fits(c) { w.offset(c) } else { 0 }
-}
-
-// How numbers stand to others by their digits: those with the smaller address at the greatest place at which they differ come
-// first.
-fn word_cmp(xs: &[u64], ys: &[u64]) -> Ordering
-    requires same { length xs.now ≡ length ys.now }
-    requires few { length xs.now ≤ 16 }
-    ensures { is_lt result ≡ words_first xs.now ys.now }
-{
-    match top_difference(xs, ys) {
-        None => Ordering::Equal,
-        Some(place) => body_address(place, xs).cmp(&body_address(place, ys)),
-    }
+    let half = 1 << (w.bits() - 1);
+    digits_below(w.bits(), c.cast_unsigned().wrapping_add(half))
 }

@@ -18,12 +18,15 @@ use Rattle.ph_specs.specs.Table.{Row}
 use Rattle.ph_specs.specs.ZOrder.{before}
 use Rattle.ph_specs.proofs.lemmas.Members.{Each-each, Each-parts, Each-in, Each-from_in}
 use Rattle.ph_specs.proofs.lemmas.Gathered.{Each-permutation}
+use Rattle.ph_model.specs.Lawful.{IsBody}
+use Rattle.ph_model.proofs.lemmas.Joined.{offsets, offsets-coordinate}
 use Rattle.ph_model.proofs.lemmas.Searching.{IsApart, nearer-total, rows-apart}
 use Rattle.ph_specs.proofs.laws.Points.{ArePoints}
 use Rattle.ph_model.proofs.laws.Nearest.{Rising, nearer-cases}
+use Rattle.ph_digits.specs.WordOrder.{words_cmp}
+use Rattle.ph_zorder.proofs.Ordered.{words-before}
 use Rattle.ph_near.specs.declared.found.Found.{Found}
-use Rattle.ph_near.specs.Found.{z_numbers, found_cmp, found_total, row_of, rows_of, IsFound}
-use Rattle.ph_near.proofs.ZNumbers.{before-z}
+use Rattle.ph_near.specs.Found.{found_cmp, found_total, row_of, rows_of, IsFound}
 
 -- ---- two rows
 
@@ -43,7 +46,7 @@ module _ {d : ℕ} where
     where
       by_test : (b : Bool) → nat_lt y.distance x.distance ≡ b → x.distance ≤ y.distance
       by_test true f =
-          let clash : true ≡ false = ap (λ o. is_lt (ordering_then o (z_numbers y.known x.known)))
+          let clash : true ≡ false = ap (λ o. is_lt (ordering_then o (words_cmp y.known x.known)))
           (nat_cmp_is y.distance x.distance Less (ltb-true y.distance x.distance f)) ∙ e in absurd (cc)
       by_test false f = ltb-false y.distance x.distance f
 
@@ -64,6 +67,15 @@ module _ {d : ℕ} where
   )
 
 module _ {w d : ℕ} (q : List ℤ) (narrow : w ≤ 62) where
+  -- digits stand as the points that they are of
+  known-before : (xs ys : List ℕ) → IsBody d w xs → IsBody d w ys →
+      before w (map (coordinate w) xs) (map (coordinate w) ys) ≡ true → is_lt (words_cmp xs ys) ≡ true
+  known-before xs ys h k b =
+      (λ i. is_lt (words_cmp (sym (offsets-coordinate w xs) i) (sym (offsets-coordinate w ys) i)))
+      ∙ words-before w d (map (coordinate w) xs) (map (coordinate w) ys) (omega (arith, narrow))
+      (subst (IsBody d w) (sym (offsets-coordinate w xs)) h) (subst (IsBody d w) (sym (offsets-coordinate w ys)) k)
+      ∙ b
+
   found-less : (x y : Found d) → IsFound w d q x → IsFound w d q y → is_nearer w q (row_of w x) (row_of w y) ≡ true → lt_by_cmp found_cmp x y ≡ true
   found-less x y h k e = by_case (nearer-cases w q (row_of w x) (row_of w y) e)
     where
@@ -72,11 +84,11 @@ module _ {w d : ℕ} (q : List ℤ) (narrow : w ≤ 62) where
           (before w (map (coordinate w) x.known) (map (coordinate w) y.known) ≡ true)) → lt_by_cmp found_cmp x y ≡ true
       by_case (inl m) =
           let less : x.distance < y.distance = omega (arith, m, h.far, k.far) in
-          ap (λ o. is_lt (ordering_then o (z_numbers x.known y.known))) (sym (nat_cmp_is x.distance y.distance Less less))
+          ap (λ o. is_lt (ordering_then o (words_cmp x.known y.known))) (sym (nat_cmp_is x.distance y.distance Less less))
       by_case (inr m) =
           let same : x.distance ≡ y.distance = h.far ∙ m.0 ∙ sym k.far in
-          ap (λ o. is_lt (ordering_then o (z_numbers x.known y.known))) (sym (nat_cmp_is x.distance y.distance Equal same))
-          ∙ ap is_lt (before-z w d x.known y.known (omega (arith, narrow)) h.known k.known m.1)
+          ap (λ o. is_lt (ordering_then o (words_cmp x.known y.known))) (sym (nat_cmp_is x.distance y.distance Equal same))
+          ∙ known-before x.known y.known h.known k.known m.1
 
   found-nearer : (x y : Found d) → IsFound w d q x → IsFound w d q y → IsApart w (row_of w x) (row_of w y) →
       lt_by_cmp found_cmp y x ≡ false → is_nearer w q (row_of w x) (row_of w y) ≡ true

@@ -1,5 +1,4 @@
 -- Lemmas of searches and of balls.
-pub mod ZNumbers
 pub mod Starts
 pub mod NearestRows
 pub mod FoundOrder

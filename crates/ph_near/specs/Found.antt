@@ -1,34 +1,24 @@
 -- Rows that were found, and which of two comes first.
-use Rattle.std.specs.Prelude.{◌≡◌, ℕ, zero, suc, List, [], ◌∷◌, map, ℤ}
+use Rattle.std.specs.Prelude.{◌≡◌, ℕ, List, map, ℤ}
 use Rattle.std.specs.declared.cmp.Ordering.{Ordering}
-use Rattle.std.specs.Cmp.Lexicographic.{slice_cmp, nat_list_cmp_total}
 use Rattle.std.specs.Ordering.{nat_cmp, on, then_cmp}
 use Rattle.std.specs.Cmp.{IsTotalOrder, then_total, on_total, nat_cmp_total}
 use Rattle.ph_specs.specs.Coordinate.{coordinate}
 use Rattle.ph_specs.specs.Distance.{distance}
 use Rattle.ph_model.specs.Lawful.{IsBody}
-use Rattle.ph_model.specs.PutTree.{body_address}
 use Rattle.ph_specs.specs.Table.{Row, row}
 use Rattle.ph_model.specs.BestFirst as best
 use Rattle.ph_model.specs.BestFirst.{Item}
+use Rattle.ph_digits.specs.WordOrder.{words_cmp, words_total}
 use Rattle.ph_near.specs.declared.found.Found.{Found}
-
--- the addresses of numbers at each place below one, from the greatest place on
-abbrev pub addresses : ℕ → List ℕ → List ℕ
-addresses zero xs = []
-addresses (suc place) xs = body_address place xs ∷ addresses place xs
-
--- the Z-order of numbers of at most 64 binary digits
-abbrev pub z_numbers : List ℕ → List ℕ → Ordering
-z_numbers xs ys = slice_cmp nat_cmp (addresses 64 xs) (addresses 64 ys)
 
 -- which of two rows comes first: the nearer, then the first in Z-order
 module _ {d : ℕ} where
   abbrev pub found_cmp : Found d → Found d → Ordering
-  found_cmp = then_cmp (on (λ f. f.distance) nat_cmp) (on (λ f. f.known) z_numbers)
+  found_cmp = then_cmp (on (λ f. f.distance) nat_cmp) (on (λ f. f.known) words_cmp)
 
   pub found_total : IsTotalOrder found_cmp
-  found_total = then_total (on_total (λ f. f.distance) nat_cmp_total) (on_total (λ f. addresses 64 f.known) nat_list_cmp_total)
+  found_total = then_total (on_total (λ f. f.distance) nat_cmp_total) (on_total (λ f. f.known) words_total)
 
 abbrev pub row_of : {d : ℕ} → ℕ → Found d → Row
 row_of w f = row (map (coordinate w) f.known) f.value

@@ -1,12 +1,11 @@
 //! Rows that were found, and which of two comes first.
 
-ghost use Rattle.std.specs.Prelude.{◌≡◌, ◌<◌, refl, Some, length};
+ghost use Rattle.std.specs.Prelude.{refl, Some};
 ghost use Rattle.std.specs.Cmp.{partial_order_from_agreeing_total, partial_equiv_from_equiv, eq_by_cmp_equiv};
-ghost use Rattle.std.specs.Ordering.{eq_by_cmp, nat_cmp};
-ghost use Rattle.ph_model.specs.ModelNames.{body_address};
-ghost use Rattle.ph_near.specs.Found.{z_numbers, found_cmp, found_total};
+ghost use Rattle.std.specs.Ordering.{eq_by_cmp};
+ghost use Rattle.ph_near.specs.Found.{found_cmp, found_total};
 
-use ph_digits::{digit, top_difference};
+use ph_digits::words_cmp;
 use std::cmp::Ordering;
 
 // A row by its offsets, and the square of its distance.
@@ -15,33 +14,6 @@ pub(crate) struct Found<const D: usize> {
     pub distance: u128,
     pub known: [u64; D],
     pub value: u64,
-}
-
-// How two lists of numbers stand in Z-order.
-fn z_numbers(xs: &[u64], ys: &[u64]) -> Ordering
-    requires { length xs.now ≡ length ys.now }
-    ensures { result ≡ z_numbers xs.now ys.now }
-{
-    match top_difference(xs, ys) {
-        None => Ordering::Equal,
-        Some(place) => address_cmp(place, xs, ys),
-    }
-}
-
-// How the digits at a place stand as numbers, those of the first words the most significant.
-fn address_cmp(place: u32, xs: &[u64], ys: &[u64]) -> Ordering
-    requires place { place < 64 }
-    requires same { length xs.now ≡ length ys.now }
-    ensures { result ≡ nat_cmp (body_address place xs.now) (body_address place ys.now) }
-{
-    for (x, y) in xs.iter().zip(ys) {
-        let a = digit(place, *x);
-        let b = digit(place, *y);
-        if a != b {
-            return a.cmp(&b);
-        }
-    }
-    Ordering::Equal
 }
 
 impl<const D: usize> Ord for Found<D> {
@@ -61,7 +33,7 @@ impl<const D: usize> Ord for Found<D> {
         if other.distance < self.distance {
             return Ordering::Greater;
         }
-        z_numbers(&self.known, &other.known)
+        words_cmp(&self.known, &other.known)
     }
 }
 

@@ -1,5 +1,0 @@
-use Rattle.ph_near.proofs.ZNumbers.{IsSameFront}
-use Rattle.ph_near.proofs.found.address_cmp.Given as goal
-
-abbrev pub invariant-loop-x : goal.invariant-loop-x
-invariant-loop-x l = IsSameFront l.place l.xs l.ys l.x-iterator.a.rest.now l.x-iterator.b.rest.now
