@@ -68,29 +68,32 @@ impl Pen {
         if digits < 64 {
             self.put(words, digits as u32, 0);
         } else {
-            self.put_many_zeros(words, digits);
+            let pen = *self;
+            *self = pen.behind_zeros(words, digits);
         }
     }
 
-    // Writes zeros that fill the word begun at least: those that it takes, then whole words, then what is left. It stays a call,
-    // so that a short run saves no registers.
+    // The pen behind zeros that fill the word begun at least: those that it takes, then whole words, then what is left. It stays a
+    // call on a pen by value, so that who writes short runs keeps the pen in registers.
     #[inline(never)]
-    fn put_many_zeros(&mut self, words: &mut Words, digits: u64)
-        requires pen { IsPen self.old }
+    fn behind_zeros(self, words: &mut Words, digits: u64) -> Pen
+        requires pen { IsPen self }
         requires many { 64 ≤ digits }
-        requires inside { digits_by words.old.words self.old + digits ≤ 64 * room_of words.old }
-        ensures pen { IsPen self.new }
-        ensures digits { digits_by words.new.words self.new ≡ digits_by words.old.words self.old + digits }
-        ensures number { number_by words.new.words self.new ≡ number_by words.old.words self.old * 2 ^ digits }
+        requires inside { digits_by words.old.words self + digits ≤ 64 * room_of words.old }
+        ensures pen { IsPen result }
+        ensures digits { digits_by words.new.words result ≡ digits_by words.old.words self + digits }
+        ensures number { number_by words.new.words result ≡ number_by words.old.words self * 2 ^ digits }
         ensures places { IsSamePlaces words.old words.new }
     {
+        let mut pen = self;
         let first = self.room % 64;
-        self.put(words, first, 0);
+        pen.put(words, first, 0);
         let left = digits - first as u64;
         for _ in 0..left / 64 {
             words.push(0);
         }
-        self.put(words, (left % 64) as u32, 0);
+        pen.put(words, (left % 64) as u32, 0);
+        pen
     }
 
     /// Writes the first `count` numbers of a body with `width` digits each.

@@ -2,7 +2,7 @@ use Rattle.std.proofs.Common.{◌≡◌, ℕ, ◌+◌, ◌-◌, ◌*◌, ◌%◌
 use Rattle.ph_bits.specs.Fields.{number_in}
 use Rattle.ph_bits.specs.Written.{number_by}
 use Rattle.ph_bits.proofs.PenSteps.{number-push, length-push, number-zeros, number-begun, zeros-runs}
-use Rattle.ph_bits.proofs.pens.Pen.put_many_zeros.Goals as goal
+use Rattle.ph_bits.proofs.pens.Pen.behind_zeros.Goals as goal
 
 pub loop-preserved : goal.loop-preserved
 loop-preserved c =
@@ -17,17 +17,17 @@ loop-preserved c =
 -- the number through the three steps: the word begun, whole words, and what is left
 pub returns-clause-number : goal.returns-clause-number
 returns-clause-number c =
-    let old = c.args.self.now in
+    let old = c.args.self in
     let pen = c.put.new.self in
-    let first : ℕ = c.args.self.now.room % 64 in
-    let left : ℕ = c.args.digits - c.args.self.now.room % 64 in
+    let first : ℕ = c.args.self.room % 64 in
+    let left : ℕ = c.args.digits - c.args.self.room % 64 in
     let i : ℕ = c.loop.counter in
-    let r : ℕ = number_by c.args.words.now.words c.args.self.now in
+    let r : ℕ = number_by c.args.words.now.words c.args.self in
     let empty : c.put.new.self.room ≡ 64 =
     omega (arith, c.put.ensures.digits, c.put.ensures.pen.some, c.put.ensures.pen.most, c.requires.pen.some, c.requires.pen.most) in
     let begun : (ws : List ℕ) → number_by ws c.put.new.self ≡ number_in ws =
     λ ws. number-begun (number_in ws) pen.kept pen.room empty c.put.ensures.pen.kept in
-    let all : c.args.self.now.room % 64 + 64 * c.loop.counter + (c.args.digits - c.args.self.now.room % 64) % 64 ≡ c.args.digits =
+    let all : c.args.self.room % 64 + 64 * c.loop.counter + (c.args.digits - c.args.self.room % 64) % 64 ≡ c.args.digits =
     omega (arith, c.loop-test.false, c.loop.auto.counter-end, c.requires.many) in
     c.put-2.ensures.number
     ∙ ap (λ t. t * 2 ^ (left % 64) + 0)

@@ -1,7 +1,7 @@
 use Rattle.std.proofs.Common.{◌≡◌, ◌+◌, ◌*◌, ◌^◌, length}
 use Rattle.ph_bits.specs.Block.{IsSamePlaces}
 use Rattle.ph_bits.specs.Fields.{number_in}
-use Rattle.ph_bits.proofs.pens.Pen.put_many_zeros.Given as goal
+use Rattle.ph_bits.proofs.pens.Pen.behind_zeros.Given as goal
 
 abbrev pub invariant-loop : goal.invariant-loop
 invariant-loop l =
