@@ -70,13 +70,13 @@ uint32_t ph_width(ph_tree *tree, uint32_t *width);
 /* Writes the number of dimensions. Answers PH_DONE or PH_NO_TREE. */
 uint32_t ph_dimensions(ph_tree *tree, uint32_t *dims);
 
-/* What a tree is made of. It is a function of the rows, the width and the dimensions alone, whatever was put and taken out before. */
+/* What a tree is made of, by its rows, width and dimensions alone, whatever was put and taken out before. A snapshot has 8 bytes for each word, and 8 more. */
 typedef struct ph_tree_sizes {
     uint64_t rows;
     uint64_t nodes;  /* at most as many as rows */
-    uint64_t linear; /* nodes in the linear layout, which lists their entries */
-    uint64_t cube;   /* nodes in the cube layout, which has a place for each address */
-    uint64_t words;  /* 8 bytes each, of the records of all nodes, or 2^64 - 1, should there be more: a snapshot has 8 bytes more than these */
+    uint64_t linear; /* nodes whose records list their entries */
+    uint64_t cube;   /* nodes whose records have a place for each address */
+    uint64_t words;  /* those of the records of all nodes, 8 bytes each, or 2^64 - 1, should there be more */
 } ph_tree_sizes;
 
 /* Writes the sizes of the tree. Answers PH_DONE or PH_NO_TREE. Takes no memory. Visits each node once. */
