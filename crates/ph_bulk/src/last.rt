@@ -14,7 +14,7 @@ use std::alloc::Global;
 
 /// The rows of the table that rows make, in Z-order: of equal points the last row stays.
 ///
-/// Rows that rise are given back as they are. Others are sorted, by one comparison of D words for each step or, from four dimensions on
+/// Rows that rise are given back as they are. Others are sorted, by one comparison of D words for each step or, from eight dimensions on
 /// and with at most 128 digits in all, by a code that is made once for each row. It takes the memory that the sort takes; only where a
 /// point stands twice are rows copied. Nothing stands after an error.
 pub fn last_rows<const D: usize>(

@@ -10,15 +10,15 @@ use ph_coord::{Point, Row, Width};
 use ph_digits::{body_address, digits_below, words_cmp};
 use std::cmp::Ordering;
 
-// With fewer dimensions a comparison is cheap, and codes save little or nothing.
-const LEAST_CODED_DIMS: usize = 4;
+// With fewer dimensions a comparison is cheap, and codes save nothing.
+const LEAST_CODED_DIMS: usize = 8;
 
 // How many digits a code has room for.
 const CODE_DIGITS: usize = 128;
 
 /// Sorts rows by the Z-order of their points. Rows at one point keep their order.
 ///
-/// Points of four dimensions and more, and of few digits, are sorted by codes, with room for the codes and for the rows once more.
+/// Points of eight dimensions and more, and of few digits, are sorted by codes, with room for the codes and for the rows once more.
 /// Rows that rise already would take several times as long by codes, so ask `rising` first.
 pub(crate) fn sort_rows<const D: usize>(w: Width, rows: &mut Vec<Row<D>>) -> Result<(), NoMemory>
     requires { D ≤ 16 }
