@@ -10,7 +10,7 @@ use Rattle.ph_io.specs.declared.files.FetchFault.{FetchFault}
 use Rattle.ph_io.specs.declared.files.FetchFault.TheVariants as unread
 use Rattle.ph_specs.specs.declared.Kind.{Kind}
 use Rattle.ph_specs.specs.declared.Kind.TheVariants.{Points, Boxes}
-use Rattle.ph_specs.specs.Load.{Fault, bad_magic, bad_header, bad_dims, bad_short, bad_node, bad_extra, named_width, load_fault}
+use Rattle.ph_specs.specs.Load.{Fault, bad_magic, bad_header, bad_dims, bad_short, bad_node, bad_extra, named_width}
 use Rattle.ph_specs.specs.Named.{lookup}
 use Rattle.ph_specs.specs.Command.{Command}
 use Rattle.ph_specs.specs.Program.{check_line, checked_words, named_kind, own_fault, words_of_snapshot, words_of_file, words_unless}

@@ -15,11 +15,11 @@ use Rattle.ph_specs.specs.Program.{act_all, counted, opened, soak_line}
 use Rattle.ph_specs.specs.Reply.{Reply, replies_text, line_of, stats_words}
 use Rattle.ph_specs.specs.Refusals.{refusal}
 use Rattle.ph_specs.specs.Past.{Past, put_kept, del_kept, move_kept}
-use Rattle.ph_specs.specs.State.{Slot, Engine, Files, outcome, current, with_slot, with_past, past_in}
+use Rattle.ph_specs.specs.State.{Slot, Engine, Files, outcome, current, slot_at, with_slot, with_past, past_in}
 use Rattle.ph_specs.specs.Stats.{Stats, stats}
 use Rattle.ph_specs.specs.Engine.{act, after, effect, unless_refused}
 use Rattle.ph_engine.specs.Beside.{Beside, alone, beside, Tells}
-use Rattle.ph_engine.specs.Doing.{Done, Undone, Unfiled, Leads, Knows, HoldsFound, file_read, starved_engine, wants_memory}
+use Rattle.ph_engine.specs.Doing.{Done, Undone, Unfiled, Leads, Knows, HoldsFound, file_read, starved_engine, wants_memory, is_on_slot, is_begin}
 use Rattle.ph_commands.specs.Working.{Work, one_if, work_of, nodes_of, IsAtMost, IsAtLeast}
 use Rattle.ph_engine.specs.Soaking.{is_drawn, AreDrawn, sum_work, visits_most, Soaked, SoakedInPart, SoakDone}
 use Rattle.ph_commands.specs.declared.answer.Answer.{Answer}
@@ -63,6 +63,18 @@ all_drawn (suc n) state =
     let r = next_state v in
     both (is_drawn (command_of_draws (draw_of t) (draw_of u) (draw_of v) (draw_of r)))
     (list_all is_drawn (generate_from n r)) (draws-drawn (draw_of t) (draw_of u) (draw_of v) (draw_of r)) (all_drawn n r)
+
+-- they are about the current slot, and leave its number of dimensions
+pub drawn_on_slot : (command : Command) → is_drawn command ≡ true → is_on_slot command ≡ true
+drawn_on_slot (Command.Select which) h = absurd cc
+drawn_on_slot Command.Compare h = absurd cc
+drawn_on_slot Command.Join h = absurd cc
+drawn_on_slot (Command.Combine operation) h = absurd cc
+drawn_on_slot command h = refl
+
+pub drawn_leaves : (command : Command) → is_drawn command ≡ true → is_begin command ≡ false
+drawn_leaves (Command.Begin kind k width max) h = absurd cc
+drawn_leaves command h = refl
 
 -- they read no file
 drawn-reads : (command : Command) → is_drawn command ≡ true → file_read command ≡ None
@@ -117,6 +129,33 @@ unless-dims None e files command h = h
 drawn-dims : (most : ℕ) (e : Engine) (files : Files) (command : Command) → is_drawn command ≡ true →
     (current (act most e files false command).engine).dims ≡ (current e).dims
 drawn-dims most e files command h = unless-dims (refusal most e files false command) e files command (effect-dims e files command h)
+
+-- and the current slot
+past-current : (which : Which) (a b : Slot) (k : Past) → let e : Engine = record { a = a; b = b; current = which } in
+    (with_slot e (with_past (current e) k)).current ≡ which
+past-current A a b k = refl
+past-current B a b k = refl
+
+effect-current : (e : Engine) (files : Files) (command : Command) → is_drawn command ≡ true → (effect e files command).engine.current ≡ e.current
+effect-current e files (Command.Put p v) h = past-current e.current e.a e.b (put_kept (past_in (current e)) p v)
+effect-current e files (Command.Get p) h = refl
+effect-current e files (Command.Del p) h = past-current e.current e.a e.b (del_kept (past_in (current e)) p)
+effect-current e files (Command.Relocate p q) h = past-current e.current e.a e.b (move_kept (past_in (current e)) p q)
+effect-current e files (Command.Window lo hi) h = refl
+effect-current e files (Command.Near q n) h = refl
+effect-current e files command h = absurd cc
+
+unless-current : (r : Option Reply) (e : Engine) (files : Files) (command : Command) →
+    (effect e files command).engine.current ≡ e.current → (unless_refused r e files command).engine.current ≡ e.current
+unless-current (Some r) e files command h = refl
+unless-current None e files command h = h
+
+drawn-current : (most : ℕ) (e : Engine) (files : Files) (command : Command) → is_drawn command ≡ true →
+    (act most e files false command).engine.current ≡ e.current
+drawn-current most e files command h = unless-current (refusal most e files false command) e files command (effect-current e files command h)
+
+first-dims : (e : Engine) → e.current ≡ A → (current e).dims ≡ e.a.dims
+first-dims e h = ap (λ which. (slot_at which e).dims) h
 
 -- ---- the fold over commands
 
@@ -216,11 +255,18 @@ pub record SoakedSoFar (most : ℕ) (e : Engine) (all : List Command) (b now_b :
   pub finished : List Command
   pub cut : finished ++ rest ≡ all
   pub drawn : AreDrawn rest
-  pub dims : (current now).dims ≡ 2
+  pub first : now.current ≡ A
+  pub two : now.a.dims ≡ 2
   pub soaked : (files : Files) → Soaked most e files finished b now_b now
 
-pub soak_begun : (most : ℕ) (e : Engine) (all : List Command) (b : Beside) → AreDrawn all → (current e).dims ≡ 2 → SoakedSoFar most e all b b e all
-soak_begun most e all b drawn dims = record { finished = []; cut = refl; drawn = drawn; dims = dims; soaked = λ files. soaked-none most e files b }
+-- its next command is a drawn one
+pub next_drawn : {most : ℕ} {e now : Engine} {all : List Command} {b now_b : Beside} (command : Command) (rest : List Command) →
+    SoakedSoFar most e all b now_b now (command ∷ rest) → is_drawn command ≡ true
+next_drawn command rest h = both-first (is_drawn command) (list_all is_drawn rest) h.drawn
+
+pub soak_begun : (most : ℕ) (e : Engine) (all : List Command) (b : Beside) → AreDrawn all → e.current ≡ A → e.a.dims ≡ 2 → SoakedSoFar most e all b b e all
+soak_begun most e all b drawn first two =
+    record { finished = []; cut = refl; drawn = drawn; first = first; two = two; soaked = λ files. soaked-none most e files b }
 
 pub soak_next : (most : ℕ) (e now next : Engine) (all : List Command) (command : Command) (rest : List Command)
     (start b now_b : Beside) (answer : Answer) → b.files ≡ None → b.filings ≡ 0 → now_b.filings ≡ 0 →
@@ -231,11 +277,14 @@ soak_next most e now next all command rest start b now_b answer untold none stan
     let soaked = λ (files : Files). soaked-more most e now next files h.finished command start b now_b answer drawn untold none stand (h.soaked files) d in
     let l : Leads (act most now [] d.fault command) next [] b.files now_b.files d.replies = d.does [] (drawn-knows command b.files d.found [] drawn) in
     let f : d.fault ≡ false = no-fault d.fault (let t : Tells b.filings now_b.filings (one_if d.fault) = d.filings.told in rw (none, stand) at t) in
+    let led : act most now [] false command ≡ outcome next l.after d.replies = ap (λ x. act most now [] x command) (sym f) ∙ l.is in
+    let first : next.current ≡ A = sym (ap (λ x. x.engine.current) led) ∙ drawn-current most now [] command drawn ∙ h.first in
     record {
       finished = h.finished ++ command ∷ [];
       cut = append_assoc h.finished (command ∷ []) rest ∙ h.cut;
       drawn = both-rest (is_drawn command) (list_all is_drawn rest) h.drawn;
-      dims = sym (ap (λ x. (current x.engine).dims) (ap (λ x. act most now [] x command) (sym f) ∙ l.is)) ∙ drawn-dims most now [] command drawn ∙ h.dims;
+      first = first;
+      two = sym (first-dims next first) ∙ sym (ap (λ x. (current x.engine).dims) led) ∙ drawn-dims most now [] command drawn ∙ first-dims now h.first ∙ h.two;
       soaked = soaked;
     }
 

@@ -36,6 +36,11 @@ by-dims (slot.D16 s) = refl
 pub same-variant : (a b variant : Slot) → variant_dims a ≡ variant_dims b → a ≡ variant → b ≡ by_dims (variant_dims variant) (any_slot b)
 same-variant a b variant d e = by-dims b ∙ ap (λ n. by_dims n (any_slot b)) (sym d ∙ ap variant_dims e)
 
+-- one of two dimensions
+pub two-dims : (s : Slot) → variant_dims s ≡ 2 → ((x : State) → s ≡ slot.D2 x → ⊥) → ⊥
+two-dims (slot.D2 x) h n = n x refl
+two-dims other h n = absurd cc
+
 -- one with an even number of dimensions
 pub even-variant : (s : Slot) → variant_dims s % 2 ≡ 0 → ((x : State) → s ≡ slot.D2 x → ⊥) → ((x : State) → s ≡ slot.D4 x → ⊥) → ((x : State) → s ≡ slot.D6 x → ⊥) → ((x : State) → s ≡ slot.D8 x → ⊥) → ((x : State) → s ≡ slot.D10 x → ⊥) → ((x : State) → s ≡ slot.D12 x → ⊥) → ((x : State) → s ≡ slot.D14 x → ⊥) → ((x : State) → s ≡ slot.D16 x → ⊥) → ⊥
 even-variant (slot.D1 x) e n2 n4 n6 n8 n10 n12 n14 n16 = absurd (let odd : 1 ≡ 0 = e in cc)

@@ -13,6 +13,7 @@ pub mod Comparing
 pub mod Refusing
 pub mod Causes
 pub mod Pairing
+pub mod Desks
 pub mod Doing
 pub mod Drafting
 pub mod DraftLaws

@@ -4,22 +4,23 @@ ghost use Rattle.ph_io.specs.Causes.{Rose};
 ghost use Rattle.ph_specs.specs.ProgramNames.{checked_words, own_fault, words_of_snapshot, line_of};
 ghost use Rattle.ph_specs.specs.RecordNames.{load_fault, stats};
 ghost use Rattle.ph_snap.specs.Faults.{IsLoadFault};
+ghost use Rattle.ph_engine.specs.Desks.{SameDesk, beside_at};
 ghost use Rattle.ph_engine.specs.Checking.{CheckDone, HasSizes, IsLineOf, IsOwnLine, LineGiven, front_of, nodes_saved, status_of};
 ghost use Rattle.ph_commands.specs.Listing.{node_count};
 ghost use Rattle.ph_commands.specs.Tables.{table_at};
 ghost use Rattle.ph_commands.specs.Loading.{IsWithinBytes};
 ghost use Rattle.ph_commands.specs.Telling.{is_refusal, StopHasCause};
-ghost use Rattle.ph_engine.specs.Told.{beside_by};
 ghost use Rattle.ph_commands.specs.Told.{taken_by};
 
+use crate::desk::Desk;
 use crate::filing::{fault_reply, fetch_reply};
-use crate::status::{Limits, Status};
+use crate::status::Status;
 use arrayvec::ArrayString;
 use ph_commands::{Answer, LINE_BYTES, Stop, load_kept, push_count, push_sizes, tell, tree_sizes};
 use ph_coord::{Kind, Width};
 use ph_io::{Failed, Files, Sink, write_piece};
 use ph_script::{FileName, Text};
-use ph_snap::{LoadFault, read_header};
+use ph_snap::{Header, LoadFault, read_header};
 use ph_steps::Steps;
 use ph_undo::Kept;
 use std::alloc::Global;
@@ -27,26 +28,29 @@ use std::sync::ledger::Ledger;
 
 // Writes the line of a file: the sizes of the table of which it is the snapshot, or why it is none.
 pub(crate) fn check<O: Sink, F: Files, V: Ledger, C: Ledger>(
-    alloc: Global,
     file: &FileName<'_>,
-    out: &mut O,
-    files: &mut F,
-    limits: &Limits,
-    visits: &mut Steps<V>,
-    changes: &mut Steps<C>,
+    desk: &mut Desk<'_, O, F, V, C>,
 ) -> Status
-    ensures done { CheckDone limits.now.file_bytes file.now
-        (beside_by O.Sink F.Files out.old files.old visits.old changes.old)
-        (beside_by O.Sink F.Files out.new files.new visits.new changes.new)
-        result }
-    ensures cause { result ≡ Status.WriteFault → Rose (O.faults out.old) (O.faults out.new) }
-    ensures later { O.faults out.old ≤ O.faults out.new }
-    ensures begun { F.is_begun files.new ≡ F.is_begun files.old }
+    ensures done { CheckDone desk.old.limits.now.file_bytes file.now
+        (beside_at O.Sink F.Files desk.old) (beside_at O.Sink F.Files desk.new) result }
+    ensures cause { result ≡ Status.WriteFault → Rose (O.faults desk.old.out.now) (O.faults desk.new.out.now) }
+    ensures later { O.faults desk.old.out.now ≤ O.faults desk.new.out.now }
+    ensures begun { F.is_begun desk.new.files.now ≡ F.is_begun desk.old.files.now }
+    ensures same { SameDesk desk.old desk.new }
 {
-    let mut bytes = Vec::new(alloc);
-    match files.fetch(file.as_str(), limits.file_bytes, &mut bytes) {
-        Ok(()) => status_by(check_bytes(alloc, bytes.as_slice(), out, visits, changes)),
-        Err(fault) => status_by(tell(out, &mut Text::new(), &fetch_reply(fault))),
+    let mut bytes = Vec::new(desk.alloc);
+    match desk
+        .files
+        .fetch(file.as_str(), desk.limits.file_bytes, &mut bytes)
+    {
+        Ok(()) => status_by(check_bytes(
+            desk.alloc,
+            bytes.as_slice(),
+            desk.out,
+            desk.visits,
+            desk.changes,
+        )),
+        Err(fault) => status_by(tell(desk.out, &mut desk.text, &fetch_reply(fault))),
     }
 }
 
@@ -103,27 +107,27 @@ fn snapshot_line<V: Ledger, C: Ledger>(
     let Some(w) = Width::new(header.width) else {
         unreachable!()
     };
-    line_by_dims(alloc, bytes, header.kind, header.dims, w, visits, changes)
+    line_by_dims(alloc, bytes, &header, w, visits, changes)
 }
 
-// The same by these dimensions.
+// The same by the kind and the dimensions of a header.
 fn line_by_dims<V: Ledger, C: Ledger>(
     alloc: Global,
     bytes: &[u8],
-    kind: Kind,
-    dims: u32,
+    header: &Header,
     w: Width,
     visits: &mut Steps<V>,
     changes: &mut Steps<C>,
 ) -> Result<ArrayString<LINE_BYTES>, LoadFault>
-    requires some { 1 ≤ dims }
-    requires limit { dims ≤ 16 }
-    ensures line { IfOk result (λ line. IsLineOf kind dims w bytes.now line.bytes visits.old visits.new changes.old changes.new) }
-    ensures fault { IfErr result (λ e. IsLoadFault (load_fault kind dims w bytes.now) e) }
+    requires some { 1 ≤ header.now.dims }
+    requires limit { header.now.dims ≤ 16 }
+    ensures line { IfOk result (λ line. IsLineOf header.now.kind header.now.dims w bytes.now line.bytes visits.old visits.new changes.old changes.new) }
+    ensures fault { IfErr result (λ e. IsLoadFault (load_fault header.now.kind header.now.dims w bytes.now) e) }
     ensures unseen { OnErr result (visits.new ≡ visits.old) }
     ensures within { IsWithinBytes bytes.now changes.old changes.new }
 {
-    match dims {
+    let kind = header.kind;
+    match header.dims {
         1 => table_line::<1, V, C>(alloc, bytes, kind, w, visits, changes),
         2 => table_line::<2, V, C>(alloc, bytes, kind, w, visits, changes),
         3 => table_line::<3, V, C>(alloc, bytes, kind, w, visits, changes),

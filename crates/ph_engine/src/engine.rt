@@ -1,18 +1,20 @@
 //! The state of the program, and what a command does to it.
-ghost use Rattle.std.specs.Prelude.{◌≡◌, ◌<◌, ◌≤◌, ◌^◌, []};
+ghost use Rattle.std.specs.Prelude.{◌≡◌, ◌<◌, ◌≤◌, ◌^◌, [], true};
 ghost use Rattle.ph_specs.specs.ProgramNames.{Command as Asked, opened, Reply as Replied, new_engine, current, slot_at};
+ghost use Rattle.ph_specs.specs.declared.Which.TheVariants.{A};
 ghost use Rattle.ph_script.specs.Meaning.{command_of, reply_of};
 ghost use Rattle.ph_script.specs.Fit.{HasDims};
 ghost use Rattle.ph_engine.specs.AnySlots.{any_slot};
 ghost use Rattle.ph_engine.specs.Comparing.{Compares};
+ghost use Rattle.ph_engine.specs.Desks.{SameDesk, beside_at};
 ghost use Rattle.ph_engine.specs.Doing.{DoneOr, DoneBeside, LeavesBegun};
 ghost use Rattle.ph_engine.specs.Filing.{QuietOr};
 ghost use Rattle.ph_commands.specs.Telling.{StopHasCause};
-ghost use Rattle.ph_engine.specs.Told.{beside_by};
+ghost use Rattle.ph_engine.specs.Soaking.{is_drawn};
 ghost use Rattle.ph_commands.specs.Told.{taken_by};
 
+use crate::desk::Desk;
 use crate::slot::Slot;
-use crate::status::Limits;
 use ph_commands::{Answer, Stop, say, tell};
 use ph_io::{Files, Sink};
 use ph_script::{Command, Reply, SetOperation, Text, Which};
@@ -90,76 +92,53 @@ impl Engine {
     /// After a write fault the command is done, but a page leaves its cursor as it was; a front of the replies is written.
     /// Without memory nothing is written, and nothing is done but that of an import some first rows may be in, with no edits kept then, and
     /// of edits that were to be taken back some last ones may be.
+    #[inline(always)]
     pub fn exec<O: Sink, F: Files, V: Ledger, C: Ledger>(
         &mut self,
-        alloc: Global,
         cmd: &Command<'_>,
-        out: &mut O,
-        files: &mut F,
-        limits: &Limits,
-        visits: &mut Steps<V>,
-        changes: &mut Steps<C>,
+        desk: &mut Desk<'_, O, F, V, C>,
     ) -> Result<Answer, Stop>
         requires dims { HasDims (current self.old).dims cmd.now }
-        requires file { limits.now.file_bytes < 2 ^ 63 }
-        ensures done { DoneOr limits.now.file_bytes self.old (command_of cmd.now)
-            (beside_by O.Sink F.Files out.old files.old visits.old changes.old)
-            (beside_by O.Sink F.Files out.new files.new visits.new changes.new)
-            self.new result }
-        ensures cause { StopHasCause (O.faults out.old) (O.faults out.new) result }
-        ensures begun { LeavesBegun (command_of cmd.now) (F.is_begun files.old) (F.is_begun files.new) }
-    {
-        self.exec_by(
-            alloc,
-            cmd,
-            out,
-            files,
-            limits,
-            &mut Text::new(),
-            visits,
-            changes,
-        )
-    }
-
-    // The same by way of a text, which is filled with the reply.
-    #[inline(always)]
-    pub(crate) fn exec_by<O: Sink, F: Files, V: Ledger, C: Ledger>(
-        &mut self,
-        alloc: Global,
-        cmd: &Command<'_>,
-        out: &mut O,
-        files: &mut F,
-        limits: &Limits,
-        text: &mut Text,
-        visits: &mut Steps<V>,
-        changes: &mut Steps<C>,
-    ) -> Result<Answer, Stop>
-        requires dims { HasDims (current self.old).dims cmd.now }
-        requires file { limits.now.file_bytes < 2 ^ 63 }
-        ensures done { DoneOr limits.now.file_bytes self.old (command_of cmd.now)
-            (beside_by O.Sink F.Files out.old files.old visits.old changes.old)
-            (beside_by O.Sink F.Files out.new files.new visits.new changes.new)
-            self.new result }
-        ensures cause { StopHasCause (O.faults out.old) (O.faults out.new) result }
-        ensures begun { LeavesBegun (command_of cmd.now) (F.is_begun files.old) (F.is_begun files.new) }
+        requires file { desk.old.limits.now.file_bytes < 2 ^ 63 }
+        ensures done { DoneOr desk.old.limits.now.file_bytes self.old (command_of cmd.now)
+            (beside_at O.Sink F.Files desk.old) (beside_at O.Sink F.Files desk.new) self.new result }
+        ensures cause { StopHasCause (O.faults desk.old.out.now) (O.faults desk.new.out.now) result }
+        ensures begun { LeavesBegun (command_of cmd.now) (F.is_begun desk.old.files.now) (F.is_begun desk.new.files.now) }
+        ensures same { SameDesk desk.old desk.new }
     {
         match cmd {
-            Command::Select { slot } => say(out, text, &self.select(*slot)),
-            Command::Same => say(out, text, &self.compare(visits)),
-            Command::Join => self.join(out, text, visits),
+            Command::Select { slot } => say(desk.out, &mut desk.text, &self.select(*slot)),
+            Command::Same => say(desk.out, &mut desk.text, &self.compare(desk.visits)),
+            Command::Join => self.join(desk.out, &mut desk.text, desk.visits),
             Command::Combine { operation } => {
-                let outcome = self.combine(alloc, *operation, visits, changes);
-                tell(out, text, &outcome)
+                let outcome = self.combine(desk.alloc, *operation, desk.visits, desk.changes);
+                tell(desk.out, &mut desk.text, &outcome)
             }
             _ => match self.current {
-                Which::A => self
-                    .a
-                    .exec(alloc, cmd, out, files, limits, text, visits, changes),
-                Which::B => self
-                    .b
-                    .exec(alloc, cmd, out, files, limits, text, visits, changes),
+                Which::A => self.a.exec(cmd, desk),
+                Which::B => self.b.exec(cmd, desk),
             },
         }
+    }
+
+    // Does a drawn command where slot `a` is the current one and has two dimensions. A soak has a sink of its own, for which `exec` would
+    // be compiled with all sixteen kinds of slot.
+    pub(crate) fn exec_drawn<O: Sink, F: Files, V: Ledger, C: Ledger>(
+        &mut self,
+        cmd: &Command<'_>,
+        desk: &mut Desk<'_, O, F, V, C>,
+    ) -> Result<Answer, Stop>
+        requires dims { HasDims 2 cmd.now }
+        requires file { desk.old.limits.now.file_bytes < 2 ^ 63 }
+        requires first { self.old.current ≡ A }
+        requires two { self.old.a.dims ≡ 2 }
+        requires drawn { is_drawn (command_of cmd.now) ≡ true }
+        ensures done { DoneOr desk.old.limits.now.file_bytes self.old (command_of cmd.now)
+            (beside_at O.Sink F.Files desk.old) (beside_at O.Sink F.Files desk.new) self.new result }
+        ensures cause { StopHasCause (O.faults desk.old.out.now) (O.faults desk.new.out.now) result }
+        ensures same { SameDesk desk.old desk.new }
+    {
+        self.a.exec_drawn(cmd, desk)
     }
 
     // Makes a slot the current one.

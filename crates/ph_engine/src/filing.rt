@@ -2,6 +2,7 @@
 ghost use Rattle.std.specs.Prelude.{◌≡◌, ◌≤◌, true, false, length, IfOk};
 ghost use Rattle.ph_snap.specs.Saving.{VisitsAll};
 ghost use Rattle.ph_script.specs.Meaning.{reply_of};
+ghost use Rattle.ph_engine.specs.Desks.{SameDesk, aside_at};
 ghost use Rattle.ph_engine.specs.Drafting.{FilledOr};
 ghost use Rattle.ph_engine.specs.Filing.{EnteredOr, LoadsNodes, LoadsOr, TableLoaded, TableSaved, TellsFault, TellsUnfetched, loaded_reply};
 ghost use Rattle.ph_engine.specs.Filing.{loaded_table};
@@ -12,11 +13,11 @@ ghost use Rattle.ph_commands.specs.Listing.{node_count};
 ghost use Rattle.ph_commands.specs.Saving.{snap_of};
 ghost use Rattle.ph_commands.specs.Told.{shelf_by};
 
+use crate::desk::Desk;
 use crate::file_sink::FileSink;
-use crate::status::Limits;
 use ph_commands::{load_kept, save_tree, take_rows};
 use ph_coord::Kind;
-use ph_io::{Failed, FetchFault, Files};
+use ph_io::{Failed, FetchFault, Files, Sink};
 use ph_script::{FileName, Reply};
 use ph_snap::LoadFault;
 use ph_steps::Steps;
@@ -82,28 +83,29 @@ fn append_tree<const D: usize, F: Files, V: Ledger>(
 }
 
 // Puts the rows of a snapshot in place of those of a tree, once all of them are there.
-pub(crate) fn load_table<const D: usize, F: Files, C: Ledger>(
+pub(crate) fn load_table<const D: usize, O: Sink, F: Files, V: Ledger, C: Ledger>(
     kept: &mut Kept<D>,
     kind: Kind,
-    alloc: Global,
     file: &FileName<'_>,
-    files: &mut F,
-    limits: &Limits,
-    changes: &mut Steps<C>,
+    desk: &mut Desk<'_, O, F, V, C>,
 ) -> Result<Reply, NoMemory>
     requires some { 1 ≤ D }
     requires limit { D ≤ 16 }
     requires of_kind { IsOfKind kind (table_at D kept.old) }
     ensures frame { SameFrame kind (table_at D kept.old) (table_at D kept.new) }
-    ensures loaded { TableLoaded limits.now.file_bytes kind (table_at D kept.old) file.now
-        (aside_by F.Files files.old 0 changes.old)
-        (aside_by F.Files files.new 0 changes.new)
-        (table_at D kept.new) result }
-    ensures begun { F.is_begun files.new ≡ F.is_begun files.old }
+    ensures loaded { TableLoaded desk.old.limits.now.file_bytes kind (table_at D kept.old) file.now
+        (aside_at F.Files desk.old) (aside_at F.Files desk.new) (table_at D kept.new) result }
+    ensures begun { F.is_begun desk.new.files.now ≡ F.is_begun desk.old.files.now }
+    ensures unseen { desk.new.visits.now ≡ desk.old.visits.now }
+    ensures out { desk.new.out.now ≡ desk.old.out.now }
+    ensures same { SameDesk desk.old desk.new }
 {
-    let mut bytes = Vec::new(alloc);
-    match files.fetch(file.as_str(), limits.file_bytes, &mut bytes) {
-        Ok(()) => load_bytes(kept, kind, alloc, bytes.as_slice(), changes),
+    let mut bytes = Vec::new(desk.alloc);
+    match desk
+        .files
+        .fetch(file.as_str(), desk.limits.file_bytes, &mut bytes)
+    {
+        Ok(()) => load_bytes(kept, kind, desk.alloc, bytes.as_slice(), desk.changes),
         Err(fault) => fetch_reply(fault),
     }
 }

@@ -3,6 +3,7 @@
 
 mod checking;
 mod cursors;
+mod desk;
 mod engine;
 mod file_sink;
 mod filing;
@@ -18,6 +19,7 @@ mod status;
 mod task;
 
 pub use cursors::Held;
+pub use desk::Desk;
 pub use engine::Engine;
 pub use frame::Frame;
 pub use ph_commands::{Answer, Stop};

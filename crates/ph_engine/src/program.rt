@@ -7,6 +7,7 @@ ghost use Rattle.ph_engine.specs.Told.{seen_by};
 ghost use Rattle.ph_commands.specs.Told.{taken_by};
 
 use crate::checking::check;
+use crate::desk::Desk;
 use crate::engine::Engine;
 use crate::run::run;
 use crate::soaking::soak;
@@ -51,11 +52,12 @@ pub fn top<S: Source, O: Sink, F: Files, V: Ledger, C: Ledger>(
     ensures source { task (map string_bytes words.now) ≢ Asked.Run → src.new ≡ src.old }
     ensures begun { F.is_begun files.old ≡ false → F.is_begun files.new ≡ false }
 {
+    let mut desk = Desk::new(alloc, out, files, limits, visits, changes);
     match task_of(words) {
-        Task::Run => run(alloc, src, out, files, eng, limits, visits, changes),
-        Task::Check(file) => check(alloc, &file, out, files, limits, visits, changes),
-        Task::Soak { n, start } => soak(alloc, n, start, out, eng, limits, visits, changes),
-        Task::Usage => tell_usage(out),
+        Task::Run => run(src, &mut desk, eng),
+        Task::Check(file) => check(&file, &mut desk),
+        Task::Soak { n, start } => soak(n, start, &mut desk, eng),
+        Task::Usage => tell_usage(desk.out),
     }
 }
 

@@ -7,114 +7,80 @@ ghost use Rattle.ph_specs.specs.ProgramNames.{reply_text as text_of};
 ghost use Rattle.ph_script.specs.Meaning.{reply_of, bad_reply as reply_to};
 ghost use Rattle.ph_commands.specs.Telling.{is_refusal, refuses, StopHasCause};
 ghost use Rattle.ph_io.specs.Writing.{WritesFront};
+ghost use Rattle.ph_engine.specs.Desks.{SameDesk, standing_at};
 ghost use Rattle.ph_engine.specs.Serving.{ServesLine, ServesText, ServesPiece, ServesEnd, ServesScript};
 ghost use Rattle.ph_engine.specs.Showing.{IsShort};
 ghost use Rattle.ph_engine.specs.Statuses.{HasCauses, stop_status, read_status as status_of};
-ghost use Rattle.ph_engine.specs.Told.{standing_by};
 ghost use Rattle.ph_commands.specs.Told.{taken_by};
 
+use crate::desk::Desk;
 use crate::engine::Engine;
-use crate::status::{Limits, Status};
+use crate::status::Status;
 use ph_commands::{Answer, Stop, say};
 use ph_io::{Failed, Files, Sink, Source};
 use ph_script::{Bad, CoordBuffer, Line, Lines, Reply, Text, read_command, read_plain_command};
-use ph_steps::Steps;
-use std::alloc::Global;
 use std::sync::ledger::Ledger;
 
 const PIECE_BYTES: usize = 4096;
 
 // Runs a script of at most so many bytes. Both buffers are taken before the first read.
 pub(crate) fn run<S: Source, O: Sink, F: Files, V: Ledger, C: Ledger>(
-    alloc: Global,
     src: &mut S,
-    out: &mut O,
-    files: &mut F,
+    desk: &mut Desk<'_, O, F, V, C>,
     eng: &mut Engine,
-    limits: &Limits,
-    visits: &mut Steps<V>,
-    changes: &mut Steps<C>,
 ) -> Status
-    requires script { limits.now.script_bytes < 2 ^ 63 }
-    requires file { limits.now.file_bytes < 2 ^ 63 }
-    ensures outcome { ServesScript limits.now.file_bytes limits.now.script_bytes
-        (S.left src.old) (standing_by O.Sink F.Files out.old files.old visits.old changes.old eng.old)
-        (S.left src.new) (standing_by O.Sink F.Files out.new files.new visits.new changes.new eng.new)
+    requires script { desk.old.limits.now.script_bytes < 2 ^ 63 }
+    requires file { desk.old.limits.now.file_bytes < 2 ^ 63 }
+    ensures outcome { ServesScript desk.old.limits.now.file_bytes desk.old.limits.now.script_bytes
+        (S.left src.old) (standing_at O.Sink F.Files desk.old eng.old)
+        (S.left src.new) (standing_at O.Sink F.Files desk.new eng.new)
         result }
-    ensures filings { F.faults files.old ≤ F.faults files.new }
-    ensures begun { F.is_begun files.old ≡ false → F.is_begun files.new ≡ false }
-    ensures causes { HasCauses (S.faults src.old) (S.faults src.new) (O.faults out.old) (O.faults out.new) result }
+    ensures filings { F.faults desk.old.files.now ≤ F.faults desk.new.files.now }
+    ensures begun { F.is_begun desk.old.files.now ≡ false → F.is_begun desk.new.files.now ≡ false }
+    ensures same { SameDesk desk.old desk.new }
+    ensures causes { HasCauses (S.faults src.old) (S.faults src.new) (O.faults desk.old.out.now) (O.faults desk.new.out.now) result }
 {
-    let Ok(mut lines) = Lines::new(alloc) else {
+    let Ok(mut lines) = Lines::new(desk.alloc) else {
         return Status::Memory;
     };
-    let Ok(mut piece) = vec![in alloc; 0u8; PIECE_BYTES] else {
+    let Ok(mut piece) = vec![in desk.alloc; 0u8; PIECE_BYTES] else {
         return Status::Memory;
     };
-    run_pieces(
-        alloc,
-        src,
-        out,
-        files,
-        eng,
-        limits,
-        &mut lines,
-        piece.as_mut_slice(),
-        &mut Text::new(),
-        visits,
-        changes,
-    )
+    run_pieces(src, desk, eng, &mut lines, piece.as_mut_slice())
 }
 
 fn run_pieces<S: Source, O: Sink, F: Files, V: Ledger, C: Ledger>(
-    alloc: Global,
     src: &mut S,
-    out: &mut O,
-    files: &mut F,
+    desk: &mut Desk<'_, O, F, V, C>,
     eng: &mut Engine,
-    limits: &Limits,
     lines: &mut Lines,
     piece: &mut [u8],
-    text: &mut Text,
-    visits: &mut Steps<V>,
-    changes: &mut Steps<C>,
 ) -> Status
-    requires script { limits.now.script_bytes < 2 ^ 63 }
-    requires file { limits.now.file_bytes < 2 ^ 63 }
+    requires script { desk.old.limits.now.script_bytes < 2 ^ 63 }
+    requires file { desk.old.limits.now.file_bytes < 2 ^ 63 }
     requires lines { lines.old ≡ [] }
     requires room { 0 < length piece.old }
-    ensures outcome { ServesScript limits.now.file_bytes limits.now.script_bytes
-        (S.left src.old) (standing_by O.Sink F.Files out.old files.old visits.old changes.old eng.old)
-        (S.left src.new) (standing_by O.Sink F.Files out.new files.new visits.new changes.new eng.new)
+    ensures outcome { ServesScript desk.old.limits.now.file_bytes desk.old.limits.now.script_bytes
+        (S.left src.old) (standing_at O.Sink F.Files desk.old eng.old)
+        (S.left src.new) (standing_at O.Sink F.Files desk.new eng.new)
         result }
-    ensures filings { F.faults files.old ≤ F.faults files.new }
-    ensures begun { F.is_begun files.old ≡ false → F.is_begun files.new ≡ false }
-    ensures causes { HasCauses (S.faults src.old) (S.faults src.new) (O.faults out.old) (O.faults out.new) result }
+    ensures filings { F.faults desk.old.files.now ≤ F.faults desk.new.files.now }
+    ensures begun { F.is_begun desk.old.files.now ≡ false → F.is_begun desk.new.files.now ≡ false }
+    ensures same { SameDesk desk.old desk.new }
+    ensures causes { HasCauses (S.faults src.old) (S.faults src.new) (O.faults desk.old.out.now) (O.faults desk.new.out.now) result }
 {
+    let most = desk.limits.script_bytes;
     let mut taken = 0u64;
     let mut refused = false;
     'pieces: loop {
-        let Ok(count) = fill(src, piece, limits.script_bytes + 1 - taken) else {
+        let Ok(count) = fill(src, piece, most + 1 - taken) else {
             return Status::ReadFault;
         };
         if count == 0 {
-            return finish(
-                alloc, out, text, files, eng, limits, lines, refused, visits, changes,
-            );
+            return finish(desk, eng, lines, refused);
         }
-        let fresh = (limits.script_bytes - taken).min(count as u64) as usize;
-        match feed(
-            alloc,
-            out,
-            text,
-            files,
-            eng,
-            limits,
-            lines,
-            &piece[..fresh],
-            visits,
-            changes,
-        ) {
+        let fresh = (most - taken).min(count as u64) as usize;
+        match feed(desk, eng, lines, &piece[..fresh]) {
             Ok(some) => refused = either(refused, some),
             Err(stop) => return stopped(stop),
         }
@@ -144,41 +110,25 @@ fn fill<S: Source>(src: &mut S, piece: &mut [u8], most: u64) -> Result<usize, Fa
 
 // Answers the lines that a piece ends, and tells whether one was refused.
 fn feed<O: Sink, F: Files, V: Ledger, C: Ledger>(
-    alloc: Global,
-    out: &mut O,
-    text: &mut Text,
-    files: &mut F,
+    desk: &mut Desk<'_, O, F, V, C>,
     eng: &mut Engine,
-    limits: &Limits,
     lines: &mut Lines,
     piece: &[u8],
-    visits: &mut Steps<V>,
-    changes: &mut Steps<C>,
 ) -> Result<bool, Stop>
-    requires { limits.now.file_bytes < 2 ^ 63 }
-    ensures fed { ServesPiece limits.now.file_bytes
-        (standing_by O.Sink F.Files out.old files.old visits.old changes.old eng.old) lines.old piece.now
-        (standing_by O.Sink F.Files out.new files.new visits.new changes.new eng.new) lines.new result }
-    ensures filings { F.faults files.old ≤ F.faults files.new }
-    ensures begun { F.is_begun files.old ≡ false → F.is_begun files.new ≡ false }
-    ensures cause { StopHasCause (O.faults out.old) (O.faults out.new) result }
+    requires { desk.old.limits.now.file_bytes < 2 ^ 63 }
+    ensures fed { ServesPiece desk.old.limits.now.file_bytes
+        (standing_at O.Sink F.Files desk.old eng.old) lines.old piece.now
+        (standing_at O.Sink F.Files desk.new eng.new) lines.new result }
+    ensures filings { F.faults desk.old.files.now ≤ F.faults desk.new.files.now }
+    ensures begun { F.is_begun desk.old.files.now ≡ false → F.is_begun desk.new.files.now ≡ false }
+    ensures same { SameDesk desk.old desk.new }
+    ensures cause { StopHasCause (O.faults desk.old.out.now) (O.faults desk.new.out.now) result }
 {
     let mut refused = false;
     let mut at = 0;
     let mut coords = CoordBuffer::new();
     'lines: while let Some(line) = lines.next_line(piece, &mut at) {
-        match answer(
-            alloc,
-            out,
-            text,
-            &mut coords,
-            files,
-            eng,
-            limits,
-            line,
-            visits,
-            changes,
-        ) {
+        match answer(desk, eng, &mut coords, line) {
             Ok(some) => refused = either(refused, some),
             Err(stop) => return Err(stop),
         }
@@ -188,42 +138,26 @@ fn feed<O: Sink, F: Files, V: Ledger, C: Ledger>(
 
 // Answers the line that the end of the script ends, if there is one.
 fn finish<O: Sink, F: Files, V: Ledger, C: Ledger>(
-    alloc: Global,
-    out: &mut O,
-    text: &mut Text,
-    files: &mut F,
+    desk: &mut Desk<'_, O, F, V, C>,
     eng: &mut Engine,
-    limits: &Limits,
     lines: &mut Lines,
     refused: bool,
-    visits: &mut Steps<V>,
-    changes: &mut Steps<C>,
 ) -> Status
-    requires { limits.now.file_bytes < 2 ^ 63 }
-    ensures ends { ServesEnd limits.now.file_bytes
-        (standing_by O.Sink F.Files out.old files.old visits.old changes.old eng.old) lines.old refused
-        (standing_by O.Sink F.Files out.new files.new visits.new changes.new eng.new) result }
-    ensures filings { F.faults files.old ≤ F.faults files.new }
-    ensures begun { F.is_begun files.old ≡ false → F.is_begun files.new ≡ false }
-    ensures writes { O.faults out.old ≤ O.faults out.new }
-    ensures cause { result ≡ Status.WriteFault → Rose (O.faults out.old) (O.faults out.new) }
+    requires { desk.old.limits.now.file_bytes < 2 ^ 63 }
+    ensures ends { ServesEnd desk.old.limits.now.file_bytes
+        (standing_at O.Sink F.Files desk.old eng.old) lines.old refused
+        (standing_at O.Sink F.Files desk.new eng.new) result }
+    ensures filings { F.faults desk.old.files.now ≤ F.faults desk.new.files.now }
+    ensures begun { F.is_begun desk.old.files.now ≡ false → F.is_begun desk.new.files.now ≡ false }
+    ensures same { SameDesk desk.old desk.new }
+    ensures writes { O.faults desk.old.out.now ≤ O.faults desk.new.out.now }
+    ensures cause { result ≡ Status.WriteFault → Rose (O.faults desk.old.out.now) (O.faults desk.new.out.now) }
     ensures read { (result ≡ Status.ReadFault → ⊥) × (result ≡ Status.Usage → ⊥) }
 {
     let Some(line) = lines.last() else {
         return read_status(refused);
     };
-    match answer(
-        alloc,
-        out,
-        text,
-        &mut CoordBuffer::new(),
-        files,
-        eng,
-        limits,
-        line,
-        visits,
-        changes,
-    ) {
+    match answer(desk, eng, &mut CoordBuffer::new(), line) {
         Ok(last) => read_status(either(refused, last)),
         Err(stop) => stopped(stop),
     }
@@ -231,74 +165,58 @@ fn finish<O: Sink, F: Files, V: Ledger, C: Ledger>(
 
 // Answers a line, and tells whether it was refused.
 fn answer<O: Sink, F: Files, V: Ledger, C: Ledger>(
-    alloc: Global,
-    out: &mut O,
-    text: &mut Text,
-    coords: &mut CoordBuffer,
-    files: &mut F,
+    desk: &mut Desk<'_, O, F, V, C>,
     eng: &mut Engine,
-    limits: &Limits,
+    coords: &mut CoordBuffer,
     line: Line<'_>,
-    visits: &mut Steps<V>,
-    changes: &mut Steps<C>,
 ) -> Result<bool, Stop>
     requires short { IsShort line }
-    requires file { limits.now.file_bytes < 2 ^ 63 }
-    ensures answered { ServesLine limits.now.file_bytes
-        (standing_by O.Sink F.Files out.old files.old visits.old changes.old eng.old) line.entry
-        (standing_by O.Sink F.Files out.new files.new visits.new changes.new eng.new) result }
-    ensures filings { F.faults files.old ≤ F.faults files.new }
-    ensures begun { F.is_begun files.old ≡ false → F.is_begun files.new ≡ false }
-    ensures cause { StopHasCause (O.faults out.old) (O.faults out.new) result }
+    requires file { desk.old.limits.now.file_bytes < 2 ^ 63 }
+    ensures answered { ServesLine desk.old.limits.now.file_bytes
+        (standing_at O.Sink F.Files desk.old eng.old) line.entry
+        (standing_at O.Sink F.Files desk.new eng.new) result }
+    ensures filings { F.faults desk.old.files.now ≤ F.faults desk.new.files.now }
+    ensures begun { F.is_begun desk.old.files.now ≡ false → F.is_begun desk.new.files.now ≡ false }
+    ensures same { SameDesk desk.old desk.new }
+    ensures cause { StopHasCause (O.faults desk.old.out.now) (O.faults desk.new.out.now) result }
 {
     let Line::Text(bytes) = line else {
-        return refuse(out, text, &Reply::ErrorLong);
+        return refuse(desk.out, &mut desk.text, &Reply::ErrorLong);
     };
     match read_plain_command(bytes, eng.dims(), coords) {
-        Some(command) => match eng.exec_by(
-            alloc, &command, out, files, limits, text, visits, changes,
-        ) {
+        Some(command) => match eng.exec(&command, desk) {
             Ok(answer) => Ok(is_refused(answer)),
             Err(stop) => Err(stop),
         },
-        None => answer_other(
-            alloc, out, text, coords, files, eng, limits, bytes, visits, changes,
-        ),
+        None => answer_other(desk, eng, coords, bytes),
     }
 }
 
 // The same of a text that is no plain line.
 #[inline(never)]
 fn answer_other<O: Sink, F: Files, V: Ledger, C: Ledger>(
-    alloc: Global,
-    out: &mut O,
-    text: &mut Text,
-    coords: &mut CoordBuffer,
-    files: &mut F,
+    desk: &mut Desk<'_, O, F, V, C>,
     eng: &mut Engine,
-    limits: &Limits,
+    coords: &mut CoordBuffer,
     bytes: &[u8],
-    visits: &mut Steps<V>,
-    changes: &mut Steps<C>,
 ) -> Result<bool, Stop>
     requires short { length bytes.now ≤ 4096 }
-    requires file { limits.now.file_bytes < 2 ^ 63 }
-    ensures answered { ServesText limits.now.file_bytes
-        (standing_by O.Sink F.Files out.old files.old visits.old changes.old eng.old) bytes.now
-        (standing_by O.Sink F.Files out.new files.new visits.new changes.new eng.new) result }
-    ensures filings { F.faults files.old ≤ F.faults files.new }
-    ensures begun { F.is_begun files.old ≡ false → F.is_begun files.new ≡ false }
-    ensures cause { StopHasCause (O.faults out.old) (O.faults out.new) result }
+    requires file { desk.old.limits.now.file_bytes < 2 ^ 63 }
+    ensures answered { ServesText desk.old.limits.now.file_bytes
+        (standing_at O.Sink F.Files desk.old eng.old) bytes.now
+        (standing_at O.Sink F.Files desk.new eng.new) result }
+    ensures filings { F.faults desk.old.files.now ≤ F.faults desk.new.files.now }
+    ensures begun { F.is_begun desk.old.files.now ≡ false → F.is_begun desk.new.files.now ≡ false }
+    ensures same { SameDesk desk.old desk.new }
+    ensures cause { StopHasCause (O.faults desk.old.out.now) (O.faults desk.new.out.now) result }
 {
     match read_command(bytes, eng.dims(), coords) {
         Ok(None) => Ok(false),
-        Ok(Some(command)) => match eng.exec_by(
-            alloc, &command, out, files, limits, text, visits, changes,
-        ) {
+        Ok(Some(command)) => match eng.exec(&command, desk) {
             Ok(answer) => Ok(is_refused(answer)),
             Err(stop) => Err(stop),
         },
-        Err(bad) => refuse(out, text, &bad_reply(bad)),
+        Err(bad) => refuse(desk.out, &mut desk.text, &bad_reply(bad)),
     }
 }
 

@@ -9,20 +9,21 @@ ghost use Rattle.ph_script.specs.Meaning.{command_of, reply_of};
 ghost use Rattle.ph_script.specs.Fit.{HasDims};
 ghost use Rattle.ph_tree.specs.Stats.{stats_of};
 ghost use Rattle.ph_engine.specs.AnySlots.{any_slot, variant_dims, IsFrameOf};
+ghost use Rattle.ph_engine.specs.Desks.{SameDesk, beside_at};
 ghost use Rattle.ph_engine.specs.Doing.{Begun, DoneOr, LeavesBegun, is_begin, is_on_slot};
 ghost use Rattle.ph_commands.specs.Tables.{engine_of};
 ghost use Rattle.ph_commands.specs.Telling.{StopHasCause};
 ghost use Rattle.ph_commands.specs.Working.{nodes_of};
-ghost use Rattle.ph_engine.specs.Told.{beside_by};
+ghost use Rattle.ph_engine.specs.Soaking.{is_drawn};
 
+use crate::desk::Desk;
 use crate::frame::Frame;
 use crate::refusals::has_wrong_dims;
 use crate::slot_of::SlotOf;
-use crate::status::Limits;
 use ph_commands::{Answer, Stop, say};
 use ph_coord::{Kind, Width};
 use ph_io::{Files, Sink};
-use ph_script::{Command, Reply, Text};
+use ph_script::{Command, Reply};
 use ph_steps::Steps;
 use ph_tree::Stats;
 use std::alloc::Global;
@@ -155,36 +156,36 @@ impl Slot {
         self.frame().dims
     }
 
-    // The sizes of its tree. Each node is visited once.
+    // The sizes of the tree of a slot of two dimensions. Each node is visited once.
     pub(crate) fn sizes<V: Ledger>(&self, visits: &mut Steps<V>) -> Stats
+        requires { (any_slot self.now).dims ≡ 2 }
         ensures sizes { stats_of result ≡ stats (any_slot self.now).width (any_slot self.now).dims (any_slot self.now).table }
         ensures visits { visits.new ≡ visits.old + nodes_of (any_slot self.now) }
     {
-        with_slot!(self, slot => slot.sizes(visits))
+        // A use that makes known which variant it is.
+        let _dims = self.dims();
+        match self {
+            Slot::D2(slot) => slot.sizes(visits),
+            _ => unreachable!(),
+        }
     }
 
     // Does a command that is about this slot alone, as in an engine whose other slot is new.
     #[inline(always)]
     pub(crate) fn exec<O: Sink, F: Files, V: Ledger, C: Ledger>(
         &mut self,
-        alloc: Global,
         cmd: &Command<'_>,
-        out: &mut O,
-        files: &mut F,
-        limits: &Limits,
-        text: &mut Text,
-        visits: &mut Steps<V>,
-        changes: &mut Steps<C>,
+        desk: &mut Desk<'_, O, F, V, C>,
     ) -> Result<Answer, Stop>
         requires dims { HasDims (any_slot self.old).dims cmd.now }
-        requires file { limits.now.file_bytes < 2 ^ 63 }
+        requires file { desk.old.limits.now.file_bytes < 2 ^ 63 }
         requires slot { is_on_slot (command_of cmd.now) ≡ true }
-        ensures done { DoneOr limits.now.file_bytes (engine_of (any_slot self.old)) (command_of cmd.now)
-            (beside_by O.Sink F.Files out.old files.old visits.old changes.old)
-            (beside_by O.Sink F.Files out.new files.new visits.new changes.new)
+        ensures done { DoneOr desk.old.limits.now.file_bytes (engine_of (any_slot self.old)) (command_of cmd.now)
+            (beside_at O.Sink F.Files desk.old) (beside_at O.Sink F.Files desk.new)
             (engine_of (any_slot self.new)) result }
-        ensures cause { StopHasCause (O.faults out.old) (O.faults out.new) result }
-        ensures begun { LeavesBegun (command_of cmd.now) (F.is_begun files.old) (F.is_begun files.new) }
+        ensures cause { StopHasCause (O.faults desk.old.out.now) (O.faults desk.new.out.now) result }
+        ensures begun { LeavesBegun (command_of cmd.now) (F.is_begun desk.old.files.now) (F.is_begun desk.new.files.now) }
+        ensures same { SameDesk desk.old desk.new }
     {
         match cmd {
             Command::Begin {
@@ -193,10 +194,10 @@ impl Slot {
                 width,
                 max,
             } => {
-                let reply = self.begin(alloc, *kind, *k, *width, *max);
-                say(out, text, &reply)
+                let reply = self.begin(desk.alloc, *kind, *k, *width, *max);
+                say(desk.out, &mut desk.text, &reply)
             }
-            _ => self.exec_by(alloc, cmd, out, files, limits, text, visits, changes),
+            _ => self.exec_by(cmd, desk),
         }
     }
 
@@ -204,27 +205,45 @@ impl Slot {
     #[inline(always)]
     fn exec_by<O: Sink, F: Files, V: Ledger, C: Ledger>(
         &mut self,
-        alloc: Global,
         cmd: &Command<'_>,
-        out: &mut O,
-        files: &mut F,
-        limits: &Limits,
-        text: &mut Text,
-        visits: &mut Steps<V>,
-        changes: &mut Steps<C>,
+        desk: &mut Desk<'_, O, F, V, C>,
     ) -> Result<Answer, Stop>
         requires dims { HasDims (any_slot self.old).dims cmd.now }
-        requires file { limits.now.file_bytes < 2 ^ 63 }
+        requires file { desk.old.limits.now.file_bytes < 2 ^ 63 }
         requires slot { is_on_slot (command_of cmd.now) ≡ true }
         requires opened { is_begin (command_of cmd.now) ≡ false }
-        ensures done { DoneOr limits.now.file_bytes (engine_of (any_slot self.old)) (command_of cmd.now)
-            (beside_by O.Sink F.Files out.old files.old visits.old changes.old)
-            (beside_by O.Sink F.Files out.new files.new visits.new changes.new)
+        ensures done { DoneOr desk.old.limits.now.file_bytes (engine_of (any_slot self.old)) (command_of cmd.now)
+            (beside_at O.Sink F.Files desk.old) (beside_at O.Sink F.Files desk.new)
             (engine_of (any_slot self.new)) result }
-        ensures cause { StopHasCause (O.faults out.old) (O.faults out.new) result }
-        ensures begun { LeavesBegun (command_of cmd.now) (F.is_begun files.old) (F.is_begun files.new) }
+        ensures cause { StopHasCause (O.faults desk.old.out.now) (O.faults desk.new.out.now) result }
+        ensures begun { LeavesBegun (command_of cmd.now) (F.is_begun desk.old.files.now) (F.is_begun desk.new.files.now) }
+        ensures same { SameDesk desk.old desk.new }
     {
-        exec_by_dims!(self, O, F, V, C => alloc, cmd, out, files, limits, text, visits, changes)
+        exec_by_dims!(self, O, F, V, C => cmd, desk)
+    }
+
+    // Does a drawn command with a slot of two dimensions.
+    pub(crate) fn exec_drawn<O: Sink, F: Files, V: Ledger, C: Ledger>(
+        &mut self,
+        cmd: &Command<'_>,
+        desk: &mut Desk<'_, O, F, V, C>,
+    ) -> Result<Answer, Stop>
+        requires dims { HasDims 2 cmd.now }
+        requires file { desk.old.limits.now.file_bytes < 2 ^ 63 }
+        requires two { (any_slot self.old).dims ≡ 2 }
+        requires drawn { is_drawn (command_of cmd.now) ≡ true }
+        ensures done { DoneOr desk.old.limits.now.file_bytes (engine_of (any_slot self.old)) (command_of cmd.now)
+            (beside_at O.Sink F.Files desk.old) (beside_at O.Sink F.Files desk.new)
+            (engine_of (any_slot self.new)) result }
+        ensures cause { StopHasCause (O.faults desk.old.out.now) (O.faults desk.new.out.now) result }
+        ensures same { SameDesk desk.old desk.new }
+    {
+        // A use that makes known which variant it is.
+        let _dims = self.dims();
+        match self {
+            Slot::D2(slot) => slot.exec::<1, O, F, V, C>(cmd, desk),
+            _ => unreachable!(),
+        }
     }
 
     // Makes it a new one for points or boxes of so many dimensions and bits, without cursors, unless none has so many.

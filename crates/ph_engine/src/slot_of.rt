@@ -11,21 +11,22 @@ ghost use Rattle.ph_tree.specs.Stats.{stats_of};
 ghost use Rattle.ph_engine.specs.AnySlots.{IsFrameOf};
 ghost use Rattle.ph_engine.specs.Asking.{asking};
 ghost use Rattle.ph_engine.specs.Causes.{refusal_reply};
+ghost use Rattle.ph_engine.specs.Desks.{SameDesk, aside_at, beside_at};
 ghost use Rattle.ph_engine.specs.Doing.{Begun, DoneWith, DoneOr, LeavesBegun, is_begin, is_on_row, is_on_slot, is_sure, is_tried, is_listed};
 ghost use Rattle.ph_engine.specs.Filing.{FiledOr, QuietOr, Replies};
 ghost use Rattle.ph_engine.specs.Refusing.{early_refusal, cursor_refusal};
 ghost use Rattle.ph_commands.specs.Tables.{engine_of};
 ghost use Rattle.ph_commands.specs.Telling.{StopHasCause};
 ghost use Rattle.ph_commands.specs.Working.{nodes_of};
-ghost use Rattle.ph_engine.specs.Told.{aside_by, beside_by};
+ghost use Rattle.ph_engine.specs.Told.{aside_by};
 ghost use Rattle.ph_commands.specs.Told.{taken_by};
 
 use crate::cursors::{CURSORS, Held, enter, place_of};
+use crate::desk::Desk;
 use crate::filing::{load_table, save_table};
 use crate::frame::Frame;
 use crate::records::{export_table, import_table};
 use crate::refusals::{Refusal, has_wrong_kind, is_out_of_range, is_reversed};
-use crate::status::Limits;
 use arrayvec::ArrayVec;
 use ph_box::Question;
 use ph_commands::{
@@ -67,7 +68,9 @@ impl<const D: usize> Model for SlotOf<D> {
 }
 
 impl<const D: usize> SlotOf<D> {
-    // An empty table for at most so many rows, without cursors. It takes no memory.
+    // An empty table for at most so many rows, without cursors. It takes no memory. It is a call of its own, since it fills the places
+    // of sixteen cursors.
+    #[inline(never)]
     pub(crate) fn new(alloc: Global, kind: Kind, w: Width, max: u64) -> SlotOf<D>
         requires some { 1 ≤ D }
         requires limit { D ≤ 16 }
@@ -105,47 +108,39 @@ impl<const D: usize> SlotOf<D> {
     // Does a command that is about this slot alone and leaves its dimensions, as in an engine whose other slot is new. Boxes have K dimensions.
     pub(crate) fn exec<const K: usize, O: Sink, F: Files, V: Ledger, C: Ledger>(
         &mut self,
-        alloc: Global,
         cmd: &Command<'_>,
-        out: &mut O,
-        files: &mut F,
-        limits: &Limits,
-        text: &mut Text,
-        visits: &mut Steps<V>,
-        changes: &mut Steps<C>,
+        desk: &mut Desk<'_, O, F, V, C>,
     ) -> Result<Answer, Stop>
         requires half { K ≡ D / 2 }
         requires dims { HasDims self.old.dims cmd.now }
-        requires file { limits.now.file_bytes < 2 ^ 63 }
+        requires file { desk.old.limits.now.file_bytes < 2 ^ 63 }
         requires slot { is_on_slot (command_of cmd.now) ≡ true }
         requires opened { is_begin (command_of cmd.now) ≡ false }
-        ensures done { DoneOr limits.now.file_bytes (engine_of self.old) (command_of cmd.now)
-            (beside_by O.Sink F.Files out.old files.old visits.old changes.old)
-            (beside_by O.Sink F.Files out.new files.new visits.new changes.new)
+        ensures done { DoneOr desk.old.limits.now.file_bytes (engine_of self.old) (command_of cmd.now)
+            (beside_at O.Sink F.Files desk.old) (beside_at O.Sink F.Files desk.new)
             (engine_of self.new) result }
-        ensures cause { StopHasCause (O.faults out.old) (O.faults out.new) result }
-        ensures begun { LeavesBegun (command_of cmd.now) (F.is_begun files.old) (F.is_begun files.new) }
+        ensures cause { StopHasCause (O.faults desk.old.out.now) (O.faults desk.new.out.now) result }
+        ensures begun { LeavesBegun (command_of cmd.now) (F.is_begun desk.old.files.now) (F.is_begun desk.new.files.now) }
+        ensures same { SameDesk desk.old desk.new }
     {
         match cmd {
             Command::Put { at, value } => {
-                let outcome = self.put(at, *value, visits, changes);
-                tell(out, text, &outcome)
+                let outcome = self.put(at, *value, desk.visits, desk.changes);
+                tell(desk.out, &mut desk.text, &outcome)
             }
             Command::Get { at } => {
-                let reply = self.get(at, visits);
-                say(out, text, &reply)
+                let reply = self.get(at, desk.visits);
+                say(desk.out, &mut desk.text, &reply)
             }
             Command::Del { at } => {
-                let outcome = self.del(at, visits, changes);
-                tell(out, text, &outcome)
+                let outcome = self.del(at, desk.visits, desk.changes);
+                tell(desk.out, &mut desk.text, &outcome)
             }
             Command::Relocate { from, to } => {
-                let outcome = self.relocate(from, to, visits, changes);
-                tell(out, text, &outcome)
+                let outcome = self.relocate(from, to, desk.visits, desk.changes);
+                tell(desk.out, &mut desk.text, &outcome)
             }
-            _ => self.exec_other::<K, O, F, V, C>(
-                alloc, cmd, out, files, limits, text, visits, changes,
-            ),
+            _ => self.exec_other::<K, O, F, V, C>(cmd, desk),
         }
     }
 
@@ -153,46 +148,40 @@ impl<const D: usize> SlotOf<D> {
     #[inline(never)]
     fn exec_other<const K: usize, O: Sink, F: Files, V: Ledger, C: Ledger>(
         &mut self,
-        alloc: Global,
         cmd: &Command<'_>,
-        out: &mut O,
-        files: &mut F,
-        limits: &Limits,
-        text: &mut Text,
-        visits: &mut Steps<V>,
-        changes: &mut Steps<C>,
+        desk: &mut Desk<'_, O, F, V, C>,
     ) -> Result<Answer, Stop>
         requires half { K ≡ D / 2 }
         requires dims { HasDims self.old.dims cmd.now }
-        requires file { limits.now.file_bytes < 2 ^ 63 }
+        requires file { desk.old.limits.now.file_bytes < 2 ^ 63 }
         requires slot { is_on_slot (command_of cmd.now) ≡ true }
         requires opened { is_begin (command_of cmd.now) ≡ false }
         requires other { is_on_row (command_of cmd.now) ≡ false }
-        ensures done { DoneOr limits.now.file_bytes (engine_of self.old) (command_of cmd.now)
-            (beside_by O.Sink F.Files out.old files.old visits.old changes.old)
-            (beside_by O.Sink F.Files out.new files.new visits.new changes.new)
+        ensures done { DoneOr desk.old.limits.now.file_bytes (engine_of self.old) (command_of cmd.now)
+            (beside_at O.Sink F.Files desk.old) (beside_at O.Sink F.Files desk.new)
             (engine_of self.new) result }
-        ensures cause { StopHasCause (O.faults out.old) (O.faults out.new) result }
-        ensures begun { LeavesBegun (command_of cmd.now) (F.is_begun files.old) (F.is_begun files.new) }
+        ensures cause { StopHasCause (O.faults desk.old.out.now) (O.faults desk.new.out.now) result }
+        ensures begun { LeavesBegun (command_of cmd.now) (F.is_begun desk.old.files.now) (F.is_begun desk.new.files.now) }
+        ensures same { SameDesk desk.old desk.new }
     {
         if let Some(refusal) = self.refusal(cmd) {
-            return say(out, text, &refusal.reply());
+            return say(desk.out, &mut desk.text, &refusal.reply());
         }
         match cmd {
             Command::Load { .. }
             | Command::Import { .. }
             | Command::Keep { .. }
             | Command::Back { .. } => {
-                let outcome = self.try_reply(alloc, cmd, files, limits, visits, changes);
-                tell(out, text, &outcome)
+                let outcome = self.try_reply(cmd, desk);
+                tell(desk.out, &mut desk.text, &outcome)
             }
             Command::Count
             | Command::Clear
             | Command::Cursor { .. }
             | Command::Save { .. }
             | Command::Export { .. } => {
-                let reply = self.reply(alloc, cmd, files, visits);
-                say(out, text, &reply)
+                let reply = self.reply(desk.alloc, cmd, desk.files, desk.visits);
+                say(desk.out, &mut desk.text, &reply)
             }
             Command::Window { .. }
             | Command::Page { .. }
@@ -201,7 +190,13 @@ impl<const D: usize> SlotOf<D> {
             | Command::Overlap { .. }
             | Command::Inside { .. }
             | Command::Covers { .. }
-            | Command::Stats => self.list::<K, O, V>(alloc, cmd, out, text, visits),
+            | Command::Stats => self.list::<K, O, V>(
+                desk.alloc,
+                cmd,
+                desk.out,
+                &mut desk.text,
+                desk.visits,
+            ),
             Command::Begin { .. }
             | Command::Put { .. }
             | Command::Get { .. }
@@ -215,48 +210,28 @@ impl<const D: usize> SlotOf<D> {
     }
 
     // Does a command of one reply that may want memory.
-    fn try_reply<F: Files, V: Ledger, C: Ledger>(
+    fn try_reply<O: Sink, F: Files, V: Ledger, C: Ledger>(
         &mut self,
-        alloc: Global,
         cmd: &Command<'_>,
-        files: &mut F,
-        limits: &Limits,
-        visits: &mut Steps<V>,
-        changes: &mut Steps<C>,
+        desk: &mut Desk<'_, O, F, V, C>,
     ) -> Result<Reply, NoMemory>
         requires dims { HasDims self.old.dims cmd.now }
-        requires file { limits.now.file_bytes < 2 ^ 63 }
+        requires file { desk.old.limits.now.file_bytes < 2 ^ 63 }
         requires unrefused { early_refusal self.old (command_of cmd.now) ≡ None }
         requires tried { is_tried (command_of cmd.now) ≡ true }
-        ensures filed { FiledOr limits.now.file_bytes (engine_of self.old) (command_of cmd.now)
-            (aside_by F.Files files.old visits.old changes.old)
-            (aside_by F.Files files.new visits.new changes.new)
-            (engine_of self.new) result }
-        ensures begun { F.is_begun files.new ≡ F.is_begun files.old }
+        ensures filed { FiledOr desk.old.limits.now.file_bytes (engine_of self.old) (command_of cmd.now)
+            (aside_at F.Files desk.old) (aside_at F.Files desk.new) (engine_of self.new) result }
+        ensures begun { F.is_begun desk.new.files.now ≡ F.is_begun desk.old.files.now }
+        ensures out { desk.new.out.now ≡ desk.old.out.now }
+        ensures same { SameDesk desk.old desk.new }
     {
         match cmd {
-            Command::Load { file } => load_table(
-                &mut self.kept,
-                self.kind,
-                alloc,
-                file,
-                files,
-                limits,
-                changes,
-            ),
-            Command::Import { file, header } => import_table(
-                &mut self.kept,
-                self.kind,
-                alloc,
-                file,
-                *header,
-                files,
-                limits,
-                visits,
-                changes,
-            ),
-            Command::Keep { n } => keep_edits(&mut self.kept, alloc, *n),
-            Command::Back { n } => self.back(*n, visits, changes),
+            Command::Load { file } => load_table(&mut self.kept, self.kind, file, desk),
+            Command::Import { file, header } => {
+                import_table(&mut self.kept, self.kind, file, *header, desk)
+            }
+            Command::Keep { n } => keep_edits(&mut self.kept, desk.alloc, *n),
+            Command::Back { n } => self.back(*n, desk.visits, desk.changes),
             _ => unreachable!(),
         }
     }

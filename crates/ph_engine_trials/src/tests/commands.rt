@@ -1,7 +1,7 @@
 //! Commands that an engine does, one by one.
 ghost use Rattle.std.specs.Prelude.{◌≡◌, ◌<◌};
 
-use ph_engine::{Answer, Engine, Limits};
+use ph_engine::{Answer, Desk, Engine, Limits};
 use ph_io::{MemoryFiles, MemorySink};
 use ph_script::{CoordBuffer, read_command};
 use ph_steps::Counters;
@@ -33,13 +33,15 @@ fn check_line<V: Ledger, C: Ledger>(
         return;
     };
     let done = engine.exec(
-        alloc,
         &command,
-        &mut sink,
-        &mut files,
-        &limits,
-        &mut counters.visits,
-        &mut counters.changes,
+        &mut Desk::new(
+            alloc,
+            &mut sink,
+            &mut files,
+            &limits,
+            &mut counters.visits,
+            &mut counters.changes,
+        ),
     );
     let answer = if reply.as_bytes().starts_with(b"error") {
         Answer::Refused

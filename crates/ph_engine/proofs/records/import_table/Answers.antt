@@ -1,4 +1,4 @@
-use Rattle.std.proofs.Common.{refl}
+use Rattle.std.proofs.Common.{refl, rules}
 use Rattle.ph_specs.specs.Command.{Command}
 use Rattle.ph_commands.specs.Tables.{table_at, slot_of}
 use Rattle.ph_engine.proofs.Filed.{unfetched-filed-or}
@@ -12,10 +12,10 @@ returns-in-Ok-clause-imported g c =
     let i = c.import_text.ensures in
     record {
       filed = λ cursors.
-          imported-filed-or c.args.limits.now.file_bytes c.args.kind (table_at g.row.D c.args.kept.now) cursors c.args.file.now c.as_slice.result.now
-          c.args.header (g.F.Files.faults c.args.files.now) (g.F.Files.faults c.fetch.new.self) c.args.visits.now
-          c.import_text.new.visits c.args.changes.now c.import_text.new.changes
-          (g.F.Files.files c.args.files.now) (g.F.Files.files c.fetch.new.self) (table_at g.row.D c.import_text.new.kept)
+          imported-filed-or c.args.desk.now.limits.now.file_bytes c.args.kind (table_at g.row.D c.args.kept.now) cursors c.args.file.now c.as_slice.result.now
+          c.args.header (g.F.Files.faults c.args.desk.now.files.now) (g.F.Files.faults c.fetch.new.self) c.args.desk.now.visits.now
+          c.import_text.new.visits c.args.desk.now.changes.now c.import_text.new.changes
+          (g.F.Files.files c.args.desk.now.files.now) (g.F.Files.files c.fetch.new.self) (table_at g.row.D c.import_text.new.kept)
           c.import_text.result (rw (c.as_slice.ensures.value, ← c.as_str.ensures.value) e.fetches) (rw c.as_slice.ensures.value e.within)
           e.files e.counts i.imports i.later i.few_visits i.kept i.few_changes;
     }
@@ -28,13 +28,15 @@ returns g c =
     record {
       frame = same-frame-still c.args.kind t;
       begun = e.is_begun;
+      out = refl;
+      same = search rules;
       imported = record {
         filed = λ cursors.
             unfetched-filed-or (Command.Import name c.args.header) name (fetch-import name c.args.header)
-            c.args.limits.now.file_bytes (slot_of c.args.kind t cursors) c.fetch.new.into.items
-            (g.F.Files.faults c.args.files.now) (g.F.Files.faults c.fetch.new.self) c.args.visits.now
-            c.args.visits.now c.args.changes.now c.args.changes.now
-            (g.F.Files.files c.args.files.now) (g.F.Files.files c.fetch.new.self) c.in-Err.fault c.fetch_reply.result
+            c.args.desk.now.limits.now.file_bytes (slot_of c.args.kind t cursors) c.fetch.new.into.items
+            (g.F.Files.faults c.args.desk.now.files.now) (g.F.Files.faults c.fetch.new.self) c.args.desk.now.visits.now
+            c.args.desk.now.visits.now c.args.desk.now.changes.now c.args.desk.now.changes.now
+            (g.F.Files.files c.args.desk.now.files.now) (g.F.Files.files c.fetch.new.self) c.in-Err.fault c.fetch_reply.result
             c.fetch_reply.ensures (rw (← c.as_str.ensures.value) e.fetches) e.counts e.files refl refl;
       };
     }

@@ -1,10 +1,10 @@
-use Rattle.std.proofs.Common.{◌≡◌, ℕ, List, refl, sym, subst, ◌∷◌, [], ◌++◌, take, drop, ◌∙◌, ap, arith}
+use Rattle.std.proofs.Common.{◌≡◌, ℕ, List, refl, sym, subst, ◌∷◌, [], ◌++◌, take, drop, ◌∙◌, ap, arith, rules}
 use Rattle.ph_specs.specs.Lines.{LF}
 use Rattle.ph_script.specs.Shown.{before_feed, IsLine}
 use Rattle.ph_engine.specs.Machine.{KEPT}
 use Rattle.std.specs.Prelude.{Bool, false, Result, Ok, Err}
+use Rattle.ph_engine.specs.Desks.{beside_at}
 use Rattle.ph_engine.specs.Feeding.{Fed}
-use Rattle.ph_engine.specs.Told.{beside_by}
 use Rattle.ph_script.specs.declared.lines.Line.{Line}
 use Rattle.ph_engine.specs.Answering.{SaysOr}
 use Rattle.ph_engine.specs.Beside.{Beside}
@@ -30,27 +30,29 @@ pub lines-preserved : goal.lines-preserved
 lines-preserved g c =
     let given = c.in-Some.ensures.given in
     let place = c.in-Some.ensures.place in
-    let middle = g.F.Files.files c.lines.files in
+    let middle = g.F.Files.files c.lines.desk.files.now in
     let empty : c.next_line.follows.lender-at-none ≡ [] = c.next_line.follows.holds-at-none ∙ unended-feed c.lines.lines (drop c.lines.at c.args.piece.now) given.0 in
     record {
       within = feed-within c.args.piece.now c.lines.at c.next_line.new.at c.lines.invariant.within given.0 place;
       later = omega (arith, c.lines.invariant.later, c.in-Ok.ensures.cause.later);
       filings = omega (arith, c.lines.invariant.filings, c.in-Ok.ensures.filings);
       begun = λ none. c.in-Ok.ensures.begun (c.lines.invariant.begun none);
+      same = search rules;
+      file = search rules;
       fed = λ known fits.
           let fed = c.lines.invariant.fed known fits in
-          let line = known-on (Says c.args.limits.now.file_bytes c.in-Some.line
+          let line = known-on (Says c.args.desk.now.limits.now.file_bytes c.in-Some.line
           (whole c.lines.eng (told_now known middle)) _ _ (Ok c.in-Ok.some)) c.answer.new.eng known middle
-          (g.F.Files.files c.answer.new.files) fed.0
-          (c.in-Ok.ensures.answered (told_now known middle) (known-right known middle fed.0)) in (
+          (g.F.Files.files c.answer.new.desk.files.now) fed.0
+          ((rw c.lines.invariant.same.limits at c.in-Ok.ensures.answered) (told_now known middle) (known-right known middle fed.0)) in (
             line.0,
             λ unended k u.
                 let before = fed.1 unended k u in
                 let answered = λ (now : List ℕ) (kept : c.lines.lines ≡ take KEPT now). line.1 _ (shown g (goal.at.lines-preserved g c).In-Some now kept) in
-                then-fed (script_machine c.args.limits.now.file_bytes) _ unended (take c.lines.at c.args.piece.now)
+                then-fed (script_machine c.args.desk.now.limits.now.file_bytes) _ unended (take c.lines.at c.args.piece.now)
                 (before_feed (drop c.lines.at c.args.piece.now) ++ LF ∷ []) (take c.next_line.new.at c.args.piece.now)
                 c.lines.lines c.next_line.follows.lender-at-none _ _ _ _ _ c.lines.refused c.in-Ok.some c.either-refused.result before
-                (λ now kept free. rw empty (line-said (script_machine c.args.limits.now.file_bytes) _ now
+                (λ now kept free. rw empty (line-said (script_machine c.args.desk.now.limits.now.file_bytes) _ now
                 (before_feed (drop c.lines.at c.args.piece.now)) (answered now kept).met _ _ _ c.in-Ok.some free
                 (feed-unbroken (drop c.lines.at c.args.piece.now) given.0)
                 (answered now kept).said))
@@ -62,20 +64,20 @@ pub returns-in-Err-clause-fed : goal.returns-in-Err-clause-fed
 returns-in-Err-clause-fed g c known fits =
     let given = c.in-Some.ensures.given in
     let place = c.in-Some.ensures.place in
-    let middle = g.F.Files.files c.lines.files in
+    let middle = g.F.Files.files c.lines.desk.files.now in
     let fed = c.lines.invariant.fed known fits in
-    let line = known-on (Says c.args.limits.now.file_bytes c.in-Some.line (whole c.lines.eng (told_now known middle))
-    _ _ (Err c.in-Err.stop)) c.answer.new.eng known middle (g.F.Files.files c.answer.new.files) fed.0
-    (c.in-Err.ensures.answered (told_now known middle) (known-right known middle fed.0)) in (
+    let line = known-on (Says c.args.desk.now.limits.now.file_bytes c.in-Some.line (whole c.lines.eng (told_now known middle))
+    _ _ (Err c.in-Err.stop)) c.answer.new.eng known middle (g.F.Files.files c.answer.new.desk.files.now) fed.0
+    ((rw c.lines.invariant.same.limits at c.in-Err.ensures.answered) (told_now known middle) (known-right known middle fed.0)) in (
       line.0,
       λ unended k u.
           let before = fed.1 unended k u in
           let answered = λ (now : List ℕ) (kept : c.lines.lines ≡ take KEPT now). line.1 _ (shown g (goal.at.returns-in-Err-clause-fed g c).In-Some now kept) in
-          then-stopped (script_machine c.args.limits.now.file_bytes) _ unended (take c.lines.at c.args.piece.now)
+          then-stopped (script_machine c.args.desk.now.limits.now.file_bytes) _ unended (take c.lines.at c.args.piece.now)
           (before_feed (drop c.lines.at c.args.piece.now) ++ LF ∷ []) (drop c.next_line.new.at c.args.piece.now)
           c.args.piece.now
           c.lines.lines c.next_line.follows.lender-at-none _ _ _ _ _ c.lines.refused c.in-Err.stop before
-          (λ now kept free. line-stopped (script_machine c.args.limits.now.file_bytes) _ now
+          (λ now kept free. line-stopped (script_machine c.args.desk.now.limits.now.file_bytes) _ now
           (before_feed (drop c.lines.at c.args.piece.now)) (answered now kept).met _ _ free
           (feed-unbroken (drop c.lines.at c.args.piece.now) given.0) c.next_line.follows.lender-at-none _
           c.in-Err.stop (answered now kept).said)
@@ -91,7 +93,7 @@ returns-clause-fed g c known fits =
       λ unended k u.
           let given = c.in_default.ensures.given in
           let rests = c.next_line.follows.holds-at-none ∙ unended-none c.lines.lines (drop c.lines.at c.args.piece.now) given in
-          then-part (script_machine c.args.limits.now.file_bytes) _ unended (take c.lines.at c.args.piece.now) (drop c.lines.at c.args.piece.now) c.args.piece.now
+          then-part (script_machine c.args.desk.now.limits.now.file_bytes) _ unended (take c.lines.at c.args.piece.now) (drop c.lines.at c.args.piece.now) c.args.piece.now
           c.lines.lines c.next_line.follows.lender-at-none _ _ _ c.lines.refused (fed.1 unended k u)
           (none-unbroken (drop c.lines.at c.args.piece.now) given) rests (whole-piece c.args.piece.now c.lines.at),
     )
@@ -102,14 +104,16 @@ lines-init g c = record {
   later = omega arith;
   filings = omega arith;
   begun = λ none. none;
+  same = search rules;
+  file = c.requires;
   fed = λ known fits. (
     known-left known _ _ fits refl,
     λ unended k u.
         let s = whole c.args.eng.now known in
-        let b = beside_by g.O.Sink g.F.Files c.args.out.now c.args.files.now c.args.visits.now c.args.changes.now in
-        let same : told_now known (g.F.Files.files c.args.files.now) ≡ known = known-still known _ _ fits refl in
-        subst (λ x. Fed (script_machine c.args.limits.now.file_bytes) s unended [] b b (whole c.args.eng.now x)
+        let b = beside_at g.O.Sink g.F.Files c.args.desk.now in
+        let same : told_now known (g.F.Files.files c.args.desk.now.files.now) ≡ known = known-still known _ _ fits refl in
+        subst (λ x. Fed (script_machine c.args.desk.now.limits.now.file_bytes) s unended [] b b (whole c.args.eng.now x)
         c.args.lines.now false) (sym same)
-        (fed-none (script_machine c.args.limits.now.file_bytes) s unended c.args.lines.now _ k u),
+        (fed-none (script_machine c.args.desk.now.limits.now.file_bytes) s unended c.args.lines.now _ k u),
   );
 }

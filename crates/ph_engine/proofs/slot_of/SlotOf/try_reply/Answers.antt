@@ -21,10 +21,12 @@ invariant_of-self-in-Import g c =
     slot-keeps kind t (table_at g.row.D c.import_table.new.kept) c.self-in-Import.inside.cursors.items c.import_table.ensures.frame c.self-in-Import.invariant
 
 pub returns-in-Load-clause-filed : goal.returns-in-Load-clause-filed
-returns-in-Load-clause-filed g c = rw (c.in-Load.is, ← c.self.view_is) (c.load_table.ensures.loaded.filed c.args.visits.now (named c.self.inside.cursors.items))
+returns-in-Load-clause-filed g c = rw (c.in-Load.is, c.load_table.ensures.unseen, ← c.self.view_is)
+    (c.load_table.ensures.loaded.filed c.args.desk.now.visits.now (named c.self.inside.cursors.items))
 
 pub returns-in-Import-clause-filed : goal.returns-in-Import-clause-filed
 returns-in-Import-clause-filed g c = rw (c.in-Import.is, ← c.self-in-Import.view_is) (c.import_table.ensures.imported.filed (named c.self-in-Import.inside.cursors.items))
 
 pub returns-in-Back-clause-filed : goal.returns-in-Back-clause-filed
-returns-in-Back-clause-filed g c = rw c.in-Back.is (c.back.ensures.filed c.args.limits.now.file_bytes (g.F.Files.files c.args.files.now) (g.F.Files.faults c.args.files.now))
+returns-in-Back-clause-filed g c = rw c.in-Back.is
+    (c.back.ensures.filed c.args.desk.now.limits.now.file_bytes (g.F.Files.files c.args.desk.now.files.now) (g.F.Files.faults c.args.desk.now.files.now))

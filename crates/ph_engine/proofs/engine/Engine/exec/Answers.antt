@@ -6,43 +6,44 @@ use Rattle.ph_engine.specs.AnySlots.{any_slot}
 use Rattle.ph_engine.proofs.Commanded.{select-done, compare-done, tells-said}
 use Rattle.ph_engine.proofs.Filed.{done-filed}
 use Rattle.ph_engine.proofs.Lifted.{done-at, on-slot}
-use Rattle.ph_engine.proofs.engine.Engine.exec_by.Goals as goal
+use Rattle.ph_engine.proofs.engine.Engine.exec.Goals as goal
 
 pub returns-in-Select-clause-done : goal.returns-in-Select-clause-done
 returns-in-Select-clause-done g c =
-    rw c.in-Select.is (select-done c.args.limits.now.file_bytes c.args.self.now c.select.new.self c.in-Select.slot
-    c.select.result _ _ (g.F.Files.files c.args.files.now) (g.F.Files.faults c.args.files.now) c.args.visits.now
-    c.args.changes.now c.say.result c.select.ensures.engine c.select.ensures.reply
+    rw c.in-Select.is (select-done c.args.desk.now.limits.now.file_bytes c.args.self.now c.select.new.self c.in-Select.slot
+    c.select.result _ _ (g.F.Files.files c.args.desk.now.files.now) (g.F.Files.faults c.args.desk.now.files.now) c.args.desk.now.visits.now
+    c.args.desk.now.changes.now c.say.result c.select.ensures.engine c.select.ensures.reply
     (tells-said _ _ c.select.result c.say.result c.say.ensures.answer c.say.ensures.told c.say.ensures.err
     c.say.ensures.front))
 
 pub returns-in-Same-clause-done : goal.returns-in-Same-clause-done
 returns-in-Same-clause-done g c =
-    rw c.in-Same.is (compare-done c.args.limits.now.file_bytes c.args.self.now c.compare.result _ _
-    (g.F.Files.files c.args.files.now) (g.F.Files.faults c.args.files.now) c.args.visits.now c.compare.new.visits
-    c.args.changes.now c.say-in-Same.result c.compare.ensures
+    rw c.in-Same.is (compare-done c.args.desk.now.limits.now.file_bytes c.args.self.now c.compare.result _ _
+    (g.F.Files.files c.args.desk.now.files.now) (g.F.Files.faults c.args.desk.now.files.now) c.args.desk.now.visits.now c.compare.new.visits
+    c.args.desk.now.changes.now c.say-in-Same.result c.compare.ensures
     (tells-said _ _ c.compare.result c.say-in-Same.result c.say-in-Same.ensures.answer c.say-in-Same.ensures.told
     c.say-in-Same.ensures.err c.say-in-Same.ensures.front))
 
 pub returns-in-Join-clause-done : goal.returns-in-Join-clause-done
 returns-in-Join-clause-done g c =
-    rw c.in-Join.is (c.join.ensures.done.done c.args.limits.now.file_bytes (g.F.Files.files c.args.files.now) (g.F.Files.faults c.args.files.now) c.args.changes.now)
+    let desk = c.args.desk.now in
+    rw c.in-Join.is (c.join.ensures.done.done desk.limits.now.file_bytes (g.F.Files.files desk.files.now) (g.F.Files.faults desk.files.now) desk.changes.now)
 
 pub returns-in-Combine-clause-done : goal.returns-in-Combine-clause-done
 returns-in-Combine-clause-done g c =
-    rw c.in-Combine.is (done-filed c.args.limits.now.file_bytes c.args.self.now c.combine-outcome.new.self
+    rw c.in-Combine.is (done-filed c.args.desk.now.limits.now.file_bytes c.args.self.now c.combine-outcome.new.self
     (Asked.Combine c.in-Combine.operation) _ _ _ _ _ _ _ _ _ _ c.combine-outcome.result c.tell.result refl
-    (c.combine-outcome.ensures.filed c.args.limits.now.file_bytes (g.F.Files.files c.args.files.now)
-    (g.F.Files.faults c.args.files.now)) c.tell.ensures.told)
+    (c.combine-outcome.ensures.filed c.args.desk.now.limits.now.file_bytes (g.F.Files.files c.args.desk.now.files.now)
+    (g.F.Files.faults c.args.desk.now.files.now)) c.tell.ensures.told)
 
 pub returns-in-A-clause-done : goal.returns-in-A-clause-done
 returns-in-A-clause-done g c =
-    done-at c.args.limits.now.file_bytes c.args.self.now _ (any_slot c.exec.new.self) A (command_of c.args.cmd.now) _ _ c.exec.result
+    done-at c.args.desk.now.limits.now.file_bytes c.args.self.now _ (any_slot c.exec.new.self) A (command_of c.args.cmd.now) _ _ c.exec.result
     c.self.view_is c.in-A.is (on-slot c.args.cmd.now c.in_default.not-Select c.in_default.not-Same c.in_default.not-Join
     c.in_default.not-Combine) c.exec.ensures.done
 
 pub returns-in-B-clause-done : goal.returns-in-B-clause-done
 returns-in-B-clause-done g c =
-    done-at c.args.limits.now.file_bytes c.args.self.now _ (any_slot c.exec-in-B.new.self) B (command_of c.args.cmd.now) _ _ c.exec-in-B.result
+    done-at c.args.desk.now.limits.now.file_bytes c.args.self.now _ (any_slot c.exec-in-B.new.self) B (command_of c.args.cmd.now) _ _ c.exec-in-B.result
     c.self.view_is c.in-B.is (on-slot c.args.cmd.now c.in_default.not-Select c.in_default.not-Same c.in_default.not-Join
     c.in_default.not-Combine) c.exec-in-B.ensures.done
