@@ -105,54 +105,32 @@ unless-files None e files command h = h
 drawn-files : (most : ℕ) (e : Engine) (files : Files) (command : Command) → is_drawn command ≡ true → (act most e files false command).files ≡ files
 drawn-files most e files command h = unless-files (refusal most e files false command) e files command (effect-files e files command h)
 
--- and the number of dimensions
-past-dims : (which : Which) (a b : Slot) (k : Past) → let e : Engine = record { a = a; b = b; current = which } in
-    (current (with_slot e (with_past (current e) k))).dims ≡ (current e).dims
-past-dims A a b k = refl
-past-dims B a b k = refl
+-- and which slot is current and how many dimensions it has
+abbrev frame : Engine → Which × ℕ
+frame e = (e.current, (current e).dims)
 
-effect-dims : (e : Engine) (files : Files) (command : Command) → is_drawn command ≡ true → (current (effect e files command).engine).dims ≡ (current e).dims
-effect-dims e files (Command.Put p v) h = past-dims e.current e.a e.b (put_kept (past_in (current e)) p v)
-effect-dims e files (Command.Get p) h = refl
-effect-dims e files (Command.Del p) h = past-dims e.current e.a e.b (del_kept (past_in (current e)) p)
-effect-dims e files (Command.Relocate p q) h = past-dims e.current e.a e.b (move_kept (past_in (current e)) p q)
-effect-dims e files (Command.Window lo hi) h = refl
-effect-dims e files (Command.Near q n) h = refl
-effect-dims e files command h = absurd cc
+past-frame : (which : Which) (a b : Slot) (k : Past) → let e : Engine = record { a = a; b = b; current = which } in
+    frame (with_slot e (with_past (current e) k)) ≡ frame e
+past-frame A a b k = refl
+past-frame B a b k = refl
 
-unless-dims : (r : Option Reply) (e : Engine) (files : Files) (command : Command) →
-    (current (effect e files command).engine).dims ≡ (current e).dims →
-    (current (unless_refused r e files command).engine).dims ≡ (current e).dims
-unless-dims (Some r) e files command h = refl
-unless-dims None e files command h = h
+effect-frame : (e : Engine) (files : Files) (command : Command) → is_drawn command ≡ true → frame (effect e files command).engine ≡ frame e
+effect-frame e files (Command.Put p v) h = past-frame e.current e.a e.b (put_kept (past_in (current e)) p v)
+effect-frame e files (Command.Get p) h = refl
+effect-frame e files (Command.Del p) h = past-frame e.current e.a e.b (del_kept (past_in (current e)) p)
+effect-frame e files (Command.Relocate p q) h = past-frame e.current e.a e.b (move_kept (past_in (current e)) p q)
+effect-frame e files (Command.Window lo hi) h = refl
+effect-frame e files (Command.Near q n) h = refl
+effect-frame e files command h = absurd cc
 
-drawn-dims : (most : ℕ) (e : Engine) (files : Files) (command : Command) → is_drawn command ≡ true →
-    (current (act most e files false command).engine).dims ≡ (current e).dims
-drawn-dims most e files command h = unless-dims (refusal most e files false command) e files command (effect-dims e files command h)
+unless-frame : (r : Option Reply) (e : Engine) (files : Files) (command : Command) →
+    frame (effect e files command).engine ≡ frame e → frame (unless_refused r e files command).engine ≡ frame e
+unless-frame (Some r) e files command h = refl
+unless-frame None e files command h = h
 
--- and the current slot
-past-current : (which : Which) (a b : Slot) (k : Past) → let e : Engine = record { a = a; b = b; current = which } in
-    (with_slot e (with_past (current e) k)).current ≡ which
-past-current A a b k = refl
-past-current B a b k = refl
-
-effect-current : (e : Engine) (files : Files) (command : Command) → is_drawn command ≡ true → (effect e files command).engine.current ≡ e.current
-effect-current e files (Command.Put p v) h = past-current e.current e.a e.b (put_kept (past_in (current e)) p v)
-effect-current e files (Command.Get p) h = refl
-effect-current e files (Command.Del p) h = past-current e.current e.a e.b (del_kept (past_in (current e)) p)
-effect-current e files (Command.Relocate p q) h = past-current e.current e.a e.b (move_kept (past_in (current e)) p q)
-effect-current e files (Command.Window lo hi) h = refl
-effect-current e files (Command.Near q n) h = refl
-effect-current e files command h = absurd cc
-
-unless-current : (r : Option Reply) (e : Engine) (files : Files) (command : Command) →
-    (effect e files command).engine.current ≡ e.current → (unless_refused r e files command).engine.current ≡ e.current
-unless-current (Some r) e files command h = refl
-unless-current None e files command h = h
-
-drawn-current : (most : ℕ) (e : Engine) (files : Files) (command : Command) → is_drawn command ≡ true →
-    (act most e files false command).engine.current ≡ e.current
-drawn-current most e files command h = unless-current (refusal most e files false command) e files command (effect-current e files command h)
+drawn-frame : (most : ℕ) (e : Engine) (files : Files) (command : Command) → is_drawn command ≡ true →
+    frame (act most e files false command).engine ≡ frame e
+drawn-frame most e files command h = unless-frame (refusal most e files false command) e files command (effect-frame e files command h)
 
 first-dims : (e : Engine) → e.current ≡ A → (current e).dims ≡ e.a.dims
 first-dims e h = ap (λ which. (slot_at which e).dims) h
@@ -278,13 +256,14 @@ soak_next most e now next all command rest start b now_b answer untold none stan
     let l : Leads (act most now [] d.fault command) next [] b.files now_b.files d.replies = d.does [] (drawn-knows command b.files d.found [] drawn) in
     let f : d.fault ≡ false = no-fault d.fault (let t : Tells b.filings now_b.filings (one_if d.fault) = d.filings.told in rw (none, stand) at t) in
     let led : act most now [] false command ≡ outcome next l.after d.replies = ap (λ x. act most now [] x command) (sym f) ∙ l.is in
-    let first : next.current ≡ A = sym (ap (λ x. x.engine.current) led) ∙ drawn-current most now [] command drawn ∙ h.first in
+    let kept : frame next ≡ frame now = sym (ap (λ x. frame x.engine) led) ∙ drawn-frame most now [] command drawn in
+    let first : next.current ≡ A = ap (λ x. x.0) kept ∙ h.first in
     record {
       finished = h.finished ++ command ∷ [];
       cut = append_assoc h.finished (command ∷ []) rest ∙ h.cut;
       drawn = both-rest (is_drawn command) (list_all is_drawn rest) h.drawn;
       first = first;
-      two = sym (first-dims next first) ∙ sym (ap (λ x. (current x.engine).dims) led) ∙ drawn-dims most now [] command drawn ∙ first-dims now h.first ∙ h.two;
+      two = sym (first-dims next first) ∙ ap (λ x. x.1) kept ∙ first-dims now h.first ∙ h.two;
       soaked = soaked;
     }
 
