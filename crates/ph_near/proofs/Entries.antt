@@ -37,9 +37,10 @@ use Rattle.ph_near.specs.declared.waiting.Waiting.{Waiting}
 use Rattle.ph_near.specs.Far.{corner_of, gaps_above, entry_gap}
 use Rattle.ph_near.specs.Found.{found_item, IsFound}
 use Rattle.ph_near.specs.Halves.{AreHalves, AreSmall, halves_sum}
+use Rattle.ph_near.specs.declared.corners.Corners.{Corners}
 use Rattle.ph_near.specs.declared.halves.Halves.{Halves}
 use Rattle.ph_near.specs.Nearing.{IsKept}
-use Rattle.ph_near.specs.Opening.{IsOpened, opened_items, place_item, IsEntered, opened_at, item_at, line_of, IsChild, IsWaiting, AreWaiting, IsTried, IsTreated}
+use Rattle.ph_near.specs.Opening.{IsOpened, opened_items, place_item, IsEntered, opened_at, IsNewest, item_at, line_of, IsChild, IsWaiting, AreWaiting, IsTried, IsTreated}
 use Rattle.ph_near.specs.Queue.{entry_at, what_item, entry_item}
 use Rattle.ph_near.proofs.FarRegions.{entry-distance, entry-small}
 use Rattle.ph_near.proofs.HalfGaps.{row-least, child-least, halves-gaps}
@@ -210,6 +211,11 @@ pub entered-items : {d : ℕ} (w : ℕ) (o : OpenedOf PlainNode d) (place : ℕ)
 entered-items w o place =
     ap (λ ks. items_below w (shown o.node).level ks (shown o.node).chain) (offsets-coordinate w o.known)
 
+-- the least distance that the corners tell
+pub corners-told : {d : ℕ} (c : Corners d) (l addr : ℕ) (known center : List ℕ) → c.level ≡ l → c.known ≡ known → c.center ≡ center →
+    gaps_above c.level (corner_of c.level addr c.known) c.center ≡ gaps_above l (corner_of l addr known) center
+corners-told c l addr known center e f h = λ i. gaps_above (e i) (corner_of (e i) addr (f i)) (h i)
+
 -- the least distance that the halves tell
 pub least-told : {d : ℕ} (level addr : ℕ) (known center : List ℕ) (h : Halves d) → length known ≡ d →
     length center ≡ d → AreHalves level known center h → AreSmall h →
@@ -244,13 +250,16 @@ module _ {d : ℕ} (w : ℕ) (q : List ℤ) (os : List (OpenedOf PlainNode d)) (
       λ j. place_item w (later-at x.opened h.0.opened j) x.place ∷ later-line items h.1 j
 
 -- the node that was opened last
-pub last-at : {d : ℕ} (os : List (OpenedOf PlainNode d)) (o : OpenedOf PlainNode d) (k : ℕ) → k ≡ length os →
-    (k < length (os ++ o ∷ [])) × (opened_at (os ++ o ∷ []) k ≡ o)
-last-at os o k e = subst (λ k. (k < length (os ++ o ∷ [])) × (opened_at (os ++ o ∷ []) k ≡ o)) (sym e) (by_list os)
+pub newest : {d : ℕ} (os : List (OpenedOf PlainNode d)) (o : OpenedOf PlainNode d) → IsNewest (os ++ o ∷ []) o
+newest [] o = record { some = omega arith; at = refl }
+newest (x ∷ os) o = record {
+  some = omega (arith, (newest os o).some);
+  at = behind (os ++ o ∷ []) (newest os o).some (newest os o).at;
+}
   where
-    by_list : (xs : List (OpenedOf PlainNode _)) → (length xs < length (xs ++ o ∷ [])) × (opened_at (xs ++ o ∷ []) (length xs) ≡ o)
-    by_list [] = (omega arith, refl)
-    by_list (x ∷ xs) = (omega (arith, (by_list xs).0), (by_list xs).1)
+    behind : (xs : List (OpenedOf PlainNode _)) → 1 ≤ length xs → opened_at xs (length xs - 1) ≡ o → opened_at (x ∷ xs) (length (x ∷ xs) - 1) ≡ o
+    behind [] l e = absurd (omega (arith, l))
+    behind (y ∷ ys) l e = ap (opened_at (x ∷ y ∷ ys)) (let k : length (x ∷ y ∷ ys) - 1 ≡ suc (length (y ∷ ys) - 1) = omega arith in k) ∙ e
 
 -- ---- an entry is treated
 

@@ -18,8 +18,8 @@ use Rattle.ph_zorder.proofs.Gaps.{offset-bound-on}
 use Rattle.ph_node.specs.Apart.{greatest_square}
 use Rattle.ph_node.specs.Kinds.{is_node}
 use Rattle.ph_near.specs.Queue.{what_item}
-use Rattle.ph_near.proofs.Distances.{apart-distance, apart-small}
-use Rattle.ph_near.specs.Far.{zeros, corner_of, gap_above, gaps_squared, entry_gap}
+use Rattle.ph_near.proofs.SquaredDistances.{apart-distance, apart-small}
+use Rattle.ph_near.specs.Far.{zeros, corner_of, gap_above, gaps_above, gaps_squared, entry_gap}
 
 -- ---- one number
 
@@ -113,6 +113,24 @@ corner-gaps level a i p q s known center l long some e f square =
     let whole = low-whole level (get_or known i 0) (a / 2 ^ (length known - 1 - i) % 2) p q e f in
     gaps-first (level - 1) i (p + q) s (corner_of level a known) center (omega (arith, l, corner-long level a known)) (omega (arith, l, long))
     (corner-at level a i p q known l e f) (square ∙ sym (ap (λ n. n * n) (gap-whole level (p + q) (get_or center i 0) some whole)))
+
+above-first : (l i n s : ℕ) (xs ys : List ℕ) → i < length xs → i < length ys → n ≡ get_or xs i 0 → s ≡ gap_above l n (get_or ys i 0) * gap_above l n (get_or ys i 0)
+    → gaps_above l (drop i xs) (drop i ys) ≡ s + gaps_above l (drop (i + 1) xs) (drop (i + 1) ys)
+above-first l i n s xs ys h k e f =
+    ap (λ ps. gaps_above l ps (drop i ys)) (drop_more xs i 0 h)
+    ∙ ap (λ qs. gaps_above l (get_or xs i 0 ∷ drop (i + 1) xs) qs) (drop_more ys i 0 k)
+    ∙ ap (λ x. gap_above l x (get_or ys i 0) * gap_above l x (get_or ys i 0) + gaps_above l (drop (i + 1) xs) (drop (i + 1) ys)) (sym e)
+    ∙ ap (λ t. t + gaps_above l (drop (i + 1) xs) (drop (i + 1) ys)) (sym f)
+
+-- the same above any level
+pub corner-above : (level a i p q s : ℕ) (known center : List ℕ) → i < length known → length center ≡ length known →
+    p ≡ get_or known i 0 / 2 ^ (level + 1) * 2 ^ (level + 1) → q ≡ a / 2 ^ (length known - 1 - i) % 2 * 2 ^ level →
+    s ≡ gap_above level (p + q) (get_or center i 0) * gap_above level (p + q) (get_or center i 0) →
+    gaps_above level (drop i (corner_of level a known)) (drop i center) ≡
+    s + gaps_above level (drop (i + 1) (corner_of level a known)) (drop (i + 1) center)
+corner-above level a i p q s known center l long e f square =
+    above-first level i (p + q) s (corner_of level a known) center (omega (arith, l, corner-long level a known)) (omega (arith, l, long))
+    (corner-at level a i p q known l e f) square
 
 -- a sum has room for so many squares more
 pub room-on : (sum n k j m : ℕ) → k ≡ suc j → n ≤ m → sum + k * m ≤ 16 * m → sum + n + j * m ≤ 16 * m

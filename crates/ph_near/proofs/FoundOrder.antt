@@ -19,7 +19,7 @@ use Rattle.ph_specs.specs.ZOrder.{before}
 use Rattle.ph_specs.proofs.lemmas.Members.{Each-each, Each-parts, Each-in, Each-from_in}
 use Rattle.ph_specs.proofs.lemmas.Gathered.{Each-permutation}
 use Rattle.ph_model.specs.Lawful.{IsBody}
-use Rattle.ph_model.proofs.lemmas.Joined.{offsets, offsets-coordinate}
+use Rattle.ph_model.proofs.lemmas.Joined.{offsets-coordinate}
 use Rattle.ph_model.proofs.lemmas.Searching.{IsApart, nearer-total, rows-apart}
 use Rattle.ph_specs.proofs.laws.Points.{ArePoints}
 use Rattle.ph_model.proofs.laws.Nearest.{Rising, nearer-cases}

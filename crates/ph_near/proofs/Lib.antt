@@ -13,7 +13,7 @@ pub mod Entries
 pub mod Scans
 pub mod Ranks
 pub mod Searches
-mod Distances
+mod SquaredDistances
 mod FarRegions
 mod BallStarts
 mod Balls

@@ -9,27 +9,13 @@ use Rattle.ph_node.specs.Merge.{addr_at}
 use Rattle.ph_node.specs.Shown.{shown}
 use Rattle.ph_near.specs.declared.found.Found.{Found}
 use Rattle.ph_near.specs.declared.opening.OpenedOf.{OpenedOf}
-use Rattle.ph_near.specs.declared.sums.Sums.{Sums}
-use Rattle.ph_near.specs.declared.sums.Sums.TheVariants.{Direct, Tabled}
 use Rattle.ph_near.specs.Far.{corner_of, gaps_above}
-use Rattle.ph_near.specs.Halves.{AreHalves, AreSmall}
 use Rattle.ph_near.specs.Nearing.{IsKept}
 use Rattle.ph_near.specs.Opening.{IsOpened, opened_items, place_item}
 use Rattle.ph_near.specs.Ranking.{IsBeyond}
 use Rattle.ph_near.specs.Scanning.{AreBeyond}
-use Rattle.ph_near.specs.Sums.{halves_in, AreSums, told_by}
-use Rattle.ph_near.proofs.Entries.{items-more, least-told, place-least, place-small}
+use Rattle.ph_near.proofs.Entries.{items-more, place-least, place-small}
 use Rattle.ph_near.proofs.Nearing.{kept-all, kept-dropped, kept-then}
-
--- ---- what the sums tell
-
-sums-small : {d : ℕ} (s : Sums d) → AreSums s → AreSmall (halves_in s)
-sums-small (Direct h) a = a
-sums-small (Tabled t) a = a.small
-
-pub sums-told : {d : ℕ} (level addr : ℕ) (known center : List ℕ) (s : Sums d) → length known ≡ d → length center ≡ d →
-    AreHalves level known center (halves_in s) → AreSums s → told_by s addr ≡ gaps_above level (corner_of level addr known) center
-sums-told level addr known center s l m h a = least-told level addr known center (halves_in s) l m h (sums-small s a)
 
 -- ---- what is farther than n rows
 

@@ -6,8 +6,8 @@ pub mod Ball
 pub mod BallSphere
 pub mod Far
 pub mod Halves
+pub mod Corners
 pub mod Tables
-pub mod Sums
 pub mod Opening
 pub mod Scanning
 pub mod Nearing

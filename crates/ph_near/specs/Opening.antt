@@ -1,5 +1,5 @@
 -- Nodes that were opened, and the children of them that wait.
-use Rattle.std.specs.Prelude.{◌≡◌, ℕ, ◌-◌, ◌^◌, ◌<◌, ◌⊎◌, List, [], ◌∷◌, length, map, ℤ, true, slice_index_or}
+use Rattle.std.specs.Prelude.{◌≡◌, ℕ, ◌-◌, ◌^◌, ◌<◌, ◌≤◌, ◌⊎◌, List, [], ◌∷◌, ◌++◌, length, map, ℤ, true, slice_index_or}
 use Rattle.std.specs.List.{AllByRecursion as Each}
 use Rattle.std.specs.List.Sorted.{IsPermutation}
 use Rattle.ph_model.specs.Lawful.{IsAbove, IsBody, IsLawfulFrom}
@@ -14,6 +14,7 @@ use Rattle.ph_near.specs.declared.found.Found.{Found}
 use Rattle.ph_near.specs.declared.opening.OpenedOf.{OpenedOf}
 use Rattle.ph_near.specs.declared.waiting.Waiting.{Waiting}
 use Rattle.ph_near.specs.Found.{IsFound, found_item}
+use Rattle.ph_near.specs.Nearing.{IsKept}
 use Rattle.ph_near.specs.Queue.{entry_at, entry_item}
 use Rattle.ph_near.specs.Ranking.{IsAdded, IsBeyond}
 
@@ -39,6 +40,11 @@ IsEntered w from place o =
 -- what an item that waits stands for
 abbrev pub opened_at : {d : ℕ} → List (OpenedOf PlainNode d) → ℕ → OpenedOf PlainNode d
 opened_at os k = slice_index_or os k (record { node = record { node = record { ref_ptr = (0, 0); now = record { level = 0; chain = end } } }; known = [] })
+
+-- the node that was opened last
+pub record IsNewest {d : ℕ} (os : List (OpenedOf PlainNode d)) (o : OpenedOf PlainNode d) : Type 0 where
+  pub some : 1 ≤ length os
+  pub at : opened_at os (length os - 1) ≡ o
 
 abbrev pub item_at : {d : ℕ} → ℕ → List (OpenedOf PlainNode d) → Waiting → Item
 item_at w os i = place_item w (opened_at os i.opened) i.place
@@ -70,3 +76,9 @@ abbrev pub IsTreated : {d : ℕ} → ℕ → ℕ → List ℤ → ℕ → Opened
 IsTreated n w q at o place old new was now =
     ((now ≡ was) × IsTried n w q (place_item w o place) old new)
     ⊎ ((new ≡ old) × ((x : Waiting) × (x.opened ≡ at) × (x.place ≡ place) × IsChild w q o x × IsPermutation (x ∷ was) now))
+
+-- all entries of a node that was opened were treated
+pub record AreTreated {d : ℕ} (w n : ℕ) (q : List ℤ) (os : List (OpenedOf PlainNode d)) (o : OpenedOf PlainNode d) (old new : List (Found d))
+    (was now : List Waiting) : Type 0 where
+  pub waits : AreWaiting w q os now
+  pub kept : IsKept w n q old (opened_items w o ++ line_of w os was) new (line_of w os now)

@@ -6,22 +6,8 @@ ghost use Rattle.ph_node.specs.Apart.{greatest_square};
 ghost use Rattle.ph_near.specs.Halves.{AreHalves, AreSmall, half_of};
 
 use crate::beyond::squared_gap;
+use crate::distances::Distances;
 use ph_digits::{address_digit, digits_above};
-
-// What tells how far the parts of a region are from a point.
-pub(crate) trait Distances<const D: usize> {
-    ghost use Rattle.std.specs.Prelude.{ℕ};
-
-    // The square of the least distance of the part with an address.
-    ghost told: { Self → ℕ → ℕ };
-
-    ghost IsSound: { Self → Type 0 };
-
-    fn least(&self, addr: u32) -> u128
-        requires sound { IsSound self.now }
-        requires address { addr < 2 ^ D }
-        ensures { result ≡ told self.now addr };
-}
 
 // The squares of the gaps between a point and both halves of a region, in each dimension.
 #[derive(Clone, Copy)]

@@ -4,12 +4,13 @@
 mod ball;
 mod best;
 mod beyond;
+mod corners;
+mod distances;
 mod found;
 mod halves;
 mod opening;
 mod ranking;
 mod sphere;
-mod sums;
 mod tables;
 mod waiting;
 

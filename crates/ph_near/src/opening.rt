@@ -9,17 +9,18 @@ ghost use Rattle.ph_node.specs.Shown.{shown};
 ghost use Rattle.ph_node.specs.Spots.{IsSpot};
 ghost use Rattle.ph_near.specs.Far.{corner_of, gaps_above};
 ghost use Rattle.ph_near.specs.Nearing.{IsKept};
-ghost use Rattle.ph_near.specs.Opening.{IsOpened, IsEntered, opened_items, place_item, line_of, AreWaiting, IsTried, IsTreated};
+ghost use Rattle.ph_near.specs.Opening.{IsOpened, IsNewest, IsEntered, opened_items, place_item, line_of, AreWaiting, IsTried, IsTreated, AreTreated};
 ghost use Rattle.ph_near.specs.Scanning.{AreBeyond, IsNear};
-ghost use Rattle.ph_near.specs.Sums.{AreSums, told_by};
 ghost use Rattle.ph_near.specs.Ranking.{IsRanking};
 ghost use Rattle.ph_near.specs.Waiting.{waiting_cmp};
 
 use crate::beyond::is_point_beyond;
+use crate::corners::Corners;
+use crate::distances::Distances;
 use crate::found::Found;
-use crate::halves::Distances;
+use crate::halves::Halves;
 use crate::ranking::Ranking;
-use crate::sums::{DIRECT_DIMS, Sums};
+use crate::tables::Tables;
 use crate::waiting::Waiting;
 use ph_coord::Width;
 use ph_node::{NoMemory, Node, NodeRef, NodeRefOf, Spot, WhatOf};
@@ -28,6 +29,12 @@ use ph_zorder::offset_distance;
 use std::alloc::Global;
 use std::collections::BinaryHeap;
 use std::sync::ledger::Ledger;
+
+// In up to so many dimensions each sum is made of the halves as fast as tables of them are made and read.
+const DIRECT_DIMS: usize = 4;
+
+// In more dimensions the sums of up to so many entries are made anew sooner than halves are told, and tables made of them.
+const FEW_ENTRIES: usize = 5;
 
 // In up to so many dimensions a row is told as fast as it is tried.
 const FEW_DIMS: usize = 3;
@@ -115,11 +122,88 @@ pub(crate) fn open<'t, const D: usize>(
         (heap_items ranking.new.rows) (line_of w opened.new.items (heap_items queue.new))) }
 {
     let _bits = w.bits();
-    let at = opened.len();
     keep(from.node, from.known, opened)?;
-    let sums = Sums::new(from.node.level(), &from.known, center, from.node.len());
+    treat_all(opened.as_slice(), from, w, center, ranking, queue)
+}
+
+// Treats the entries of the node that was opened last. How far their parts of its region are is told in the form that is the cheapest there.
+#[inline(always)]
+fn treat_all<'t, const D: usize>(
+    opened: &[Opened<'t, D>],
+    from: &Opened<'t, D>,
+    w: Width,
+    center: &[u64; D],
+    ranking: &mut Ranking<D>,
+    queue: &mut BinaryHeap<Waiting>,
+) -> Result<(), NoMemory>
+    requires some { 1 ≤ D }
+    requires few { D ≤ 16 }
+    requires opened { IsOpened w D from.now }
+    requires last { IsNewest opened.now from.now }
+    requires point { IsBody D w center.now }
+    requires ranking { IsRanking ranking.old }
+    requires order { IsHeap waiting_cmp (heap_items queue.old) }
+    requires waits { AreWaiting w (map (coordinate w) center.now) opened.now (heap_items queue.old) }
+    ensures n { ranking.new.n ≡ ranking.old.n }
+    ensures ranking { OnOk result (IsRanking ranking.new) }
+    ensures order { OnOk result (IsHeap waiting_cmp (heap_items queue.new)) }
+    ensures treated { OnOk result
+        (AreTreated w ranking.old.n (map (coordinate w) center.now) opened.now from.now
+        (heap_items ranking.old.rows) (heap_items ranking.new.rows) (heap_items queue.old) (heap_items queue.new)) }
+{
+    let _bits = w.bits();
+    let level = from.node.level();
+    if D > DIRECT_DIMS && from.node.len() <= FEW_ENTRIES {
+        let corners = Corners::new(level, &from.known, center);
+        return treat_by(opened, from, &corners, w, center, ranking, queue);
+    }
+    let halves = Halves::new(level, &from.known, center);
+    if D <= DIRECT_DIMS {
+        return treat_by(opened, from, &halves, w, center, ranking, queue);
+    }
+    treat_by(
+        opened,
+        from,
+        &Tables::new(&halves),
+        w,
+        center,
+        ranking,
+        queue,
+    )
+}
+
+// The same by what tells how far the parts are.
+#[inline(always)]
+fn treat_by<'t, const D: usize, S: Distances<D>>(
+    opened: &[Opened<'t, D>],
+    from: &Opened<'t, D>,
+    sums: &S,
+    w: Width,
+    center: &[u64; D],
+    ranking: &mut Ranking<D>,
+    queue: &mut BinaryHeap<Waiting>,
+) -> Result<(), NoMemory>
+    requires few { D ≤ 16 }
+    requires opened { IsOpened w D from.now }
+    requires last { IsNewest opened.now from.now }
+    requires sound { S.IsSound sums.now }
+    requires told { (addr : ℕ) → S.told sums.now addr ≡ gaps_above (shown from.now.node).level (corner_of (shown from.now.node).level addr from.now.known) center.now }
+    requires point { IsBody D w center.now }
+    requires ranking { IsRanking ranking.old }
+    requires order { IsHeap waiting_cmp (heap_items queue.old) }
+    requires waits { AreWaiting w (map (coordinate w) center.now) opened.now (heap_items queue.old) }
+    ensures n { ranking.new.n ≡ ranking.old.n }
+    ensures ranking { OnOk result (IsRanking ranking.new) }
+    ensures order { OnOk result (IsHeap waiting_cmp (heap_items queue.new)) }
+    ensures treated { OnOk result
+        (AreTreated w ranking.old.n (map (coordinate w) center.now) opened.now from.now
+        (heap_items ranking.old.rows) (heap_items ranking.new.rows) (heap_items queue.old) (heap_items queue.new)) }
+{
+    // Uses that make the range of the width and the number of entries known.
+    let (_bits, _count) = (w.bits(), from.node.len());
+    let at = opened.len() - 1;
     let mut place = 0;
-    while let Some(near) = next_near(from, &sums, place, ranking.limit()) {
+    while let Some(near) = next_near(from, sums, place, ranking.limit()) {
         treat(at, from, near, w, center, ranking, queue)?;
         place = near.spot.place + 1;
     }
@@ -144,21 +228,20 @@ fn keep<'t, const D: usize>(
 // An entry at or behind a place, before which none is within a limit. It is within it itself, but in few dimensions, where entries are
 // taken one after the other.
 #[inline(always)]
-fn next_near<'t, const D: usize>(
+fn next_near<'t, const D: usize, S: Distances<D>>(
     from: &Opened<'t, D>,
-    sums: &Sums<D>,
+    sums: &S,
     place: usize,
     limit: u128,
 ) -> Option<Near>
-    requires sums { AreSums sums.now }
-    ensures near { IfSome result (λ near. IsNear (told_by sums.now) (entries (shown from.now.node)) limit place near) }
-    ensures none { IfNone result (AreBeyond (told_by sums.now) (entries (shown from.now.node)) limit place (length (entries (shown from.now.node)))) }
+    requires sound { S.IsSound sums.now }
+    ensures near { IfSome result (λ near. IsNear (S.told sums.now) (entries (shown from.now.node)) limit place near) }
+    ensures none { IfNone result (AreBeyond (S.told sums.now) (entries (shown from.now.node)) limit place (length (entries (shown from.now.node)))) }
 {
-    match sums {
-        Sums::Direct(halves) if D <= DIRECT_DIMS => near_at(from, halves, place),
-        Sums::Direct(halves) => first_near(from, halves, place, limit),
-        Sums::Tabled(tables) => first_near(from, tables, place, limit),
+    if D <= DIRECT_DIMS {
+        return near_at(from, sums, place);
     }
+    first_near(from, sums, place, limit)
 }
 
 // The entry at a place.

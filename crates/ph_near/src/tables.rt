@@ -5,7 +5,8 @@ ghost use Rattle.ph_node.specs.Apart.{greatest_square};
 ghost use Rattle.ph_near.specs.Halves.{AreSmall};
 ghost use Rattle.ph_near.specs.Tables.{AreTabled, IsDoubled};
 
-use crate::halves::{Distances, Halves};
+use crate::distances::Distances;
+use crate::halves::Halves;
 
 // A table tells the sums of so many dimensions, the first one those of the last dimensions.
 const TABLE_DIMS: usize = 4;
@@ -23,9 +24,9 @@ pub(crate) struct Tables<const D: usize> {
 
 impl<const D: usize> Tables<D> {
     #[inline(always)]
-    pub(crate) fn new(halves: Halves<D>) -> Tables<D>
-        requires { AreSmall halves }
-        ensures halves { result.halves ≡ halves.entry }
+    pub(crate) fn new(halves: &Halves<D>) -> Tables<D>
+        requires { AreSmall halves.now }
+        ensures halves { result.halves ≡ halves.now }
         ensures tabled { AreTabled result }
     {
         let mut sums = [0; TABLES_LEN];
@@ -35,7 +36,10 @@ impl<const D: usize> Tables<D> {
             let i = D - 1 - place;
             double(&mut sums, start, count, halves.low[i], halves.high[i]);
         }
-        Tables { halves, sums }
+        Tables {
+            halves: *halves,
+            sums,
+        }
     }
 }
 

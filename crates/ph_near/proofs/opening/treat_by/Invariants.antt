@@ -7,7 +7,7 @@ use Rattle.ph_near.specs.Nearing.{IsKept}
 use Rattle.ph_near.specs.Opening.{opened_items, line_of, AreWaiting}
 use Rattle.ph_near.specs.Ranking.{IsRanking}
 use Rattle.ph_near.specs.Waiting.{waiting_cmp}
-use Rattle.ph_near.proofs.opening.open.Given as goal
+use Rattle.ph_near.proofs.opening.treat_by.Given as goal
 
 abbrev pub invariant-loop-near : goal.invariant-loop-near
 invariant-loop-near g l = record {
@@ -15,10 +15,10 @@ invariant-loop-near g l = record {
   n : l.ranking.n ≡ l.fn.ranking.n;
   ranking : IsRanking l.ranking;
   order : IsHeap waiting_cmp (heap_items l.queue);
-  waits : AreWaiting l.w (map (coordinate l.w) l.center) l.opened.items (heap_items l.queue);
+  waits : AreWaiting l.w (map (coordinate l.w) l.center) l.opened (heap_items l.queue);
   kept : IsKept l.w l.fn.ranking.n (map (coordinate l.w) l.center) (heap_items l.fn.ranking.rows)
-      (opened_items l.w l.from ++ line_of l.w l.fn.opened.items (heap_items l.fn.queue)) (heap_items l.ranking.rows)
-      (drop l.place (opened_items l.w l.from) ++ line_of l.w l.opened.items (heap_items l.queue));
+      (opened_items l.w l.from ++ line_of l.w l.opened (heap_items l.fn.queue)) (heap_items l.ranking.rows)
+      (drop l.place (opened_items l.w l.from) ++ line_of l.w l.opened (heap_items l.queue));
 }
 
 abbrev pub decreases-loop-near : goal.decreases-loop-near
