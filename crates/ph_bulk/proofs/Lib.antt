@@ -4,7 +4,7 @@ mod Codes
 mod Flats
 mod Sorted
 mod Lasts
-mod Made
+mod RecordNodes
 mod NodeParts
 mod Orders
 mod Parted

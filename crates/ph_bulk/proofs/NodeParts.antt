@@ -17,7 +17,7 @@ use Rattle.ph_bulk.specs.declared.parts.Part.{Part}
 use Rattle.ph_bulk.specs.Parts.{IsPart, rows_in, chain_of, entry_in, flat_in, is_ready, node_made}
 use Rattle.ph_bulk.proofs.Chains.{append-none, nodes-more, size-more, size-part, entry-at, children-more, nodes-children}
 use Rattle.ph_bulk.proofs.Flats.{no-child, one-child, child-lawful, child-held, written, all-ready}
-use Rattle.ph_bulk.proofs.Made.{some-there, rises, bottom, again}
+use Rattle.ph_bulk.proofs.RecordNodes.{some-there, rises, bottom, again}
 
 -- ---- all parts
 

@@ -10,7 +10,7 @@ use Rattle.ph_specs.specs.Shape.{shape}
 use Rattle.ph_specs.specs.Table.{Row, IsTable}
 use Rattle.ph_specs.specs.WorkSets.{all_nodes}
 use Rattle.ph_model.proofs.laws.TableShape.{table-shape}
-use Rattle.ph_tree.proofs.Compared.{length-nodes}
+use Rattle.ph_tree.proofs.NodeComparisons.{length-nodes}
 use Rattle.ph_shape.specs.Groups.{IsGroup}
 use Rattle.ph_shape.proofs.Made.{map-same}
 use Rattle.ph_shape.proofs.Steps.{table-group}

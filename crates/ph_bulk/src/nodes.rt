@@ -3,7 +3,7 @@ ghost use Rattle.std.specs.Prelude.{◌≡◌, ◌<◌, ◌≤◌, ◌+◌, [], 
 ghost use Rattle.std.specs.List.{AllByRecursion as Each};
 ghost use Rattle.ph_specs.specs.TreeNames.{count};
 ghost use Rattle.ph_model.specs.ModelNames.{IsLawfulFrom, node_size, nodes_in, child_nodes};
-ghost use Rattle.ph_node.specs.Slots.{nodes_of};
+ghost use Rattle.ph_node.specs.Children.{nodes_of};
 ghost use Rattle.ph_shape.specs.Groups.{IsGroup};
 ghost use Rattle.ph_bulk.specs.Parts.{IsPart, chain_of, node_made};
 
@@ -12,7 +12,7 @@ use crate::entries::PartsOf;
 use crate::parts::{Part, parts_of};
 use ph_bits::Block;
 use ph_coord::Width;
-use ph_node::{NodeOf, SlotOf};
+use ph_node::{ChildOf, NodeOf};
 use ph_shape::Space;
 use ph_steps::Steps;
 use std::alloc::Global;
@@ -60,7 +60,7 @@ fn put_children<P: Space, C: Ledger>(
     w: Width,
     place: u32,
     parts: &[Part<'_, P::Row>],
-    block: &mut Block<SlotOf<P>>,
+    block: &mut Block<ChildOf<P>>,
     changes: &mut Steps<C>,
 ) -> Result<(), NoMemory>
     requires some { 1 ≤ P.D }
@@ -81,7 +81,7 @@ fn put_children<P: Space, C: Ledger>(
             continue;
         };
         let node = node_of::<P, C>(alloc, w, level, part.rows, changes)?;
-        block.put_first(SlotOf { node });
+        block.put_first(ChildOf { node });
     }
     block.reverse();
     Ok(())

@@ -10,9 +10,9 @@ use Rattle.ph_specs.proofs.laws.Put.{either, find-put, same_from_test, test_from
 use Rattle.ph_specs.proofs.laws.Del.{find-del}
 use Rattle.ph_model.proofs.laws.Paths.{path-few}
 use Rattle.ph_undo.specs.Kept.{BackVisits}
-use Rattle.ph_undo.specs.Steps.{undone, undo_visits, IsChange}
-use Rattle.ph_undo.specs.declared.step.Step.{Step}
-use Rattle.ph_undo.specs.declared.step.Step.TheVariants.{Remove, Restore, Return}
+use Rattle.ph_undo.specs.Inverses.{undone, undo_visits, IsChange}
+use Rattle.ph_undo.specs.declared.inverse.Inverse.{Inverse}
+use Rattle.ph_undo.specs.declared.inverse.Inverse.TheVariants.{Remove, Restore, Return}
 use Rattle.ph_commands.proofs.Backward.{within-both}
 use Rattle.ph_commands.specs.Differing.{same_answer, rows_changed, visits_at, step_visits, back_visits}
 
@@ -188,7 +188,7 @@ moved : (w : ℕ) (t : List Row) (p q : List ℤ) (v : ℕ) → find t p ≡ Som
 moved w t p q v there free = ap (λ a. if is_some a then t else move_value w t p q (find t p)) free ∙ ap (move_value w t p q) there
 
 -- it visits at most what the tables tell
-pub step-few : {D : ℕ} (w : ℕ) (t : List Row) (s : Step D) → 1 ≤ w → IsTable w D t → IsChange t s → undo_visits w D t s ≤ step_visits w D t (undone w t s)
+pub step-few : {D : ℕ} (w : ℕ) (t : List Row) (s : Inverse D) → 1 ≤ w → IsTable w D t → IsChange t s → undo_visits w D t s ≤ step_visits w D t (undone w t s)
 step-few {D} w t (Remove p) some whole h =
     one-point w D t (del t p) p None (λ x. find-del w t p x (and_parts _ _ whole).0) (path-few w D t p some whole)
 step-few {D} w t (Restore p v) some whole h =
@@ -205,8 +205,8 @@ few-back : (w d : ℕ) (t : List Row) (past : List (List Row)) (v now_v : ℕ) �
 few-back w d t [] v now_v some whole h before rest e = absurd cc
 few-back w d t (u ∷ past) v now_v some whole h before rest e =
     let is : u ≡ before = ap (λ l. get_or l 0 u) e in
-    let few : undo_visits w d t h.step ≤ step_visits w d t (undone w t h.step) = step-few w t h.step some whole h.change in
-    let same : step_visits w d t (undone w t h.step) ≡ step_visits w d t before = ap (step_visits w d t) (h.leads ∙ is) in
+    let few : undo_visits w d t h.inverse ≤ step_visits w d t (undone w t h.inverse) = step-few w t h.inverse some whole h.change in
+    let same : step_visits w d t (undone w t h.inverse) ≡ step_visits w d t before = ap (step_visits w d t) (h.leads ∙ is) in
     omega (arith, h.few, few, same)
 
 -- ---- edits that are taken back one by one

@@ -3,7 +3,7 @@ pub mod SizeLines
 pub mod Listed
 pub mod Hits
 pub mod Asked
-pub mod Compared
+pub mod SlotComparisons
 pub mod Far
 pub mod Backward
 pub mod Differing

@@ -11,7 +11,7 @@ use std::sync::ledger::Ledger;
 /// What a command may touch beside its engine: where memory comes from, where replies and files go, how much is read, and the counters of
 /// the tree's work.
 ///
-/// All of it is borrowed. The text in which each reply is written lies in the desk itself, so that no reply takes memory.
+/// It borrows all of it but the allocator, and the text in which each reply is written: that lies in the desk itself, so that no reply takes memory.
 #[derive(Drop)]
 pub struct Desk<'d, O: Sink, F: Files, V: Ledger, C: Ledger> {
     pub alloc: Global,

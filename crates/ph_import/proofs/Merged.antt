@@ -11,7 +11,7 @@ use Rattle.ph_specs.specs.WorkSets.{all_nodes}
 use Rattle.ph_specs.proofs.laws.Points.{ArePoints, table-points}
 use Rattle.ph_model.specs.Combined.{combined}
 use Rattle.ph_model.proofs.laws.SetOperations.{union-combined}
-use Rattle.ph_tree.proofs.Compared.{length-nodes}
+use Rattle.ph_tree.proofs.NodeComparisons.{length-nodes}
 use Rattle.ph_tree.proofs.Sizes.{nodes-few}
 use Rattle.ph_import.specs.Imported.{most_visits}
 

@@ -17,8 +17,8 @@ use Rattle.ph_node.specs.Bodies.{IsBodyArray}
 use Rattle.ph_node.specs.Merge.{addr_at}
 use Rattle.ph_node.specs.OneEdit.{value_of, ones_of, held_nodes, nodes_held, flat_of, flats_of, before, held_by, IsOldEntry}
 use Rattle.ph_node.specs.Pairs.{below_flat, in_order, pair_flats}
-use Rattle.ph_node.specs.Slots.{nodes_of}
-use Rattle.ph_node.specs.declared.node.SlotOf.{SlotOf}
+use Rattle.ph_node.specs.Children.{nodes_of}
+use Rattle.ph_node.specs.declared.node.ChildOf.{ChildOf}
 use Rattle.ph_node.specs.Split.{IsBelow, body_at, entry_below, part_place, split_node}
 use Rattle.ph_node.specs.declared.olds.OldEntry.{OldEntry}
 use Rattle.ph_node.proofs.Contents.{changed, split-content, front_fits, own_nodes}
@@ -29,7 +29,7 @@ use Rattle.ph_node.proofs.Lists.{Renewed, rise_new, points_new, held-length}
 use Rattle.ph_node.proofs.NodeEdits.{length-changed}
 use Rattle.ph_node.proofs.PairLists.{length-order}
 use Rattle.ph_node.proofs.Spliced.{length-edited}
-use Rattle.ph_node.proofs.Slotted.{nodes-put, nodes-taken, place-left}
+use Rattle.ph_node.proofs.ChildLists.{nodes-put, nodes-taken, place-left}
 use Rattle.ph_node.proofs.OldNodes.{IsOld}
 use Rattle.ph_node.proofs.Parts.{AreApart, apart, apart-place, child-kept}
 
@@ -155,20 +155,20 @@ module _ (d : ℕ) (ws : List ℕ) (ns : List PlainNode) (t : PlainNode) (o : Is
 
 -- ---- the children
 
-module _ {P : Type 0} (d : ℕ) (ws : List ℕ) (ss : List (SlotOf P)) (t : PlainNode) (o : IsOld d ws (nodes_of ss) t)
-    (i : ℕ) (old : OldEntry) (r : IsOldEntry d t i old) (l : i < length (entries t)) (rs : List (SlotOf P)) (same : rs ≡ ss) where
+module _ {P : Type 0} (d : ℕ) (ws : List ℕ) (ss : List (ChildOf P)) (t : PlainNode) (o : IsOld d ws (nodes_of ss) t)
+    (i : ℕ) (old : OldEntry) (r : IsOldEntry d t i old) (l : i < length (entries t)) (rs : List (ChildOf P)) (same : rs ≡ ss) where
   fits : old.front + (if old.child then 1 else 0) ≤ length rs
-  fits = omega (arith, front_fits d ws (nodes_of ss) t o i l, r.front, r.kind, length-nodes ss, ap (λ (u : List (SlotOf P)). length u) same)
+  fits = omega (arith, front_fits d ws (nodes_of ss) t o i l, r.front, r.kind, length-nodes ss, ap (λ (u : List (ChildOf P)). length u) same)
 
   pub front_within : old.child ≡ true → old.front < length rs
   front_within h =
       let k : ◌≡◌ {A = ℕ} (if old.child then 1 else 0) 1 = ap {B = ℕ} (λ (b : Bool). if b then 1 else 0) h in
       omega (arith, fits, k)
 
-  pub place_left : (ls : List (SlotOf P)) → ls ≡ (if old.child then remove rs old.front else rs) → old.front ≤ length ls
-  place_left ls e = subst (λ (u : List (SlotOf P)). old.front ≤ length u) (sym e) (place-left old.child rs old.front fits)
+  pub place_left : (ls : List (ChildOf P)) → ls ≡ (if old.child then remove rs old.front else rs) → old.front ≤ length ls
+  place_left ls e = subst (λ (u : List (ChildOf P)). old.front ≤ length u) (sym e) (place-left old.child rs old.front fits)
 
-  pub kids_are : (ts : List (SlotOf P)) → ts ≡ (if old.child then take 1 (drop old.front rs) else []) → nodes_of ts ≡ held_nodes (what_at (entries t) i)
+  pub kids_are : (ts : List (ChildOf P)) → ts ≡ (if old.child then take 1 (drop old.front rs) else []) → nodes_of ts ≡ held_nodes (what_at (entries t) i)
   kids_are ts e =
       ap nodes_of e ∙ nodes-taken old.child rs old.front
       ∙ ap (λ n. take n (drop old.front (nodes_of rs))) (sym r.kind)
@@ -176,7 +176,7 @@ module _ {P : Type 0} (d : ℕ) (ws : List ℕ) (ss : List (SlotOf P)) (t : Plai
       ∙ ap (λ u. take (ones_of (what_at (entries t) i)) (drop (before (entries t) i) (nodes_of u))) same
       ∙ own_nodes d ws (nodes_of ss) t o i l
 
-  pub put_is : (ls vs : List (SlotOf P)) (s : SlotOf P) → ls ≡ (if old.child then remove rs old.front else rs) →
+  pub put_is : (ls vs : List (ChildOf P)) (s : ChildOf P) → ls ≡ (if old.child then remove rs old.front else rs) →
       vs ≡ insert ls old.front s → nodes_of vs ≡ nodes_with t i s.node (nodes_of ss)
   put_is ls vs s e f =
       ap nodes_of (f ∙ ap (λ u. insert u old.front s) e) ∙ nodes-put old.child rs old.front s fits

@@ -5,9 +5,9 @@ use Rattle.ph_model.specs.EntryEdits.{what_at, with_what}
 use Rattle.ph_specs.specs.Node.{PlainNode, Flat}
 use Rattle.ph_model.specs.EntryList.{Entry, What, value, node, entries}
 use Rattle.ph_node.specs.OneEdit.{value_of, ones_of, held_nodes, nodes_held, flat_of, flats_of, before}
-use Rattle.ph_node.specs.Slots.{nodes_of}
+use Rattle.ph_node.specs.Children.{nodes_of}
 use Rattle.ph_node.specs.Split.{IsNode}
-use Rattle.ph_node.specs.declared.node.SlotOf.{SlotOf}
+use Rattle.ph_node.specs.declared.node.ChildOf.{ChildOf}
 use Rattle.ph_node.proofs.Keeps.{still-what}
 use Rattle.ph_node.proofs.Lists.{Renewed}
 use Rattle.ph_node.proofs.OldNodes.{IsOld}
@@ -76,14 +76,14 @@ length-what [] i w = refl
 length-what (e ∷ es) zero w = refl
 length-what (e ∷ es) (suc i) w = ap suc (length-what es i w)
 
-nodes-set : {P : Type 0} (ss : List (SlotOf P)) (k : ℕ) (w : SlotOf P) → nodes_of (slice_set ss k w) ≡ slice_set (nodes_of ss) k w.node
+nodes-set : {P : Type 0} (ss : List (ChildOf P)) (k : ℕ) (w : ChildOf P) → nodes_of (slice_set ss k w) ≡ slice_set (nodes_of ss) k w.node
 nodes-set [] zero w = refl
 nodes-set [] (suc k) w = refl
 nodes-set (s ∷ ss) zero w = refl
 nodes-set (s ∷ ss) (suc k) w = ap (λ ts. s.node ∷ ts) (nodes-set ss k w)
 
-pub lent : {P : Type 0} (d : ℕ) (ws : List ℕ) (ss : List (SlotOf P)) (t : PlainNode) (o : IsOld d ws (nodes_of ss) t)
-    (i k : ℕ) (w : SlotOf P) → i < length (entries t) → IsNode (what_at (entries t) i) → k ≡ before (entries t) i
+pub lent : {P : Type 0} (d : ℕ) (ws : List ℕ) (ss : List (ChildOf P)) (t : PlainNode) (o : IsOld d ws (nodes_of ss) t)
+    (i k : ℕ) (w : ChildOf P) → i < length (entries t) → IsNode (what_at (entries t) i) → k ≡ before (entries t) i
     → Renewed d t.level (flats_of t) (nodes_of (slice_set ss k w)) (with_what (entries t) i (node w.node))
 lent d ws ss t o i k w l n q =
     let e : nodes_of (slice_set ss k w) ≡ slice_set (nodes_of ss) k w.node = nodes-set ss k w in

@@ -1,10 +1,10 @@
 -- Lemmas on nodes.
-pub mod Filled
+pub mod BodyArrays
 pub mod Lengths
 pub mod Marked
 pub mod Merges
-pub mod Standing
-pub mod Turned
+pub mod FoundSpots
+pub mod ReversedChildren
 mod Additions
 mod Addressed
 mod Assembled
@@ -20,7 +20,7 @@ mod Lent
 mod Lifts
 mod Listings
 mod Lists
-mod Made
+mod RecordNodes
 mod NodeEdits
 mod OldEdits
 mod OldNodes
@@ -33,7 +33,7 @@ mod Reading
 mod RecordEdits
 mod Removed
 mod Resized
-mod Slotted
+mod ChildLists
 mod Spliced
 mod ValuePlaces
 mod Valued

@@ -12,9 +12,9 @@ use Rattle.ph_model.proofs.laws.EntryLists.{listed-chained}
 use Rattle.ph_bits.specs.Edits.{edited}
 use Rattle.ph_node.specs.Merge.{IsPair, level_held, entries_held, addr_at, body_beside, merge_node}
 use Rattle.ph_node.specs.OneEdit.{value_of, ones_of, held_nodes, nodes_held, node_at, flats_of, before, held_by, IsOldEntry}
-use Rattle.ph_node.specs.Slots.{nodes_of}
+use Rattle.ph_node.specs.Children.{nodes_of}
 use Rattle.ph_node.specs.Split.{IsNode, IsValue, body_at}
-use Rattle.ph_node.specs.declared.node.SlotOf.{SlotOf}
+use Rattle.ph_node.specs.declared.node.ChildOf.{ChildOf}
 use Rattle.ph_node.specs.declared.olds.OldEntry.{OldEntry}
 use Rattle.ph_node.proofs.Contents.{changed, merged-content, node_in, front_fits}
 use Rattle.ph_node.proofs.Lent.{lent-is}
@@ -24,7 +24,7 @@ use Rattle.ph_bits.specs.Packed.{IsPadded}
 use Rattle.ph_node.proofs.NodeEdits.{length-changed}
 use Rattle.ph_node.proofs.Merges.{body-joined, joined, IsJoined}
 use Rattle.ph_node.proofs.OldNodes.{IsOld, node-one}
-use Rattle.ph_node.proofs.Slotted.{at-slot}
+use Rattle.ph_node.proofs.ChildLists.{at-child}
 use Rattle.ph_node.proofs.Spliced.{length-edited}
 use Rattle.ph_node.proofs.Valued.{none-held}
 
@@ -51,7 +51,7 @@ held-first (node n) = refl
 
 -- ---- the child
 
-module _ {P : Type 0} (d : ℕ) (ws : List ℕ) (ss : List (SlotOf P)) (t : PlainNode) (o : IsOld d ws (nodes_of ss) t)
+module _ {P : Type 0} (d : ℕ) (ws : List ℕ) (ss : List (ChildOf P)) (t : PlainNode) (o : IsOld d ws (nodes_of ss) t)
     (i : ℕ) (old : OldEntry) (r : IsOldEntry d t i old) (l : i < length (entries t))
     (p : IsPair t.level (body_at (entries t) i) (what_at (entries t) i)) where
   one-child : ones_of (what_at (entries t) i) ≡ 1
@@ -60,13 +60,13 @@ module _ {P : Type 0} (d : ℕ) (ws : List ℕ) (ss : List (SlotOf P)) (t : Plai
   pub front_in : old.front < length ss
   front_in = omega (arith, front_fits d ws (nodes_of ss) t o i l, r.front, one-child, length-nodes ss)
 
-  pub child_is : (s : SlotOf P) → s ≡ get_or ss old.front s → node s.node ≡ what_at (entries t) i
+  pub child_is : (s : ChildOf P) → s ≡ get_or ss old.front s → node s.node ≡ what_at (entries t) i
   child_is s e =
       lent-is (entries t) i s.node (pair-node (what_at (entries t) i) p.two)
       (get-nodes ss old.front s e ∙ ap (λ k. get_or (nodes_of ss) k s.node) r.front ∙ ap (λ u. get_or u (before (entries t) i) s.node) (sym o.nodes))
 
-  pub child_at : (s : SlotOf P) → s ≡ get_or ss old.front s → s.node ≡ node_at (nodes_of ss) old.front
-  child_at s e = at-slot ss old.front s front_in e
+  pub child_at : (s : ChildOf P) → s ≡ get_or ss old.front s → s.node ≡ node_at (nodes_of ss) old.front
+  child_at s e = at-child ss old.front s front_in e
 
 -- ---- the entry beside the point
 

@@ -17,8 +17,8 @@ use Rattle.ph_linear.specs.Linear.{kinds, addresses, bodies}
 use Rattle.ph_cube.proofs.Ranks.{length-entries}
 use Rattle.ph_node.specs.Kept.{AreKept}
 use Rattle.ph_node.specs.Recorded.{IsRecorded}
-use Rattle.ph_node.specs.Slots.{nodes_of}
-use Rattle.ph_node.specs.declared.node.SlotOf.{SlotOf}
+use Rattle.ph_node.specs.Children.{nodes_of}
+use Rattle.ph_node.specs.declared.node.ChildOf.{ChildOf}
 
 many-as : (cube : Bool) (d : ℕ) (ws : List ℕ) → IsRecord cube d ws → length (entries_as cube d ws) ≡ (first_in ws).entries
 many-as true d ws r = length-entries d ws r
@@ -90,11 +90,11 @@ child_filled (read_child a' b' ∷ es) vs (n ∷ ns) zero a b x h k l e = (
 child_filled (read_child a' b' ∷ es) vs (n ∷ ns) (suc i) a b x h k l e =
     let t = child_filled es vs ns i a b x (omega (arith, h)) k (omega (arith, l)) e in (omega (arith, t.0), t.1)
 
-pub length-nodes : {P : Type 0} (ss : List (SlotOf P)) → length (nodes_of ss) ≡ length ss
+pub length-nodes : {P : Type 0} (ss : List (ChildOf P)) → length (nodes_of ss) ≡ length ss
 length-nodes [] = refl
 length-nodes (s ∷ ss) = ap suc (length-nodes ss)
 
-pub get-nodes : {P : Type 0} (ss : List (SlotOf P)) (k : ℕ) (s : SlotOf P) → s ≡ get_or ss k s → s.node ≡ get_or (nodes_of ss) k s.node
+pub get-nodes : {P : Type 0} (ss : List (ChildOf P)) (k : ℕ) (s : ChildOf P) → s ≡ get_or ss k s → s.node ≡ get_or (nodes_of ss) k s.node
 get-nodes [] zero s e = refl
 get-nodes [] (suc k) s e = refl
 get-nodes (t ∷ ss) zero s e = ap (λ u. u.node) e

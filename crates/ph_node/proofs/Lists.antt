@@ -12,7 +12,7 @@ use Rattle.ph_model.proofs.laws.Unpacked.{child_nodes}
 use Rattle.ph_node.specs.Kept.{AreKept, IsKept}
 use Rattle.ph_node.specs.OneEdit.{value_of, ones_of, held_nodes, nodes_held, flat_of}
 use Rattle.ph_node.specs.Recorded.{IsRecorded}
-use Rattle.ph_node.proofs.Made.{kept-pack, again}
+use Rattle.ph_node.proofs.RecordNodes.{kept-pack, again}
 
 pub flat-map : (c : Entries) → flat c ≡ map flat_of (listed c)
 flat-map end = refl

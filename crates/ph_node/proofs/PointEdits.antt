@@ -27,7 +27,7 @@ use Rattle.ph_node.specs.declared.spots.Spot.{Spot}
 use Rattle.ph_node.proofs.Additions.{added, place_within}
 use Rattle.ph_node.proofs.Addressed.{place_absent, address_low, front_at, behind_at}
 use Rattle.ph_node.proofs.ChildTests.{kind-there}
-use Rattle.ph_node.proofs.Filled.{padded-filled}
+use Rattle.ph_node.proofs.BodyArrays.{padded-filled}
 use Rattle.ph_node.proofs.Listings.{count_is}
 use Rattle.ph_node.proofs.Lists.{rise_new, kept_new, seen_new}
 use Rattle.ph_node.proofs.NodeEdits.{record_edit, record_is}

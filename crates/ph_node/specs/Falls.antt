@@ -3,11 +3,11 @@ use Rattle.std.specs.Prelude.{List, [], ◌∷◌, ◌+◌, ◌≤◌}
 use Rattle.std.proofs.Common.{arith}
 use denote.Param.Weighed.{most}
 use Rattle.ph_model.specs.NodeSize.{node_size}
-use Rattle.ph_node.specs.Slots.{nodes_of}
+use Rattle.ph_node.specs.Children.{nodes_of}
 use Rattle.ph_coord.specs.declared.dims.Dims.{Ghosts}
-use Rattle.ph_node.specs.declared.node.SlotOf.{SlotOf}
-use Rattle.ph_node.specs.declared.node.NodeOf.TheDeep.{deep-SlotOf}
+use Rattle.ph_node.specs.declared.node.ChildOf.{ChildOf}
+use Rattle.ph_node.specs.declared.node.NodeOf.TheDeep.{deep-ChildOf}
 
-pub most_nodes : (P : Type 0) (ds : Ghosts P) (ss : List (SlotOf P)) → most (deep-SlotOf P ds) ss ≤ most (λ n. node_size n + 1) (nodes_of ss)
+pub most_nodes : (P : Type 0) (ds : Ghosts P) (ss : List (ChildOf P)) → most (deep-ChildOf P ds) ss ≤ most (λ n. node_size n + 1) (nodes_of ss)
 most_nodes P ds [] = omega arith
 most_nodes P ds (s ∷ ss) = omega (arith, most_nodes P ds ss)

@@ -10,7 +10,7 @@ pub mod Edits
 pub mod Falls
 pub mod Places
 pub mod Shown
-pub mod Slots
+pub mod Children
 pub mod Split
 pub mod Merge
 pub mod OneEdit

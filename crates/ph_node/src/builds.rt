@@ -5,7 +5,7 @@ ghost use Rattle.ph_specs.specs.RecordNames.{children as children_of, record_of,
 ghost use Rattle.ph_model.specs.ModelNames.{AreRising};
 ghost use Rattle.ph_node.specs.Recorded.{IsLaidOut};
 
-use crate::node::{NodeOf, SlotOf};
+use crate::node::{ChildOf, NodeOf};
 use crate::{NoMemory, records};
 use ph_bits::{Block, Entries};
 use ph_coord::Dims;
@@ -20,7 +20,7 @@ impl<P: Dims> NodeOf<P> {
         alloc: Global,
         level: u32,
         entries: &E,
-    ) -> Result<Block<SlotOf<P>>, NoMemory>
+    ) -> Result<Block<ChildOf<P>>, NoMemory>
         requires some { 1 ≤ P.D }
         requires few { P.D ≤ 16 }
         requires low { level ≤ 61 }

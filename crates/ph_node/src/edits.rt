@@ -7,7 +7,7 @@ ghost use Rattle.ph_node.specs.OneEdit.{before};
 ghost use Rattle.ph_node.specs.Split.{IsNode, IsValue};
 ghost use Rattle.ph_node.specs.Spots.{IsSpot};
 
-use crate::node::{NodeOf, SlotOf};
+use crate::node::{ChildOf, NodeOf};
 use crate::spots::Spot;
 use ph_coord::Dims;
 use ph_steps::Steps;
@@ -15,14 +15,14 @@ use std::sync::ledger::Ledger;
 
 impl<P: Dims> NodeOf<P> {
     ghost use Rattle.ph_node.specs.contracts.node.NodeOf.{the_row as node_row};
-    ghost use Rattle.ph_node.specs.contracts.node.SlotOf.{the_row as slot_row};
+    ghost use Rattle.ph_node.specs.contracts.node.ChildOf.{the_row as child_row};
 
     /// Lends the child of an entry for writing, by its place among the children. The node keeps all else.
-    pub fn child_mut(&mut self, spot: Spot, rank: usize) -> &mut SlotOf<P>
+    pub fn child_mut(&mut self, spot: Spot, rank: usize) -> &mut ChildOf<P>
         requires spot { IsSpot (entries self.old) spot }
         requires child { IsNode (what_at (entries self.old) spot.place) }
         requires rank { rank ≡ before (entries self.old) spot.place }
-        ensures* lends { sem 𝓛 (Lends (node_row P.row P.Dims) (slot_row P.row P.Dims) self.entry result (λ w. with_child self.old spot.place w.node)) }
+        ensures* lends { sem 𝓛 (Lends (node_row P.row P.Dims) (child_row P.row P.Dims) self.entry result (λ w. with_child self.old spot.place w.node)) }
         ensures shows { node result.now.node ≡ what_at (entries self.old) spot.place }
     {
         let _ = spot;

@@ -2,7 +2,7 @@
 //! point with a value, or a child that has the points with this address.
 //!
 //! The number of dimensions is a type, [`Dims`], since a type that leads back to itself takes no const
-//! parameter; [`Node`], [`NodeRef`], [`Entry`], [`What`] and [`Slot`] are the names at a number.
+//! parameter; [`Node`], [`NodeRef`], [`Entry`], [`What`] and [`Child`] are the names at a number.
 //! The level and the entries of a node are read through [`NodeOf::visit`] alone. Each call that edits a node counts its
 //! changes; that a node behind a `&mut` is swapped for another is not counted.
 #![tactic(auto)]
@@ -27,7 +27,7 @@ mod singles;
 mod splits;
 mod spots;
 
-pub use node::{Node, NodeOf, Slot, SlotOf};
+pub use node::{Child, ChildOf, Node, NodeOf};
 pub use ph_coord::{Dim, Dims};
 pub use reads::{Entry, EntryOf, NodeRef, NodeRefOf, What, WhatOf};
 pub use spots::Spot;

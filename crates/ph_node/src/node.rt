@@ -12,20 +12,20 @@ use std::marker::{Model, PhantomData};
 #[cycle(node)]
 #[derive(Drop)]
 pub struct NodeOf<P: Dims> {
-    pub(crate) block: Block<SlotOf<P>>,
+    pub(crate) block: Block<ChildOf<P>>,
     pub(crate) dims: PhantomData<P>,
 }
 
 /// The place of a child in its node.
 #[cycle(node)]
 #[derive(Drop)]
-pub struct SlotOf<P: Dims> {
+pub struct ChildOf<P: Dims> {
     pub node: NodeOf<P>,
 }
 
 pub type Node<const D: usize> = NodeOf<Dim<D>>;
 
-pub type Slot<const D: usize> = SlotOf<Dim<D>>;
+pub type Child<const D: usize> = ChildOf<Dim<D>>;
 
 impl<P: Dims> Model for NodeOf<P> {
     ghost use Rattle.ph_specs.specs.TreeNames.{PlainNode};
@@ -38,7 +38,7 @@ impl<P: Dims> Model for NodeOf<P> {
     ghost use Rattle.ph_specs.specs.RecordNames.{unpacked};
     ghost use Rattle.ph_model.specs.ModelNames.{node_size, falls};
     ghost use Rattle.ph_node.specs.Recorded.{IsRecorded};
-    ghost use Rattle.ph_node.specs.Slots.{nodes_of};
+    ghost use Rattle.ph_node.specs.Children.{nodes_of};
 
     ghost view = { λ a. unpacked P.D a.block.words (nodes_of a.block.values) };
 
@@ -53,16 +53,16 @@ impl<P: Dims> Model for NodeOf<P> {
     ghost size_decreases = { λ a h. omega (arith, most_nodes P P.Dims a.block.values, falls P.D a.block.words (nodes_of a.block.values) h.packed.whole) };
 }
 
-impl<P: Dims> SlotOf<P> {
+impl<P: Dims> ChildOf<P> {
     ghost use Rattle.std.specs.Prelude.{◌≡◌};
     ghost use Rattle.std.specs.Borrow.{Lends, sem};
     ghost use Rattle.ph_node.specs.contracts.node.NodeOf.{the_row as node_row};
-    ghost use Rattle.ph_node.specs.contracts.node.SlotOf.{the_row as slot_row};
-    ghost use Rattle.ph_node.specs.Slots.{in_slot};
+    ghost use Rattle.ph_node.specs.contracts.node.ChildOf.{the_row as child_row};
+    ghost use Rattle.ph_node.specs.Children.{in_child};
 
     /// Lends the child for writing.
     pub fn node_mut(&mut self) -> &mut NodeOf<P>
-        ensures* lends { sem 𝓛 (Lends (slot_row P.row P.Dims) (node_row P.row P.Dims) self.entry result in_slot) }
+        ensures* lends { sem 𝓛 (Lends (child_row P.row P.Dims) (node_row P.row P.Dims) self.entry result in_child) }
         ensures shows { result.now ≡ self.old.node }
     {
         &mut self.node

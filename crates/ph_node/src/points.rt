@@ -10,7 +10,7 @@ ghost use Rattle.ph_node.specs.Relaid.{is_relaid};
 ghost use Rattle.ph_node.specs.Rooms.{IsFitting, IsRoomFor, IsUsed, places_of};
 
 use crate::moves::{give_back, make_room, move_into};
-use crate::node::SlotOf;
+use crate::node::ChildOf;
 use crate::spots::Spot;
 use crate::{NoMemory, records, rewrites};
 use ph_bits::{Block, Edit, Packed, Words};
@@ -60,7 +60,7 @@ pub(crate) fn less_edit(spot: Spot) -> Edit
 /// Takes memory only where the layout changes or the block has too few spare places, before the first change. Without it nothing has
 /// changed.
 #[inline(always)]
-pub(crate) fn add_point<P: Dims>(block: &mut Block<SlotOf<P>>, edit: &Edit) -> Result<(), NoMemory>
+pub(crate) fn add_point<P: Dims>(block: &mut Block<ChildOf<P>>, edit: &Edit) -> Result<(), NoMemory>
     requires { IsNewPoint P.D block.old.words (length block.old.values) edit.now }
     ensures put { IsPointPut P.D block.old edit.now result block.new }
     ensures room { IsRoomFor P.D block.old edit.now result block.new }
@@ -77,7 +77,7 @@ pub(crate) fn add_point<P: Dims>(block: &mut Block<SlotOf<P>>, edit: &Edit) -> R
 
 // Puts the point in where the record lies.
 #[inline(always)]
-fn add_there<P: Dims>(block: &mut Block<SlotOf<P>>, edit: &Edit) -> Result<(), NoMemory>
+fn add_there<P: Dims>(block: &mut Block<ChildOf<P>>, edit: &Edit) -> Result<(), NoMemory>
     requires new { IsNewPoint P.D block.old.words (length block.old.values) edit.now }
     requires layout { is_cube P.D (first_in block.old.words).level (length (with_edit P.D block.old.words edit.now))
         ≡ has_cube P.D (first_in block.old.words) }
@@ -93,7 +93,7 @@ fn add_there<P: Dims>(block: &mut Block<SlotOf<P>>, edit: &Edit) -> Result<(), N
 
 /// Lays the record with the point out in another block.
 #[inline(never)]
-pub(crate) fn add_anew<P: Dims>(block: &mut Block<SlotOf<P>>, edit: &Edit) -> Result<(), NoMemory>
+pub(crate) fn add_anew<P: Dims>(block: &mut Block<ChildOf<P>>, edit: &Edit) -> Result<(), NoMemory>
     requires { IsNewPoint P.D block.old.words (length block.old.values) edit.now }
     ensures put { IsPointPut P.D block.old edit.now result block.new }
     ensures most { OnOk result (IsFitting P.D block.old edit.now block.new) }
@@ -107,7 +107,7 @@ pub(crate) fn add_anew<P: Dims>(block: &mut Block<SlotOf<P>>, edit: &Edit) -> Re
 
 // How many words the record has with the point.
 #[inline(always)]
-fn length_with<P: Dims>(block: &Block<SlotOf<P>>, edit: &Edit) -> usize
+fn length_with<P: Dims>(block: &Block<ChildOf<P>>, edit: &Edit) -> usize
     requires { IsNewPoint P.D block.now.words (length block.now.values) edit.now }
     ensures value { result ≡ words_with P.D block.now.words edit.now }
     ensures limit { result + length block.now.values ≤ 2 ^ 20 + 2 ^ 16 }
@@ -126,7 +126,7 @@ fn length_with<P: Dims>(block: &Block<SlotOf<P>>, edit: &Edit) -> usize
 /// so: the point is out.
 #[inline(always)]
 pub(crate) fn take_point<P: Dims>(
-    block: &mut Block<SlotOf<P>>,
+    block: &mut Block<ChildOf<P>>,
     edit: &Edit,
     spare: Option<Words>,
 ) -> Result<(), NoMemory>
@@ -156,7 +156,7 @@ pub(crate) fn take_point<P: Dims>(
 
 /// Lays the record with the edit out in other words, and moves the children behind it.
 #[inline(never)]
-pub(crate) fn lay_out<P: Dims>(block: &mut Block<SlotOf<P>>, edit: &Edit, words: Words)
+pub(crate) fn lay_out<P: Dims>(block: &mut Block<ChildOf<P>>, edit: &Edit, words: Words)
     requires edit { IsRecordEdit P.D block.old.words edit.now }
     requires room { words_with P.D block.old.words edit.now + length block.old.values ≤ room_of words }
     ensures words { block.new.words ≡ record_with P.D block.old.words edit.now }

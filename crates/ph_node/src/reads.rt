@@ -12,13 +12,13 @@ ghost use Rattle.ph_node.specs.Kept.{IsNodeOf};
 ghost use Rattle.ph_node.specs.Kinds.{is_node};
 ghost use Rattle.ph_node.specs.Places.{place_for};
 ghost use Rattle.ph_node.specs.Shown.{shown, entry_of, what_of};
-ghost use Rattle.ph_node.specs.Slots.{nodes_of};
+ghost use Rattle.ph_node.specs.Children.{nodes_of};
 ghost use Rattle.ph_node.specs.OneEdit.{before};
 ghost use Rattle.ph_node.specs.Relaid.{is_relaid};
 ghost use Rattle.ph_node.specs.Split.{IsNode, body_at};
 ghost use Rattle.ph_node.specs.Spots.{IsSpot, joined_digits};
 
-use crate::node::{NodeOf, SlotOf};
+use crate::node::{ChildOf, NodeOf};
 use crate::records;
 use crate::spots::Spot;
 use ph_bits::{is_row, is_row_between, join_address, join_row, row, row_distance};
@@ -182,8 +182,8 @@ impl<'t, P: Dims> NodeRefOf<'t, NodeOf<P>> {
         let dims = P::D;
         let (child, rank) = records::ranked(words, dims, spot);
         if child {
-            let slot = node.block.value(rank);
-            (rank, WhatOf::Child(&slot.node))
+            let held = node.block.value(rank);
+            (rank, WhatOf::Child(&held.node))
         } else {
             (rank, WhatOf::Value(records::value(words, dims, rank)))
         }
@@ -306,7 +306,7 @@ impl<'t, P: Dims> NodeRefOf<'t, NodeOf<P>> {
 
     /// The children, in the order of their addresses.
     #[inline(always)]
-    pub fn children(&self) -> &'t [SlotOf<P>]
+    pub fn children(&self) -> &'t [ChildOf<P>]
         ensures { nodes_of result.now ≡ child_nodes (shown self.now).chain }
     {
         let node = self.node;

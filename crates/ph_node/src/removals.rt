@@ -10,9 +10,9 @@ ghost use Rattle.ph_bits.specs.Edits.{edited};
 ghost use Rattle.ph_node.specs.Merge.{IsPair, entries_held, merge_node};
 ghost use Rattle.ph_node.specs.OneEdit.{IsOldEntry, node_at, nodes_held};
 ghost use Rattle.ph_node.specs.Relaid.{is_relaid};
-ghost use Rattle.ph_node.specs.Slots.{nodes_of};
+ghost use Rattle.ph_node.specs.Children.{nodes_of};
 
-use crate::node::{NodeOf, SlotOf};
+use crate::node::{ChildOf, NodeOf};
 use crate::olds::OldEntry;
 use crate::points::{less_edit, take_point};
 use crate::rewrites;
@@ -60,8 +60,8 @@ impl<P: Dims> NodeOf<P> {
         ensures cost { changes.new ≡ changes.old + 2 }
     {
         let old = self.old_entry(spot);
-        let slot = self.block.value(old.front);
-        let child = &slot.node;
+        let held = self.block.value(old.front);
+        let child = &held.node;
         let other = child.entry_beside(j);
         let mut body = old.body;
         join(
@@ -100,7 +100,7 @@ impl<P: Dims> NodeOf<P> {
 }
 
 // Lets the node at a place go. Its one child takes the place, where it has one, and else there is a spare place more.
-fn lift_child<P: Dims>(block: &mut Block<SlotOf<P>>, k: usize, child: bool)
+fn lift_child<P: Dims>(block: &mut Block<ChildOf<P>>, k: usize, child: bool)
     requires within { k < length block.old.values }
     requires one { child ≡ true → length (nodes_held (entries (node_at (nodes_of block.old.values) k))) ≡ 1 }
     ensures nodes { nodes_of block.new.values
@@ -110,14 +110,14 @@ fn lift_child<P: Dims>(block: &mut Block<SlotOf<P>>, k: usize, child: bool)
     ensures words { block.new.words ≡ block.old.words }
     ensures spare { child ≡ false → 0 < block.new.spare }
 {
-    let SlotOf { node } = block.remove(k);
+    let ChildOf { node } = block.remove(k);
     if child {
         block.insert(k, only_child(node));
     }
 }
 
 // The child of a node that has one.
-fn only_child<P: Dims>(node: NodeOf<P>) -> SlotOf<P>
+fn only_child<P: Dims>(node: NodeOf<P>) -> ChildOf<P>
     requires { length (nodes_held (entries node)) ≡ 1 }
     ensures { result.node ≡ node_at (nodes_held (entries node)) 0 }
 {

@@ -8,7 +8,7 @@ ghost use Rattle.ph_node.specs.Split.{IsBelow, body_at, part_place, split_node};
 ghost use Rattle.ph_node.specs.Spots.{IsSpot};
 
 use crate::moves::take_child;
-use crate::node::{NodeOf, SlotOf};
+use crate::node::{ChildOf, NodeOf};
 use crate::pairs::pair_below;
 use crate::spots::Spot;
 use crate::{NoMemory, rewrites};
@@ -67,7 +67,7 @@ impl<P: Dims> NodeOf<P> {
             block: below,
             dims: PhantomData,
         };
-        self.block.insert(old.front, SlotOf { node });
+        self.block.insert(old.front, ChildOf { node });
         Ok(())
     }
 }

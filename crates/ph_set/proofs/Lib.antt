@@ -5,7 +5,7 @@ mod Missed
 mod Spent
 mod Taking
 mod Rooms
-mod Turned
+mod LeftOrRight
 mod Walking
 mod Joining
 mod Descending

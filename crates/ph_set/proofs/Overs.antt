@@ -23,7 +23,7 @@ use Rattle.ph_set.proofs.Descending.{rising, over-rows, over-front, over-back, o
 use Rattle.ph_set.proofs.Parting.{IsRowAt, part-at, part-some}
 use Rattle.ph_set.proofs.Missed.{part-missed}
 use Rattle.ph_set.proofs.Sights.{AreMissed}
-use Rattle.ph_set.proofs.Turned.{beside-none, sandwich}
+use Rattle.ph_set.proofs.LeftOrRight.{beside-none, sandwich}
 use Rattle.ph_set.proofs.Walking.{entry_at, entry-there, new-digits, new-held, IsCut, cut-place}
 use Rattle.ph_set.proofs.Meetings.{body-number}
 

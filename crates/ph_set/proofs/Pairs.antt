@@ -19,7 +19,7 @@ use Rattle.ph_set.specs.declared.side.SideOf.{SideOf}
 use Rattle.ph_set.specs.Parts.{IsPart, openings, part_rows, part_nodes, rows_on, nodes_on, stretch_rows, stretch_nodes, behind}
 use Rattle.ph_model.proofs.laws.Combined.{combined-split}
 use Rattle.ph_set.proofs.Descending.{rising, next-behind, passed-rows, passed-first, passed-work, passed-other, both-rows, both-work, theirs-first}
-use Rattle.ph_set.proofs.Turned.{passed-front}
+use Rattle.ph_set.proofs.LeftOrRight.{passed-front}
 use Rattle.ph_set.proofs.Walking.{entry_at, new-digits, new-held, IsNext, next-place}
 
 -- two spots of nodes that are gone through side by side

@@ -4,7 +4,7 @@ pub mod Meeting
 pub mod Parts
 pub mod Sides
 pub mod Operations
-pub mod Made
+pub mod ResultTrees
 pub mod Visited
 pub mod Sinks
 pub mod SinkLaws

@@ -2,7 +2,7 @@
 ghost use Rattle.std.specs.Prelude.{◌≡◌, ◌+◌, ◌≤◌, ◌<◌, length, IfOk, IsErrOf};
 ghost use Rattle.ph_specs.specs.TableNames.{union as union_of, common as common_of, minus as minus_of, IsTable};
 ghost use Rattle.ph_specs.specs.WorkNames.{all_nodes, touch};
-ghost use Rattle.ph_set.specs.Made.{IsMade};
+ghost use Rattle.ph_set.specs.ResultTrees.{IsMade};
 ghost use Rattle.ph_set.specs.Operations.{rows_of, visits_of};
 ghost use Rattle.ph_set.specs.Visited.{Visits};
 

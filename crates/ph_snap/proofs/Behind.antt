@@ -13,7 +13,7 @@ use Rattle.ph_model.proofs.laws.WordDigits.{digits-below}
 use Rattle.ph_bits.specs.Fields.{digits_row}
 use Rattle.ph_digits.proofs.Cuts.{above-zeros}
 use Rattle.ph_node.proofs.Merges.{body-joined}
-use Rattle.ph_snap.specs.Standing.{IsJoined}
+use Rattle.ph_snap.specs.RecordPlaces.{IsJoined}
 use Rattle.ph_snap.proofs.Fields.{length-row}
 
 known-zeros : (level : ℕ) (digits : List ℕ) → has_zeros_from level digits ≡ true → HasZerosFrom level digits

@@ -12,12 +12,12 @@ use Rattle.ph_specs.specs.Record.{entries_in}
 use Rattle.ph_linear.proofs.Ranks.{many}
 use Rattle.ph_cube.proofs.Ranks.{length-entries}
 use Rattle.ph_node.specs.Recorded.{IsLaidOut}
-use Rattle.ph_snap.specs.declared.form.Form.{Form}
+use Rattle.ph_snap.specs.declared.row_format.RowFormat.{RowFormat}
 use Rattle.ph_snap.specs.declared.places.Place.{Place}
 use Rattle.ph_snap.specs.declared.places.Place.TheVariants.{Root, Under}
-use Rattle.ph_snap.specs.Forms.{IsForm}
+use Rattle.ph_snap.specs.RowFormats.{IsRowFormat}
 use Rattle.ph_snap.specs.Frames.{IsFramed}
-use Rattle.ph_snap.specs.Standing.{place_of, ceiling, IsStanding}
+use Rattle.ph_snap.specs.RecordPlaces.{place_of, ceiling, IsStanding}
 use Rattle.ph_specs.specs.Digits.{words_for}
 use Rattle.ph_specs.specs.Load.{next_first, next_record, words_in}
 use Rattle.ph_snap.specs.declared.first.First.{First as First'}
@@ -38,32 +38,32 @@ no-children level children h e = grind (arith, nat_tests)
 bottom : (width dims : ℕ) (p : Stand) (f : First) → first_fits width dims p f ≡ true → f.level ≡ 0 → f.children ≡ 0
 bottom width dims p f h = no-children f.level f.children (and_parts _ _ (and_parts _ _ (and_parts _ _ (and_parts _ _ h).0).0).1).1
 
-module _ (form : Form) (place : Place) (k : IsForm form) (s : IsStanding form.width form.dims place) where
+module _ (format : RowFormat) (place : Place) (k : IsRowFormat format) (s : IsStanding format.width format.dims place) where
   abbrev p : Stand
-  p = place_of form.dims place
+  p = place_of format.dims place
 
-  module _ (f : First) (h : first_fits form.width form.dims (place_of form.dims place) f ≡ true) where
-    pub low : f.level < ceiling form.width (place_of form.dims place)
+  module _ (f : First) (h : first_fits format.width format.dims (place_of format.dims place) f ≡ true) where
+    pub low : f.level < ceiling format.width (place_of format.dims place)
     low =
-        level-below form.width p f.level k.narrow (first-facts form.width form.dims p f h).at_level
+        level-below format.width p f.level k.narrow (first-facts format.width format.dims p f h).at_level
 
     pub lower : f.level ≤ 61
-    lower = omega (arith, low, under-ceiling form.width form.dims place s, k.wide)
+    lower = omega (arith, low, under-ceiling format.width format.dims place s, k.wide)
 
-    pub at_most : f.entries ≤ 2 ^ form.dims
-    at_most = (first-facts form.width form.dims p f h).most
+    pub at_most : f.entries ≤ 2 ^ format.dims
+    at_most = (first-facts format.width format.dims p f h).most
 
     pub few : f.children ≤ f.entries
-    few = (first-facts form.width form.dims p f h).few
+    few = (first-facts format.width format.dims p f h).few
 
-    pub clear : has_zeros_from f.level (known form.dims (place_of form.dims place)) ≡ true
-    clear = (first-facts form.width form.dims p f h).zeros
+    pub clear : has_zeros_from f.level (known format.dims (place_of format.dims place)) ≡ true
+    clear = (first-facts format.width format.dims p f h).zeros
 
-  pub framed : (words : List ℕ) → first_fits form.width form.dims (place_of form.dims place) (first_in words) ≡ true →
-      length words ≡ record_words form.dims (first_in words) → IsFramed form.dims words
+  pub framed : (words : List ℕ) → first_fits format.width format.dims (place_of format.dims place) (first_in words) ≡ true →
+      length words ≡ record_words format.dims (first_in words) → IsFramed format.dims words
   framed words h l =
       let f : First = first_in words in
-      let i : IsFirst form.width form.dims p (first_in words) = first-facts form.width form.dims p f h in
+      let i : IsFirst format.width format.dims p (first_in words) = first-facts format.width format.dims p f h in
       record {
         some = k.some;
         few = k.few;
@@ -71,7 +71,7 @@ module _ (form : Form) (place : Place) (k : IsForm form) (s : IsStanding form.wi
         least = omega (arith, i.least, some-entries p);
         most = i.most;
         kids = i.few;
-        bottom = bottom form.width form.dims p f h;
+        bottom = bottom format.width format.dims p f h;
         told = i.in_layout;
         long = l;
       }
@@ -91,24 +91,24 @@ long-as dims words t e h =
     subst (λ s. 1 + words_for (digits_as s dims (first_in words)) ≤ length words) e (omega (arith, h.long))
 
 -- words whose first word was read, and keeps its rules where they stand
-pub record IsFramedAt (form : Form) (place : Place) (first : First') (words : List ℕ) : Type 0 where
-  pub framed : IsFramed form.dims words
+pub record IsFramedAt (format : RowFormat) (place : Place) (first : First') (words : List ℕ) : Type 0 where
+  pub framed : IsFramed format.dims words
   pub same : said_by first ≡ first_in words
-  pub clear : has_zeros_from (first_in words).level (known form.dims (place_of form.dims place)) ≡ true
-  pub low : (first_in words).level < ceiling form.width (place_of form.dims place)
+  pub clear : has_zeros_from (first_in words).level (known format.dims (place_of format.dims place)) ≡ true
+  pub low : (first_in words).level < ceiling format.width (place_of format.dims place)
 
-pub framed-at : (form : Form) (place : Place) (rest : List ℕ) {words : List ℕ} {first : First'} {n : ℕ} → IsForm form → IsStanding form.width form.dims place →
-    said_by first ≡ next_first rest → n ≡ record_words form.dims (said_by first) → words ≡ words_in n rest →
-    true ≡ first_fits form.width form.dims (place_of form.dims place) (said_by first) → IsFramedAt form place first words
-framed-at form place rest {words} {first} k s f l w h =
-    let record_is : words ≡ next_record form.dims rest = w ∙ ap (λ n. words_in n rest) (l ∙ ap (record_words form.dims) f) in
-    let same : said_by first ≡ first_in words = f ∙ sym (next-first form.dims rest) ∙ ap first_in (sym record_is) in
-    let fits : first_fits form.width form.dims (place_of form.dims place) (first_in words) ≡ true =
-    sym (h ∙ ap (first_fits form.width form.dims (place_of form.dims place)) same) in
+pub framed-at : (format : RowFormat) (place : Place) (rest : List ℕ) {words : List ℕ} {first : First'} {n : ℕ} → IsRowFormat format → IsStanding format.width format.dims place →
+    said_by first ≡ next_first rest → n ≡ record_words format.dims (said_by first) → words ≡ words_in n rest →
+    true ≡ first_fits format.width format.dims (place_of format.dims place) (said_by first) → IsFramedAt format place first words
+framed-at format place rest {words} {first} k s f l w h =
+    let record_is : words ≡ next_record format.dims rest = w ∙ ap (λ n. words_in n rest) (l ∙ ap (record_words format.dims) f) in
+    let same : said_by first ≡ first_in words = f ∙ sym (next-first format.dims rest) ∙ ap first_in (sym record_is) in
+    let fits : first_fits format.width format.dims (place_of format.dims place) (first_in words) ≡ true =
+    sym (h ∙ ap (first_fits format.width format.dims (place_of format.dims place)) same) in
     record {
-      framed = framed form place k s words fits
-          (ap length record_is ∙ words-many form.dims rest ∙ ap (record_words form.dims) (sym f ∙ same));
+      framed = framed format place k s words fits
+          (ap length record_is ∙ words-many format.dims rest ∙ ap (record_words format.dims) (sym f ∙ same));
       same = same;
-      clear = clear form place k s (first_in words) fits;
-      low = low form place k s (first_in words) fits;
+      clear = clear format place k s (first_in words) fits;
+      low = low format place k s (first_in words) fits;
     }

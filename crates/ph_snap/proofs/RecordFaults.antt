@@ -15,7 +15,7 @@ use Rattle.ph_model.proofs.lemmas.ByteWords.{length-bytes, length-words_in}
 use Rattle.ph_model.proofs.lemmas.Counted.{kids}
 use Rattle.ph_model.proofs.laws.RecordAgain.{entries-count}
 use Rattle.ph_snap.specs.Faults.{fault_of, IsGiven, IsLoadFault, faults, HaveFault, HaveNone}
-use Rattle.ph_snap.specs.Standing.{ceiling}
+use Rattle.ph_snap.specs.RecordPlaces.{ceiling}
 use Rattle.ph_snap.specs.declared.fault.LoadFault.{LoadFault}
 
 -- ---- one record with no fault

@@ -13,7 +13,7 @@ use Rattle.ph_specs.specs.Snapshot.{packs}
 use Rattle.ph_model.proofs.lemmas.ByteWords.{bytes-append, length-bytes}
 use Rattle.ph_model.proofs.laws.OneToOne.{packs-append}
 use Rattle.ph_specs.proofs.laws.Ranked.{take-all}
-use Rattle.ph_node.specs.declared.node.SlotOf.{SlotOf}
+use Rattle.ph_node.specs.declared.node.ChildOf.{ChildOf}
 use Rattle.ph_tree.proofs.Sizes.{trees, trees-more}
 use Rattle.ph_snap.specs.Saving.{saved, Passed, VisitsAll}
 use Rattle.ph_snap.proofs.Passing.{front-more, passed-both, passed-front}
@@ -55,8 +55,8 @@ module _ (dims : ℕ) (n : PlainNode) (words : List ℕ) (e : words ≡ pack dim
 
 -- ---- the nodes below a node
 
-module _ (dims : ℕ) (n : PlainNode) {P : Type 0} (ss : List (SlotOf P)) (i : ℕ) where
-  module _ (s : SlotOf P) (l : i < length ss) (e : s ≡ get_or ss i s) where
+module _ (dims : ℕ) (n : PlainNode) {P : Type 0} (ss : List (ChildOf P)) (i : ℕ) where
+  module _ (s : ChildOf P) (l : i < length ss) (e : s ≡ get_or ss i s) where
     pub child-passed : (a b c : Taken) (u v w : List ℕ) → Passed a u b v (saved dims (n ∷ trees (take i ss))) →
         Passed b v c w (saved dims (nodes (Some s.node))) → Passed a u c w (saved dims (n ∷ trees (take (i + 1) ss)))
     child-passed a b c u v w h k =

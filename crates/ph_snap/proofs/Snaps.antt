@@ -12,7 +12,7 @@ use Rattle.ph_specs.specs.Snapshot.{snap, kind_byte, magic, root_byte, records}
 use Rattle.ph_specs.specs.Table.{Row, IsTable}
 use Rattle.ph_specs.specs.WorkSets.{all_nodes}
 use Rattle.ph_model.proofs.laws.OneToOne.{snap-one}
-use Rattle.ph_tree.proofs.Compared.{length-nodes}
+use Rattle.ph_tree.proofs.NodeComparisons.{length-nodes}
 use Rattle.ph_snap.specs.Saving.{saved, Passed}
 use Rattle.ph_snap.proofs.Passing.{passed-both, passed-front, passed-given}
 

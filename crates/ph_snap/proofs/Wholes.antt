@@ -17,7 +17,7 @@ use Rattle.ph_specs.specs.Table.{Row, IsTable}
 use Rattle.ph_specs.specs.WorkSets.{all_nodes}
 use Rattle.ph_model.proofs.laws.Snapshots.{snapshot-from_none, tree-from_snapshot, read-from_snapshot, table-from_snapshot}
 use Rattle.ph_model.proofs.laws.TableShape.{table-shape}
-use Rattle.ph_tree.proofs.Compared.{length-nodes}
+use Rattle.ph_tree.proofs.NodeComparisons.{length-nodes}
 use Rattle.ph_snap.specs.Faults.{IsLoadFault, faults, HaveFault, HaveNone}
 use Rattle.ph_snap.specs.Reads.{ReadAs}
 use Rattle.ph_snap.specs.declared.fault.LoadFault.{LoadFault}

@@ -4,7 +4,7 @@ pub mod Headers
 pub mod Saving
 pub mod Reads
 pub mod LoadedNodes
-pub mod Standing
+pub mod RecordPlaces
 pub mod Frames
 pub mod Columns
-pub mod Forms
+pub mod RowFormats

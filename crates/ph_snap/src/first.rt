@@ -3,12 +3,12 @@
 ghost use Rattle.std.specs.Prelude.{◌≡◌, ◌+◌, ◌*◌, ◌^◌, ◌<◌, ◌≤◌, ◌==◌, ◌&&◌, ◌||◌, nat_le, nat_lt, false};
 ghost use Rattle.ph_specs.specs.RecordNames.{first_fits as the_first_fits, level_fits as the_level_fits, least_entries, known, has_zeros_from, is_cube, layout};
 ghost use Rattle.ph_specs.specs.RecordNames.{first_of, has_cube, table_digits, record_words};
-ghost use Rattle.ph_snap.specs.Forms.{IsForm};
+ghost use Rattle.ph_snap.specs.RowFormats.{IsRowFormat};
 ghost use Rattle.ph_snap.specs.Frames.{said_by};
-ghost use Rattle.ph_snap.specs.Standing.{place_of, IsStanding};
+ghost use Rattle.ph_snap.specs.RecordPlaces.{place_of, IsStanding};
 
-use crate::form::Form;
 use crate::places::Place;
+use crate::row_format::RowFormat;
 use ph_cube::by_dims as cube;
 use ph_digits::digits_below;
 use ph_linear::by_dims as linear;
@@ -36,15 +36,15 @@ impl First {
     }
 
     /// Whether a record at a place may begin with it.
-    pub(crate) fn fits(&self, form: &Form, place: &Place) -> bool
-        requires form { IsForm form.now }
-        requires standing { IsStanding form.now.width form.now.dims place.now }
-        ensures { result ≡ the_first_fits form.now.width form.now.dims (place_of form.now.dims place.now) (said_by self.now) }
+    pub(crate) fn fits(&self, format: &RowFormat, place: &Place) -> bool
+        requires format { IsRowFormat format.now }
+        requires standing { IsStanding format.now.width format.now.dims place.now }
+        ensures { result ≡ the_first_fits format.now.width format.now.dims (place_of format.now.dims place.now) (said_by self.now) }
     {
-        if !self.level_fits(form, place) || !self.entries_fit(form, place) {
+        if !self.level_fits(format, place) || !self.entries_fit(format, place) {
             return false;
         }
-        self.children_fit() && self.layout_fits(form.dims) && self.ends_known(form, place)
+        self.children_fit() && self.layout_fits(format.dims) && self.ends_known(format, place)
     }
 
     /// How many words the record has.
@@ -75,21 +75,21 @@ impl First {
     }
 
     // Whether its level is the highest, or that of a node below the one that the place is in.
-    fn level_fits(&self, form: &Form, place: &Place) -> bool
-        requires form { IsForm form.now }
-        ensures { result ≡ the_level_fits form.now.width (place_of form.now.dims place.now) self.now.level }
+    fn level_fits(&self, format: &RowFormat, place: &Place) -> bool
+        requires format { IsRowFormat format.now }
+        ensures { result ≡ the_level_fits format.now.width (place_of format.now.dims place.now) self.now.level }
     {
         match place {
-            Place::Root => self.level == form.width - 1,
+            Place::Root => self.level == format.width - 1,
             Place::Under { level, .. } => self.level < *level,
         }
     }
 
-    fn entries_fit(&self, form: &Form, place: &Place) -> bool
-        requires form { IsForm form.now }
-        ensures { result ≡ (nat_le (least_entries (place_of form.now.dims place.now)) self.now.entries && nat_le self.now.entries (2 ^ form.now.dims)) }
+    fn entries_fit(&self, format: &RowFormat, place: &Place) -> bool
+        requires format { IsRowFormat format.now }
+        ensures { result ≡ (nat_le (least_entries (place_of format.now.dims place.now)) self.now.entries && nat_le self.now.entries (2 ^ format.now.dims)) }
     {
-        place.least_entries(form) <= self.entries && self.entries <= 1 << form.dims
+        place.least_entries(format) <= self.entries && self.entries <= 1 << format.dims
     }
 
     fn children_fit(&self) -> bool
@@ -120,15 +120,15 @@ impl First {
     }
 
     // Whether no digit is known at its level and below.
-    fn ends_known(&self, form: &Form, place: &Place) -> bool
-        requires form { IsForm form.now }
+    fn ends_known(&self, format: &RowFormat, place: &Place) -> bool
+        requires format { IsRowFormat format.now }
         requires low { self.now.level ≤ 61 }
-        requires standing { IsStanding form.now.width form.now.dims place.now }
-        ensures { result ≡ has_zeros_from self.now.level (known form.now.dims (place_of form.now.dims place.now)) }
+        requires standing { IsStanding format.now.width format.now.dims place.now }
+        ensures { result ≡ has_zeros_from self.now.level (known format.now.dims (place_of format.now.dims place.now)) }
     {
-        let known = place.known(form);
+        let known = place.known(format);
         let end = self.level + 1;
-        known[..form.dims]
+        known[..format.dims]
             .iter()
             .all(|x| digits_below(end, *x) == 0)
     }

@@ -6,12 +6,12 @@ mod boxes;
 mod entries;
 mod fault;
 mod first;
-mod form;
 mod header;
 mod loading;
 mod nodes;
 mod places;
 mod records;
+mod row_format;
 mod saves;
 mod tables;
 

@@ -6,14 +6,14 @@ ghost use Rattle.ph_specs.specs.TableNames.{Row};
 ghost use Rattle.ph_model.specs.ModelNames.{node_size};
 ghost use Rattle.ph_specs.specs.WorkNames.{all_nodes};
 ghost use Rattle.ph_snap.specs.Faults.{IsLoadFault};
-ghost use Rattle.ph_snap.specs.Forms.{IsForm};
+ghost use Rattle.ph_snap.specs.RowFormats.{IsRowFormat};
 ghost use Rattle.ph_snap.specs.Reads.{points};
 
 use crate::fault::LoadFault;
-use crate::form::Form;
 use crate::header::{Header, read_header};
 use crate::nodes::{Loaded, load_node};
 use crate::places::Place;
+use crate::row_format::RowFormat;
 use ph_coord::{Dim, Dims, Kind, Width};
 use ph_node::NodeOf;
 use ph_steps::Steps;
@@ -57,12 +57,12 @@ pub fn load<const D: usize, C: Ledger>(
         }
         return Ok(PhTree::adopt(alloc, w, None, 0));
     }
-    let form = Form {
+    let format = RowFormat {
         kind,
         dims: D,
         width: w.bits(),
     };
-    match load_root::<Dim<D>, C>(alloc, bytes, &form, changes) {
+    match load_root::<Dim<D>, C>(alloc, bytes, &format, changes) {
         Ok(root) => Ok(PhTree::adopt(alloc, w, Some(root.node), root.rows)),
         Err(fault) => Err(fault),
     }
@@ -80,21 +80,21 @@ fn is_asked(header: &Header, kind: Kind, dims: usize, w: Width) -> bool
 fn load_root<P: Dims, C: Ledger>(
     alloc: Global,
     bytes: &[u8],
-    form: &Form,
+    format: &RowFormat,
     changes: &mut Steps<C>,
 ) -> Result<Loaded<NodeOf<P>>, LoadFault>
-    requires form { IsForm form.now }
-    requires dims { form.now.dims ≡ P.D }
+    requires format { IsRowFormat format.now }
+    requires dims { format.now.dims ≡ P.D }
     requires long { 8 ≤ length bytes.now }
-    ensures none { IfOk result (λ r. body_fault form.now.kind form.now.width form.now.dims 1 bytes.now ≡ None) }
-    ensures tree { IfOk result (λ r. Some r.node ≡ first_node (read_nodes (length bytes.now) form.now.dims 1 (drop 8 bytes.now)).0) }
+    ensures none { IfOk result (λ r. body_fault format.now.kind format.now.width format.now.dims 1 bytes.now ≡ None) }
+    ensures tree { IfOk result (λ r. Some r.node ≡ first_node (read_nodes (length bytes.now) format.now.dims 1 (drop 8 bytes.now)).0) }
     ensures rows { IfOk result (λ r. r.rows ≡ points r.node) }
     ensures nodes { IfOk result (λ r. changes.new ≡ changes.old + node_size r.node) }
-    ensures err { IfErr result (λ f. IsLoadFault (body_fault form.now.kind form.now.width form.now.dims 1 bytes.now) f) }
+    ensures err { IfErr result (λ f. IsLoadFault (body_fault format.now.kind format.now.width format.now.dims 1 bytes.now) f) }
     ensures limit { 16 * changes.new ≤ 16 * changes.old + length bytes.now }
     ensures kept { changes.old ≤ changes.new }
 {
-    match load_node::<P, C>(alloc, bytes, 8, form, &Place::Root, changes) {
+    match load_node::<P, C>(alloc, bytes, 8, format, &Place::Root, changes) {
         Ok(root) => {
             if root.end < bytes.len() {
                 return Err(LoadFault::Extra(root.end as u64));

@@ -2,18 +2,18 @@
 
 ghost use Rattle.std.specs.Prelude.{◌≡◌, ◌+◌, ◌*◌, ◌≤◌, [], ◌∷◌, length, IfOk, IfErr};
 ghost use Rattle.ph_snap.specs.Faults.{HaveFault};
-ghost use Rattle.ph_snap.specs.Forms.{IsForm};
-ghost use Rattle.ph_snap.specs.Standing.{place_of, IsStanding};
+ghost use Rattle.ph_snap.specs.RowFormats.{IsRowFormat};
+ghost use Rattle.ph_snap.specs.RecordPlaces.{place_of, IsStanding};
 ghost use Rattle.ph_snap.specs.LoadedNodes.{IsLoadedNode};
 
 use crate::boxes::place_under;
 use crate::fault::LoadFault;
-use crate::form::Form;
 use crate::places::Place;
 use crate::records::read_record;
+use crate::row_format::RowFormat;
 use ph_bits::Block;
 use ph_linear::{children_in, count_in};
-use ph_node::{Dims, NodeOf, SlotOf};
+use ph_node::{ChildOf, Dims, NodeOf};
 use ph_steps::Steps;
 use std::alloc::Global;
 use std::sync::ledger::Ledger;
@@ -32,21 +32,21 @@ pub(crate) fn load_node<P: Dims, C: Ledger>(
     alloc: Global,
     bytes: &[u8],
     at: usize,
-    form: &Form,
+    format: &RowFormat,
     place: &Place,
     changes: &mut Steps<C>,
 ) -> Result<Loaded<NodeOf<P>>, LoadFault>
-    requires form { IsForm form.now }
-    requires dims { form.now.dims ≡ P.D }
-    requires standing { IsStanding form.now.width form.now.dims place.now }
+    requires format { IsRowFormat format.now }
+    requires dims { format.now.dims ≡ P.D }
+    requires standing { IsStanding format.now.width format.now.dims place.now }
     requires at { at ≤ length bytes.now }
-    ensures loaded { IfOk result (λ r. IsLoadedNode form.now.kind form.now.width form.now.dims (place_of form.now.dims place.now) at bytes.now
+    ensures loaded { IfOk result (λ r. IsLoadedNode format.now.kind format.now.width format.now.dims (place_of format.now.dims place.now) at bytes.now
         changes.old changes.new r.node r.end r.rows) }
-    ensures err { IfErr result (λ f. HaveFault form.now.kind form.now.width form.now.dims (place_of form.now.dims place.now ∷ []) at bytes.now f) }
+    ensures err { IfErr result (λ f. HaveFault format.now.kind format.now.width format.now.dims (place_of format.now.dims place.now ∷ []) at bytes.now f) }
     ensures limit { at + 16 * changes.new ≤ 16 * changes.old + length bytes.now }
     ensures kept { changes.old ≤ changes.new }
 {
-    let words = match read_record(alloc, bytes, at, form, place) {
+    let words = match read_record(alloc, bytes, at, format, place) {
         Ok(words) => words,
         Err(fault) => return Err(fault),
     };
@@ -56,14 +56,14 @@ pub(crate) fn load_node<P: Dims, C: Ledger>(
     let mut end = at + 8 * block.len();
     let mut rows = count - below;
     'entries: for i in 0..count as usize {
-        let Some(under) = place_under(block.words(), form, place, i) else {
+        let Some(under) = place_under(block.words(), format, place, i) else {
             continue;
         };
-        match load_node::<P, C>(alloc, bytes, end, form, &under, changes) {
+        match load_node::<P, C>(alloc, bytes, end, format, &under, changes) {
             Ok(child) => {
                 end = child.end;
                 rows += child.rows;
-                block.put_first(SlotOf { node: child.node });
+                block.put_first(ChildOf { node: child.node });
             }
             Err(fault) => return Err(fault),
         }

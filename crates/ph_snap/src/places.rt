@@ -3,10 +3,10 @@
 ghost use Rattle.std.specs.Prelude.{◌≡◌, ◌≤◌, take};
 ghost use Rattle.ph_model.specs.ModelNames.{IsBody};
 ghost use Rattle.ph_specs.specs.RecordNames.{known, least_entries};
-ghost use Rattle.ph_snap.specs.Forms.{IsForm};
-ghost use Rattle.ph_snap.specs.Standing.{place_of, IsStanding};
+ghost use Rattle.ph_snap.specs.RowFormats.{IsRowFormat};
+ghost use Rattle.ph_snap.specs.RecordPlaces.{place_of, IsStanding};
 
-use crate::form::Form;
+use crate::row_format::RowFormat;
 
 /// Where a record stands.
 #[derive(Clone, Copy)]
@@ -19,13 +19,13 @@ pub(crate) enum Place {
 
 impl Place {
     /// The digits that are known of the points of the record, with zeros behind them.
-    pub(crate) fn known(&self, form: &Form) -> [u64; 16]
-        requires form { IsForm form.now }
-        requires standing { IsStanding form.now.width form.now.dims self.now }
-        ensures known { take form.now.dims result ≡ known form.now.dims (place_of form.now.dims self.now) }
-        ensures body { IsBody form.now.dims 62 (take form.now.dims result) }
+    pub(crate) fn known(&self, format: &RowFormat) -> [u64; 16]
+        requires format { IsRowFormat format.now }
+        requires standing { IsStanding format.now.width format.now.dims self.now }
+        ensures known { take format.now.dims result ≡ known format.now.dims (place_of format.now.dims self.now) }
+        ensures body { IsBody format.now.dims 62 (take format.now.dims result) }
     {
-        let _ = form;
+        let _ = format;
         match self {
             Place::Root => [0; 16],
             Place::Under { known, .. } => *known,
@@ -33,10 +33,10 @@ impl Place {
     }
 
     /// How many entries a record there has at least.
-    pub(crate) fn least_entries(&self, form: &Form) -> u32
-        ensures { result ≡ least_entries (place_of form.now.dims self.now) }
+    pub(crate) fn least_entries(&self, format: &RowFormat) -> u32
+        ensures { result ≡ least_entries (place_of format.now.dims self.now) }
     {
-        let _ = form;
+        let _ = format;
         match self {
             Place::Root => 1,
             Place::Under { .. } => 2,

@@ -110,8 +110,8 @@ fn save_node<P: Dims, S: Sink, V: Ledger>(
     let words = visited.words();
     block.put(words, sink)?;
     let mut size = 8 * words.len() as u128;
-    for slot in visited.children() {
-        size += save_node(&slot.node, block, sink, visits)?;
+    for held in visited.children() {
+        size += save_node(&held.node, block, sink, visits)?;
     }
     Ok(size)
 }

@@ -1,5 +1,5 @@
 -- Lemmas on trees.
-pub mod Compared
+pub mod NodeComparisons
 mod Fewer
 mod Fields
 mod Gone

@@ -15,7 +15,7 @@ use Rattle.ph_model.proofs.lemmas.Joined.{offsets, offsets-coordinate}
 use Rattle.ph_model.proofs.lemmas.PointDigits.{point-whole}
 use Rattle.ph_model.proofs.lemmas.Splits.{below-offsets}
 use Rattle.ph_node.specs.Bodies.{IsBodyArray}
-use Rattle.ph_node.proofs.Filled.{filled-below, filled-behind}
+use Rattle.ph_node.proofs.BodyArrays.{filled-below, filled-behind}
 use Rattle.ph_tree.specs.Key.{Key, key, IsKey}
 
 address-from : (start place w : ℕ) (p : List ℤ) → body_address_from start place (offsets w p) ≡ address_from start w p place

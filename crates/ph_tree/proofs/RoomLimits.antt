@@ -9,13 +9,13 @@ use Rattle.ph_specs.specs.Pack.{children, linear_digits, pack}
 use Rattle.ph_model.proofs.lemmas.LayoutTables.{entries-few}
 use Rattle.ph_model.proofs.laws.Layouts.{rising}
 use Rattle.ph_model.proofs.laws.Unpacked.{child_nodes}
-use Rattle.ph_node.specs.Slots.{nodes_of}
-use Rattle.ph_node.specs.declared.node.SlotOf.{SlotOf}
+use Rattle.ph_node.specs.Children.{nodes_of}
+use Rattle.ph_node.specs.declared.node.ChildOf.{ChildOf}
 use Rattle.ph_tree.specs.Rooms.{room_of_entries}
-use Rattle.ph_tree.proofs.Compared.{length-children, length-nodes_of}
+use Rattle.ph_tree.proofs.NodeComparisons.{length-children, length-nodes_of}
 use Rattle.ph_tree.proofs.NodeRooms.{least_digits, least-few, length-flat, room-are}
 
-pub room-of : {P : Type 0} (dims : ℕ) (n : PlainNode) (ws : List ℕ) (ss : List (SlotOf P)) → ws ≡ pack dims n →
+pub room-of : {P : Type 0} (dims : ℕ) (n : PlainNode) (ws : List ℕ) (ss : List (ChildOf P)) → ws ≡ pack dims n →
     nodes_of ss ≡ child_nodes n.chain → length ws + length ss ≡ room_of_entries dims n.level n.chain
 room-of dims n ws ss w c =
     let kids : length ss ≡ children (flat n.chain) = sym (length-nodes_of ss) ∙ ap (λ u. length u) c ∙ length-children n.chain in

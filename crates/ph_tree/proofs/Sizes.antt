@@ -14,8 +14,8 @@ use Rattle.ph_specs.specs.Stats.{stats}
 use Rattle.ph_specs.specs.Table.{Row, IsTable}
 use Rattle.ph_model.proofs.laws.TableShape.{table-shape}
 use Rattle.ph_model.proofs.laws.Unpacked.{child_nodes}
-use Rattle.ph_node.specs.Slots.{nodes_of}
-use Rattle.ph_node.specs.declared.node.SlotOf.{SlotOf}
+use Rattle.ph_node.specs.Children.{nodes_of}
+use Rattle.ph_node.specs.declared.node.ChildOf.{ChildOf}
 use Rattle.ph_tree.specs.declared.stats.Counts.{Counts}
 use Rattle.ph_tree.specs.Stats.{is_cube_node, counted, no_counts}
 
@@ -34,14 +34,14 @@ counted-append dims c xs ys =
 
 -- ---- the nodes below a node
 
-abbrev pub trees : {P : Type 0} → List (SlotOf P) → List PlainNode
+abbrev pub trees : {P : Type 0} → List (ChildOf P) → List PlainNode
 trees ss = flat_map (λ s. nodes (Some s.node)) ss
 
-pub below-children : {P : Type 0} (ss : List (SlotOf P)) (n m : PlainNode) → nodes_of ss ≡ child_nodes n.chain → n ≡ m → trees ss ≡ nodes_below m.chain
+pub below-children : {P : Type 0} (ss : List (ChildOf P)) (n m : PlainNode) → nodes_of ss ≡ child_nodes n.chain → n ≡ m → trees ss ≡ nodes_below m.chain
 below-children {P} ss n m h e =
     by_nodes ss ∙ ap (flat_map (λ k. nodes (Some k))) h ∙ by_children n.chain ∙ ap (λ k. nodes_below k.chain) e
   where
-    by_nodes : (ss : List (SlotOf P)) → trees ss ≡ flat_map (λ k. nodes (Some k)) (nodes_of ss)
+    by_nodes : (ss : List (ChildOf P)) → trees ss ≡ flat_map (λ k. nodes (Some k)) (nodes_of ss)
     by_nodes [] = refl
     by_nodes (s ∷ ss) = ap (λ ns. nodes (Some s.node) ++ ns) (by_nodes ss)
 
@@ -52,20 +52,20 @@ below-children {P} ss n m h e =
         ap (λ ns. nodes (Some (record { level = level; chain = chain })) ++ ns) (by_children rest)
 
 -- one child more
-pub trees-more : {P : Type 0} (ss : List (SlotOf P)) (i : ℕ) (s : SlotOf P) → i < length ss → s ≡ get_or ss i s →
+pub trees-more : {P : Type 0} (ss : List (ChildOf P)) (i : ℕ) (s : ChildOf P) → i < length ss → s ≡ get_or ss i s →
     trees (take (i + 1) ss) ≡ trees (take i ss) ++ nodes (Some s.node)
 trees-more ss i s l e =
     ap trees (take_more ss i s l ∙ ap (λ x. take i ss ++ x ∷ []) (sym e)) ∙ flat_map-append (λ x. nodes (Some x.node))
     (take i ss) (s ∷ []) ∙ ap (λ ns. trees (take i ss) ++ ns) (append-nil (nodes (Some s.node)))
 
 -- some first children have no more nodes than all
-trees-few : {P : Type 0} (ss : List (SlotOf P)) (i : ℕ) → length (trees (take i ss)) ≤ length (trees ss)
+trees-few : {P : Type 0} (ss : List (ChildOf P)) (i : ℕ) → length (trees (take i ss)) ≤ length (trees ss)
 trees-few ss i =
     let e : length (trees (take i ss ++ drop i ss)) ≡ length (trees ss) = ap (λ ts. length (trees ts)) (take-append-drop i ss) in
     omega (arith, e, ap length (flat_map-append (λ s. nodes (Some s.node)) (take i ss) (drop i ss)), length-append (trees (take i ss)) (trees (drop i ss)))
 
 -- the nodes of one child, with those of the children before it
-pub child-room : {P : Type 0} (ss : List (SlotOf P)) (i : ℕ) (s : SlotOf P) → i < length ss → s ≡ get_or ss i s →
+pub child-room : {P : Type 0} (ss : List (ChildOf P)) (i : ℕ) (s : ChildOf P) → i < length ss → s ≡ get_or ss i s →
     length (trees (take i ss)) + length (nodes (Some s.node)) ≤ length (trees ss)
 child-room ss i s l e =
     omega (arith, ap length (trees-more ss i s l e), length-append (trees (take i ss)) (nodes (Some s.node)), trees-few ss (i + 1))

@@ -28,7 +28,7 @@ use Rattle.ph_node.specs.Split.{IsBelow, body_at, entry_below, part_place, split
 use Rattle.ph_node.specs.Spots.{IsSpot}
 use Rattle.ph_node.specs.declared.spots.Spot.{Spot}
 use Rattle.ph_node.proofs.Merges.{above-zeros}
-use Rattle.ph_node.proofs.Standing.{parts_at, parts_there}
+use Rattle.ph_node.proofs.FoundSpots.{parts_at, parts_there}
 use Rattle.ph_tree.specs.Step.{IsAt, IsApart, IsApartAt}
 
 abbrev no_entry : Entry

@@ -139,8 +139,8 @@ pub(crate) fn put_at<P: Dims, V: Ledger, C: Ledger>(
         StepOf::Absent(i) => add_point(cur, i, level, put, changes),
         StepOf::Same(spot, old) => replace_value(cur, spot, old, put, changes),
         StepOf::Below(spot, rank, _) => {
-            let slot = cur.child_mut(spot, rank);
-            put_at(slot.node_mut(), put, visits, changes)
+            let held = cur.child_mut(spot, rank);
+            put_at(held.node_mut(), put, visits, changes)
         }
         StepOf::Other(spot) => split_entry(cur, spot, level, put, changes),
     }

@@ -152,8 +152,8 @@ fn del_below<P: Dims, V: Ledger, C: Ledger>(
     ensures visits { visits.new + 1 ≤ visits.old + 2 * opened_below key.now.width cur.old.level cur.old.chain key.now.point }
     ensures later { visits.old ≤ visits.new }
 {
-    let slot = cur.child_mut(spot, rank);
-    let child = slot.node_mut();
+    let held = cur.child_mut(spot, rank);
+    let child = held.node_mut();
     let below = child.visit(visits);
     match step(below, key, visits) {
         StepOf::Absent(_) | StepOf::Other(_) => Removed::Nothing,

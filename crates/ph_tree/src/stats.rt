@@ -95,7 +95,7 @@ fn count_node<P: Dims, V: Ledger>(node: &NodeOf<P>, counts: &mut Counts, visits:
 {
     let visited = node.visit(visits);
     counts.add(visited.is_cube(), visited.words().len());
-    for slot in visited.children() {
-        count_node(&slot.node, counts, visits);
+    for held in visited.children() {
+        count_node(&held.node, counts, visits);
     }
 }

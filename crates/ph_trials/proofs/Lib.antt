@@ -1,2 +1,2 @@
-mod Compared
+mod EntryComparisons
 mod Written

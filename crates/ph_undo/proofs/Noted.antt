@@ -7,10 +7,10 @@ use Rattle.circular_buffer.specs.Buffer.{Buffer}
 use Rattle.ph_specs.specs.Past.{Past, after_edit, back}
 use Rattle.ph_specs.specs.Table.{Row}
 use Rattle.ph_tree.specs.Tree.{TreeTable}
-use Rattle.ph_undo.specs.Steps.{undone, undo_visits, past_of, IsStep, IsChange, AreChanges}
-use Rattle.ph_undo.specs.Rings.{steps_in, room_in}
+use Rattle.ph_undo.specs.Inverses.{undone, undo_visits, past_of, IsInverse, IsChange, AreChanges}
+use Rattle.ph_undo.specs.Rings.{inverses_in, room_in}
 use Rattle.ph_undo.specs.Kept.{kept_of, IsKept, IsLedBack, BackVisits}
-use Rattle.ph_undo.specs.declared.step.Step.{Step}
+use Rattle.ph_undo.specs.declared.inverse.Inverse.{Inverse}
 
 -- ---- lists
 
@@ -19,19 +19,19 @@ each-take P zero xs h = tt
 each-take P (suc n) [] h = h
 each-take P (suc n) (x ∷ xs) h = (h.0, each-take P n xs h.1)
 
-pub past-take : {D : ℕ} (w n : ℕ) (table : List Row) (steps : List (Step D)) → past_of w table (take n steps) ≡ take n (past_of w table steps)
-past-take w zero table steps = refl
+pub past-take : {D : ℕ} (w n : ℕ) (table : List Row) (inverses : List (Inverse D)) → past_of w table (take n inverses) ≡ take n (past_of w table inverses)
+past-take w zero table inverses = refl
 past-take w (suc n) table [] = refl
-past-take w (suc n) table (s ∷ steps) = ap {B = List (List Row)} (λ ts. undone w table s ∷ ts) (past-take w n (undone w table s) steps)
+past-take w (suc n) table (s ∷ inverses) = ap {B = List (List Row)} (λ ts. undone w table s ∷ ts) (past-take w n (undone w table s) inverses)
 
-changes-take : {D : ℕ} (w n : ℕ) (table : List Row) (steps : List (Step D)) → AreChanges w table steps → AreChanges w table (take n steps)
-changes-take w zero table steps h = tt
+changes-take : {D : ℕ} (w n : ℕ) (table : List Row) (inverses : List (Inverse D)) → AreChanges w table inverses → AreChanges w table (take n inverses)
+changes-take w zero table inverses h = tt
 changes-take w (suc n) table [] h = h
-changes-take w (suc n) table (s ∷ steps) h = (h.0, changes-take w n (undone w table s) steps h.1)
+changes-take w (suc n) table (s ∷ inverses) h = (h.0, changes-take w n (undone w table s) inverses h.1)
 
-pub length-past : {D : ℕ} (w : ℕ) (table : List Row) (steps : List (Step D)) → length (past_of w table steps) ≡ length steps
+pub length-past : {D : ℕ} (w : ℕ) (table : List Row) (inverses : List (Inverse D)) → length (past_of w table inverses) ≡ length inverses
 length-past w table [] = refl
-length-past w table (s ∷ steps) = ap suc (length-past w (undone w table s) steps)
+length-past w table (s ∷ inverses) = ap suc (length-past w (undone w table s) inverses)
 
 pub first-none : {X : Type 0} (xs : List X) → slice_get xs 0 ≡ None → xs ≡ []
 first-none [] e = refl
@@ -57,20 +57,20 @@ abbrev pub with_table : TreeTable → List Row → TreeTable
 with_table t table = record t { table = table }
 
 -- an edit, with its inverse in front of the others
-module _ {D : ℕ} (t : TreeTable) (table : List Row) (depth : ℕ) (s : Step D) (ring now : Option (Buffer (Step D))) (k : IsKept D t depth ring)
-    (steps : steps_in now ≡ take (room_in ring) (s ∷ steps_in ring)) (room : room_in now ≡ room_in ring)
-    (point : IsStep t.width s) (change : IsChange table s) (limit : length t.table ≤ t.max) (before : undone t.width table s ≡ t.table) where
-  cut : steps_in now ≡ take depth (s ∷ steps_in ring)
-  cut = steps ∙ ap (λ n. take n (s ∷ steps_in ring)) k.room
+module _ {D : ℕ} (t : TreeTable) (table : List Row) (depth : ℕ) (s : Inverse D) (ring now : Option (Buffer (Inverse D))) (k : IsKept D t depth ring)
+    (inverses : inverses_in now ≡ take (room_in ring) (s ∷ inverses_in ring)) (room : room_in now ≡ room_in ring)
+    (point : IsInverse t.width s) (change : IsChange table s) (limit : length t.table ≤ t.max) (before : undone t.width table s ≡ t.table) where
+  cut : inverses_in now ≡ take depth (s ∷ inverses_in ring)
+  cut = inverses ∙ ap (λ n. take n (s ∷ inverses_in ring)) k.room
 
-  past-noted : past_of t.width table (steps_in now) ≡ take depth (t.table ∷ past_of t.width t.table (steps_in ring))
+  past-noted : past_of t.width table (inverses_in now) ≡ take depth (t.table ∷ past_of t.width t.table (inverses_in ring))
   past-noted =
       ap (past_of t.width table) cut
-      ∙ past-take t.width depth table (s ∷ steps_in ring)
-      ∙ ap (λ b. take depth (b ∷ past_of t.width b (steps_in ring))) before
+      ∙ past-take t.width depth table (s ∷ inverses_in ring)
+      ∙ ap (λ b. take depth (b ∷ past_of t.width b (inverses_in ring))) before
 
-  short : length (steps_in now) ≤ depth
-  short = omega (arith, ap (λ (xs : List (Step D)). length xs) cut, length-take depth (s ∷ steps_in ring))
+  short : length (inverses_in now) ≤ depth
+  short = omega (arith, ap (λ (xs : List (Inverse D)). length xs) cut, length-take depth (s ∷ inverses_in ring))
 
   pub is_kept-noted : IsKept D (with_table t table) depth now
   is_kept-noted = record {
@@ -78,59 +78,59 @@ module _ {D : ℕ} (t : TreeTable) (table : List Row) (depth : ℕ) (s : Step D)
     limit = k.limit;
     room = room ∙ k.room;
     within = short;
-    points = subst (Each (IsStep t.width)) (sym cut) (each-take (IsStep t.width) depth (s ∷ steps_in ring) (point, k.points));
+    points = subst (Each (IsInverse t.width)) (sym cut) (each-take (IsInverse t.width) depth (s ∷ inverses_in ring) (point, k.points));
     fit = subst (Each (λ u. length u ≤ t.max)) (sym past-noted) (each-take (λ u. length u ≤ t.max) depth _ (limit, k.fit));
     changes = subst (AreChanges t.width table) (sym cut)
-        (changes-take t.width depth table (s ∷ steps_in ring)
-        (change, subst (λ u. AreChanges t.width u (steps_in ring)) (sym before) k.changes));
+        (changes-take t.width depth table (s ∷ inverses_in ring)
+        (change, subst (λ u. AreChanges t.width u (inverses_in ring)) (sym before) k.changes));
   }
 
   pub kept-noted : kept_of (with_table t table) depth now ≡ after_edit (kept_of t depth ring) table
   kept-noted = λ i. record { table = table; width = t.width; max = t.max; depth = depth; past = past-noted i }
 
 -- the same together
-pub record IsNoted (D : ℕ) (t : TreeTable) (table : List Row) (depth : ℕ) (ring now : Option (Buffer (Step D))) : Type 0 where
+pub record IsNoted (D : ℕ) (t : TreeTable) (table : List Row) (depth : ℕ) (ring now : Option (Buffer (Inverse D))) : Type 0 where
   pub kept : IsKept D (with_table t table) depth now
   pub view : kept_of (with_table t table) depth now ≡ after_edit (kept_of t depth ring) table
 
-pub noted : {D : ℕ} (t : TreeTable) (table : List Row) (depth : ℕ) (s : Step D) (ring now : Option (Buffer (Step D))) → IsKept D t depth ring
-    → steps_in now ≡ take (room_in ring) (s ∷ steps_in ring) → room_in now ≡ room_in ring → IsStep t.width s →
+pub noted : {D : ℕ} (t : TreeTable) (table : List Row) (depth : ℕ) (s : Inverse D) (ring now : Option (Buffer (Inverse D))) → IsKept D t depth ring
+    → inverses_in now ≡ take (room_in ring) (s ∷ inverses_in ring) → room_in now ≡ room_in ring → IsInverse t.width s →
     IsChange table s → length t.table ≤ t.max → undone t.width table s ≡ t.table
     → IsNoted D t table depth ring now
-noted t table depth s ring now k steps room point change limit before = record {
-  kept = is_kept-noted t table depth s ring now k steps room point change limit before;
-  view = kept-noted t table depth s ring now k steps room point change limit before;
+noted t table depth s ring now k inverses room point change limit before = record {
+  kept = is_kept-noted t table depth s ring now k inverses room point change limit before;
+  view = kept-noted t table depth s ring now k inverses room point change limit before;
 }
 
 -- ---- a command that is no edit
 
 -- the same inverses in another ring
-pub is_kept-same : {D : ℕ} (t : TreeTable) (depth : ℕ) (ring now : Option (Buffer (Step D))) → IsKept D t depth ring →
-    steps_in now ≡ steps_in ring → room_in now ≡ room_in ring → IsKept D t depth now
-is_kept-same t depth ring now k steps room = record {
+pub is_kept-same : {D : ℕ} (t : TreeTable) (depth : ℕ) (ring now : Option (Buffer (Inverse D))) → IsKept D t depth ring →
+    inverses_in now ≡ inverses_in ring → room_in now ≡ room_in ring → IsKept D t depth now
+is_kept-same t depth ring now k inverses room = record {
   few = k.few;
   limit = k.limit;
   room = room ∙ k.room;
-  within = omega (arith, k.within, ap (λ (xs : List (Step _)). length xs) steps);
-  points = subst (Each (IsStep t.width)) (sym steps) k.points;
-  fit = subst (λ ss. Each (λ u. length u ≤ t.max) (past_of t.width t.table ss)) (sym steps) k.fit;
-  changes = subst (AreChanges t.width t.table) (sym steps) k.changes;
+  within = omega (arith, k.within, ap (λ (xs : List (Inverse _)). length xs) inverses);
+  points = subst (Each (IsInverse t.width)) (sym inverses) k.points;
+  fit = subst (λ ss. Each (λ u. length u ≤ t.max) (past_of t.width t.table ss)) (sym inverses) k.fit;
+  changes = subst (AreChanges t.width t.table) (sym inverses) k.changes;
 }
 
-pub kept-same : {D : ℕ} (t : TreeTable) (depth : ℕ) (ring now : Option (Buffer (Step D))) → steps_in now ≡ steps_in ring → kept_of t depth now ≡ kept_of t depth ring
-kept-same t depth ring now steps =
-    λ i. record { table = t.table; width = t.width; max = t.max; depth = depth; past = past_of t.width t.table (steps i) }
+pub kept-same : {D : ℕ} (t : TreeTable) (depth : ℕ) (ring now : Option (Buffer (Inverse D))) → inverses_in now ≡ inverses_in ring → kept_of t depth now ≡ kept_of t depth ring
+kept-same t depth ring now inverses =
+    λ i. record { table = t.table; width = t.width; max = t.max; depth = depth; past = past_of t.width t.table (inverses i) }
 
 -- what a tree keeps is what a tree keeps that is the same
-pub is_kept-as : {D depth : ℕ} {t u : TreeTable} {ring : Option (Buffer (Step D))} → u ≡ t → IsKept D t depth ring → IsKept D u depth ring
+pub is_kept-as : {D depth : ℕ} {t u : TreeTable} {ring : Option (Buffer (Inverse D))} → u ≡ t → IsKept D t depth ring → IsKept D u depth ring
 is_kept-as {D = D} {depth = depth} {ring = ring} same k = subst (λ v. IsKept D v depth ring) (sym same) k
 
 -- ---- an edit that is taken back
 
-module _ {D : ℕ} (t : TreeTable) (depth : ℕ) (s : Step D) (rest : List (Step D)) (ring : Option (Buffer (Step D)))
-    (k : IsKept D t depth ring) (is : steps_in ring ≡ s ∷ rest) where
-  pub first_point : IsStep t.width s
-  first_point = (subst (Each (IsStep t.width)) is k.points).0
+module _ {D : ℕ} (t : TreeTable) (depth : ℕ) (s : Inverse D) (rest : List (Inverse D)) (ring : Option (Buffer (Inverse D)))
+    (k : IsKept D t depth ring) (is : inverses_in ring ≡ s ∷ rest) where
+  pub first_point : IsInverse t.width s
+  first_point = (subst (Each (IsInverse t.width)) is k.points).0
 
   pub first_changes : IsChange t.table s
   first_changes = (subst (AreChanges t.width t.table) is k.changes).0
@@ -139,50 +139,50 @@ module _ {D : ℕ} (t : TreeTable) (depth : ℕ) (s : Step D) (rest : List (Step
   first_fits = (subst (λ ss. Each (λ u. length u ≤ t.max) (past_of t.width t.table ss)) is k.fit).0
 
   pub is_kept-back : (u : TreeTable) → u ≡ with_table t (undone t.width t.table s) →
-      (now : Option (Buffer (Step D))) → steps_in now ≡ drop 1 (steps_in ring) → room_in now ≡ room_in ring → IsKept D u depth now
+      (now : Option (Buffer (Inverse D))) → inverses_in now ≡ drop 1 (inverses_in ring) → room_in now ≡ room_in ring → IsKept D u depth now
   is_kept-back u at now left room =
-      let gone : steps_in now ≡ rest = left ∙ ap {B = List (Step D)} (drop 1) is in
+      let gone : inverses_in now ≡ rest = left ∙ ap {B = List (Inverse D)} (drop 1) is in
       subst (λ v. IsKept D v depth now) (sym at)
       (record {
         few = k.few;
         limit = k.limit;
         room = room ∙ k.room;
-        within = omega (arith, k.within, ap (λ (xs : List (Step D)). length xs) is, ap (λ (xs : List (Step D)). length xs) gone);
-        points = subst (Each (IsStep t.width)) (sym gone) (subst (Each (IsStep t.width)) is k.points).1;
+        within = omega (arith, k.within, ap (λ (xs : List (Inverse D)). length xs) is, ap (λ (xs : List (Inverse D)). length xs) gone);
+        points = subst (Each (IsInverse t.width)) (sym gone) (subst (Each (IsInverse t.width)) is k.points).1;
         fit = subst (λ ss. Each (λ u. length u ≤ t.max) (past_of t.width (undone t.width t.table s) ss)) (sym gone)
             (subst (λ ss. Each (λ u. length u ≤ t.max) (past_of t.width t.table ss)) is k.fit).1;
         changes = subst (AreChanges t.width (undone t.width t.table s)) (sym gone) (subst (AreChanges t.width t.table) is k.changes).1;
       })
 
-module _ {D : ℕ} (t : TreeTable) (s : Step D) (rest : List (Step D)) (ring : Option (Buffer (Step D))) (is : steps_in ring ≡ s ∷ rest) where
-  past-is : past_of t.width t.table (steps_in ring) ≡ undone t.width t.table s ∷ past_of t.width (undone t.width t.table s) rest
+module _ {D : ℕ} (t : TreeTable) (s : Inverse D) (rest : List (Inverse D)) (ring : Option (Buffer (Inverse D))) (is : inverses_in ring ≡ s ∷ rest) where
+  past-is : past_of t.width t.table (inverses_in ring) ≡ undone t.width t.table s ∷ past_of t.width (undone t.width t.table s) rest
   past-is = ap (past_of t.width t.table) is
 
-  pub back-visits : (v now_v : ℕ) → IsStep t.width s → IsChange t.table s → now_v ≤ v + undo_visits t.width D t.table s →
-      BackVisits D t.width t.table (past_of t.width t.table (steps_in ring)) v now_v
+  pub back-visits : (v now_v : ℕ) → IsInverse t.width s → IsChange t.table s → now_v ≤ v + undo_visits t.width D t.table s →
+      BackVisits D t.width t.table (past_of t.width t.table (inverses_in ring)) v now_v
   back-visits v now_v point change few =
-      let led : IsLedBack D t.width t.table (undone t.width t.table s) v now_v = record { step = s; point = point; change = change; leads = refl; few = few } in
+      let led : IsLedBack D t.width t.table (undone t.width t.table s) v now_v = record { inverse = s; point = point; change = change; leads = refl; few = few } in
       subst (λ past. BackVisits D t.width t.table past v now_v) (sym past-is) led
 
-  pub past-some : past_of t.width t.table (steps_in ring) ≡ [] → ⊥
+  pub past-some : past_of t.width t.table (inverses_in ring) ≡ [] → ⊥
   past-some e = no (sym past-is ∙ e)
     where
       no : {X : Type 0} {x : X} {xs : List X} → x ∷ xs ≡ [] → ⊥
       no e = cc
 
-pub kept-back : {D : ℕ} (t : TreeTable) (depth : ℕ) (s : Step D) (rest : List (Step D)) (ring : Option (Buffer (Step D))) → steps_in ring ≡ s ∷ rest
-    → (u : TreeTable) → u ≡ with_table t (undone t.width t.table s) → (now : Option (Buffer (Step D))) →
-    steps_in now ≡ drop 1 (steps_in ring) → kept_of u depth now ≡ back (kept_of t depth ring) 1
+pub kept-back : {D : ℕ} (t : TreeTable) (depth : ℕ) (s : Inverse D) (rest : List (Inverse D)) (ring : Option (Buffer (Inverse D))) → inverses_in ring ≡ s ∷ rest
+    → (u : TreeTable) → u ≡ with_table t (undone t.width t.table s) → (now : Option (Buffer (Inverse D))) →
+    inverses_in now ≡ drop 1 (inverses_in ring) → kept_of u depth now ≡ back (kept_of t depth ring) 1
 kept-back t depth s rest ring is u at now left =
-    let gone : steps_in now ≡ rest = left ∙ ap {B = List (Step _)} (drop 1) is in
-    let before : past_of t.width t.table (steps_in ring) ≡ undone t.width t.table s ∷ past_of t.width (undone t.width t.table s) (steps_in now) =
+    let gone : inverses_in now ≡ rest = left ∙ ap {B = List (Inverse _)} (drop 1) is in
+    let before : past_of t.width t.table (inverses_in ring) ≡ undone t.width t.table s ∷ past_of t.width (undone t.width t.table s) (inverses_in now) =
     past-is t s rest ring is ∙ ap {B = List (List Row)} (λ ss. undone t.width t.table s ∷ past_of t.width (undone t.width t.table s) ss) (sym gone) in
     ap (λ v. kept_of v depth now) at
     ∙ (λ i. record { table = unwrap_or (slice_get (t.table ∷ sym before i) 1) t.table; width = t.width; max = t.max; depth = depth; past = drop 1 (sym before i) })
 
 -- ---- with nothing to take back
 
-pub past-none : {D : ℕ} (t : TreeTable) (ring : Option (Buffer (Step D))) → steps_in ring ≡ [] → past_of t.width t.table (steps_in ring) ≡ []
+pub past-none : {D : ℕ} (t : TreeTable) (ring : Option (Buffer (Inverse D))) → inverses_in ring ≡ [] → past_of t.width t.table (inverses_in ring) ≡ []
 past-none t ring e = ap (past_of t.width t.table) e
 
 pub back-none : (k : Past) → k.past ≡ [] → k ≡ back k 1

@@ -10,8 +10,8 @@ use Rattle.ph_specs.proofs.laws.Put.{either, find-put, same_from_test, test_from
 use Rattle.ph_table.specs.Rows.{put_answer}
 use Rattle.ph_table.specs.declared.table.Put.{Put}
 use Rattle.ph_table.specs.declared.table.Put.TheVariants.{New, Old}
-use Rattle.ph_undo.specs.Steps.{undone, IsStep, IsChange, put_inverse}
-use Rattle.ph_undo.specs.declared.step.Step.TheVariants.{Restore, Return}
+use Rattle.ph_undo.specs.Inverses.{undone, IsInverse, IsChange, put_inverse}
+use Rattle.ph_undo.specs.declared.inverse.Inverse.TheVariants.{Restore, Return}
 
 found-here : (w : ℕ) (rows : List Row) (p : List ℤ) (v : ℕ) → find (put w rows p v) p ≡ Some v
 found-here w rows p v = find-put w rows p p v ∙ ap (λ b. cond b (Some v) (find rows p)) (test_from_same p p refl)
@@ -56,6 +56,6 @@ pub put-changes : (D w : ℕ) (rows : List Row) (p : List ℤ) (v : ℕ) (a : Pu
 put-changes D w rows p v New = ap is_some (found-here w rows p v)
 put-changes D w rows p v (Old u) = tt
 
-pub put-point : (D w : ℕ) (p : List ℤ) (a : Put) → IsPoint w D p → IsStep {D = D} w (put_inverse p a)
+pub put-point : (D w : ℕ) (p : List ℤ) (a : Put) → IsPoint w D p → IsInverse {D = D} w (put_inverse p a)
 put-point D w p New h = h
 put-point D w p (Old v) h = h

@@ -8,9 +8,9 @@ use Rattle.ph_specs.proofs.laws.Put.{same_from_test}
 use Rattle.ph_tree.specs.Moves.{answer_for, move_answer}
 use Rattle.ph_tree.specs.declared.moves.Moved.{Moved}
 use Rattle.ph_tree.specs.declared.moves.Moved.TheVariants.{Done, Absent, Taken}
-use Rattle.ph_undo.specs.Steps.{is_move, with_move}
-use Rattle.ph_undo.specs.declared.step.Step.{Step}
-use Rattle.ph_undo.specs.declared.step.Step.TheVariants.{Return}
+use Rattle.ph_undo.specs.Inverses.{is_move, with_move}
+use Rattle.ph_undo.specs.declared.inverse.Inverse.{Inverse}
+use Rattle.ph_undo.specs.declared.inverse.Inverse.TheVariants.{Return}
 
 -- ---- by what is found at both points, and whether they are the same
 
@@ -69,10 +69,10 @@ moved-is (Some v) (Some u) e = absurd (no e)
 -- ---- what is kept
 
 -- the inverses after a move, by whether a row moved
-pub steps-move : {D : ℕ} (room : ℕ) (rows : List Row) (p q : List ℤ) (a : Moved) (steps now : List (Step D)) → a ≡ move_answer rows p q → now ≡ with_move room p q a steps
-    → (b : Bool) → moves_by (find rows p) (find rows q) ≡ b → now ≡ cond b (take room (Return q p ∷ steps)) steps
-steps-move room rows p q a steps now answer e b moves =
-    e ∙ ap (λ c. cond c (take room (Return q p ∷ steps)) steps) (is_move-is rows p q a answer ∙ moves)
+pub inverses-move : {D : ℕ} (room : ℕ) (rows : List Row) (p q : List ℤ) (a : Moved) (inverses now : List (Inverse D)) → a ≡ move_answer rows p q → now ≡ with_move room p q a inverses
+    → (b : Bool) → moves_by (find rows p) (find rows q) ≡ b → now ≡ cond b (take room (Return q p ∷ inverses)) inverses
+inverses-move room rows p q a inverses now answer e b moves =
+    e ∙ ap (λ c. cond c (take room (Return q p ∷ inverses)) inverses) (is_move-is rows p q a answer ∙ moves)
 
 pub move-edit : (k : Past) (p q : List ℤ) → moves_by (find k.table p) (find k.table q) ≡ true → after_edit k (move k.width k.table p q) ≡ move_kept k p q
 move-edit k p q e = ap (λ b. cond b (after_edit k (move k.width k.table p q)) k) (sym e)

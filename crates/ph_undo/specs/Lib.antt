@@ -1,4 +1,4 @@
 -- What the clauses of trees that keep their last edits cite.
-pub mod Steps
+pub mod Inverses
 pub mod Rings
 pub mod Kept

@@ -8,10 +8,10 @@ ghost use Rattle.ph_tree.specs.Removals.{IsRemovedRow};
 ghost use Rattle.ph_tree.specs.Moves.{IsMoved};
 ghost use Rattle.ph_undo.specs.Kept.{tree_of, IsTakenBack, BackVisits};
 
+use crate::inverse::take_back;
 use crate::ring::{
     Ring, count, drop_all, drop_newest, newest, note_move, note_put, note_removal, ring_of,
 };
-use crate::step::take_back;
 use ph_coord::Point;
 use ph_steps::Steps;
 use ph_table::Put;
@@ -204,10 +204,10 @@ impl<const D: usize> Kept<D> {
         ensures later { visits.old ≤ visits.new }
         ensures idle { self.old.past ≡ [] → (visits.new ≡ visits.old) × (changes.new ≡ changes.old) }
     {
-        let Some(step) = newest(&self.ring) else {
+        let Some(inverse) = newest(&self.ring) else {
             return Ok(false);
         };
-        match take_back(&mut self.tree, &step, visits, changes) {
+        match take_back(&mut self.tree, &inverse, visits, changes) {
             Ok(()) => {
                 drop_newest(&mut self.ring);
                 Ok(true)

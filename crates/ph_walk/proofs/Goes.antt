@@ -18,9 +18,9 @@ use Rattle.ph_path.proofs.Knowns.{above-top}
 use Rattle.ph_path.proofs.Paths.{few-frames}
 use Rattle.ph_walk.specs.Area.{Area, IsNote, kept_below, touched_below, AreOut, IsNext, TouchesRoot}
 use Rattle.ph_walk.specs.Walk.{Frame, Walk, walk_of, path_rows, path_nodes, root_rows, root_nodes}
-use Rattle.ph_walk.specs.Walk.{IsEntered, IsBehind, IsFrame, IsWalk, IsStep}
+use Rattle.ph_walk.specs.Walk.{IsEntered, IsBehind, IsFrame, IsWalk, IsTurn}
 use Rattle.ph_walk.specs.declared.area.Masks.{Masks}
-use Rattle.ph_walk.specs.declared.walk.Step.TheVariants.{Found}
+use Rattle.ph_walk.specs.declared.walk.Turn.TheVariants.{Found}
 use Rattle.ph_walk.proofs.Notes.{noted-at}
 use Rattle.ph_walk.proofs.Steps.{HasEntered, entered, rest-walk as behind-walk, nothing-left, lawful, same-above, after-walk, found-rows}
 use Rattle.ph_walk.proofs.Steps.{found-nodes, found-steps, held, child-over, below-rows, below-nodes, below-steps}
@@ -229,11 +229,11 @@ module _ {A : Type 0} {area : A} {d : ℕ} {a : Area} {IsNoted : ℕ → List �
 
           pub row-found : {T : Type 0} (told : A → List ℤ → T) {t : T} →
               (a.belongs (point_at c.width c.digits) ≡ true) × (t ≡ told area (point_at c.width c.digits)) →
-              IsStep (told old.area) old (walk_of d area a c root new) (Found u t)
+              IsTurn (told old.area) old (walk_of d area a c root new) (Found u t)
           row-found told {t = t} =
               joined-to (λ c. (a.belongs (point_at c.width c.digits) ≡ true) ×
               (t ≡ told area (point_at c.width c.digits)) →
-              IsStep (told old.area) old (walk_of d area a c root new) (Found u t))
+              IsTurn (told old.area) old (walk_of d area a c root new) (Found u t))
               (λ q. (
                 rest-by true q.0 ∙ ap (λ w. row (point_at w onto.digits) u ∷ path_rows a onto.digits new ++
                     root_rows d a root) (sym h.width),

@@ -6,7 +6,7 @@ ghost use Rattle.ph_model.specs.ModelNames.{IsLawful};
 ghost use Rattle.ph_specs.specs.WorkNames.{placed};
 ghost use Rattle.ph_path.specs.Path.{IsPath};
 ghost use Rattle.ph_walk.specs.Area.{IsArea, kept, touched, TouchesRoot};
-ghost use Rattle.ph_walk.specs.Walk.{IsOneStep, IsEntered, IsBehind, IsFrame, path_rows, path_nodes};
+ghost use Rattle.ph_walk.specs.Walk.{IsOneTurn, IsEntered, IsBehind, IsFrame, path_rows, path_nodes};
 
 use crate::area::{Area, Masks};
 use ph_coord::{Dim, Dims, Row, Width};
@@ -21,7 +21,7 @@ pub type WayOf<'t, N> = PathOf<FrameOf<'t, N, Masks>>;
 
 // What a step of a walk comes to: a row with this value, at the point at hand, and what is told of it; nothing yet; or the end.
 #[derive(Drop)]
-enum Step<T> {
+enum Turn<T> {
     Found(u64, T),
     Moved,
     Done,
@@ -95,23 +95,23 @@ impl<'t, P: Dims, A: Area<P>> WalkOf<'t, P, A> {
     }
 
     // One step: into the root, to the next entry that may matter, or out of a node that is done.
-    fn step<V: Ledger>(&mut self, visits: &mut Steps<V>) -> Step<A::Told>
-        ensures { IsOneStep (A.told self.old.area) self.old self.new result visits.old visits.new }
+    fn step<V: Ledger>(&mut self, visits: &mut Steps<V>) -> Turn<A::Told>
+        ensures { IsOneTurn (A.told self.old.area) self.old self.new result visits.old visits.new }
     {
         let Some(frame) = self.path.last() else {
             let Some(root) = self.root else {
-                return Step::Done;
+                return Turn::Done;
             };
             self.root = None;
             let node = root.visit(visits);
             let note = self.area.note(&self.known, node.level());
             enter(&mut self.path, node, note);
-            return Step::Moved;
+            return Turn::Moved;
         };
         let node = frame.node;
         let Some(spot) = self.area.next(&self.known, &node, frame.place, frame.note) else {
             self.path.leave();
-            return Step::Moved;
+            return Turn::Moved;
         };
         let is_last = self.area.is_last(&self.known, &node, spot, frame.note);
         pass(&mut self.path, frame, spot.place + 1, is_last);
@@ -119,16 +119,16 @@ impl<'t, P: Dims, A: Area<P>> WalkOf<'t, P, A> {
             WhatOf::Value(value) => {
                 self.known.join(node, spot);
                 let Some(told) = self.area.test(&self.known) else {
-                    return Step::Moved;
+                    return Turn::Moved;
                 };
-                Step::Found(value, told)
+                Turn::Found(value, told)
             }
             WhatOf::Child(child) => {
                 let below = child.visit(visits);
                 self.known.join_child(node, spot, below.level());
                 let note = self.area.note(&self.known, below.level());
                 enter(&mut self.path, below, note);
-                Step::Moved
+                Turn::Moved
             }
         }
     }
@@ -146,12 +146,12 @@ impl<'t, const D: usize, A: Area<Dim<D>>> WalkOf<'t, Dim<D>, A> {
     {
         loop {
             match self.step(visits) {
-                Step::Found(value, told) => {
+                Turn::Found(value, told) => {
                     let point = self.known().point();
                     return Some((Row { point, value }, told));
                 }
-                Step::Moved => {}
-                Step::Done => return None,
+                Turn::Moved => {}
+                Turn::Done => return None,
             }
         }
     }

@@ -3,8 +3,8 @@ use Rattle.ph_specs.specs.Pack.{children}
 use Rattle.ph_specs.specs.Record.{first_in, unpacked}
 use Rattle.ph_model.proofs.laws.Unpacked.{child_nodes}
 use Rattle.ph_node.specs.Recorded.{IsLaidOut}
-use Rattle.ph_node.specs.Slots.{nodes_of, in_slot}
-use Rattle.ph_node.proofs.Turned.{nodes-first, nodes-long, nodes-turned}
+use Rattle.ph_node.specs.Children.{nodes_of, in_child}
+use Rattle.ph_node.proofs.ReversedChildren.{nodes-first, nodes-long, nodes-turned}
 use Rattle.ph_bulk.specs.Parts.{chain_of}
 use Rattle.ph_bulk.proofs.NodeParts.{are-parts, same-parts, adds-none, adds-child}
 use Rattle.ph_bulk.proofs.nodes.+nodes.Goals as goal
@@ -59,7 +59,7 @@ put_children-loop-part-preserved g t c =
     c.requires.parts c.in-Some.level c.in-Some.is c.requires.lawful in
     record {
       words = c.put_first.ensures.same.0 ∙ c.loop-part.invariant.words;
-      children = ap (λ xs. nodes_of (reverse xs)) c.put_first.ensures.values ∙ nodes-first (in_slot c.in_ok-node.node) c.loop-part.block.values
+      children = ap (λ xs. nodes_of (reverse xs)) c.put_first.ensures.values ∙ nodes-first (in_child c.in_ok-node.node) c.loop-part.block.values
           ∙ (λ j. c.loop-part.invariant.children j ++ c.in_ok-node.ensures.node j ∷ []) ∙ sym child.children;
       spare = omega (arith, c.loop-part.invariant.spare, c.put_first.ensures.spare, ap (λ xs. length xs) c.put_first.ensures.values);
       changes = omega (arith, c.loop-part.invariant.changes, c.in_ok-node.ensures.nodes, child.size);

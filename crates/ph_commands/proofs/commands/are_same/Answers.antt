@@ -1,5 +1,5 @@
 use Rattle.std.proofs.Common.{◌≡◌, arith}
-use Rattle.ph_commands.proofs.Compared.{kept-compared}
+use Rattle.ph_commands.proofs.SlotComparisons.{kept-compared}
 use Rattle.ph_commands.proofs.commands.are_same.Goals as goal
 
 pub returns : goal.returns

@@ -4,7 +4,7 @@ use Rattle.ph_digits.proofs.Cuts.{take-below}
 use Rattle.ph_specs.specs.Node.{Flat}
 use Rattle.ph_model.specs.PutTree.{body_address}
 use Rattle.ph_bits.specs.Packed.{IsPadded}
-use Rattle.ph_node.proofs.Filled.{padded-below}
+use Rattle.ph_node.proofs.BodyArrays.{padded-below}
 use Rattle.ph_node.proofs.pairs.written_below.Goals as goal
 
 pub returns-clause-padded : goal.returns-clause-padded

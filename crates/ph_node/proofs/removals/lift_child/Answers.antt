@@ -5,19 +5,19 @@ use Rattle.ph_specs.specs.Node.{PlainNode}
 use Rattle.ph_model.specs.EntryList.{entries}
 use Rattle.ph_bits.specs.Edits.{edited}
 use Rattle.ph_node.specs.OneEdit.{node_at, nodes_held}
-use Rattle.ph_node.specs.Slots.{nodes_of}
-use Rattle.ph_node.proofs.Slotted.{at-slot, nodes-again, nodes-gone}
+use Rattle.ph_node.specs.Children.{nodes_of}
+use Rattle.ph_node.proofs.ChildLists.{at-child, nodes-again, nodes-gone}
 use Rattle.ph_node.proofs.removals.lift_child.Goals as goal
 
 pub only_child-requires : goal.only_child-requires
 only_child-requires g c =
-    let a = at-slot c.args.block.now.values c.args.k c.remove-node.result c.requires.within c.remove-node.ensures.value in
+    let a = at-child c.args.block.now.values c.args.k c.remove-node.result c.requires.within c.remove-node.ensures.value in
     subst (λ (n : PlainNode). length (nodes_held (entries n)) ≡ 1) (sym a) (c.requires.one c.if-child.true)
 
 pub returns-then-child-clause-nodes : goal.returns-then-child-clause-nodes
 returns-then-child-clause-nodes g c =
     let l : c.args.k < length c.args.block.now.values = c.requires.within in
-    let a = at-slot c.args.block.now.values c.args.k c.remove-node.result l c.remove-node.ensures.value in
+    let a = at-child c.args.block.now.values c.args.k c.remove-node.result l c.remove-node.ensures.value in
     ap nodes_of (c.insert.ensures.values ∙ ap (λ u. insert u c.args.k c.only_child.result) c.remove-node.ensures.values)
     ∙ nodes-again c.args.block.now.values c.args.k c.only_child.result l
     ∙ ap (λ n. edited c.args.k 1 1 n (nodes_of c.args.block.now.values)) (c.only_child.ensures ∙ ap (λ (n : PlainNode). node_at (nodes_held (entries n)) 0) a)

@@ -2,7 +2,7 @@ use Rattle.std.proofs.Common.{arith, ap, sym, ◌∙◌, length}
 use Rattle.ph_node.specs.OneEdit.{node_at}
 use Rattle.ph_node.proofs.Listings.{length-nodes}
 use Rattle.ph_node.proofs.OldNodes.{old}
-use Rattle.ph_node.proofs.Slotted.{at-slot}
+use Rattle.ph_node.proofs.ChildLists.{at-child}
 use Rattle.ph_node.proofs.removals.only_child.Goals as goal
 
 pub remove-requires : goal.remove-requires
@@ -12,5 +12,5 @@ remove-requires g c =
 pub returns : goal.returns
 returns g c =
     let n = (old _ _ _ _ c.node.view_is c.node.invariant).nodes in
-    at-slot c.node.inside.block.values 0 c.remove.result (omega (arith, c.requires, ap (λ u. length u) n, length-nodes c.node.inside.block.values)) c.remove.ensures.value
+    at-child c.node.inside.block.values 0 c.remove.result (omega (arith, c.requires, ap (λ u. length u) n, length-nodes c.node.inside.block.values)) c.remove.ensures.value
     ∙ ap (λ u. node_at u 0) (sym n)

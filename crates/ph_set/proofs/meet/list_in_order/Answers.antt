@@ -1,7 +1,7 @@
 use Rattle.std.proofs.Common.{arith}
 use Rattle.ph_set.specs.Held.{rows_held}
 use Rattle.ph_set.proofs.Taking.{after-two}
-use Rattle.ph_set.proofs.Turned.{in-order}
+use Rattle.ph_set.proofs.LeftOrRight.{in-order}
 use Rattle.ph_set.proofs.meet.list_in_order.Goals as goal
 
 pub returns-clause-rows : goal.returns-clause-rows

@@ -1,6 +1,6 @@
 use Rattle.std.proofs.Common.{◌≤◌, length, sym, ◌∙◌, ap, subst, arith}
 use Rattle.ph_specs.specs.Table.{IsTable}
-use Rattle.ph_set.specs.Made.{IsMade}
+use Rattle.ph_set.specs.ResultTrees.{IsMade}
 use Rattle.ph_set.specs.Operations.{rows_of}
 use Rattle.ph_set.proofs.trees.fewer.Goals as goal
 

@@ -1,13 +1,13 @@
 use Rattle.std.proofs.Common.{length, take, drop}
 use Rattle.ph_specs.specs.Load.{known}
 use Rattle.ph_specs.specs.Record.{first_in}
-use Rattle.ph_snap.specs.Standing.{place_of}
+use Rattle.ph_snap.specs.RecordPlaces.{place_of}
 use Rattle.ph_snap.proofs.Behind.{joined-is}
 use Rattle.ph_snap.proofs.boxes.joined.Goals as goal
 
 pub returns : goal.returns
 returns c =
-    let dims = c.args.form.now.dims in
+    let dims = c.args.format.now.dims in
     let level = (first_in c.args.words.now).level in
     let above = known dims (place_of dims c.args.place.now) in
     let old = take dims c.known-known.result in

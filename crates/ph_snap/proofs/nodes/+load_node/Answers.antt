@@ -4,11 +4,11 @@ use Rattle.ph_specs.specs.Load.{known, places_under}
 use Rattle.ph_specs.specs.Node.{PlainNode}
 use Rattle.ph_model.specs.NodeSize.{node_size}
 use Rattle.ph_specs.specs.Record.{first_in, entries_in, unpacked}
-use Rattle.ph_node.specs.Slots.{nodes_of, in_slot}
-use Rattle.ph_node.proofs.Turned.{nodes-first, nodes-turned}
+use Rattle.ph_node.specs.Children.{nodes_of, in_child}
+use Rattle.ph_node.proofs.ReversedChildren.{nodes-first, nodes-turned}
 use Rattle.ph_snap.specs.Faults.{HaveNone}
 use Rattle.ph_snap.specs.Reads.{ReadAs, points, all_points, all_sizes}
-use Rattle.ph_snap.specs.Standing.{place_of}
+use Rattle.ph_snap.specs.RecordPlaces.{place_of}
 use Rattle.ph_snap.proofs.Loads.{StandsAt, inside, stands-few, stands-many, all-none, child-fault, read-all, counts}
 use Rattle.ph_snap.proofs.NodeReads.{read-start, read-more}
 use Rattle.ph_snap.proofs.RecordFaults.{none-more}
@@ -20,8 +20,8 @@ use Rattle.ph_snap.proofs.nodes.+load_node.Goals as goal
 
 -- the record that was read stands there
 stands : (g : Over) (t : ℕ) (c : After-words g t) → ((i : ℕ) → Fits w8 (get_or c.args.bytes.now i 0)) →
-    StandsAt c.args.form.now.kind c.args.form.now.width c.args.form.now.dims c.args.bytes.now
-    (place_of c.args.form.now.dims c.args.place.now) c.args.at c.of-block.result.words
+    StandsAt c.args.format.now.kind c.args.format.now.width c.args.format.now.dims c.args.bytes.now
+    (place_of c.args.format.now.dims c.args.place.now) c.args.at c.of-block.result.words
 stands g t c fit = record {
   fits = bytes-are c.args.bytes.now fit;
   begins = c.requires.at;
@@ -31,7 +31,7 @@ stands g t c fit = record {
 
 pub entries-init : goal.entries-init
 entries-init g t c =
-    let form = c.args.form.now in
+    let format = c.args.format.now in
     let bytes = c.args.bytes.now in
     let k = stands g t (goal.at.entries-init g t c).After-words c.type_inv.bytes in
     let none : c.of-block.result.values ≡ [] = ap (λ k. k.values) c.of-block.ensures in
@@ -41,7 +41,7 @@ entries-init g t c =
       spare = omega (arith, ap (λ xs. length xs) none);
       count = ap (λ xs. length xs) none;
       none = λ qs. refl;
-      nodes = rw none (read-start form.dims (drop (c.args.at + 8 * c.len.result) bytes));
+      nodes = rw none (read-start format.dims (drop (c.args.at + 8 * c.len.result) bytes));
       rows = rw none (omega arith);
       few = rw none (omega arith);
       changes = rw none (omega arith);
@@ -50,15 +50,15 @@ entries-init g t c =
 
 pub put_first-requires-clause-spare : goal.put_first-requires-clause-spare
 put_first-requires-clause-spare g t c =
-    let form = c.args.form.now in
-    let p = place_of c.args.form.now.dims c.args.place.now in
+    let format = c.args.format.now in
+    let p = place_of c.args.format.now.dims c.args.place.now in
     let words = c.of-block.result.words in
     let k = stands g t (goal.at.put_first-requires-clause-spare g t c).After-words c.type_inv.bytes in
     let level = (first_in words).level in
-    let above = known form.dims p in
-    let es = entries_in form.dims words in
+    let above = known format.dims p in
+    let es = entries_in format.dims words in
     let i = c.entries.i in
-    let q = place_of form.dims c.in-Some.under in
+    let q = place_of format.dims c.in-Some.under in
     let place = rw (c.words-in-entries.ensures ∙ c.entries.invariant.words) at c.in-Some.ensures.place in
     let room : c.of-block.result.spare ≡ (first_in c.of-block.result.words).children =
     ap (λ k. k.spare) c.of-block.ensures ∙ c.in-Ok.ensures.room ∙ ap (λ k. (first_in k.words).children)
@@ -75,37 +75,37 @@ put_first-requires-clause-spare g t c =
 
 pub returns-in-Err-load_node-clause-err : goal.returns-in-Err-load_node-clause-err
 returns-in-Err-load_node-clause-err g t c =
-    let form = c.args.form.now in
+    let format = c.args.format.now in
     let k = stands g t (goal.at.returns-in-Err-load_node-clause-err g t c).After-words c.type_inv.bytes in
-    child-fault k c.entries.i c.entries.end (place_of form.dims c.in-Some.under) c.in-Err-load_node.fault
+    child-fault k c.entries.i c.entries.end (place_of format.dims c.in-Some.under) c.in-Err-load_node.fault
     (rw (c.words-in-entries.ensures ∙ c.entries.invariant.words) at c.in-Some.ensures.place)
     (rw c.len.ensures.value at c.entries.invariant.none) c.in-Err-load_node.ensures.err
 
 pub entries-preserved : goal.entries-preserved
 entries-preserved g t c =
-    let form = c.args.form.now in
+    let format = c.args.format.now in
     let bytes = c.args.bytes.now in
-    let p = place_of c.args.form.now.dims c.args.place.now in
+    let p = place_of c.args.format.now.dims c.args.place.now in
     let words = c.of-block.result.words in
     let level = (first_in words).level in
-    let above = known form.dims p in
-    let es = entries_in form.dims words in
+    let above = known format.dims p in
+    let es = entries_in format.dims words in
     let i = c.entries.i in
-    let q = place_of form.dims c.in-Some.under in
+    let q = place_of format.dims c.in-Some.under in
     let start = c.args.at + 8 * c.len.result in
     let end = c.in-Ok-load_node.child.end in
     let n : PlainNode = c.in-Ok-load_node.child.node in
     let ss = c.entries.block.values in
     let place : places_under (first_in c.of-block.result.words).level
-    (known c.args.form.now.dims (place_of c.args.form.now.dims c.args.place.now))
-    (take (c.entries.i + 1) (entries_in c.args.form.now.dims c.of-block.result.words)) ≡
+    (known c.args.format.now.dims (place_of c.args.format.now.dims c.args.place.now))
+    (take (c.entries.i + 1) (entries_in c.args.format.now.dims c.of-block.result.words)) ≡
     places_under (first_in c.of-block.result.words).level
-    (known c.args.form.now.dims (place_of c.args.form.now.dims c.args.place.now))
-    (take c.entries.i (entries_in c.args.form.now.dims c.of-block.result.words)) ++ place_of c.args.form.now.dims
+    (known c.args.format.now.dims (place_of c.args.format.now.dims c.args.place.now))
+    (take c.entries.i (entries_in c.args.format.now.dims c.of-block.result.words)) ++ place_of c.args.format.now.dims
     c.in-Some.under ∷ [] = rw (c.words-in-entries.ensures ∙ c.entries.invariant.words) at c.in-Some.ensures.place in
     let all : nodes_of (reverse c.put_first.new.self.values) ≡ nodes_of (reverse c.entries.block.values) ++
     c.in-Ok-load_node.child.node ∷ [] = ap (λ xs. nodes_of (reverse xs)) c.put_first.ensures.values ∙
-    nodes-first (in_slot n) ss in
+    nodes-first (in_child n) ss in
     let rows : all_points (nodes_of (reverse c.put_first.new.self.values)) ≡
     all_points (nodes_of (reverse c.entries.block.values)) + points c.in-Ok-load_node.child.node =
     ap all_points all ∙ points-more (nodes_of (reverse ss)) n in
@@ -123,11 +123,11 @@ entries-preserved g t c =
         ap (λ ps. length ps) place,
         length-append (places_under level above (take i es)) (q ∷ []),
       );
-      none = subst (λ ps. HaveNone form.kind form.width form.dims ps start bytes end) (sym place)
-          (none-more form.kind form.width form.dims bytes (places_under level above (take i es)) q start c.entries.end
+      none = subst (λ ps. HaveNone format.kind format.width format.dims ps start bytes end) (sym place)
+          (none-more format.kind format.width format.dims bytes (places_under level above (take i es)) q start c.entries.end
           end c.entries.invariant.none c.in-Ok-load_node.ensures.loaded.none);
-      nodes = subst (λ ns. ReadAs form.dims (drop start bytes) ns (drop end bytes)) (sym all)
-          (read-more form.dims (drop start bytes) (drop c.entries.end bytes) (drop end bytes) (nodes_of (reverse ss))
+      nodes = subst (λ ns. ReadAs format.dims (drop start bytes) ns (drop end bytes)) (sym all)
+          (read-more format.dims (drop start bytes) (drop c.entries.end bytes) (drop end bytes) (nodes_of (reverse ss))
           n c.entries.invariant.nodes c.in-Ok-load_node.ensures.loaded.node);
       rows = omega (arith, c.entries.invariant.rows, c.in-Ok-load_node.ensures.loaded.rows, rows);
       few = omega (arith, c.entries.invariant.few, c.in-Ok-load_node.ensures.loaded.few, rows);
@@ -145,22 +145,22 @@ assemble-node-requires-clause-children g t c =
 
 pub returns-clause-loaded : goal.returns-clause-loaded
 returns-clause-loaded g t c =
-    let form = c.args.form.now in
+    let format = c.args.format.now in
     let bytes = c.args.bytes.now in
     let k = stands g t (goal.at.returns-clause-loaded g t c).After-words c.type_inv.bytes in
     let past : (first_in c.of-block.result.words).entries ≤ c.entries.i = omega (arith, c.entries-test.false, (rw c.words.ensures at c.count_in-count.ensures)) in
     let many : length (nodes_of (reverse c.entries.block.values)) ≡ (first_in c.of-block.result.words).children =
     nodes-turned c.entries.block.values ∙ c.entries.invariant.count ∙ stands-many k c.entries.i past in
     let cs = nodes_of (reverse c.entries.block.values) in
-    let node : c.assemble-node.result ≡ unpacked c.args.form.now.dims c.of-block.result.words (nodes_of (reverse c.entries.block.values)) = c.assemble-node.ensures.node
+    let node : c.assemble-node.result ≡ unpacked c.args.format.now.dims c.of-block.result.words (nodes_of (reverse c.entries.block.values)) = c.assemble-node.ensures.node
     ∙ (λ j. unpacked (sym c.requires.dims j) (c.reverse.ensures.same.0 j) (nodes_of (c.reverse.ensures.values j)))
-    ∙ ap (λ ws. unpacked c.args.form.now.dims ws (nodes_of (reverse c.entries.block.values))) c.entries.invariant.words in
+    ∙ ap (λ ws. unpacked c.args.format.now.dims ws (nodes_of (reverse c.entries.block.values))) c.entries.invariant.words in
     let size = counts k cs many in
     let entries : c.count_in-count.result ≡ (first_in c.of-block.result.words).entries = rw c.words.ensures at c.count_in-count.ensures in
     let below : c.children_in-below.result ≡ (first_in c.of-block.result.words).children = rw c.words-2.ensures at c.children_in-below.ensures in
     record {
       none = all-none k c.entries.i c.entries.end past (rw c.len.ensures.value at c.entries.invariant.none);
-      node = subst (λ x. ReadAs form.dims (drop c.args.at bytes) (x ∷ []) (drop c.entries.end bytes)) (sym node)
+      node = subst (λ x. ReadAs format.dims (drop c.args.at bytes) (x ∷ []) (drop c.entries.end bytes)) (sym node)
           (read-all k c.entries.end cs many (omega (arith, c.len.ensures.value, c.entries.invariant.few))
           (rw c.len.ensures.value at c.entries.invariant.nodes));
       within = c.entries.invariant.within;

@@ -8,16 +8,16 @@ use Rattle.ph_snap.proofs.records.read_record.Goals as goal
 
 pub read_words-requires-clause-small : goal.read_words-requires-clause-small
 read_words-requires-clause-small c =
-    let form = c.args.form.now in
-    let few : 2 ^ form.dims ≤ 2 ^ 16 = pow_mono c.requires.form.few in
-    let most = at_most form c.args.place.now c.requires.form c.requires.standing (said_by c.new-first.result) (sym c.if-not-fits.ensures) in
+    let format = c.args.format.now in
+    let few : 2 ^ format.dims ≤ 2 ^ 16 = pow_mono c.requires.format.few in
+    let most = at_most format c.args.place.now c.requires.format c.requires.standing (said_by c.new-first.result) (sym c.if-not-fits.ensures) in
     omega (arith, few, most, c.words-len.ensures.limit)
 
 -- the words that were read
-read : (c : After-as_slice) → IsFramedAt c.args.form.now c.args.place.now c.new-first.result c.in-Ok.words.words
+read : (c : After-as_slice) → IsFramedAt c.args.format.now c.args.place.now c.new-first.result c.in-Ok.words.words
 read c =
     let bytes = c.args.bytes.now in
-    framed-at c.args.form.now c.args.place.now (take (length bytes - c.args.at) (drop c.args.at bytes)) c.requires.form c.requires.standing
+    framed-at c.args.format.now c.args.place.now (take (length bytes - c.args.at) (drop c.args.at bytes)) c.requires.format c.requires.standing
     (c.new-first.ensures ∙ ap first_of c.word_at.ensures) c.words-len.ensures.value c.in-Ok.ensures.words
     c.if-not-fits.ensures
 

@@ -9,14 +9,14 @@ use Rattle.ph_snap.proofs.saves.+save_node.Given as goal
 abbrev pub decreases-save_node : goal.decreases-save_node
 decreases-save_node g l = length (nodes (Some l.node.now))
 
-abbrev pub invariant-loop-slot : goal.invariant-loop-slot
-invariant-loop-slot g l = record {
+abbrev pub invariant-loop-held : goal.invariant-loop-held
+invariant-loop-held g l = record {
   passed : Passed (taken_of (g.S.Sink.written l.fn.sink) (g.S.Sink.amount l.fn.sink)) l.fn.block
       (taken_of (g.S.Sink.written l.sink) (g.S.Sink.amount l.sink)) l.block
-      (saved g.P.Dims.D (l.fn.node ∷ trees (take l.slot-index l.slot-items)));
-  size : l.size ≡ length (saved g.P.Dims.D (l.fn.node ∷ trees (take l.slot-index l.slot-items)));
-  few : l.size ≤ 2 ^ 63 * (1 + length (trees (take l.slot-index l.slot-items)));
+      (saved g.P.Dims.D (l.fn.node ∷ trees (take l.held-index l.held-items)));
+  size : l.size ≡ length (saved g.P.Dims.D (l.fn.node ∷ trees (take l.held-index l.held-items)));
+  few : l.size ≤ 2 ^ 63 * (1 + length (trees (take l.held-index l.held-items)));
   later : g.S.Sink.faults l.fn.sink ≤ g.S.Sink.faults l.sink;
   follows : g.S.Sink.follows l.fn.sink l.sink;
-  visits : l.visits ≡ l.fn.visits + 1 + length (trees (take l.slot-index l.slot-items));
+  visits : l.visits ≡ l.fn.visits + 1 + length (trees (take l.held-index l.held-items));
 }

@@ -1,8 +1,8 @@
 use Rattle.std.proofs.Common.{rules, ◌≡◌, ap, ◌∙◌, arith}
 use Rattle.ph_model.proofs.laws.Unpacked.{child_nodes}
-use Rattle.ph_node.specs.Slots.{nodes_of}
+use Rattle.ph_node.specs.Children.{nodes_of}
 use Rattle.ph_specs.specs.Pack.{pack}
-use Rattle.ph_tree.proofs.Compared.{IsSeen, seen-lawful, seen-size, seen-long, seen-same}
+use Rattle.ph_tree.proofs.NodeComparisons.{IsSeen, seen-lawful, seen-size, seen-long, seen-same}
 use Rattle.ph_tree.proofs.compare.+is_same_node.Goals as goal
 
 pub loop-x-init : goal.loop-x-init

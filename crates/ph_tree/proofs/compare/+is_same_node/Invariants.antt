@@ -1,7 +1,7 @@
 use Rattle.std.proofs.Common.{◌≡◌, ◌+◌, ◌≤◌, ◌↔◌, Some, length}
 use Rattle.ph_specs.specs.Node.{nodes}
-use Rattle.ph_node.specs.Slots.{nodes_of}
-use Rattle.ph_tree.proofs.Compared.{AreLawful}
+use Rattle.ph_node.specs.Children.{nodes_of}
+use Rattle.ph_tree.proofs.NodeComparisons.{AreLawful}
 use Rattle.ph_tree.proofs.Sizes.{trees}
 use Rattle.ph_tree.proofs.compare.+is_same_node.Given as goal
 

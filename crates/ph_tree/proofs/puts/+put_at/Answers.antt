@@ -19,15 +19,15 @@ replace_value-requires g t c =
     let k = stepped g t (goal.at.replace_value-requires g t c).After-step in
     record { spot = same_spot k c.in-Same.is; point = same_value k c.in-Same.is }
 
-pub child_mut-slot-requires : goal.child_mut-slot-requires
-child_mut-slot-requires g t c =
-    let k = stepped g t (goal.at.child_mut-slot-requires g t c).After-step in
+pub child_mut-held-requires : goal.child_mut-held-requires
+child_mut-held-requires g t c =
+    let k = stepped g t (goal.at.child_mut-held-requires g t c).After-step in
     record { spot = below_spot k c.in-Below.is; child = below_node k c.in-Below.is; rank = below_rank k c.in-Below.is }
 
 pub put_at-requires : goal.put_at-requires
 put_at-requires g t c κs within =
     let k = stepped g t (goal.at.put_at-requires g t c).After-step in
-    let below = way_below k c.in-Below.is (below_lent k c.in-Below.is (ap node c.node_mut.ensures.shows ∙ c.child_mut-slot.ensures.shows)) in
+    let below = way_below k c.in-Below.is (below_lent k c.in-Below.is (ap node c.node_mut.ensures.shows ∙ c.child_mut-held.ensures.shows)) in
     (omega (arith, below.lower, c.decreases), search (rules, within, below.lower, below.lawful, c.requires.level, c.requires.room))
 
 pub returns-in-Absent-clause-put : goal.returns-in-Absent-clause-put
@@ -43,13 +43,13 @@ returns-in-Same-clause-put g t c =
 pub returns-in-Below-clause-put : goal.returns-in-Below-clause-put
 returns-in-Below-clause-put g t c =
     let k = stepped g t (goal.at.returns-in-Below-clause-put g t c).After-step in
-    let below = way_below k c.in-Below.is (below_lent k c.in-Below.is (ap node c.node_mut.ensures.shows ∙ c.child_mut-slot.ensures.shows)) in
+    let below = way_below k c.in-Below.is (below_lent k c.in-Below.is (ap node c.node_mut.ensures.shows ∙ c.child_mut-held.ensures.shows)) in
     lifted (with_child c.args.cur.now c.in-Below.spot.place) (sym below.found) below.back (below.put c.args.put.now.value) c.put_at.ensures.put
 
 pub returns-in-Below-clause-visits : goal.returns-in-Below-clause-visits
 returns-in-Below-clause-visits g t c =
     let k = stepped g t (goal.at.returns-in-Below-clause-visits g t c).After-step in
-    let below = way_below k c.in-Below.is (below_lent k c.in-Below.is (ap node c.node_mut.ensures.shows ∙ c.child_mut-slot.ensures.shows)) in
+    let below = way_below k c.in-Below.is (below_lent k c.in-Below.is (ap node c.node_mut.ensures.shows ∙ c.child_mut-held.ensures.shows)) in
     omega (arith, below.one, below.opened, c.in-Below.ensures.cost, c.put_at.ensures.visits, c.visit-node.ensures.cost)
 
 pub returns-in-Other-clause-put : goal.returns-in-Other-clause-put

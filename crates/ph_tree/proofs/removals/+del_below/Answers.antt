@@ -23,7 +23,7 @@ use Rattle.ph_tree.proofs.removals.+del_below.Goals as goal
 leads : (g : Over) (t : ℕ) (c : After-step g t) →
     IsStepAt g.P.Dims.D c.args.key.now.width c.args.key.now.point c.args.cur.now (Below c.args.spot c.args.rank c.visit-below.result) 1
 leads g t c = leading_step c.requires.leads c.requires.lawful c.visit-below.result
-    (ap node (c.visit-below.ensures.shows ∙ c.node_mut-child.ensures.shows) ∙ c.child_mut-slot.ensures.shows)
+    (ap node (c.visit-below.ensures.shows ∙ c.node_mut-child.ensures.shows) ∙ c.child_mut-held.ensures.shows)
 
 -- what the node has of the child
 below : (g : Over) (t : ℕ) (c : After-step g t) →
@@ -46,14 +46,14 @@ room_taken : (g : Over) (t : ℕ) (c : After-relaid_room-room g t) →
 room_taken g t c =
     c.relaid_room-room.ensures.room ∙ ap (λ n. relaid_room g.P.Dims.D n.level n.chain) c.visit-below.ensures.shows
 
-pub child_mut-slot-requires : goal.child_mut-slot-requires
-child_mut-slot-requires g t c =
+pub child_mut-held-requires : goal.child_mut-held-requires
+child_mut-held-requires g t c =
     record { spot = leading_spot c.requires.leads; child = leading_node c.requires.leads; rank = c.requires.leads.place }
 
 pub step-requires : goal.step-requires
 step-requires g t c =
     let k = leading_step c.requires.leads c.requires.lawful c.visit-below.result
-    (ap node (c.visit-below.ensures.shows ∙ c.node_mut-child.ensures.shows) ∙ c.child_mut-slot.ensures.shows) in
+    (ap node (c.visit-below.ensures.shows ∙ c.node_mut-child.ensures.shows) ∙ c.child_mut-held.ensures.shows) in
     let way = way_below k refl refl in
     record { lawful = way.lawful; level = omega (arith, way.lower, c.requires.level) }
 

@@ -6,7 +6,7 @@ use Rattle.ph_model.proofs.laws.Unpacked.{child_nodes}
 use Rattle.ph_bits.specs.Block.{Block, room_of}
 use Rattle.ph_node.specs.Relaid.{is_relaid}
 use Rattle.ph_tree.specs.Rooms.{room_of_entries}
-use Rattle.ph_tree.proofs.Compared.{length-children}
+use Rattle.ph_tree.proofs.NodeComparisons.{length-children}
 use Rattle.ph_tree.proofs.Gone.{length-count}
 use Rattle.ph_tree.proofs.removals.drop_point.Goals as goal
 

@@ -8,9 +8,9 @@ use Rattle.ph_tree.proofs.stats.+count_node.Given as goal
 abbrev pub decreases-count_node : goal.decreases-count_node
 decreases-count_node g l = length (nodes (Some l.node.now))
 
-abbrev pub invariant-loop-slot : goal.invariant-loop-slot
-invariant-loop-slot g l = record {
-  counts : l.counts ≡ counted g.P.Dims.D l.fn.counts (l.fn.node ∷ trees (take l.slot-index l.slot-items));
+abbrev pub invariant-loop-held : goal.invariant-loop-held
+invariant-loop-held g l = record {
+  counts : l.counts ≡ counted g.P.Dims.D l.fn.counts (l.fn.node ∷ trees (take l.held-index l.held-items));
   few : IsFew l.counts;
-  visits : l.visits ≡ l.fn.visits + 1 + length (trees (take l.slot-index l.slot-items));
+  visits : l.visits ≡ l.fn.visits + 1 + length (trees (take l.held-index l.held-items));
 }

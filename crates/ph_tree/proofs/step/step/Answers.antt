@@ -8,7 +8,7 @@ use Rattle.ph_node.specs.Shown.{shown, what_of}
 use Rattle.ph_node.specs.Split.{IsNode}
 use Rattle.ph_model.proofs.laws.DelEntries.{lawful-child}
 use Rattle.ph_tree.specs.Step.{IsAt, IsApart, opened_for}
-use Rattle.ph_node.proofs.Standing.{parts_at, parts_there}
+use Rattle.ph_node.proofs.FoundSpots.{parts_at, parts_there}
 use Rattle.ph_tree.proofs.Steps.{at_entry, same_below, other_below, same_between, other_between}
 use Rattle.ph_tree.proofs.step.step.Given.{Over}
 use Rattle.ph_tree.proofs.step.step.Goals.{In-Ok}

@@ -1,7 +1,7 @@
 use Rattle.std.proofs.Common.{rules, arith, sym, ◌∙◌, ap, refl}
 use Rattle.ph_model.specs.EntryList.{entries}
 use Rattle.ph_node.specs.Shown.{shown, entry_of, what_of}
-use Rattle.ph_trials.proofs.Compared.{node-same, child-lawful, taken-next, body-same, front-same, value-same, child-same}
+use Rattle.ph_trials.proofs.EntryComparisons.{node-same, child-lawful, taken-next, body-same, front-same, value-same, child-same}
 use Rattle.ph_trials.proofs.same.+same.Goals as goal
 
 pub is_same-loop-i-preserved : goal.is_same-loop-i-preserved

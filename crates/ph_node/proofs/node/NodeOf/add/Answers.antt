@@ -1,7 +1,7 @@
 use Rattle.std.proofs.Common.{ap, sym, ◌∙◌, subst}
 use Rattle.ph_specs.specs.Record.{unpacked}
 use Rattle.ph_node.specs.Recorded.{IsRecorded}
-use Rattle.ph_node.specs.Slots.{nodes_of}
+use Rattle.ph_node.specs.Children.{nodes_of}
 use Rattle.ph_node.proofs.Listings.{length-nodes}
 use Rattle.ph_node.proofs.PointEdits.{more_record, more_kept, more_seen}
 use Rattle.ph_node.proofs.node.NodeOf.add.Goals as goal

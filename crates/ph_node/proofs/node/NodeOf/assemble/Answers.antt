@@ -1,6 +1,6 @@
 use Rattle.std.proofs.Common.{◌^◌, ◌<◌, subst, ◌∙◌}
 use Rattle.std.specs.List.{AllByRecursion as Each}
-use Rattle.ph_node.specs.Slots.{nodes_of}
+use Rattle.ph_node.specs.Children.{nodes_of}
 use Rattle.ph_node.proofs.Assembled.{recorded}
 use Rattle.ph_node.proofs.Listings.{length-nodes}
 use Rattle.ph_node.proofs.node.NodeOf.assemble.Goals as goal

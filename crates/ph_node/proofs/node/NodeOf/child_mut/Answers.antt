@@ -1,7 +1,7 @@
 use Rattle.std.proofs.Common.{◌≡◌, arith, refl, ap, sym, ◌∙◌, get_or, length}
 use Rattle.ph_model.specs.EntryList.{entries}
 use Rattle.ph_node.specs.OneEdit.{before, nodes_held}
-use Rattle.ph_node.specs.Slots.{nodes_of}
+use Rattle.ph_node.specs.Children.{nodes_of}
 use Rattle.ph_node.proofs.Lent.{lent, lent-is, lent-below}
 use Rattle.ph_node.proofs.Listings.{length-nodes, get-nodes}
 use Rattle.ph_node.proofs.Lists.{kept_new, seen_new}

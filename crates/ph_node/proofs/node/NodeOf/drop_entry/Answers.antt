@@ -1,7 +1,7 @@
 use Rattle.std.proofs.Common.{length, ap, sym, ◌∙◌, subst}
 use Rattle.ph_specs.specs.Record.{unpacked}
 use Rattle.ph_node.specs.Recorded.{IsRecorded}
-use Rattle.ph_node.specs.Slots.{nodes_of}
+use Rattle.ph_node.specs.Children.{nodes_of}
 use Rattle.ph_node.proofs.Listings.{length-nodes}
 use Rattle.ph_node.proofs.PointEdits.{less_record, less_kept, less_seen, less_was, less_room}
 use Rattle.ph_node.proofs.node.NodeOf.drop_entry.Goals as goal

@@ -14,7 +14,7 @@ use Rattle.ph_node.specs.Merge.{merge_node}
 use Rattle.ph_node.specs.OneEdit.{ones_of, nodes_held, node_at, before, edit_flats}
 use Rattle.ph_node.specs.RecordEdit.{record_with}
 use Rattle.ph_node.specs.Recorded.{IsRecorded}
-use Rattle.ph_node.specs.Slots.{nodes_of}
+use Rattle.ph_node.specs.Children.{nodes_of}
 use Rattle.ph_node.proofs.ChildTests.{kind-there}
 use Rattle.ph_node.proofs.Contents.{node_in}
 use Rattle.ph_node.proofs.Lifts.{front_in, child_is, child_at, two, kids_one, lifted, merged_new, merged_padded, merged_long}
@@ -25,24 +25,24 @@ use Rattle.ph_node.proofs.PutEdits.{put_edit, record_put, put_record}
 use Rattle.ph_node.proofs.Reading.{spot-there}
 use Rattle.ph_node.proofs.node.NodeOf.merge.Given.{Over}
 use Rattle.ph_node.proofs.node.NodeOf.merge.Goals as goal
-use Rattle.ph_node.proofs.node.NodeOf.merge.Goals.{After-value-slot, After-D-3, After-put_entry}
+use Rattle.ph_node.proofs.node.NodeOf.merge.Goals.{After-value-held, After-D-3, After-put_entry}
 
-pub value-slot-requires : goal.value-slot-requires
-value-slot-requires g c =
+pub value-held-requires : goal.value-held-requires
+value-held-requires g c =
     front_in _ _ c.self.inside.block.values _ (old _ _ _ _ c.self.view_is c.self.invariant) c.args.spot.place
     c.old_entry-old.result c.old_entry-old.ensures c.requires.spot.within c.requires.child
 
 -- the child that is read is the entry's
-child : (g : Over) (c : After-value-slot g) → node c.value-slot.result.now.node ≡ what_at (entries c.args.self.now) c.args.spot.place
+child : (g : Over) (c : After-value-held g) → node c.value-held.result.now.node ≡ what_at (entries c.args.self.now) c.args.spot.place
 child g c =
     child_is _ _ c.self.inside.block.values _ (old _ _ _ _ c.self.view_is c.self.invariant) c.args.spot.place
-    c.old_entry-old.result c.old_entry-old.ensures c.requires.spot.within c.requires.child c.value-slot.result.now c.value-slot.ensures
+    c.old_entry-old.result c.old_entry-old.ensures c.requires.spot.within c.requires.child c.value-held.result.now c.value-held.ensures
 
 pub entry_beside-other-requires-clause-two : goal.entry_beside-other-requires-clause-two
 entry_beside-other-requires-clause-two g c =
     let q = c.requires in
-    two c.args.self.now c.args.spot.place c.args.j q.child q.one q.point c.value-slot.result.now.node
-    (child g (goal.at.entry_beside-other-requires-clause-two g c).After-value-slot)
+    two c.args.self.now c.args.spot.place c.args.j q.child q.one q.point c.value-held.result.now.node
+    (child g (goal.at.entry_beside-other-requires-clause-two g c).After-value-held)
 
 pub join-requires-clause-known : goal.join-requires-clause-known
 join-requires-clause-known g c =
@@ -63,13 +63,13 @@ nodes_left t i j ns =
     (node_in (other_what (what_at (entries t) i) j)) ns
 
 -- with it the entries are those of a node
-renewed : (g : Over) (c : After-D-3 g) → node c.value-slot.result.now.node ≡ what_at (entries c.args.self.now) c.args.spot.place →
+renewed : (g : Over) (c : After-D-3 g) → node c.value-held.result.now.node ≡ what_at (entries c.args.self.now) c.args.spot.place →
     Renewed g.P.Dims.D c.args.self.now.level (edit_flats g.P.Dims.D c.args.self.now (new_edit g c))
     (nodes_left c.args.self.now c.args.spot.place c.args.j (nodes_of c.self.inside.block.values))
     (entries (merge_node c.args.self.now c.args.spot.place c.args.j))
 renewed g c is =
     let q = c.requires in
-    merged_new c.args.self.now c.args.spot.place c.args.j q.child q.one q.point c.value-slot.result.now.node is _ _ _
+    merged_new c.args.self.now c.args.spot.place c.args.j q.child q.one q.point c.value-held.result.now.node is _ _ _
     (old _ _ _ _ c.self.view_is c.self.invariant) c.old_entry-old.result c.entry_beside-other.result c.old_entry-old.ensures
     c.entry_beside-other.ensures q.spot.within _ _ _ _ c.D.ensures c.D-2.ensures c.level.ensures.value c.join.ensures
 
@@ -83,12 +83,12 @@ pub put_entry-requires-clause-edit : goal.put_entry-requires-clause-edit
 put_entry-requires-clause-edit g c =
     let q = c.requires in
     let at = goal.at.put_entry-requires-clause-edit g c in
-    let is = child g at.After-value-slot in
+    let is = child g at.After-value-held in
     put_record _ _ _ _ c.self.view_is c.self.invariant _ _ c.D-3.ensures c.lift_child.ensures.words c.args.spot.place
     c.old_entry-old.result.addr c.entry_beside-other.result.child
     (c.join.new.known ++ drop c.D.result c.old_entry-old.result.body) c.entry_beside-other.result.value
     q.spot.within c.old_entry-old.ensures.addr (rise_new _ _ _ _ _ (renewed g at.After-D-3 is))
-    (merged_padded c.args.self.now c.args.spot.place c.args.j q.child q.one q.point c.value-slot.result.now.node is _ _ _
+    (merged_padded c.args.self.now c.args.spot.place c.args.j q.child q.one q.point c.value-held.result.now.node is _ _ _
     (old _ _ _ _ c.self.view_is c.self.invariant) c.old_entry-old.result c.entry_beside-other.result c.old_entry-old.ensures
     c.entry_beside-other.ensures q.spot.within _ _ _ _ c.D.ensures c.D-2.ensures c.level.ensures.value c.join.ensures)
 
@@ -101,7 +101,7 @@ put_entry-requires-clause-address g c =
 pub put_entry-requires-clause-was : goal.put_entry-requires-clause-was
 put_entry-requires-clause-was g c h =
     kind-there _ _ _ _ _ _ c.self.view_is c.self.invariant c.lift_child.ensures.words c.D-3.ensures c.args.spot.place
-    c.requires.spot.within ∙ ap Some (ap is_node (sym (child g (goal.at.put_entry-requires-clause-was g c).After-value-slot)))
+    c.requires.spot.within ∙ ap Some (ap is_node (sym (child g (goal.at.put_entry-requires-clause-was g c).After-value-held)))
 
 pub put_entry-requires-clause-long : goal.put_entry-requires-clause-long
 put_entry-requires-clause-long g c h =
@@ -111,8 +111,8 @@ put_entry-requires-clause-long g c h =
     omega (
       arith,
       ap (λ u. length u) (record_new g at.After-D-3),
-      merged_long c.args.self.now c.args.spot.place c.args.j q.child q.one q.point c.value-slot.result.now.node
-          (child g at.After-value-slot) _ _ _ (old _ _ _ _ c.self.view_is c.self.invariant) c.old_entry-old.result
+      merged_long c.args.self.now c.args.spot.place c.args.j q.child q.one q.point c.value-held.result.now.node
+          (child g at.After-value-held) _ _ _ (old _ _ _ _ c.self.view_is c.self.invariant) c.old_entry-old.result
           c.entry_beside-other.result c.old_entry-old.ensures c.entry_beside-other.ensures q.spot.within _ _ _ _
           c.D.ensures c.D-2.ensures c.level.ensures.value c.join.ensures,
       ap (λ u. length u) c.lift_child.ensures.words,
@@ -130,20 +130,20 @@ lift_child-requires-clause-one g c h =
     let o = old _ _ _ _ c.self.view_is c.self.invariant in
     subst (λ (n : PlainNode). length (nodes_held (entries n)) ≡ 1)
     (child_at _ _ c.self.inside.block.values _ o c.args.spot.place c.old_entry-old.result c.old_entry-old.ensures
-    q.spot.within q.child c.value-slot.result.now c.value-slot.ensures)
-    (kids_one c.args.self.now c.args.spot.place c.args.j q.child q.one q.point c.value-slot.result.now.node
-    (child g (goal.at.lift_child-requires-clause-one g c).After-value-slot) _ _ _ o c.old_entry-old.result
+    q.spot.within q.child c.value-held.result.now c.value-held.ensures)
+    (kids_one c.args.self.now c.args.spot.place c.args.j q.child q.one q.point c.value-held.result.now.node
+    (child g (goal.at.lift_child-requires-clause-one g c).After-value-held) _ _ _ o c.old_entry-old.result
     c.entry_beside-other.result c.old_entry-old.ensures c.entry_beside-other.ensures q.spot.within h)
 
 -- the children that are left
-left : (g : Over) (c : After-put_entry g) → node c.value-slot.result.now.node ≡ what_at (entries c.args.self.now) c.args.spot.place →
+left : (g : Over) (c : After-put_entry g) → node c.value-held.result.now.node ≡ what_at (entries c.args.self.now) c.args.spot.place →
     nodes_of c.put_entry.new.block.values ≡ nodes_left c.args.self.now c.args.spot.place c.args.j (nodes_of c.self.inside.block.values)
 left g c is =
     let q = c.requires in
     let o = old _ _ _ _ c.self.view_is c.self.invariant in
     let at = child_at _ _ c.self.inside.block.values _ o c.args.spot.place c.old_entry-old.result
-    c.old_entry-old.ensures q.spot.within q.child c.value-slot.result.now c.value-slot.ensures in
-    lifted c.args.self.now c.args.spot.place c.args.j q.child q.one q.point c.value-slot.result.now.node is _ _ _ o
+    c.old_entry-old.ensures q.spot.within q.child c.value-held.result.now c.value-held.ensures in
+    lifted c.args.self.now c.args.spot.place c.args.j q.child q.one q.point c.value-held.result.now.node is _ _ _ o
     c.old_entry-old.result c.entry_beside-other.result c.old_entry-old.ensures c.entry_beside-other.ensures q.spot.within _
     (ap nodes_of c.put_entry.ensures.same.0 ∙ c.lift_child.ensures.nodes ∙
     ap (λ (n : PlainNode). edited c.old_entry-old.result.front 1
@@ -153,14 +153,14 @@ left g c is =
 pub invariant_of-self : goal.invariant_of-self
 invariant_of-self g c =
     let at = goal.at.invariant_of-self g c in
-    let is = child g at.After-value-slot in
+    let is = child g at.After-value-held in
     subst (IsRecorded g.P.Dims.D c.put_entry.new.block.words) (sym (left g at.After-put_entry is))
     (kept_new _ _ _ _ _ (renewed g at.After-D-3 is) _ (c.put_entry.ensures.words ∙ record_new g at.After-D-3))
 
 pub returns-clause-node : goal.returns-clause-node
 returns-clause-node g c =
     let at = goal.at.returns-clause-node g c in
-    let is = child g at.After-value-slot in
+    let is = child g at.After-value-held in
     ap (λ ns. unpacked g.P.Dims.D c.put_entry.new.block.words ns) (left g at.After-put_entry is)
     ∙ seen_new _ _ _ _ _ (renewed g at.After-D-3 is) _ (c.put_entry.ensures.words ∙ record_new g at.After-D-3)
     ∙ node_of-entries (merge_node c.args.self.now c.args.spot.place c.args.j)

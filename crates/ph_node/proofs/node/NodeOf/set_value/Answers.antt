@@ -4,7 +4,7 @@ use Rattle.ph_specs.specs.Pack.{record_of}
 use Rattle.ph_specs.specs.Record.{unpacked}
 use Rattle.ph_node.specs.OneEdit.{flats_of}
 use Rattle.ph_node.specs.Recorded.{IsRecorded}
-use Rattle.ph_node.specs.Slots.{nodes_of}
+use Rattle.ph_node.specs.Children.{nodes_of}
 use Rattle.ph_node.proofs.Lists.{kept_new, seen_new}
 use Rattle.ph_node.proofs.OldNodes.{old}
 use Rattle.ph_node.proofs.ValuePlaces.{values-below}

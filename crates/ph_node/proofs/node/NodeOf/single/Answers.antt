@@ -6,8 +6,8 @@ use Rattle.ph_model.specs.Lawful.{IsBody}
 use Rattle.ph_specs.specs.Pack.{pack}
 use Rattle.ph_specs.specs.Record.{unpacked}
 use Rattle.ph_node.specs.Kept.{IsKept}
-use Rattle.ph_node.specs.Slots.{nodes_of}
-use Rattle.ph_node.proofs.Made.{again}
+use Rattle.ph_node.specs.Children.{nodes_of}
+use Rattle.ph_node.proofs.RecordNodes.{again}
 use Rattle.ph_node.proofs.node.NodeOf.single.Goals as goal
 
 node-is : (d b a v : ℕ) (body : List ℕ) → 1 ≤ d → d ≤ 16 → b ≤ 61 → a < 2 ^ d → IsBody d b body → IsKept d b (point_entry a body v ∷ [])

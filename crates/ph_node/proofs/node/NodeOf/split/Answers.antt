@@ -9,9 +9,9 @@ use Rattle.ph_bits.specs.declared.edits.Edit.{Edit}
 use Rattle.ph_node.specs.OneEdit.{edit_flats}
 use Rattle.ph_node.specs.RecordEdit.{record_with}
 use Rattle.ph_node.specs.Recorded.{IsRecorded}
-use Rattle.ph_node.specs.Slots.{nodes_of}
+use Rattle.ph_node.specs.Children.{nodes_of}
 use Rattle.ph_node.specs.Split.{split_node}
-use Rattle.ph_node.proofs.Filled.{padded-above, padded-filled}
+use Rattle.ph_node.proofs.BodyArrays.{padded-above, padded-filled}
 use Rattle.ph_node.proofs.Halves.{lower, part_there, addresses_differ, child_new, child_room, parent_new}
 use Rattle.ph_node.proofs.Halves.{parent_long, half_node, nodes_with, front_within, place_left, kids_are, put_is}
 use Rattle.ph_node.proofs.Lists.{Renewed, rise_new, kept_new, seen_new}

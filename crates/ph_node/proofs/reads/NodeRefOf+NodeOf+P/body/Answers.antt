@@ -2,7 +2,7 @@ use Rattle.std.proofs.Common.{take, ap, sym, subst, ◌∙◌}
 use Rattle.ph_model.specs.Lawful.{IsBody}
 use Rattle.ph_bits.specs.Packed.{IsPadded}
 use Rattle.ph_node.specs.Shown.{shown}
-use Rattle.ph_node.proofs.Filled.{filled-behind}
+use Rattle.ph_node.proofs.BodyArrays.{filled-behind}
 use Rattle.ph_node.proofs.Reading.{same-row}
 use Rattle.ph_node.proofs.reads.NodeRefOf+NodeOf+P.body.Goals as goal
 

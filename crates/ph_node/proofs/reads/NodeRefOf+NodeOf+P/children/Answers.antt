@@ -1,5 +1,5 @@
 use Rattle.std.proofs.Common.{ap, sym, ◌∙◌}
-use Rattle.ph_node.specs.Slots.{nodes_of}
+use Rattle.ph_node.specs.Children.{nodes_of}
 use Rattle.ph_node.proofs.OldNodes.{nodes_are}
 use Rattle.ph_node.proofs.reads.NodeRefOf+NodeOf+P.children.Goals as goal
 

@@ -5,7 +5,7 @@ use Rattle.ph_model.specs.EntryList.{Entry, What, entries}
 use Rattle.ph_node.specs.Merge.{addr_at}
 use Rattle.ph_node.specs.Shown.{shown}
 use Rattle.ph_node.specs.Split.{body_at}
-use Rattle.ph_node.proofs.Standing.{parts_there}
+use Rattle.ph_node.proofs.FoundSpots.{parts_there}
 use Rattle.ph_node.proofs.reads.NodeRefOf+NodeOf+P.entry.Goals as goal
 
 pub returns-clause-shows : goal.returns-clause-shows

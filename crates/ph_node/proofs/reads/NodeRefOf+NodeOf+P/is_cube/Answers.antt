@@ -3,7 +3,7 @@ use Rattle.ph_specs.specs.Pack.{is_cube}
 use Rattle.ph_specs.specs.Record.{first_in, has_cube}
 use Rattle.ph_node.specs.Shown.{shown}
 use Rattle.ph_node.proofs.Listings.{count_is}
-use Rattle.ph_node.proofs.Made.{length-flat}
+use Rattle.ph_node.proofs.RecordNodes.{length-flat}
 use Rattle.ph_node.proofs.OldNodes.{level_is}
 use Rattle.ph_node.proofs.reads.NodeRefOf+NodeOf+P.is_cube.Goals as goal
 

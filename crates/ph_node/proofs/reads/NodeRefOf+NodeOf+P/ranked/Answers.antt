@@ -11,8 +11,8 @@ use Rattle.ph_node.proofs.reads.NodeRefOf+NodeOf+P.ranked.Goals as goal
 pub ranked-child-requires : goal.ranked-child-requires
 ranked-child-requires g c = spot-in _ _ _ _ _ _ c.node.view_is c.node.invariant c.words-words.ensures c.D-dims.ensures c.args.spot c.requires
 
-pub value-slot-requires : goal.value-slot-requires
-value-slot-requires g c =
+pub value-held-requires : goal.value-held-requires
+value-held-requires g c =
     let p = child-told _ _ _ _ _ _ c.node.view_is c.node.invariant c.words-words.ensures c.D-dims.ensures
     c.args.spot.place c.requires.within _ _ c.ranked-child.ensures.kind c.if-child.true c.ranked-child.ensures.rank in
     omega (arith, p.0, length-nodes c.node.inside.block.values)
@@ -27,7 +27,7 @@ returns-then-child g c =
     let p = child-told _ _ _ _ _ _ c.node.view_is c.node.invariant c.words-words.ensures c.D-dims.ensures
     c.args.spot.place c.requires.within _ _ c.ranked-child.ensures.kind c.if-child.true c.ranked-child.ensures.rank in
     record {
-      what = p.1 c.value-slot.result.now.node (get-nodes c.node.inside.block.values c.ranked-child.result.1 c.value-slot.result.now c.value-slot.ensures);
+      what = p.1 c.value-held.result.now.node (get-nodes c.node.inside.block.values c.ranked-child.result.1 c.value-held.result.now c.value-held.ensures);
       rank = λ _. ranked _ _ _ _ c.node.view_is c.node.invariant _ _ c.D-dims.ensures c.words-words.ensures true
           c.args.spot.place c.ranked-child.result.1
           (c.ranked-child.ensures.rank ∙

@@ -2,7 +2,7 @@ use Rattle.std.proofs.Common.{◌∙◌, ◌==◌}
 use Rattle.ph_model.specs.EntryList.{entries}
 use Rattle.ph_node.specs.Shown.{shown}
 use Rattle.ph_node.proofs.Reading.{place-there, front-there}
-use Rattle.ph_node.proofs.Standing.{spot_found}
+use Rattle.ph_node.proofs.FoundSpots.{spot_found}
 use Rattle.ph_node.proofs.reads.NodeRefOf+NodeOf+P.search.Goals as goal
 
 pub returns-in-Ok-clause-found : goal.returns-in-Ok-clause-found

@@ -1,5 +1,5 @@
 use Rattle.std.proofs.Common.{◌≤◌, arith, ap, subst}
-use Rattle.ph_tree.proofs.Compared.{IsRooted, root-lawful, root-nodes, tables-same}
+use Rattle.ph_tree.proofs.NodeComparisons.{IsRooted, root-lawful, root-nodes, tables-same}
 use Rattle.ph_tree.proofs.tree.PhTree.same.Given.{Over}
 use Rattle.ph_tree.proofs.tree.PhTree.same.Goals.{In-Some-Some}
 use Rattle.ph_tree.proofs.tree.PhTree.same.Goals as goal

@@ -1,7 +1,7 @@
 use Rattle.std.proofs.Common.{◌≤◌, arith, ap, ◌∙◌, length}
 use Rattle.ph_specs.specs.Node.{nodes}
 use Rattle.ph_specs.specs.Shape.{shape}
-use Rattle.ph_tree.proofs.Compared.{length-nodes}
+use Rattle.ph_tree.proofs.NodeComparisons.{length-nodes}
 use Rattle.ph_tree.proofs.Sizes.{nodes-few, sizes-counted}
 use Rattle.ph_tree.proofs.tree.PhTree.stats.Goals as goal
 

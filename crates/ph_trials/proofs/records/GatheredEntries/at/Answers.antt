@@ -1,7 +1,7 @@
 use Rattle.std.proofs.Common.{◌≡◌, ap, sym, ◌∙◌, take}
 use Rattle.std.specs.Prelude.{Some}
 use Rattle.ph_specs.specs.Record.{read}
-use Rattle.ph_node.proofs.Filled.{padded-filled}
+use Rattle.ph_node.proofs.BodyArrays.{padded-filled}
 use Rattle.ph_node.specs.Shown.{shown, entry_of, what_of}
 use Rattle.ph_trials.proofs.Written.{holds_child, read-at}
 use Rattle.ph_trials.proofs.records.GatheredEntries.at.Goals as goal

@@ -1,6 +1,6 @@
 use Rattle.std.proofs.Common.{◌≡◌, [], ◌∙◌, drop, sym, ap, subst, refl, arith, rules}
 use Rattle.ph_specs.specs.Past.{back}
-use Rattle.ph_undo.specs.Rings.{steps_in}
+use Rattle.ph_undo.specs.Rings.{inverses_in}
 use Rattle.ph_undo.specs.Kept.{kept_of, BackVisits}
 use Rattle.ph_undo.proofs.Noted.{first-none, first-some, first_point, first_fits, first_changes, is_kept-back, kept-back, past-some, past-none, back-none, back-visits, is_kept-as}
 use Rattle.ph_undo.proofs.kept.Kept.back_one.Given.{Over}
@@ -12,7 +12,7 @@ use Rattle.ph_undo.proofs.kept.Kept.back_one.Goals as goal
 no_past : (g : Over) (c : In_default g) → c.args.self.now.past ≡ []
 no_past g c =
     sym (ap (λ k. k.past) c.self.view_is) ∙ past-none {D = g.row.D} c.self.inside.tree c.self.inside.ring
-    (first-none (steps_in c.self.inside.ring) (sym c.newest.ensures ∙ c.in_default.is))
+    (first-none (inverses_in c.self.inside.ring) (sym c.newest.ensures ∙ c.in_default.is))
 
 pub returns-in_default-clause-done : goal.returns-in_default-clause-done
 returns-in_default-clause-done g c =
@@ -31,18 +31,18 @@ returns-in_default-clause-done g c =
 
 pub take_back-requires : goal.take_back-requires
 take_back-requires g c =
-    let is = first-some (steps_in c.self.inside.ring) c.in-Some.step (sym c.newest.ensures ∙ c.in-Some.is) in
+    let is = first-some (inverses_in c.self.inside.ring) c.in-Some.inverse (sym c.newest.ensures ∙ c.in-Some.is) in
     let t = c.self.inside.tree in
-    let rest = drop 1 (steps_in c.self.inside.ring) in
+    let rest = drop 1 (inverses_in c.self.inside.ring) in
     let few = c.self.invariant.few in (
       search rules,
       (
         grind arith,
         (
-          first_point t c.self.inside.depth c.in-Some.step rest c.self.inside.ring c.self.invariant is,
+          first_point t c.self.inside.depth c.in-Some.inverse rest c.self.inside.ring c.self.invariant is,
           (
-            first_fits t c.self.inside.depth c.in-Some.step rest c.self.inside.ring c.self.invariant is,
-            first_changes t c.self.inside.depth c.in-Some.step rest c.self.inside.ring c.self.invariant is,
+            first_fits t c.self.inside.depth c.in-Some.inverse rest c.self.inside.ring c.self.invariant is,
+            first_changes t c.self.inside.depth c.in-Some.inverse rest c.self.inside.ring c.self.invariant is,
           ),
         ),
       ),
@@ -50,25 +50,25 @@ take_back-requires g c =
 
 pub invariant_of-self : goal.invariant_of-self
 invariant_of-self g c =
-    let is = first-some (steps_in c.self.inside.ring) c.in-Some.step (sym c.newest.ensures ∙ c.in-Some.is) in
-    is_kept-back c.self.inside.tree c.self.inside.depth c.in-Some.step (drop 1 (steps_in c.self.inside.ring))
+    let is = first-some (inverses_in c.self.inside.ring) c.in-Some.inverse (sym c.newest.ensures ∙ c.in-Some.is) in
+    is_kept-back c.self.inside.tree c.self.inside.depth c.in-Some.inverse (drop 1 (inverses_in c.self.inside.ring))
     c.self.inside.ring c.self.invariant is c.take_back.new.tree c.in-Ok.ensures.undone c.drop_newest.new.ring
-    c.drop_newest.ensures.steps c.drop_newest.ensures.room
+    c.drop_newest.ensures.inverses c.drop_newest.ensures.room
 
 some_past : (g : Over) (c : After-take_back g) → c.args.self.now.past ≡ [] → ⊥
 some_past g c e =
-    let is = first-some (steps_in c.self.inside.ring) c.in-Some.step (sym c.newest.ensures ∙ c.in-Some.is) in
-    past-some c.self.inside.tree c.in-Some.step (drop 1 (steps_in c.self.inside.ring)) c.self.inside.ring is (ap (λ k. k.past) c.self.view_is ∙ e)
+    let is = first-some (inverses_in c.self.inside.ring) c.in-Some.inverse (sym c.newest.ensures ∙ c.in-Some.is) in
+    past-some c.self.inside.tree c.in-Some.inverse (drop 1 (inverses_in c.self.inside.ring)) c.self.inside.ring is (ap (λ k. k.past) c.self.view_is ∙ e)
 
 pub returns-in-Ok-clause-done : goal.returns-in-Ok-clause-done
 returns-in-Ok-clause-done g c =
     let some = some_past g (goal.at.returns-in-Ok-clause-done g c).After-take_back in
-    let is = first-some (steps_in c.self.inside.ring) c.in-Some.step (sym c.newest.ensures ∙ c.in-Some.is) in
+    let is = first-some (inverses_in c.self.inside.ring) c.in-Some.inverse (sym c.newest.ensures ∙ c.in-Some.is) in
     record {
       none = (λ e. absurd (let no = e in cc), λ e. absurd (some e));
       stays = λ e. absurd (some e);
-      back = kept-back c.self.inside.tree c.self.inside.depth c.in-Some.step (drop 1 (steps_in c.self.inside.ring))
-          c.self.inside.ring is c.take_back.new.tree c.in-Ok.ensures.undone c.drop_newest.new.ring c.drop_newest.ensures.steps
+      back = kept-back c.self.inside.tree c.self.inside.depth c.in-Some.inverse (drop 1 (inverses_in c.self.inside.ring))
+          c.self.inside.ring is c.take_back.new.tree c.in-Ok.ensures.undone c.drop_newest.new.ring c.drop_newest.ensures.inverses
           ∙ ap (λ k. back k 1) c.self.view_is;
       err = tt;
       changes = c.in-Ok.ensures.changes;
@@ -104,13 +104,13 @@ returns-in-Err-clause-idle g c e = absurd (some_past g (goal.at.returns-in-Err-c
 few : (g : Over) (c : After-take_back g) →
     BackVisits g.row.D c.args.self.now.width c.args.self.now.table c.args.self.now.past c.args.visits.now c.take_back.new.visits
 few g c =
-    let is = first-some (steps_in c.self.inside.ring) c.in-Some.step (sym c.newest.ensures ∙ c.in-Some.is) in
+    let is = first-some (inverses_in c.self.inside.ring) c.in-Some.inverse (sym c.newest.ensures ∙ c.in-Some.is) in
     let t = c.self.inside.tree in
-    let rest = drop 1 (steps_in c.self.inside.ring) in
+    let rest = drop 1 (inverses_in c.self.inside.ring) in
     subst (λ k. BackVisits g.row.D k.width k.table k.past c.args.visits.now c.take_back.new.visits) c.self.view_is
-    (back-visits t c.in-Some.step rest c.self.inside.ring is c.args.visits.now c.take_back.new.visits
-    (first_point t c.self.inside.depth c.in-Some.step rest c.self.inside.ring c.self.invariant is)
-    (first_changes t c.self.inside.depth c.in-Some.step rest c.self.inside.ring c.self.invariant is)
+    (back-visits t c.in-Some.inverse rest c.self.inside.ring is c.args.visits.now c.take_back.new.visits
+    (first_point t c.self.inside.depth c.in-Some.inverse rest c.self.inside.ring c.self.invariant is)
+    (first_changes t c.self.inside.depth c.in-Some.inverse rest c.self.inside.ring c.self.invariant is)
     c.take_back.ensures.visits)
 
 pub returns-in_default-clause-visits : goal.returns-in_default-clause-visits

@@ -7,7 +7,7 @@ use Rattle.ph_specs.specs.Table.{find, del}
 use Rattle.ph_specs.proofs.laws.Edits.{del-absent}
 use Rattle.ph_tree.specs.Removals.{IsRemovedRow}
 use Rattle.ph_undo.specs.Kept.{kept_of}
-use Rattle.ph_undo.specs.declared.step.Step.TheVariants.{Restore}
+use Rattle.ph_undo.specs.declared.inverse.Inverse.TheVariants.{Restore}
 use Rattle.ph_undo.proofs.Carried.{del-carried}
 use Rattle.ph_undo.proofs.WhichRemovals.{del-edit, del-idle}
 use Rattle.ph_undo.proofs.Noted.{IsNoted, noted, with_table, is_kept-as}
@@ -25,7 +25,7 @@ del_noted : (g : Over) (c : After-note_removal g) →
 del_noted g c =
     let t = c.self.inside.tree in
     noted t (del t.table c.args.p.now) c.self.inside.depth (Restore c.args.p.now c.in-Some.value) c.self.inside.ring
-    c.note_removal.new.ring c.self.invariant c.note_removal.ensures.steps c.note_removal.ensures.room
+    c.note_removal.new.ring c.self.invariant c.note_removal.ensures.inverses c.note_removal.ensures.room
     (subst (λ k. IsPoint k.width g.row.D c.args.p.now) (sym c.self.view_is) c.requires) tt
     (omega (arith, c.len-len.ensures))
     (del-undone g.row.D t.width t.table c.root-root.ensures.table c.args.p.now c.in-Some.value (found g c))

@@ -2,7 +2,7 @@ use Rattle.std.proofs.Common.{◌∙◌, sym, ap, subst, arith}
 use Rattle.std.proofs.lemmas.Result.{err_from_is_err_and}
 use Rattle.ph_specs.specs.Coordinate.{IsPoint}
 use Rattle.ph_specs.specs.Table.{put}
-use Rattle.ph_undo.specs.Steps.{put_inverse}
+use Rattle.ph_undo.specs.Inverses.{put_inverse}
 use Rattle.ph_undo.specs.Kept.{kept_of}
 use Rattle.ph_undo.proofs.Carried.{put-carried}
 use Rattle.ph_undo.proofs.Noted.{IsNoted, noted, is_kept-as}
@@ -20,7 +20,7 @@ put_noted g c =
     let after = put t.width t.table c.args.p c.args.v in
     let point : IsPoint t.width g.row.D c.args.p = subst (λ k. IsPoint k.width g.row.D c.args.p) (sym c.self.view_is) c.requires in
     noted t after c.self.inside.depth (put_inverse {D = g.row.D} c.args.p a) c.self.inside.ring c.note_put.new.ring
-    c.self.invariant c.note_put.ensures.steps c.note_put.ensures.room
+    c.self.invariant c.note_put.ensures.inverses c.note_put.ensures.room
     (put-point g.row.D t.width c.args.p a point) (put-changes g.row.D t.width t.table c.args.p c.args.v a) (omega (arith, c.len-len.ensures))
     (put-undone g.row.D t.width t.table c.root-root.ensures.table c.args.p c.args.v a c.in_ok-put.ensures.done.answer)
 

@@ -5,12 +5,12 @@ use Rattle.ph_specs.specs.Past.{move_kept}
 use Rattle.ph_specs.specs.Table.{find, move}
 use Rattle.ph_specs.proofs.laws.Put.{either}
 use Rattle.ph_undo.specs.Kept.{kept_of, IsKept}
-use Rattle.ph_undo.specs.Rings.{steps_in, room_in}
-use Rattle.ph_undo.specs.declared.step.Step.TheVariants.{Return}
+use Rattle.ph_undo.specs.Rings.{inverses_in, room_in}
+use Rattle.ph_undo.specs.declared.inverse.Inverse.TheVariants.{Return}
 use Rattle.ph_undo.proofs.Carried.{move-carried}
 use Rattle.ph_undo.proofs.Noted.{noted, with_table, is_kept-same, is_kept-as, kept-same}
 use Rattle.ph_undo.proofs.Undone.{move-undone, move-changes}
-use Rattle.ph_undo.proofs.WhichMoves.{moved-is, steps-move, move-edit, move-idle, move-stays, moves_by}
+use Rattle.ph_undo.proofs.WhichMoves.{moved-is, inverses-move, move-edit, move-idle, move-stays, moves_by}
 use Rattle.ph_undo.proofs.kept.Kept.relocate.Given.{Over}
 use Rattle.ph_undo.proofs.kept.Kept.relocate.Goals.{After-note_move}
 use Rattle.ph_undo.proofs.kept.Kept.relocate.Goals as goal
@@ -26,14 +26,14 @@ record IsLeft (g : Over) (c : After-note_move g) : Type 0 where
       ≡ move_kept (kept_of c.self.inside.tree c.self.inside.depth c.self.inside.ring) c.args.from.now c.args.to.now
 
 -- the inverses after it
-steps : (g : Over) (c : After-note_move g) (b : Bool) → moves_by (find c.self.inside.tree.table c.args.from.now) (find c.self.inside.tree.table c.args.to.now) ≡ b
-    → steps_in c.note_move.new.ring ≡
+inverses : (g : Over) (c : After-note_move g) (b : Bool) → moves_by (find c.self.inside.tree.table c.args.from.now) (find c.self.inside.tree.table c.args.to.now) ≡ b
+    → inverses_in c.note_move.new.ring ≡
     cond b (take (room_in c.self.inside.ring)
-    (Return c.args.to.now c.args.from.now ∷ steps_in c.self.inside.ring)) (steps_in c.self.inside.ring)
-steps g c b e =
-    steps-move (room_in c.self.inside.ring) c.self.inside.tree.table c.args.from.now c.args.to.now c.in_ok-moved.moved
-    (steps_in c.self.inside.ring) (steps_in c.note_move.new.ring) c.in_ok-moved.ensures.done.answer
-    c.note_move.ensures.steps b e
+    (Return c.args.to.now c.args.from.now ∷ inverses_in c.self.inside.ring)) (inverses_in c.self.inside.ring)
+inverses g c b e =
+    inverses-move (room_in c.self.inside.ring) c.self.inside.tree.table c.args.from.now c.args.to.now c.in_ok-moved.moved
+    (inverses_in c.self.inside.ring) (inverses_in c.note_move.new.ring) c.in_ok-moved.ensures.done.answer
+    c.note_move.ensures.inverses b e
 
 -- it did
 moved : (g : Over) (c : After-note_move g) → moves_by (find c.self.inside.tree.table c.args.from.now) (find c.self.inside.tree.table c.args.to.now) ≡ true → IsLeft g c
@@ -45,7 +45,7 @@ moved g c e =
     let from : IsPoint t.width g.row.D p = subst (λ k. IsPoint k.width g.row.D p) (sym c.self.view_is) c.requires.from in
     let to : IsPoint t.width g.row.D q = subst (λ k. IsPoint k.width g.row.D q) (sym c.self.view_is) c.requires.to in
     let n = noted t (move t.width t.table p q) c.self.inside.depth (Return q p) c.self.inside.ring
-    c.note_move.new.ring c.self.invariant (steps g c true e) c.note_move.ensures.room
+    c.note_move.new.ring c.self.invariant (inverses g c true e) c.note_move.ensures.room
     (to, from) (move-changes g.row.D t.width t.table c.root-root.ensures.table p q m.value m.free m.there) (omega (arith, c.len-len.ensures))
     (move-undone g.row.D t.width t.table c.root-root.ensures.table p q m.value m.free m.there) in
     record { kept = n.kept; view = n.view ∙ move-edit (kept_of t c.self.inside.depth c.self.inside.ring) p q e }
@@ -58,10 +58,10 @@ stayed g c e =
     let same : with_table t (move t.width t.table c.args.from.now c.args.to.now) ≡ t = ap (with_table t) (move-stays t.width t.table c.args.from.now c.args.to.now e) in
     record {
       kept = subst (λ u. IsKept g.row.D u c.self.inside.depth now) (sym same)
-          (is_kept-same t c.self.inside.depth c.self.inside.ring now c.self.invariant (steps g c false e)
+          (is_kept-same t c.self.inside.depth c.self.inside.ring now c.self.invariant (inverses g c false e)
           c.note_move.ensures.room);
       view = ap (λ u. kept_of u c.self.inside.depth now) same ∙ kept-same t c.self.inside.depth c.self.inside.ring now
-          (steps g c false e) ∙ move-idle (kept_of t c.self.inside.depth c.self.inside.ring) c.args.from.now c.args.to.now e;
+          (inverses g c false e) ∙ move-idle (kept_of t c.self.inside.depth c.self.inside.ring) c.args.from.now c.args.to.now e;
     }
 
 left : (g : Over) (c : After-note_move g) → IsLeft g c

@@ -1,7 +1,7 @@
 //! Inverses of edits.
 
 ghost use Rattle.std.specs.Prelude.{◌≡◌, ◌+◌, ◌*◌, ◌≤◌, length, OnOk, OnErr};
-ghost use Rattle.ph_undo.specs.Steps.{undone, undo_visits, IsStep, IsChange, is_move, put_inverse as inverse_of};
+ghost use Rattle.ph_undo.specs.Inverses.{undone, undo_visits, IsInverse, IsChange, is_move, put_inverse as inverse_of};
 
 use ph_coord::Point;
 use ph_steps::Steps;
@@ -11,7 +11,7 @@ use std::sync::ledger::Ledger;
 
 /// What takes an edit back.
 #[derive(Clone, Copy)]
-pub enum Step<const D: usize> {
+pub enum Inverse<const D: usize> {
     /// Of a put at a new point: the row goes.
     Remove(Point<D>),
     /// Of a put at an old point, and of a removal: the value that was there comes back.
@@ -21,12 +21,12 @@ pub enum Step<const D: usize> {
 }
 
 // What takes a put back that was answered so.
-pub(crate) fn put_inverse<const D: usize>(p: &Point<D>, answer: Put) -> Step<D>
+pub(crate) fn put_inverse<const D: usize>(p: &Point<D>, answer: Put) -> Inverse<D>
     ensures { result ≡ inverse_of p.now answer }
 {
     match answer {
-        Put::New => Step::Remove(*p),
-        Put::Old(value) => Step::Restore(*p, value),
+        Put::New => Inverse::Remove(*p),
+        Put::Old(value) => Inverse::Restore(*p, value),
     }
 }
 
@@ -43,16 +43,16 @@ pub(crate) fn has_moved<const D: usize>(from: &Point<D>, to: &Point<D>, answer: 
 // Takes an edit back. An error leaves all as it was.
 pub(crate) fn take_back<const D: usize, V: Ledger, C: Ledger>(
     tree: &mut PhTree<D>,
-    step: &Step<D>,
+    inverse: &Inverse<D>,
     visits: &mut Steps<V>,
     changes: &mut Steps<C>,
 ) -> Result<(), NoMemory>
-    requires points { IsStep tree.old.width step.now }
-    requires fit { length (undone tree.old.width tree.old.table step.now) ≤ tree.old.max }
-    requires change { IsChange tree.old.table step.now }
-    ensures undone { OnOk result (tree.new ≡ record tree.old { table = undone tree.old.width tree.old.table step.now }) }
+    requires points { IsInverse tree.old.width inverse.now }
+    requires fit { length (undone tree.old.width tree.old.table inverse.now) ≤ tree.old.max }
+    requires change { IsChange tree.old.table inverse.now }
+    ensures undone { OnOk result (tree.new ≡ record tree.old { table = undone tree.old.width tree.old.table inverse.now }) }
     ensures err { OnErr result (tree.new ≡ tree.old) }
-    ensures visits { visits.new ≤ visits.old + undo_visits tree.old.width D tree.old.table step.now }
+    ensures visits { visits.new ≤ visits.old + undo_visits tree.old.width D tree.old.table inverse.now }
     ensures limit { visits.new ≤ visits.old + 5 * tree.old.width }
     ensures later { visits.old ≤ visits.new }
     ensures changes { changes.new ≤ changes.old + 4 }
@@ -61,17 +61,17 @@ pub(crate) fn take_back<const D: usize, V: Ledger, C: Ledger>(
 {
     // A use that makes known that the tree is a table.
     let _root = tree.root();
-    match step {
-        Step::Remove(at) => {
+    match inverse {
+        Inverse::Remove(at) => {
             tree.del(at, visits, changes)?;
             Ok(())
         }
-        Step::Restore(at, value) => match tree.put(*at, *value, visits, changes) {
+        Inverse::Restore(at, value) => match tree.put(*at, *value, visits, changes) {
             Ok(_) => Ok(()),
             Err(PutError::Full) => unreachable!(),
             Err(PutError::NoMemory) => Err(NoMemory),
         },
-        Step::Return(from, to) => {
+        Inverse::Return(from, to) => {
             tree.relocate(from, to, visits, changes)?;
             Ok(())
         }

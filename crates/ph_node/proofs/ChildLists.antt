@@ -5,10 +5,10 @@ use Rattle.std.specs.Prelude.{if◌then◌else◌}
 use Rattle.ph_specs.specs.Node.{PlainNode}
 use Rattle.ph_bits.specs.Edits.{edited}
 use Rattle.ph_node.specs.OneEdit.{node_at}
-use Rattle.ph_node.specs.Slots.{nodes_of}
-use Rattle.ph_node.specs.declared.node.SlotOf.{SlotOf}
+use Rattle.ph_node.specs.Children.{nodes_of}
+use Rattle.ph_node.specs.declared.node.ChildOf.{ChildOf}
 
-nodes-edited : {P : Type 0} (k less more : ℕ) (s : SlotOf P) (ss : List (SlotOf P)) → nodes_of (edited k less more s ss) ≡ edited k less more s.node (nodes_of ss)
+nodes-edited : {P : Type 0} (k less more : ℕ) (s : ChildOf P) (ss : List (ChildOf P)) → nodes_of (edited k less more s ss) ≡ edited k less more s.node (nodes_of ss)
 nodes-edited zero zero zero s ss = refl
 nodes-edited zero (suc less) zero s [] = refl
 nodes-edited zero (suc less) zero s (x ∷ ss) = nodes-edited zero less zero s ss
@@ -38,19 +38,19 @@ any-edited (suc k) x y [] = refl
 any-edited (suc k) x y (z ∷ zs) = ap {B = List _} (λ u. z ∷ u) (any-edited k x y zs)
 
 -- a child put in, where one may have been
-pub nodes-put : {P : Type 0} (c : Bool) (ss : List (SlotOf P)) (k : ℕ) (s : SlotOf P) → k + (if c then 1 else 0) ≤ length ss
+pub nodes-put : {P : Type 0} (c : Bool) (ss : List (ChildOf P)) (k : ℕ) (s : ChildOf P) → k + (if c then 1 else 0) ≤ length ss
     → nodes_of (insert (if c then remove ss k else ss) k s) ≡ edited k (if c then 1 else 0) 1 s.node (nodes_of ss)
 nodes-put true ss k s l = ap nodes_of (again-edited ss k s (omega (arith, l))) ∙ nodes-edited k 1 1 s ss
 nodes-put false ss k s l = ap nodes_of (insert-edited ss k s (omega (arith, l))) ∙ nodes-edited k 0 1 s ss
 
-pub nodes-again : {P : Type 0} (ss : List (SlotOf P)) (k : ℕ) (s : SlotOf P) → k < length ss → nodes_of (insert (remove ss k) k s) ≡ edited k 1 1 s.node (nodes_of ss)
+pub nodes-again : {P : Type 0} (ss : List (ChildOf P)) (k : ℕ) (s : ChildOf P) → k < length ss → nodes_of (insert (remove ss k) k s) ≡ edited k 1 1 s.node (nodes_of ss)
 nodes-again ss k s l = nodes-put true ss k s (omega (arith, l))
 
-pub nodes-gone : {P : Type 0} (ss : List (SlotOf P)) (k : ℕ) (s : SlotOf P) (n : PlainNode) → k < length ss → nodes_of (remove ss k) ≡ edited k 1 0 n (nodes_of ss)
+pub nodes-gone : {P : Type 0} (ss : List (ChildOf P)) (k : ℕ) (s : ChildOf P) (n : PlainNode) → k < length ss → nodes_of (remove ss k) ≡ edited k 1 0 n (nodes_of ss)
 nodes-gone ss k s n l = ap nodes_of (gone-edited ss k s l) ∙ nodes-edited k 1 0 s ss ∙ any-edited k s.node n (nodes_of ss)
 
 -- and the one that was there
-pub nodes-taken : {P : Type 0} (c : Bool) (ss : List (SlotOf P)) (k : ℕ) →
+pub nodes-taken : {P : Type 0} (c : Bool) (ss : List (ChildOf P)) (k : ℕ) →
     nodes_of (if c then take 1 (drop k ss) else []) ≡ take (if c then 1 else 0) (drop k (nodes_of ss))
 nodes-taken false ss k = zero-of (drop k (nodes_of ss))
   where
@@ -70,7 +70,7 @@ pub place-left : {A : Type 0} (c : Bool) (xs : List A) (k : ℕ) → k + (if c t
 place-left true xs k l = remove-keeps xs k (omega (arith, l))
 place-left false xs k l = omega (arith, l)
 
-pub at-slot : {P : Type 0} (ss : List (SlotOf P)) (k : ℕ) (s : SlotOf P) → k < length ss → s ≡ get_or ss k s → s.node ≡ node_at (nodes_of ss) k
-at-slot [] k s l e = absurd (omega (arith, l))
-at-slot (x ∷ ss) zero s l e = ap (λ u. u.node) e
-at-slot (x ∷ ss) (suc k) s l e = at-slot ss k s (omega (arith, l)) e
+pub at-child : {P : Type 0} (ss : List (ChildOf P)) (k : ℕ) (s : ChildOf P) → k < length ss → s ≡ get_or ss k s → s.node ≡ node_at (nodes_of ss) k
+at-child [] k s l e = absurd (omega (arith, l))
+at-child (x ∷ ss) zero s l e = ap (λ u. u.node) e
+at-child (x ∷ ss) (suc k) s l e = at-child ss k s (omega (arith, l)) e

@@ -16,8 +16,8 @@ use Rattle.ph_model.proofs.laws.OneToOne.{packable}
 use Rattle.ph_model.proofs.laws.TableShape.{table-shape}
 use Rattle.ph_model.proofs.laws.Unpacked.{IsPackable, child_nodes, first-record, unpacked-pack}
 use Rattle.ph_node.specs.Kept.{IsNodeOf}
-use Rattle.ph_node.specs.Slots.{nodes_of}
-use Rattle.ph_node.specs.declared.node.SlotOf.{SlotOf}
+use Rattle.ph_node.specs.Children.{nodes_of}
+use Rattle.ph_node.specs.declared.node.ChildOf.{ChildOf}
 use Rattle.ph_tree.proofs.Sizes.{trees, below-children}
 
 -- ---- nodes by their records and their children
@@ -36,18 +36,18 @@ length-children end = refl
 length-children (point a body v rest) = omega (arith, length-children rest)
 length-children (child a body below chain rest) = omega (arith, length-children rest)
 
-pub length-nodes_of : {P : Type 0} (ss : List (SlotOf P)) → length (nodes_of ss) ≡ length ss
+pub length-nodes_of : {P : Type 0} (ss : List (ChildOf P)) → length (nodes_of ss) ≡ length ss
 length-nodes_of [] = refl
 length-nodes_of (s ∷ ss) = ap suc (length-nodes_of ss)
 
 -- a visited node that is lawful, its record and its children
-pub record IsSeen {P : Type 0} (dims : ℕ) (n : PlainNode) (ws : List ℕ) (ss : List (SlotOf P)) : Type 0 where
+pub record IsSeen {P : Type 0} (dims : ℕ) (n : PlainNode) (ws : List ℕ) (ss : List (ChildOf P)) : Type 0 where
   pub kept : IsNodeOf dims n
   pub lawful : IsLawfulFrom dims n.level 0 n.chain
   pub words : ws ≡ pack dims n
   pub children : nodes_of ss ≡ child_nodes n.chain
 
-module _ {P : Type 0} {dims : ℕ} {n : PlainNode} {ws : List ℕ} {ss : List (SlotOf P)} (h : IsSeen dims n ws ss) where
+module _ {P : Type 0} {dims : ℕ} {n : PlainNode} {ws : List ℕ} {ss : List (ChildOf P)} (h : IsSeen dims n ws ss) where
   seen-packable : IsPackable dims n.level n.chain
   seen-packable = packable dims n.level n.chain h.kept.few (omega (arith, h.kept.low)) h.lawful
 
@@ -70,7 +70,7 @@ module _ {P : Type 0} {dims : ℕ} {n : PlainNode} {ws : List ℕ} {ss : List (S
   pub seen-size : length (trees ss) + 1 ≡ length (nodes (Some n))
   seen-size = omega (arith, ap length (below-children ss n n h.children refl))
 
-module _ {P : Type 0} {dims : ℕ} {n m : PlainNode} {ws us : List ℕ} {ss ts : List (SlotOf P)} (h : IsSeen dims n ws ss) (k : IsSeen dims m us ts) where
+module _ {P : Type 0} {dims : ℕ} {n m : PlainNode} {ws us : List ℕ} {ss ts : List (ChildOf P)} (h : IsSeen dims n ws ss) (k : IsSeen dims m us ts) where
   module _ (e : ws ≡ us) where
     pub seen-long : length ss ≡ length ts
     seen-long = seen-length h ∙ ap (λ t. (first_in t).children) e ∙ sym (seen-length k)

@@ -2,8 +2,8 @@ use Rattle.std.proofs.Common.{◌≤◌, ◌∙◌, length, ap, subst, arith}
 use Rattle.std.specs.Prelude.{Err}
 use Rattle.ph_specs.specs.Table.{put}
 use Rattle.ph_specs.proofs.laws.Edits.{length-put}
-use Rattle.ph_undo.specs.Steps.{undone}
-use Rattle.ph_undo.proofs.step.take_back.Goals as goal
+use Rattle.ph_undo.specs.Inverses.{undone}
+use Rattle.ph_undo.proofs.inverse.take_back.Goals as goal
 
 -- the tree has room for the row, since the table from before the edit is no longer than it may be
 pub unreachable-requires : goal.unreachable-requires

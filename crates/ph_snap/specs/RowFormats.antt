@@ -1,9 +1,9 @@
 -- Trees that there are.
 use Rattle.std.specs.Prelude.{◌≡◌, ◌≤◌, ◌%◌}
 use Rattle.ph_specs.specs.declared.Kind.TheVariants.{Boxes}
-use Rattle.ph_snap.specs.declared.form.Form.{Form}
+use Rattle.ph_snap.specs.declared.row_format.RowFormat.{RowFormat}
 
-pub record IsForm (f : Form) : Type 0 where
+pub record IsRowFormat (f : RowFormat) : Type 0 where
   pub some : 1 ≤ f.dims
   pub few : f.dims ≤ 16
   pub narrow : 1 ≤ f.width
