@@ -18,3 +18,4 @@ mod FarRegions
 mod BallStarts
 mod Balls
 mod SphereSeen
+mod Queues

@@ -11,7 +11,7 @@ ghost use Rattle.ph_table.specs.Hits.{hits_of};
 
 use crate::opening::{Opened, enter, none_opened, open};
 use crate::ranking::Ranking;
-use crate::waiting::{empty_queue, next_within};
+use crate::waiting::Queue;
 use ph_coord::{Point, Width};
 use ph_node::{NoMemory, Node};
 use ph_steps::Steps;
@@ -80,13 +80,13 @@ fn search<const D: usize, V: Ledger>(
         return Ok(Vec::new(alloc));
     };
     let mut ranking = Ranking::new(alloc, tree, n as usize)?;
-    let mut queue = empty_queue(alloc)?;
+    let mut queue = Queue::new(alloc)?;
     let mut opened = none_opened(alloc)?;
     let node = root.visit(visits);
     let known = [0; D];
     let top = Opened { node, known };
     open(&top, &mut opened, w, center, &mut ranking, &mut queue)?;
-    while let Some(item) = next_within(&mut queue, ranking.limit()) {
+    while let Some(item) = queue.next_within(ranking.limit()) {
         let next = enter(w, &opened[item.opened], item.place, visits);
         open(&next, &mut opened, w, center, &mut ranking, &mut queue)?;
     }

@@ -1,7 +1,7 @@
 //! Opening nodes: their rows are found, and their children wait from then on.
 
 ghost use Rattle.std.specs.Prelude.{◌≡◌, ℕ, ◌+◌, ◌<◌, ◌≤◌, [], ◌∷◌, ◌++◌, length, map, true, false, vec_capacity, IfOk, OnOk, IfSome, IfNone};
-ghost use Rattle.std.specs.BinaryHeap.{heap_items, IsHeap};
+ghost use Rattle.std.specs.BinaryHeap.{heap_items};
 ghost use Rattle.ph_specs.specs.TableNames.{coordinate};
 ghost use Rattle.ph_model.specs.ModelNames.{what_at, IsBody, entries};
 ghost use Rattle.ph_node.specs.Kinds.{is_node};
@@ -12,7 +12,6 @@ ghost use Rattle.ph_near.specs.Nearing.{IsKept};
 ghost use Rattle.ph_near.specs.Opening.{IsOpened, IsNewest, IsEntered, opened_items, place_item, line_of, AreWaiting, IsTried, IsTreated, AreTreated};
 ghost use Rattle.ph_near.specs.Scanning.{AreBeyond, IsNear};
 ghost use Rattle.ph_near.specs.Ranking.{IsRanking};
-ghost use Rattle.ph_near.specs.Waiting.{waiting_cmp};
 
 use crate::beyond::is_point_beyond;
 use crate::corners::Corners;
@@ -21,19 +20,18 @@ use crate::found::Found;
 use crate::halves::Halves;
 use crate::ranking::Ranking;
 use crate::tables::Tables;
-use crate::waiting::Waiting;
+use crate::waiting::{Queue, Waiting};
 use ph_coord::Width;
 use ph_node::{NoMemory, Node, NodeRef, NodeRefOf, Spot, WhatOf};
 use ph_steps::Steps;
 use ph_zorder::offset_distance;
 use std::alloc::Global;
-use std::collections::BinaryHeap;
 use std::sync::ledger::Ledger;
 
 // In up to so many dimensions each sum is made of the halves as fast as tables of them are made and read.
 const DIRECT_DIMS: usize = 4;
 
-// In more dimensions the sums of up to so many entries are made anew sooner than halves are told, and tables made of them.
+// In more dimensions the sums of up to so many entries are made anew as fast as halves are told, and tables made of them.
 const FEW_ENTRIES: usize = 5;
 
 // In up to so many dimensions a row is told as fast as it is tried.
@@ -102,24 +100,22 @@ pub(crate) fn open<'t, const D: usize>(
     w: Width,
     center: &[u64; D],
     ranking: &mut Ranking<D>,
-    queue: &mut BinaryHeap<Waiting>,
+    queue: &mut Queue,
 ) -> Result<(), NoMemory>
     requires some { 1 ≤ D }
     requires few { D ≤ 16 }
     requires opened { IsOpened w D from.now }
     requires point { IsBody D w center.now }
     requires ranking { IsRanking ranking.old }
-    requires order { IsHeap waiting_cmp (heap_items queue.old) }
-    requires waits { AreWaiting w (map (coordinate w) center.now) opened.old.items (heap_items queue.old) }
+    requires waits { AreWaiting w (map (coordinate w) center.now) opened.old.items queue.old }
     ensures n { ranking.new.n ≡ ranking.old.n }
     ensures ranking { OnOk result (IsRanking ranking.new) }
-    ensures order { OnOk result (IsHeap waiting_cmp (heap_items queue.new)) }
     ensures opened { OnOk result (opened.new.items ≡ opened.old.items ++ from.now ∷ []) }
-    ensures waits { OnOk result (AreWaiting w (map (coordinate w) center.now) opened.new.items (heap_items queue.new)) }
+    ensures waits { OnOk result (AreWaiting w (map (coordinate w) center.now) opened.new.items queue.new) }
     ensures kept { OnOk result
         (IsKept w ranking.old.n (map (coordinate w) center.now)
-        (heap_items ranking.old.rows) (opened_items w from.now ++ line_of w opened.old.items (heap_items queue.old))
-        (heap_items ranking.new.rows) (line_of w opened.new.items (heap_items queue.new))) }
+        (heap_items ranking.old.rows) (opened_items w from.now ++ line_of w opened.old.items queue.old)
+        (heap_items ranking.new.rows) (line_of w opened.new.items queue.new)) }
 {
     let _bits = w.bits();
     keep(from.node, from.known, opened)?;
@@ -134,7 +130,7 @@ fn treat_all<'t, const D: usize>(
     w: Width,
     center: &[u64; D],
     ranking: &mut Ranking<D>,
-    queue: &mut BinaryHeap<Waiting>,
+    queue: &mut Queue,
 ) -> Result<(), NoMemory>
     requires some { 1 ≤ D }
     requires few { D ≤ 16 }
@@ -142,14 +138,12 @@ fn treat_all<'t, const D: usize>(
     requires last { IsNewest opened.now from.now }
     requires point { IsBody D w center.now }
     requires ranking { IsRanking ranking.old }
-    requires order { IsHeap waiting_cmp (heap_items queue.old) }
-    requires waits { AreWaiting w (map (coordinate w) center.now) opened.now (heap_items queue.old) }
+    requires waits { AreWaiting w (map (coordinate w) center.now) opened.now queue.old }
     ensures n { ranking.new.n ≡ ranking.old.n }
     ensures ranking { OnOk result (IsRanking ranking.new) }
-    ensures order { OnOk result (IsHeap waiting_cmp (heap_items queue.new)) }
     ensures treated { OnOk result
         (AreTreated w ranking.old.n (map (coordinate w) center.now) opened.now from.now
-        (heap_items ranking.old.rows) (heap_items ranking.new.rows) (heap_items queue.old) (heap_items queue.new)) }
+        (heap_items ranking.old.rows) (heap_items ranking.new.rows) queue.old queue.new) }
 {
     let _bits = w.bits();
     let level = from.node.level();
@@ -181,7 +175,7 @@ fn treat_by<'t, const D: usize, S: Distances<D>>(
     w: Width,
     center: &[u64; D],
     ranking: &mut Ranking<D>,
-    queue: &mut BinaryHeap<Waiting>,
+    queue: &mut Queue,
 ) -> Result<(), NoMemory>
     requires few { D ≤ 16 }
     requires opened { IsOpened w D from.now }
@@ -190,14 +184,12 @@ fn treat_by<'t, const D: usize, S: Distances<D>>(
     requires told { (addr : ℕ) → S.told sums.now addr ≡ gaps_above (shown from.now.node).level (corner_of (shown from.now.node).level addr from.now.known) center.now }
     requires point { IsBody D w center.now }
     requires ranking { IsRanking ranking.old }
-    requires order { IsHeap waiting_cmp (heap_items queue.old) }
-    requires waits { AreWaiting w (map (coordinate w) center.now) opened.now (heap_items queue.old) }
+    requires waits { AreWaiting w (map (coordinate w) center.now) opened.now queue.old }
     ensures n { ranking.new.n ≡ ranking.old.n }
     ensures ranking { OnOk result (IsRanking ranking.new) }
-    ensures order { OnOk result (IsHeap waiting_cmp (heap_items queue.new)) }
     ensures treated { OnOk result
         (AreTreated w ranking.old.n (map (coordinate w) center.now) opened.now from.now
-        (heap_items ranking.old.rows) (heap_items ranking.new.rows) (heap_items queue.old) (heap_items queue.new)) }
+        (heap_items ranking.old.rows) (heap_items ranking.new.rows) queue.old queue.new) }
 {
     // Uses that make the range of the width and the number of entries known.
     let (_bits, _count) = (w.bits(), from.node.len());
@@ -295,7 +287,7 @@ fn treat<'t, const D: usize>(
     w: Width,
     center: &[u64; D],
     ranking: &mut Ranking<D>,
-    queue: &mut BinaryHeap<Waiting>,
+    queue: &mut Queue,
 ) -> Result<(), NoMemory>
     requires few { D ≤ 16 }
     requires opened { IsOpened w D from.now }
@@ -303,13 +295,11 @@ fn treat<'t, const D: usize>(
     requires told { near.distance ≡ gaps_above (shown from.now.node).level (corner_of (shown from.now.node).level near.spot.addr from.now.known) center.now }
     requires point { IsBody D w center.now }
     requires ranking { IsRanking ranking.old }
-    requires order { IsHeap waiting_cmp (heap_items queue.old) }
     ensures n { ranking.new.n ≡ ranking.old.n }
     ensures ranking { OnOk result (IsRanking ranking.new) }
-    ensures order { OnOk result (IsHeap waiting_cmp (heap_items queue.new)) }
     ensures treated { OnOk result
         (IsTreated ranking.old.n w (map (coordinate w) center.now) at from.now near.spot.place
-        (heap_items ranking.old.rows) (heap_items ranking.new.rows) (heap_items queue.old) (heap_items queue.new)) }
+        (heap_items ranking.old.rows) (heap_items ranking.new.rows) queue.old queue.new) }
 {
     let _bits = w.bits();
     if D <= DIRECT_DIMS && near.distance > ranking.limit() {
@@ -323,10 +313,7 @@ fn treat<'t, const D: usize>(
         opened: at,
         place: near.spot.place,
     };
-    match queue.push(child) {
-        Ok(()) => Ok(()),
-        Err(_) => Err(NoMemory),
-    }
+    queue.push(child)
 }
 
 // Ranks the row of an entry if it is near enough.

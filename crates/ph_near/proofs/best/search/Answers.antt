@@ -68,10 +68,7 @@ open-requires g c = (
                 c.requires.point,
                 (
                   c.in_ok-ranking.ensures.ranking,
-                  (
-                    c.in_ok-queue.ensures.order,
-                    subst (AreWaiting c.args.w (map (coordinate c.args.w) c.args.center.now) c.in_ok-opened.opened.items) (sym c.in_ok-queue.ensures.items) tt,
-                  ),
+                  subst (AreWaiting c.args.w (map (coordinate c.args.w) c.args.center.now) c.in_ok-opened.opened.items) (sym c.in_ok-queue.ensures) tt,
                 ),
               ),
             ),
@@ -88,27 +85,26 @@ loop-item-init g c =
     let start : IsNearing c.args.w c.in_ok-ranking.ranking.n (map (coordinate c.args.w) c.args.center.now)
     (rows c.args.w g.row.D (option_copied c.args.root)) (heap_items c.in_ok-ranking.ranking.rows)
     (opened_items {d = g.row.D} c.args.w (record { node = c.visit-node.result; known = replicate g.row.D 0 }) ++
-    line_of c.args.w c.in_ok-opened.opened.items (heap_items c.in_ok-queue.queue)) c.args.visits.now c.visit-node.new.visits =
+    line_of c.args.w c.in_ok-opened.opened.items c.in_ok-queue.queue) c.args.visits.now c.visit-node.new.visits =
     subst (λ m. IsNearing c.args.w m (map (coordinate c.args.w) c.args.center.now)
     (rows c.args.w g.row.D (option_copied c.args.root)) (heap_items c.in_ok-ranking.ranking.rows)
     (opened_items {d = g.row.D} c.args.w (record { node = c.visit-node.result; known = replicate g.row.D 0 }) ++
-    line_of c.args.w c.in_ok-opened.opened.items (heap_items c.in_ok-queue.queue)) c.args.visits.now
+    line_of c.args.w c.in_ok-opened.opened.items c.in_ok-queue.queue) c.args.visits.now
     c.visit-node.new.visits) (sym c.in_ok-ranking.ensures.n)
     (subst (λ fs. IsNearing c.args.w c.args.n (map (coordinate c.args.w) c.args.center.now)
     (rows c.args.w g.row.D (option_copied c.args.root)) fs
     (opened_items {d = g.row.D} c.args.w (record { node = c.visit-node.result; known = replicate g.row.D 0 }) ++
-    line_of c.args.w c.in_ok-opened.opened.items (heap_items c.in_ok-queue.queue)) c.args.visits.now
+    line_of c.args.w c.in_ok-opened.opened.items c.in_ok-queue.queue) c.args.visits.now
     c.visit-node.new.visits) (sym c.in_ok-ranking.ensures.rows)
     (subst (λ is. IsNearing {d = g.row.D} c.args.w c.args.n (map (coordinate c.args.w) c.args.center.now)
     (rows c.args.w g.row.D (option_copied c.args.root)) []
     (opened_items {d = g.row.D} c.args.w (record { node = c.visit-node.result; known = replicate g.row.D 0 }) ++
     line_of c.args.w c.in_ok-opened.opened.items is) c.args.visits.now c.visit-node.new.visits)
-    (sym c.in_ok-queue.ensures.items) root.1))
+    (sym c.in_ok-queue.ensures) root.1))
     in
     record {
       n = c.open.ensures.n ∙ c.in_ok-ranking.ensures.n;
       ranking = c.in_ok-open.ensures.ranking;
-      order = c.in_ok-open.ensures.order;
       opened = subst (Each (IsOpened c.args.w g.row.D))
           (sym (c.in_ok-open.ensures.opened ∙
           ap (λ os. os ++ (record { node = c.visit-node.result; known = replicate g.row.D 0 }) ∷ [])
@@ -116,7 +112,7 @@ loop-item-init g c =
       waits = c.in_ok-open.ensures.waits;
       nearing = subst (λ m. IsNearing c.args.w m (map (coordinate c.args.w) c.args.center.now)
           (rows c.args.w g.row.D (option_copied c.args.root)) (heap_items c.open.new.ranking.rows)
-          (line_of c.args.w c.open.new.opened.items (heap_items c.open.new.queue)) c.args.visits.now
+          (line_of c.args.w c.open.new.opened.items c.open.new.queue) c.args.visits.now
           c.visit-node.new.visits) c.in_ok-ranking.ensures.n
           (c.in_ok-open.ensures.kept.nearing (rows c.args.w g.row.D (option_copied c.args.root)) c.args.visits.now c.visit-node.new.visits start);
     }
@@ -178,11 +174,8 @@ open-requires-in-Some-next_within g c = (
                 c.requires.point,
                 (
                   c.loop-item.invariant.ranking,
-                  (
-                    c.in-Some-next_within.ensures.next.order,
-                    (next-waits c.args.w (map (coordinate c.args.w) c.args.center.now) c.loop-item.opened.items
-                        c.in-Some-next_within.ensures.next c.loop-item.invariant.waits).1,
-                  ),
+                  (next-waits c.args.w (map (coordinate c.args.w) c.args.center.now) c.loop-item.opened.items
+                      c.in-Some-next_within.ensures.next c.loop-item.invariant.waits).1,
                 ),
               ),
             ),
@@ -197,7 +190,7 @@ open-requires-in-Some-next_within g c = (
 entered : (g : Over) (c : After-enter-next g) → IsNearing c.args.w c.args.n (map (coordinate c.args.w) c.args.center.now)
     (rows c.args.w g.row.D (option_copied c.args.root)) (heap_items c.loop-item.ranking.rows)
     (opened_items c.args.w c.enter-next.result ++ line_of c.args.w c.loop-item.opened.items
-    (heap_items c.next_within.new.queue)) c.args.visits.now c.enter-next.new.visits
+    c.next_within.new.self) c.args.visits.now c.enter-next.new.visits
 entered g c =
     next-nearing c.args.w (map (coordinate c.args.w) c.args.center.now) c.loop-item.opened.items
     c.in-Some-next_within.ensures.next c.loop-item.invariant.waits c.index.result.now c.enter-next.result c.index.ensures
@@ -221,7 +214,6 @@ loop-item-preserved g c =
     record {
       n = c.open-in-Some-next_within.ensures.n ∙ c.loop-item.invariant.n;
       ranking = c.in_ok-open-2.ensures.ranking;
-      order = c.in_ok-open-2.ensures.order;
       opened = subst (Each (IsOpened c.args.w g.row.D)) (sym c.in_ok-open-2.ensures.opened)
           (Each-append (IsOpened c.args.w g.row.D) c.loop-item.opened.items (c.enter-next.result ∷ [])
           c.loop-item.invariant.opened (c.enter-next.ensures.opened, tt));
@@ -229,13 +221,13 @@ loop-item-preserved g c =
       nearing = subst (λ m. IsNearing c.args.w m (map (coordinate c.args.w) c.args.center.now)
           (rows c.args.w g.row.D (option_copied c.args.root)) (heap_items c.open-in-Some-next_within.new.ranking.rows)
           (line_of c.args.w c.open-in-Some-next_within.new.opened.items
-          (heap_items c.open-in-Some-next_within.new.queue)) c.args.visits.now c.enter-next.new.visits) c.loop-item.invariant.n
+          c.open-in-Some-next_within.new.queue) c.args.visits.now c.enter-next.new.visits) c.loop-item.invariant.n
           (c.in_ok-open-2.ensures.kept.nearing (rows c.args.w g.row.D (option_copied c.args.root)) c.args.visits.now
           c.enter-next.new.visits (subst
           (λ m. IsNearing c.args.w m (map (coordinate c.args.w) c.args.center.now)
           (rows c.args.w g.row.D (option_copied c.args.root)) (heap_items c.loop-item.ranking.rows)
           (opened_items c.args.w c.enter-next.result ++ line_of c.args.w c.loop-item.opened.items
-          (heap_items c.next_within.new.queue)) c.args.visits.now c.enter-next.new.visits)
+          c.next_within.new.self) c.args.visits.now c.enter-next.new.visits)
           (sym c.loop-item.invariant.n) near));
     }
 
@@ -254,7 +246,7 @@ pub returns-clause-hits : goal.returns-clause-hits
 returns-clause-hits g c =
     if-ok c.into_hits.result (λ hits l. nearing-listed c.loop-item.invariant.nearing
     (ended c.args.w (map (coordinate c.args.w) c.args.center.now) (heap_items c.loop-item.ranking.rows)
-    c.loop-item.opened.items c.limit.result (heap_items c.loop-item.queue)
+    c.loop-item.opened.items c.limit.result c.loop-item.queue
     (subst (λ m. (t : ℕ) → c.limit.result < t → t < 2 ^ 128 → IsBeyond m (heap_items c.loop-item.ranking.rows) t)
     c.loop-item.invariant.n c.limit.ensures.beyond) c.loop-item.invariant.waits c.in_default-next_within.ensures.none) l)
     c.into_hits.ensures

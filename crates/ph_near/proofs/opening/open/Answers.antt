@@ -30,11 +30,8 @@ treat_all-requires g c =
                       c.requires.point,
                       (
                         c.requires.ranking,
-                        (
-                          c.requires.order,
-                          subst (λ os. AreWaiting c.args.w (map (coordinate c.args.w) c.args.center.now) os (heap_items c.args.queue.now)) more
-                              (later-waits c.args.w q c.args.opened.now.items c.args.from.now (heap_items c.args.queue.now) c.requires.waits),
-                        ),
+                        subst (λ os. AreWaiting c.args.w (map (coordinate c.args.w) c.args.center.now) os (c.args.queue.now)) more
+                            (later-waits c.args.w q c.args.opened.now.items c.args.from.now (c.args.queue.now) c.requires.waits),
                       ),
                     ),
                   ),
@@ -49,17 +46,17 @@ treat_all-requires g c =
 pub returns-clause-waits : goal.returns-clause-waits
 returns-clause-waits g c =
     on_ok_weaker c.treat_all.result (λ t. subst (λ os. AreWaiting c.args.w (map (coordinate c.args.w) c.args.center.now) os
-    (heap_items c.treat_all.new.queue)) c.as_slice.ensures.value t.waits) c.treat_all.ensures.treated
+    c.treat_all.new.queue) c.as_slice.ensures.value t.waits) c.treat_all.ensures.treated
 
 pub returns-clause-kept : goal.returns-clause-kept
 returns-clause-kept g c =
-    let waits = heap_items c.args.queue.now in
+    let waits = c.args.queue.now in
     let later = later-line c.args.w (map (coordinate c.args.w) c.args.center.now) c.args.opened.now.items c.args.from.now waits c.requires.waits in
     on_ok_weaker c.treat_all.result (λ t. subst (λ is. IsKept c.args.w c.args.ranking.now.n (map (coordinate c.args.w) c.args.center.now)
     (heap_items c.args.ranking.now.rows) (opened_items c.args.w c.args.from.now ++ is) (heap_items c.treat_all.new.ranking.rows)
-    (line_of c.args.w c.keep.new.opened.items (heap_items c.treat_all.new.queue)))
+    (line_of c.args.w c.keep.new.opened.items c.treat_all.new.queue))
     (ap (λ os. line_of c.args.w os waits) c.in_ok-keep.ensures ∙ later)
     (subst (λ os. IsKept c.args.w c.args.ranking.now.n (map (coordinate c.args.w) c.args.center.now)
-    (heap_items c.args.ranking.now.rows) (opened_items c.args.w c.args.from.now ++ line_of c.args.w os (heap_items c.args.queue.now))
-    (heap_items c.treat_all.new.ranking.rows) (line_of c.args.w os (heap_items c.treat_all.new.queue))) c.as_slice.ensures.value t.kept))
+    (heap_items c.args.ranking.now.rows) (opened_items c.args.w c.args.from.now ++ line_of c.args.w os (c.args.queue.now))
+    (heap_items c.treat_all.new.ranking.rows) (line_of c.args.w os c.treat_all.new.queue)) c.as_slice.ensures.value t.kept))
     c.treat_all.ensures.treated

@@ -32,8 +32,8 @@ returns-then-near-limit-clause-treated g c =
 pub returns-then-not-is_child-clause-treated : goal.returns-then-not-is_child-clause-treated
 returns-then-not-is_child-clause-treated g c = on_ok_weaker c.find.result (λ t. inl (refl, t)) c.find.ensures.tried
 
-pub returns-in-Ok-clause-treated : goal.returns-in-Ok-clause-treated
-returns-in-Ok-clause-treated g c =
+pub returns-clause-treated : goal.returns-clause-treated
+returns-clause-treated g c =
     let narrow : c.args.w ≤ 62 = omega (arith, c.bits-bits.ensures.value, c.bits-bits.ensures.limit) in
     let o = c.args.from.now in
     let i = c.args.near.spot.place in
@@ -43,7 +43,7 @@ returns-in-Ok-clause-treated g c =
     let far = c.requires.told
     ∙ ap (λ a. gaps_above (shown o.node).level (corner_of (shown o.node).level a o.known) c.args.center.now) c.requires.spot.address
     ∙ place-child o c.requires.opened i there c.args.center.now c.requires.point child in
-    inr (
+    on_ok_weaker c.push.result (λ moved. inr (
       refl,
       (
         record { distance = c.args.near.distance; opened = c.args.at; place = c.args.near.spot.place },
@@ -56,6 +56,6 @@ returns-in-Ok-clause-treated g c =
           small = subst (λ n. n < 2 ^ 128) (sym far)
               (place-small o c.requires.opened i there c.args.center.now c.requires.point narrow c.requires.few);
         },
-        c.in-Ok.ensures.permutation,
+        moved,
       ),
-    )
+    )) c.push.ensures

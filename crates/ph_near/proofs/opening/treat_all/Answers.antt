@@ -75,7 +75,7 @@ treat_by-requires g c = (
                 (
                   λ addr. corners-told c.new-corners.result (shown c.args.from.now.node).level addr c.args.from.now.known c.args.center.now
                       (c.new-corners.ensures.level ∙ c.level-level.ensures.value) c.new-corners.ensures.known c.new-corners.ensures.center,
-                  (c.requires.point, (c.requires.ranking, (c.requires.order, c.requires.waits))),
+                  (c.requires.point, (c.requires.ranking, c.requires.waits)),
                 ),
               ),
             ),
@@ -105,7 +105,7 @@ treat_by-requires-then-this-le-DIRECT_DIMS g c = (
                 c.new-halves.ensures.small,
                 (
                   halves-told g (goal.at.treat_by-requires-then-this-le-DIRECT_DIMS g c).After-new-halves,
-                  (c.requires.point, (c.requires.ranking, (c.requires.order, c.requires.waits))),
+                  (c.requires.point, (c.requires.ranking, c.requires.waits)),
                 ),
               ),
             ),
@@ -136,7 +136,7 @@ treat_by-requires-2 g c =
                     c.new.ensures.tabled,
                     (
                       λ addr. (λ i. halves_sum addr (c.new.ensures.halves i).low (c.new.ensures.halves i).high) ∙ told addr,
-                      (c.requires.point, (c.requires.ranking, (c.requires.order, c.requires.waits))),
+                      (c.requires.point, (c.requires.ranking, c.requires.waits)),
                     ),
                   ),
                 ),

@@ -20,9 +20,8 @@ loop-near-init g c =
       within = omega arith;
       n = refl;
       ranking = c.requires.ranking;
-      order = c.requires.order;
       waits = c.requires.waits;
-      kept = kept-all (opened_items c.args.w c.args.from.now ++ line_of c.args.w c.args.opened.now (heap_items c.args.queue.now));
+      kept = kept-all (opened_items c.args.w c.args.from.now ++ line_of c.args.w c.args.opened.now (c.args.queue.now));
     }
 
 pub treat-requires : goal.treat-requires
@@ -43,7 +42,7 @@ treat-requires g c =
                   near.spot,
                   (
                     near.distance ∙ c.requires.told c.in-Some.near.spot.addr,
-                    (c.requires.point, (c.loop-near.invariant.ranking, c.loop-near.invariant.order)),
+                    (c.requires.point, c.loop-near.invariant.ranking),
                   ),
                 ),
               ),
@@ -57,9 +56,9 @@ treat-requires g c =
 skipped_at : (g : Over) (c : After-next_near g) → (stop : ℕ) → c.loop-near.place ≤ stop → stop ≤ length (entries (shown c.args.from.now.node)) →
     AreBeyond (g.S.Distances.told c.args.sums.now) (entries (shown c.args.from.now.node)) c.limit.result c.loop-near.place stop →
     IsKept c.args.w c.args.ranking.now.n (map (coordinate c.args.w) c.args.center.now) (heap_items c.args.ranking.now.rows)
-    (opened_items c.args.w c.args.from.now ++ line_of c.args.w c.args.opened.now (heap_items c.args.queue.now))
+    (opened_items c.args.w c.args.from.now ++ line_of c.args.w c.args.opened.now (c.args.queue.now))
     (heap_items c.loop-near.ranking.rows)
-    (drop stop (opened_items c.args.w c.args.from.now) ++ line_of c.args.w c.args.opened.now (heap_items c.loop-near.queue))
+    (drop stop (opened_items c.args.w c.args.from.now) ++ line_of c.args.w c.args.opened.now c.loop-near.queue)
 skipped_at g c stop from within beyond =
     let narrow : c.args.w ≤ 62 = omega (arith, c.bits-bits.ensures.value, c.bits-bits.ensures.limit) in
     let n = c.args.ranking.now.n in
@@ -70,7 +69,7 @@ skipped_at g c stop from within beyond =
     (subst (λ m. (t : ℕ) → c.limit.result < t → t < 2 ^ 128 → IsBeyond m (heap_items c.loop-near.ranking.rows) t)
     c.loop-near.invariant.n c.limit.ensures.beyond)
     (stop - place) place stop (omega (arith, from)) within beyond
-    (line_of c.args.w c.args.opened.now (heap_items c.loop-near.queue)))
+    (line_of c.args.w c.args.opened.now c.loop-near.queue))
 
 pub loop-near-preserved : goal.loop-near-preserved
 loop-near-preserved g c =
@@ -86,25 +85,24 @@ loop-near-preserved g c =
     (omega (arith, c.requires.last.some), c.requires.last.at) in
     let treated : IsTreated c.args.ranking.now.n c.args.w (map (coordinate c.args.w) c.args.center.now)
     (length c.args.opened.now - 1) c.args.from.now c.in-Some.near.spot.place (heap_items c.loop-near.ranking.rows)
-    (heap_items c.treat.new.ranking.rows) (heap_items c.loop-near.queue) (heap_items c.treat.new.queue) =
+    (heap_items c.treat.new.ranking.rows) c.loop-near.queue c.treat.new.queue =
     subst (λ n. IsTreated n c.args.w (map (coordinate c.args.w) c.args.center.now) (length c.args.opened.now - 1) c.args.from.now
     c.in-Some.near.spot.place (heap_items c.loop-near.ranking.rows) (heap_items c.treat.new.ranking.rows)
-    (heap_items c.loop-near.queue) (heap_items c.treat.new.queue)) c.loop-near.invariant.n c.in_ok-treat.ensures.treated in
+    c.loop-near.queue c.treat.new.queue) c.loop-near.invariant.n c.in_ok-treat.ensures.treated in
     let more = items-more w (shown from.node).level place from.known (shown from.node).chain there in
     record {
       within = omega (arith, there);
       n = c.treat.ensures.n ∙ c.loop-near.invariant.n;
       ranking = c.in_ok-treat.ensures.ranking;
-      order = c.in_ok-treat.ensures.order;
       waits = treated-waits os at from place inside treated c.loop-near.invariant.waits;
       kept = kept-then
           (skipped_at g (goal.at.loop-near-preserved g c).After-next_near place near.behind (omega (arith, there)) near.beyond)
           (subst (λ is. IsKept c.args.w c.args.ranking.now.n (map (coordinate c.args.w) c.args.center.now)
           (heap_items c.loop-near.ranking.rows)
-          (is ++ line_of c.args.w c.args.opened.now (heap_items c.loop-near.queue))
+          (is ++ line_of c.args.w c.args.opened.now c.loop-near.queue)
           (heap_items c.treat.new.ranking.rows)
           (drop (c.in-Some.near.spot.place + 1) (opened_items c.args.w c.args.from.now) ++
-          line_of c.args.w c.args.opened.now (heap_items c.treat.new.queue))) (sym more)
+          line_of c.args.w c.args.opened.now c.treat.new.queue)) (sym more)
           (treated-kept os at from place inside treated (drop (place + 1) (opened_items w from))));
     }
 
@@ -117,8 +115,8 @@ returns-clause-treated g c =
       kept = subst (λ is. IsKept c.args.w c.args.ranking.now.n (map (coordinate c.args.w) c.args.center.now)
           (heap_items c.args.ranking.now.rows)
           (opened_items c.args.w c.args.from.now ++ line_of c.args.w c.args.opened.now
-          (heap_items c.args.queue.now)) (heap_items c.loop-near.ranking.rows)
-          (is ++ line_of c.args.w c.args.opened.now (heap_items c.loop-near.queue)))
+          (c.args.queue.now)) (heap_items c.loop-near.ranking.rows)
+          (is ++ line_of c.args.w c.args.opened.now c.loop-near.queue))
           (items-none c.args.w (shown from.node).level all from.known (shown from.node).chain (omega arith))
           (skipped_at g (goal.at.returns-clause-treated g c).After-next_near all c.loop-near.invariant.within (omega arith) c.in_default.ensures.none);
     }
