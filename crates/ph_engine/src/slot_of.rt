@@ -394,7 +394,7 @@ impl<const D: usize> SlotOf<D> {
     ) -> Result<Reply, NoMemory>
         ensures { QuietOr (engine_of self.old) (AskBack n) visits.old visits.new changes.old changes.new (engine_of self.new) result }
     {
-        if self.kept.steps() < n {
+        if self.kept.past_len() < n {
             return Ok(Reply::ErrorPast);
         }
         back_edits(&mut self.kept, n, visits, changes)

@@ -1,9 +1,9 @@
 -- What waits in a queue, of which an item may stand apart.
-use Rattle.std.proofs.Common.{◌≡◌, ℕ, ◌<◌, ◌≤◌, arith, List, [], ◌∷◌, length}
-use Rattle.std.specs.Prelude.{Option, Some, None, IfSome, IfNone, slice_index_or}
+use Rattle.std.proofs.Common.{◌≡◌, ℕ, ◌<◌, arith, List, [], ◌∷◌}
+use Rattle.std.specs.Prelude.{Option, Some, None, IfSome, slice_index_or}
 use Rattle.std.specs.List.{AllByRecursion as Each}
 use Rattle.std.specs.List.Sorted.{IsPermutation}
-use Rattle.std.proofs.lemmas.List.Sorted.{IsPermutation-refl, IsPermutation-sym, IsPermutation-trans, IsPermutation-middle, IsPermutation-append_right}
+use Rattle.std.proofs.lemmas.List.Sorted.{IsPermutation-sym, IsPermutation-trans, IsPermutation-middle, IsPermutation-append_right}
 use Rattle.ph_specs.proofs.lemmas.Gathered.{Each-permutation}
 use Rattle.ph_specs.proofs.lemmas.Members.{Each-each}
 use Rattle.ph_near.specs.declared.waiting.Waiting.{Waiting}
@@ -18,10 +18,6 @@ pub behind-apart : (x apart : Waiting) {others now : List Waiting} → IsPermuta
 behind-apart x apart {others} {now} p =
     IsPermutation-trans (x ∷ (apart ∷ others)) (apart ∷ (x ∷ others)) (apart ∷ now) (IsPermutation-middle (x ∷ []) apart others) (before-moved apart p)
 
--- the one that stands apart is the next
-pub apart-next : (x : Waiting) (others : List Waiting) → Each (λ i. x.distance ≤ i.distance) others → IsNext x.distance (x ∷ others) x others
-apart-next x others h = record { moved = IsPermutation-refl (x ∷ others); first = h; within = omega arith }
-
 -- another one is the next
 pub other-next : (r : Option Waiting) (apart : Waiting) (others now : List Waiting) → IfSome r (λ x. x ≡ slice_index_or others 0 x) →
     IfSome r (λ x. IsNext x.distance others x now) → ((x : Waiting) → x ≡ slice_index_or others 0 x → x.distance < apart.distance) →
@@ -33,13 +29,6 @@ other-next (Some x) apart others now e n l = record {
   first = (omega (arith, l x e), n.first);
   within = omega arith;
 }
-
-pub other-none : (r : Option Waiting) (apart : Waiting) (others : List Waiting) → IfNone r (others ≡ []) → 0 < length others → IfNone r ((apart ∷ others) ≡ [])
-other-none (Some x) apart others e l = tt
-other-none None apart others e l = absurd (omega (arith, l, ap_length e))
-  where
-    ap_length : {xs ys : List Waiting} → xs ≡ ys → length xs ≡ length ys
-    ap_length e = λ i. length (e i)
 
 -- all that waits is farther than a limit where the next is
 pub far-all : (limit : ℕ) (x : Waiting) {old new : List Waiting} → limit < x.distance → IsNext x.distance old x new → Each (λ i. limit < i.distance) old

@@ -30,13 +30,15 @@ pub(crate) fn read_record(
     requires format { IsRowFormat format.now }
     requires standing { IsStanding format.now.width format.now.dims place.now }
     requires at { at ≤ length bytes.now }
-    ensures none { IfOk result (λ w. record_fault format.now.kind format.now.width format.now.dims (place_of format.now.dims place.now) at (drop at bytes.now) ≡ None) }
+    ensures none { IfOk result (λ w.
+        record_fault format.now.kind format.now.width format.now.dims (place_of format.now.dims place.now) at (drop at bytes.now) ≡ None) }
     ensures words { IfOk result (λ w. w.words ≡ next_record format.now.dims (drop at bytes.now)) }
     ensures room { IfOk result (λ w. w.spare ≡ (first_in w.words).children) }
     ensures laid { IfOk result (λ w. IsLaidOut format.now.dims w.words) }
     ensures clear { IfOk result (λ w. IsClear (first_in w.words).level format.now.dims place.now) }
     ensures low { IfOk result (λ w. (first_in w.words).level < ceiling format.now.width (place_of format.now.dims place.now)) }
-    ensures err { IfErr result (λ f. IsLoadFault (record_fault format.now.kind format.now.width format.now.dims (place_of format.now.dims place.now) at (drop at bytes.now)) f) }
+    ensures err { IfErr result (λ f.
+        IsLoadFault (record_fault format.now.kind format.now.width format.now.dims (place_of format.now.dims place.now) at (drop at bytes.now)) f) }
 {
     let rest = &bytes[at..];
     if rest.len() < 8 {

@@ -86,7 +86,7 @@ impl<const D: usize> Kept<D> {
     }
 
     /// How many edits can be taken back now.
-    pub fn steps(&self) -> u32
+    pub fn past_len(&self) -> u32
         ensures value { result ≡ length self.now.past }
         ensures limit { result ≤ self.now.depth }
     {

@@ -60,9 +60,9 @@ fn run<V: Ledger, C: Ledger>(
     script: &[Line],
     counters: &mut Counters<V, C>,
 ) {
-    for (act, steps, rows) in script {
+    for (act, past, rows) in script {
         follow(rt, alloc, kept, *act, counters);
-        assert!(rt; (kept.steps(), kept.tree().len()) == (*steps, *rows));
+        assert!(rt; (kept.past_len(), kept.tree().len()) == (*past, *rows));
     }
 }
 

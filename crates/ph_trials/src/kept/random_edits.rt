@@ -226,7 +226,7 @@ impl<const D: usize> Beside<D> {
         let rows = self.rows(rt);
         let tree = self.kept.tree();
         assert!(rt; tree.len() == rows.len() as u64);
-        assert!(rt; self.kept.steps() as usize + 1 == self.tables.len());
+        assert!(rt; self.kept.past_len() as usize + 1 == self.tables.len());
         for row in rows {
             let p: Point<D> = point(rt, tree.width(), row.point.as_slice());
             assert!(rt; tree.get(&p, &mut counters.visits) == Some(row.value));
