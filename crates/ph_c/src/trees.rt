@@ -59,6 +59,30 @@ macro_rules! with_tree {
     };
 }
 
+// What a macro makes of a number of dimensions and its variant.
+macro_rules! by_dims {
+    ($dims:expr, $make:ident) => {
+        match $dims {
+            1 => $make!(1, D1),
+            2 => $make!(2, D2),
+            3 => $make!(3, D3),
+            4 => $make!(4, D4),
+            5 => $make!(5, D5),
+            6 => $make!(6, D6),
+            7 => $make!(7, D7),
+            8 => $make!(8, D8),
+            9 => $make!(9, D9),
+            10 => $make!(10, D10),
+            11 => $make!(11, D11),
+            12 => $make!(12, D12),
+            13 => $make!(13, D13),
+            14 => $make!(14, D14),
+            15 => $make!(15, D15),
+            _ => $make!(16, D16),
+        }
+    };
+}
+
 mod both;
 mod listings;
 mod made;
@@ -71,24 +95,12 @@ impl Tree {
         requires limit { dims ≤ 16 }
         ensures { any_table result ≡ empty_table dims w most }
     {
-        match dims {
-            1 => Tree::D1(PhTree::new(alloc, w, most)),
-            2 => Tree::D2(PhTree::new(alloc, w, most)),
-            3 => Tree::D3(PhTree::new(alloc, w, most)),
-            4 => Tree::D4(PhTree::new(alloc, w, most)),
-            5 => Tree::D5(PhTree::new(alloc, w, most)),
-            6 => Tree::D6(PhTree::new(alloc, w, most)),
-            7 => Tree::D7(PhTree::new(alloc, w, most)),
-            8 => Tree::D8(PhTree::new(alloc, w, most)),
-            9 => Tree::D9(PhTree::new(alloc, w, most)),
-            10 => Tree::D10(PhTree::new(alloc, w, most)),
-            11 => Tree::D11(PhTree::new(alloc, w, most)),
-            12 => Tree::D12(PhTree::new(alloc, w, most)),
-            13 => Tree::D13(PhTree::new(alloc, w, most)),
-            14 => Tree::D14(PhTree::new(alloc, w, most)),
-            15 => Tree::D15(PhTree::new(alloc, w, most)),
-            _ => Tree::D16(PhTree::new(alloc, w, most)),
+        macro_rules! new {
+            ($dims:literal, $variant:ident) => {
+                Tree::$variant(PhTree::<$dims>::new(alloc, w, most))
+            };
         }
+        by_dims!(dims, new)
     }
 
     /// What it is for, and how many rows it has.

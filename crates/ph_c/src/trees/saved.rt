@@ -36,23 +36,11 @@ impl Tree {
         requires limit { dims ≤ 16 }
         ensures { MadeOr (IsLoaded dims w bytes.now) (NotLoaded dims w bytes.now) result }
     {
-        match dims {
-            1 => load_tree::<1, C>(alloc, w, bytes, changes).map(Tree::D1),
-            2 => load_tree::<2, C>(alloc, w, bytes, changes).map(Tree::D2),
-            3 => load_tree::<3, C>(alloc, w, bytes, changes).map(Tree::D3),
-            4 => load_tree::<4, C>(alloc, w, bytes, changes).map(Tree::D4),
-            5 => load_tree::<5, C>(alloc, w, bytes, changes).map(Tree::D5),
-            6 => load_tree::<6, C>(alloc, w, bytes, changes).map(Tree::D6),
-            7 => load_tree::<7, C>(alloc, w, bytes, changes).map(Tree::D7),
-            8 => load_tree::<8, C>(alloc, w, bytes, changes).map(Tree::D8),
-            9 => load_tree::<9, C>(alloc, w, bytes, changes).map(Tree::D9),
-            10 => load_tree::<10, C>(alloc, w, bytes, changes).map(Tree::D10),
-            11 => load_tree::<11, C>(alloc, w, bytes, changes).map(Tree::D11),
-            12 => load_tree::<12, C>(alloc, w, bytes, changes).map(Tree::D12),
-            13 => load_tree::<13, C>(alloc, w, bytes, changes).map(Tree::D13),
-            14 => load_tree::<14, C>(alloc, w, bytes, changes).map(Tree::D14),
-            15 => load_tree::<15, C>(alloc, w, bytes, changes).map(Tree::D15),
-            _ => load_tree::<16, C>(alloc, w, bytes, changes).map(Tree::D16),
+        macro_rules! load {
+            ($dims:literal, $variant:ident) => {
+                load_tree::<$dims, C>(alloc, w, bytes, changes).map(Tree::$variant)
+            };
         }
+        by_dims!(dims, load)
     }
 }
