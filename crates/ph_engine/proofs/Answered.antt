@@ -25,8 +25,8 @@ use Rattle.ph_engine.specs.Costs.{Spent, Worked}
 use Rattle.ph_engine.specs.Answering.{Said, SaysOr}
 use Rattle.ph_engine.specs.ScriptMachine.{Whole, whole, told_now, told_then, files_found, files_met, file_by, files_in, reading_in}
 use Rattle.ph_engine.specs.ScriptMachine.{script_step, cut_by, starved_by, wants_by, uses_by, work_by, script_machine}
-use Rattle.ph_engine.specs.Beside.{Beside, AreTold, IsTold, StillTells, Filings}
-use Rattle.ph_engine.specs.Doing.{Done, DoneOr, HoldsFound, Knows, Leads, file_read, uses_files, cut_engine, starved_engine, wants_memory}
+use Rattle.ph_slot.specs.Beside.{Beside, AreTold, IsTold, StillTells, Filings}
+use Rattle.ph_slot.specs.Doing.{Done, DoneOr, HoldsFound, Knows, Leads, file_read, uses_files, cut_engine, starved_engine, wants_memory}
 use Rattle.ph_io.specs.Writing.{WritesFront}
 use Rattle.ph_engine.specs.Serving.{StaysKnown}
 use Rattle.ph_commands.specs.declared.answer.Answer.{Answer}

@@ -27,9 +27,9 @@ use Rattle.ph_script.specs.declared.reply.Reply.{Reply as Told}
 use Rattle.ph_script.specs.Meaning.{reply_of}
 use Rattle.ph_snap.specs.Faults.{IsLoadFault}
 use Rattle.ph_snap.specs.declared.fault.LoadFault.{LoadFault}
-use Rattle.ph_engine.specs.Beside.{Filings, beside_sink}
+use Rattle.ph_slot.specs.Beside.{Filings, beside_sink}
 use Rattle.ph_engine.specs.Checking.{FileHasSizes, HasSizes, LineGiven, Meets, CheckDone, bytes_checked, nodes_saved, nodes_unless, status_of}
-use Rattle.ph_engine.specs.Filing.{TellsFault, TellsUnfetched}
+use Rattle.ph_slot.specs.Filing.{TellsFault, TellsUnfetched}
 use Rattle.ph_commands.specs.Loading.{IsWithinBytes}
 use Rattle.ph_commands.specs.Telling.{is_refusal, StopHasCause, ToldOr}
 use Rattle.ph_commands.specs.Working.{one_if}
@@ -41,7 +41,7 @@ use Rattle.ph_commands.specs.declared.answer.Stop.{Stop}
 use Rattle.ph_commands.specs.declared.answer.Stop.TheVariants as stop
 use Rattle.ph_engine.proofs.OwnDims.{own-dims}
 use Rattle.ph_engine.proofs.OwnHeaders.{own-none}
-use Rattle.ph_engine.proofs.Filed.{fetched, fetch-load, has-fetched, found_short, met-short, short-there, absent, over, long_bytes, failed-once, failed-never}
+use Rattle.ph_slot.proofs.Filed.{fetched, fetch-load, has-fetched, found_short, met-short, short-there, absent, over, long_bytes, failed-once, failed-never}
 
 -- ---- bytes
 

@@ -7,7 +7,7 @@ use Rattle.ph_specs.specs.State.{Engine, Files, Outcome}
 use Rattle.ph_specs.specs.Engine.{run, written}
 use Rattle.ph_commands.proofs.Replies.{texts-append}
 use Rattle.std.specs.Prelude.{Some, None}
-use Rattle.ph_engine.specs.Beside.{Beside, AreTold}
+use Rattle.ph_slot.specs.Beside.{Beside, AreTold}
 use Rattle.ph_engine.specs.Machine.{Turn, answers, after, lines_of}
 use Rattle.ph_engine.specs.ScriptMachine.{Whole, whole, script_step, script_machine}
 use Rattle.ph_engine.specs.ByDefinition.{RunsAsDefined}

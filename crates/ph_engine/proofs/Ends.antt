@@ -8,7 +8,7 @@ use Rattle.ph_io.specs.Causes.{Rose}
 use Rattle.ph_specs.specs.Program.{Task, Run}
 use Rattle.ph_io.specs.Shelf.{Stays}
 use Rattle.ph_specs.specs.State.{Engine, Files}
-use Rattle.ph_engine.specs.Beside.{Beside, AreTold}
+use Rattle.ph_slot.specs.Beside.{Beside, AreTold}
 use Rattle.ph_engine.specs.ByDefinition.{RunsAsDefined}
 use Rattle.ph_engine.specs.ScriptMachine.{whole, told_now, script_machine}
 use Rattle.ph_engine.specs.Ending.{RunEnds, TakesAtMost, TopEnds}
@@ -16,7 +16,7 @@ use Rattle.ph_engine.specs.Outcomes.{Outcome}
 use Rattle.ph_engine.specs.Statuses.{IsRead, HasAtMost, HasCauses}
 use Rattle.ph_engine.specs.declared.status.Status.{Status}
 use Rattle.ph_engine.specs.declared.status.Status.TheVariants.{Clean, Refused, Usage, ReadFault, WriteFault, Memory, TooLong}
-use Rattle.ph_engine.specs.declared.status.Limits.{Limits}
+use Rattle.ph_slot.specs.declared.limits.Limits.{Limits}
 use Rattle.ph_engine.specs.Machine.{Machine}
 use Rattle.ph_engine.specs.Seen.{Seen}
 use Rattle.ph_engine.specs.Serving.{StaysKnown, ServesScript}

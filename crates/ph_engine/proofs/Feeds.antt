@@ -3,7 +3,7 @@ use Rattle.std.proofs.Common.{◌≡◌, ℕ, ◌<◌, Bool, true, false, ◌||�
 use Rattle.std.proofs.Common.{subst, arith}
 use Rattle.std.specs.Prelude.{Ok, Err}
 use Rattle.ph_io.specs.Giving.{Given}
-use Rattle.ph_engine.specs.Beside.{Beside}
+use Rattle.ph_slot.specs.Beside.{Beside}
 use Rattle.ph_specs.specs.Lines.{LF, lines}
 use Rattle.ph_specs.proofs.laws.Put.{and}
 use Rattle.ph_engine.specs.Costs.{Spent}

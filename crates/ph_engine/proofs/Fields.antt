@@ -1,14 +1,6 @@
--- An engine, a slot and a cursor that a slot holds have these fields and no other.
-use Rattle.std.proofs.Common.{◌≡◌, ℕ, refl}
+-- An engine has these fields and no other.
+use Rattle.std.proofs.Common.{◌≡◌, refl}
 use Rattle.ph_engine.specs.declared.engine.Engine.TheInside.{Inside as EngineInside}
-use Rattle.ph_engine.specs.declared.cursors.Held.{Held}
-use Rattle.ph_engine.specs.declared.slot_of.SlotOf.TheInside.{Inside as SlotInside}
 
 pub engine_fields : (e : EngineInside) → e ≡ record { a = e.a; b = e.b; current = e.current }
 engine_fields e = refl
-
-pub slot_fields : {D : ℕ} (s : SlotInside D) → s ≡ record { kind = s.kind; kept = s.kept; cursors = s.cursors }
-slot_fields s = refl
-
-pub held_fields : {D : ℕ} (h : Held D) → h ≡ record { name = h.name; cursor = h.cursor }
-held_fields h = refl

@@ -3,7 +3,7 @@ use Rattle.std.proofs.Common.{◌≡◌, ℕ, false, List, [], refl, sym, subst}
 use Rattle.std.specs.declared.option.Option.{Option}
 use Rattle.ph_io.specs.Shelf.{Stays}
 use Rattle.ph_specs.specs.State.{Engine, Files}
-use Rattle.ph_engine.specs.Beside.{Beside}
+use Rattle.ph_slot.specs.Beside.{Beside}
 use Rattle.ph_engine.specs.Machine.{Machine}
 use Rattle.ph_engine.specs.Outcomes.{Outcome}
 use Rattle.ph_engine.specs.ScriptMachine.{Whole, whole, told_now}

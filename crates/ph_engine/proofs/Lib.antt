@@ -1,6 +1,3 @@
-pub mod Names
-pub mod Sizes
-pub mod Variants
 pub mod Cuts
 pub mod Machines
 pub mod Sums
@@ -11,22 +8,9 @@ pub mod Answered
 pub mod Known
 pub mod Last
 pub mod Defined
-pub mod Refused
-pub mod Plain
-pub mod Commanded
-pub mod Filed
-pub mod Quiet
-pub mod Loads
 pub mod OwnDims
 pub mod OwnHeaders
 pub mod Checked
 pub mod Soaks
 pub mod Ends
-pub mod Slotted
-pub mod Paged
-pub mod Lifted
-pub mod Pairings
-pub mod Undos
-pub mod Recorded
-pub mod Groups
 mod Fields

@@ -7,7 +7,7 @@ use Rattle.std.proofs.lemmas.Bool.{cases_lt}
 use Rattle.std.proofs.lemmas.List.{take_all}
 use Rattle.std.specs.Io.KnownBytes.{Consumes, IsAtEnd, Keeps}
 use Rattle.ph_io.specs.Giving.{Given}
-use Rattle.ph_engine.specs.Beside.{Beside}
+use Rattle.ph_slot.specs.Beside.{Beside}
 use Rattle.ph_specs.specs.Lines.{lines, whole_lines}
 use Rattle.ph_engine.specs.Costs.{Spent}
 use Rattle.ph_engine.specs.Machine.{Machine, Met, turn, answers, after, some_refused, lines_of, KEPT}

@@ -18,8 +18,8 @@ use Rattle.ph_specs.specs.Past.{Past, put_kept, del_kept, move_kept}
 use Rattle.ph_specs.specs.State.{Slot, Engine, Files, outcome, current, slot_at, with_slot, with_past, past_in}
 use Rattle.ph_specs.specs.Stats.{Stats, stats}
 use Rattle.ph_specs.specs.Engine.{act, after, effect, unless_refused}
-use Rattle.ph_engine.specs.Beside.{Beside, alone, beside, Tells}
-use Rattle.ph_engine.specs.Doing.{Done, Undone, Unfiled, Leads, Knows, HoldsFound, file_read, starved_engine, wants_memory, is_on_slot, is_begin}
+use Rattle.ph_slot.specs.Beside.{Beside, alone, beside, Tells}
+use Rattle.ph_slot.specs.Doing.{Done, Undone, Unfiled, Leads, Knows, HoldsFound, file_read, starved_engine, wants_memory, is_on_slot, is_begin}
 use Rattle.ph_commands.specs.Working.{Work, one_if, work_of, nodes_of, IsAtMost, IsAtLeast}
 use Rattle.ph_engine.specs.Soaking.{is_drawn, AreDrawn, sum_work, visits_most, Soaked, SoakedInPart, SoakDone}
 use Rattle.ph_commands.specs.declared.answer.Answer.{Answer}

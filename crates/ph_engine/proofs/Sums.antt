@@ -1,6 +1,6 @@
 -- What lines cost in two parts.
 use Rattle.std.proofs.Common.{◌≡◌, ◌+◌, ℕ, inl, inr, arith, Bool, true, false, ◌||◌, List, [], ◌++◌, refl, ◌∙◌}
-use Rattle.ph_engine.specs.Beside.{Beside, Tells, Filings}
+use Rattle.ph_slot.specs.Beside.{Beside, Tells, Filings}
 use Rattle.ph_engine.specs.Machine.{Machine, Turn, after, some_uses, faults_in}
 use Rattle.ph_engine.specs.Costs.{Spent, Worked}
 use Rattle.ph_engine.proofs.Machines.{total-append, faults-append, uses-append}

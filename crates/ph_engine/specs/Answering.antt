@@ -1,7 +1,7 @@
 -- What the answer to one line leaves.
 use Rattle.std.specs.Prelude.{◌≡◌, ◌<◌, ℕ, Bool, true, List, [], ◌∷◌, length, take, Result, Ok, Err}
 use Rattle.ph_io.specs.Giving.{Given}
-use Rattle.ph_engine.specs.Beside.{Beside}
+use Rattle.ph_slot.specs.Beside.{Beside}
 use Rattle.ph_engine.specs.Machine.{Machine, Met, Turn, turn, answers, after, lines_of}
 use Rattle.ph_commands.specs.Telling.{is_refusal}
 use Rattle.ph_engine.specs.Costs.{Spent, Worked}

@@ -4,7 +4,7 @@ use Rattle.std.specs.Io.KnownBytes.{Consumes, IsAtEnd}
 use Rattle.ph_io.specs.Giving.{Given}
 use Rattle.ph_specs.specs.Lines.{lines}
 use Rattle.ph_specs.specs.Engine.{written}
-use Rattle.ph_engine.specs.Beside.{Beside, Tells}
+use Rattle.ph_slot.specs.Beside.{Beside, Tells}
 use Rattle.ph_engine.specs.ScriptMachine.{Whole, script_run}
 use Rattle.ph_engine.specs.Machine.{faults_of}
 

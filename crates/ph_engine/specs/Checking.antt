@@ -18,8 +18,8 @@ use Rattle.ph_specs.specs.State.{Files}
 use Rattle.ph_specs.specs.Stats.{stats}
 use Rattle.ph_specs.specs.Table.{Row}
 use Rattle.ph_specs.specs.WorkSets.{all_nodes}
-use Rattle.ph_engine.specs.Beside.{Beside, Filings}
-use Rattle.ph_engine.specs.Doing.{HoldsFound}
+use Rattle.ph_slot.specs.Beside.{Beside, Filings}
+use Rattle.ph_slot.specs.Doing.{HoldsFound}
 use Rattle.ph_commands.specs.Telling.{refuses, is_refusal}
 use Rattle.ph_commands.specs.Working.{one_if}
 use Rattle.ph_engine.specs.Seen.{Seen}

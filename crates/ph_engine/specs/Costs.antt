@@ -1,6 +1,6 @@
 -- What lines cost: faults of the files, and the work that is counted.
 use Rattle.std.specs.Prelude.{◌≤◌, ◌+◌, List}
-use Rattle.ph_engine.specs.Beside.{Beside, Filings}
+use Rattle.ph_slot.specs.Beside.{Beside, Filings}
 use Rattle.ph_engine.specs.Machine.{Machine, Turn, some_uses, total, faults_in}
 
 -- The files failed in no more of the lines than their count tells, and no more work was done than the lines may do.

@@ -13,7 +13,7 @@ use Rattle.ph_engine.specs.Soaking.{SoakEnds}
 use Rattle.ph_engine.specs.Serving.{ServesScript}
 use Rattle.ph_engine.specs.Standing.{IsKnown, whole_of}
 use Rattle.ph_engine.specs.Statuses.{IsRead, HasAtMost, HasWriteCause}
-use Rattle.ph_engine.specs.declared.status.Limits.{Limits}
+use Rattle.ph_slot.specs.declared.limits.Limits.{Limits}
 use Rattle.ph_engine.specs.declared.status.Status.{Status}
 use Rattle.ph_engine.specs.declared.status.Status.TheVariants.{Usage, ReadFault, WriteFault, Memory}
 

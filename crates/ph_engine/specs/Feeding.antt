@@ -1,7 +1,7 @@
 -- What a piece of a script leads to, behind an unended line of which the first bytes are kept.
 use Rattle.std.specs.Prelude.{◌≡◌, ◌<◌, ℕ, Bool, true, ◌||◌, List, [], ◌∷◌, ◌++◌, length, take, Result, Ok, Err}
 use Rattle.ph_io.specs.Giving.{Given}
-use Rattle.ph_engine.specs.Beside.{Beside}
+use Rattle.ph_slot.specs.Beside.{Beside}
 use Rattle.ph_engine.specs.Machine.{Machine, Met, Turn, turn, answers, after, some_refused, lines_of, KEPT}
 use Rattle.ph_engine.specs.Costs.{Spent, Worked}
 use Rattle.ph_engine.specs.Cutting.{ended, is_unbroken, are_unbroken}

@@ -3,7 +3,7 @@ use Rattle.std.specs.Prelude.{◌≡◌, ◌<◌, ◌≤◌, ◌+◌, ◌⊎◌,
 use Rattle.std.specs.Io.KnownBytes.{Consumes, IsAtEnd}
 use Rattle.ph_io.specs.Giving.{Given}
 use Rattle.ph_specs.specs.Lines.{lines, whole_lines}
-use Rattle.ph_engine.specs.Beside.{Beside}
+use Rattle.ph_slot.specs.Beside.{Beside}
 use Rattle.ph_engine.specs.Machine.{Machine, Turn, answers, after, some_refused, lines_of}
 use Rattle.ph_engine.specs.Answering.{Answers}
 use Rattle.ph_engine.specs.Costs.{Spent}

@@ -6,7 +6,7 @@ use Rattle.ph_specs.specs.Reply.{replies_text}
 use Rattle.ph_specs.specs.State.{Engine, Files, Outcome, current}
 use Rattle.ph_specs.specs.Engine.{act, step, run}
 use Rattle.ph_specs.specs.Named.{enter}
-use Rattle.ph_engine.specs.Doing.{file_read, wants_memory, uses_files, cut_engine, starved_engine}
+use Rattle.ph_slot.specs.Doing.{file_read, wants_memory, uses_files, cut_engine, starved_engine}
 use Rattle.ph_engine.specs.Machine.{Machine, Turn}
 use Rattle.ph_commands.specs.Working.{Work, no_work, work_of}
 

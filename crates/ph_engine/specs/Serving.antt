@@ -4,7 +4,7 @@ use Rattle.ph_script.specs.declared.lines.Line.{Line}
 use Rattle.ph_script.specs.Shown.{IsLine}
 use Rattle.std.specs.Str.Lines.{strip_carriage_return}
 use Rattle.ph_engine.specs.Answering.{SaysOr}
-use Rattle.ph_engine.specs.Beside.{AreTold}
+use Rattle.ph_slot.specs.Beside.{AreTold}
 use Rattle.ph_specs.specs.State.{Files}
 use Rattle.ph_io.specs.Shelf.{Stays}
 use Rattle.ph_engine.specs.ScriptMachine.{Whole, whole, told_now, script_machine}

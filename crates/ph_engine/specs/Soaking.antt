@@ -10,9 +10,9 @@ use Rattle.ph_specs.specs.Program.{act_all, opened, soaked, soak_line}
 use Rattle.ph_specs.specs.Reply.{replies_text}
 use Rattle.ph_specs.specs.Engine.{act}
 use Rattle.ph_specs.specs.State.{Engine, Files}
-use Rattle.ph_engine.specs.Beside.{Beside, without_files}
+use Rattle.ph_slot.specs.Beside.{Beside, without_files}
 use Rattle.ph_commands.specs.Working.{Work, work_of, nodes_of}
-use Rattle.ph_engine.specs.Doing.{wants_memory}
+use Rattle.ph_slot.specs.Doing.{wants_memory}
 use Rattle.ph_engine.specs.Seen.{Seen}
 use Rattle.ph_engine.specs.declared.status.Status.{Status}
 use Rattle.ph_engine.specs.declared.status.Status.TheVariants.{Clean, WriteFault, Memory}

@@ -1,7 +1,7 @@
 -- An engine with what stands beside it, and the part of it that the definition of a run speaks of.
 use Rattle.std.specs.Prelude.{ℕ, List, Option}
 use Rattle.ph_specs.specs.State.{Engine, Files}
-use Rattle.ph_engine.specs.Beside.{Beside, beside, AreTold}
+use Rattle.ph_slot.specs.Beside.{Beside, beside, AreTold}
 use Rattle.ph_engine.specs.ScriptMachine.{Whole, whole}
 
 pub record Standing : Type 0 where

@@ -1,25 +1,19 @@
 //! The state of the program, and what a command does to it.
 ghost use Rattle.std.specs.Prelude.{◌≡◌, ◌<◌, ◌≤◌, ◌^◌, [], true};
-ghost use Rattle.ph_specs.specs.ProgramNames.{Command as Asked, opened, Reply as Replied, new_engine, current, slot_at};
+ghost use Rattle.ph_specs.specs.ProgramNames.{opened, Reply as Replied, new_engine, current, slot_at};
 ghost use Rattle.ph_specs.specs.declared.Which.TheVariants.{A};
 ghost use Rattle.ph_script.specs.Meaning.{command_of, reply_of};
 ghost use Rattle.ph_script.specs.Fit.{HasDims};
-ghost use Rattle.ph_engine.specs.AnySlots.{any_slot};
-ghost use Rattle.ph_engine.specs.Comparing.{Compares};
-ghost use Rattle.ph_engine.specs.Desks.{SameDesk, beside_at};
-ghost use Rattle.ph_engine.specs.Doing.{DoneOr, DoneBeside, LeavesBegun};
-ghost use Rattle.ph_engine.specs.Filing.{QuietOr};
+ghost use Rattle.ph_slot.specs.AnySlots.{any_slot};
+ghost use Rattle.ph_slot.specs.Desks.{SameDesk, beside_at};
+ghost use Rattle.ph_slot.specs.Doing.{DoneOr, LeavesBegun, is_on_both};
 ghost use Rattle.ph_commands.specs.Telling.{StopHasCause};
 ghost use Rattle.ph_engine.specs.Soaking.{is_drawn};
-ghost use Rattle.ph_commands.specs.Told.{taken_by};
 
-use crate::desk::Desk;
-use crate::slot::Slot;
-use ph_commands::{Answer, Stop, say, tell};
+use ph_commands::{Answer, Stop, say};
 use ph_io::{Files, Sink};
-use ph_script::{Command, Reply, SetOperation, Text, Which};
-use ph_steps::Steps;
-use ph_tree::NoMemory;
+use ph_script::{Command, Reply, Which};
+use ph_slot::{Desk, Slot};
 use std::alloc::Global;
 use std::marker::Model;
 use std::mem::replace;
@@ -35,7 +29,7 @@ pub struct Engine {
 
 impl Model for Engine {
     ghost use Rattle.ph_specs.specs.ProgramNames.{Engine as State};
-    ghost use Rattle.ph_engine.specs.AnySlots.{any_slot};
+    ghost use Rattle.ph_slot.specs.AnySlots.{any_slot};
 
     ghost Value = { State };
 
@@ -108,16 +102,31 @@ impl Engine {
     {
         match cmd {
             Command::Select { slot } => say(desk.out, &mut desk.text, &self.select(*slot)),
-            Command::Same => say(desk.out, &mut desk.text, &self.compare(desk.visits)),
-            Command::Join => self.join(desk.out, &mut desk.text, desk.visits),
-            Command::Combine { operation } => {
-                let outcome = self.combine(desk.alloc, *operation, desk.visits, desk.changes);
-                tell(desk.out, &mut desk.text, &outcome)
-            }
+            Command::Same | Command::Join | Command::Combine { .. } => self.exec_both(cmd, desk),
             _ => match self.current {
                 Which::A => self.a.exec(cmd, desk),
                 Which::B => self.b.exec(cmd, desk),
             },
+        }
+    }
+
+    // Does a command that knows both slots.
+    #[inline(never)]
+    fn exec_both<O: Sink, F: Files, V: Ledger, C: Ledger>(
+        &mut self,
+        cmd: &Command<'_>,
+        desk: &mut Desk<'_, O, F, V, C>,
+    ) -> Result<Answer, Stop>
+        requires both { is_on_both (command_of cmd.now) ≡ true }
+        ensures done { DoneOr desk.old.limits.now.file_bytes self.old (command_of cmd.now)
+            (beside_at O.Sink F.Files desk.old) (beside_at O.Sink F.Files desk.new) self.new result }
+        ensures cause { StopHasCause (O.faults desk.old.out.now) (O.faults desk.new.out.now) result }
+        ensures begun { LeavesBegun (command_of cmd.now) (F.is_begun desk.old.files.now) (F.is_begun desk.new.files.now) }
+        ensures same { SameDesk desk.old desk.new }
+    {
+        match self.current {
+            Which::A => self.a.exec_beside(&self.b, Which::A, cmd, desk),
+            Which::B => self.b.exec_beside(&self.a, Which::B, cmd, desk),
         }
     }
 
@@ -138,7 +147,7 @@ impl Engine {
         ensures cause { StopHasCause (O.faults desk.old.out.now) (O.faults desk.new.out.now) result }
         ensures same { SameDesk desk.old desk.new }
     {
-        self.a.exec_drawn(cmd, desk)
+        self.a.exec_of_two(cmd, desk)
     }
 
     // Makes a slot the current one.
@@ -148,48 +157,5 @@ impl Engine {
     {
         self.current = slot;
         Reply::Using(slot)
-    }
-
-    // Whether both slots have the same rows, of one kind, one width and as many dimensions.
-    fn compare<V: Ledger>(&self, visits: &mut Steps<V>) -> Reply
-        ensures { Compares self.now visits.old visits.new (reply_of result) }
-    {
-        if self.a.is_same(&self.b, visits) {
-            Reply::Same
-        } else {
-            Reply::Differ
-        }
-    }
-
-    // Lists the pairs of a box of slot a and one of slot b that overlap, unless they cannot be joined.
-    fn join<O: Sink, V: Ledger>(
-        &self,
-        out: &mut O,
-        text: &mut Text,
-        visits: &mut Steps<V>,
-    ) -> Result<Answer, Stop>
-        ensures done { DoneBeside self.now Asked.Join (taken_by O.Sink out.old) (taken_by O.Sink out.new) visits.old visits.new result }
-        ensures cause { StopHasCause (O.faults out.old) (O.faults out.new) result }
-    {
-        match self.a.join_refusal(&self.b) {
-            Some(refusal) => say(out, text, &refusal.reply()),
-            None => self.a.join(&self.b, out, text, visits),
-        }
-    }
-
-    // Takes the table that an operation makes of the current slot and the other one into the current one.
-    fn combine<V: Ledger, C: Ledger>(
-        &mut self,
-        alloc: Global,
-        operation: SetOperation,
-        visits: &mut Steps<V>,
-        changes: &mut Steps<C>,
-    ) -> Result<Reply, NoMemory>
-        ensures { QuietOr self.old (Asked.Combine operation) visits.old visits.new changes.old changes.new self.new result }
-    {
-        match self.current {
-            Which::A => self.a.combine(&self.b, alloc, operation, visits, changes),
-            Which::B => self.b.combine(&self.a, alloc, operation, visits, changes),
-        }
     }
 }

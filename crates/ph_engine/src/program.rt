@@ -7,13 +7,13 @@ ghost use Rattle.ph_engine.specs.Told.{seen_by};
 ghost use Rattle.ph_commands.specs.Told.{taken_by};
 
 use crate::checking::check;
-use crate::desk::Desk;
 use crate::engine::Engine;
 use crate::run::run;
 use crate::soaking::soak;
-use crate::status::{Limits, Status};
+use crate::status::Status;
 use crate::task::{Task, task_of};
 use ph_io::{Failed, Files, Sink, Source, write_piece};
+use ph_slot::{Desk, Limits};
 use ph_steps::Steps;
 use std::alloc::Global;
 use std::sync::ledger::Ledger;

@@ -7,18 +7,19 @@ ghost use Rattle.ph_specs.specs.ProgramNames.{reply_text as text_of};
 ghost use Rattle.ph_script.specs.Meaning.{reply_of, bad_reply as reply_to};
 ghost use Rattle.ph_commands.specs.Telling.{is_refusal, refuses, StopHasCause};
 ghost use Rattle.ph_io.specs.Writing.{WritesFront};
-ghost use Rattle.ph_engine.specs.Desks.{SameDesk, standing_at};
+ghost use Rattle.ph_slot.specs.Desks.{SameDesk};
+ghost use Rattle.ph_engine.specs.Told.{standing_at};
 ghost use Rattle.ph_engine.specs.Serving.{ServesLine, ServesText, ServesPiece, ServesEnd, ServesScript};
 ghost use Rattle.ph_engine.specs.Showing.{IsShort};
 ghost use Rattle.ph_engine.specs.Statuses.{HasCauses, stop_status, read_status as status_of};
 ghost use Rattle.ph_commands.specs.Told.{taken_by};
 
-use crate::desk::Desk;
 use crate::engine::Engine;
 use crate::status::Status;
 use ph_commands::{Answer, Stop, say};
 use ph_io::{Failed, Files, Sink, Source};
 use ph_script::{Bad, CoordBuffer, Line, Lines, Reply, Text, read_command, read_plain_command};
+use ph_slot::Desk;
 use std::sync::ledger::Ledger;
 
 const PIECE_BYTES: usize = 4096;

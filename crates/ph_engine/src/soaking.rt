@@ -4,12 +4,11 @@ ghost use Rattle.ph_io.specs.Causes.{Rose};
 ghost use Rattle.ph_specs.specs.ProgramNames.{line_of, stats_words};
 ghost use Rattle.ph_specs.specs.declared.Which.TheVariants.{A};
 ghost use Rattle.ph_tree.specs.Stats.{stats_of};
-ghost use Rattle.ph_engine.specs.Beside.{beside};
-ghost use Rattle.ph_engine.specs.Desks.{SameDesk};
+ghost use Rattle.ph_slot.specs.Beside.{beside};
+ghost use Rattle.ph_slot.specs.Desks.{SameDesk};
 ghost use Rattle.ph_engine.specs.Soaking.{AreDrawn, SoakDone, SoakedOr};
-ghost use Rattle.ph_engine.specs.Told.{alone_by};
+ghost use Rattle.ph_slot.specs.Told.{alone_by};
 
-use crate::desk::Desk;
 use crate::engine::Engine;
 use crate::status::Status;
 use arrayvec::ArrayString;
@@ -17,6 +16,7 @@ use itoa::Buffer;
 use ph_commands::{LINE_BYTES, Stop, push_count, push_sizes};
 use ph_io::{CleanFiles, CountSink, Failed, Files, Sink, write_piece};
 use ph_script::{CoordBuffer, Gen, Which};
+use ph_slot::Desk;
 use ph_tree::{NoMemory, Stats};
 use std::sync::ledger::Ledger;
 

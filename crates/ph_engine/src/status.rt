@@ -1,4 +1,4 @@
-//! How a call of the program ends, and how much it takes.
+//! How a call of the program ends.
 
 /// How a call of `top` ends. The number of a status is that with which the program ends.
 #[derive(Clone, Copy, Debug, PartialEq, Eq)]
@@ -17,13 +17,4 @@ pub enum Status {
     Memory = 5,
     /// The script has more bytes than its limit.
     TooLong = 6,
-}
-
-/// How much a call of `top` takes.
-#[derive(Clone, Copy, Debug, PartialEq, Eq)]
-pub struct Limits {
-    /// The bytes of a script, at most; below `2^63`.
-    pub script_bytes: u64,
-    /// The bytes of a file that is read, at most; below `2^63`.
-    pub file_bytes: u64,
 }

@@ -3,11 +3,11 @@ use Rattle.ph_specs.specs.Lines.{LF}
 use Rattle.ph_script.specs.Shown.{before_feed, IsLine}
 use Rattle.ph_engine.specs.Machine.{KEPT}
 use Rattle.std.specs.Prelude.{Bool, false, Result, Ok, Err}
-use Rattle.ph_engine.specs.Desks.{beside_at}
+use Rattle.ph_slot.specs.Desks.{beside_at}
 use Rattle.ph_engine.specs.Feeding.{Fed}
 use Rattle.ph_script.specs.declared.lines.Line.{Line}
 use Rattle.ph_engine.specs.Answering.{SaysOr}
-use Rattle.ph_engine.specs.Beside.{Beside}
+use Rattle.ph_slot.specs.Beside.{Beside}
 use Rattle.ph_commands.specs.declared.answer.Stop.{Stop}
 use Rattle.ph_engine.specs.ScriptMachine.{Whole, whole, told_now, script_machine}
 use Rattle.ph_engine.proofs.Feeds.{fed-none, line-said, line-stopped, then-fed, then-stopped, then-part}

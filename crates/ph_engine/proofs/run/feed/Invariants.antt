@@ -1,6 +1,7 @@
 use Rattle.std.proofs.Common.{◌≡◌, ◌-◌, ◌≤◌, ◌<◌, ◌^◌, false, length, take}
 use Rattle.std.specs.Prelude.{Ok}
-use Rattle.ph_engine.specs.Desks.{SameDesk, standing_at}
+use Rattle.ph_slot.specs.Desks.{SameDesk}
+use Rattle.ph_engine.specs.Told.{standing_at}
 use Rattle.ph_engine.specs.Serving.{ServesPiece}
 use Rattle.ph_engine.proofs.run.feed.Given as goal
 

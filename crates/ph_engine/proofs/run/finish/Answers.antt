@@ -1,6 +1,7 @@
 use Rattle.std.proofs.Common.{◌≡◌, Bool, refl, sym, subst}
 use Rattle.std.specs.Prelude.{Result, Ok, Err}
-use Rattle.ph_engine.specs.Desks.{beside_at, standing_at}
+use Rattle.ph_slot.specs.Desks.{beside_at}
+use Rattle.ph_engine.specs.Told.{standing_at}
 use Rattle.ph_engine.specs.Feeding.{EndsOr}
 use Rattle.ph_engine.specs.ScriptMachine.{whole, told_now, script_machine}
 use Rattle.ph_engine.specs.Serving.{ServesLine, ServesEnd}

@@ -1,7 +1,7 @@
 use Rattle.std.proofs.Common.{◌≡◌, take, refl, ap, arith, rules}
 use Rattle.std.specs.Prelude.{Bool, Option, Result, Ok, Err}
 use Rattle.ph_specs.specs.State.{Files}
-use Rattle.ph_engine.specs.Desks.{beside_at}
+use Rattle.ph_slot.specs.Desks.{beside_at}
 use Rattle.ph_engine.specs.Feeding.{Feeds, Ends}
 use Rattle.ph_engine.specs.ScriptMachine.{whole, told_now, script_machine}
 use Rattle.ph_engine.specs.Serving.{StaysKnown, ServesPiece}

@@ -1,5 +1,6 @@
 use Rattle.std.proofs.Common.{◌≡◌, ◌+◌, ◌-◌, ◌≤◌, ◌<◌, ◌^◌, false}
-use Rattle.ph_engine.specs.Desks.{SameDesk, standing_at}
+use Rattle.ph_slot.specs.Desks.{SameDesk}
+use Rattle.ph_engine.specs.Told.{standing_at}
 use Rattle.ph_engine.specs.ScriptMachine.{script_machine}
 use Rattle.ph_engine.specs.Serving.{FromKnown}
 use Rattle.ph_engine.proofs.Runs.{Reached}

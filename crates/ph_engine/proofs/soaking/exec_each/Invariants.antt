@@ -1,6 +1,6 @@
 use Rattle.std.specs.Prelude.{◌<◌, ◌^◌, None, Some, length}
-use Rattle.ph_engine.specs.Beside.{beside}
-use Rattle.ph_engine.specs.Desks.{SameDesk}
+use Rattle.ph_slot.specs.Beside.{beside}
+use Rattle.ph_slot.specs.Desks.{SameDesk}
 use Rattle.ph_engine.proofs.Soaks.{SoakedSoFar}
 use Rattle.ph_engine.proofs.soaking.exec_each.Given as goal
 

@@ -1,5 +1,5 @@
 use Rattle.std.proofs.Common.{arith, rules, ap, ◌∙◌, ◌%◌, ◌<◌, ◌+◌, ◌^◌}
-use Rattle.ph_engine.specs.AnySlots.{any_slot}
+use Rattle.ph_slot.specs.AnySlots.{any_slot}
 use Rattle.ph_tree.specs.Stats.{stats_of}
 use Rattle.ph_commands.specs.Working.{nodes_of}
 use Rattle.ph_engine.proofs.Soaks.{HasSoaked, all_drawn, soak_clean, soak_cut, sizes_line_is}

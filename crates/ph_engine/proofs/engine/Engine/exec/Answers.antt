@@ -1,11 +1,8 @@
-use Rattle.std.proofs.Common.{refl}
-use Rattle.ph_specs.specs.Command.{Command as Asked}
 use Rattle.ph_specs.specs.declared.Which.TheVariants.{A, B}
 use Rattle.ph_script.specs.Meaning.{command_of}
-use Rattle.ph_engine.specs.AnySlots.{any_slot}
-use Rattle.ph_engine.proofs.Commanded.{select-done, compare-done, tells-said}
-use Rattle.ph_engine.proofs.Filed.{done-filed}
-use Rattle.ph_engine.proofs.Lifted.{done-at, on-slot}
+use Rattle.ph_slot.specs.AnySlots.{any_slot}
+use Rattle.ph_slot.proofs.Commanded.{select-done, tells-said}
+use Rattle.ph_slot.proofs.Lifted.{done-at, on-slot}
 use Rattle.ph_engine.proofs.engine.Engine.exec.Goals as goal
 
 pub returns-in-Select-clause-done : goal.returns-in-Select-clause-done
@@ -15,26 +12,6 @@ returns-in-Select-clause-done g c =
     c.args.desk.now.changes.now c.say.result c.select.ensures.engine c.select.ensures.reply
     (tells-said _ _ c.select.result c.say.result c.say.ensures.answer c.say.ensures.told c.say.ensures.err
     c.say.ensures.front))
-
-pub returns-in-Same-clause-done : goal.returns-in-Same-clause-done
-returns-in-Same-clause-done g c =
-    rw c.in-Same.is (compare-done c.args.desk.now.limits.now.file_bytes c.args.self.now c.compare.result _ _
-    (g.F.Files.files c.args.desk.now.files.now) (g.F.Files.faults c.args.desk.now.files.now) c.args.desk.now.visits.now c.compare.new.visits
-    c.args.desk.now.changes.now c.say-in-Same.result c.compare.ensures
-    (tells-said _ _ c.compare.result c.say-in-Same.result c.say-in-Same.ensures.answer c.say-in-Same.ensures.told
-    c.say-in-Same.ensures.err c.say-in-Same.ensures.front))
-
-pub returns-in-Join-clause-done : goal.returns-in-Join-clause-done
-returns-in-Join-clause-done g c =
-    let desk = c.args.desk.now in
-    rw c.in-Join.is (c.join.ensures.done.done desk.limits.now.file_bytes (g.F.Files.files desk.files.now) (g.F.Files.faults desk.files.now) desk.changes.now)
-
-pub returns-in-Combine-clause-done : goal.returns-in-Combine-clause-done
-returns-in-Combine-clause-done g c =
-    rw c.in-Combine.is (done-filed c.args.desk.now.limits.now.file_bytes c.args.self.now c.combine-outcome.new.self
-    (Asked.Combine c.in-Combine.operation) _ _ _ _ _ _ _ _ _ _ c.combine-outcome.result c.tell.result refl
-    (c.combine-outcome.ensures.filed c.args.desk.now.limits.now.file_bytes (g.F.Files.files c.args.desk.now.files.now)
-    (g.F.Files.faults c.args.desk.now.files.now)) c.tell.ensures.told)
 
 pub returns-in-A-clause-done : goal.returns-in-A-clause-done
 returns-in-A-clause-done g c =

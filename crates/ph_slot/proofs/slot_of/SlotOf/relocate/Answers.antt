@@ -1,0 +1,32 @@
+use Rattle.std.proofs.Common.{◌∙◌, ap, refl, sym}
+use Rattle.std.specs.Prelude.{Some}
+use Rattle.ph_specs.specs.Command.{Command}
+use Rattle.ph_script.specs.Meaning.{numbers_of}
+use Rattle.ph_slot.specs.Refusing.{early_refusal}
+use Rattle.ph_commands.specs.Tables.{table_at}
+use Rattle.ph_slot.specs.Slots.{named}
+use Rattle.ph_slot.proofs.Plain.{plain-move}
+use Rattle.ph_slot.proofs.Quiet.{refused-quiet, served-quiet}
+use Rattle.ph_slot.proofs.Slotted.{frame-kept, move-frame}
+use Rattle.ph_slot.proofs.slot_of.SlotOf.relocate.Goals as goal
+
+pub returns-in-Some : goal.returns-in-Some
+returns-in-Some g c =
+    refused-quiet c.args.self.now (Command.Relocate (numbers_of c.args.from.now) (numbers_of c.args.to.now)) c.reply.result _ _ refl
+    (sym c.in-Some.ensures ∙ ap Some (sym c.reply.ensures))
+
+pub invariant_of-self : goal.invariant_of-self
+invariant_of-self g c =
+    let p = numbers_of c.args.from.now in
+    let q = numbers_of c.args.to.now in
+    frame-kept _ c.move_row.result _ _ _ _
+    (move-frame c.self.inside.kind (table_at g.row.D c.self.inside.kept) (named c.self.inside.cursors.items) p q
+    (ap (λ x. early_refusal x (Command.Relocate p q)) c.self.view_is ∙ sym c.in_default.ensures)) c.move_row.ensures c.self.invariant
+
+pub returns : goal.returns
+returns g c =
+    let p = numbers_of c.args.from.now in
+    let q = numbers_of c.args.to.now in
+    rw (← c.self.view_is) (served-quiet c.self.inside.kind (table_at g.row.D c.self.inside.kept) _ (named c.self.inside.cursors.items) _
+    c.move_row.result _ _ _ _ (plain-move p q)
+    (ap (λ x. early_refusal x (Command.Relocate p q)) c.self.view_is ∙ sym c.in_default.ensures) c.move_row.ensures)

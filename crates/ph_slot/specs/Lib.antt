@@ -1,0 +1,16 @@
+pub mod Beside
+pub mod Naming
+pub mod Slots
+pub mod AnySlots
+pub mod Comparing
+pub mod Refusing
+pub mod Causes
+pub mod Pairing
+pub mod Desks
+pub mod Doing
+pub mod Drafting
+pub mod DraftLaws
+pub mod Filing
+pub mod Recording
+pub mod Asking
+pub mod Told
