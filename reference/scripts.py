@@ -120,16 +120,25 @@ def boxes(writer):
     return writer.case()
 
 
+def import_at(writer, name, points):
+    """Imports rows at these points from a file of this name."""
+    writer.files[name] = ''.join(','.join(map(str, (*point, writer.rng.randrange(9)))) + '\n' for point in points).encode()
+    writer.add('import', name)
+
+
 def two_slots(writer, kind):
-    """Opens both slots, most often in the same way."""
+    """Opens both slots, most often in the same way, and puts a few rows into each, or some hundreds of which they have many in common."""
     rng = writer.rng
     dims, width = rng.choice((1, 1, 2, 2, 3, 4, 8)), rng.choice((2, 3, 4, 8, 32, 32, 62))
+    many = writer.chance(0.15)
     for name in 'ab':
         writer.use(name)
         if writer.chance(0.07):
             writer.open()
         else:
-            writer.open(kind, dims, width, rng.choice((None, None, None, 3, 6, 9)))
+            writer.open(kind, dims, width, None if many else rng.choice((None, None, None, 3, 6, 9)))
+        if many:
+            import_at(writer, f'{name}.csv', [writer.point() for _ in range(rng.randrange(50, 300))])
         for _ in range(rng.randrange(0, 14)):
             writer.put()
 
@@ -195,8 +204,7 @@ def crowds(writer):
     writer.open('points', dims, width)
     points = [tuple((number >> at & 1) * 2**level + least(width) for at in range(dims)) for number in rng.sample(range(2**dims), turn + 1)]
     count = turn + rng.choice((-2, -1, 0, 1))
-    writer.files['t.csv'] = ''.join(','.join(map(str, (*point, rng.randrange(9)))) + '\n' for point in points[:count]).encode()
-    writer.add('import', 't.csv')
+    import_at(writer, 't.csv', points[:count])
     for step in range(rng.randrange(2, 6)):
         writer.add(*rng.choice((['put', *points[rng.randrange(turn + 1)], 5], ['put', *points[-1 - step % 2], 6], ['del', *points[step]],
                                 ['move', *points[step], *points[-1]])))

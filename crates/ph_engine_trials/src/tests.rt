@@ -3,6 +3,7 @@ ghost use Rattle.std.specs.Prelude.{◌≡◌, ◌<◌};
 
 mod boxes;
 mod checks;
+mod claims;
 mod commands;
 mod cursors;
 mod devices;
@@ -17,6 +18,7 @@ mod undos;
 mod widths;
 
 use boxes::BOXES;
+use claims::holds_for;
 use distances::DISTANCES;
 use pairs::PAIRS;
 use ph_engine::{Engine, Limits, Status, top};
@@ -79,8 +81,8 @@ fn check(rt: &impl Abort, alloc: Global, case: &Case<'_>) {
 fn check_over(rt: &impl Abort, alloc: Global, case: &Case<'_>, files: &mut MemoryFiles) {
     let (status, sink) = answer_over(rt, alloc, case, files);
     let script = case.script;
-    assert!(rt; sink.bytes() == case.output.as_bytes(), "{script}");
-    assert!(rt; status == case.status, "{script}");
+    holds_for(rt, sink.bytes() == case.output.as_bytes(), &script);
+    holds_for(rt, status == case.status, &script);
 }
 
 // Runs a case, and gives its status and what was written.

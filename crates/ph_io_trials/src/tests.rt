@@ -1,12 +1,14 @@
 //! What any sources, sinks and files are to answer.
 ghost use Rattle.std.specs.Prelude.{◌≤◌, length};
 
+mod claims;
 mod dir_files;
 mod files;
 mod gathered;
 mod sinks;
 mod sources;
 
+use claims::holds;
 use ph_io::{Failed, FetchFault, Files, Sink, Source};
 use std::process::Abort;
 
@@ -19,8 +21,8 @@ fn check_read<S: Source>(
     stands: &[u8],
 ) {
     assert!(rt; !into.is_empty());
-    assert!(rt; source.read(into) == answer);
-    assert!(rt; *into == *stands);
+    holds(rt, source.read(into) == answer);
+    holds(rt, *into == *stands);
 }
 
 fn check_write<S: Sink>(
@@ -29,7 +31,7 @@ fn check_write<S: Sink>(
     piece: &[u8],
     answer: Result<usize, Failed>,
 ) {
-    assert!(rt; sink.write(piece) == answer);
+    holds(rt, sink.write(piece) == answer);
 }
 
 // A fetch of at most so many bytes of a file gives these, or is refused so.
@@ -43,8 +45,8 @@ fn check_fetch<F: Files>(
     assert!(rt; name.len() <= 255);
     let answer = files.fetch(name, most, into);
     match wanted {
-        Ok(bytes) => assert!(rt; answer == Ok(()) && into.as_slice() == bytes),
-        Err(fault) => assert!(rt; answer == Err(fault)),
+        Ok(bytes) => holds(rt, answer == Ok(()) && into.as_slice() == bytes),
+        Err(fault) => holds(rt, answer == Err(fault)),
     }
 }
 
@@ -66,5 +68,5 @@ fn check_save<F: Files>(
     answer: Result<(), Failed>,
 ) {
     assert!(rt; name.len() <= 255);
-    assert!(rt; save(files, name, piece) == answer);
+    holds(rt, save(files, name, piece) == answer);
 }

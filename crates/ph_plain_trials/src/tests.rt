@@ -3,6 +3,7 @@ ghost use Rattle.std.specs.Prelude.{◌≡◌};
 ghost use Rattle.ph_specs.specs.TableNames.{IsPoint};
 
 mod boxes;
+mod claims;
 mod csv;
 mod distances;
 mod shapes;

@@ -5,6 +5,7 @@ ghost use Rattle.ph_specs.specs.RecordNames.{first_in};
 ghost use Rattle.ph_model.specs.ModelNames.{IsRecord};
 
 use crate::{Item, is_cube_back, is_linear_back, record_of};
+use claims::{holds, holds_for};
 use ph_cube::by_dims as cube_calls;
 use ph_linear::by_dims as linear_calls;
 use std::alloc::Global;
@@ -47,6 +48,7 @@ macro_rules! edit_at {
     };
 }
 
+mod claims;
 mod cubes;
 mod puts;
 mod resizes;
@@ -152,16 +154,16 @@ fn linear_records_by_hand(rt: HostRuntime) {
     let alloc = rt.alloc();
     let across = [point(3, (3, 4), 17)];
     let want = [0x1f00000001000000, 0x60000000c0000002, 0, 0x11];
-    assert!(rt; is_made::<2>(alloc, false, 31, &across, &want));
+    holds(&rt, is_made::<2>(alloc, false, 31, &across, &want));
     let ends = [point(0, (0, 0), 1), point(3, (0, 0), 2)];
     let want = [0x0000000002000000, 0x0c00000000000000, 1, 2];
-    assert!(rt; is_made::<2>(alloc, false, 0, &ends, &want));
+    holds(&rt, is_made::<2>(alloc, false, 0, &ends, &want));
     let both = [child(0, (2, 0)), point(1, (1, 0), 9)];
     let want = [0x0200000002000001, 0x9900000000000000, 9];
-    assert!(rt; is_made::<1>(alloc, false, 2, &both, &want));
+    holds(&rt, is_made::<1>(alloc, false, 2, &both, &want));
     let pair = [point(0, (1, 3), 7), child(3, (2, 0))];
     let want = [0x0200000002000001, 0x4de0000000000000, 7];
-    assert!(rt; is_made::<2>(alloc, false, 2, &pair, &want));
+    holds(&rt, is_made::<2>(alloc, false, 2, &pair, &want));
 }
 
 #[test]
@@ -173,10 +175,10 @@ fn cube_records_by_hand(rt: HostRuntime) {
         point(3, (0, 0), 2),
     ];
     let want = [0x0001000003000000, 0x5100000000000000, 1, 3, 2];
-    assert!(rt; is_made::<2>(alloc, true, 0, &three, &want));
+    holds(&rt, is_made::<2>(alloc, true, 0, &three, &want));
     let both = [child(0, (2, 0)), point(1, (1, 0), 9)];
     let want = [0x0201000002000001, 0x9900000000000000, 9];
-    assert!(rt; is_made::<1>(alloc, true, 2, &both, &want));
+    holds(&rt, is_made::<1>(alloc, true, 2, &both, &want));
     let full = [
         point(0, (1, 0), 5),
         point(1, (0, 0), 6),
@@ -184,30 +186,24 @@ fn cube_records_by_hand(rt: HostRuntime) {
         point(3, (1, 1), 8),
     ];
     let want = [0x0101000004000001, 0x5983000000000000, 5, 6, 8];
-    assert!(rt; is_made::<2>(alloc, true, 1, &full, &want));
+    holds(&rt, is_made::<2>(alloc, true, 1, &full, &want));
 }
 
 #[test]
 fn all_small_records(rt: HostRuntime) {
     for level in 0..4 {
-        assert!(rt;
-            are_all_back::<1>(rt.alloc(), level, 9),
-            "1 dimension, level {level}"
-        );
-        assert!(rt;
-            are_all_back::<2>(rt.alloc(), level, 81),
-            "2 dimensions, level {level}"
-        );
+        holds_for(&rt, are_all_back::<1>(rt.alloc(), level, 9), &level);
+        holds_for(&rt, are_all_back::<2>(rt.alloc(), level, 81), &level);
     }
 }
 
 // What is found by an address in a record of three entries.
 macro_rules! find_in_three {
     ($layout:ident, $rt:expr, $words:expr) => {{
-        assert!($rt; $layout::find($words, 2, 3) == Some(2));
-        assert!($rt; $layout::find($words, 2, 2).is_none());
-        assert!($rt; $layout::next_at_or_after($words, 2, 2) == Some(2));
-        assert!($rt; $layout::find_entry($words, 2, 1).is_some());
+        holds($rt, $layout::find($words, 2, 3) == Some(2));
+        holds($rt, $layout::find($words, 2, 2).is_none());
+        holds($rt, $layout::next_at_or_after($words, 2, 2) == Some(2));
+        holds($rt, $layout::find_entry($words, 2, 1).is_some());
     }};
 }
 
@@ -215,11 +211,11 @@ macro_rules! find_in_three {
 macro_rules! read_in_three {
     ($layout:ident, $rt:expr, $words:expr) => {{
         let entry = $layout::entry($words, 2, 2);
-        assert!($rt; (entry.addr, entry.child, entry.rank) == (3, false, 1));
-        assert!($rt; (entry.body[0], entry.body[1], entry.body[2]) == (2, 1, 0));
-        assert!($rt; $layout::address($words, 2, 1) == 1);
-        assert!($rt; $layout::is_child($words, 2, 1));
-        assert!($rt; $layout::rank($words, 2, 2) == 1);
+        holds($rt, (entry.addr, entry.child, entry.rank) == (3, false, 1));
+        holds($rt, (entry.body[0], entry.body[1], entry.body[2]) == (2, 1, 0));
+        holds($rt, $layout::address($words, 2, 1) == 1);
+        holds($rt, $layout::is_child($words, 2, 1));
+        holds($rt, $layout::rank($words, 2, 2) == 1);
     }};
 }
 
@@ -255,9 +251,9 @@ fn reads_of_each_layout(rt: HostRuntime) {
     let linear = record_of::<2>(rt.alloc(), false, 2, &three).expect(&rt, "no linear record");
     find_in_linear(&rt, linear.as_slice());
     read_in_linear(&rt, linear.as_slice());
-    assert!(rt; linear_calls::bits_of(2, 3, 2) == 21);
+    holds(&rt, linear_calls::bits_of(2, 3, 2) == 21);
     let cube = record_of::<2>(rt.alloc(), true, 2, &three).expect(&rt, "no cube record");
     find_in_cube(&rt, cube.as_slice());
     read_in_cube(&rt, cube.as_slice());
-    assert!(rt; cube_calls::bits_of(2, 3, 2) == 24);
+    holds(&rt, cube_calls::bits_of(2, 3, 2) == 24);
 }

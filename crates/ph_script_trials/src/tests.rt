@@ -1,6 +1,7 @@
 //! Tests by the kind of what is read or written.
 ghost use Rattle.std.specs.Prelude.{◌≤◌};
 
+mod claims;
 mod commands;
 mod lines;
 mod names;
@@ -8,6 +9,7 @@ mod plain;
 mod refusals;
 mod replies;
 
+use claims::holds_for;
 use ph_script::{Bad, Command, CoordBuffer, read_command};
 use std::alloc::Global;
 use std::process::Abort;
@@ -30,6 +32,6 @@ fn check_shown(rt: &impl Abort, alloc: Global, dims: u32, lines: &[(&[u8], &str)
     for (line, wanted) in lines {
         assert!(rt; line.len() <= 4096);
         let read = shown(rt, alloc, read_command(line, dims, &mut coords));
-        assert!(rt; read.as_str() == *wanted, "{wanted} is read as {read}");
+        holds_for(rt, read.as_str() == *wanted, &(wanted, read.as_str()));
     }
 }

@@ -2,11 +2,13 @@
 
 ghost use Rattle.std.specs.Prelude.{◌≡◌, ◌<◌, ◌≤◌, length};
 
+mod claims;
 mod digits;
 mod loads;
 mod plain;
 mod widths;
 
+use claims::{holds, holds_for};
 use loads::compare_all;
 use ph_coord::{Point, Width};
 use ph_io::{Failed, MemorySink};
@@ -85,7 +87,7 @@ fn tree_of<const D: usize, V: Ledger, C: Ledger>(
             panic!(rt; "no point")
         };
         let done = tree.put(point, *value, &mut counters.visits, &mut counters.changes);
-        assert!(rt; done.is_ok());
+        holds(rt, done.is_ok());
     }
     tree
 }
@@ -103,8 +105,8 @@ fn is_saved_as<const D: usize, V: Ledger>(
             rt, "memory",
         );
         let size = save(tree, kind, &mut sink, visits);
-        assert!(rt; size == Ok(bytes.len() as u128));
-        assert!(rt; sink.bytes() == bytes);
+        holds(rt, size == Ok(bytes.len() as u128));
+        holds(rt, sink.bytes() == bytes);
     }
 }
 
@@ -114,8 +116,8 @@ fn cut_save<V: Ledger>(rt: &impl Abort, alloc: Global, two: &PhTree<2>, visits: 
     let mut sink = MemorySink::with_room(alloc, 100, 40, fails).expect(rt, "memory");
     let size = save(two, Kind::Points, &mut sink, visits);
     let bytes = second_version(rt, alloc, &TWO_ROWS);
-    assert!(rt; size == Err(Failed));
-    assert!(rt; Some(sink.bytes()) == bytes.get(..40));
+    holds(rt, size == Err(Failed));
+    holds(rt, Some(sink.bytes()) == bytes.get(..40));
 }
 
 // What counts visits and changes, in this file and in those below it.
@@ -165,7 +167,7 @@ fn headers(rt: HostRuntime) {
             width,
             root,
         };
-        assert!(rt; read_header(bytes) == Ok(header), "{bytes:?}");
+        holds_for(&rt, read_header(bytes) == Ok(header), &bytes);
     }
 }
 
@@ -196,6 +198,6 @@ const NO_HEADERS: [(&[u8], LoadFault); 21] = [
 #[test]
 fn faults_of_headers(rt: HostRuntime) {
     for (bytes, fault) in NO_HEADERS {
-        assert!(rt; read_header(bytes) == Err(fault), "{bytes:?}");
+        holds_for(&rt, read_header(bytes) == Err(fault), &bytes);
     }
 }

@@ -3,6 +3,7 @@
 ghost use Rattle.std.specs.Prelude.{◌≡◌, ◌<◌, ◌≤◌};
 ghost use Rattle.ph_specs.specs.TableNames.{IsPoint};
 
+use crate::claims::holds;
 use crate::edits::{GREATEST, LEAST, edit};
 use crate::pair::{Pair, point};
 use ph_coord::{Point, Row};
@@ -47,8 +48,8 @@ fn assert_same<const D: usize, const W: u32, V: Ledger, C: Ledger>(
     expected: bool,
     counters: &mut Counters<V, C>,
 ) {
-    assert!(rt; a.tree.same(&b.tree, &mut counters.visits) == expected);
-    assert!(rt; b.tree.same(&a.tree, &mut counters.visits) == expected);
+    holds(rt, a.tree.same(&b.tree, &mut counters.visits) == expected);
+    holds(rt, b.tree.same(&a.tree, &mut counters.visits) == expected);
 }
 
 // Edits one of two trees at a point of both, each time in one respect, and takes that back.

@@ -4,6 +4,7 @@ ghost use Rattle.std.specs.Prelude.{◌≡◌, ◌<◌, ◌≤◌};
 ghost use Rattle.std.specs.List.{AllByRecursion as Each};
 ghost use Rattle.ph_specs.specs.TableNames.{IsPoint};
 
+use crate::claims::holds;
 use crate::edits::{BINARY, GREATEST, LEAST, WIDEST, draw};
 use crate::pair::Pair;
 use ph_bulk::{build, last_rows};
@@ -58,9 +59,9 @@ fn compare_built<const D: usize, const W: u32, V: Ledger, C: Ledger>(
 {
     let w = pair.table.width();
     let rows = last_rows(alloc, w, rows).expect(rt, "memory");
-    assert!(rt; rows.as_slice() == pair.table.rows());
+    holds(rt, rows.as_slice() == pair.table.rows());
     let tree = build(alloc, w, rows.as_slice(), &mut counters.changes).expect(rt, "memory");
-    assert!(rt; tree.same(&pair.tree, &mut counters.visits));
+    holds(rt, tree.same(&pair.tree, &mut counters.visits));
     let built: Pair<D, W> = Pair {
         tree,
         table: pair.table,

@@ -2,6 +2,7 @@
 
 ghost use Rattle.std.specs.Prelude.{◌<◌, ◌≤◌, ◌^◌};
 
+use crate::claims::{holds, holds_for};
 use crate::known::{child, del, empty, put_new, root};
 use crate::records::are_written_anew;
 use ph_steps::{Counters, Steps};
@@ -63,7 +64,7 @@ fn compare<const D: usize, V: Ledger>(
     let Some(node) = tree.root() else {
         panic!(rt; "no root");
     };
-    assert!(rt; are_written_anew(alloc, node, visits) == Ok(true), "{k}");
+    holds_for(rt, are_written_anew(alloc, node, visits) == Ok(true), &k);
 }
 
 fn fill<const D: usize, V: Ledger, C: Ledger>(
@@ -115,9 +116,9 @@ fn there_and_back<const D: usize, V: Ledger, C: Ledger>(
     fill(rt, alloc, &mut tree, digits, most, counters);
     let top = root(rt, &tree, &mut counters.visits);
     let node = child(rt, top, 0, &mut counters.visits);
-    assert!(rt; (node.len(), node.is_cube()) == (most as usize, true));
+    holds(rt, (node.len(), node.is_cube()) == (most as usize, true));
     take_out(rt, alloc, &mut tree, digits, most, counters);
-    assert!(rt; !root(rt, &tree, &mut counters.visits).is_cube());
+    holds(rt, !root(rt, &tree, &mut counters.visits).is_cube());
 }
 
 pub(crate) fn crowds<V: Ledger, C: Ledger>(

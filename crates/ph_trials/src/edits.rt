@@ -3,6 +3,7 @@
 ghost use Rattle.std.specs.Prelude.{◌≡◌, ◌<◌, ◌≤◌};
 ghost use Rattle.ph_specs.specs.TableNames.{IsPoint};
 
+use crate::claims::holds;
 use crate::pair::{Pair, point};
 use ph_coord::Point;
 use ph_steps::Counters;
@@ -110,7 +111,7 @@ fn empty<const D: usize, const W: u32, R: Rng, V: Ledger, C: Ledger>(
         pair.del(rt, &p, counters);
         pair.compare(rt, alloc, counters);
     }
-    assert!(rt; pair.tree.root().is_none());
+    holds(rt, pair.tree.root().is_none());
 }
 
 // A put that is refused, and a move in the full tree.
@@ -121,9 +122,9 @@ fn full_tree<V: Ledger, C: Ledger>(rt: &impl Abort, alloc: Global, counters: &mu
     pair.put(rt, first, 1, counters);
     pair.put(rt, point::<2, 32>(rt, &[1, 1]), 2, counters);
     pair.put(rt, third, 3, counters);
-    assert!(rt; (pair.tree.len(), pair.table.get(&third)) == (2, None));
+    holds(rt, (pair.tree.len(), pair.table.get(&third)) == (2, None));
     pair.relocate(rt, &first, &third, counters);
-    assert!(rt; pair.table.get(&third) == Some(1));
+    holds(rt, pair.table.get(&third) == Some(1));
     pair.compare(rt, alloc, counters);
 }
 

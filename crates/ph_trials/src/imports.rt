@@ -3,6 +3,7 @@
 ghost use Rattle.std.specs.Prelude.{◌≡◌};
 ghost use Rattle.ph_specs.specs.TableNames.{IsPoint};
 
+use crate::claims::{holds, holds_for};
 use ph_coord::{Point, Row, Width};
 use ph_import::{ImportFault, import_rows};
 use ph_steps::{Counters, Counting, Steps, with_new_counters};
@@ -114,7 +115,7 @@ fn put<V: Ledger, C: Ledger>(
     let first = row(rt, kept.tree().width(), pair);
     let Counters { visits, changes } = counters;
     let done = kept.put(first.point, first.value, visits, changes);
-    assert!(rt; done.is_ok());
+    holds(rt, done.is_ok());
 }
 
 fn import<V: Ledger, C: Ledger>(
@@ -154,12 +155,9 @@ fn check<V: Ledger, C: Ledger>(
     let mut kept = tree_before(rt, alloc, max, far_away, counters);
     let outcome = import(rt, alloc, &mut kept, case.rows, counters);
     let tree = kept.tree();
-    assert!(rt; (outcome, tree.len()) == (case.outcome, len));
+    holds(rt, (outcome, tree.len()) == (case.outcome, len));
     for (x, value) in [1, 2, 3].into_iter().zip(case.values) {
-        assert!(rt;
-            value_at(rt, tree, x, &mut counters.visits) == value,
-            "at {x}"
-        );
+        holds_for(rt, value_at(rt, tree, x, &mut counters.visits) == value, &x);
     }
 }
 

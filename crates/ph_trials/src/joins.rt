@@ -2,4 +2,3 @@
 
 mod boxes;
 mod known_pairs;
-mod random_pairs;

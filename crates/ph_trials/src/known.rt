@@ -3,6 +3,7 @@
 ghost use Rattle.std.specs.Prelude.{◌≡◌, ◌<◌, ◌≤◌};
 ghost use Rattle.ph_specs.specs.TableNames.{IsPoint};
 
+use crate::claims::{holds, holds_for};
 use crate::crowded::crowds;
 use crate::nodes::nodes;
 use ph_coord::{Point, Width};
@@ -62,7 +63,7 @@ fn put<const D: usize, V: Ledger, C: Ledger>(
 {
     let p = point(rt, tree, coords);
     let answer = tree.put(p, v, &mut counters.visits, &mut counters.changes);
-    assert!(rt; answer == found, "put {v}");
+    holds_for(rt, answer == found, &v);
 }
 
 // A put of a new point.
@@ -90,7 +91,7 @@ pub(crate) fn del<const D: usize, V: Ledger, C: Ledger>(
 {
     let p = point(rt, tree, coords);
     let answer = tree.del(&p, &mut counters.visits, &mut counters.changes);
-    assert!(rt; answer == Ok(found));
+    holds(rt, answer == Ok(found));
 }
 
 // A move that is to find this.
@@ -104,7 +105,7 @@ fn relocate<V: Ledger, C: Ledger>(
 ) {
     let (p, q) = (point(rt, tree, &from), point(rt, tree, &to));
     let answer = tree.relocate(&p, &q, &mut counters.visits, &mut counters.changes);
-    assert!(rt; answer == Ok(found));
+    holds(rt, answer == Ok(found));
 }
 
 // The value at a point.
@@ -190,11 +191,11 @@ fn unit_square<V: Ledger, C: Ledger>(
             put_corner(rt, &mut tree, corner, counters);
         }
         let top = root(rt, &tree, &mut counters.visits);
-        assert!(rt; is_sized(top, 31, 1), "order {order}");
+        holds_for(rt, is_sized(top, 31, 1), &order);
         let square = child(rt, top, 0, &mut counters.visits);
-        assert!(rt; is_sized(square, 0, 4), "order {order}");
+        holds_for(rt, is_sized(square, 0, 4), &order);
         for i in 0..4 {
-            assert!(rt; is_point(square, i, i as u64), "order {order}");
+            holds_for(rt, is_point(square, i, i as u64), &order);
         }
     }
 }
@@ -207,11 +208,8 @@ fn each_split<V: Ledger, C: Ledger>(rt: &impl Abort, alloc: Global, counters: &m
         put_new(rt, &mut tree, &beside, 1, counters);
         let top = root(rt, &tree, &mut counters.visits);
         let split = child(rt, top, 0, &mut counters.visits);
-        assert!(rt; is_sized(split, place, 2), "place {place}");
-        assert!(rt;
-            is_point(split, 0, 0) && is_point(split, 1, 1),
-            "place {place}"
-        );
+        holds_for(rt, is_sized(split, place, 2), &place);
+        holds_for(rt, is_point(split, 0, 0) && is_point(split, 1, 1), &place);
     }
 }
 
@@ -230,11 +228,11 @@ fn deepest_path<V: Ledger, C: Ledger>(
     let mut node = root(rt, &tree, &mut counters.visits);
     for place in (0..31u32).rev() {
         node = child(rt, node, 0, &mut counters.visits);
-        assert!(rt; is_sized(node, place, 2), "place {place}");
-        assert!(rt; is_point(node, 1, 1u64 << place), "place {place}");
+        holds_for(rt, is_sized(node, place, 2), &place);
+        holds_for(rt, is_point(node, 1, 1u64 << place), &place);
     }
-    assert!(rt; is_point(node, 0, 0));
-    assert!(rt; tree.len() == 32);
+    holds(rt, is_point(node, 0, 0));
+    holds(rt, tree.len() == 32);
 }
 
 // Takes the powers of two out from the root's child down, and then zero.
@@ -258,12 +256,12 @@ fn deepest_path_gone<V: Ledger, C: Ledger>(
             0,
             &mut counters.visits,
         );
-        assert!(rt; is_sized(top, place - 1, 2), "place {place}");
+        holds_for(rt, is_sized(top, place - 1, 2), &place);
     }
     del(rt, &mut tree, &[1], counters, Some(9));
-    assert!(rt; root(rt, &tree, &mut counters.visits).len() == 1);
+    holds(rt, root(rt, &tree, &mut counters.visits).len() == 1);
     del(rt, &mut tree, &[0], counters, Some(7));
-    assert!(rt; tree.root().is_none());
+    holds(rt, tree.root().is_none());
 }
 
 // The corners of the unit cube of eight dimensions, in a mixed order: one node has them all.
@@ -287,9 +285,9 @@ fn crowded_cube<V: Ledger, C: Ledger>(
         0,
         &mut counters.visits,
     );
-    assert!(rt; is_sized(cube, 0, 256));
+    holds(rt, is_sized(cube, 0, 256));
     for i in 0..256 {
-        assert!(rt; is_point(cube, i, i as u64), "corner {i}");
+        holds_for(rt, is_point(cube, i, i as u64), &i);
     }
 }
 
@@ -314,12 +312,12 @@ fn dimensions<const D: usize, V: Ledger, C: Ledger>(
                 Put::Old(i as u64)
             };
             put(rt, &mut tree, &coords, v, counters, Ok(found));
-            assert!(rt; get(rt, &tree, &coords, &mut counters.visits) == Some(v));
+            holds(rt, get(rt, &tree, &coords, &mut counters.visits) == Some(v));
         }
     }
-    assert!(rt; get(rt, &tree, &[0; D], &mut counters.visits).is_none());
+    holds(rt, get(rt, &tree, &[0; D], &mut counters.visits).is_none());
     tree.clear();
-    assert!(rt; (tree.len(), tree.max()) == (0, 16));
+    holds(rt, (tree.len(), tree.max()) == (0, 16));
 }
 
 fn full_table<V: Ledger, C: Ledger>(rt: &impl Abort, alloc: Global, counters: &mut Counters<V, C>) {
@@ -327,7 +325,7 @@ fn full_table<V: Ledger, C: Ledger>(rt: &impl Abort, alloc: Global, counters: &m
     put_new(rt, &mut tree, &[0, 0], 1, counters);
     put(rt, &mut tree, &[1, 1], 2, counters, FULL);
     put(rt, &mut tree, &[0, 0], 3, counters, Ok(Put::Old(1)));
-    assert!(rt; tree.len() == 1);
+    holds(rt, tree.len() == 1);
     let mut none: PhTree<2> = empty(rt, alloc, 0);
     put(rt, &mut none, &[0, 0], 1, counters, FULL);
 }
@@ -348,7 +346,7 @@ fn moves<V: Ledger, C: Ledger>(rt: &impl Abort, alloc: Global, counters: &mut Co
         relocate(rt, &mut tree, from, to, counters, found);
     }
     for (coords, found) in [([0, 0], None), ([0, 1], Some(6)), ([1, 1], Some(5))] {
-        assert!(rt; get(rt, &tree, &coords, &mut counters.visits) == found);
+        holds(rt, get(rt, &tree, &coords, &mut counters.visits) == found);
     }
 }
 

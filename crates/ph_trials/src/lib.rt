@@ -9,6 +9,8 @@ mod boxes;
 #[cfg(test)]
 mod builds;
 #[cfg(test)]
+mod claims;
+#[cfg(test)]
 mod crowded;
 #[cfg(test)]
 mod distances;
@@ -33,8 +35,6 @@ mod pair;
 #[cfg(test)]
 mod records;
 mod same;
-#[cfg(test)]
-mod sets;
 #[cfg(test)]
 mod windows;
 

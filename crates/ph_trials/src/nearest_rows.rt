@@ -3,6 +3,7 @@
 ghost use Rattle.std.specs.Prelude.{◌≡◌, ◌<◌, ◌≤◌};
 ghost use Rattle.ph_specs.specs.TableNames.{IsPoint};
 
+use crate::claims::holds;
 use crate::edits::{BINARY, GREATEST, LEAST, WIDEST, draw, edit};
 use crate::pair::Pair;
 use ph_coord::Point;
@@ -34,7 +35,7 @@ fn compare<const D: usize, const W: u32, V: Ledger, C: Ledger>(
     for n in [0, 1, all / 2, all, u32::MAX] {
         let hits = nearest(alloc, &pair.tree, q, n, &mut counters.visits).expect(rt, "memory");
         let expected = pair.table.near(alloc, &q, n).expect(rt, "memory");
-        assert!(rt; hits == expected);
+        holds(rt, hits == expected);
     }
 }
 
@@ -76,11 +77,11 @@ fn compare_ball<const D: usize, const W: u32, V: Ledger, C: Ledger>(
                 row: *row,
                 distance,
             };
-            assert!(rt; gives(&mut ball, Some(hit), &mut counters.visits));
+            holds(rt, gives(&mut ball, Some(hit), &mut counters.visits));
         }
     }
-    assert!(rt; gives(&mut ball, None, &mut counters.visits));
-    assert!(rt; gives(&mut ball, None, &mut counters.visits));
+    holds(rt, gives(&mut ball, None, &mut counters.visits));
+    holds(rt, gives(&mut ball, None, &mut counters.visits));
 }
 
 // Compares the nearest rows of some points, and those within some radii, between edits.

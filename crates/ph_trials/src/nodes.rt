@@ -1,5 +1,6 @@
 //! A node through its edits, with entries and words that are known from outside.
 
+use crate::claims::{holds, holds_for};
 use ph_node::{Node, NodeOf, NodeRef, Spot, What};
 use ph_steps::Steps;
 use std::alloc::Global;
@@ -71,8 +72,8 @@ fn check_finds(rt: &impl Abort, node: NodeRef<'_, 2>) {
         (2, Some(1), Some(1)),
         (3, None, None),
     ] {
-        assert!(rt; node.find(addr) == found, "at {addr}");
-        assert!(rt; node.next_at_or_after(addr) == next, "at {addr}");
+        holds_for(rt, node.find(addr) == found, &addr);
+        holds_for(rt, node.next_at_or_after(addr) == next, &addr);
     }
 }
 
@@ -83,12 +84,21 @@ fn outcome<L: Ledger>(rt: &impl Abort, alloc: Global, steps: &mut Steps<L>) {
     node.split(SECOND, &NEAR, 73, steps).expect(rt, "memory");
     node.split(SECOND, &FAR, 74, steps).expect(rt, "memory");
     let root = node.visit(steps);
-    assert!(rt; is_node(root, 5, &[(1, 4, 30, Some(72)), (2, 0, 0, None)]));
+    holds(
+        rt,
+        is_node(root, 5, &[(1, 4, 30, Some(72)), (2, 0, 0, None)]),
+    );
     check_finds(rt, root);
     let upper = visit_child(rt, root, 1, steps);
-    assert!(rt; is_node(upper, 4, &[(0, 0, 0, None), (2, 1, 3, Some(74))]));
+    holds(
+        rt,
+        is_node(upper, 4, &[(0, 0, 0, None), (2, 1, 3, Some(74))]),
+    );
     let lower = visit_child(rt, upper, 0, steps);
-    assert!(rt; is_node(lower, 3, &[(0, 1, 3, Some(73)), (2, 1, 3, Some(70))]));
+    holds(
+        rt,
+        is_node(lower, 3, &[(0, 1, 3, Some(73)), (2, 1, 3, Some(70))]),
+    );
 }
 
 fn removals<L: Ledger>(rt: &impl Abort, alloc: Global, steps: &mut Steps<L>) {
@@ -97,10 +107,13 @@ fn removals<L: Ledger>(rt: &impl Abort, alloc: Global, steps: &mut Steps<L>) {
     node.split(SECOND, &NEAR, 73, steps).expect(rt, "memory");
     node.merge(SECOND, 0, steps);
     let root = node.visit(steps);
-    assert!(rt; is_node(root, 5, &[(1, 4, 30, Some(71)), (2, 9, 3, Some(70))]));
+    holds(
+        rt,
+        is_node(root, 5, &[(1, 4, 30, Some(71)), (2, 9, 3, Some(70))]),
+    );
     node.drop_entry(FIRST, None, steps);
     let root = node.visit(steps);
-    assert!(rt; is_node(root, 5, &[(2, 9, 3, Some(70))]));
+    holds(rt, is_node(root, 5, &[(2, 9, 3, Some(70))]));
     node.dissolve(steps);
 }
 
@@ -112,13 +125,19 @@ fn lifts<L: Ledger>(rt: &impl Abort, alloc: Global, steps: &mut Steps<L>) {
     node.split(SECOND, &FAR, 74, steps).expect(rt, "memory");
     node.merge(SECOND, 1, steps);
     let root = node.visit(steps);
-    assert!(rt; (root.words().len(), root.children().len()) == (3, 1));
-    assert!(rt; is_node(root, 5, &[(1, 4, 30, Some(71)), (2, 0, 0, None)]));
+    holds(rt, (root.words().len(), root.children().len()) == (3, 1));
+    holds(
+        rt,
+        is_node(root, 5, &[(1, 4, 30, Some(71)), (2, 0, 0, None)]),
+    );
     node.drop_entry(FIRST, None, steps);
     let root = node.visit(steps);
-    assert!(rt; is_node(root, 5, &[(2, 0, 0, None)]));
+    holds(rt, is_node(root, 5, &[(2, 0, 0, None)]));
     let lower = visit_child(rt, root, 0, steps);
-    assert!(rt; is_node(lower, 3, &[(0, 1, 3, Some(73)), (2, 1, 3, Some(70))]));
+    holds(
+        rt,
+        is_node(lower, 3, &[(0, 1, 3, Some(73)), (2, 1, 3, Some(70))]),
+    );
 }
 
 fn has_words(words: &[u64], want: &[u64]) -> bool {
@@ -130,7 +149,10 @@ fn layouts<L: Ledger>(rt: &impl Abort, alloc: Global, steps: &mut Steps<L>) {
     let body = [3, 4, 0, 0, 0, 0, 0, 0, 0, 0, 0, 0, 0, 0, 0, 0];
     let across: Node<2> = NodeOf::single(alloc, 31, 3, body, 17, steps).expect(rt, "memory");
     let words = across.visit(steps).words();
-    assert!(rt; has_words(words, &[0x1f00000001000000, 0x60000000c0000002, 0, 0x11]));
+    holds(
+        rt,
+        has_words(words, &[0x1f00000001000000, 0x60000000c0000002, 0, 0x11]),
+    );
 }
 
 // The words of a node and its child, before and after the child gets an entry.
@@ -139,35 +161,44 @@ fn child_layouts<L: Ledger>(rt: &impl Abort, alloc: Global, steps: &mut Steps<L>
     let spot = Spot { place: 0, addr: 3 };
     node.split(spot, &ONES, 2, steps).expect(rt, "memory");
     let root = node.visit(steps);
-    assert!(rt; has_words(root.words(), &[0x1f00000001000001, 0xe000000000000000, 0]));
+    holds(
+        rt,
+        has_words(root.words(), &[0x1f00000001000001, 0xe000000000000000, 0]),
+    );
     let words = visit_child(rt, root, 0, steps).words();
-    assert!(rt; has_words(words, &[0x0000000002000000, 0x0c00000000000000, 1, 2]));
+    holds(
+        rt,
+        has_words(words, &[0x0000000002000000, 0x0c00000000000000, 1, 2]),
+    );
     let slot = node.child_mut(spot, 0);
     let added = slot.node_mut().add(1, 1, [0; 16], 3, steps);
     assert!(rt; added.is_ok());
     let words = visit_child(rt, node.visit(steps), 0, steps).words();
-    assert!(rt; has_words(words, &[0x0001000003000000, 0x5100000000000000, 1, 3, 2]));
+    holds(
+        rt,
+        has_words(words, &[0x0001000003000000, 0x5100000000000000, 1, 3, 2]),
+    );
 }
 
 // What a node with a point at the address 1 and a child at 2 says of its records, and where others would stand.
 fn check_places(rt: &impl Abort, node: NodeRef<'_, 2>) {
-    assert!(rt; (node.words().len(), node.children().len()) == (3, 1));
-    assert!(rt; !node.is_cube());
-    assert!(rt; node.search(0).err() == Some(0));
-    assert!(rt; node.search(3).err() == Some(2));
+    holds(rt, (node.words().len(), node.children().len()) == (3, 1));
+    holds(rt, !node.is_cube());
+    holds(rt, node.search(0).err() == Some(0));
+    holds(rt, node.search(3).err() == Some(2));
 }
 
 // What it says of each of its spots.
 fn check_spots(rt: &impl Abort, node: NodeRef<'_, 2>) {
     assert!(rt; node.len() == 2);
     let (point, child) = (node.spot(0), node.spot(1));
-    assert!(rt; (point.addr, child.addr) == (1, 2));
-    assert!(rt; node.is_below(point, &[4 + 32, 30]));
-    assert!(rt; !node.is_below(point, &[4 + 16, 30]));
-    assert!(rt; node.is_between(child, 3, &[9, 3]));
-    assert!(rt; !node.is_between(child, 3, &[16, 3]));
-    assert!(rt; node.is_child(child));
-    assert!(rt; !node.is_child(point));
+    holds(rt, (point.addr, child.addr) == (1, 2));
+    holds(rt, node.is_below(point, &[4 + 32, 30]));
+    holds(rt, !node.is_below(point, &[4 + 16, 30]));
+    holds(rt, node.is_between(child, 3, &[9, 3]));
+    holds(rt, !node.is_between(child, 3, &[16, 3]));
+    holds(rt, node.is_child(child));
+    holds(rt, !node.is_child(point));
 }
 
 // Whether its point lies between two others.
@@ -185,15 +216,15 @@ fn distance_within(node: NodeRef<'_, 2>, limit: u128) -> Option<u128> {
 
 // What it says of its point, which is (68, 254) below the digits of (64, 255).
 fn check_point(rt: &impl Abort, node: NodeRef<'_, 2>) {
-    assert!(rt; is_point_between(node, &[68, 0], &[68, 254]));
-    assert!(rt; !is_point_between(node, &[69, 0], &[99, 254]));
-    assert!(rt; !is_point_between(node, &[68, 0], &[68, 253]));
-    assert!(rt; distance_within(node, 25) == Some(25));
-    assert!(rt; distance_within(node, 24).is_none());
+    holds(rt, is_point_between(node, &[68, 0], &[68, 254]));
+    holds(rt, !is_point_between(node, &[69, 0], &[99, 254]));
+    holds(rt, !is_point_between(node, &[68, 0], &[68, 253]));
+    holds(rt, distance_within(node, 25) == Some(25));
+    holds(rt, distance_within(node, 24).is_none());
     assert!(rt; node.len() == 2);
     let mut known = [64, 255];
     node.join(node.spot(0), &mut known);
-    assert!(rt; known == [64 + 4, 192 + 32 + 30]);
+    holds(rt, known == [64 + 4, 192 + 32 + 30]);
 }
 
 fn spots<L: Ledger>(rt: &impl Abort, alloc: Global, steps: &mut Steps<L>) {

@@ -2,6 +2,7 @@
 
 ghost use Rattle.std.specs.Prelude.{◌≡◌, ◌<◌};
 
+use crate::claims::holds;
 use crate::pair::{Pair, point};
 use ph_steps::Counters;
 use std::alloc::Global;
@@ -42,7 +43,7 @@ fn put_and_delete<V: Ledger, C: Ledger>(
         pair.del(rt, &point::<2, 32>(rt, coords), counters);
         pair.compare(rt, alloc, counters);
     }
-    assert!(rt; pair.tree.root().is_none());
+    holds(rt, pair.tree.root().is_none());
 }
 
 fn three_points<V: Ledger, C: Ledger>(

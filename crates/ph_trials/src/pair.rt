@@ -3,6 +3,7 @@
 ghost use Rattle.std.specs.Prelude.{◌≡◌, ◌<◌, ◌≤◌};
 ghost use Rattle.ph_specs.specs.TableNames.{IsPoint};
 
+use crate::claims::holds;
 use crate::is_shape;
 use crate::records::are_written_anew;
 use ph_coord::{Point, Width};
@@ -70,11 +71,11 @@ impl<const D: usize, const W: u32> Pair<D, W> {
             .tree
             .put(p, v, &mut counters.visits, &mut counters.changes);
         if is_refused {
-            assert!(rt; answer == Err(PutError::Full));
+            holds(rt, answer == Err(PutError::Full));
             return;
         }
         let found = self.table.put(p, v).expect(rt, "memory");
-        assert!(rt; answer == Ok(found));
+        holds(rt, answer == Ok(found));
     }
 
     pub(crate) fn del<V: Ledger, C: Ledger>(
@@ -90,7 +91,7 @@ impl<const D: usize, const W: u32> Pair<D, W> {
             .tree
             .del(p, &mut counters.visits, &mut counters.changes);
         let found = self.table.del(p);
-        assert!(rt; answer == Ok(found));
+        holds(rt, answer == Ok(found));
     }
 
     pub(crate) fn relocate<V: Ledger, C: Ledger>(
@@ -108,7 +109,7 @@ impl<const D: usize, const W: u32> Pair<D, W> {
             .tree
             .relocate(from, to, &mut counters.visits, &mut counters.changes);
         let found = self.move_row(rt, from, to);
-        assert!(rt; answer == Ok(found));
+        holds(rt, answer == Ok(found));
     }
 
     // Moves a row of the table.
@@ -139,12 +140,18 @@ impl<const D: usize, const W: u32> Pair<D, W> {
         requires few { D ≤ 16 }
     {
         let rows = self.table.rows();
-        assert!(rt; self.tree.len() == rows.len() as u64);
+        holds(rt, self.tree.len() == rows.len() as u64);
         let root = self.tree.root();
         let width = self.table.width();
-        assert!(rt; is_shape(alloc, root, width, rows, &mut counters.visits) == Ok(true));
+        holds(
+            rt,
+            is_shape(alloc, root, width, rows, &mut counters.visits) == Ok(true),
+        );
         if let Some(node) = root {
-            assert!(rt; are_written_anew(alloc, node, &mut counters.visits) == Ok(true));
+            holds(
+                rt,
+                are_written_anew(alloc, node, &mut counters.visits) == Ok(true),
+            );
         }
     }
 }

@@ -4,6 +4,7 @@ ghost use Rattle.std.specs.Prelude.{◌≡◌, ◌<◌, ◌≤◌};
 ghost use Rattle.ph_specs.specs.TableNames.{IsPoint};
 ghost use Rattle.ph_window.specs.Page.{IsLast};
 
+use crate::claims::holds;
 use crate::edits::{BINARY, GREATEST, LEAST, WIDEST, draw, edit};
 use crate::pair::{Pair, point};
 use ph_coord::{Point, Row, z_before};
@@ -73,10 +74,10 @@ pub(crate) fn list<const D: usize, const W: u32, V: Ledger, C: Ledger>(
 {
     let mut window = Window::new(&pair.tree, lo, hi);
     for row in rows {
-        assert!(rt; gives(&mut window, Some(*row), &mut counters.visits));
+        holds(rt, gives(&mut window, Some(*row), &mut counters.visits));
     }
-    assert!(rt; gives(&mut window, None, &mut counters.visits));
-    assert!(rt; gives(&mut window, None, &mut counters.visits));
+    holds(rt, gives(&mut window, None, &mut counters.visits));
+    holds(rt, gives(&mut window, None, &mut counters.visits));
 }
 
 // Whether the next row of a page is this one, or there is none.
@@ -105,12 +106,12 @@ fn page<const D: usize, const W: u32, V: Ledger, C: Ledger>(
 {
     let mut page = cursor.page(&pair.tree, n, &mut counters.visits);
     for row in left.iter().take(n as usize) {
-        assert!(rt; page_gives(&mut page, Some(*row), &mut counters.visits));
+        holds(rt, page_gives(&mut page, Some(*row), &mut counters.visits));
     }
-    assert!(rt; page_gives(&mut page, None, &mut counters.visits));
+    holds(rt, page_gives(&mut page, None, &mut counters.visits));
     let behind = page.cursor();
     let is_more = page.tail(&mut counters.visits) == Tail::More;
-    assert!(rt; is_more == ((n as usize) < left.len()));
+    holds(rt, is_more == ((n as usize) < left.len()));
     match behind.last {
         Some(last) => Some(point::<D, W>(rt, last.as_slice())),
         None => None,

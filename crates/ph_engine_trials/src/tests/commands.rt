@@ -1,6 +1,7 @@
 //! Commands that an engine does, one by one.
 ghost use Rattle.std.specs.Prelude.{◌≡◌, ◌<◌};
 
+use super::claims::holds_for;
 use ph_engine::{Answer, Desk, Engine, Limits};
 use ph_io::{MemoryFiles, MemorySink};
 use ph_script::{CoordBuffer, read_command};
@@ -48,8 +49,8 @@ fn check_line<V: Ledger, C: Ledger>(
     } else {
         Answer::Good
     };
-    assert!(rt; done == Ok(answer), "{line}");
-    assert!(rt; sink.bytes() == reply.as_bytes(), "{line}");
+    holds_for(rt, done == Ok(answer), &line);
+    holds_for(rt, sink.bytes() == reply.as_bytes(), &line);
 }
 
 fn check_each<V: Ledger, C: Ledger>(

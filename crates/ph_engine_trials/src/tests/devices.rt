@@ -1,4 +1,5 @@
 //! Scripts over devices that refuse each call in turn, and files that end at each byte.
+use super::claims::{holds, holds_for};
 use super::files::{EMPTY, ONE, THREE, TWO, files_failing, migrated, preset};
 use super::{answer_over, check, check_over, run};
 use ph_engine::Status;
@@ -74,18 +75,18 @@ fn each_write_fails_in_turn(rt: HostRuntime) {
         let mut files = files_failing(&rt, rt.alloc(), 0);
         let (status, sink) = answer_over(&rt, rt.alloc(), &case, &mut files);
         let front = sink.bytes();
-        assert!(rt; output.as_bytes().starts_with(front), "write {write}");
+        holds_for(&rt, output.as_bytes().starts_with(front), &write);
         last = status;
         if status == Status::Clean {
-            assert!(rt; front.len() == output.len());
+            holds(&rt, front.len() == output.len());
             break 'writes;
         }
-        assert!(rt; status == Status::WriteFault, "write {write}");
+        holds_for(&rt, status == Status::WriteFault, &write);
         let more = front.len().saturating_sub(written);
-        assert!(rt; more <= 3 && (0 < more || write == 1), "write {write}");
+        holds_for(&rt, more <= 3 && (0 < more || write == 1), &write);
         written = front.len();
     }
-    assert!(rt; last == Status::Clean);
+    holds(&rt, last == Status::Clean);
 }
 
 // A load that fails leaves the table without rows, and a save that fails the file as it was. Of the calls the first is the
@@ -137,15 +138,15 @@ fn each_call_of_the_files_fails_in_turn(rt: HostRuntime) {
                 call = next;
                 break 'calls;
             }
-            assert!(rt; ended == status, "call {next}");
-            assert!(rt; files.get("three.pht") == Some(first), "call {next}");
-            assert!(rt; files.get("two2.pht") == Some(second), "call {next}");
+            holds_for(&rt, ended == status, &next);
+            holds_for(&rt, files.get("three.pht") == Some(first), &next);
+            holds_for(&rt, files.get("two2.pht") == Some(second), &next);
             is_met = true;
             if ended == Status::Clean {
                 break 'calls;
             }
         }
-        assert!(rt; is_met, "{output}");
+        holds_for(&rt, is_met, &output);
     }
 }
 

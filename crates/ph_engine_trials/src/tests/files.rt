@@ -1,5 +1,6 @@
 //! Scripts that save tables to files, and load them.
 use super::checks::check_of;
+use super::claims::{holds, holds_for};
 use super::records::TWO_RECORDS;
 use super::{Trial, check_over, run};
 use ph_engine::Status;
@@ -110,7 +111,7 @@ pub(super) fn files_failing(rt: &impl Abort, alloc: Global, call: u64) -> Memory
 
 pub(super) fn preset(rt: &impl Abort, files: &mut MemoryFiles, name: &str, bytes: &[u8]) {
     assert!(rt; name.len() <= 255);
-    assert!(rt; files.preset(name, bytes));
+    holds(rt, files.preset(name, bytes));
 }
 
 // Such room that holds these files.
@@ -267,7 +268,7 @@ fn failing_calls(rt: HostRuntime) {
             let mut files = files_holding(&rt, rt.alloc(), call, &held);
             check_over(&rt, rt.alloc(), &case, &mut files);
             for (name, bytes) in &held {
-                assert!(rt; files.get(name) == Some(*bytes), "{name} of call {call}");
+                holds_for(&rt, files.get(name) == Some(*bytes), &(name, call));
             }
         }
     }

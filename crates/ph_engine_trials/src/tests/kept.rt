@@ -1,4 +1,5 @@
 //! Scripts that save and export, and the files that they leave.
+use super::claims::holds_for;
 use super::files::{
     BINARY, EIGHT_BY_EIGHT, EMPTY, ONE, SIXTEEN, THREE, TWO, WIDEST, files_holding, migrated,
 };
@@ -106,9 +107,10 @@ fn kept_files(rt: HostRuntime) {
         check_over(&rt, rt.alloc(), &run(script, output, status), &mut files);
         for (name, bytes) in names.iter().zip(kept.iter()) {
             let saved = migrated(&rt, rt.alloc(), bytes);
-            assert!(rt;
+            holds_for(
+                &rt,
                 files.get(name) == Some(saved.as_slice()),
-                "{name}: {script}"
+                &(name, script),
             );
         }
     }

@@ -1,5 +1,6 @@
 //! Files of a file system, in the folder that the tests run in.
 
+use super::claims::holds;
 use super::{check_fetch, check_save};
 use ph_edge::DirFiles;
 use ph_io::{Failed, FetchFault, Files};
@@ -25,12 +26,12 @@ enum Step<'t> {
 }
 
 fn check_exists<R: rt::Files + Abort>(rt: &R, name: &str, wanted: bool) {
-    assert!(rt; fs::exists(rt, name).ok() == Some(wanted));
+    holds(rt, fs::exists(rt, name).ok() == Some(wanted));
 }
 
 fn check_begin<F: Files>(rt: &impl Abort, files: &mut F, name: &str, answer: Result<(), Failed>) {
     assert!(rt; name.len() <= 255);
-    assert!(rt; files.begin(name) == answer);
+    holds(rt, files.begin(name) == answer);
 }
 
 fn check_steps<R: rt::Files + Abort>(rt: &R, alloc: Global, steps: &[Step<'_>]) {

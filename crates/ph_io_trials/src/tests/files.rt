@@ -1,5 +1,6 @@
 //! Files that keep nothing, files in memory, and the names of faults.
 
+use super::claims::holds;
 use super::{check_fetch, check_save};
 use ph_io::{CleanFiles, Failed, FetchFault, Files, MemoryFiles};
 use std::alloc::Global;
@@ -17,16 +18,16 @@ fn check_draft<F: Files>(rt: &impl Abort, files: &mut F, name: &str) {
     assert!(rt; name.len() <= 255);
     assert!(rt; files.begin(name) == Ok(()));
     assert!(rt; files.append(b"xy") == Ok(()));
-    assert!(rt; files.append(b"xy") == Ok(()));
+    holds(rt, files.append(b"xy") == Ok(()));
 }
 
 fn check_stored(rt: &impl Abort, files: &MemoryFiles, name: &str, wanted: Option<&[u8]>) {
-    assert!(rt; files.get(name) == wanted);
+    holds(rt, files.get(name) == wanted);
 }
 
 fn check_message(rt: &impl Abort, alloc: Global, fault: FetchFault, message: &str) {
     let text = format!(in alloc; "{fault}").expect(rt, "memory");
-    assert!(rt; text.as_str() == message);
+    holds(rt, text.as_str() == message);
 }
 
 #[test]
@@ -59,7 +60,7 @@ fn clean_files_keep_nothing(rt: HostRuntime) {
 fn memory_files_save_and_fetch(rt: HostRuntime) {
     let mut files = with_room(&rt, rt.alloc(), 2, 4);
     let mut into = Vec::new(rt.alloc());
-    assert!(rt; files.preset("b", b"123"));
+    holds(&rt, files.preset("b", b"123"));
     for (most, wanted) in [
         (2, Err(FetchFault::Over)),
         (3, Ok(b"123".as_slice())),
@@ -89,7 +90,7 @@ fn each_call_of_memory_files_fails_in_turn(rt: HostRuntime) {
         let fails = vec![in rt.alloc(); turn].expect(&rt, "memory");
         let mut files = MemoryFiles::new(rt.alloc(), 1, 4, fails).expect(&rt, "memory");
         let mut into = Vec::new(rt.alloc());
-        assert!(rt; files.preset("a", b"old"));
+        holds(&rt, files.preset("a", b"old"));
         if turn < 5 {
             check_save(&rt, &mut files, "a", b"xy", Err(Failed));
             check_stored(&rt, &files, "a", Some(b"old"));
@@ -111,8 +112,8 @@ fn each_call_of_memory_files_fails_in_turn(rt: HostRuntime) {
 #[test]
 fn memory_files_have_room_for_so_many_bytes(rt: HostRuntime) {
     let mut files = with_room(&rt, rt.alloc(), 2, 3);
-    assert!(rt; !files.preset("a", b"1234"));
-    assert!(rt; files.preset("a", b"123"));
+    holds(&rt, !files.preset("a", b"1234"));
+    holds(&rt, files.preset("a", b"123"));
     check_save(&rt, &mut files, "a", b"xy", Err(Failed));
     check_stored(&rt, &files, "a", Some(b"123"));
 }
@@ -121,12 +122,12 @@ fn memory_files_have_room_for_so_many_bytes(rt: HostRuntime) {
 fn memory_files_have_room_for_so_many_names(rt: HostRuntime) {
     let mut files = with_room(&rt, rt.alloc(), 2, 4);
     check_save(&rt, &mut files, "c", b"xy", Ok(()));
-    assert!(rt; files.preset("a", b"1"));
+    holds(&rt, files.preset("a", b"1"));
     check_save(&rt, &mut files, "b", b"xy", Err(Failed));
-    assert!(rt; !files.preset("b", b"2"));
+    holds(&rt, !files.preset("b", b"2"));
     check_stored(&rt, &files, "b", None);
     check_save(&rt, &mut files, "a", b"xy", Ok(()));
-    assert!(rt; files.preset("c", b"3"));
+    holds(&rt, files.preset("c", b"3"));
     check_stored(&rt, &files, "a", Some(SAVED));
     check_stored(&rt, &files, "c", Some(b"3"));
 }

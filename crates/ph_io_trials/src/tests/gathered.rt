@@ -1,5 +1,6 @@
 //! What is gathered until the next read.
 
+use super::claims::holds;
 use ph_edge::{Gathered, ReadAfter, Replies};
 use std::cell::Cell;
 use std::io::{Error, ErrorKind, Read, Result, Write};
@@ -39,12 +40,12 @@ fn writes_before_a_read(rt: HostRuntime) {
     let mut replies = Replies::new(&gathered);
     let mut script = ReadAfter::new(b"abcdef".as_slice(), &gathered);
     for before in [0, 3] {
-        assert!(rt; replies.write(b"xyz").ok() == Some(3));
-        assert!(rt; taken.get() == before);
-        assert!(rt; script.read(&mut into).is_ok());
-        assert!(rt; taken.get() == before + 3);
+        holds(&rt, replies.write(b"xyz").ok() == Some(3));
+        holds(&rt, taken.get() == before);
+        holds(&rt, script.read(&mut into).is_ok());
+        holds(&rt, taken.get() == before + 3);
     }
-    assert!(rt; into == *b"efcd");
+    holds(&rt, into == *b"efcd");
 }
 
 #[test]
@@ -59,9 +60,9 @@ fn keeps_that_a_flush_failed(rt: HostRuntime) {
         let mut into = [0u8; 4];
         let mut replies = Replies::new(&gathered);
         let mut script = ReadAfter::new(b"abcdef".as_slice(), &gathered);
-        assert!(rt; replies.write(b"xyz").ok() == Some(3));
-        assert!(rt; script.read(&mut into).ok() == Some(4));
-        assert!(rt; replies.write(b"u").is_err());
-        assert!(rt; gathered.flush().is_err());
+        holds(&rt, replies.write(b"xyz").ok() == Some(3));
+        holds(&rt, script.read(&mut into).ok() == Some(4));
+        holds(&rt, replies.write(b"u").is_err());
+        holds(&rt, gathered.flush().is_err());
     }
 }

@@ -1,6 +1,7 @@
 //! What sinks take.
 
 use super::check_write;
+use super::claims::holds;
 use ph_edge::StdSink;
 use ph_io::{CountSink, Failed, MemorySink};
 use std::io::{Error, ErrorKind, Result, Write};
@@ -10,7 +11,7 @@ fn count_sink_counts_bytes(rt: HostRuntime) {
     let mut sink = CountSink::new();
     for (piece, taken) in [(b"abc".as_slice(), 3), (b"", 3), (b"de", 5)] {
         check_write(&rt, &mut sink, piece, Ok(piece.len()));
-        assert!(rt; sink.taken() == taken);
+        holds(&rt, sink.taken() == taken);
     }
 }
 
@@ -28,7 +29,7 @@ fn memory_sink_takes_pieces_up_to_its_room(rt: HostRuntime) {
     ] {
         check_write(&rt, &mut sink, piece, answer);
     }
-    assert!(rt; sink.bytes() == b"abcde".as_slice());
+    holds(&rt, sink.bytes() == b"abcde".as_slice());
 }
 
 #[test]
@@ -38,7 +39,7 @@ fn std_sink_gives_whole_pieces_to_its_writer(rt: HostRuntime) {
     for piece in [b"abc".as_slice(), b"", b"de"] {
         check_write(&rt, &mut sink, piece, Ok(piece.len()));
     }
-    assert!(rt; written.as_slice() == b"abcde".as_slice());
+    holds(&rt, written.as_slice() == b"abcde".as_slice());
 }
 
 // Fails for a piece that begins with `!`, and takes nothing of any other.

@@ -1,6 +1,7 @@
 //! Which boxes overlap another, lie inside it and cover it.
 ghost use Rattle.std.specs.Prelude.{◌≡◌, ◌*◌, ◌≤◌};
 
+use super::claims::{holds, holds_for};
 use super::{point, width};
 use ph_box::{Question, bounds, join_box, split_box};
 use ph_coord::{Point, Width, is_at_most};
@@ -35,7 +36,7 @@ fn joined<const K: usize, const D: usize>(
 {
     let (low, high) = (point::<K>(rt, w, low), point::<K>(rt, w, high));
     let p = join_box::<K, D>(w, &low, &high).expect(rt, "no box");
-    assert!(rt; split_box::<K, D>(w, &p) == (low, high));
+    holds(rt, split_box::<K, D>(w, &p) == (low, high));
     p
 }
 
@@ -64,7 +65,7 @@ fn check<const K: usize, const D: usize>(
             is_between(&p, &asked[1]),
             is_between(&p, &asked[2]),
         ];
-        assert!(rt; answers == *listed, "{low:?} to {high:?}");
+        holds_for(rt, answers == *listed, &(low, high));
     }
 }
 
@@ -182,6 +183,6 @@ fn corners_that_make_no_box(rt: HostRuntime) {
     let w = width(&rt, 32);
     for (lo, hi) in [([0, 1], [0, 0]), ([1, 0], [0, 5]), ([3, 3], [2, 2])] {
         let (lo, hi) = (point::<2>(&rt, w, &lo), point::<2>(&rt, w, &hi));
-        assert!(rt; join_box::<2, 4>(w, &lo, &hi).is_none());
+        holds(&rt, join_box::<2, 4>(w, &lo, &hi).is_none());
     }
 }

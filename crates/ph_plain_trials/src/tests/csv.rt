@@ -1,6 +1,7 @@
 //! Texts whose rows and faults are known.
 ghost use Rattle.std.specs.Prelude.{◌≤◌};
 
+use super::claims::{holds, holds_for};
 use ph_coord::Kind::{self, Boxes, Points};
 use ph_coord::{Point, Row, Width};
 use ph_csv::{CsvFault, read_rows, row_line};
@@ -87,7 +88,7 @@ const SAME: [&[u8]; 8] = [
 fn texts_of_the_same_rows(rt: HostRuntime) {
     let rows = [row([3, -4], 17), row([-2147483648, 2147483647], u64::MAX)];
     for text in SAME {
-        assert!(rt; are_rows(rt.alloc(), text, &rows), "{text:?}");
+        holds_for(&rt, are_rows(rt.alloc(), text, &rows), &text);
     }
 }
 
@@ -110,7 +111,7 @@ const HEADERS: [(&[u8], Result<usize, CsvFault>); 10] = [
 fn headers(rt: HostRuntime) {
     for (text, answer) in HEADERS {
         let answered = count::<2>(rt.alloc(), text, Kind::Points, true);
-        assert!(rt; answered == answer, "{text:?}");
+        holds_for(&rt, answered == answer, &text);
     }
 }
 
@@ -155,19 +156,19 @@ const REFUSED: [(Kind, &[u8], CsvFault); 30] = [
 fn faults(rt: HostRuntime) {
     for (kind, text, fault) in REFUSED {
         let answered = count::<2>(rt.alloc(), text, kind, false);
-        assert!(rt; answered == Err(fault), "{text:?}");
+        holds_for(&rt, answered == Err(fault), &text);
     }
 }
 
 #[test]
 fn boxes(rt: HostRuntime) {
     let touching = count::<4>(rt.alloc(), b"1,2,1,2,9\n-5,-5,5,5,9\n", Kind::Boxes, false);
-    assert!(rt; touching == Ok(2));
+    holds(&rt, touching == Ok(2));
     let reversed = count::<4>(rt.alloc(), b"1,2,1,1,9\n", Kind::Boxes, false);
-    assert!(rt; reversed == Err(CsvFault::Reversed(1)));
+    holds(&rt, reversed == Err(CsvFault::Reversed(1)));
     // No odd number of coordinates is a box.
     let odd = count::<3>(rt.alloc(), b"1,2,3,9\n", Kind::Boxes, false);
-    assert!(rt; odd == Err(CsvFault::Reversed(1)));
+    holds(&rt, odd == Err(CsvFault::Reversed(1)));
 }
 
 const WIDTHS: [(u32, &[u8], Result<usize, CsvFault>); 5] = [
@@ -182,15 +183,21 @@ const WIDTHS: [(u32, &[u8], Result<usize, CsvFault>); 5] = [
 fn widths(rt: HostRuntime) {
     for (bits, text, answer) in WIDTHS {
         let rows = read_of_width::<2>(rt.alloc(), text, bits, Kind::Points, false);
-        assert!(rt; number_of(rows) == answer, "{text:?}");
+        holds_for(&rt, number_of(rows) == answer, &text);
     }
 }
 
 #[test]
 fn lines(rt: HostRuntime) {
-    assert!(rt; row_line(&row([4737, -854], 1)).as_str() == "4737,-854,1\n");
-    assert!(rt; row_line(&row([0], u64::MAX)).as_str() == "0,18446744073709551615\n");
-    assert!(rt; row_line(&row([i64::MIN; 16], u64::MAX)).len() == 357);
+    holds(
+        &rt,
+        row_line(&row([4737, -854], 1)).as_str() == "4737,-854,1\n",
+    );
+    holds(
+        &rt,
+        row_line(&row([0], u64::MAX)).as_str() == "0,18446744073709551615\n",
+    );
+    holds(&rt, row_line(&row([i64::MIN; 16], u64::MAX)).len() == 357);
 }
 
 // The lines of many rows.
@@ -209,13 +216,13 @@ fn many_lines(rt: &impl Abort, alloc: Global) -> Vec<u8> {
 fn many_records(rt: HostRuntime) {
     let mut text = many_lines(&rt, rt.alloc());
     let rows = read::<2>(rt.alloc(), &text, Kind::Points, false).expect(&rt, "rows");
-    assert!(rt; rows.len() == 4000);
+    holds(&rt, rows.len() == 4000);
     for (i, row) in rows.iter().enumerate() {
-        assert!(rt; row.point.as_slice() == [i as i64, -1].as_slice());
+        holds(&rt, row.point.as_slice() == [i as i64, -1].as_slice());
     }
     text.extend_from_slice(b"1,2\n").expect(&rt, "memory");
     let answered = count::<2>(rt.alloc(), &text, Kind::Points, true);
-    assert!(rt; answered == Err(CsvFault::Fields(4001)));
+    holds(&rt, answered == Err(CsvFault::Fields(4001)));
 }
 
 const MESSAGES: [(CsvFault, &str); 5] = [
@@ -230,6 +237,6 @@ const MESSAGES: [(CsvFault, &str); 5] = [
 fn messages(rt: HostRuntime) {
     for (fault, message) in MESSAGES {
         let text = format!(in rt.alloc(); "{fault}").expect(&rt, "memory");
-        assert!(rt; text.as_str() == message, "{message}");
+        holds_for(&rt, text.as_str() == message, &message);
     }
 }

@@ -1,6 +1,7 @@
 //! How far points and regions are from a point.
 ghost use Rattle.std.specs.Prelude.{◌≡◌, ◌<◌, ◌≤◌};
 
+use super::claims::holds_for;
 use super::{point, width};
 use ph_coord::Width;
 use ph_zorder::{Region, distance, least_distance};
@@ -42,8 +43,8 @@ fn distances_of_the_ends(rt: HostRuntime) {
         ),
     ];
     for (ends, of_two, of_sixteen) in gaps {
-        assert!(rt; end_to_end::<2>(&rt, w, ends) == of_two, "{ends:?}");
-        assert!(rt; end_to_end::<16>(&rt, w, ends) == of_sixteen, "{ends:?}");
+        holds_for(&rt, end_to_end::<2>(&rt, w, ends) == of_two, &ends);
+        holds_for(&rt, end_to_end::<16>(&rt, w, ends) == of_sixteen, &ends);
     }
 }
 
@@ -65,6 +66,6 @@ fn distances_of_regions(rt: HostRuntime) {
         assert!(rt; level < w.bits());
         let q = point::<2>(&rt, w, &q);
         let distance = least_distance(w, &Region { corner, level }, &q);
-        assert!(rt; distance == want, "{q:?} at level {level}");
+        holds_for(&rt, distance == want, &(q, level));
     }
 }

@@ -2,6 +2,7 @@
 ghost use Rattle.std.specs.Prelude.{◌≡◌};
 ghost use Rattle.ph_specs.specs.TableNames.{row};
 
+use super::claims::holds;
 use super::{point, width};
 use ph_coord::{Row, Width};
 use ph_shape::{Plain, rows_of, shape_of};
@@ -11,9 +12,9 @@ use std::process::Abort;
 fn no_rows(rt: HostRuntime) {
     let w = width(&rt, 32);
     let root = shape_of::<2>(rt.alloc(), w, &[]).expect(&rt, "memory");
-    assert!(rt; root.is_none());
+    holds(&rt, root.is_none());
     let rows = rows_of::<2>(rt.alloc(), w, None).expect(&rt, "memory");
-    assert!(rt; rows.is_empty());
+    holds(&rt, rows.is_empty());
 }
 
 fn row(rt: &impl Abort, w: Width, coords: [i64; 2], value: u64) -> Row<2>
@@ -27,10 +28,10 @@ fn row(rt: &impl Abort, w: Width, coords: [i64; 2], value: u64) -> Row<2>
 
 // The level of a node, and the address and the value of each entry, which is a child where it has none.
 fn check_node(rt: &impl Abort, node: &Plain<2>, level: u32, entries: &[(u32, Option<u64>)]) {
-    assert!(rt; (node.level(), node.len()) == (level, entries.len()));
+    holds(rt, (node.level(), node.len()) == (level, entries.len()));
     for (i, entry) in entries.iter().enumerate() {
         assert!(rt; i < node.len());
-        assert!(rt; (node.addr(i), node.value(i)) == *entry);
+        holds(rt, (node.addr(i), node.value(i)) == *entry);
     }
 }
 
@@ -42,7 +43,7 @@ fn check_root(rt: &impl Abort, root: &Plain<2>) {
     let entries = [(0b00, Some(1)), (0b01, Some(3)), (0b11, Some(2))];
     check_node(rt, child, 0, &entries);
     assert!(rt; child.len() == 3);
-    assert!(rt; child.body(2) == [0; 16] && child.child(2).is_none());
+    holds(rt, child.body(2) == [0; 16] && child.child(2).is_none());
 }
 
 #[test]
@@ -59,5 +60,5 @@ fn three_rows(rt: HostRuntime) {
     };
     check_root(&rt, root);
     let again = rows_of(rt.alloc(), w, Some(root)).expect(&rt, "memory");
-    assert!(rt; again.as_slice() == rows.as_slice());
+    holds(&rt, again.as_slice() == rows.as_slice());
 }

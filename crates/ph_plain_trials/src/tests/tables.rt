@@ -1,6 +1,7 @@
 //! Rows of the plain index.
 ghost use Rattle.std.specs.Prelude.{◌≡◌, ◌≤◌};
 
+use super::claims::holds;
 use super::{point, width};
 use ph_coord::{Row, Width};
 use ph_table::{Hit, Put, Table};
@@ -18,7 +19,7 @@ fn put_new(rt: &impl Abort, table: &mut Table<2>, rows: &[Given])
     let w = width(rt, 32);
     for (coords, value) in rows {
         let put = table.put(point(rt, w, coords), *value).expect(rt, "memory");
-        assert!(rt; put == Put::New);
+        holds(rt, put == Put::New);
     }
 }
 
@@ -27,9 +28,9 @@ fn is_row(row: &Row<2>, given: &Given) -> bool {
 }
 
 fn check_rows(rt: &impl Abort, rows: &[Row<2>], expected: &[Given]) {
-    assert!(rt; rows.len() == expected.len());
+    holds(rt, rows.len() == expected.len());
     for (row, given) in rows.iter().zip(expected) {
-        assert!(rt; is_row(row, given));
+        holds(rt, is_row(row, given));
     }
 }
 
@@ -41,11 +42,11 @@ fn unit_square_in_z_order(rt: HostRuntime) {
     put_new(&rt, &mut table, &rows);
     let (lo, hi) = (point(&rt, w, &[0, 0]), point(&rt, w, &[1, 1]));
     let found = table.window(rt.alloc(), &lo, &hi).expect(&rt, "memory");
-    assert!(rt; found.as_slice() == table.rows());
+    holds(&rt, found.as_slice() == table.rows());
     let expected = [([0, 0], 1), ([0, 1], 2), ([1, 0], 3), ([1, 1], 4)];
     check_rows(&rt, found.as_slice(), &expected);
     let put = table.put(lo, 5).expect(&rt, "memory");
-    assert!(rt; put == Put::Old(1));
+    holds(&rt, put == Put::Old(1));
 }
 
 // Rows at one distance from the origin, and one far away.
@@ -76,9 +77,9 @@ fn check_nearest(rt: &impl Abort, alloc: Global, table: &Table<2>, n: u32, many:
 {
     let origin = point(rt, width(rt, 32), &[0, 0]);
     let hits = table.near(alloc, &origin, n).expect(rt, "memory");
-    assert!(rt; hits.len() == many);
+    holds(rt, hits.len() == many);
     for (hit, expected) in hits.iter().zip(&FROM_ORIGIN) {
-        assert!(rt; is_hit(hit, expected));
+        holds(rt, is_hit(hit, expected));
     }
 }
 
@@ -95,6 +96,6 @@ fn nearest_rows_in_order(rt: HostRuntime) {
         .near(rt.alloc(), &corner, u32::MAX)
         .expect(&rt, "memory");
     let farthest = hits.last().expect(&rt, "no hits");
-    assert!(rt; farthest.row.value == 5);
-    assert!(rt; farthest.distance == 36893488130239234050);
+    holds(&rt, farthest.row.value == 5);
+    holds(&rt, farthest.distance == 36893488130239234050);
 }

@@ -1,6 +1,7 @@
 //! Numbers by their spelling, points by their offsets, the order of points, and the digits of words.
 ghost use Rattle.std.specs.Prelude.{◌≡◌};
 
+use super::claims::{holds, holds_for};
 use super::{point, width};
 use ph_coord::{Number, Point, offsets_of, read_number, z_before};
 use ph_digits::{body_address, join, top_difference, words_cmp};
@@ -80,7 +81,7 @@ const SPELLINGS: [(&[u8], Number); 14] = [
 #[test]
 fn spellings(rt: HostRuntime) {
     for (text, number) in SPELLINGS {
-        assert!(rt; read_number(text) == number, "{text:?}");
+        holds_for(&rt, read_number(text) == number, &text);
     }
 }
 
@@ -89,8 +90,8 @@ fn offsets_and_back(rt: HostRuntime) {
     let w = width(&rt, 4);
     let p = point::<3>(&rt, w, &[-8, 0, 7]);
     let offsets: [u64; 4] = offsets_of(w, p.as_slice());
-    assert!(rt; offsets == [0, 8, 15, 0]);
-    assert!(rt; Point::from_offsets(w, &offsets[..3]) == p);
+    holds(&rt, offsets == [0, 8, 15, 0]);
+    holds(&rt, Point::from_offsets(w, &offsets[..3]) == p);
 }
 
 #[test]
@@ -101,7 +102,7 @@ fn order_across_signs(rt: HostRuntime) {
         let p = point::<2>(&rt, w, p);
         for (j, q) in rising.iter().enumerate() {
             let q = point::<2>(&rt, w, q);
-            assert!(rt; z_before(w, &p, &q) == (i < j));
+            holds(&rt, z_before(w, &p, &q) == (i < j));
         }
     }
 }
@@ -110,10 +111,13 @@ fn order_across_signs(rt: HostRuntime) {
 fn joined_and_compared(rt: HostRuntime) {
     let mut known = [0b1_1000, 0b0_0110];
     join(&mut known, 2, 0b01, &[0b11, 0b00]);
-    assert!(rt; known == [0b1_1011, 0b0_0100]);
-    assert!(rt; body_address(2, &known) == 0b01);
-    assert!(rt; top_difference(&known, &[0b1_1011, 0b0_0001]) == Some(2));
-    assert!(rt; top_difference(&known, &known).is_none());
+    holds(&rt, known == [0b1_1011, 0b0_0100]);
+    holds(&rt, body_address(2, &known) == 0b01);
+    holds(
+        &rt,
+        top_difference(&known, &[0b1_1011, 0b0_0001]) == Some(2),
+    );
+    holds(&rt, top_difference(&known, &known).is_none());
 }
 
 // The first word that differs at the greatest place at which any differ decides.
@@ -131,11 +135,11 @@ const WORDS: [([u64; 3], [u64; 3], Ordering); 8] = [
 #[test]
 fn order_of_words(rt: HostRuntime) {
     for (xs, ys, order) in WORDS {
-        assert!(rt; words_cmp(&xs, &ys) == order);
-        assert!(rt; words_cmp(&ys, &xs) == order.reverse());
+        holds(&rt, words_cmp(&xs, &ys) == order);
+        holds(&rt, words_cmp(&ys, &xs) == order.reverse());
     }
-    assert!(rt; words_cmp(&[], &[]) == Equal);
+    holds(&rt, words_cmp(&[], &[]) == Equal);
     let mut last = [0; 20];
     last[19] = 1;
-    assert!(rt; words_cmp(&[0; 20], &last) == Less);
+    holds(&rt, words_cmp(&[0; 20], &last) == Less);
 }

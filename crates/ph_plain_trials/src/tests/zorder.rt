@@ -1,6 +1,7 @@
 //! Words of the Z-order, and the masks of windows.
 ghost use Rattle.std.specs.Prelude.{◌≡◌, ◌<◌};
 
+use super::claims::holds;
 use super::{point, width};
 use ph_zorder::{Region, address, masks, next_address, top_difference, z_cmp};
 use std::cmp::Ordering::{self, Equal, Greater, Less};
@@ -20,8 +21,8 @@ fn z_order_across_signs(rt: HostRuntime) {
     let w = width(&rt, 3);
     for (p, q, place, order) in PAIRS {
         let (p, q) = (point::<2>(&rt, w, &p), point::<2>(&rt, w, &q));
-        assert!(rt; top_difference(w, &p, &q) == place);
-        assert!(rt; z_cmp(w, &p, &q) == order);
+        holds(&rt, top_difference(w, &p, &q) == place);
+        holds(&rt, z_cmp(w, &p, &q) == order);
     }
 }
 
@@ -30,7 +31,7 @@ fn addresses_of_a_point(rt: HostRuntime) {
     let w = width(&rt, 4);
     let p = point::<3>(&rt, w, &[-8, 7, 2]);
     for (place, want) in [(0, 0b010), (1, 0b011), (2, 0b010), (3, 0b011)] {
-        assert!(rt; address(w, &p, place) == want);
+        holds(&rt, address(w, &p, place) == want);
     }
 }
 
@@ -49,7 +50,7 @@ fn masks_of_a_window(rt: HostRuntime) {
         assert!(rt; level < w.bits());
         let corner = point::<2>(&rt, w, &corner);
         let (lo, hi) = (point::<2>(&rt, w, &lo), point::<2>(&rt, w, &hi));
-        assert!(rt; masks(w, &Region { corner, level }, &lo, &hi) == wanted);
+        holds(&rt, masks(w, &Region { corner, level }, &lo, &hi) == wanted);
     }
 }
 
@@ -66,7 +67,7 @@ const NEXT: [(u32, u32, u32, Option<u32>); 7] = [
 #[test]
 fn next_addresses(rt: HostRuntime) {
     for (address, lower, upper, next) in NEXT {
-        assert!(rt; lower & upper == lower);
-        assert!(rt; next_address(address, lower, upper) == next);
+        holds(&rt, lower & upper == lower);
+        holds(&rt, next_address(address, lower, upper) == next);
     }
 }

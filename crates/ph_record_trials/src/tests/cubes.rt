@@ -8,6 +8,7 @@ ghost use Rattle.ph_bits.specs.Edits.{edited_as};
 ghost use Rattle.ph_cube.specs.Edited.{IsEditAt};
 ghost use Rattle.ph_record_trials.specs.Edits.{insert_of, remove_of};
 
+use super::claims::holds;
 use super::is_front;
 use ph_bits::{Edit, Packed};
 use ph_cube::by_dims::{insert_point, remove_point};
@@ -52,9 +53,9 @@ macro_rules! try_rows {
     )*) => {
         $({
             let mut words = [$($without,)* u64::MAX];
-            assert!($rt; is_put(&mut words, $dims, ($place, $addr), body!($($field),*), $value, &[$($with),*]));
+            holds(&$rt, is_put(&mut words, $dims, ($place, $addr), body!($($field),*), $value, &[$($with),*]));
             let mut words = [$($with),*];
-            assert!($rt; is_taken(&mut words, $dims, ($place, $addr), &[$($without),*]));
+            holds(&$rt, is_taken(&mut words, $dims, ($place, $addr), &[$($without),*]));
         })*
     };
 }

@@ -7,6 +7,7 @@ ghost use Rattle.ph_bits.specs.Edits.{edited_as};
 ghost use Rattle.ph_cube.specs.Edited.{IsEditAt};
 ghost use Rattle.ph_record_trials.specs.Edits.{child_of, point_of};
 
+use super::claims::holds;
 use super::is_front;
 use ph_bits::{Edit, Packed};
 use ph_cube::by_dims as cube;
@@ -79,9 +80,9 @@ fn is_cube_point(
 macro_rules! there_and_back {
     ($rt:ident, $at:ident, $is_child:ident, $child_body:ident, [$($child:literal),*], $is_point:ident, $point_body:ident, $value:literal, [$($point:literal),*]) => {
         let mut words = [$($point),*];
-        assert!($rt; $is_child(&mut words, $at, $child_body, &[$($child),*]));
+        holds(&$rt, $is_child(&mut words, $at, $child_body, &[$($child),*]));
         let mut words = [$($child,)* u64::MAX];
-        assert!($rt; $is_point(&mut words, $at, $point_body, $value, &[$($point),*]));
+        holds(&$rt, $is_point(&mut words, $at, $point_body, $value, &[$($point),*]));
     };
 }
 
@@ -121,8 +122,8 @@ fn entries_put(rt: HostRuntime) {
 fn child_gets_another_body(rt: HostRuntime) {
     let mut words = [0x0200000003000001, 0x43b1c80000000000, 5, 7];
     let want = [0x0200000003000001, 0x43b6480000000000, 5, 7];
-    assert!(rt; is_linear_child(&mut words, (1, 1), body!(3, 0), &want));
+    holds(&rt, is_linear_child(&mut words, (1, 1), body!(3, 0), &want));
     let mut words = [0x0201000003000001, 0x6163090000000000, 5, 7];
     let want = [0x0201000003000001, 0x616c090000000000, 5, 7];
-    assert!(rt; is_cube_child(&mut words, (1, 1), body!(3, 0), &want));
+    holds(&rt, is_cube_child(&mut words, (1, 1), body!(3, 0), &want));
 }

@@ -6,6 +6,7 @@ ghost use Rattle.ph_model.specs.ModelNames.{IsRecord, AreRising, entries_as, is_
 ghost use Rattle.ph_bits.specs.Edits.{edited_as};
 ghost use Rattle.ph_record_trials.specs.Edits.{insert_of, remove_of};
 
+use super::claims::holds;
 use super::is_front;
 use ph_bits::{Edit, Packed};
 use ph_linear::by_dims as linear;
@@ -59,9 +60,9 @@ macro_rules! try_rows {
     )*) => {
         $($({
             let mut words = $with;
-            assert!($rt; is_without(&mut words, $dims, ($place, $addr), &[$($without),*]));
+            holds(&$rt, is_without(&mut words, $dims, ($place, $addr), &[$($without),*]));
             let mut words = [$($without,)* $($spare),*];
-            assert!($rt; is_with(&mut words, $dims, $len, ($place, $addr), body!($($field),*), $value, &$with));
+            holds(&$rt, is_with(&mut words, $dims, $len, ($place, $addr), body!($($field),*), $value, &$with));
         })*)*
     };
 }

@@ -1,4 +1,5 @@
 //! Commands that lines spell, and commands that are drawn, as `Debug` shows them.
+use super::claims::{holds, holds_for};
 use super::{check_shown, shown};
 use ph_script::{Coord, CoordBuffer, Coords, Gen, read_command};
 use std::alloc::Global;
@@ -166,9 +167,9 @@ fn read_commands(rt: HostRuntime) {
 
 #[test]
 fn lists_of_coordinates(rt: HostRuntime) {
-    assert!(rt; Coords::from_slice(&[Coord::Far; 17]).is_none());
+    holds(&rt, Coords::from_slice(&[Coord::Far; 17]).is_none());
     let at = Coords::from_slice(&[Coord::Whole(1); 16]).expect(&rt, "too many");
-    assert!(rt; at.as_slice().len() == 16);
+    holds(&rt, at.as_slice().len() == 16);
 }
 
 #[test]
@@ -181,7 +182,7 @@ fn sixteen_coordinates(rt: HostRuntime) {
         "Relocate {{ from: {at:?}, to: Coords {{ list: {:?} }} }}",
         [Coord::Whole(2); 16]
     );
-    assert!(rt; command == wanted.expect(&rt, "memory"));
+    holds(&rt, command == wanted.expect(&rt, "memory"));
 }
 
 // Checks the next of the commands that are drawn.
@@ -193,7 +194,7 @@ fn check_next(
     wanted: &str,
 ) {
     let next = format!(in alloc; "{:?}", drawn.next(coords)).expect(rt, "memory");
-    assert!(rt; next.as_str() == wanted, "{wanted} is drawn as {next}");
+    holds_for(rt, next.as_str() == wanted, &(wanted, next.as_str()));
 }
 
 // A start counts modulo 2^31.

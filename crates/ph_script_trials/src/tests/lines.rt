@@ -1,4 +1,5 @@
 //! Lines in pieces.
+use super::claims::holds;
 use ph_script::{Line, Lines};
 use std::alloc::Global;
 use std::process::Abort;
@@ -12,13 +13,13 @@ fn is_ended_by(rt: &impl Abort, lines: &mut Lines, byte: u8, wanted: &[u8]) -> b
     let piece = [byte];
     let mut at = 0;
     let line = lines.next_line(&piece, &mut at);
-    assert!(rt; at == 1);
-    assert!(rt; line.is_none() || line == Some(Line::Text(wanted)));
+    holds(rt, at == 1);
+    holds(rt, line.is_none() || line == Some(Line::Text(wanted)));
     line.is_some()
 }
 
 fn check_last(rt: &impl Abort, lines: &mut Lines, wanted: Option<Line<'_>>) {
-    assert!(rt; lines.last() == wanted);
+    holds(rt, lines.last() == wanted);
 }
 
 #[test]
@@ -38,7 +39,7 @@ fn blank_lines_and_carriage_returns(rt: HostRuntime) {
             count += 1;
         }
     }
-    assert!(rt; count == 4);
+    holds(&rt, count == 4);
     check_last(&rt, &mut lines, Some(Line::Text(wanted[4])));
     check_last(&rt, &mut lines, None);
 }
@@ -53,8 +54,8 @@ fn check_next(
 ) {
     assert!(rt; from <= piece.len());
     let mut at = from;
-    assert!(rt; lines.next_line(piece, &mut at) == wanted);
-    assert!(rt; at == to);
+    holds(rt, lines.next_line(piece, &mut at) == wanted);
+    holds(rt, at == to);
 }
 
 #[test]

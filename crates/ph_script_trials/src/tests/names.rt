@@ -1,4 +1,5 @@
 //! The names of cursors and files.
+use super::claims::{holds, holds_for};
 use ph_script::{Bad, CoordBuffer, FileName, Name, read_command};
 use std::process::Abort;
 
@@ -9,8 +10,8 @@ fn name(rt: &impl Abort, text: &str) -> Name {
 #[test]
 fn names(rt: HostRuntime) {
     let longest = "abcdefghijklmnopqrstuvwxyz-_0123";
-    assert!(rt; longest.len() == 32);
-    assert!(rt; name(&rt, longest).as_str() == longest);
+    holds(&rt, longest.len() == 32);
+    holds(&rt, name(&rt, longest).as_str() == longest);
     for text in [
         "",
         "a b",
@@ -19,14 +20,14 @@ fn names(rt: HostRuntime) {
         "\u{e9}",
         "abcdefghijklmnopqrstuvwxyz-_01234",
     ] {
-        assert!(rt; Name::new(text).is_none(), "{text}");
+        holds_for(&rt, Name::new(text).is_none(), &text);
     }
 }
 
 #[test]
 fn order_of_names(rt: HostRuntime) {
     let (shorter, dash, zero) = (name(&rt, "a"), name(&rt, "a-"), name(&rt, "a0"));
-    assert!(rt; dash == name(&rt, "a-"));
+    holds(&rt, dash == name(&rt, "a-"));
     assert!(rt; dash < zero);
     assert!(rt; shorter < dash);
 }
@@ -39,11 +40,11 @@ fn file_name<'t>(rt: &impl Abort, text: &'t str) -> FileName<'t> {
 fn file_names(rt: HostRuntime) {
     let longest = [b'~'; 255];
     let text = str::from_utf8(&longest).expect(&rt, "text");
-    assert!(rt; file_name(&rt, text).as_str().len() == 255);
+    holds(&rt, file_name(&rt, text).as_str().len() == 255);
     for text in ["", "a b", "a\u{7f}", "\u{e9}", "a\n"] {
-        assert!(rt; FileName::new(text).is_none(), "{text}");
+        holds_for(&rt, FileName::new(text).is_none(), &text);
     }
-    assert!(rt; file_name(&rt, "a-") != file_name(&rt, "a"));
+    holds(&rt, file_name(&rt, "a-") != file_name(&rt, "a"));
 }
 
 #[test]
@@ -52,5 +53,8 @@ fn file_name_too_long(rt: HostRuntime) {
         .concat(rt.alloc())
         .expect(&rt, "memory");
     let mut coords = CoordBuffer::new();
-    assert!(rt; matches!(read_command(&line, 2, &mut coords), Err(Bad::Name)));
+    holds(
+        &rt,
+        matches!(read_command(&line, 2, &mut coords), Err(Bad::Name)),
+    );
 }

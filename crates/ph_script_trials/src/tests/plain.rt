@@ -1,6 +1,7 @@
 //! Lines of the commands that a straight pass reads, through this pass and by the forms of all commands.
 ghost use Rattle.std.specs.Prelude.{◌≤◌, length};
 
+use super::claims::holds_for;
 use super::shown;
 use ph_script::{CoordBuffer, read_command, read_plain_command};
 use std::alloc::Global;
@@ -260,15 +261,16 @@ fn check_read(rt: &impl Abort, alloc: Global, plain: bool, lines: &[(&[u8], &str
     let mut coords = CoordBuffer::new();
     for (line, wanted) in lines {
         assert!(rt; line.len() <= 4096);
-        assert!(rt; is_shown(rt, alloc, line, &mut coords, wanted), "{wanted}");
+        holds_for(rt, is_shown(rt, alloc, line, &mut coords, wanted), &wanted);
         let behind = behind_blank(rt, alloc, line);
         assert!(rt; behind.len() <= 4096);
-        assert!(rt;
+        holds_for(
+            rt,
             is_shown(rt, alloc, &behind, &mut coords, wanted),
-            "{wanted}"
+            &wanted,
         );
-        assert!(rt; is_plain(line) == plain, "{wanted}");
-        assert!(rt; !is_plain(&behind), "{wanted}");
+        holds_for(rt, is_plain(line) == plain, &wanted);
+        holds_for(rt, !is_plain(&behind), &wanted);
     }
 }
 

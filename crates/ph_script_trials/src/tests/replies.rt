@@ -1,6 +1,7 @@
 //! The texts of replies.
 ghost use Rattle.std.specs.Prelude.{◌≤◌};
 
+use super::claims::{holds, holds_for};
 use ph_coord::{Point, Row, Width};
 use ph_script::{Reply, Text, Which, reply_text, write_hit, write_row, write_text};
 use std::process::Abort;
@@ -68,7 +69,7 @@ const REPLIES: [(Reply, &str); 49] = [
 
 fn check_texts(rt: &impl Abort, replies: &[(Reply, &str)]) {
     for (reply, text) in replies {
-        assert!(rt; reply_text(reply).as_str() == *text, "{text}");
+        holds_for(rt, reply_text(reply).as_str() == *text, &text);
     }
 }
 
@@ -87,7 +88,7 @@ fn check_row<const D: usize>(rt: &impl Abort, text: &mut Text, row: &Row<D>, lin
     requires { D ≤ 16 }
 {
     write_row(text, row);
-    assert!(rt; text.as_str() == line);
+    holds(rt, text.as_str() == line);
 }
 
 #[test]
@@ -96,7 +97,7 @@ fn texts_of_rows(rt: HostRuntime) {
     let mut text = Text::new();
     check_row(&rt, &mut text, &row, "row -1 0 3\n");
     write_hit(&mut text, 0, &row);
-    assert!(rt; text.as_str() == "hit 0 -1 0 3\n");
+    holds(&rt, text.as_str() == "hit 0 -1 0 3\n");
 }
 
 #[test]
@@ -112,19 +113,22 @@ fn texts_of_longest_rows(rt: HostRuntime) {
     check_row(&rt, &mut text, &row, line);
     write_hit(&mut text, 340282366920938463463374607431768211455, &row);
     let hit = text.as_str();
-    assert!(rt; hit.len() == line.len() + 40);
-    assert!(rt; hit.starts_with("hit 340282366920938463463374607431768211455 -23"));
+    holds(&rt, hit.len() == line.len() + 40);
+    holds(
+        &rt,
+        hit.starts_with("hit 340282366920938463463374607431768211455 -23"),
+    );
 }
 
 fn check_text(rt: &impl Abort, text: &mut Text, reply: &Reply, line: &str) {
     write_text(text, reply);
-    assert!(rt; text.as_str() == line, "{line}");
+    holds_for(rt, text.as_str() == line, &line);
 }
 
 #[test]
 fn one_text_for_many_replies(rt: HostRuntime) {
     let mut text = Text::new();
-    assert!(rt; text.as_str().is_empty());
+    holds(&rt, text.as_str().is_empty());
     let cases = [
         (
             Reply::Value(18446744073709551615),

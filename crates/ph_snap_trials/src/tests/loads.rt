@@ -2,6 +2,7 @@
 
 ghost use Rattle.std.specs.Prelude.{◌≡◌, ◌<◌, ◌≤◌, length};
 
+use super::claims::{holds, holds_for};
 use super::plain::plain_fault;
 use super::widths::{NINE_DIMS, ONE_BIT, SEVEN_BITS, SIXTEEN_DIMS, SIXTY_TWO_BITS};
 use super::{EMPTY, ONE_ROW, THREE_ROWS, TWO_ROWS, second_version, width};
@@ -102,8 +103,8 @@ fn outcome(
 fn check_row(rt: &impl Abort, alloc: Global, first: &[u8], at: [i64; 2], value: Option<u64>) {
     assert!(rt; 8 <= first.len());
     let second = second_version(rt, alloc, first);
-    assert!(rt; outcome(rt, alloc, first, at) == Ok(value), "{at:?}");
-    assert!(rt; outcome(rt, alloc, &second, at) == Ok(value), "{at:?}");
+    holds_for(rt, outcome(rt, alloc, first, at) == Ok(value), &at);
+    holds_for(rt, outcome(rt, alloc, &second, at) == Ok(value), &at);
 }
 
 const ROWS: [(&[u8], [i64; 2], Option<u64>); 9] = [
@@ -138,11 +139,11 @@ fn rows_of_other_digits(rt: HostRuntime) {
 fn reversed_boxes(rt: HostRuntime) {
     let alloc = rt.alloc();
     let answered = outcome_in(&rt, alloc, &REVERSED, Kind::Boxes, 32, [7, 3]);
-    assert!(rt; answered == Err(LoadFault::Node(8)));
+    holds(&rt, answered == Err(LoadFault::Node(8)));
     // As points of two dimensions they are lawful.
     let mut points = REVERSED;
     points[4] = 0;
-    assert!(rt; outcome(&rt, alloc, &points, [7, 3]) == Ok(Some(1)));
+    holds(&rt, outcome(&rt, alloc, &points, [7, 3]) == Ok(Some(1)));
 }
 
 fn check_width(
@@ -153,7 +154,7 @@ fn check_width(
     answer: Result<Option<u64>, LoadFault>,
 ) {
     let answered = outcome_in(rt, alloc, bytes, Kind::Points, bits, [1, 1]);
-    assert!(rt; answered == answer, "{bits} bits");
+    holds_for(rt, answered == answer, &bits);
 }
 
 #[test]
@@ -190,7 +191,7 @@ fn bytes_that_end_early_or_late(rt: HostRuntime) {
     for (len, fault) in ENDS {
         let bytes = longer.get(..len).expect(&rt, "so many bytes");
         let answered = outcome(&rt, rt.alloc(), bytes, [0, 0]);
-        assert!(rt; answered == Err(fault), "{len} bytes");
+        holds_for(&rt, answered == Err(fault), &len);
     }
 }
 
@@ -247,7 +248,7 @@ fn assert_altered(rt: &impl Abort, alloc: Global, snapshot: &[u8], cases: &[Alte
         for (at, byte) in *places {
             let bytes = altered(rt, alloc, snapshot, *at, *byte);
             let answered = outcome(rt, alloc, &bytes, [0, 0]);
-            assert!(rt; answered == Err(*fault), "{byte} at {at}");
+            holds_for(rt, answered == Err(*fault), &(byte, at));
         }
     }
 }
@@ -276,7 +277,7 @@ fn assert_same_fault<const D: usize, C: Ledger>(
         Err(fault) => Some(fault),
     };
     let wanted = plain_fault(alloc, bytes, kind, D as u8, w.bits() as u8);
-    assert!(rt; fault == wanted, "{bytes:?}");
+    holds_for(rt, fault == wanted, &bytes);
 }
 
 // Each front of a snapshot, and the snapshot with a byte behind it.

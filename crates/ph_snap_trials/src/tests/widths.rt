@@ -2,6 +2,7 @@
 
 ghost use Rattle.std.specs.Prelude.{◌≤◌};
 
+use super::claims::holds;
 use super::{EMPTY, ONE_ROW, THREE_ROWS, TWO_ROWS, is_saved_as, second_version, tree_of, width};
 use ph_coord::{Kind, Width};
 use ph_snap::load;
@@ -89,7 +90,7 @@ fn assert_kept<const D: usize, V: Ledger, C: Ledger>(
     let loaded = load::<D, C>(alloc, snapshot, kind, w, &mut counters.changes).expect(
         rt, "no tree",
     );
-    assert!(rt; loaded.same(&tree, &mut counters.visits));
+    holds(rt, loaded.same(&tree, &mut counters.visits));
     is_saved_as(rt, alloc, &loaded, kind, snapshot, &mut counters.visits);
 }
 
@@ -109,7 +110,7 @@ pub(crate) fn keep_small<V: Ledger, C: Ledger>(
     ] {
         assert!(rt; 8 <= first.len());
         let second = second_version(rt, alloc, first);
-        assert!(rt; second.starts_with(header));
+        holds(rt, second.starts_with(header));
         assert_kept::<2, V, C>(rt, alloc, Kind::Points, w, rows, &second, counters);
         assert_brought_on(rt, alloc, w, first, &second, counters);
     }

@@ -1,6 +1,7 @@
 ghost use Rattle.std.specs.Prelude.{◌≡◌, ◌<◌};
 ghost use Rattle.ph_specs.specs.TableNames.{IsPoint};
 
+use crate::claims::holds;
 use ph_coord::{Point, Row, Width};
 use ph_near::{Ball, Hit};
 use ph_steps::Steps;
@@ -37,7 +38,7 @@ fn tree_of<V: Ledger, C: Ledger>(
     let mut tree = PhTree::new(alloc, w, 100);
     for (coords, value) in rows {
         let done = tree.put(point(rt, *coords), *value, visits, changes);
-        assert!(rt; done.is_ok());
+        holds(rt, done.is_ok());
     }
     tree
 }
@@ -68,10 +69,10 @@ fn lists<V: Ledger>(
             row,
             distance: *distance,
         };
-        assert!(rt; gives(&mut ball, Some(hit), visits));
+        holds(rt, gives(&mut ball, Some(hit), visits));
     }
-    assert!(rt; gives(&mut ball, None, visits));
-    assert!(rt; gives(&mut ball, None, visits));
+    holds(rt, gives(&mut ball, None, visits));
+    holds(rt, gives(&mut ball, None, visits));
 }
 
 fn balls<V: Ledger, C: Ledger>(rt: &impl Abort, alloc: Global, visits: Blank, changes: Blank)

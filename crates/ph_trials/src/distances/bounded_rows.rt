@@ -3,6 +3,7 @@
 ghost use Rattle.std.specs.Prelude.{◌≡◌, ◌<◌};
 
 use super::nearest_rows::{hit, point, tree_of};
+use crate::claims::holds;
 use ph_near::{Hit, nearest};
 use ph_steps::Steps;
 use ph_tree::PhTree;
@@ -25,7 +26,7 @@ fn lists<V: Ledger>(
     for n in [0, 1, 2, 5, 9] {
         let hits = nearest(alloc, tree, point(rt, q), n, visits).expect(rt, "memory");
         let most = ranked.len().min(n as usize);
-        assert!(rt; hits.as_slice() == &ranked[..most]);
+        holds(rt, hits.as_slice() == &ranked[..most]);
     }
 }
 

@@ -3,6 +3,7 @@
 ghost use Rattle.std.specs.Prelude.{◌≡◌, ◌<◌};
 ghost use Rattle.ph_specs.specs.TableNames.{IsPoint};
 
+use crate::claims::holds;
 use ph_coord::{Point, Row, Width};
 use ph_near::{Hit, nearest};
 use ph_steps::Steps;
@@ -51,7 +52,7 @@ pub(super) fn tree_of<V: Ledger, C: Ledger>(
     let mut tree = PhTree::new(alloc, width(), u64::MAX);
     for (i, coords) in points.iter().enumerate() {
         let done = tree.put(point(rt, *coords), i as u64 + 1, visits, changes);
-        assert!(rt; done.is_ok());
+        holds(rt, done.is_ok());
     }
     tree
 }
@@ -74,7 +75,7 @@ fn cross<V: Ledger, C: Ledger>(
     for n in [0, 1, 3, 4, 9, u32::MAX] {
         let hits = nearest(alloc, &tree, point(rt, [0, 0]), n, visits).expect(rt, "memory");
         let most = ranked.len().min(n as usize);
-        assert!(rt; hits.as_slice() == &ranked[..most]);
+        holds(rt, hits.as_slice() == &ranked[..most]);
     }
 }
 
@@ -90,7 +91,7 @@ fn greatest_distance<V: Ledger, C: Ledger>(
     let least = point(rt, [-2147483648, -2147483648]);
     let hits = nearest(alloc, &tree, least, 1, visits).expect(rt, "memory");
     assert!(rt; hits.len() == 1);
-    assert!(rt; hits[0] == hit(rt, greatest, 1, 36893488130239234050));
+    holds(rt, hits[0] == hit(rt, greatest, 1, 36893488130239234050));
 }
 
 fn list<V: Ledger, C: Ledger>(rt: &impl Abort, alloc: Global, visits: Blank, changes: Blank)

@@ -4,6 +4,7 @@ ghost use Rattle.std.specs.Prelude.{◌≡◌, ◌*◌, ◌≤◌};
 ghost use Rattle.ph_specs.specs.TableNames.{AreBoxes};
 
 use super::boxes::tree_of;
+use crate::claims::holds;
 use ph_join::Join;
 use ph_steps::{Counters, Counting, Steps, with_new_counters};
 use ph_tree::PhTree;
@@ -40,10 +41,13 @@ fn list<const K: usize, const D: usize, V: Ledger, C: Ledger>(
 {
     let mut join: Join<'_, K, D> = Join::new(first, second);
     for pair in pairs {
-        assert!(rt; next_values(&mut join, &mut counters.visits) == Some(*pair));
+        holds(
+            rt,
+            next_values(&mut join, &mut counters.visits) == Some(*pair),
+        );
     }
-    assert!(rt; next_values(&mut join, &mut counters.visits).is_none());
-    assert!(rt; next_values(&mut join, &mut counters.visits).is_none());
+    holds(rt, next_values(&mut join, &mut counters.visits).is_none());
+    holds(rt, next_values(&mut join, &mut counters.visits).is_none());
 }
 
 // A cube, and boxes that touch it in a corner, an edge and a face, that lie in it or around it, or that are one off in

@@ -3,6 +3,7 @@
 ghost use Rattle.std.specs.Prelude.{◌≡◌, ◌<◌};
 
 use super::trees::{empty, point};
+use crate::claims::holds;
 use ph_steps::Counters;
 use ph_undo::Kept;
 use std::alloc::Global;
@@ -50,7 +51,7 @@ fn follow<V: Ledger, C: Ledger>(
             true
         }
     };
-    assert!(rt; is_done);
+    holds(rt, is_done);
 }
 
 fn run<V: Ledger, C: Ledger>(
@@ -62,7 +63,7 @@ fn run<V: Ledger, C: Ledger>(
 ) {
     for (act, past, rows) in script {
         follow(rt, alloc, kept, *act, counters);
-        assert!(rt; (kept.past_len(), kept.tree().len()) == (*past, *rows));
+        holds(rt, (kept.past_len(), kept.tree().len()) == (*past, *rows));
     }
 }
 
@@ -121,8 +122,8 @@ const FORGOTTEN: [Line; 10] = [
 fn three_puts<V: Ledger, C: Ledger>(rt: &impl Abort, alloc: Global, counters: &mut Counters<V, C>) {
     let mut kept: Kept<2> = empty(rt, alloc, 7);
     run(rt, alloc, &mut kept, &THREE_PUTS, counters);
-    assert!(rt; get(rt, &kept, [0, 0], counters) == Some(1));
-    assert!(rt; get(rt, &kept, [1, 1], counters).is_none());
+    holds(rt, get(rt, &kept, [0, 0], counters) == Some(1));
+    holds(rt, get(rt, &kept, [1, 1], counters).is_none());
 }
 
 fn each_edit<V: Ledger, C: Ledger>(rt: &impl Abort, alloc: Global, counters: &mut Counters<V, C>) {
@@ -130,9 +131,9 @@ fn each_edit<V: Ledger, C: Ledger>(rt: &impl Abort, alloc: Global, counters: &mu
     run(rt, alloc, &mut kept, &TWO_PUTS, counters);
     let before = kept.tree().stats(&mut counters.visits);
     run(rt, alloc, &mut kept, &EACH_EDIT, counters);
-    assert!(rt; get(rt, &kept, [0, 0], counters) == Some(1));
-    assert!(rt; get(rt, &kept, [1, 1], counters) == Some(2));
-    assert!(rt; kept.tree().stats(&mut counters.visits) == before);
+    holds(rt, get(rt, &kept, [0, 0], counters) == Some(1));
+    holds(rt, get(rt, &kept, [1, 1], counters) == Some(2));
+    holds(rt, kept.tree().stats(&mut counters.visits) == before);
 }
 
 fn forgotten<V: Ledger, C: Ledger>(rt: &impl Abort, alloc: Global, counters: &mut Counters<V, C>) {
