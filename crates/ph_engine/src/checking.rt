@@ -2,26 +2,25 @@
 ghost use Rattle.std.specs.Prelude.{◌≡◌, ◌≤◌, ◌+◌, [], false, length, IfOk, IfErr, OnErr, Ok};
 ghost use Rattle.ph_io.specs.Causes.{Rose};
 ghost use Rattle.ph_specs.specs.ProgramNames.{checked_words, own_fault, words_of_snapshot, line_of};
-ghost use Rattle.ph_specs.specs.RecordNames.{load_fault, stats};
+ghost use Rattle.ph_specs.specs.RecordNames.{stats};
 ghost use Rattle.ph_snap.specs.Faults.{IsLoadFault};
+ghost use Rattle.ph_slot.specs.AnySlots.{any_slot};
 ghost use Rattle.ph_slot.specs.Desks.{SameDesk, beside_at};
-ghost use Rattle.ph_engine.specs.Checking.{CheckDone, HasSizes, IsLineOf, IsOwnLine, LineGiven, front_of, nodes_saved, status_of};
-ghost use Rattle.ph_commands.specs.Listing.{node_count};
-ghost use Rattle.ph_commands.specs.Tables.{table_at};
+ghost use Rattle.ph_engine.specs.Checking.{CheckDone, HasSizes, IsOwnLine, LineGiven, front_of, nodes_saved, status_of};
+ghost use Rattle.ph_commands.specs.Working.{nodes_of};
 ghost use Rattle.ph_commands.specs.Loading.{IsWithinBytes};
 ghost use Rattle.ph_commands.specs.Telling.{is_refusal, StopHasCause};
 ghost use Rattle.ph_commands.specs.Told.{taken_by};
 
 use crate::status::Status;
 use arrayvec::ArrayString;
-use ph_commands::{Answer, LINE_BYTES, Stop, load_kept, push_count, push_sizes, tell, tree_sizes};
+use ph_commands::{Answer, LINE_BYTES, Stop, push_count, push_sizes, tell};
 use ph_coord::{Kind, Width};
 use ph_io::{Failed, Files, Sink, write_piece};
 use ph_script::{FileName, Text};
-use ph_slot::{Desk, fault_reply, fetch_reply};
-use ph_snap::{Header, LoadFault, read_header};
+use ph_slot::{Desk, Slot, fault_reply, fetch_reply};
+use ph_snap::{LoadFault, read_header};
 use ph_steps::Steps;
-use ph_undo::Kept;
 use std::alloc::Global;
 use std::sync::ledger::Ledger;
 
@@ -106,82 +105,20 @@ fn snapshot_line<V: Ledger, C: Ledger>(
     let Some(w) = Width::new(header.width) else {
         unreachable!()
     };
-    line_by_dims(alloc, bytes, &header, w, visits, changes)
+    let slot = Slot::of_snapshot(alloc, bytes, header.kind, header.dims, w, changes)?;
+    Ok(slot_line(&slot, visits))
 }
 
-// The same by the kind and the dimensions of a header.
-fn line_by_dims<V: Ledger, C: Ledger>(
-    alloc: Global,
-    bytes: &[u8],
-    header: &Header,
-    w: Width,
-    visits: &mut Steps<V>,
-    changes: &mut Steps<C>,
-) -> Result<ArrayString<LINE_BYTES>, LoadFault>
-    requires some { 1 ≤ header.now.dims }
-    requires limit { header.now.dims ≤ 16 }
-    ensures line { IfOk result (λ line. IsLineOf header.now.kind header.now.dims w bytes.now line.bytes visits.old visits.new changes.old changes.new) }
-    ensures fault { IfErr result (λ e. IsLoadFault (load_fault header.now.kind header.now.dims w bytes.now) e) }
-    ensures unseen { OnErr result (visits.new ≡ visits.old) }
-    ensures within { IsWithinBytes bytes.now changes.old changes.new }
+// What the rows of a slot are, with their dimensions, and the sizes of its tree.
+fn slot_line<V: Ledger>(slot: &Slot, visits: &mut Steps<V>) -> ArrayString<LINE_BYTES>
+    ensures line { result.bytes ≡ line_of (checked_words (any_slot slot.now).kind (any_slot slot.now).dims
+        (stats (any_slot slot.now).width (any_slot slot.now).dims (any_slot slot.now).table)) }
+    ensures visits { visits.new ≡ visits.old + nodes_of (any_slot slot.now) }
 {
-    let kind = header.kind;
-    match header.dims {
-        1 => table_line::<1, V, C>(alloc, bytes, kind, w, visits, changes),
-        2 => table_line::<2, V, C>(alloc, bytes, kind, w, visits, changes),
-        3 => table_line::<3, V, C>(alloc, bytes, kind, w, visits, changes),
-        4 => table_line::<4, V, C>(alloc, bytes, kind, w, visits, changes),
-        5 => table_line::<5, V, C>(alloc, bytes, kind, w, visits, changes),
-        6 => table_line::<6, V, C>(alloc, bytes, kind, w, visits, changes),
-        7 => table_line::<7, V, C>(alloc, bytes, kind, w, visits, changes),
-        8 => table_line::<8, V, C>(alloc, bytes, kind, w, visits, changes),
-        9 => table_line::<9, V, C>(alloc, bytes, kind, w, visits, changes),
-        10 => table_line::<10, V, C>(alloc, bytes, kind, w, visits, changes),
-        11 => table_line::<11, V, C>(alloc, bytes, kind, w, visits, changes),
-        12 => table_line::<12, V, C>(alloc, bytes, kind, w, visits, changes),
-        13 => table_line::<13, V, C>(alloc, bytes, kind, w, visits, changes),
-        14 => table_line::<14, V, C>(alloc, bytes, kind, w, visits, changes),
-        15 => table_line::<15, V, C>(alloc, bytes, kind, w, visits, changes),
-        16 => table_line::<16, V, C>(alloc, bytes, kind, w, visits, changes),
-        _ => unreachable!(),
-    }
-}
-
-// The same of D dimensions.
-fn table_line<const D: usize, V: Ledger, C: Ledger>(
-    alloc: Global,
-    bytes: &[u8],
-    kind: Kind,
-    w: Width,
-    visits: &mut Steps<V>,
-    changes: &mut Steps<C>,
-) -> Result<ArrayString<LINE_BYTES>, LoadFault>
-    requires some { 1 ≤ D }
-    requires limit { D ≤ 16 }
-    ensures line { IfOk result (λ line. IsLineOf kind D w bytes.now line.bytes visits.old visits.new changes.old changes.new) }
-    ensures fault { IfErr result (λ e. IsLoadFault (load_fault kind D w bytes.now) e) }
-    ensures unseen { OnErr result (visits.new ≡ visits.old) }
-    ensures within { IsWithinBytes bytes.now changes.old changes.new }
-{
-    match load_kept::<D, C>(alloc, bytes, kind, w, changes) {
-        Ok(kept) => Ok(kept_line(&kept, kind, visits)),
-        Err(fault) => Err(fault),
-    }
-}
-
-// What the rows of a tree are, with their dimensions, and its sizes.
-fn kept_line<const D: usize, V: Ledger>(
-    kept: &Kept<D>,
-    kind: Kind,
-    visits: &mut Steps<V>,
-) -> ArrayString<LINE_BYTES>
-    requires { D ≤ 16 }
-    ensures line { result.bytes ≡ line_of (checked_words kind D (stats kept.now.width D kept.now.table)) }
-    ensures visits { visits.new ≡ visits.old + node_count (table_at D kept.now) }
-{
+    let frame = slot.frame();
     let mut line = ArrayString::new();
-    push_kind(&mut line, kind, D as u32);
-    push_sizes(&mut line, &tree_sizes(kept, visits));
+    push_kind(&mut line, frame.kind, frame.dims);
+    push_sizes(&mut line, &slot.sizes(visits));
     line.push_str("\n");
     line
 }

@@ -20,7 +20,7 @@ use Rattle.ph_snap.specs.declared.fault.LoadFault.{LoadFault}
 use Rattle.ph_commands.specs.Tables.{SameFrame, AnyTable, table_at, IsOfKind}
 use Rattle.ph_slot.specs.Filing.{LoadsOr, TellsFault, loaded_table, read_table, read_reply}
 
-boxes-fit : (rows : List Row) → rows_fit Boxes rows ≡ true → AreBoxes rows
+pub boxes-fit : (rows : List Row) → rows_fit Boxes rows ≡ true → AreBoxes rows
 boxes-fit [] h = tt
 boxes-fit (r ∷ rows) h = let both = and_parts (is_box r.point) (rows_fit Boxes rows) h in (both.0, boxes-fit rows both.1)
 

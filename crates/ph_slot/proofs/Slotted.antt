@@ -1,11 +1,13 @@
 -- What a slot keeps, a command keeps.
-use Rattle.std.proofs.Common.{◌≡◌, ◌≤◌, ◌+◌, ℕ, zero, suc, take, Bool, true, false, List, [], ◌∷◌, length, refl, ap, sym, subst, ◌∙◌, arith, cond}
-use Rattle.std.specs.Prelude.{Option, Some, None, Result, Ok, Err, ℤ, not, ◌%◌, ◌&&◌, if◌then◌else◌}
+use Rattle.std.proofs.Common.{◌≡◌, ◌≤◌, ◌+◌, ℕ, zero, suc, take, inl, inr, Bool, true, false, List, [], ◌∷◌, length, refl, ap, sym, subst, ◌∙◌, arith, cond}
+use Rattle.std.specs.Prelude.{Option, Some, None, Result, Ok, Err, ℤ, not, ◌%◌, ◌&&◌, ◌||◌, ◌==◌, nat_le, if◌then◌else◌}
 use Rattle.std.specs.List.{AllByRecursion, list_all}
 use Rattle.std.specs.Ordering.{nat_cmp}
 use Rattle.std.specs.Cmp.Lexicographic.{slice_cmp}
 use Rattle.std.specs.FinMap.Entries.{is_sorted}
 use Rattle.std.proofs.Math.Dec.{T}
+use Rattle.std.proofs.lemmas.Bool.{and_parts}
+use Rattle.std.proofs.Common.{eqb-true}
 use Rattle.ph_specs.specs.declared.Kind.{Kind}
 use Rattle.ph_specs.specs.Boxes.{AreBoxes}
 use Rattle.ph_specs.specs.declared.Kind.TheVariants.{Points, Boxes}
@@ -16,7 +18,9 @@ use Rattle.ph_specs.specs.Reply.{Reply}
 use Rattle.ph_specs.specs.State.{Slot, current, with_past}
 use Rattle.ph_specs.specs.Past.{Past, after_edit}
 use Rattle.ph_specs.specs.Table.{Row, has, del, move}
+use Rattle.ph_specs.specs.Load.{dims_fit}
 use Rattle.ph_specs.specs.Refusals.{refusal, boxes_of}
+use Rattle.ph_specs.specs.SnapshotOf.{IsSnapshotOf}
 use Rattle.ph_specs.specs.Window.{Cursor}
 use Rattle.ph_specs.specs.Engine.{effect, unless_refused}
 use Rattle.ph_tree.specs.Tree.{TreeTable}
@@ -24,10 +28,11 @@ use Rattle.ph_undo.specs.Kept.{tree_of}
 use Rattle.ph_script.specs.declared.reply.Reply.{Reply as Told}
 use Rattle.ph_specs.proofs.laws.BoxRows.{boxes-put, boxes-del, boxes-move}
 use Rattle.ph_commands.specs.Served.{ServedOr}
-use Rattle.ph_commands.specs.Tables.{SameFrame, AnyTable, table_at, bare, empty_table, slot_of, engine_of, IsCursorIn}
+use Rattle.ph_commands.specs.Tables.{SameFrame, AnyTable, table_at, bare, empty_table, slot_of, engine_of, IsCursorIn, IsOfKind}
 use Rattle.ph_slot.specs.Slots.{named, entered, IsSlot}
 use Rattle.ph_slot.specs.Refusing.{early_refusal}
 use Rattle.ph_slot.specs.declared.cursors.Held.{Held}
+use Rattle.ph_slot.proofs.Loads.{boxes-fit}
 use Rattle.ph_slot.proofs.Refused.{unreversed}
 use Rattle.ph_slot.proofs.Names.{true-is, is-true, sorted-entered, length-entered, all-entered}
 use Rattle.ph_commands.proofs.Frames.{of-kind-still}
@@ -185,6 +190,25 @@ slot-opened {D} kind dims w max k t held e d p rows width most none some limit e
     let same : k ≡ bare (record { table = []; width = w; max = max }) =
     kept-new k t e d p ∙ (λ i. bare (record { table = rows i; width = width i; max = most i })) in
     rw (same, none) (empty-opened D kind dims w max some limit even)
+
+-- ---- a slot that is made of a snapshot
+
+fits-even : (most dims : ℕ) → dims_fit most 1 dims ≡ true → dims % 2 ≡ 0
+fits-even most dims h =
+    let parts : ((nat_le 1 dims && nat_le dims most) ≡ true) × (((1 == 0) || (dims % 2 == 0)) ≡ true) = and_parts (nat_le 1 dims && nat_le dims most) _ h in
+    eqb-true (dims % 2) 0 parts.1
+
+loaded-kind : (kind : Kind) (dims w : ℕ) (bytes : List ℕ) (t : TreeTable) → IsSnapshotOf kind dims w bytes t.table → IsOfKind kind (table_at dims (bare t))
+loaded-kind Points dims w bytes t s = tt
+loaded-kind Boxes dims w bytes t (inl s) = (fits-even 8 dims s.1.dims_are, boxes-fit t.table s.1.rows_are, tt)
+loaded-kind Boxes dims w bytes t (inr s) = (fits-even 16 dims s.dims_are, boxes-fit t.table s.rows_are, tt)
+
+pub slot-loaded : {D : ℕ} (kind : Kind) (dims w : ℕ) (bytes : List ℕ) (k : Past) (t : TreeTable) (held : List (Held D)) →
+    tree_of k ≡ t → k.depth ≡ 0 → k.past ≡ [] → IsSnapshotOf kind dims w bytes t.table → held ≡ [] →
+    1 ≤ dims → dims ≤ 16 → IsSlot kind (table_at dims k) held
+slot-loaded kind dims w bytes k t held e d p s none some limit =
+    rw (kept-new k t e d p, none)
+    (record { some = some; limit = limit; of_kind = loaded-kind kind dims w bytes t s; few = omega arith; sorted = refl; serve = tt })
 
 -- ---- with a cursor more
 

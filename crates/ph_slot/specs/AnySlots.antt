@@ -1,7 +1,10 @@
 -- Slots of any number of dimensions as those of the definitions.
-use Rattle.std.specs.Prelude.{◌≡◌, ◌≤◌, ℕ, ◌%◌}
+use Rattle.std.specs.Prelude.{◌≡◌, ◌≤◌, ℕ, ◌+◌, ◌%◌, List, length}
+use Rattle.ph_specs.specs.declared.Kind.{Kind}
 use Rattle.ph_specs.specs.declared.Kind.TheVariants.{Boxes}
+use Rattle.ph_specs.specs.SnapshotOf.{IsSnapshotOf}
 use Rattle.ph_specs.specs.State.{Slot as State}
+use Rattle.ph_specs.specs.WorkSets.{all_nodes}
 use Rattle.ph_slot.specs.declared.frame.Frame.{Frame}
 use Rattle.ph_slot.specs.declared.slot.Slot.{Slot}
 use Rattle.ph_slot.specs.declared.slot.Slot.TheVariants as slot
@@ -42,6 +45,14 @@ variant_dims (slot.D13 s) = 13
 variant_dims (slot.D14 s) = 14
 variant_dims (slot.D15 s) = 15
 variant_dims (slot.D16 s) = 16
+
+-- a slot of the table of which the bytes are the snapshot, for a change of each node of its tree
+pub record IsLoadedSlot (kind : Kind) (dims width : ℕ) (bytes : List ℕ) (s : State) (changes now_changes : ℕ) : Type 0 where
+  pub kind_is : s.kind ≡ kind
+  pub dims_are : s.dims ≡ dims
+  pub width_is : s.width ≡ width
+  pub snapshot : IsSnapshotOf kind dims width bytes s.table
+  pub made : now_changes ≡ changes + length (all_nodes width dims s.table)
 
 -- the kind, the number of dimensions and the width of a slot, which has boxes only where that number is even
 pub record IsFrameOf (s : State) (frame : Frame) : Type 0 where

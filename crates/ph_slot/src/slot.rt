@@ -1,14 +1,16 @@
 //! A slot of any number of dimensions, and the choice of its number.
-ghost use Rattle.std.specs.Prelude.{◌≡◌, ◌≤◌, ◌<◌, ◌+◌, ◌%◌, ◌^◌, true, false};
+ghost use Rattle.std.specs.Prelude.{IfOk, IfErr, ◌≡◌, ◌≤◌, ◌<◌, ◌+◌, ◌%◌, ◌^◌, true, false};
 ghost use Rattle.ph_specs.specs.Command.Command.{Begin as AskBegin};
 ghost use Rattle.ph_specs.specs.ProgramNames.{has_wrong_dims, new_slot, opened_dims};
 ghost use Rattle.ph_specs.specs.State.{empty_slot};
-ghost use Rattle.ph_specs.specs.RecordNames.{stats};
+ghost use Rattle.ph_specs.specs.RecordNames.{load_fault, stats};
 ghost use Rattle.ph_specs.specs.declared.Kind.TheVariants.{Boxes};
 ghost use Rattle.ph_script.specs.Meaning.{command_of, reply_of};
 ghost use Rattle.ph_script.specs.Fit.{HasDims};
 ghost use Rattle.ph_tree.specs.Stats.{stats_of};
-ghost use Rattle.ph_slot.specs.AnySlots.{any_slot, variant_dims, IsFrameOf};
+ghost use Rattle.ph_slot.specs.AnySlots.{any_slot, variant_dims, IsFrameOf, IsLoadedSlot};
+ghost use Rattle.ph_commands.specs.Loading.{IsWithinBytes};
+ghost use Rattle.ph_snap.specs.Faults.{IsLoadFault};
 ghost use Rattle.ph_slot.specs.Desks.{SameDesk, beside_at};
 ghost use Rattle.ph_slot.specs.Doing.{Begun, DoneOr, LeavesBegun, is_begin, is_on_slot};
 ghost use Rattle.ph_commands.specs.Tables.{engine_of};
@@ -23,6 +25,7 @@ use ph_commands::{Answer, Stop, say};
 use ph_coord::{Kind, Width};
 use ph_io::{Files, Sink};
 use ph_script::{Command, Reply};
+use ph_snap::LoadFault;
 use ph_steps::Steps;
 use ph_tree::Stats;
 use std::alloc::Global;
@@ -76,6 +79,31 @@ macro_rules! by_dims {
     };
 }
 
+// What a macro makes of a number of dimensions and its variant.
+macro_rules! by_number {
+    ($dims:expr, $make:ident) => {
+        match $dims {
+            1 => $make!(1, D1),
+            2 => $make!(2, D2),
+            3 => $make!(3, D3),
+            4 => $make!(4, D4),
+            5 => $make!(5, D5),
+            6 => $make!(6, D6),
+            7 => $make!(7, D7),
+            8 => $make!(8, D8),
+            9 => $make!(9, D9),
+            10 => $make!(10, D10),
+            11 => $make!(11, D11),
+            12 => $make!(12, D12),
+            13 => $make!(13, D13),
+            14 => $make!(14, D14),
+            15 => $make!(15, D15),
+            16 => $make!(16, D16),
+            _ => unreachable!(),
+        }
+    };
+}
+
 impl Slot {
     /// An empty table of points of two dimensions and 32 bits, with any number of rows. It takes no memory.
     pub fn new(alloc: Global) -> Slot
@@ -91,29 +119,41 @@ impl Slot {
         requires even { kind ≡ Boxes → dims % 2 ≡ 0 }
         ensures { any_slot result ≡ empty_slot kind dims w max }
     {
-        match dims {
-            1 => Slot::D1(SlotOf::new(alloc, kind, w, max)),
-            2 => Slot::D2(SlotOf::new(alloc, kind, w, max)),
-            3 => Slot::D3(SlotOf::new(alloc, kind, w, max)),
-            4 => Slot::D4(SlotOf::new(alloc, kind, w, max)),
-            5 => Slot::D5(SlotOf::new(alloc, kind, w, max)),
-            6 => Slot::D6(SlotOf::new(alloc, kind, w, max)),
-            7 => Slot::D7(SlotOf::new(alloc, kind, w, max)),
-            8 => Slot::D8(SlotOf::new(alloc, kind, w, max)),
-            9 => Slot::D9(SlotOf::new(alloc, kind, w, max)),
-            10 => Slot::D10(SlotOf::new(alloc, kind, w, max)),
-            11 => Slot::D11(SlotOf::new(alloc, kind, w, max)),
-            12 => Slot::D12(SlotOf::new(alloc, kind, w, max)),
-            13 => Slot::D13(SlotOf::new(alloc, kind, w, max)),
-            14 => Slot::D14(SlotOf::new(alloc, kind, w, max)),
-            15 => Slot::D15(SlotOf::new(alloc, kind, w, max)),
-            _ => Slot::D16(SlotOf::new(alloc, kind, w, max)),
+        macro_rules! open {
+            ($dims:literal, $variant:ident) => {
+                Slot::$variant(SlotOf::new(alloc, kind, w, max))
+            };
         }
+        by_number!(dims, open)
     }
 
-    // What its rows are.
+    /// The table of this kind, with points of so many dimensions and bits, of which the bytes are the snapshot, for at most 2^64 - 1 rows, with no cursors, or the first
+    /// fault of the bytes. It takes memory for the tree alone; after an error nothing of it stays, and the nodes that were made are counted.
+    pub fn of_snapshot<C: Ledger>(
+        alloc: Global,
+        bytes: &[u8],
+        kind: Kind,
+        dims: u32,
+        w: Width,
+        changes: &mut Steps<C>,
+    ) -> Result<Slot, LoadFault>
+        requires some { 1 ≤ dims }
+        requires limit { dims ≤ 16 }
+        ensures loaded { IfOk result (λ s. IsLoadedSlot kind dims w bytes.now (any_slot s) changes.old changes.new) }
+        ensures fault { IfErr result (λ e. IsLoadFault (load_fault kind dims w bytes.now) e) }
+        ensures within { IsWithinBytes bytes.now changes.old changes.new }
+    {
+        macro_rules! of_snapshot {
+            ($dims:literal, $variant:ident) => {
+                SlotOf::<$dims>::of_snapshot(alloc, bytes, kind, w, changes).map(Slot::$variant)
+            };
+        }
+        by_number!(dims, of_snapshot)
+    }
+
+    /// What its rows are.
     #[inline(always)]
-    fn frame(&self) -> Frame
+    pub fn frame(&self) -> Frame
         ensures frame { IsFrameOf (any_slot self.now) result }
         ensures known { (any_slot self.now).dims ≡ variant_dims self.now }
     {
@@ -136,18 +176,17 @@ impl Slot {
         self.frame().dims
     }
 
-    /// The sizes of the tree of a slot of two dimensions. Each node is visited once.
+    /// The sizes of its tree. Each node is visited once.
     pub fn sizes<V: Ledger>(&self, visits: &mut Steps<V>) -> Stats
-        requires { (any_slot self.now).dims ≡ 2 }
         ensures sizes { stats_of result ≡ stats (any_slot self.now).width (any_slot self.now).dims (any_slot self.now).table }
         ensures visits { visits.new ≡ visits.old + nodes_of (any_slot self.now) }
     {
-        // A use that makes known which variant it is.
-        let _dims = self.dims();
-        match self {
-            Slot::D2(slot) => slot.sizes(visits),
-            _ => unreachable!(),
+        macro_rules! sizes {
+            ($slot:ident, $half:literal) => {
+                $slot.sizes(visits)
+            };
         }
+        by_dims!(self, sizes)
     }
 
     /// Does a command that is about this slot alone, and gives its replies to the sink. It may want memory for a row that is new, goes, moves
@@ -227,6 +266,7 @@ impl Slot {
             (beside_at O.Sink F.Files desk.old) (beside_at O.Sink F.Files desk.new)
             (engine_of (any_slot self.new)) result }
         ensures cause { StopHasCause (O.faults desk.old.out.now) (O.faults desk.new.out.now) result }
+        ensures begun { LeavesBegun (command_of cmd.now) (F.is_begun desk.old.files.now) (F.is_begun desk.new.files.now) }
         ensures same { SameDesk desk.old desk.new }
     {
         // A use that makes known which variant it is.

@@ -1,14 +1,16 @@
 //! A table of so many dimensions with what belongs to it, and what a command does to it.
-ghost use Rattle.std.specs.Prelude.{◌≡◌, ◌<◌, ◌≤◌, ◌+◌, ◌^◌, ◌/◌, ◌%◌, None, true, false, not, ◌&&◌, nat_le, length, option_map};
+ghost use Rattle.std.specs.Prelude.{IfOk, IfErr, ◌≡◌, ◌<◌, ◌≤◌, ◌+◌, ◌^◌, ◌/◌, ◌%◌, None, true, false, not, ◌&&◌, nat_le, length, option_map};
 ghost use Rattle.ph_specs.specs.Command.Command.{Back as AskBack, Cursor as AskCursor, Page as AskPage};
 ghost use Rattle.ph_specs.specs.ProgramNames.{has_name, lacks_cursor, has_too_many_cursors};
 ghost use Rattle.ph_specs.specs.State.{empty_slot};
-ghost use Rattle.ph_specs.specs.RecordNames.{stats};
+ghost use Rattle.ph_specs.specs.RecordNames.{load_fault, stats};
 ghost use Rattle.ph_specs.specs.declared.Kind.TheVariants.{Boxes};
 ghost use Rattle.ph_script.specs.Meaning.{command_of, numbers_of, reply_of};
 ghost use Rattle.ph_script.specs.Fit.{HasDims};
 ghost use Rattle.ph_tree.specs.Stats.{stats_of};
-ghost use Rattle.ph_slot.specs.AnySlots.{IsFrameOf};
+ghost use Rattle.ph_slot.specs.AnySlots.{IsFrameOf, IsLoadedSlot};
+ghost use Rattle.ph_commands.specs.Loading.{IsWithinBytes};
+ghost use Rattle.ph_snap.specs.Faults.{IsLoadFault};
 ghost use Rattle.ph_slot.specs.Asking.{asking};
 ghost use Rattle.ph_slot.specs.Causes.{refusal_reply};
 ghost use Rattle.ph_slot.specs.Desks.{SameDesk, aside_at, beside_at};
@@ -36,6 +38,7 @@ use ph_commands::{
 use ph_coord::{Kind, Width};
 use ph_io::{Files, Sink};
 use ph_script::{Command, Coords, Name, Reply, Text};
+use ph_snap::{LoadFault, load};
 use ph_steps::Steps;
 use ph_tree::{NoMemory, PhTree, Stats};
 use ph_undo::Kept;
@@ -82,6 +85,28 @@ impl<const D: usize> SlotOf<D> {
             kept: Kept::new(PhTree::new(alloc, w, max)),
             cursors: ArrayVec::new(),
         }
+    }
+
+    // The table of which the bytes are the snapshot, for any number of rows, without cursors.
+    pub(crate) fn of_snapshot<C: Ledger>(
+        alloc: Global,
+        bytes: &[u8],
+        kind: Kind,
+        w: Width,
+        changes: &mut Steps<C>,
+    ) -> Result<SlotOf<D>, LoadFault>
+        requires some { 1 ≤ D }
+        requires limit { D ≤ 16 }
+        ensures loaded { IfOk result (λ s. IsLoadedSlot kind D w bytes.now s changes.old changes.new) }
+        ensures fault { IfErr result (λ e. IsLoadFault (load_fault kind D w bytes.now) e) }
+        ensures within { IsWithinBytes bytes.now changes.old changes.new }
+    {
+        let tree = load(alloc, bytes, kind, w, changes)?;
+        Ok(SlotOf {
+            kind,
+            kept: Kept::new(tree),
+            cursors: ArrayVec::new(),
+        })
     }
 
     // What its rows are.
