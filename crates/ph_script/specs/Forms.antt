@@ -16,9 +16,6 @@ use Rattle.ph_script.specs.declared.forms.Verb.{Verb}
 use Rattle.ph_script.specs.declared.forms.Verb.TheVariants.{Open, OpenBits, OpenMax, OpenBitsMax, Put, Get, Del, Relocate, Count, Clear, Window}
 use Rattle.ph_script.specs.declared.forms.Verb.TheVariants.{Cursor, Page, Near, Within, Overlap, Inside, Covers, Save, Load, Import}
 use Rattle.ph_script.specs.declared.forms.Verb.TheVariants.{ImportHeader, Export, Stats, Select, Same, Join, Combine, Keep, Back}
-use Rattle.ph_script.specs.declared.forms.Places.{Places}
-use Rattle.ph_script.specs.declared.forms.Places.TheVariants.{Coordinates, UpTo as AllUpTo, Name as AllName}
-use Rattle.ph_script.specs.declared.forms.Places.TheVariants.{FileName as AllFileName, Fixed as AllFixed, Either as AllEither}
 use Rattle.ph_script.specs.declared.forms.Place.{Place}
 use Rattle.ph_script.specs.declared.forms.Place.TheVariants.{Coordinate, UpTo, Name, FileName, Fixed, Either}
 use Rattle.ph_script.specs.declared.forms.Form.{Form}
@@ -32,23 +29,24 @@ place_of FileName = AsksFileName
 place_of (Fixed word) = fixed word.now
 place_of (Either first second) = OneOf (first.now ∷ second.now ∷ [])
 
-abbrev pub group_of : ℕ → Places → List Asks
-group_of dims Coordinates = coordinates dims
-group_of dims (AllUpTo most) = Below (most + 1) ∷ []
-group_of dims AllName = CursorName ∷ []
-group_of dims AllFileName = AsksFileName ∷ []
-group_of dims (AllFixed word) = fixed word.now ∷ []
-group_of dims (AllEither first second) = OneOf (first.now ∷ second.now ∷ []) ∷ []
+-- the words that one of a form stands for
+abbrev pub group_of : ℕ → Place → List Asks
+group_of dims Coordinate = coordinates dims
+group_of dims (UpTo most) = Below (most + 1) ∷ []
+group_of dims Name = CursorName ∷ []
+group_of dims FileName = AsksFileName ∷ []
+group_of dims (Fixed word) = fixed word.now ∷ []
+group_of dims (Either first second) = OneOf (first.now ∷ second.now ∷ []) ∷ []
 
--- the places that groups of them stand for
-abbrev pub places_of : ℕ → List Places → List Asks
+-- those that a form has
+abbrev pub places_of : ℕ → List Place → List Asks
 places_of dims [] = []
-places_of dims (group ∷ []) = group_of dims group
-places_of dims (group ∷ next ∷ more) = group_of dims group ++ places_of dims (next ∷ more)
+places_of dims (place ∷ []) = group_of dims place
+places_of dims (place ∷ next ∷ more) = group_of dims place ++ places_of dims (next ∷ more)
 
--- the places that are still to come
+-- those that are still to come
 abbrev pub spread_of : Spread → List Asks
-spread_of s = replicate s.times (place_of s.place) ++ places_of s.dims s.groups.now
+spread_of s = replicate s.times (place_of s.place) ++ places_of s.dims s.more.now
 
 -- the places of a command, and what it makes of the numbers and the words there
 abbrev pub places_by : Verb → ℕ → List Asks

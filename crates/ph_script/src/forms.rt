@@ -1,5 +1,5 @@
 //! The forms of the commands.
-ghost use Rattle.std.specs.Prelude.{◌≡◌, ℕ, length, map, replicate};
+ghost use Rattle.std.specs.Prelude.{◌≡◌, ℕ, map, replicate};
 ghost use Rattle.std.specs.List.{AllByRecursion};
 ghost use Rattle.ph_specs.specs.ProgramNames.{forms as all_forms};
 ghost use Rattle.ph_script.specs.Forms.{place_of, group_of, form_of, IsRow};
@@ -41,26 +41,10 @@ pub(crate) enum Verb {
     Back,
 }
 
-/// What a form has behind its word, in one place or in several.
-#[derive(Clone, Copy)]
-pub(crate) enum Places {
-    /// A coordinate for each dimension.
-    Coordinates,
-    /// A number from 0 to this one.
-    UpTo(u128),
-    /// A cursor's name.
-    Name,
-    /// A file's name.
-    FileName,
-    /// This word.
-    Fixed(&'static [u8]),
-    /// One of two words.
-    Either(&'static [u8], &'static [u8]),
-}
-
-/// What one word is read as.
+/// What a word behind that of a command is read as.
 #[derive(Clone, Copy)]
 pub(crate) enum Place {
+    /// A coordinate; in a form, one for each dimension.
     Coordinate,
     /// A number from 0 to this one.
     UpTo(u128),
@@ -78,7 +62,7 @@ pub(crate) enum Place {
 #[derive(Clone, Copy)]
 pub(crate) struct Form {
     pub word: &'static [u8],
-    pub places: &'static [Places],
+    pub places: &'static [Place],
     pub verb: Verb,
 }
 
@@ -91,59 +75,59 @@ const RADIUS: u128 = u128::MAX;
 // The most edits that can be kept.
 const DEPTH: u128 = 65536;
 
-const KINDS: Places = Places::Either(b"points", b"boxes");
+const KINDS: Place = Place::Either(b"points", b"boxes");
 
-const BITS: Places = Places::Fixed(b"bits");
+const BITS: Place = Place::Fixed(b"bits");
 
-const MAX: Places = Places::Fixed(b"max");
+const MAX: Place = Place::Fixed(b"max");
 
 // The forms of all commands, in the order of the definitions. One more is a row here, a `Verb` and its command.
 static FORMS: [Form; 32] = [
     Form {
         word: b"open",
-        places: &[KINDS, Places::UpTo(COUNT)],
+        places: &[KINDS, Place::UpTo(COUNT)],
         verb: Verb::Open,
     },
     Form {
         word: b"open",
-        places: &[KINDS, Places::UpTo(COUNT), BITS, Places::UpTo(COUNT)],
+        places: &[KINDS, Place::UpTo(COUNT), BITS, Place::UpTo(COUNT)],
         verb: Verb::OpenBits,
     },
     Form {
         word: b"open",
-        places: &[KINDS, Places::UpTo(COUNT), MAX, Places::UpTo(VALUE)],
+        places: &[KINDS, Place::UpTo(COUNT), MAX, Place::UpTo(VALUE)],
         verb: Verb::OpenMax,
     },
     Form {
         word: b"open",
         places: &[
             KINDS,
-            Places::UpTo(COUNT),
+            Place::UpTo(COUNT),
             BITS,
-            Places::UpTo(COUNT),
+            Place::UpTo(COUNT),
             MAX,
-            Places::UpTo(VALUE),
+            Place::UpTo(VALUE),
         ],
         verb: Verb::OpenBitsMax,
     },
     Form {
         word: b"put",
-        places: &[Places::Coordinates, Places::UpTo(VALUE)],
+        places: &[Place::Coordinate, Place::UpTo(VALUE)],
         verb: Verb::Put,
     },
     Form {
         word: b"get",
-        places: &[Places::Coordinates],
+        places: &[Place::Coordinate],
         verb: Verb::Get,
     },
     Form {
         word: b"del",
-        places: &[Places::Coordinates],
+        places: &[Place::Coordinate],
         verb: Verb::Del,
     },
     Form {
         word: b"move",
-        places: &[Places::Coordinates, Places::Coordinates],
+        places: &[Place::Coordinate, Place::Coordinate],
         verb: Verb::Relocate,
     },
     Form {
@@ -158,67 +142,67 @@ static FORMS: [Form; 32] = [
     },
     Form {
         word: b"window",
-        places: &[Places::Coordinates, Places::Coordinates],
+        places: &[Place::Coordinate, Place::Coordinate],
         verb: Verb::Window,
     },
     Form {
         word: b"cursor",
-        places: &[Places::Name, Places::Coordinates, Places::Coordinates],
+        places: &[Place::Name, Place::Coordinate, Place::Coordinate],
         verb: Verb::Cursor,
     },
     Form {
         word: b"page",
-        places: &[Places::Name, Places::UpTo(COUNT)],
+        places: &[Place::Name, Place::UpTo(COUNT)],
         verb: Verb::Page,
     },
     Form {
         word: b"near",
-        places: &[Places::Coordinates, Places::UpTo(COUNT)],
+        places: &[Place::Coordinate, Place::UpTo(COUNT)],
         verb: Verb::Near,
     },
     Form {
         word: b"within",
-        places: &[Places::Coordinates, Places::UpTo(RADIUS)],
+        places: &[Place::Coordinate, Place::UpTo(RADIUS)],
         verb: Verb::Within,
     },
     Form {
         word: b"overlap",
-        places: &[Places::Coordinates],
+        places: &[Place::Coordinate],
         verb: Verb::Overlap,
     },
     Form {
         word: b"inside",
-        places: &[Places::Coordinates],
+        places: &[Place::Coordinate],
         verb: Verb::Inside,
     },
     Form {
         word: b"covers",
-        places: &[Places::Coordinates],
+        places: &[Place::Coordinate],
         verb: Verb::Covers,
     },
     Form {
         word: b"save",
-        places: &[Places::FileName],
+        places: &[Place::FileName],
         verb: Verb::Save,
     },
     Form {
         word: b"load",
-        places: &[Places::FileName],
+        places: &[Place::FileName],
         verb: Verb::Load,
     },
     Form {
         word: b"import",
-        places: &[Places::FileName],
+        places: &[Place::FileName],
         verb: Verb::Import,
     },
     Form {
         word: b"import",
-        places: &[Places::FileName, Places::Fixed(b"header")],
+        places: &[Place::FileName, Place::Fixed(b"header")],
         verb: Verb::ImportHeader,
     },
     Form {
         word: b"export",
-        places: &[Places::FileName],
+        places: &[Place::FileName],
         verb: Verb::Export,
     },
     Form {
@@ -228,7 +212,7 @@ static FORMS: [Form; 32] = [
     },
     Form {
         word: b"use",
-        places: &[Places::Either(b"a", b"b")],
+        places: &[Place::Either(b"a", b"b")],
         verb: Verb::Select,
     },
     Form {
@@ -258,12 +242,12 @@ static FORMS: [Form; 32] = [
     },
     Form {
         word: b"keep",
-        places: &[Places::UpTo(DEPTH)],
+        places: &[Place::UpTo(DEPTH)],
         verb: Verb::Keep,
     },
     Form {
         word: b"back",
-        places: &[Places::UpTo(COUNT)],
+        places: &[Place::UpTo(COUNT)],
         verb: Verb::Back,
     },
 ];
@@ -276,32 +260,15 @@ pub(crate) fn forms() -> &'static [Form]
     &FORMS
 }
 
-impl Places {
-    /// How many places there are.
+impl Place {
+    /// How many words it stands for in a form.
     pub(crate) fn count(self, dims: usize) -> usize
-        ensures { result ≡ length (group_of dims self) }
+        ensures { group_of dims self ≡ replicate result (place_of self) }
     {
         match self {
-            Places::Coordinates => dims,
-            Places::UpTo(_)
-            | Places::Name
-            | Places::FileName
-            | Places::Fixed(_)
-            | Places::Either(..) => 1,
-        }
-    }
-
-    /// What each of them is.
-    pub(crate) fn each(self) -> Place
-        ensures { (dims : ℕ) → replicate (length (group_of dims self)) (place_of result) ≡ group_of dims self }
-    {
-        match self {
-            Places::Coordinates => Place::Coordinate,
-            Places::UpTo(most) => Place::UpTo(most),
-            Places::Name => Place::Name,
-            Places::FileName => Place::FileName,
-            Places::Fixed(word) => Place::Fixed(word),
-            Places::Either(first, second) => Place::Either(first, second),
+            Place::Coordinate => dims,
+            Place::UpTo(_) | Place::Name | Place::FileName | Place::Fixed(_) | Place::Either(..) =>
+                1,
         }
     }
 }

@@ -2,28 +2,28 @@
 ghost use Rattle.std.specs.Prelude.{◌≡◌, ◌∷◌, [], MatchOption};
 ghost use Rattle.ph_script.specs.Forms.{place_of, places_of, spread_of};
 
-use crate::forms::{Place, Places};
+use crate::forms::Place;
 
 /// The places of a form that are still to come.
 #[derive(Clone, Copy)]
 pub(crate) struct Spread {
     dims: usize,
-    // A place that comes so many times, and the groups behind it.
+    // A place that comes so many times, and those behind it in the form.
     place: Place,
     times: usize,
-    groups: &'static [Places],
+    more: &'static [Place],
 }
 
 impl Spread {
-    /// All places of these groups.
-    pub(crate) fn new(groups: &'static [Places], dims: usize) -> Spread
-        ensures { spread_of result ≡ places_of dims groups.now }
+    /// All places of a form.
+    pub(crate) fn new(places: &'static [Place], dims: usize) -> Spread
+        ensures { spread_of result ≡ places_of dims places.now }
     {
         Spread {
             dims,
             place: Place::Coordinate,
             times: 0,
-            groups,
+            more: places,
         }
     }
 
@@ -34,12 +34,12 @@ impl Spread {
             (λ place. spread_of self.old ≡ place_of place ∷ spread_of self.new) }
     {
         while self.times == 0 {
-            let Some((group, more)) = self.groups.split_first() else {
+            let Some((place, more)) = self.more.split_first() else {
                 return None;
             };
-            self.place = group.each();
-            self.times = group.count(self.dims);
-            self.groups = more;
+            self.place = *place;
+            self.times = place.count(self.dims);
+            self.more = more;
         }
         self.times -= 1;
         Some(self.place)

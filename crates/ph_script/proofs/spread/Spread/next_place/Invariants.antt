@@ -6,4 +6,4 @@ abbrev pub invariant-loop-self : goal.invariant-loop-self
 invariant-loop-self l = spread_of l.self ≡ spread_of l.initial.self
 
 abbrev pub decreases-loop-self : goal.decreases-loop-self
-decreases-loop-self l = length l.self.groups.now
+decreases-loop-self l = length l.self.more.now
