@@ -1,3 +1,2 @@
--- Arrays that a closure made, and corners of boxes as points of a width.
-mod Made
+-- Corners of boxes as points of a width.
 mod BoxPoints

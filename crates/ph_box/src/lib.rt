@@ -5,6 +5,6 @@ mod corners;
 mod question;
 mod windows;
 
-pub use corners::{join_box, split_box};
+pub use corners::{join_box, join_corners, split_box};
 pub use question::Question;
 pub use windows::bounds;

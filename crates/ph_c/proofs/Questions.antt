@@ -1,15 +1,16 @@
 -- The boxes that a question lists are the rows of its window.
-use Rattle.std.proofs.Common.{◌≡◌, ℕ, true, false, List, [], ◌∷◌, ◌++◌, refl, sym, ap, ◌∙◌, subst, arith}
-use Rattle.std.specs.Prelude.{ℤ, Option, filter}
-use Rattle.std.specs.List.{AllByRecursion as Each}
+use Rattle.std.proofs.Common.{◌≡◌, ℕ, ◌/◌, true, false, List, [], ◌∷◌, ◌++◌, length, refl, sym, ap, ◌∙◌, subst, arith, eqb-true}
+use Rattle.std.specs.Prelude.{ℤ, ◌==◌, Option, filter}
+use Rattle.std.specs.List.{list_all, AllByRecursion as Each}
+use Rattle.std.proofs.lemmas.Bool.{and_parts}
 use Rattle.ph_box.specs.Questions.{asks, low_bound, high_bound}
 use Rattle.ph_box.specs.declared.question.Question.{Question}
 use Rattle.ph_box.specs.declared.question.Question.TheVariants.{Overlap, Inside, Cover}
 use Rattle.ph_specs.specs.Boxes.{AreBoxes, IsWindowFor}
-use Rattle.ph_specs.specs.Coordinate.{IsPoint, IsBox, at_most}
+use Rattle.ph_specs.specs.Coordinate.{IsPoint, IsBox, at_most, fits, high_corner, low_corner}
 use Rattle.ph_specs.specs.Table.{Row, IsTable}
 use Rattle.ph_specs.specs.Window.{is_after, rest}
-use Rattle.ph_specs.proofs.laws.Boxes.{window_lists}
+use Rattle.ph_specs.proofs.laws.Boxes.{corners-joined, window_lists}
 use Rattle.ph_c.specs.Answers as code
 use Rattle.ph_c.specs.Asked.{AreAsked, HasBoxes, IsAsked, asked_rest, asked_rows}
 use Rattle.ph_c.specs.Trees.{AnyTable}
@@ -35,27 +36,35 @@ asked-window question w d asked low high last table f t b =
 
 -- ---- a page
 
--- a page of the window between two corners, which are those of a question about the box from `lo` to `hi`
-pub asked-done : (question : Question) (t : AnyTable) (low high last lo hi from to : List ℤ) (l : Option (List ℤ)) (w : ℕ) (rows : List Row) (before after : Lent) →
-    lo ≡ low → hi ≡ high → l ≡ last_of last → w ≡ t.tree.width → from ≡ low_bound question w lo hi → to ≡ high_bound question w lo hi →
-    IsWindowFor w t.dims (asks question (lo ++ hi)) from to → rows ≡ rest t.tree.width (record { lo = from; hi = to; last = l }) t.tree.table →
-    HasBoxes t → AreAsked t low high last → at_most lo hi ≡ true → IsTable t.tree.width t.dims t.tree.table → IsListed t.dims rows before after →
+-- two points of as many coordinates
+pub as-long : (w k : ℕ) (p q : List ℤ) → IsPoint w k p → IsPoint w k q → length p ≡ length q
+as-long w k p q h i =
+    let long : (r : List ℤ) → IsPoint w k r → length r ≡ k = λ r j. eqb-true (length r) k (and_parts (length r == k) (list_all (fits w) r) j).0 in
+    long p h ∙ sym (long q i)
+
+-- a page of the window of a question about the box from `low` to `high`
+pub asked-done : (question : Question) (t : AnyTable) (low high last asked from to : List ℤ) (l : Option (List ℤ)) (w : ℕ) (rows : List Row) (before after : Lent) →
+    asked ≡ low ++ high → l ≡ last_of last → w ≡ t.tree.width →
+    from ≡ low_bound question w (low_corner asked) (high_corner asked) → to ≡ high_bound question w (low_corner asked) (high_corner asked) →
+    IsWindowFor w t.dims (asks question asked) from to → rows ≡ rest t.tree.width (record { lo = from; hi = to; last = l }) t.tree.table →
+    HasBoxes t → AreAsked t low high last → at_most low high ≡ true → IsTable t.tree.width t.dims t.tree.table → IsListed t.dims rows before after →
     IsAsked question t low high last before after code.done
-asked-done question t low high last lo hi from to l w rows before after is-lo is-hi is-last is-w is-from is-to window-is are even asked most table listed =
-    let f : from ≡ low_bound question t.tree.width low high = is-from ∙ (λ i. low_bound question (is-w i) (is-lo i) (is-hi i)) in
-    let s : to ≡ high_bound question t.tree.width low high = is-to ∙ (λ i. high_bound question (is-w i) (is-lo i) (is-hi i)) in
+asked-done question t low high last asked from to l w rows before after is-asked is-last is-w is-from is-to window-is are even points most table listed =
+    let corners = corners-joined low high (as-long t.tree.width (t.dims / 2) low high points.0 points.1) in
+    let lo : low_corner asked ≡ low = ap low_corner is-asked ∙ corners.0 in
+    let hi : high_corner asked ≡ high = ap high_corner is-asked ∙ corners.1 in
+    let f : from ≡ low_bound question t.tree.width low high = is-from ∙ (λ i. low_bound question (is-w i) (lo i) (hi i)) in
+    let s : to ≡ high_bound question t.tree.width low high = is-to ∙ (λ i. high_bound question (is-w i) (lo i) (hi i)) in
     let same : rows ≡ asked_rest question t low high last = are ∙ (λ i. rest t.tree.width (record { lo = f i; hi = s i; last = is-last i }) t.tree.table) in
     let Listed : List Row → Type 0 = λ rs. IsListed t.dims rs before after in
     let For : List ℤ → Type 0 = λ p. IsWindowFor t.tree.width t.dims (asks question p) from to in
-    let Wide : ℕ → Type 0 = λ v. IsWindowFor v t.dims (asks question (lo ++ hi)) from to in
-    let joined : lo ++ hi ≡ low ++ high = (λ i. is-lo i ++ is-hi i) in
-    let window-for : IsWindowFor t.tree.width t.dims (asks question (low ++ high)) from to = subst For joined (subst Wide is-w window-is) in
-    let is-most : at_most low high ≡ true = (λ i. at_most (sym is-lo i) (sym is-hi i)) ∙ most in
+    let Wide : ℕ → Type 0 = λ v. IsWindowFor v t.dims (asks question asked) from to in
+    let window-for : IsWindowFor t.tree.width t.dims (asks question (low ++ high)) from to = subst For is-asked (subst Wide is-w window-is) in
     record {
       known = refl;
       no_boxes = (λ e. absurd (omega (arith, e)), λ n. absurd (n even));
-      no_point = (λ e. absurd (omega (arith, e)), λ n. absurd (n.1 asked));
-      reversed = (λ e. absurd (omega (arith, e)), λ n. absurd (let no : true ≡ false = sym is-most ∙ n.2 in cc));
+      no_point = (λ e. absurd (omega (arith, e)), λ n. absurd (n.1 points));
+      reversed = (λ e. absurd (omega (arith, e)), λ n. absurd (let no : true ≡ false = sym most ∙ n.2 in cc));
       listed = λ e. subst Listed same listed;
       boxes = λ e b. sym same ∙ are ∙ asked-window question t.tree.width t.dims (low ++ high) from to l t.tree.table window-for table b ∙
           (λ i. filter (λ r. is_after t.tree.width (is-last i) r.point) (asked_rows question (low ++ high) t.tree.table));

@@ -9,6 +9,7 @@ pub mod Sizes
 pub mod Pages
 pub mod Windows
 pub mod Nears
+pub mod Arrays
 pub mod Balls
 pub mod Asked
 pub mod Listings

@@ -6,10 +6,12 @@ ghost use Rattle.ph_specs.specs.Window.{is_after};
 ghost use Rattle.ph_window.specs.Page.{IsLast};
 ghost use Rattle.ph_c.specs.Trees.{table_at};
 ghost use Rattle.ph_c.specs.Pages.{overlaid, points_of, values_of};
-ghost use Rattle.ph_c.specs.Windows.{IsListed, lent};
+ghost use Rattle.ph_c.specs.Windows.{IsListed};
+ghost use Rattle.ph_c.specs.Arrays.{SamePage, on_page};
 ghost use Rattle.ph_c.specs.Balls.{IsBall, behind};
 
 use crate::answers::{DONE, NO_POINT};
+use crate::arrays::PageArrays;
 use crate::pages::{last_in, overlay, overlay_word, room_for};
 use crate::rows::point_in;
 use ph_coord::{Point, Row, Width, z_before};
@@ -89,22 +91,19 @@ fn list_behind<const D: usize, V: Ledger>(
     ball: &mut Ball<'_, D>,
     w: Width,
     last: &Option<Point<D>>,
-    points: &mut [i64],
-    values: &mut [u64],
-    count: &mut usize,
-    more: &mut u32,
+    page: &mut PageArrays<'_>,
     visits: &mut Steps<V>,
 )
     requires some { 1 ≤ D }
     requires few { D ≤ 16 }
     requires last { IsLast w D last.now }
     requires inside { Each (λ h. IsPoint w D h.row.point) ball.old.hits }
-    ensures { IsListed D (behind w last.now ball.old.hits)
-        (lent points.old values.old count.old more.old) (lent points.new values.new count.new more.new) }
+    ensures listed { IsListed D (behind w last.now ball.old.hits) (on_page page.old) (on_page page.new) }
+    ensures same { SamePage page.old page.new }
 {
-    let room = room_for::<D>(points.len(), values.len());
-    *count = fill_behind(ball, w, last, room, points, values, visits);
-    *more = match next_behind(ball, w, last, visits) {
+    let room = room_for::<D>(page.points.len(), page.values.len());
+    *page.count = fill_behind(ball, w, last, room, page.points, page.values, visits);
+    *page.more = match next_behind(ball, w, last, visits) {
         Some(_) => 1,
         None => 0,
     };
@@ -117,14 +116,11 @@ pub(crate) fn list_ball<const D: usize, V: Ledger>(
     center: &[i64],
     radius: u128,
     last: &[i64],
-    points: &mut [i64],
-    values: &mut [u64],
-    count: &mut usize,
-    more: &mut u32,
+    page: &mut PageArrays<'_>,
     visits: &mut Steps<V>,
 ) -> u32
-    ensures { IsBall (table_at D tree.now) center.now radius last.now
-        (lent points.old values.old count.old more.old) (lent points.new values.new count.new more.new) result }
+    ensures page { IsBall (table_at D tree.now) center.now radius last.now (on_page page.old) (on_page page.new) result }
+    ensures same { SamePage page.old page.new }
 {
     // A use that makes known that the rows are a table, and the number of dimensions.
     let _root = tree.root();
@@ -133,6 +129,6 @@ pub(crate) fn list_ball<const D: usize, V: Ledger>(
     };
     let w = tree.width();
     let mut ball = Ball::new(tree, q, radius);
-    list_behind(&mut ball, w, &last, points, values, count, more, visits);
+    list_behind(&mut ball, w, &last, page, visits);
     DONE
 }

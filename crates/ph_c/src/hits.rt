@@ -2,9 +2,11 @@
 ghost use Rattle.std.specs.Prelude.{◌≡◌, ◌+◌, ◌*◌, ◌<◌, ◌≤◌, ◌++◌, ◌∷◌, [], length, take, drop};
 ghost use Rattle.ph_c.specs.Trees.{table_at};
 ghost use Rattle.ph_c.specs.Pages.{overlaid};
-ghost use Rattle.ph_c.specs.Nears.{FitHits, IsHitRoom, IsNear, halves, hit_distances, hit_points, hit_values, lent_hits};
+ghost use Rattle.ph_c.specs.Nears.{FitHits, IsHitRoom, IsNear, halves, hit_distances, hit_points, hit_values};
+ghost use Rattle.ph_c.specs.Arrays.{SameHits, of_hits};
 
 use crate::answers::{DONE, NO_MEMORY, NO_POINT};
+use crate::arrays::HitArrays;
 use crate::pages::{overlay, overlay_word, room_for};
 use crate::rows::point_in;
 use ph_near::nearest;
@@ -92,25 +94,26 @@ pub(crate) fn list_nearest<const D: usize, V: Ledger>(
     alloc: Global,
     tree: &PhTree<D>,
     center: &[i64],
-    points: &mut [i64],
-    values: &mut [u64],
-    distances: &mut [u64],
-    count: &mut usize,
+    arrays: &mut HitArrays<'_>,
     visits: &mut Steps<V>,
 ) -> u32
-    ensures { IsNear (table_at D tree.now) center.now (lent_hits points.old values.old distances.old count.old)
-        (lent_hits points.new values.new distances.new count.new) result }
+    ensures near { IsNear (table_at D tree.now) center.now (of_hits arrays.old) (of_hits arrays.new) result }
+    ensures same { SameHits arrays.old arrays.new }
 {
     // A use that makes the number of dimensions known.
     let _root = tree.root();
     let Some(q) = point_in(tree, center) else {
         return NO_POINT;
     };
-    let room = room_for_hits::<D>(points.len(), values.len(), distances.len());
+    let room = room_for_hits::<D>(
+        arrays.points.len(),
+        arrays.values.len(),
+        arrays.distances.len(),
+    );
     match nearest(alloc, tree, q, room, visits) {
         Ok(hits) => {
-            write_hits(&hits, points, values, distances);
-            *count = hits.len();
+            write_hits(&hits, arrays.points, arrays.values, arrays.distances);
+            *arrays.count = hits.len();
             DONE
         }
         Err(_) => NO_MEMORY,

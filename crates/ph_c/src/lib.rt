@@ -2,6 +2,7 @@
 #![tactic(auto)]
 
 mod answers;
+mod arrays;
 mod asked;
 mod balls;
 mod builds;

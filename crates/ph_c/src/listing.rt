@@ -1,9 +1,9 @@
 //! What a page lists: a window, a ball, or the boxes that a question about a box asks for.
-ghost use Rattle.std.specs.Prelude.{◌/◌, ◌≡◌};
 ghost use Rattle.ph_c.specs.Trees.{table_at};
-ghost use Rattle.ph_c.specs.Windows.{lent};
+ghost use Rattle.ph_c.specs.Arrays.{SamePage, on_page};
 ghost use Rattle.ph_c.specs.Listings.{IsPage};
 
+use crate::arrays::PageArrays;
 use crate::asked::list_boxes;
 use crate::balls::list_ball;
 use crate::pages::list_window;
@@ -33,34 +33,24 @@ pub(crate) enum Listing<'a> {
     },
 }
 
-/// Writes a page: the rows behind the last point, or from the beginning where no numbers are given for it. Boxes have K dimensions.
-pub(crate) fn list_page<const K: usize, const D: usize, V: Ledger>(
+/// Writes a page: the rows behind the last point, or from the beginning where no numbers are given for it.
+pub(crate) fn list_page<const D: usize, V: Ledger>(
     tree: &PhTree<D>,
     listing: &Listing<'_>,
     last: &[i64],
-    points: &mut [i64],
-    values: &mut [u64],
-    count: &mut usize,
-    more: &mut u32,
+    page: &mut PageArrays<'_>,
     visits: &mut Steps<V>,
 ) -> u32
-    requires { K ≡ D / 2 }
-    ensures { IsPage listing.now (table_at D tree.now) last.now
-        (lent points.old values.old count.old more.old) (lent points.new values.new count.new more.new) result }
+    ensures page { IsPage listing.now (table_at D tree.now) last.now (on_page page.old) (on_page page.new) result }
+    ensures same { SamePage page.old page.new }
 {
     match *listing {
-        Listing::Window { low, high } => list_window(
-            tree, low, high, last, points, values, count, more, visits,
-        ),
-        Listing::Ball { center, radius } => list_ball(
-            tree, center, radius, last, points, values, count, more, visits,
-        ),
+        Listing::Window { low, high } => list_window(tree, low, high, last, page, visits),
+        Listing::Ball { center, radius } => list_ball(tree, center, radius, last, page, visits),
         Listing::Boxes {
             question,
             low,
             high,
-        } => list_boxes::<K, D, V>(
-            tree, question, low, high, last, points, values, count, more, visits,
-        ),
+        } => list_boxes(tree, question, low, high, last, page, visits),
     }
 }

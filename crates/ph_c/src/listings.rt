@@ -1,13 +1,15 @@
 //! The calls that list pages: of windows, of balls and of boxes.
-ghost use Rattle.std.specs.Prelude.{◌≡◌, ◌<◌, ◌+◌, ◌*◌, ◌^◌};
+ghost use Rattle.std.specs.Prelude.{◌≡◌, ◌<◌};
 ghost use Rattle.ph_c.specs.Trees.{any_table};
 ghost use Rattle.ph_c.specs.Calls.{table_in, Asks};
 ghost use Rattle.ph_c.specs.Windows.{IsWindow, lent};
 ghost use Rattle.ph_c.specs.Balls.{IsBall, number_of_halves};
 ghost use Rattle.ph_c.specs.Asked.{IsAsked};
 ghost use Rattle.ph_c.specs.Listings.{IsPage};
+ghost use Rattle.ph_c.specs.Arrays.{SamePage, on_page};
 
 use crate::answers::NO_TREE;
+use crate::arrays::PageArrays;
 use crate::handle::Handle;
 use crate::listing::Listing;
 use crate::trees::Tree;
@@ -37,7 +39,13 @@ pub extern "C" fn ph_window(
         (λ t. IsWindow t low.now high.now last.now (lent points.old values.old count.old more.old) (lent points.new values.new count.new more.new) result) }
 {
     let listing = Listing::Window { low, high };
-    list(alloc, h, &listing, last, points, values, count, more)
+    let mut page = PageArrays {
+        points,
+        values,
+        count,
+        more,
+    };
+    list(alloc, h, &listing, last, &mut page)
 }
 
 /// Writes a page of a ball into lent arrays: the rows within a radius of a point, behind the last point, or from the beginning where no
@@ -65,7 +73,13 @@ pub extern "C" fn ph_ball(
         center,
         radius: number_of_halves(radius_low, radius_high),
     };
-    list(alloc, h, &listing, last, points, values, count, more)
+    let mut page = PageArrays {
+        points,
+        values,
+        count,
+        more,
+    };
+    list(alloc, h, &listing, last, &mut page)
 }
 
 /// Writes a page of the boxes that have a point in common with the asked one into lent arrays.
@@ -92,7 +106,13 @@ pub extern "C" fn ph_overlapping(
         low,
         high,
     };
-    list(alloc, h, &listing, last, points, values, count, more)
+    let mut page = PageArrays {
+        points,
+        values,
+        count,
+        more,
+    };
+    list(alloc, h, &listing, last, &mut page)
 }
 
 /// Writes a page of the boxes that lie inside the asked one into lent arrays.
@@ -119,7 +139,13 @@ pub extern "C" fn ph_inside(
         low,
         high,
     };
-    list(alloc, h, &listing, last, points, values, count, more)
+    let mut page = PageArrays {
+        points,
+        values,
+        count,
+        more,
+    };
+    list(alloc, h, &listing, last, &mut page)
 }
 
 /// Writes a page of the boxes that cover the asked one into lent arrays.
@@ -146,7 +172,13 @@ pub extern "C" fn ph_covering(
         low,
         high,
     };
-    list(alloc, h, &listing, last, points, values, count, more)
+    let mut page = PageArrays {
+        points,
+        values,
+        count,
+        more,
+    };
+    list(alloc, h, &listing, last, &mut page)
 }
 
 // The number of these two halves.
@@ -162,29 +194,17 @@ fn list(
     h: &mut Handle,
     listing: &Listing<'_>,
     last: &[i64],
-    points: &mut [i64],
-    values: &mut [u64],
-    count: &mut usize,
-    more: &mut u32,
+    page: &mut PageArrays<'_>,
 ) -> u32
     ensures same { h.new.tree ≡ h.old.tree }
-    ensures answer { Asks (table_in h.old.tree) result
-        (lent points.new values.new count.new more.new ≡ lent points.old values.old count.old more.old)
-        (λ t. IsPage listing.now t last.now (lent points.old values.old count.old more.old) (lent points.new values.new count.new more.new) result) }
+    ensures answer { Asks (table_in h.old.tree) result (on_page page.new ≡ on_page page.old)
+        (λ t. IsPage listing.now t last.now (on_page page.old) (on_page page.new) result) }
+    ensures page { SamePage page.old page.new }
 {
     let Some(tree) = h.take(alloc) else {
         return NO_TREE;
     };
-    let answer = list_in::<Brand>(
-        &tree,
-        listing,
-        last,
-        points,
-        values,
-        count,
-        more,
-        Blank::new(1),
-    );
+    let answer = list_in::<Brand>(&tree, listing, last, page, Blank::new(1));
     h.give(alloc, tree);
     answer
 }
@@ -194,16 +214,13 @@ fn list_in<V: Ledger>(
     tree: &Tree,
     listing: &Listing<'_>,
     last: &[i64],
-    points: &mut [i64],
-    values: &mut [u64],
-    count: &mut usize,
-    more: &mut u32,
+    page: &mut PageArrays<'_>,
     visits: Blank,
 ) -> u32
     requires visits { (visits.name ≡ V.name) × (visits.parts ≡ V.parts) × (0 < visits.parts) }
-    ensures { IsPage listing.now (any_table tree.now) last.now
-        (lent points.old values.old count.old more.old) (lent points.new values.new count.new more.new) result }
+    ensures page { IsPage listing.now (any_table tree.now) last.now (on_page page.old) (on_page page.new) result }
+    ensures same { SamePage page.old page.new }
 {
     let mut visits: Steps<V> = Steps::new(visits);
-    tree.page(listing, last, points, values, count, more, &mut visits)
+    tree.page(listing, last, page, &mut visits)
 }

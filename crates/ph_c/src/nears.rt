@@ -3,8 +3,10 @@ ghost use Rattle.std.specs.Prelude.{◌≡◌, ◌<◌};
 ghost use Rattle.ph_c.specs.Trees.{any_table};
 ghost use Rattle.ph_c.specs.Calls.{table_in, Asks};
 ghost use Rattle.ph_c.specs.Nears.{IsNear, lent_hits};
+ghost use Rattle.ph_c.specs.Arrays.{SameHits, of_hits};
 
 use crate::answers::NO_TREE;
+use crate::arrays::HitArrays;
 use crate::handle::Handle;
 use crate::trees::Tree;
 use ph_steps::Steps;
@@ -33,16 +35,13 @@ pub extern "C" fn ph_nearest(
     let Some(tree) = h.take(alloc) else {
         return NO_TREE;
     };
-    let answer = nearest_in::<Brand>(
-        alloc,
-        &tree,
-        center,
+    let mut arrays = HitArrays {
         points,
         values,
         distances,
         count,
-        Blank::new(1),
-    );
+    };
+    let answer = nearest_in::<Brand>(alloc, &tree, center, &mut arrays, Blank::new(1));
     h.give(alloc, tree);
     answer
 }
@@ -52,16 +51,13 @@ fn nearest_in<V: Ledger>(
     alloc: Global,
     tree: &Tree,
     center: &[i64],
-    points: &mut [i64],
-    values: &mut [u64],
-    distances: &mut [u64],
-    count: &mut usize,
+    arrays: &mut HitArrays<'_>,
     visits: Blank,
 ) -> u32
     requires visits { (visits.name ≡ V.name) × (visits.parts ≡ V.parts) × (0 < visits.parts) }
-    ensures { IsNear (any_table tree.now) center.now (lent_hits points.old values.old distances.old count.old)
-        (lent_hits points.new values.new distances.new count.new) result }
+    ensures near { IsNear (any_table tree.now) center.now (of_hits arrays.old) (of_hits arrays.new) result }
+    ensures same { SameHits arrays.old arrays.new }
 {
     let mut visits: Steps<V> = Steps::new(visits);
-    tree.nearest(alloc, center, points, values, distances, count, &mut visits)
+    tree.nearest(alloc, center, arrays, &mut visits)
 }

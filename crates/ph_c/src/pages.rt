@@ -3,11 +3,13 @@ ghost use Rattle.std.specs.Prelude.{◌≡◌, ◌+◌, ◌*◌, ◌<◌, ◌≤
 ghost use Rattle.std.specs.Option.{SomeIff};
 ghost use Rattle.ph_c.specs.Trees.{table_at};
 ghost use Rattle.ph_c.specs.Pages.{points_of, values_of, overlaid, IsRoom};
-ghost use Rattle.ph_c.specs.Windows.{AreCorners, cursor_at, IsWindow, IsListed, IsLastIn, last_of, lent};
+ghost use Rattle.ph_c.specs.Windows.{AreCorners, cursor_at, IsWindow, IsListed, IsLastIn, last_of};
+ghost use Rattle.ph_c.specs.Arrays.{SamePage, on_page};
 ghost use Rattle.ph_specs.specs.TableNames.{IsPoint, rest};
 ghost use Rattle.ph_window.specs.Page.{IsLast};
 
 use crate::answers::{DONE, NO_POINT};
+use crate::arrays::PageArrays;
 use crate::rows::point_in;
 use ph_coord::Point;
 use ph_steps::Steps;
@@ -70,19 +72,17 @@ pub(crate) fn fill<const D: usize, V: Ledger>(
 /// Writes the first rows of a window, how many, and whether more are left.
 pub(crate) fn list_rows<const D: usize, V: Ledger>(
     window: &mut Window<'_, D>,
-    points: &mut [i64],
-    values: &mut [u64],
-    count: &mut usize,
-    more: &mut u32,
+    page: &mut PageArrays<'_>,
     visits: &mut Steps<V>,
 )
     requires some { 1 ≤ D }
     requires few { D ≤ 16 }
-    ensures { IsListed D window.old.rows (lent points.old values.old count.old more.old) (lent points.new values.new count.new more.new) }
+    ensures listed { IsListed D window.old.rows (on_page page.old) (on_page page.new) }
+    ensures same { SamePage page.old page.new }
 {
-    let room = room_for::<D>(points.len(), values.len());
-    *count = fill(window, room, points, values, visits);
-    *more = match window.next(visits) {
+    let room = room_for::<D>(page.points.len(), page.values.len());
+    *page.count = fill(window, room, page.points, page.values, visits);
+    *page.more = match window.next(visits) {
         Some(_) => 1,
         None => 0,
     };
@@ -94,14 +94,11 @@ pub(crate) fn list_window<const D: usize, V: Ledger>(
     low: &[i64],
     high: &[i64],
     last: &[i64],
-    points: &mut [i64],
-    values: &mut [u64],
-    count: &mut usize,
-    more: &mut u32,
+    page: &mut PageArrays<'_>,
     visits: &mut Steps<V>,
 ) -> u32
-    ensures { IsWindow (table_at D tree.now) low.now high.now last.now
-        (lent points.old values.old count.old more.old) (lent points.new values.new count.new more.new) result }
+    ensures page { IsWindow (table_at D tree.now) low.now high.now last.now (on_page page.old) (on_page page.new) result }
+    ensures same { SamePage page.old page.new }
 {
     // A use that makes the number of dimensions known.
     let _root = tree.root();
@@ -109,7 +106,7 @@ pub(crate) fn list_window<const D: usize, V: Ledger>(
         return NO_POINT;
     };
     let mut window = window_at(tree, &cursor, visits);
-    list_rows(&mut window, points, values, count, more, visits);
+    list_rows(&mut window, page, visits);
     DONE
 }
 

@@ -1,5 +1,5 @@
 //! The pairs of overlapping boxes of two trees, line by line, as a join finds them.
-ghost use Rattle.std.specs.Prelude.{◌≡◌, ◌*◌, ◌≤◌};
+ghost use Rattle.std.specs.Prelude.{◌≡◌, ◌%◌, ◌≤◌};
 ghost use Rattle.ph_specs.specs.TableNames.{AreBoxes};
 ghost use Rattle.ph_commands.specs.Pairing.{ListsPairs};
 ghost use Rattle.ph_commands.specs.Tables.{tree_at};
@@ -16,14 +16,14 @@ use ph_tree::PhTree;
 use std::sync::ledger::Ledger;
 
 /// Gives the sink the pairs of a box of one tree and one of another that overlap, and then their number. It takes no memory.
-pub fn list_pairs<const K: usize, const D: usize, O: Sink, V: Ledger>(
+pub fn list_pairs<const D: usize, O: Sink, V: Ledger>(
     a: &PhTree<D>,
     b: &PhTree<D>,
     out: &mut O,
     text: &mut Text,
     visits: &mut Steps<V>,
 ) -> Result<Answer, Stop>
-    requires halves { K * 2 ≡ D }
+    requires even { D % 2 ≡ 0 }
     requires limit { D ≤ 16 }
     requires width { a.now.width ≡ b.now.width }
     requires firsts { AreBoxes a.now.table }
@@ -34,7 +34,7 @@ pub fn list_pairs<const K: usize, const D: usize, O: Sink, V: Ledger>(
     // Uses that make known that there are at most so many rows.
     let _firsts = a.len();
     let _seconds = b.len();
-    let mut join: Join<'_, K, D> = Join::new(a, b);
+    let mut join = Join::new(a, b);
     let mut count = 0u128;
     'pairs: while let Some(pair) = join.next(visits) {
         say_pair(out, text, &pair.0, &pair.1)?;

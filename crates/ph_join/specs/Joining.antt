@@ -1,5 +1,5 @@
 -- What a join has still to list.
-use Rattle.std.specs.Prelude.{◌≡◌, ℕ, zero, suc, ◌+◌, ◌*◌, ◌++◌, [], List, Option, Some, None}
+use Rattle.std.specs.Prelude.{◌≡◌, ℕ, zero, suc, ◌+◌, ◌%◌, ◌++◌, [], List, Option, Some, None}
 use Rattle.std.specs.List.{AllByRecursion}
 use Rattle.ph_specs.specs.Boxes.{AreBoxes}
 use Rattle.ph_specs.specs.Coordinate.{IsPoint}
@@ -34,8 +34,8 @@ abbrev pub joining : ℕ → Option Joining → Listing → TreeTable → Joinin
 joining d at firsts second =
     record { pairs = pairs_at at ++ pairs firsts.rows second.table; visits = visits_at at + (firsts.visits + partner_visits second.width d second.table firsts.rows); owed = one_of firsts.visits }
 
--- what a join keeps: each row that is left of the first table is a point of the width, and each of the second is a box
-pub record IsJoin (k d : ℕ) (firsts : List Row) (second : TreeTable) : Type 0 where
-  pub dims : k * 2 ≡ d
+-- what a join keeps: points can be boxes, each row that is left of the first table is a point of the width, and each of the second is a box
+pub record IsJoin (d : ℕ) (firsts : List Row) (second : TreeTable) : Type 0 where
+  pub even : d % 2 ≡ 0
   pub points : AllByRecursion (λ r. IsPoint second.width d r.point) firsts
   pub boxes : AreBoxes second.table

@@ -1,5 +1,5 @@
 //! The pairs of overlapping boxes of two trees, one after another.
-ghost use Rattle.std.specs.Prelude.{◌≡◌, ◌*◌, ◌+◌, ◌≤◌, length, drop, slice_get, None};
+ghost use Rattle.std.specs.Prelude.{◌≡◌, ◌%◌, ◌+◌, ◌≤◌, length, drop, slice_get, None};
 ghost use Rattle.ph_specs.specs.TableNames.{AreBoxes, pairs};
 ghost use Rattle.ph_specs.specs.WorkNames.{all_nodes, join_visits};
 ghost use Rattle.ph_join.specs.Joining.{one_of};
@@ -15,33 +15,32 @@ use std::sync::ledger::Ledger;
 
 /// The pairs of overlapping boxes of two trees, and how far they have been listed.
 ///
-/// A box of K dimensions is a point of D = 2 K dimensions. For each box of the first tree a window is walked over the
+/// A box is a point of twice as many dimensions. For each box of the first tree a window is walked over the
 /// second, so no two boxes are compared that lie in parts of it that cannot overlap. It holds two windows, less than
 /// 6 kB in all, and takes no memory.
 #[derive(Drop)]
-pub struct JoinOf<'t, P: Dims, R: AsRow + Drop, T: AsTree + Drop, const K: usize> {
+pub struct JoinOf<'t, P: Dims, R: AsRow + Drop, T: AsTree + Drop> {
     firsts: WindowOf<'t, P>,
     second: T,
     at: Option<PartnersOf<'t, P, R>>,
 }
 
-pub type Join<'t, const K: usize, const D: usize> = JoinOf<'t, Dim<D>, Row<D>, &'t PhTree<D>, K>;
+pub type Join<'t, const D: usize> = JoinOf<'t, Dim<D>, Row<D>, &'t PhTree<D>>;
 
-impl<'t, P: Dims, R: AsRow + Drop, T: AsTree + Drop, const K: usize> Model
-    for JoinOf<'t, P, R, T, K> {
+impl<'t, P: Dims, R: AsRow + Drop, T: AsTree + Drop> Model for JoinOf<'t, P, R, T> {
     ghost use Rattle.ph_join.specs.Joining.{Joining, joining, IsJoin};
 
     ghost Value = { Joining };
 
     ghost view = { λ a. joining P.D a.at a.firsts (T.held a.second) };
 
-    ghost invariant = { λ a. IsJoin K P.D a.firsts.rows (T.held a.second) };
+    ghost invariant = { λ a. IsJoin P.D a.firsts.rows (T.held a.second) };
 }
 
-impl<'t, const K: usize, const D: usize> JoinOf<'t, Dim<D>, Row<D>, &'t PhTree<D>, K> {
+impl<'t, const D: usize> JoinOf<'t, Dim<D>, Row<D>, &'t PhTree<D>> {
     /// The pairs of two trees of boxes, before the first of them. Nothing is visited yet.
-    pub fn new(first: &'t PhTree<D>, second: &'t PhTree<D>) -> Join<'t, K, D>
-        requires dims { K * 2 ≡ D }
+    pub fn new(first: &'t PhTree<D>, second: &'t PhTree<D>) -> Join<'t, D>
+        requires even { D % 2 ≡ 0 }
         requires width { first.now.width ≡ second.now.width }
         requires firsts { AreBoxes first.now.table }
         requires seconds { AreBoxes second.now.table }
@@ -74,7 +73,7 @@ impl<'t, const K: usize, const D: usize> JoinOf<'t, Dim<D>, Row<D>, &'t PhTree<D
             let Some(first) = self.firsts.next(visits) else {
                 return None;
             };
-            self.at = Some(Partners::new::<K>(self.second, first));
+            self.at = Some(Partners::new(self.second, first));
         }
     }
 }

@@ -1,11 +1,11 @@
 //! One box, and the boxes of a tree that overlap it.
-ghost use Rattle.std.specs.Prelude.{◌≡◌, ◌*◌, ◌+◌, ◌≤◌, length, drop, slice_get, None};
+ghost use Rattle.std.specs.Prelude.{◌≡◌, ◌%◌, ◌+◌, ◌≤◌, length, drop, slice_get, None};
 ghost use Rattle.ph_specs.specs.TableNames.{AreBoxes, IsPoint, partners};
 ghost use Rattle.ph_specs.specs.WorkNames.{partner_nodes};
 ghost use Rattle.ph_join.specs.Joining.{pairs_at, visits_at};
 
 use crate::seen::AsRow;
-use ph_box::{Question, bounds, split_box};
+use ph_box::{Question, bounds};
 use ph_coord::{Dim, Dims, Row};
 use ph_steps::Steps;
 use ph_tree::PhTree;
@@ -33,8 +33,8 @@ impl<'t, P: Dims, R: AsRow + Drop> Model for PartnersOf<'t, P, R> {
 
 impl<'t, const D: usize> PartnersOf<'t, Dim<D>, Row<D>> {
     // The pairs of a row. Nothing is visited yet.
-    pub(crate) fn new<const K: usize>(tree: &'t PhTree<D>, first: Row<D>) -> Partners<'t, D>
-        requires dims { K * 2 ≡ D }
+    pub(crate) fn new(tree: &'t PhTree<D>, first: Row<D>) -> Partners<'t, D>
+        requires even { D % 2 ≡ 0 }
         requires point { IsPoint tree.now.width D first.point }
         requires boxes { AreBoxes tree.now.table }
         ensures pairs { result.pairs ≡ partners first.entry tree.now.table }
@@ -42,9 +42,7 @@ impl<'t, const D: usize> PartnersOf<'t, Dim<D>, Row<D>> {
     {
         // A use that makes known that the rows are those of a table.
         let _root = tree.root();
-        let w = tree.width();
-        let (low, high) = split_box::<K, D>(w, &first.point);
-        let (from, to) = bounds::<K, D>(Question::Overlap, w, &low, &high);
+        let (from, to) = bounds(Question::Overlap, tree.width(), &first.point);
         PartnersOf {
             first,
             seconds: Window::new(tree, from, to),

@@ -55,32 +55,32 @@ pub enum Slot {
     D16(SlotOf<16>),
 }
 
-// What a macro makes of the slot of whatever number of dimensions, and of half that number, which boxes have.
-macro_rules! by_dims {
-    ($any:expr, $make:ident) => {
+// What an expression makes of the slot of whatever number of dimensions.
+macro_rules! with_slot {
+    ($any:expr, $slot:ident => $made:expr) => {
         match $any {
-            Slot::D1(slot) => $make!(slot, 0),
-            Slot::D2(slot) => $make!(slot, 1),
-            Slot::D3(slot) => $make!(slot, 1),
-            Slot::D4(slot) => $make!(slot, 2),
-            Slot::D5(slot) => $make!(slot, 2),
-            Slot::D6(slot) => $make!(slot, 3),
-            Slot::D7(slot) => $make!(slot, 3),
-            Slot::D8(slot) => $make!(slot, 4),
-            Slot::D9(slot) => $make!(slot, 4),
-            Slot::D10(slot) => $make!(slot, 5),
-            Slot::D11(slot) => $make!(slot, 5),
-            Slot::D12(slot) => $make!(slot, 6),
-            Slot::D13(slot) => $make!(slot, 6),
-            Slot::D14(slot) => $make!(slot, 7),
-            Slot::D15(slot) => $make!(slot, 7),
-            Slot::D16(slot) => $make!(slot, 8),
+            Slot::D1($slot) => $made,
+            Slot::D2($slot) => $made,
+            Slot::D3($slot) => $made,
+            Slot::D4($slot) => $made,
+            Slot::D5($slot) => $made,
+            Slot::D6($slot) => $made,
+            Slot::D7($slot) => $made,
+            Slot::D8($slot) => $made,
+            Slot::D9($slot) => $made,
+            Slot::D10($slot) => $made,
+            Slot::D11($slot) => $made,
+            Slot::D12($slot) => $made,
+            Slot::D13($slot) => $made,
+            Slot::D14($slot) => $made,
+            Slot::D15($slot) => $made,
+            Slot::D16($slot) => $made,
         }
     };
 }
 
 // What a macro makes of a number of dimensions and its variant.
-macro_rules! by_number {
+macro_rules! by_dims {
     ($dims:expr, $make:ident) => {
         match $dims {
             1 => $make!(1, D1),
@@ -124,7 +124,7 @@ impl Slot {
                 Slot::$variant(SlotOf::new(alloc, kind, w, max))
             };
         }
-        by_number!(dims, open)
+        by_dims!(dims, open)
     }
 
     /// The table of this kind, with points of so many dimensions and bits, of which the bytes are the snapshot, for at most 2^64 - 1 rows, with no cursors, or the first
@@ -148,7 +148,7 @@ impl Slot {
                 SlotOf::<$dims>::of_snapshot(alloc, bytes, kind, w, changes).map(Slot::$variant)
             };
         }
-        by_number!(dims, of_snapshot)
+        by_dims!(dims, of_snapshot)
     }
 
     /// What its rows are.
@@ -157,12 +157,7 @@ impl Slot {
         ensures frame { IsFrameOf (any_slot self.now) result }
         ensures known { (any_slot self.now).dims ≡ variant_dims self.now }
     {
-        macro_rules! frame {
-            ($slot:ident, $half:literal) => {
-                $slot.frame()
-            };
-        }
-        by_dims!(self, frame)
+        with_slot!(self, slot => slot.frame())
     }
 
     /// The number of dimensions of the points: 1 to 16. A box has its two corners.
@@ -181,12 +176,7 @@ impl Slot {
         ensures sizes { stats_of result ≡ stats (any_slot self.now).width (any_slot self.now).dims (any_slot self.now).table }
         ensures visits { visits.new ≡ visits.old + nodes_of (any_slot self.now) }
     {
-        macro_rules! sizes {
-            ($slot:ident, $half:literal) => {
-                $slot.sizes(visits)
-            };
-        }
-        by_dims!(self, sizes)
+        with_slot!(self, slot => slot.sizes(visits))
     }
 
     /// Does a command that is about this slot alone, and gives its replies to the sink. It may want memory for a row that is new, goes, moves
@@ -242,12 +232,7 @@ impl Slot {
         ensures begun { LeavesBegun (command_of cmd.now) (F.is_begun desk.old.files.now) (F.is_begun desk.new.files.now) }
         ensures same { SameDesk desk.old desk.new }
     {
-        macro_rules! exec {
-            ($slot:ident, $half:literal) => {
-                $slot.exec::<$half, O, F, V, C>(cmd, desk)
-            };
-        }
-        by_dims!(self, exec)
+        with_slot!(self, slot => slot.exec(cmd, desk))
     }
 
     /// The same with a slot of two dimensions, of a command that leaves their number. For a sink or files of its own nothing is compiled for
@@ -272,7 +257,7 @@ impl Slot {
         // A use that makes known which variant it is.
         let _dims = self.dims();
         match self {
-            Slot::D2(slot) => slot.exec::<1, O, F, V, C>(cmd, desk),
+            Slot::D2(slot) => slot.exec(cmd, desk),
             _ => unreachable!(),
         }
     }

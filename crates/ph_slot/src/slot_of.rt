@@ -1,5 +1,5 @@
 //! A table of so many dimensions with what belongs to it, and what a command does to it.
-ghost use Rattle.std.specs.Prelude.{IfOk, IfErr, ◌≡◌, ◌<◌, ◌≤◌, ◌+◌, ◌^◌, ◌/◌, ◌%◌, None, true, false, not, ◌&&◌, nat_le, length, option_map};
+ghost use Rattle.std.specs.Prelude.{IfOk, IfErr, ◌≡◌, ◌<◌, ◌≤◌, ◌+◌, ◌^◌, ◌%◌, None, true, false, not, ◌&&◌, nat_le, length, option_map};
 ghost use Rattle.ph_specs.specs.Command.Command.{Back as AskBack, Cursor as AskCursor, Page as AskPage};
 ghost use Rattle.ph_specs.specs.ProgramNames.{has_name, lacks_cursor, has_too_many_cursors};
 ghost use Rattle.ph_specs.specs.State.{empty_slot};
@@ -87,7 +87,8 @@ impl<const D: usize> SlotOf<D> {
         }
     }
 
-    // The table of which the bytes are the snapshot, for any number of rows, without cursors.
+    // The table of which the bytes are the snapshot, for any number of rows, without cursors. It is a call of its own as `new` is.
+    #[inline(never)]
     pub(crate) fn of_snapshot<C: Ledger>(
         alloc: Global,
         bytes: &[u8],
@@ -130,13 +131,12 @@ impl<const D: usize> SlotOf<D> {
         tree_sizes(&self.kept, visits)
     }
 
-    // Does a command that is about this slot alone and leaves its dimensions, as in an engine whose other slot is new. Boxes have K dimensions.
-    pub(crate) fn exec<const K: usize, O: Sink, F: Files, V: Ledger, C: Ledger>(
+    // Does a command that is about this slot alone and leaves its dimensions, as in an engine whose other slot is new.
+    pub(crate) fn exec<O: Sink, F: Files, V: Ledger, C: Ledger>(
         &mut self,
         cmd: &Command<'_>,
         desk: &mut Desk<'_, O, F, V, C>,
     ) -> Result<Answer, Stop>
-        requires half { K ≡ D / 2 }
         requires dims { HasDims self.old.dims cmd.now }
         requires file { desk.old.limits.now.file_bytes < 2 ^ 63 }
         requires slot { is_on_slot (command_of cmd.now) ≡ true }
@@ -165,18 +165,17 @@ impl<const D: usize> SlotOf<D> {
                 let outcome = self.relocate(from, to, desk.visits, desk.changes);
                 tell(desk.out, &mut desk.text, &outcome)
             }
-            _ => self.exec_other::<K, O, F, V, C>(cmd, desk),
+            _ => self.exec_other(cmd, desk),
         }
     }
 
     // The same of a command about no single row. It is a call of its own, so that the short way of the others stays short.
     #[inline(never)]
-    fn exec_other<const K: usize, O: Sink, F: Files, V: Ledger, C: Ledger>(
+    fn exec_other<O: Sink, F: Files, V: Ledger, C: Ledger>(
         &mut self,
         cmd: &Command<'_>,
         desk: &mut Desk<'_, O, F, V, C>,
     ) -> Result<Answer, Stop>
-        requires half { K ≡ D / 2 }
         requires dims { HasDims self.old.dims cmd.now }
         requires file { desk.old.limits.now.file_bytes < 2 ^ 63 }
         requires slot { is_on_slot (command_of cmd.now) ≡ true }
@@ -215,13 +214,7 @@ impl<const D: usize> SlotOf<D> {
             | Command::Overlap { .. }
             | Command::Inside { .. }
             | Command::Covers { .. }
-            | Command::Stats => self.list::<K, O, V>(
-                desk.alloc,
-                cmd,
-                desk.out,
-                &mut desk.text,
-                desk.visits,
-            ),
+            | Command::Stats => self.list(desk.alloc, cmd, desk.out, &mut desk.text, desk.visits),
             Command::Begin { .. }
             | Command::Put { .. }
             | Command::Get { .. }
@@ -289,7 +282,7 @@ impl<const D: usize> SlotOf<D> {
     }
 
     // Does a command that lists rows, or the sizes of the tree.
-    fn list<const K: usize, O: Sink, V: Ledger>(
+    fn list<O: Sink, V: Ledger>(
         &mut self,
         alloc: Global,
         cmd: &Command<'_>,
@@ -297,7 +290,6 @@ impl<const D: usize> SlotOf<D> {
         text: &mut Text,
         visits: &mut Steps<V>,
     ) -> Result<Answer, Stop>
-        requires half { K ≡ D / 2 }
         requires dims { HasDims self.old.dims cmd.now }
         requires unrefused { early_refusal self.old (command_of cmd.now) ≡ None }
         requires lists { is_listed (command_of cmd.now) ≡ true }
@@ -314,21 +306,17 @@ impl<const D: usize> SlotOf<D> {
             }
             Command::Within { q, r } => list_ball(self.kept.tree(), q, *r, out, text, visits),
             Command::Overlap { bounds } => {
-                self.ask::<K, O, V>(Question::Overlap, bounds, out, text, visits)
+                self.ask(Question::Overlap, bounds, out, text, visits)
             }
-            Command::Inside { bounds } => {
-                self.ask::<K, O, V>(Question::Inside, bounds, out, text, visits)
-            }
-            Command::Covers { bounds } => {
-                self.ask::<K, O, V>(Question::Cover, bounds, out, text, visits)
-            }
+            Command::Inside { bounds } => { self.ask(Question::Inside, bounds, out, text, visits) }
+            Command::Covers { bounds } => { self.ask(Question::Cover, bounds, out, text, visits) }
             Command::Stats => list_sizes(&self.kept, out, visits),
             _ => unreachable!(),
         }
     }
 
     // Lists the boxes that a question lists.
-    fn ask<const K: usize, O: Sink, V: Ledger>(
+    fn ask<O: Sink, V: Ledger>(
         &self,
         question: Question,
         bounds: &Coords<'_>,
@@ -336,14 +324,13 @@ impl<const D: usize> SlotOf<D> {
         text: &mut Text,
         visits: &mut Steps<V>,
     ) -> Result<Answer, Stop>
-        requires half { K ≡ D / 2 }
         requires dims { length bounds.now ≡ self.now.dims }
         requires unrefused { early_refusal self.now (asking question (numbers_of bounds.now)) ≡ None }
         ensures done { DoneWith self.now (asking question (numbers_of bounds.now)) (taken_by O.Sink out.old) (taken_by O.Sink out.new)
             visits.old visits.new self.now result }
         ensures cause { StopHasCause (O.faults out.old) (O.faults out.new) result }
     {
-        list_boxes::<K, D, O, V>(self.kept.tree(), question, bounds, out, text, visits)
+        list_boxes(self.kept.tree(), question, bounds, out, text, visits)
     }
 
     // Why it refuses a command, where that is told without files: the first cause in the order of causes.

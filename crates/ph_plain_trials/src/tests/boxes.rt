@@ -1,5 +1,6 @@
 //! Which boxes overlap another, lie inside it and cover it.
 ghost use Rattle.std.specs.Prelude.{◌≡◌, ◌*◌, ◌≤◌};
+ghost use Rattle.ph_specs.specs.TableNames.{IsPoint};
 
 use super::claims::{holds, holds_for};
 use super::{point, width};
@@ -33,6 +34,7 @@ fn joined<const K: usize, const D: usize>(
 ) -> Point<D>
     requires dims { K * 2 ≡ D }
     requires few { D ≤ 16 }
+    ensures { IsPoint w D result }
 {
     let (low, high) = (point::<K>(rt, w, low), point::<K>(rt, w, high));
     let p = join_box::<K, D>(w, &low, &high).expect(rt, "no box");
@@ -52,18 +54,18 @@ fn check<const K: usize, const D: usize>(
     requires few { D ≤ 16 }
 {
     let w = width(rt, bits);
-    let (lo, hi) = (point::<K>(rt, w, &lo), point::<K>(rt, w, &hi));
-    let asked = [
-        bounds::<K, D>(Question::Overlap, w, &lo, &hi),
-        bounds::<K, D>(Question::Inside, w, &lo, &hi),
-        bounds::<K, D>(Question::Cover, w, &lo, &hi),
+    let asked = joined::<K, D>(rt, w, &lo, &hi);
+    let windows = [
+        bounds(Question::Overlap, w, &asked),
+        bounds(Question::Inside, w, &asked),
+        bounds(Question::Cover, w, &asked),
     ];
     for (low, high, listed) in stored {
         let p = joined::<K, D>(rt, w, low, high);
         let answers = [
-            is_between(&p, &asked[0]),
-            is_between(&p, &asked[1]),
-            is_between(&p, &asked[2]),
+            is_between(&p, &windows[0]),
+            is_between(&p, &windows[1]),
+            is_between(&p, &windows[2]),
         ];
         holds_for(rt, answers == *listed, &(low, high));
     }

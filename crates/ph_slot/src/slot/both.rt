@@ -35,29 +35,23 @@ impl Slot {
         // Uses that make known which variants they are.
         let _first = self.dims();
         let _second = other.dims();
-        // Boxes have half as many dimensions.
-        macro_rules! exec {
-            ($a:ident, $b:ident, $half:literal) => {
-                $a.exec_beside::<$half, O, F, V, C>($b, name, cmd, desk)
-            };
-        }
         match (self, other) {
-            (Slot::D1(a), Slot::D1(b)) => exec!(a, b, 0),
-            (Slot::D2(a), Slot::D2(b)) => exec!(a, b, 1),
-            (Slot::D3(a), Slot::D3(b)) => exec!(a, b, 1),
-            (Slot::D4(a), Slot::D4(b)) => exec!(a, b, 2),
-            (Slot::D5(a), Slot::D5(b)) => exec!(a, b, 2),
-            (Slot::D6(a), Slot::D6(b)) => exec!(a, b, 3),
-            (Slot::D7(a), Slot::D7(b)) => exec!(a, b, 3),
-            (Slot::D8(a), Slot::D8(b)) => exec!(a, b, 4),
-            (Slot::D9(a), Slot::D9(b)) => exec!(a, b, 4),
-            (Slot::D10(a), Slot::D10(b)) => exec!(a, b, 5),
-            (Slot::D11(a), Slot::D11(b)) => exec!(a, b, 5),
-            (Slot::D12(a), Slot::D12(b)) => exec!(a, b, 6),
-            (Slot::D13(a), Slot::D13(b)) => exec!(a, b, 6),
-            (Slot::D14(a), Slot::D14(b)) => exec!(a, b, 7),
-            (Slot::D15(a), Slot::D15(b)) => exec!(a, b, 7),
-            (Slot::D16(a), Slot::D16(b)) => exec!(a, b, 8),
+            (Slot::D1(a), Slot::D1(b)) => a.exec_beside(b, name, cmd, desk),
+            (Slot::D2(a), Slot::D2(b)) => a.exec_beside(b, name, cmd, desk),
+            (Slot::D3(a), Slot::D3(b)) => a.exec_beside(b, name, cmd, desk),
+            (Slot::D4(a), Slot::D4(b)) => a.exec_beside(b, name, cmd, desk),
+            (Slot::D5(a), Slot::D5(b)) => a.exec_beside(b, name, cmd, desk),
+            (Slot::D6(a), Slot::D6(b)) => a.exec_beside(b, name, cmd, desk),
+            (Slot::D7(a), Slot::D7(b)) => a.exec_beside(b, name, cmd, desk),
+            (Slot::D8(a), Slot::D8(b)) => a.exec_beside(b, name, cmd, desk),
+            (Slot::D9(a), Slot::D9(b)) => a.exec_beside(b, name, cmd, desk),
+            (Slot::D10(a), Slot::D10(b)) => a.exec_beside(b, name, cmd, desk),
+            (Slot::D11(a), Slot::D11(b)) => a.exec_beside(b, name, cmd, desk),
+            (Slot::D12(a), Slot::D12(b)) => a.exec_beside(b, name, cmd, desk),
+            (Slot::D13(a), Slot::D13(b)) => a.exec_beside(b, name, cmd, desk),
+            (Slot::D14(a), Slot::D14(b)) => a.exec_beside(b, name, cmd, desk),
+            (Slot::D15(a), Slot::D15(b)) => a.exec_beside(b, name, cmd, desk),
+            (Slot::D16(a), Slot::D16(b)) => a.exec_beside(b, name, cmd, desk),
             _ => {
                 let reply = differing_reply(cmd);
                 say(desk.out, &mut desk.text, &reply)

@@ -1,5 +1,5 @@
 //! Two slots of as many dimensions side by side.
-ghost use Rattle.std.specs.Prelude.{◌≡◌, ◌/◌, None, true, if◌then◌else◌, option_map};
+ghost use Rattle.std.specs.Prelude.{◌≡◌, None, true, if◌then◌else◌, option_map};
 ghost use Rattle.ph_specs.specs.ProgramNames.{Reply as Replied, join_refusal, points_differ};
 ghost use Rattle.ph_script.specs.Meaning.{command_of, reply_of};
 ghost use Rattle.ph_commands.specs.Comparing.{IsCompared};
@@ -26,15 +26,14 @@ use std::alloc::Global;
 use std::sync::ledger::Ledger;
 
 impl<const D: usize> SlotOf<D> {
-    // Does a command that knows both slots, of which this one is current and has a name. Boxes have K dimensions.
-    pub(crate) fn exec_beside<const K: usize, O: Sink, F: Files, V: Ledger, C: Ledger>(
+    // Does a command that knows both slots, of which this one is current and has a name.
+    pub(crate) fn exec_beside<O: Sink, F: Files, V: Ledger, C: Ledger>(
         &mut self,
         other: &SlotOf<D>,
         name: Which,
         cmd: &Command<'_>,
         desk: &mut Desk<'_, O, F, V, C>,
     ) -> Result<Answer, Stop>
-        requires half { K ≡ D / 2 }
         requires both { is_on_both (command_of cmd.now) ≡ true }
         ensures done { DoneOr desk.old.limits.now.file_bytes (engine_at name self.old other.now) (command_of cmd.now)
             (beside_at O.Sink F.Files desk.old) (beside_at O.Sink F.Files desk.new)
@@ -49,8 +48,8 @@ impl<const D: usize> SlotOf<D> {
                 say(desk.out, &mut desk.text, &reply)
             }
             Command::Join => match name {
-                Which::A => self.join::<K, O, V>(other, desk.out, &mut desk.text, desk.visits),
-                Which::B => other.join::<K, O, V>(self, desk.out, &mut desk.text, desk.visits),
+                Which::A => self.join(other, desk.out, &mut desk.text, desk.visits),
+                Which::B => other.join(self, desk.out, &mut desk.text, desk.visits),
             },
             Command::Combine { operation } => {
                 let outcome = self.combine(
@@ -83,37 +82,35 @@ impl<const D: usize> SlotOf<D> {
     }
 
     // Lists the pairs of one of its boxes and one of another slot that overlap, unless they cannot be joined.
-    fn join<const K: usize, O: Sink, V: Ledger>(
+    fn join<O: Sink, V: Ledger>(
         &self,
         other: &SlotOf<D>,
         out: &mut O,
         text: &mut Text,
         visits: &mut Steps<V>,
     ) -> Result<Answer, Stop>
-        requires half { K ≡ D / 2 }
         ensures done { JoinsBoth self.now other.now (taken_by O.Sink out.old) (taken_by O.Sink out.new) visits.old visits.new result }
         ensures cause { StopHasCause (O.faults out.old) (O.faults out.new) result }
     {
         match self.join_refusal(other) {
             Some(refusal) => say(out, text, &refusal.reply()),
-            None => self.list_joined::<K, O, V>(other, out, text, visits),
+            None => self.list_joined(other, out, text, visits),
         }
     }
 
     // The same of slots that can be.
-    fn list_joined<const K: usize, O: Sink, V: Ledger>(
+    fn list_joined<O: Sink, V: Ledger>(
         &self,
         other: &SlotOf<D>,
         out: &mut O,
         text: &mut Text,
         visits: &mut Steps<V>,
     ) -> Result<Answer, Stop>
-        requires half { K ≡ D / 2 }
         requires joined { join_refusal self.now other.now ≡ None }
         ensures lists { JoinsSlots self.now other.now (taken_by O.Sink out.old) (taken_by O.Sink out.new) visits.old visits.new result }
         ensures cause { StopHasCause (O.faults out.old) (O.faults out.new) result }
     {
-        list_pairs::<K, D, O, V>(self.kept.tree(), other.kept.tree(), out, text, visits)
+        list_pairs(self.kept.tree(), other.kept.tree(), out, text, visits)
     }
 
     // Takes the table that an operation makes of it and another slot, unless they do not go together.

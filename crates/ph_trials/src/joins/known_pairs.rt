@@ -1,6 +1,6 @@
 //! Boxes that touch, and tables of which no pair is listed.
 
-ghost use Rattle.std.specs.Prelude.{◌≡◌, ◌*◌, ◌≤◌};
+ghost use Rattle.std.specs.Prelude.{◌≡◌, ◌%◌, ◌≤◌};
 ghost use Rattle.ph_specs.specs.TableNames.{AreBoxes};
 
 use super::boxes::tree_of;
@@ -17,8 +17,8 @@ use std::sync::ledger::Ledger;
 struct KnownPairs<'r, A: Abort>(&'r A, Global);
 
 // The values of the next pair, if there is one.
-fn next_values<const K: usize, const D: usize, V: Ledger>(
-    join: &mut Join<'_, K, D>,
+fn next_values<const D: usize, V: Ledger>(
+    join: &mut Join<'_, D>,
     visits: &mut Steps<V>,
 ) -> Option<(u64, u64)> {
     let (first, second) = join.next(visits)?;
@@ -26,20 +26,20 @@ fn next_values<const K: usize, const D: usize, V: Ledger>(
 }
 
 // Joins two trees of boxes, which is to list the pairs of these values.
-fn list<const K: usize, const D: usize, V: Ledger, C: Ledger>(
+fn list<const D: usize, V: Ledger, C: Ledger>(
     rt: &impl Abort,
     first: &PhTree<D>,
     second: &PhTree<D>,
     pairs: &[(u64, u64)],
     counters: &mut Counters<V, C>,
 )
-    requires dims { K * 2 ≡ D }
+    requires even { D % 2 ≡ 0 }
     requires few { D ≤ 16 }
     requires width { first.now.width ≡ second.now.width }
     requires firsts { AreBoxes first.now.table }
     requires seconds { AreBoxes second.now.table }
 {
-    let mut join: Join<'_, K, D> = Join::new(first, second);
+    let mut join = Join::new(first, second);
     for pair in pairs {
         holds(
             rt,
@@ -66,9 +66,9 @@ fn touching<V: Ledger, C: Ledger>(rt: &impl Abort, alloc: Global, counters: &mut
     let first: PhTree<6> = tree_of::<3, 6, V, C>(rt, alloc, &cube, counters);
     let second: PhTree<6> = tree_of::<3, 6, V, C>(rt, alloc, &around, counters);
     let touched = [(1, 5), (1, 4), (1, 3), (1, 2), (1, 1)];
-    list::<3, 6, V, C>(rt, &first, &second, &touched, counters);
+    list(rt, &first, &second, &touched, counters);
     let turned = [(5, 1), (4, 1), (3, 1), (2, 1), (1, 1)];
-    list::<3, 6, V, C>(rt, &second, &first, &turned, counters);
+    list(rt, &second, &first, &turned, counters);
 }
 
 // Intervals with themselves and with none.
@@ -77,9 +77,9 @@ fn intervals<V: Ledger, C: Ledger>(rt: &impl Abort, alloc: Global, counters: &mu
     let some: PhTree<2> = tree_of::<1, 2, V, C>(rt, alloc, &row, counters);
     let none: PhTree<2> = tree_of::<1, 2, V, C>(rt, alloc, &[], counters);
     let same = [(1, 1), (1, 2), (2, 1), (2, 2), (3, 3)];
-    list::<1, 2, V, C>(rt, &some, &some, &same, counters);
+    list(rt, &some, &some, &same, counters);
     for (first, second) in [(&some, &none), (&none, &some), (&none, &none)] {
-        list::<1, 2, V, C>(rt, first, second, &[], counters);
+        list(rt, first, second, &[], counters);
     }
 }
 

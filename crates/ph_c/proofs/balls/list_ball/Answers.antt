@@ -2,7 +2,8 @@
 use Rattle.std.proofs.Common.{arith}
 use Rattle.ph_c.specs.Edits.{IsPointIn}
 use Rattle.ph_c.specs.Trees.{table_at}
-use Rattle.ph_c.specs.Windows.{IsLastIn, last_of, lent}
+use Rattle.ph_c.specs.Arrays.{on_page}
+use Rattle.ph_c.specs.Windows.{IsLastIn, last_of}
 use Rattle.ph_c.proofs.Behind.{ball-done, last-known, points-within, some-is}
 use Rattle.ph_c.proofs.balls.list_ball.Goals as goal
 
@@ -30,12 +31,11 @@ list_behind-requires g c =
       ),
     )
 
-pub returns : goal.returns
-returns g c =
+pub returns-clause-page : goal.returns-clause-page
+returns-clause-page g c =
     let t = table_at g.row.D c.args.tree.now in
     let q = some-is c.point_in.result (IsPointIn t c.args.center.now) c.args.center.now c.in-Some-Some.q c.point_in.ensures c.in-Some-Some.is-0 in
     let l = some-is c.last_in.result (IsLastIn t c.args.last.now) (last_of c.args.last.now) c.in-Some-Some.last c.last_in.ensures c.in-Some-Some.is-1 in
     ball-done t c.args.center.now c.in-Some-Some.q c.args.last.now c.args.radius c.width-w.result c.in-Some-Some.last c.new-ball.result.hits
-    (lent c.args.points.now c.args.values.now c.args.count.now c.args.more.now)
-    (lent c.list_behind.new.points c.list_behind.new.values c.list_behind.new.count c.list_behind.new.more)
-    q.1 l.1 c.width-w.ensures c.new-ball.ensures.hits (q.0, l.0) c.list_behind.ensures
+    (on_page c.args.page.now) (on_page c.list_behind.new.page)
+    q.1 l.1 c.width-w.ensures c.new-ball.ensures.hits (q.0, l.0) c.list_behind.ensures.listed

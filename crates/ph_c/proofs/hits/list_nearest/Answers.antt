@@ -5,12 +5,12 @@ use Rattle.ph_table.specs.Hits.{TableHit, hits_of}
 use Rattle.ph_c.specs.Nears.{AreTold, LentHits, lent_hits}
 use Rattle.ph_c.proofs.hits.list_nearest.Goals as goal
 
-pub returns-in-Ok : goal.returns-in-Ok
-returns-in-Ok g c =
+pub returns-in-Ok-clause-near : goal.returns-in-Ok-clause-near
+returns-in-Ok-clause-near g c =
     let q = c.args.center.now in
     let room = c.room_for_hits-room.result in
-    let before : LentHits = lent_hits c.args.points.now c.args.values.now c.args.distances.now c.args.count.now in
-    let after : LentHits = lent_hits c.write_hits.new.points c.write_hits.new.values c.write_hits.new.distances c.len.result in
+    let before : LentHits = lent_hits c.args.arrays.now.points.now c.args.arrays.now.values.now c.args.arrays.now.distances.now c.args.arrays.now.count.now in
+    let after : LentHits = lent_hits c.write_hits.new.points c.write_hits.new.values c.write_hits.new.distances c.len-arrays.result in
     let all : c.deref.result.now ≡ hits_of q (near q room c.args.tree.now.table) =
     c.deref.ensures.value ∙ c.in-Ok.ensures.hits ∙ ap (λ p. hits_of p (near p room c.args.tree.now.table)) c.in-Some.ensures.1 in
     let told : AreTold c.deref.result.now before after = record {

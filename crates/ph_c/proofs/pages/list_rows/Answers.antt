@@ -3,23 +3,19 @@ use Rattle.std.proofs.Common.{sym, ◌∙◌, ap}
 use Rattle.ph_c.specs.Windows.{some_left}
 use Rattle.ph_c.proofs.Filling.{one-left, none-left-over}
 use Rattle.ph_c.proofs.pages.list_rows.Goals as goal
+use Rattle.ph_c.proofs.pages.list_rows.Goals.{in-Some, in-None}
 
-pub returns-in-Some : goal.returns-in-Some
-returns-in-Some g c = record {
-  room = c.room_for-room.result;
-  fits = c.room_for-room.ensures;
-  points = c.fill.ensures.points;
-  values = c.fill.ensures.values;
-  count = c.fill.ensures.count;
-  more = sym (ap some_left (sym c.fill.ensures.rest) ∙ one-left c.fill.new.window.rows c.in-Some.field-0 (sym c.in-Some.ensures.row));
-}
-
-pub returns-in-None : goal.returns-in-None
-returns-in-None g c = record {
-  room = c.room_for-room.result;
-  fits = c.room_for-room.ensures;
-  points = c.fill.ensures.points;
-  values = c.fill.ensures.values;
-  count = c.fill.ensures.count;
-  more = sym (ap some_left (sym c.fill.ensures.rest) ∙ none-left-over c.fill.new.window.rows (sym c.in-None.ensures.row));
-}
+pub returns-clause-listed : goal.returns-clause-listed
+returns-clause-listed g c =
+    let left = ap some_left (sym c.fill-page.ensures.rest) in
+    record {
+      room = c.room_for-room.result;
+      fits = c.room_for-room.ensures;
+      points = c.fill-page.ensures.points;
+      values = c.fill-page.ensures.values;
+      count = c.fill-page.ensures.count;
+      more = elim c.match-next.branch [
+        | in-Some w ↦ w.page-is ∙ sym (left ∙ one-left c.fill-page.new.window.rows w.in-Some.field-0 (sym w.in-Some.ensures.row))
+        | in-None w ↦ w.page-is ∙ sym (left ∙ none-left-over c.fill-page.new.window.rows (sym w.in-None.ensures.row))
+      ];
+    }

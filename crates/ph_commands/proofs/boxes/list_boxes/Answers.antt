@@ -5,6 +5,6 @@ use Rattle.ph_commands.proofs.boxes.list_boxes.Goals as goal
 pub returns-clause-lists : goal.returns-clause-lists
 returns-clause-lists g c =
     lists-boxes c.args.question (tree_at g.row.D c.args.tree.now) c.width-w.result c.point_at.result _
-    c.bounds_of-lo.result.0 c.bounds_of-lo.result.1 _ _ c.args.visits.now c.list_between.new.visits c.list_between.result
-    c.width-w.ensures c.point_at.ensures.value c.root-root.ensures.table c.requires.boxes c.bounds_of-lo.ensures.low
-    c.bounds_of-lo.ensures.high c.bounds_of-lo.ensures.window c.list_between.ensures.lists
+    c.bounds-lo.result.0 c.bounds-lo.result.1 _ _ c.args.visits.now c.list_between.new.visits c.list_between.result
+    c.width-w.ensures c.point_at.ensures.value c.root-root.ensures.table c.requires.boxes c.bounds-lo.ensures.from
+    c.bounds-lo.ensures.to c.bounds-lo.ensures.window c.list_between.ensures.lists

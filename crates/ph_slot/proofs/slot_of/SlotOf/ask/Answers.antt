@@ -1,4 +1,4 @@
-use Rattle.std.proofs.Common.{◌≡◌, ◌≤◌, ◌∙◌, ◌*◌, ◌%◌, ap, arith, length, rules, sym, true}
+use Rattle.std.proofs.Common.{◌≡◌, ◌≤◌, ◌∙◌, ◌%◌, ap, length, rules, sym, true}
 use Rattle.std.specs.Prelude.{None}
 use Rattle.std.specs.List.{list_all}
 use Rattle.ph_specs.specs.Boxes.{AreBoxes}
@@ -21,13 +21,12 @@ list_boxes-requires g c =
     let even : g.row.D % 2 ≡ 0 = boxes.0 in
     let early : early_refusal (slot_of kind t cursors) (asking c.args.question q) ≡ None =
     ap (λ x. early_refusal x (asking c.args.question q)) c.self.view_is ∙ c.requires.unrefused in
-    let halves : g.row.K * 2 ≡ g.row.D = omega (arith, even, c.requires.half) in
     let dims : length c.args.bounds.now ≡ g.row.D = c.requires.dims ∙ ap (λ x. x.dims) (sym c.self.view_is) in
     let range : list_all (fits c.tree.result.now.width) q ≡ true =
     rw c.tree.ensures (asked-range c.args.question (slot_of kind t cursors) q early) in
     let rows : AreBoxes c.tree.result.now.table = rw c.tree.ensures boxes.1 in
     let limit : g.row.D ≤ 16 = c.self.invariant.limit in
-    search (rules, halves, dims, range, rows, limit)
+    search (rules, even, dims, range, rows, limit)
 
 pub returns-clause-done : goal.returns-clause-done
 returns-clause-done g c =
