@@ -141,6 +141,8 @@ fn answer_counted<V: Ledger, C: Ledger>(
         &mut visits,
         &mut changes,
     );
+    // What lets an engine go is proved where it is passed to, and not step by step here.
+    drop(engine);
     (status, sink)
 }
 

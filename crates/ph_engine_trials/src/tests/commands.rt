@@ -64,11 +64,11 @@ fn check_each<V: Ledger, C: Ledger>(
     requires changes { (changes.name ≡ C.name) × (changes.parts ≡ C.parts) × (0 < changes.parts) }
 {
     let mut counters: Counters<V, C> = Counters::new(visits, changes);
-    let engine = &mut Engine::new(alloc);
-    check_lines(rt, alloc, engine, cases, &mut counters)
+    let mut engine = Engine::new(alloc);
+    check_lines(rt, alloc, &mut engine, cases, &mut counters);
+    drop(engine);
 }
 
-// The engine is lent, so that it is let go in one place alone.
 fn check_lines<V: Ledger, C: Ledger>(
     rt: &impl Abort,
     alloc: Global,
